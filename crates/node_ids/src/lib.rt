@@ -1,0 +1,16 @@
+//! The numbers by which splits, workers, racks, parts, attempts and documents go, fixed sets of
+//! them, and the law of a numbering of a network's nodes.
+//!
+//! A number is `Copy`, compares as its number does and is seen by contracts as that number. It does
+//! not know how many of its kind there are: a call that takes one asks that it is below the size of
+//! what it is called on. The lemmas that several crates use stand in `proofs/`: bit tables, the change
+//! of one element of a list, and first positions.
+#![tactic(auto)]
+
+pub mod numbers;
+pub mod sets;
+pub mod layout;
+
+pub use numbers::{AttemptNo, DocNo, PartNo, RackNo, SplitNo, WorkerNo};
+pub use sets::{PairSet, SplitSet, WorkerSet};
+pub use layout::Layout;

@@ -1,0 +1,201 @@
+ghost use Rattle.std.specs.Prelude.{◌≡◌, ◌<◌, ◌^◌};
+
+use std::marker::Model;
+
+/// The number of a split, from 0.
+#[derive(Clone, Copy, Debug, Default, PartialEq, Eq, PartialOrd, Ord, Hash)]
+pub struct SplitNo {
+    number: u16,
+}
+
+impl Model for SplitNo {
+    ghost use Rattle.std.specs.Prelude.{ℕ};
+
+    ghost Value = { ℕ };
+
+    ghost view = { λ n. n.number };
+
+    ghost inverse = { λ n. record { number = n } };
+}
+
+impl SplitNo {
+    /// A split with this number.
+    pub fn new(number: u16) -> Self
+        ensures { result ≡ number }
+    {
+        SplitNo { number }
+    }
+
+    /// The number, as an index.
+    pub fn index(self) -> usize
+        ensures value { result ≡ self }
+        ensures bound { result < 2 ^ 16 }
+    {
+        self.number as usize
+    }
+}
+
+/// The number of a worker, from 0.
+#[derive(Clone, Copy, Debug, Default, PartialEq, Eq, PartialOrd, Ord, Hash)]
+pub struct WorkerNo {
+    number: u16,
+}
+
+impl Model for WorkerNo {
+    ghost use Rattle.std.specs.Prelude.{ℕ};
+
+    ghost Value = { ℕ };
+
+    ghost view = { λ n. n.number };
+
+    ghost inverse = { λ n. record { number = n } };
+}
+
+impl WorkerNo {
+    /// A worker with this number.
+    pub fn new(number: u16) -> Self
+        ensures { result ≡ number }
+    {
+        WorkerNo { number }
+    }
+
+    /// The number, as an index.
+    pub fn index(self) -> usize
+        ensures value { result ≡ self }
+        ensures bound { result < 2 ^ 16 }
+    {
+        self.number as usize
+    }
+}
+
+/// The number of a rack, from 0.
+#[derive(Clone, Copy, Debug, Default, PartialEq, Eq, PartialOrd, Ord, Hash)]
+pub struct RackNo {
+    number: u16,
+}
+
+impl Model for RackNo {
+    ghost use Rattle.std.specs.Prelude.{ℕ};
+
+    ghost Value = { ℕ };
+
+    ghost view = { λ n. n.number };
+
+    ghost inverse = { λ n. record { number = n } };
+}
+
+impl RackNo {
+    /// A rack with this number.
+    pub fn new(number: u16) -> Self
+        ensures { result ≡ number }
+    {
+        RackNo { number }
+    }
+
+    /// The number, as an index.
+    pub fn index(self) -> usize
+        ensures value { result ≡ self }
+        ensures bound { result < 2 ^ 16 }
+    {
+        self.number as usize
+    }
+}
+
+/// The number of a part of the words, from 0.
+#[derive(Clone, Copy, Debug, Default, PartialEq, Eq, PartialOrd, Ord, Hash)]
+pub struct PartNo {
+    number: u8,
+}
+
+impl Model for PartNo {
+    ghost use Rattle.std.specs.Prelude.{ℕ};
+
+    ghost Value = { ℕ };
+
+    ghost view = { λ n. n.number };
+
+    ghost inverse = { λ n. record { number = n } };
+}
+
+impl PartNo {
+    /// A part of the words with this number.
+    pub fn new(number: u8) -> Self
+        ensures { result ≡ number }
+    {
+        PartNo { number }
+    }
+
+    /// The number, as an index.
+    pub fn index(self) -> usize
+        ensures value { result ≡ self }
+        ensures bound { result < 2 ^ 8 }
+    {
+        self.number as usize
+    }
+}
+
+/// The number of a document, from 0.
+#[derive(Clone, Copy, Debug, Default, PartialEq, Eq, PartialOrd, Ord, Hash)]
+pub struct DocNo {
+    number: u32,
+}
+
+impl Model for DocNo {
+    ghost use Rattle.std.specs.Prelude.{ℕ};
+
+    ghost Value = { ℕ };
+
+    ghost view = { λ n. n.number };
+
+    ghost inverse = { λ n. record { number = n } };
+}
+
+impl DocNo {
+    /// A document with this number.
+    pub fn new(number: u32) -> Self
+        ensures { result ≡ number }
+    {
+        DocNo { number }
+    }
+
+    /// The number, as an index.
+    pub fn index(self) -> usize
+        ensures value { result ≡ self }
+        ensures bound { result < 2 ^ 32 }
+    {
+        self.number as usize
+    }
+}
+
+/// The number of an attempt, from 1.
+#[derive(Clone, Copy, Debug, Default, PartialEq, Eq, PartialOrd, Ord, Hash)]
+pub struct AttemptNo {
+    number: u32,
+}
+
+impl Model for AttemptNo {
+    ghost use Rattle.std.specs.Prelude.{ℕ};
+
+    ghost Value = { ℕ };
+
+    ghost view = { λ n. n.number };
+
+    ghost inverse = { λ n. record { number = n } };
+}
+
+impl AttemptNo {
+    /// An attempt with this number.
+    pub fn new(number: u32) -> Self
+        ensures { result ≡ number }
+    {
+        AttemptNo { number }
+    }
+
+    /// The number, as an index.
+    pub fn index(self) -> usize
+        ensures value { result ≡ self }
+        ensures bound { result < 2 ^ 32 }
+    {
+        self.number as usize
+    }
+}

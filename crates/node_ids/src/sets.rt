@@ -1,0 +1,157 @@
+ghost use Rattle.std.specs.Prelude.{◌≡◌, ℕ, ◌*◌, ◌<◌, ◌⊎◌, ◌↔◌, IfOk, length};
+ghost use Rattle.node_ids.specs.Sets.{Has, HasPair, has_number, with_number, with_pair, place_of_pair, no_pairs, no_splits, no_workers};
+
+use crate::numbers::{SplitNo, WorkerNo};
+use std::alloc::{AllocError, Global};
+use std::marker::Model;
+
+#[tactic(auto, using(std::proofs::lemmas::Nat::Bits::shr_and_one))]
+fn has_bit(words: &[u64], n: usize) -> bool
+    requires { n < 64 * length words.now }
+    ensures { result ≡ has_number words.now n }
+{
+    (words[n / 64] >> (n % 64)) & 1 == 1
+}
+
+fn set_bit(words: &mut [u64], n: usize)
+    requires { n < 64 * length words.old }
+    ensures value { words.new ≡ with_number words.old n }
+    ensures members { (k : ℕ) → Has words.new k ↔ ((k ≡ n) ⊎ Has words.old k) }
+{
+    words[n / 64] |= 1 << (n % 64);
+}
+
+/// A set of workers, of which there are at most 256.
+#[derive(Clone, Copy, Debug, PartialEq, Eq)]
+pub struct WorkerSet {
+    words: [u64; 4],
+}
+
+impl Model for WorkerSet {
+    ghost use Rattle.std.specs.Prelude.{ℕ, List};
+
+    ghost Value = { List ℕ };
+
+    ghost view = { λ s. s.words };
+
+    ghost inverse = { λ w. record { words = w } };
+}
+
+impl WorkerSet {
+    /// The set without a member.
+    pub fn new() -> Self
+        ensures value { result ≡ no_workers }
+        ensures members { (n : ℕ) → Has result n → ⊥ }
+    {
+        WorkerSet { words: [0; 4] }
+    }
+
+    pub fn has(&self, worker: WorkerNo) -> bool
+        requires { worker < 256 }
+        ensures { result ≡ has_number self.now worker }
+    {
+        has_bit(&self.words, worker.index())
+    }
+
+    pub fn put(&mut self, worker: WorkerNo)
+        requires { worker < 256 }
+        ensures value { self.new ≡ with_number self.old worker }
+        ensures members { (n : ℕ) → Has self.new n ↔ ((n ≡ worker) ⊎ Has self.old n) }
+    {
+        set_bit(&mut self.words, worker.index());
+    }
+}
+
+/// A set of splits, of which there are at most 1,024.
+#[derive(Clone, Copy, Debug, PartialEq, Eq)]
+pub struct SplitSet {
+    words: [u64; 16],
+}
+
+impl Model for SplitSet {
+    ghost use Rattle.std.specs.Prelude.{ℕ, List};
+
+    ghost Value = { List ℕ };
+
+    ghost view = { λ s. s.words };
+
+    ghost inverse = { λ w. record { words = w } };
+}
+
+impl SplitSet {
+    /// The set without a member.
+    pub fn new() -> Self
+        ensures value { result ≡ no_splits }
+        ensures members { (n : ℕ) → Has result n → ⊥ }
+    {
+        SplitSet { words: [0; 16] }
+    }
+
+    pub fn has(&self, split: SplitNo) -> bool
+        requires { split < 1024 }
+        ensures { result ≡ has_number self.now split }
+    {
+        has_bit(&self.words, split.index())
+    }
+
+    pub fn put(&mut self, split: SplitNo)
+        requires { split < 1024 }
+        ensures value { self.new ≡ with_number self.old split }
+        ensures members { (n : ℕ) → Has self.new n ↔ ((n ≡ split) ⊎ Has self.old n) }
+    {
+        set_bit(&mut self.words, split.index());
+    }
+}
+
+/// A set of pairs of a split and a worker, of which there are at most 1,024 and 256.
+#[derive(Drop)]
+pub struct PairSet {
+    words: Vec<u64>,
+}
+
+impl Model for PairSet {
+    ghost use Rattle.std.specs.Prelude.{◌≡◌, ℕ, List, length};
+
+    ghost Value = { List ℕ };
+
+    ghost view = { λ s. s.words.items };
+
+    ghost invariant = { λ s. length s.words.items ≡ 4096 };
+}
+
+impl PairSet {
+    /// The set without a member.
+    pub fn new(alloc: Global) -> Result<PairSet, AllocError>
+        ensures value { IfOk result (λ set. set ≡ no_pairs) }
+        ensures members { IfOk result (λ set. (s w : ℕ) → HasPair set s w → ⊥) }
+    {
+        Ok(PairSet {
+            words: vec![in alloc; 0; 4096]?,
+        })
+    }
+
+    pub fn copy(&self, alloc: Global) -> Result<PairSet, AllocError>
+        ensures { IfOk result (λ set. set ≡ self.now) }
+    {
+        Ok(PairSet {
+            words: self.words.to_vec(alloc)?,
+        })
+    }
+
+    pub fn has(&self, split: SplitNo, worker: WorkerNo) -> bool
+        requires split { split < 1024 }
+        requires worker { worker < 256 }
+        ensures { result ≡ has_number self.now (place_of_pair split worker) }
+    {
+        has_bit(&self.words, split.index() * 256 + worker.index())
+    }
+
+    pub fn put(&mut self, split: SplitNo, worker: WorkerNo)
+        requires split { split < 1024 }
+        requires worker { worker < 256 }
+        ensures value { self.new ≡ with_pair self.old split worker }
+        ensures members { (s w : ℕ) → w < 256 → HasPair self.new s w ↔ (((s ≡ split) × (w ≡ worker)) ⊎ HasPair self.old s w) }
+    {
+        set_bit(&mut self.words, split.index() * 256 + worker.index());
+    }
+}
