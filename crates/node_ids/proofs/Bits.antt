@@ -1,5 +1,5 @@
 -- What a table of bits holds after one bit was set, and where none is.
-use Rattle.std.proofs.Common.{◌≡◌, ◌≢◌, ℕ, ◌+◌, ◌*◌, ◌/◌, ◌%◌, ◌^◌, ◌<◌, List, length, get_or, set, w64, ◌⊎◌, inl, inr, ◌↔◌, arith, sym, ap, ◌∙◌, get_or-set_same, get_or-set_other, replicate}
+use Rattle.std.proofs.Common.{◌≡◌, ◌≢◌, ℕ, ◌*◌, ◌/◌, ◌%◌, ◌^◌, ◌<◌, List, length, get_or, set, w64, ◌⊎◌, inl, inr, ◌↔◌, arith, sym, ap, ◌∙◌, get_or-set_same, get_or-set_other, replicate}
 use Rattle.std.specs.Int.{bit_at}
 use Rattle.std.specs.Int.RustNames.{bit_or}
 use Rattle.std.proofs.lemmas.Bool.{cases_eq, cases_lt, eqb-true, eq-eqb}
@@ -22,29 +22,34 @@ set_one xs n k h =
     let low : n % 64 < 64 = omega arith in
     let word = with_bit (get_or xs (n / 64) 0) (n % 64) in
     elim (cases_eq (k / 64) (n / 64)) [
-      inr far ↦
-        let same : get_or (set xs (n / 64) word) (k / 64) 0 ≡ get_or xs (k / 64) 0 = rw get_or-set_other in
-        let apart : k ≢ n = λ e. far (ap (λ (z : ℕ). z / 64) e) in
-        (λ new. inr (rw same at new),
-         λ old. elim old [ inl e ↦ absurd (apart e) | inr was ↦ rw same was ])
-    | inl near ↦
-        let here : get_or (set xs (n / 64) word) (k / 64) 0 ≡ word = rw near (rw get_or-set_same) in
-        elim (cases_eq (k % 64) (n % 64)) [
-          inl e ↦
-            let equal : k ≡ n = omega arith in
-            (λ _. inl equal, λ _. rw (here, e) (bit_at_set_same w64 (get_or xs (n / 64) 0) (n % 64) low))
-        | inr other ↦
-            let kept : bit_at word (k % 64) ≡ bit_at (get_or xs (k / 64) 0) (k % 64) =
-              rw near (bit_at_set_other w64 (get_or xs (n / 64) 0) (n % 64) low (k % 64) other) in
-            (λ new. inr (sym kept ∙ sym (ap (λ (z : ℕ). bit_at z (k % 64)) here) ∙ new),
-             λ old. elim old [ inl e ↦ absurd (other (ap (λ (z : ℕ). z % 64) e)) | inr was ↦ ap (λ (z : ℕ). bit_at z (k % 64)) here ∙ kept ∙ was ]) ] ]
+      | inr far ↦
+          let same : get_or (set xs (n / 64) word) (k / 64) 0 ≡ get_or xs (k / 64) 0 = rw get_or-set_other in
+          let apart : k ≢ n = λ e. far (ap (λ (z : ℕ). z / 64) e) in (
+            λ new. inr (rw same at new),
+            λ old. elim old [ inl e ↦ absurd (apart e) | inr was ↦ rw same was ],
+          )
+      | inl near ↦
+          let here : get_or (set xs (n / 64) word) (k / 64) 0 ≡ word = rw near (rw get_or-set_same) in
+          elim (cases_eq (k % 64) (n % 64)) [
+            | inl e ↦
+                let equal : k ≡ n = omega arith in
+                (λ _. inl equal, λ _. rw (here, e) (bit_at_set_same w64 (get_or xs (n / 64) 0) (n % 64) low))
+            | inr other ↦
+                let kept : bit_at word (k % 64) ≡ bit_at (get_or xs (k / 64) 0) (k % 64) =
+                rw near (bit_at_set_other w64 (get_or xs (n / 64) 0) (n % 64) low (k % 64) other) in (
+                  λ new. inr (sym kept ∙ sym (ap (λ (z : ℕ). bit_at z (k % 64)) here) ∙ new),
+                  λ old. elim old [ inl e ↦ absurd (other (ap (λ (z : ℕ). z % 64) e)) | inr was ↦ ap (λ (z : ℕ). bit_at z (k % 64)) here ∙ kept ∙ was ],
+                )
+          ]
+    ]
 
 pub has-set : (xs : List ℕ) (n k : ℕ) → n < 64 * length xs →
     Has (set xs (n / 64) (with_bit (get_or xs (n / 64) 0) (n % 64))) k ↔ ((k ≡ n) ⊎ Has xs k)
 has-set xs n k h =
-    let one = set_one xs n k h in
-    (λ new. elim (one.0 (eqb-true _ 1 new)) [ inl e ↦ inl e | inr was ↦ inr (eq-eqb _ 1 was) ],
-     λ old. eq-eqb _ 1 (one.1 (elim old [ inl e ↦ inl e | inr was ↦ inr (eqb-true _ 1 was) ])))
+    let one = set_one xs n k h in (
+      λ new. elim (one.0 (eqb-true _ 1 new)) [ inl e ↦ inl e | inr was ↦ inr (eq-eqb _ 1 was) ],
+      λ old. eq-eqb _ 1 (one.1 (elim old [ inl e ↦ inl e | inr was ↦ inr (eqb-true _ 1 was) ])),
+    )
 
 abbrev zeros : ℕ → List ℕ
 zeros n = replicate n 0

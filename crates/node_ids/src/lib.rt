@@ -7,10 +7,12 @@
 //! of one element of a list, and first positions.
 #![tactic(auto)]
 
+pub mod layout;
 pub mod numbers;
 pub mod sets;
-pub mod layout;
+#[cfg(test)]
+mod tests;
 
+pub use layout::Layout;
 pub use numbers::{AttemptNo, DocNo, PartNo, RackNo, SplitNo, WorkerNo};
 pub use sets::{PairSet, SplitSet, WorkerSet};
-pub use layout::Layout;

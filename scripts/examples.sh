@@ -1,0 +1,28 @@
+#!/usr/bin/env bash
+# Runs each example through the built programs, and compares output and status with the files beside it.
+# An example is run as `check`, or with the words of NAME.args where that file stands.
+# usage: examples.sh PROGRAM..
+set -euo pipefail
+cd "$(dirname "$0")/.."
+room=$(mktemp -d)
+trap 'rm -rf "$room"' EXIT
+passed=0 failed=0
+for program in "$@"; do
+    for text in examples/*.txt; do
+        name=${text%.txt}
+        words=(check)
+        if [ -f "$name.args" ]; then mapfile -t words < "$name.args"; fi
+        status=0
+        "$program" "${words[@]}" < "$text" > "$room/out" 2> "$room/err" || status=$?
+        if cmp -s "$room/out" "$name.out" && [ "$status" = "$(cat "$name.status")" ] && [ ! -s "$room/err" ]; then
+            passed=$((passed + 1))
+            echo "$program: $text: ok"
+        else
+            failed=$((failed + 1))
+            echo "$program: $text: FAILED, with status $status and this output:"
+            cat "$room/out" "$room/err"
+        fi
+    done
+done
+echo "$passed passed, $failed failed"
+[ "$failed" = 0 ] && [ "$passed" != 0 ]

@@ -1,0 +1,233 @@
+#!/usr/bin/env python3
+"""Makes texts of problems with plans and prices for tests, the same ones for the same seed.
+
+    make_texts.py KIND SEED        writes one text; KIND is best, changed, faulty or large
+"""
+import random
+import sys
+
+MOST = {"rack": 32, "worker": 256, "split": 1024}
+KEYWORDS = ["problem", "rack", "worker", "split", "barred", "dead", "busy", "plan", "start", "price", "end"]
+
+
+def assign(costs):
+    """A least assignment of rows to columns by the Hungarian method: the column of each row, and the duals of
+    rows and columns, of which the columns' are at most 0. There are at least as many columns as rows."""
+    rows, columns = len(costs), len(costs[0])
+    u, v, row_of, way = [0] * (rows + 1), [0] * (columns + 1), [0] * (columns + 1), [0] * (columns + 1)
+    for row in range(1, rows + 1):
+        row_of[0], at = row, 0
+        least, used = [float("inf")] * (columns + 1), [False] * (columns + 1)
+        while row_of[at]:
+            used[at], here, delta, following = True, row_of[at], float("inf"), 0
+            for j in range(1, columns + 1):
+                if not used[j]:
+                    reduced = costs[here - 1][j - 1] - u[here] - v[j]
+                    if reduced < least[j]:
+                        least[j], way[j] = reduced, at
+                    if least[j] < delta:
+                        delta, following = least[j], j
+            for j in range(columns + 1):
+                if used[j]:
+                    u[row_of[j]] += delta
+                    v[j] -= delta
+                else:
+                    least[j] -= delta
+            at = following
+        while at:
+            row_of[at] = row_of[way[at]]
+            at = way[at]
+    column_of = [None] * rows
+    for j in range(1, columns + 1):
+        if row_of[j]:
+            column_of[row_of[j] - 1] = j - 1
+    return column_of, u[1:], v[1:]
+
+
+class Scenario:
+    """A problem by numbers, with a plan and prices."""
+
+    def __init__(self, rnd):
+        racks = rnd.randint(1, 3)
+        self.workers = rnd.choice([0, *[2, 3, 4, 5] * 3])
+        self.splits = rnd.choice([0, *[2, 3, 5, 8] * 3])
+        w, s = range(self.workers), range(self.splits)
+        self.racks = racks
+        self.rack_of = [rnd.randrange(racks) for _ in w]
+        self.free = [rnd.choice([0, 1, 1, 1, 2, 3, 16]) for _ in w]
+        self.live = [rnd.random() < 0.9 for _ in w]
+        self.bytes = [rnd.choice([0, 1, 7, 10, 20, 1000, 67108864]) for _ in s]
+        self.pending = [rnd.random() < 0.85 for _ in s]
+        # (where few workers hold all, splits compete for their slots)
+        near = range(rnd.choice([min(self.workers, 2), self.workers]))
+        self.holders = [rnd.sample(near, min(len(near), rnd.choice([0, 1, 1, 1, 2, 3, 8]))) for _ in s]
+        self.barred = [(i, j) for i in s for j in w if rnd.random() < 0.1]
+        self.reward = 1 + 4 * sum(self.bytes)
+        self.starts, self.split_price, self.worker_price = [None] * self.splits, [0] * self.splits, [0] * self.workers
+
+    def cost(self, s, w):
+        """The cost of an admissible pair; None for any other."""
+        held = [h for h in self.holders[s] if self.live[h]]
+        if not (self.pending[s] and held and self.live[w]) or (s, w) in self.barred:
+            return None
+        steps = min(0 if h == w else 2 if self.rack_of[h] == self.rack_of[w] else 4 for h in held)
+        return self.bytes[s] * steps
+
+    def plan(self):
+        """Gives a best plan and prices that certify it: a column for each slot, and the rest for no start."""
+        if not self.splits:
+            return
+        slots = [w for w in range(self.workers) for _ in range(self.free[w])]
+        never = 10 * self.reward * (self.splits + 1)
+        unstarted = [self.reward] * (self.splits + 1)
+        costs = []
+        for s in range(self.splits):
+            row = [self.cost(s, w) for w in slots]
+            costs.append([never if cost is None else cost for cost in row] + unstarted)
+        column_of, u, v = assign(costs)
+        for s, column in enumerate(column_of):
+            self.starts[s] = slots[column] if column < len(slots) else None
+            self.split_price[s] = self.reward - u[s]
+        for column, w in enumerate(slots):
+            self.worker_price[w] = -v[column]
+
+    def change(self, rnd):
+        """Changes a price or a start, most often by little."""
+        prices = rnd.choice([self.split_price, self.worker_price])
+        kind = rnd.randrange(4)
+        if kind == 0 and self.splits:
+            start = rnd.choice([None, *range(self.workers)])
+            self.starts[rnd.randrange(self.splits)] = start
+        elif kind == 1 and self.splits > 1:
+            a, b = rnd.sample(range(self.splits), 2)
+            self.starts[a], self.starts[b] = self.starts[b], self.starts[a]
+        elif prices:
+            at = rnd.randrange(len(prices))
+            near = [min(prices[at] + 1, 2**64 - 1), max(prices[at] - 1, 0)]
+            prices[at] = rnd.choice([*near * 2, 0, self.reward, self.reward + 1, 2**64 - 1])
+
+    def lines(self, rnd):
+        """The lines of the text; head lines stand in one of the orders that declare names before their use."""
+        racks = [f"rack r{i}" for i in range(self.racks)]
+        workers = [f"worker w{i} r{self.rack_of[i]} {self.free[i]}" for i in range(self.workers)]
+        splits = []
+        for s in range(self.splits):
+            splits.append(" ".join([f"split s{s} {self.bytes[s]}", *(f"w{h}" for h in self.holders[s])]))
+        marks = [f"dead w{w}" for w in range(self.workers) if not self.live[w]]
+        marks += [f"busy s{s}" for s in range(self.splits) if not self.pending[s]]
+        marks += [f"barred s{s} w{w}" for s, w in self.barred]
+        rnd.shuffle(marks)
+        prices = [f"price s{s} {self.split_price[s]}" for s in range(self.splits)]
+        prices += [f"price w{w} {self.worker_price[w]}" for w in range(self.workers)]
+        plan = [f"start s{s} w{w}" for s, w in enumerate(self.starts) if w is not None] + prices
+        rnd.shuffle(plan)
+        return ["problem 1", *racks, *workers, *splits, *marks, "plan", *plan, "end"]
+
+
+def text_of(lines):
+    return "".join(line + "\n" for line in lines).encode()
+
+
+def best(rnd):
+    """A text that is certified."""
+    scenario = Scenario(rnd)
+    scenario.plan()
+    return text_of(scenario.lines(rnd))
+
+
+def changed(rnd):
+    """A text without a fault, whose plan or prices were changed after they were found."""
+    scenario = Scenario(rnd)
+    if rnd.random() < 0.8:
+        scenario.plan()
+    for _ in range(rnd.randint(1, 3)):
+        scenario.change(rnd)
+    return text_of(scenario.lines(rnd))
+
+
+def spoiled_word(rnd, word):
+    if word.isdigit() and rnd.random() < 0.7:
+        return rnd.choice(["0", "2", "17", "67108865", str(2**64), "9" * 40, "00", "+1"])
+    others = ["w0", "s0", "r0", "w9", "new", "0", "1", "17", "01", "67108865", "-1", "x" * 33, "9x", "", "a/b"]
+    return rnd.choice([*others, *KEYWORDS, word + ".", word.upper(), word * 2])
+
+
+def spoil_line(rnd, lines):
+    at = rnd.randrange(len(lines))
+    words = lines[at].split(" ")
+    kind = rnd.randrange(7)
+    if kind == 0:
+        numbers = [i for i, word in enumerate(words) if word.isdigit()]
+        place = rnd.choice(numbers) if numbers and rnd.random() < 0.5 else rnd.randrange(len(words))
+        words[place] = spoiled_word(rnd, words[place])
+    elif kind == 1:
+        words.insert(rnd.randint(0, len(words)), spoiled_word(rnd, words[-1]))
+    elif kind == 2:
+        del words[rnd.randrange(len(words))]
+    elif kind == 3:
+        words += rnd.choice([words[-1:], rnd.sample([f"w{w}" for w in range(5)] * 2, rnd.randint(1, 9))])
+    if kind < 4:
+        lines[at] = " ".join(words)
+    elif kind == 4:
+        lines.insert(rnd.randint(0, len(lines)), lines[at])
+    elif kind == 5:
+        del lines[at]
+    else:
+        lines[at], lines[-at] = lines[-at], lines[at]
+
+
+def faulty(rnd):
+    """A text in which a line or a byte was spoiled; most have a fault, some more than one."""
+    scenario = Scenario(rnd)
+    scenario.plan()
+    lines = scenario.lines(rnd)
+    for _ in range(rnd.choice([0, 1, 1, 1, 2, 3])):
+        if lines:
+            spoil_line(rnd, lines)
+    text = text_of(lines)
+    kind = rnd.randrange(10)
+    if kind == 0:
+        return text[: rnd.randint(0, len(text))]
+    if kind == 1 and text:
+        at = rnd.randrange(len(text))
+        return text[:at] + bytes([rnd.choice([0, 9, 10, 13, 32, 47, 127, 200])]) + text[at + 1 :]
+    if kind == 2:
+        return text + rnd.choice([b"end\n", b"end", b"\n", b"\t\n", b"rack r9\n", b"x"])
+    return text
+
+
+def limit(kind, over):
+    """A text with so many past the most racks, workers or splits."""
+    count = {"rack": 1, "worker": 1, "split": 0, kind: MOST[kind] + over}
+    lines = ["problem 1", *(f"rack r{i}" for i in range(count["rack"]))]
+    lines += [f"worker w{i} r0 16" for i in range(count["worker"])]
+    lines += [f"split s{i} 0" for i in range(count["split"])] + ["plan"]
+    lines += [f"price w{i} 0" for i in range(count["worker"])] + [f"price s{i} 0" for i in range(count["split"])]
+    return text_of([*lines, "end"])
+
+
+def large(rnd):
+    """A text near the greatest length: every worker, split and holder, and every pair barred, in long names."""
+    worker = [f"worker-of-the-cluster-{w:03d}" for w in range(256)]
+    split = [f"split-of-the-first-file-{s:04d}" for s in range(1024)]
+    lines = ["problem 1", *(f"rack rack-{r}" for r in range(32))]
+    lines += [f"worker {name} rack-{w % 32} 16" for w, name in enumerate(worker)]
+    lines += [" ".join([f"split {name} {rnd.randrange(67108865)}", *rnd.sample(worker, 8)]) for name in split]
+    lines += [f"barred {s} {w}" for s in split for w in worker]
+    lines += ["plan", *(f"price {name} 0" for name in split + worker), "end"]
+    return text_of(lines)
+
+
+KINDS = {"best": best, "changed": changed, "faulty": faulty, "large": large}
+
+
+def main():
+    if len(sys.argv) != 3 or sys.argv[1] not in KINDS:
+        print(__doc__.strip(), file=sys.stderr)
+        return 64
+    sys.stdout.buffer.write(KINDS[sys.argv[1]](random.Random(int(sys.argv[2]))))
+    return 0
+
+
+if __name__ == "__main__":
+    sys.exit(main())

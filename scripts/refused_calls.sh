@@ -1,0 +1,53 @@
+#!/usr/bin/env bash
+# Refuses the built programs one call in turn, on the example swap.txt, until a run meets none: each allocation,
+# each read and each write of the output. It also interrupts each transfer, and has them all move one byte.
+# usage: refused_calls.sh PROGRAM..
+set -euo pipefail
+cd "$(dirname "$0")/.."
+room=$(mktemp -d)
+trap 'rm -rf "$room"' EXIT
+kit=$(dirname "$(rt doc)")
+# (by the compiler that the kit brings)
+"$kit/toolchain/bin/clang" -O2 -fPIC -shared -nostdlib -fuse-ld=lld -o "$room/refuse.so" scripts/refuse_call.c
+text=examples/swap.txt
+passed=0 failed=0
+
+# Runs the program with one call refused; the words that it says and its status are in $said.
+run() { # PROGRAM KIND NTH
+    : > "$room/met"
+    local status=0
+    env -i LD_PRELOAD="$room/refuse.so" REFUSE="$2" NTH="$3" "$1" check \
+        < "$text" > "$room/out" 2> "$room/err" 9> "$room/met" || status=$?
+    said="$(cat "$room/err") ($status)"
+}
+
+sweep() { # PROGRAM KIND WORDS-AND-STATUS OUTPUT
+    local wrong=0 calls=0 nth
+    for ((nth = 1; nth <= 10000; nth++)); do
+        run "$1" "$2" "$nth"
+        [ -s "$room/met" ] || break
+        calls=$nth
+        if [ "$said" != "$3" ] || ! cmp -s "$room/out" "$4"; then
+            wrong=$((wrong + 1))
+            echo "$1: $2 $nth: it says: $said"
+        fi
+    done
+    # the run that met no refusal, and at least one that did
+    if [ "$said" != " (0)" ] || ! cmp -s "$room/out" examples/swap.out || [ "$calls" = 0 ] || [ "$nth" -gt 10000 ]; then
+        wrong=$((wrong + 1))
+        echo "$1: $2: after $calls calls that were refused, it says: $said"
+    fi
+    echo "$1: $2: $calls calls, one refused in each run, $wrong wrong"
+    if [ "$wrong" = 0 ]; then passed=$((passed + 1)); else failed=$((failed + 1)); fi
+}
+
+: > "$room/nothing"
+for program in "$@"; do
+    sweep "$program" alloc "mrjob: no memory (3)" "$room/nothing"
+    sweep "$program" read "mrjob: read fault (4)" "$room/nothing"
+    sweep "$program" write "mrjob: write fault (4)" "$room/nothing"
+    sweep "$program" interrupt " (0)" examples/swap.out
+    sweep "$program" short " (0)" examples/swap.out
+done
+echo "$passed passed, $failed failed"
+[ "$failed" = 0 ] && [ "$passed" != 0 ]

@@ -1,0 +1,58 @@
+#!/usr/bin/env bash
+# What the built programs do outside the examples: usage and help, faults of reading and writing, long texts.
+# usage: statuses.sh PROGRAM..
+set -euo pipefail
+cd "$(dirname "$0")/.."
+room=$(mktemp -d)
+trap 'rm -rf "$room"' EXIT
+text=examples/swap.txt
+passed=0 failed=0
+
+# One case: `nothing` and `words` say what a stream must be; any other word is the stream's one line.
+expect() { # NAME STATUS WANTED-STATUS WANTED-OUT WANTED-ERR
+    local is_well=1 stream wanted
+    [ "$2" = "$3" ] || is_well=0
+    for stream in out err; do
+        wanted=$4
+        if [ $stream = err ]; then wanted=$5; fi
+        case "$wanted" in
+            nothing) [ ! -s "$room/$stream" ] || is_well=0 ;;
+            words) [ -s "$room/$stream" ] || is_well=0 ;;
+            *) [ "$(head -c 1000 "$room/$stream")" = "$wanted" ] || is_well=0 ;;
+        esac
+    done
+    if [ $is_well = 1 ]; then
+        passed=$((passed + 1))
+        echo "$program: $1: ok"
+    else
+        failed=$((failed + 1))
+        echo "$program: $1: FAILED, with status $2 and this output:"
+        head -c 1000 "$room/out"
+        head -c 1000 "$room/err"
+    fi
+}
+
+# Runs the program with these words on standard input, and tells the status.
+given() { # WORDS..
+    local status=0
+    "$program" "$@" > "$room/out" 2> "$room/err" || status=$?
+    echo $status
+}
+
+for program in "$@"; do
+    expect "no command" "$(given < "$text")" 64 nothing words
+    expect "an unknown command" "$(given fly < "$text")" 64 nothing words
+    expect "a word too many" "$(given check swap < "$text")" 64 nothing words
+    expect "a word that is no text" "$(given $'\xff' < "$text")" 64 nothing words
+    expect "help" "$(given --help < "$text")" 0 words nothing
+    expect "help on a command" "$(given check --help < "$text")" 0 words nothing
+    expect "a text that is too long" "$(head -c 16777217 /dev/zero | given check)" 2 "line 0: fault 11" nothing
+    expect "a text that is far too long" "$(head -c 100000000 /dev/zero | given check)" 2 "line 0: fault 11" nothing
+    expect "an input that cannot be read" "$(given check < /)" 4 nothing "mrjob: read fault"
+    status=0
+    "$program" check < "$text" > /dev/full 2> "$room/err" || status=$?
+    : > "$room/out"
+    expect "an output that takes nothing" "$status" 4 nothing "mrjob: write fault"
+done
+echo "$passed passed, $failed failed"
+[ "$failed" = 0 ] && [ "$passed" != 0 ]
