@@ -1,0 +1,31 @@
+/// A command with its options.
+#[derive(Clone, Copy, Debug, PartialEq, Eq)]
+pub enum Ask {
+    /// Check a plan by its prices.
+    Check,
+}
+
+/// Why the words ask for no command.
+#[derive(Debug, Drop)]
+pub enum AskError {
+    /// The words are wrong, or ask for help: `clap`'s text, for standard error or output.
+    Fault(clap::Error),
+    /// Want of memory.
+    Memory,
+}
+
+impl AskError {
+    ghost use Rattle.std.specs.Prelude.{◌≡◌};
+    ghost use Rattle.command_line.specs.Commands.{status_of};
+
+    /// The status with which the program exits: 0 after help, 3 for want of memory, 64 for usage.
+    pub fn status(&self) -> u8
+        ensures { result ≡ status_of self.now }
+    {
+        match self {
+            AskError::Fault(error) if error.use_stderr() => 64,
+            AskError::Fault(_) => 0,
+            AskError::Memory => 3,
+        }
+    }
+}

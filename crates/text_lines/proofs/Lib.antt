@@ -1,0 +1,4 @@
+-- A stream read or written piece by piece; a text cut at its first line feed; the keys of a table.
+pub mod Pieces
+pub mod Splitting
+pub mod Keys

@@ -1,0 +1,28 @@
+use Rattle.std.proofs.Common.{rules, arith, ℕ, ◌<◌, suc, Ok, Err, Result}
+use Rattle.std.specs.List.{All}
+use Rattle.std.specs.Result.{OkIff, result_ok}
+use Rattle.std.specs.Option.{SomeIff}
+use Rattle.std.proofs.lemmas.List.Elements.{All-cons}
+use Rattle.std.proofs.lemmas.Str.Parse.{IsDigitsTest, IsNumeralModel, numerals_by_fold, parse_digits}
+use Rattle.text_lines.specs.Texts.{IsDigit, number_from, number_of}
+use Rattle.text_lines.proofs.number.value_of.Goals as goal
+
+digits : IsDigitsTest (All IsDigit)
+digits = record {
+  empty = search rules;
+  parts = λ c cs h. (h 0 0 (omega arith), λ k d lt. h (suc k) d (omega arith));
+  more = λ c cs one h. All-cons IsDigit c cs one h;
+}
+
+numerals : IsNumeralModel (All IsDigit) number_of
+numerals = numerals_by_fold _ digits number_from (search rules)
+
+some_number : {E : Type 0} (r : Result ℕ E) (len n : ℕ) (P : Type 0) → 0 < len
+    → OkIff r ((0 < len) × P) n → SomeIff (result_ok r) P n
+some_number (Ok x) len n P lt h = (h.0.1, h.1)
+some_number (Err e) len n P lt h = λ p. h (lt, p)
+
+pub returns : goal.returns
+returns c =
+    let parsed = parse_digits numerals 64 c.args.digits.now _ c.parse.ensures.value.0 c.requires.0 in
+    rw c.ok.ensures.value (some_number _ _ _ _ c.requires.1 parsed)

@@ -1,0 +1,20 @@
+-- The numbers by which faults are told. Of two faults of one line the lower is answered.
+use Rattle.std.specs.Prelude.{ℕ}
+use Rattle.text_lines.specs.declared.fault.Fault.{Fault}
+use Rattle.text_lines.specs.declared.fault.Fault.TheVariants.{Shape, Misnamed, Unknown, Repeated, OutOfRange, PassesLimit, Misplaced, RepeatedHolder, SecondEntry, NoPrice, TooLong, NoFeed, Unprintable, AfterEnd}
+
+abbrev pub number_of_fault : Fault → ℕ
+number_of_fault Shape = 1
+number_of_fault Misnamed = 2
+number_of_fault Unknown = 3
+number_of_fault Repeated = 4
+number_of_fault OutOfRange = 5
+number_of_fault PassesLimit = 6
+number_of_fault Misplaced = 7
+number_of_fault RepeatedHolder = 8
+number_of_fault SecondEntry = 9
+number_of_fault NoPrice = 10
+number_of_fault TooLong = 11
+number_of_fault NoFeed = 12
+number_of_fault Unprintable = 13
+number_of_fault AfterEnd = 14

@@ -1,0 +1,28 @@
+-- What a reader gives and a writer takes, where their bytes are known.
+use Rattle.std.specs.Prelude.{ℕ, List, ◌≡◌, ◌++◌, ◌≤◌, length, Option}
+use Rattle.std.specs.Io.KnownBytes.{Appends, Consumes}
+
+-- a writer took some front of the text, perhaps none or all of it
+pub record AppendsFront (old new : Option (List ℕ)) (text : List ℕ) : Type 0 where
+  pub front : List ℕ
+  pub rest : List ℕ
+  pub whole : text ≡ front ++ rest
+  pub appended : Appends old new front
+
+-- a reader lost at most so many bytes
+pub record ConsumesAtMost (old new : Option (List ℕ)) (most : ℕ) : Type 0 where
+  pub bytes : List ℕ
+  pub few : length bytes ≤ most
+  pub consumed : Consumes old new bytes
+
+-- what a reader lost stands at the end of the text
+pub record Reads (before after : Option (List ℕ)) (old new : List ℕ) : Type 0 where
+  pub bytes : List ℕ
+  pub grown : new ≡ old ++ bytes
+  pub consumed : Consumes before after bytes
+
+-- a writer took what is gone from the rest
+pub record Moves (before after : Option (List ℕ)) (rest left : List ℕ) : Type 0 where
+  pub bytes : List ℕ
+  pub whole : rest ≡ bytes ++ left
+  pub appended : Appends before after bytes

@@ -1,0 +1,23 @@
+//! Texts: lists of lines, each ended by one line feed, of words with one space between.
+//!
+//! A whole text is read from any reader within bounds, and written to any writer. Of a text the
+//! layer tells its lines, words, names and numbers; tables number the names that a text declares;
+//! and a fault of a text has a line and a number. The definitions are in `specs/Texts.antt`. Above
+//! it stand the readers of problems, plans, scripts and jobs; below it only std and `indexmap`.
+#![tactic(auto)]
+
+pub mod fault;
+pub mod lines;
+pub mod names;
+pub mod number;
+pub mod streams;
+pub mod tables;
+#[cfg(test)]
+mod tests;
+
+pub use fault::{Fault, TextFault};
+pub use lines::{printable, split_line, words};
+pub use names::is_name;
+pub use number::Number;
+pub use streams::{MOST_BYTES, MOST_READS, ReadError, WriteError, read_text, write_text};
+pub use tables::{NameTable, PairTable};
