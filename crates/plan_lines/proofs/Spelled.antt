@@ -1,5 +1,5 @@
 -- The words of a line spell at most one statement: the one that is read back from them.
-use Rattle.std.proofs.Common.{ℕ, List, [], ◌∷◌, ◌≡◌, ◌∙◌, cond, get_or, drop, codes, refl, sym, map, inl, inr}
+use Rattle.std.proofs.Common.{List, [], ◌∷◌, ◌≡◌, ◌∙◌, cond, get_or, drop, codes, refl, sym, map, inl, inr}
 use Rattle.std.specs.List.{AllZip}
 use Rattle.std.specs.Str.{bytes_eq}
 use Rattle.text_lines.specs.Texts.{Line, Word, number_of, words_of}
@@ -19,18 +19,18 @@ read_back (first ∷ more) =
     (cond (bytes_eq first (codes "start")) (Start (get_or more 0 []) (get_or more 1 []))
     (cond (bytes_eq first (codes "price")) (Price (get_or more 0 []) (number_of (get_or more 1 []))) End)))))))))
 
-given_words : (names words : List Word) → AllZip Fills (map Given names) words → words ≡ names
-given_words [] [] h = refl
-given_words [] (w ∷ ws) h = absurd h
-given_words (n ∷ ns) [] h = absurd h
-given_words (n ∷ ns) (w ∷ ws) h = let more = given_words ns ws h.1 in rw (h.0, more)
+same_words : (names words : List Word) → AllZip Fills (map Given names) words → words ≡ names
+same_words [] [] h = refl
+same_words [] (w ∷ ws) h = absurd h
+same_words (n ∷ ns) [] h = absurd h
+same_words (n ∷ ns) (w ∷ ws) h = let more = same_words ns ws h.1 in rw (h.0, more)
 
 pub spells-read_back : (s : Statement) (words : List Word) → Spells words s → read_back words ≡ s
 spells-read_back (Problem n) (w ∷ a ∷ []) h = rw (h.0, h.1.0.1)
 spells-read_back (Rack name) (w ∷ a ∷ []) h = rw (h.0, h.1.0)
 spells-read_back (Worker name rack n) (w ∷ a ∷ b ∷ c ∷ []) h = rw (h.0, h.1.0, h.1.1.0, h.1.1.1.0.1)
 spells-read_back (Split name n holders) (w ∷ a ∷ b ∷ hs) h =
-    let same = given_words holders hs h.1.1.1 in rw (h.0, h.1.0, h.1.1.0.1, same)
+    let same = same_words holders hs h.1.1.1 in rw (h.0, h.1.0, h.1.1.0.1, same)
 spells-read_back (Barred split worker) (w ∷ a ∷ b ∷ []) h = rw (h.0, h.1.0, h.1.1.0)
 spells-read_back (Dead worker) (w ∷ a ∷ []) h = rw (h.0, h.1.0)
 spells-read_back (Busy split) (w ∷ a ∷ []) h = rw (h.0, h.1.0)

@@ -43,14 +43,17 @@ Fills (Number n) w = IsNumber w × (number_of w ≡ n)
 abbrev pub Spells : List Word → Statement → Type 0
 Spells words s = AllZip Fills (spelling s) words
 
--- no space stands first or last, and none after another
 abbrev pub IsWord : Word → Type 0
 IsWord w = 0 < length w
 
+-- the words say this, and none is empty: no space stands first or last in their line, and none after another
+pub record Say (ws : List Word) (s : Statement) : Type 0 where
+  pub words : All IsWord ws
+  pub filled : Spells ws s
+
 -- the line says this
-pub record Says (line : Line) (s : Statement) : Type 0 where
-  pub words : All IsWord (words_of line)
-  pub filled : Spells (words_of line) s
+abbrev pub Says : Line → Statement → Type 0
+Says line s = Say (words_of line) s
 
 abbrev pub SaysNothing : Line → Type 0
 SaysNothing line = (s : Statement) → Says line s → ⊥

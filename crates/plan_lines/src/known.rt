@@ -14,7 +14,6 @@ const MOST_SPLITS: usize = 1024;
 const MOST_HOLDERS: usize = 8;
 
 /// What the lines so far declare: the names of each kind, numbered from 0 in their order.
-#[derive(Drop)]
 pub struct KnownNames<'t> {
     is_first: bool,
     racks: NameTable<'t>,
@@ -27,6 +26,25 @@ pub struct KnownNames<'t> {
     priced: NameTable<'t>,
     plan_begun: bool,
     is_ended: bool,
+}
+
+// By hand, so that a caller's proof has one step where it drops the names.
+impl Drop for KnownNames<'_> {
+    fn drop(self) {
+        let KnownNames {
+            is_first: _,
+            racks: _,
+            workers: _,
+            splits: _,
+            barred: _,
+            dead: _,
+            busy: _,
+            started: _,
+            priced: _,
+            plan_begun: _,
+            is_ended: _,
+        } = self;
+    }
 }
 
 impl<'t> Model for KnownNames<'t> {
@@ -142,7 +160,19 @@ impl<'t> KnownNames<'t> {
         ensures splits { result.0 ≡ self.entry.splits }
         ensures workers { result.1 ≡ self.entry.workers }
     {
-        let KnownNames { splits, workers, .. } = self;
+        let KnownNames {
+            is_first: _,
+            racks: _,
+            workers,
+            splits,
+            barred: _,
+            dead: _,
+            busy: _,
+            started: _,
+            priced: _,
+            plan_begun: _,
+            is_ended: _,
+        } = self;
         (splits, workers)
     }
 

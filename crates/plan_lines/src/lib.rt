@@ -11,8 +11,12 @@ pub mod keyword;
 pub mod known;
 pub mod line;
 pub mod rows;
+pub mod said;
+#[cfg(test)]
+mod tests;
 mod words;
 
 pub use known::KnownNames;
 pub use line::Line;
 pub use rows::Rows;
+pub use said::said_by;

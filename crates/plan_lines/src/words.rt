@@ -2,6 +2,7 @@ ghost use Rattle.std.specs.Prelude.{◌≡◌, ◌≢◌, ◌≤◌, ◌↔◌, 
 ghost use Rattle.std.specs.List.{AllPairs};
 ghost use Rattle.std.specs.Borrow.{Bor};
 ghost use Rattle.text_lines.specs.Texts.{IsName, number_of};
+ghost use Rattle.plan_lines.specs.Statements.{IsWord};
 
 use text_lines::{NameTable, Number, is_name};
 
@@ -16,6 +17,19 @@ fn each_is_name(words: &[&str]) -> bool
     ensures { IsTrue result ↔ All (λ w. IsName w.now) words.now }
 {
     words.iter().all(|word| is_name(word))
+}
+
+/// Whether no word is empty.
+pub fn are_words(words: &[&str]) -> bool
+    ensures { IsTrue result ↔ All IsWord (map (λ w. w.now) words.now) }
+{
+    each_is_word(words)
+}
+
+fn each_is_word(words: &[&str]) -> bool
+    ensures { IsTrue result ↔ All (λ w. IsWord w.now) words.now }
+{
+    words.iter().all(|word| !word.is_empty())
 }
 
 /// Whether each name stands in the table.

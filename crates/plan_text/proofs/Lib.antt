@@ -1,0 +1,4 @@
+pub mod LineErrors
+pub mod ReadTo
+pub mod Numbers
+pub mod Parts

@@ -1,0 +1,103 @@
+-- Names and their numbers, and the pairs that are barred.
+use Rattle.std.proofs.Common.{ℕ, List, [], ◌∷◌, ◌++◌, ◌≡◌, ◌≢◌, ◌<◌, ◌+◌, ◌⊎◌, ◌∙◌, arith}
+use Rattle.std.proofs.Common.{Bool, true, false, inl, inr, length, take, sym, ap, refl, subst}
+use Rattle.std.specs.Prelude.{◌↔◌, IsTrue, unwrap_or}
+use Rattle.std.specs.List.{Contains, position_or_len, slice_index_or}
+use Rattle.std.specs.Str.{bytes_eq}
+use Rattle.std.proofs.lemmas.Bool.{cases_lt}
+use Rattle.std.proofs.lemmas.List.{take_more}
+use Rattle.std.proofs.lemmas.List.Elements.{Contains-append_left, Contains-push, Contains-push_cases}
+use Rattle.std.proofs.lemmas.List.Sums.{fails_before_first, passes_at_first}
+use Rattle.std.proofs.lemmas.Slice.Eq.{bytes_eq-Decides}
+use Rattle.node_ids.proofs.Positions.{position_found}
+use Rattle.text_lines.proofs.Keys.{found}
+use Rattle.text_lines.specs.Texts.{Word}
+use Rattle.plan_text.specs.Value.{IsBarred, number_in, stands_in}
+
+no_true : false ≡ true → ⊥
+no_true e = cc
+
+-- where a name stands first
+abbrev first : List Word → Word → ℕ
+first names name = position_or_len (bytes_eq name) names
+
+first_within : (names : List Word) (name : Word) → Contains names name → first names name < length names
+first_within names name (k, lt, is) =
+    let here : bytes_eq name (slice_index_or names k name) ≡ true = (bytes_eq-Decides name _).1 (sym is) in
+    elim (cases_lt k (first names name)) [
+      | inl less ↦ absurd (no_true (sym (fails_before_first (bytes_eq name) names k name less) ∙ here))
+      | inr ge ↦ omega arith
+    ]
+
+number_is_first : (names : List Word) (name : Word) → Contains names name
+    → number_in names name ≡ first names name
+number_is_first names name has =
+    let inside = first_within names name has in
+    ap (λ o. unwrap_or o 0)
+    (position_found (bytes_eq name) names (first names name) name inside
+    (λ k lt. fails_before_first (bytes_eq name) names k name lt)
+    (passes_at_first (bytes_eq name) names name inside))
+
+pub number_within : (names : List Word) (name : Word) → Contains names name
+    → number_in names name < length names
+number_within names name has = rw (number_is_first names name has) (first_within names name has)
+
+-- a number gives its name back
+name_of_number : (names : List Word) (name d : Word) → Contains names name
+    → slice_index_or names (number_in names name) d ≡ name
+name_of_number names name d has =
+    let passes = passes_at_first (bytes_eq name) names d (first_within names name has) in
+    rw (number_is_first names name has) (sym ((bytes_eq-Decides name _).0 passes))
+
+pub numbers_differ : (names : List Word) (a b : Word) → Contains names a → Contains names b
+    → a ≢ b → number_in names a ≢ number_in names b
+numbers_differ names a b in_a in_b differ same =
+    differ (sym (name_of_number names a [] in_a) ∙ ap (λ i. slice_index_or names i []) same
+    ∙ name_of_number names b [] in_b)
+
+same_truth : {P : Type 0} (a b : Bool) → (IsTrue a ↔ P) → (IsTrue b ↔ P) → a ≡ b
+same_truth true true f g = refl
+same_truth false false f g = refl
+same_truth true false f g = absurd (no_true (g.1 (f.0 refl)))
+same_truth false true f g = absurd (no_true (f.1 (g.0 refl)))
+
+pub stands_by : (b : Bool) (names : List Word) (name : Word) → (IsTrue b ↔ Contains names name)
+    → b ≡ stands_in names name
+stands_by b names name test =
+    same_truth b (stands_in names name) test (found bytes_eq bytes_eq-Decides name names)
+
+pub none_barred : (splits workers : List Word) (s w : ℕ) → IsBarred splits workers [] s w → ⊥
+none_barred splits workers s w (split, worker, (k, lt, is), one, other) = omega arith
+
+-- the numbers of a pair of names
+abbrev pub AreNumbers : List Word → List Word → Word × Word → ℕ → ℕ → Type 0
+AreNumbers splits workers pair s w = (s ≡ number_in splits pair.0) × (w ≡ number_in workers pair.1)
+
+-- the pair at a place is barred with those before it
+pub one_more_barred : (splits workers : List Word) (barred : List (Word × Word)) (i s w : ℕ) (New Old : Type 0)
+    → i < length barred
+    → (New ↔ (AreNumbers splits workers (slice_index_or barred i ([], [])) s w ⊎ Old))
+    → (Old ↔ IsBarred splits workers (take i barred) s w)
+    → New ↔ IsBarred splits workers (take (i + 1) barred) s w
+one_more_barred splits workers barred i s w New Old inside step before =
+    let pair : Word × Word = slice_index_or barred i ([], []) in
+    let front = take i barred in
+    let more = take_more barred i ([], []) inside in
+    let longer : (p : Word × Word) → Contains (front ++ pair ∷ []) p → Contains (take (i + 1) barred) p =
+    λ p. subst (λ l. Contains l p) (sym more) in
+    let one : IsBarred splits workers (front ++ pair ∷ []) s w → New = λ b. step.1
+    (elim (Contains-push_cases front pair (b.0, b.1) b.2) [
+      | inl has ↦ inr (before.1 (b.0, b.1, has, b.3, b.4))
+      | inr is ↦ inl (
+        sym b.3 ∙ sym (ap (λ p. number_in splits p.0) is),
+        sym b.4 ∙ sym (ap (λ p. number_in workers p.1) is),
+      )
+    ]) in (
+      λ new. elim (step.0 new) [
+        | inl here ↦ (pair.0, pair.1, longer pair (Contains-push front pair), sym here.0, sym here.1)
+        | inr old ↦
+            let b = before.0 old in
+            (b.0, b.1, longer (b.0, b.1) (Contains-append_left front (pair ∷ []) (b.0, b.1) b.2), b.3, b.4)
+      ],
+      subst (λ l. IsBarred splits workers l s w → New) (sym more) one,
+    )

@@ -1,0 +1,4 @@
+pub mod Value
+pub mod Reading
+pub mod Report
+pub mod Draft

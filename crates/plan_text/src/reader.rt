@@ -1,0 +1,98 @@
+ghost use Rattle.std.specs.Prelude.{◌≡◌, ◌+◌, ◌≤◌, [], IfErr, IfOk, MatchOption, OnOk, length, true};
+ghost use Rattle.price_certificate.specs.Certificate.{HasOneSize, claim};
+ghost use Rattle.plan_lines.specs.Faults.{RestHas, longest};
+ghost use Rattle.plan_lines.specs.Fits.{IsLeastOf};
+ghost use Rattle.plan_lines.specs.Rows.{entries_in};
+ghost use Rattle.plan_text.specs.Draft.{IsAllRead};
+ghost use Rattle.plan_lines.specs.Entries.{entries_of};
+ghost use Rattle.plan_lines.specs.Known.{known_at};
+ghost use Rattle.plan_text.specs.Reading.{IsReadingError, IsReadingOf, error_at};
+
+use crate::built::{PlanText, build};
+use crate::draft::{Draft, LineError};
+use plan_lines::KnownNames;
+use std::alloc::Global;
+use text_lines::{Fault, TextFault, split_line};
+
+const LONGEST: usize = 16_777_216;
+
+/// Why a text has no value.
+#[derive(Clone, Copy, Debug, PartialEq, Eq)]
+pub enum ReadingError {
+    /// The least fault of the text.
+    Text(TextFault),
+    Memory,
+}
+
+/// The problem, plan and prices that the lines of a text declare, or the text's least fault. The value
+/// borrows its names from the text.
+pub fn read_plan(alloc: Global, text: &[u8]) -> Result<PlanText<'_>, ReadingError>
+    ensures ok { IfOk result (IsReadingOf text.entry.now) }
+    ensures sized { IfOk result (λ v. HasOneSize (claim v.problem v.plan.starts v.prices) v.plan.workers) }
+    ensures err { IfErr result (IsReadingError text.entry.now) }
+{
+    if text.len() > LONGEST {
+        return Err(ReadingError::Text(TextFault { line: 0, number: Fault::TooLong }));
+    }
+    let mut draft = Draft::new(alloc);
+    read_lines(alloc, text, &mut draft)?;
+    let Draft { names, rows } = draft;
+    match build(alloc, names, &rows) {
+        Ok(value) => Ok(value),
+        Err(_) => Err(ReadingError::Memory),
+    }
+}
+
+// Takes all lines of a text, and what follows the last line feed.
+fn read_lines<'t>(alloc: Global, text: &'t [u8], draft: &mut Draft<'t>) -> Result<(), ReadingError>
+    requires short { length text.now ≤ longest }
+    requires names { draft.old.names ≡ known_at 0 [] }
+    requires rows { entries_in draft.old.rows ≡ entries_of [] }
+    ensures ok { OnOk result (IsAllRead text.entry.now draft.new.names (entries_in draft.new.rows)) }
+    ensures err { IfErr result (IsReadingError text.entry.now) }
+{
+    let mut rest = text;
+    let mut lines_read: u32 = 0;
+    loop {
+        let (line, after) = split_line(rest);
+        let Some(after) = after else {
+            return match fault_of_rest(&draft.names, line) {
+                Some(fault) => Err(fault_in(lines_read + 1, fault)),
+                None => Ok(()),
+            };
+        };
+        if let Err(error) = draft.take(alloc, line) {
+            return Err(error_in(lines_read + 1, error));
+        }
+        rest = after;
+        lines_read += 1;
+    }
+}
+
+fn error_in(line: u32, error: LineError) -> ReadingError
+    ensures { result ≡ error_at line error }
+{
+    match error {
+        LineError::Fault(fault) => fault_in(line, fault),
+        LineError::Memory => ReadingError::Memory,
+    }
+}
+
+fn fault_in(line: u32, number: Fault) -> ReadingError
+    ensures { result ≡ ReadingError.Text (record { line = line; number = number }) }
+{
+    ReadingError::Text(TextFault { line, number })
+}
+
+// The least fault of what follows the last line feed.
+fn fault_of_rest(names: &KnownNames<'_>, rest: &[u8]) -> Option<Fault>
+    ensures { MatchOption result ((rest.now ≡ []) × (names.now.is_ended ≡ true)) (IsLeastOf (RestHas names.now rest.now)) }
+{
+    if !rest.is_empty() {
+        Some(Fault::NoFeed)
+    } else if !names.is_ended() {
+        Some(Fault::Misplaced)
+    } else {
+        None
+    }
+}
