@@ -1,0 +1,72 @@
+-- What a check answers to a text, and the line that it writes.
+use Rattle.std.specs.Prelude.{ℕ, List, ◌≡◌, Option, Ok, Err, length}
+use Rattle.std.specs.declared.result.Result.{Result}
+use Rattle.std.specs.Io.KnownBytes.{Appends}
+use Rattle.text_lines.specs.Streams.{AppendsFront}
+use Rattle.text_lines.specs.Texts.{Word}
+use Rattle.text_lines.specs.declared.fault.Fault.{Fault}
+use Rattle.wave_problem.specs.Wave.{Wave}
+use Rattle.wave_problem.specs.Assignment.{IsBest, pairs_of, total}
+use Rattle.price_certificate.specs.Certificate.{Claim, Certifies, IsFirstFailure, claim}
+use Rattle.price_certificate.specs.declared.Condition.{Condition}
+use Rattle.plan_lines.specs.Statements.{Statement}
+use Rattle.plan_lines.specs.Known.{splits, workers}
+use Rattle.plan_lines.specs.Faults.{IsLeastFault, Reads}
+use Rattle.plan_text.specs.Value.{DeclaresWave, prices, starts}
+use Rattle.plan_text.specs.Report.{certified_line, fault_line, refused_line}
+use Rattle.plan_text.specs.declared.tool_error.ToolError.{ToolError}
+use Rattle.plan_text.specs.declared.tool_error.ToolError.TheVariants.{Text, Memory, Read, Write}
+use Rattle.mrjob.specs.declared.check.CheckEnd.{CheckEnd}
+use Rattle.mrjob.specs.declared.check.CheckEnd.TheVariants.{Certified, Refused}
+
+-- the prices certify the plan, which so is best in the problem; the line has its count and its cost
+pub record SaysCertified (c : Claim) (line : List ℕ) : Type 0 where
+  pub certifies : Certifies c
+  pub best : IsBest c.wave (pairs_of c.starts)
+  pub said : line ≡ certified_line (length (pairs_of c.starts)) (total c.wave (pairs_of c.starts))
+
+-- a condition fails, no earlier one does, and the line names it with its split and worker
+pub record SaysRefused (c : Claim) (splits workers : List Word) (line : List ℕ) : Type 0 where
+  pub condition : Condition
+  pub first : IsFirstFailure c condition
+  pub said : line ≡ refused_line splits workers condition
+
+-- the line on a claim, by the names of its splits and workers
+abbrev pub Judges : CheckEnd → Claim → List Word → List Word → List ℕ → Type 0
+Judges Certified c splits workers line = SaysCertified c line
+Judges Refused c splits workers line = SaysRefused c splits workers line
+
+abbrev pub claim_of : Wave → List Statement → Claim
+claim_of wave ss = claim wave (starts ss) (prices ss)
+
+-- the line is on the problem, plan and prices that the text declares
+pub record AnswersRead (text : List ℕ) (end : CheckEnd) (line : List ℕ) : Type 0 where
+  pub statements : List Statement
+  pub wave : Wave
+  pub reads : Reads text statements
+  pub declared : DeclaresWave statements wave
+  pub judges : Judges end (claim_of wave statements) (splits statements) (workers statements) line
+
+-- the line names the least fault of the text
+pub record IsFaulty (text : List ℕ) (place : ℕ) (fault : Fault) (line : List ℕ) : Type 0 where
+  pub least : IsLeastFault text place fault
+  pub said : line ≡ fault_line place fault
+
+-- the line with which a check ends so
+abbrev pub Answers : List ℕ → Result CheckEnd ToolError → List ℕ → Type 0
+Answers text (Ok end) line = AnswersRead text end line
+Answers text (Err (Text fault)) line = IsFaulty text fault.line fault.number line
+Answers text (Err _) line = ⊥
+
+-- a writer took the line that answers the text
+pub record Wrote (old new : Option (List ℕ)) (text : List ℕ) (end : Result CheckEnd ToolError) : Type 0 where
+  pub line : List ℕ
+  pub answers : Answers text end line
+  pub appended : Appends old new line
+
+-- a writer took a front of a line that answers the text
+pub record WroteFront (old new : Option (List ℕ)) (text : List ℕ) : Type 0 where
+  pub end : Result CheckEnd ToolError
+  pub line : List ℕ
+  pub answers : Answers text end line
+  pub appended : AppendsFront old new line
