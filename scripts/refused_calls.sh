@@ -21,23 +21,31 @@ run() { # PROGRAM KIND NTH
     said="$(cat "$room/err") ($status)"
 }
 
+# Whether the last run gave the whole answer: std asks for an amortized growth first, and where that is refused for
+# just as much as is needed, so a run may go on after a refusal.
+is_whole() {
+    [ "$said" = " (0)" ] && cmp -s "$room/out" examples/swap.out
+}
+
 sweep() { # PROGRAM KIND WORDS-AND-STATUS OUTPUT
-    local wrong=0 calls=0 nth
+    local wrong=0 calls=0 told=0 nth
     for ((nth = 1; nth <= 10000; nth++)); do
         run "$1" "$2" "$nth"
         [ -s "$room/met" ] || break
         calls=$nth
-        if [ "$said" != "$3" ] || ! cmp -s "$room/out" "$4"; then
+        if [ "$said" = "$3" ] && cmp -s "$room/out" "$4"; then
+            told=$((told + 1))
+        elif [ "$2" != alloc ] || ! is_whole; then
             wrong=$((wrong + 1))
             echo "$1: $2 $nth: it says: $said"
         fi
     done
     # the run that met no refusal, and at least one that did
-    if [ "$said" != " (0)" ] || ! cmp -s "$room/out" examples/swap.out || [ "$calls" = 0 ] || [ "$nth" -gt 10000 ]; then
+    if ! is_whole || [ "$told" = 0 ] || [ "$nth" -gt 10000 ]; then
         wrong=$((wrong + 1))
         echo "$1: $2: after $calls calls that were refused, it says: $said"
     fi
-    echo "$1: $2: $calls calls, one refused in each run, $wrong wrong"
+    echo "$1: $2: $calls calls, one refused in each run: $told told, $((calls - told - wrong)) done without, $wrong wrong"
     if [ "$wrong" = 0 ]; then passed=$((passed + 1)); else failed=$((failed + 1)); fi
 }
 
