@@ -1,0 +1,21 @@
+use Rattle.std.proofs.Common.{refl, arith}
+use Rattle.price_certificate.specs.declared.Condition.TheVariants.{SplitPrice, WorkerPrice}
+use Rattle.certificate_checker.proofs.checker.Checker.price.Goals as goal
+
+pub overflow_add-result : goal.overflow_add-result
+overflow_add-result c =
+    omega (
+      arith,
+      c.requires.split_prices (SplitPrice c.args.split) refl,
+      c.requires.worker_prices
+          (WorkerPrice c.args.worker) refl,
+    )
+
+pub returns-clause-limit : goal.returns-clause-limit
+returns-clause-limit c =
+    omega (
+      arith,
+      c.requires.split_prices (SplitPrice c.args.split) refl,
+      c.requires.worker_prices
+          (WorkerPrice c.args.worker) refl,
+    )

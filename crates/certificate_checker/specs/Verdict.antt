@@ -1,0 +1,25 @@
+-- The one right answer to the question whether prices certify a plan.
+use Rattle.std.specs.Prelude.{ℕ, ◌≡◌, ◌<◌, length, Ok, Err, Option, Some, None}
+use Rattle.std.specs.declared.result.Result.{Result}
+use Rattle.wave_problem.specs.Assignment.{pairs_of, total}
+use Rattle.price_certificate.specs.declared.Condition.{Condition}
+use Rattle.price_certificate.specs.declared.Condition.TheVariants.{Priced}
+use Rattle.price_certificate.specs.Certificate.{Claim, Certifies, Holds, IsFirstFailure}
+use Rattle.certificate_checker.specs.declared.Certified.{Certified}
+
+-- the plan is certified, with its count and its cost
+pub record IsCertified (claim : Claim) (certified : Certified) : Type 0 where
+  pub certifies : Certifies claim
+  pub count : certified.count ≡ length (pairs_of claim.starts)
+  pub cost : certified.cost ≡ total claim.wave (pairs_of claim.starts)
+
+-- what a checker has to answer: there is one such answer to each claim
+abbrev pub IsVerdict : Claim → Result Certified Condition → Type 0
+IsVerdict claim (Ok certified) = IsCertified claim certified
+IsVerdict claim (Err c) = IsFirstFailure claim c
+
+-- what is found among the pairs of the split s: the first worker at which the prices are too low, or none
+abbrev pub IsFirstUnderpriced : Claim → ℕ → Option ℕ → Type 0
+IsFirstUnderpriced claim s None = (w : ℕ) → Holds claim (Priced s w)
+IsFirstUnderpriced claim s (Some w) =
+    (Holds claim (Priced s w) → ⊥) × ((v : ℕ) → v < w → Holds claim (Priced s v))

@@ -1,0 +1,402 @@
+ghost use Rattle.std.specs.Prelude.{◌≡◌, ℕ, ◌+◌, ◌*◌, ◌<◌, ◌≤◌, ◌↔◌, length, slice_index, unwrap_or, IsTrue, OnOk, IfErr, IfSome};
+ghost use Rattle.rack_tree.specs.declared.TheConstants.{MAX_WORKERS};
+ghost use Rattle.wave_problem.specs.declared.TheConstants.{MAX_SPLITS, MAX_BYTES};
+ghost use Rattle.wave_problem.specs.Wave.{cost, reward, worker_at};
+ghost use Rattle.wave_problem.specs.Assignment.{load, pairs_of, start_of, total};
+ghost use Rattle.price_certificate.specs.Certificate.{AllHold, claim, Certifies, HasOneSize, Holds, IsFirstFailure, IsFirstOf, MayTake, priced_at, split_price, worker_price};
+ghost use Rattle.certificate_checker.specs.Verdict.{IsFirstUnderpriced};
+
+use node_ids::{SplitNo, WorkerNo};
+use price_certificate::{Condition, Prices};
+use rack_tree::MAX_WORKERS;
+use std::marker::Model;
+use wave_problem::{Near, Plan, Problem};
+
+// A problem, a plan and prices of one size, with what would be counted again at each place.
+#[derive(Drop)]
+pub(crate) struct Checker<'a> {
+    problem: &'a Problem,
+    plan: &'a Plan,
+    prices: &'a Prices,
+    reward: u64,
+    loads: [u16; MAX_WORKERS],
+}
+
+impl<'a> Model for Checker<'a> {
+    ghost use Rattle.price_certificate.specs.Certificate.{Claim};
+
+    ghost Value = { Claim };
+
+    ghost use Rattle.certificate_checker.specs.View.{claim_of, IsSound};
+
+    ghost view = { claim_of };
+
+    ghost invariant = { IsSound };
+}
+
+// What the conditions speak of.
+impl<'a> Checker<'a> {
+    pub(crate) fn new(problem: &'a Problem, plan: &'a Plan, prices: &'a Prices) -> Checker<'a>
+        requires { HasOneSize (claim problem.now plan.now.starts prices.now) plan.now.workers }
+        ensures { result ≡ claim problem.now plan.now.starts prices.now }
+    {
+        let workers = problem.workers();
+        Checker {
+            problem,
+            plan,
+            prices,
+            reward: problem.reward(),
+            loads: loads_of(plan, workers),
+        }
+    }
+
+    fn splits(&self) -> usize
+        ensures count { result ≡ length self.now.wave.splits }
+        ensures starts { result ≡ length self.now.starts }
+        ensures prices { result ≡ length self.now.prices.splits }
+        ensures limit { result ≤ MAX_SPLITS }
+    {
+        self.problem.splits()
+    }
+
+    fn workers(&self) -> usize
+        ensures count { result ≡ length self.now.wave.workers }
+        ensures prices { result ≡ length self.now.prices.workers }
+        ensures limit { result ≤ MAX_WORKERS }
+    {
+        self.problem.workers()
+    }
+
+    fn start(&self, split: SplitNo) -> Option<WorkerNo>
+        requires { split < length self.now.wave.splits }
+        ensures start { result ≡ start_of self.now.starts split }
+        ensures known { IfSome result (λ w. w < length self.now.wave.workers) }
+    {
+        self.plan.of(split)
+    }
+
+    fn load(&self, worker: WorkerNo) -> u16
+        requires { worker < length self.now.wave.workers }
+        ensures { result ≡ load (pairs_of self.now.starts) worker }
+    {
+        self.loads[worker.index()]
+    }
+
+    fn slots(&self, worker: WorkerNo) -> u16
+        requires { worker < length self.now.wave.workers }
+        ensures { result ≡ (worker_at self.now.wave worker).free }
+    {
+        u16::from(self.problem.free(worker))
+    }
+
+    fn reward(&self) -> u64
+        ensures reward { result ≡ reward self.now.wave }
+        ensures limit { result ≤ 1 + 4 * MAX_SPLITS * MAX_BYTES }
+    {
+        self.reward
+    }
+
+    fn split_price(&self, split: SplitNo) -> u64
+        requires { split < length self.now.wave.splits }
+        ensures { result ≡ split_price self.now.prices split }
+    {
+        self.prices.split(split)
+    }
+
+    fn worker_price(&self, worker: WorkerNo) -> u64
+        requires { worker < length self.now.wave.workers }
+        ensures { result ≡ worker_price self.now.prices worker }
+    {
+        self.prices.worker(worker)
+    }
+
+    // Both prices of a pair. Where no price is above the reward, the sum fits.
+    fn price(&self, split: SplitNo, worker: WorkerNo) -> u64
+        requires split { split < length self.now.wave.splits }
+        requires worker { worker < length self.now.wave.workers }
+        requires split_prices { AllHold self.now 4 }
+        requires worker_prices { AllHold self.now 5 }
+        ensures sum { result ≡ split_price self.now.prices split + worker_price self.now.prices worker }
+        ensures limit { result ≤ 2 * (1 + 4 * MAX_SPLITS * MAX_BYTES) }
+    {
+        let _reward = self.reward();
+        self.split_price(split) + self.worker_price(worker)
+    }
+
+    fn cost(&self, split: SplitNo, worker: WorkerNo) -> u64
+        requires split { split < length self.now.wave.splits }
+        requires worker { worker < length self.now.wave.workers }
+        ensures cost { result ≡ unwrap_or (cost self.now.wave split worker) 0 }
+        ensures limit { result ≤ 4 * MAX_BYTES }
+    {
+        self.problem.cost(split, worker).unwrap_or(0)
+    }
+
+    pub(crate) fn total(&self) -> u64
+        ensures { result ≡ total self.now.wave (pairs_of self.now.starts) }
+    {
+        let mut total = 0;
+        for i in 0..self.splits() {
+            let split = SplitNo::new(i as u16);
+            if let Some(worker) = self.start(split) {
+                total += self.cost(split, worker);
+            }
+        }
+        total
+    }
+}
+
+// The conditions at one place.
+impl<'a> Checker<'a> {
+    fn opens(&self, split: SplitNo) -> bool
+        requires { split < length self.now.wave.splits }
+        ensures { IsTrue result ↔ Holds self.now (Condition.Open split) }
+    {
+        self.plan.of(split).is_none()
+            || (self.problem.is_pending(split) && self.problem.has_live_holder(split))
+    }
+
+    fn allows(&self, split: SplitNo, worker: WorkerNo) -> bool
+        requires split { split < length self.now.wave.splits }
+        requires worker { worker < length self.now.wave.workers }
+        ensures { IsTrue result ↔ MayTake self.now.wave split worker }
+    {
+        self.problem.is_live(worker) && !self.problem.is_barred(split, worker)
+    }
+
+    fn has_room(&self, worker: WorkerNo) -> bool
+        requires { worker < length self.now.wave.workers }
+        ensures { IsTrue result ↔ Holds self.now (Condition.Room worker) }
+    {
+        self.load(worker) <= self.slots(worker)
+    }
+
+    fn has_split_price(&self, split: SplitNo) -> bool
+        requires { split < length self.now.wave.splits }
+        ensures { IsTrue result ↔ Holds self.now (Condition.SplitPrice split) }
+    {
+        self.split_price(split) <= self.reward()
+    }
+
+    fn has_worker_price(&self, worker: WorkerNo) -> bool
+        requires { worker < length self.now.wave.workers }
+        ensures { IsTrue result ↔ Holds self.now (Condition.WorkerPrice worker) }
+    {
+        self.worker_price(worker) <= self.reward()
+    }
+
+    fn is_priced(&self, near: &Near<'_>, worker: WorkerNo) -> bool
+        requires split { near.now.split < length self.now.wave.splits }
+        requires worker { worker < length self.now.wave.workers }
+        requires wave { near.now.wave ≡ self.now.wave }
+        requires split_prices { AllHold self.now 4 }
+        requires worker_prices { AllHold self.now 5 }
+        ensures { IsTrue result ↔ Holds self.now (Condition.Priced near.now.split worker) }
+    {
+        let worth = self.price(near.split(), worker) + near.cost(worker).unwrap_or(0);
+        worth >= self.reward() || !near.admissible(worker)
+    }
+
+    fn is_tight(&self, split: SplitNo, worker: WorkerNo) -> bool
+        requires split { split < length self.now.wave.splits }
+        requires worker { worker < length self.now.wave.workers }
+        requires split_prices { AllHold self.now 4 }
+        requires worker_prices { AllHold self.now 5 }
+        ensures { IsTrue result ↔ (priced_at self.now.wave self.now.prices split worker ≡ reward self.now.wave) }
+    {
+        self.price(split, worker) + self.cost(split, worker) == self.reward()
+    }
+
+    fn is_free_unless_started(&self, split: SplitNo) -> bool
+        requires { split < length self.now.wave.splits }
+        ensures { IsTrue result ↔ Holds self.now (Condition.Unstarted split) }
+    {
+        self.start(split).is_some() || self.split_price(split) == 0
+    }
+
+    fn is_free_with_spare(&self, worker: WorkerNo) -> bool
+        requires { worker < length self.now.wave.workers }
+        ensures { IsTrue result ↔ Holds self.now (Condition.Spare worker) }
+    {
+        self.load(worker) >= self.slots(worker) || self.worker_price(worker) == 0
+    }
+}
+
+// The conditions at all places, in their order.
+impl<'a> Checker<'a> {
+    pub(crate) fn check(&self) -> Result<(), Condition>
+        ensures ok { OnOk result (Certifies self.now) }
+        ensures err { IfErr result (IsFirstFailure self.now) }
+    {
+        self.check_open()?;
+        self.check_allowed()?;
+        self.check_room()?;
+        self.check_split_prices()?;
+        self.check_worker_prices()?;
+        self.check_priced()?;
+        self.check_tight()?;
+        self.check_unstarted()?;
+        self.check_spare()
+    }
+
+    fn check_open(&self) -> Result<(), Condition>
+        ensures ok { OnOk result (AllHold self.now 1) }
+        ensures err { IfErr result (IsFirstOf self.now 1) }
+    {
+        for i in 0..self.splits() {
+            let split = SplitNo::new(i as u16);
+            if !self.opens(split) {
+                return Err(Condition::Open(split));
+            }
+        }
+        Ok(())
+    }
+
+    fn check_allowed(&self) -> Result<(), Condition>
+        ensures ok { OnOk result (AllHold self.now 2) }
+        ensures err { IfErr result (IsFirstOf self.now 2) }
+    {
+        for i in 0..self.splits() {
+            let split = SplitNo::new(i as u16);
+            if let Some(worker) = self.start(split) {
+                if !self.allows(split, worker) {
+                    return Err(Condition::Allowed(split, worker));
+                }
+            }
+        }
+        Ok(())
+    }
+
+    fn check_room(&self) -> Result<(), Condition>
+        requires { AllHold self.now 2 }
+        ensures ok { OnOk result (AllHold self.now 3) }
+        ensures err { IfErr result (IsFirstOf self.now 3) }
+    {
+        for i in 0..self.workers() {
+            let worker = WorkerNo::new(i as u16);
+            if !self.has_room(worker) {
+                return Err(Condition::Room(worker));
+            }
+        }
+        Ok(())
+    }
+
+    fn check_split_prices(&self) -> Result<(), Condition>
+        ensures ok { OnOk result (AllHold self.now 4) }
+        ensures err { IfErr result (IsFirstOf self.now 4) }
+    {
+        for i in 0..self.splits() {
+            let split = SplitNo::new(i as u16);
+            if !self.has_split_price(split) {
+                return Err(Condition::SplitPrice(split));
+            }
+        }
+        Ok(())
+    }
+
+    fn check_worker_prices(&self) -> Result<(), Condition>
+        ensures ok { OnOk result (AllHold self.now 5) }
+        ensures err { IfErr result (IsFirstOf self.now 5) }
+    {
+        for i in 0..self.workers() {
+            let worker = WorkerNo::new(i as u16);
+            if !self.has_worker_price(worker) {
+                return Err(Condition::WorkerPrice(worker));
+            }
+        }
+        Ok(())
+    }
+
+    fn check_priced(&self) -> Result<(), Condition>
+        requires split_prices { AllHold self.now 4 }
+        requires worker_prices { AllHold self.now 5 }
+        ensures ok { OnOk result (AllHold self.now 6) }
+        ensures err { IfErr result (IsFirstOf self.now 6) }
+    {
+        for i in 0..self.splits() {
+            let split = SplitNo::new(i as u16);
+            if let Some(worker) = self.first_underpriced(split) {
+                return Err(Condition::Priced(split, worker));
+            }
+        }
+        Ok(())
+    }
+
+    // The first worker with which the split is admissible and priced below the reward.
+    fn first_underpriced(&self, split: SplitNo) -> Option<WorkerNo>
+        requires split { split < length self.now.wave.splits }
+        requires split_prices { AllHold self.now 4 }
+        requires worker_prices { AllHold self.now 5 }
+        ensures { IsFirstUnderpriced self.now split result }
+    {
+        let near = Near::new(self.problem, split);
+        if !near.is_open() {
+            return None;
+        }
+        for i in 0..self.workers() {
+            let worker = WorkerNo::new(i as u16);
+            if !self.is_priced(&near, worker) {
+                return Some(worker);
+            }
+        }
+        None
+    }
+
+    fn check_tight(&self) -> Result<(), Condition>
+        requires split_prices { AllHold self.now 4 }
+        requires worker_prices { AllHold self.now 5 }
+        ensures ok { OnOk result (AllHold self.now 7) }
+        ensures err { IfErr result (IsFirstOf self.now 7) }
+    {
+        for i in 0..self.splits() {
+            let split = SplitNo::new(i as u16);
+            if let Some(worker) = self.start(split) {
+                if !self.is_tight(split, worker) {
+                    return Err(Condition::Tight(split, worker));
+                }
+            }
+        }
+        Ok(())
+    }
+
+    fn check_unstarted(&self) -> Result<(), Condition>
+        ensures ok { OnOk result (AllHold self.now 8) }
+        ensures err { IfErr result (IsFirstOf self.now 8) }
+    {
+        for i in 0..self.splits() {
+            let split = SplitNo::new(i as u16);
+            if !self.is_free_unless_started(split) {
+                return Err(Condition::Unstarted(split));
+            }
+        }
+        Ok(())
+    }
+
+    fn check_spare(&self) -> Result<(), Condition>
+        ensures ok { OnOk result (AllHold self.now 9) }
+        ensures err { IfErr result (IsFirstOf self.now 9) }
+    {
+        for i in 0..self.workers() {
+            let worker = WorkerNo::new(i as u16);
+            if !self.is_free_with_spare(worker) {
+                return Err(Condition::Spare(worker));
+            }
+        }
+        Ok(())
+    }
+}
+
+// How many splits the plan starts on each of its workers.
+fn loads_of(plan: &Plan, workers: usize) -> [u16; MAX_WORKERS]
+    requires count { workers ≡ plan.now.workers }
+    requires few { workers ≤ MAX_WORKERS }
+    ensures { (w : ℕ) → w < MAX_WORKERS → slice_index result w ≡ load (pairs_of plan.now.starts) w }
+{
+    let mut loads = [0; MAX_WORKERS];
+    for i in 0..plan.splits() {
+        if let Some(worker) = plan.of(SplitNo::new(i as u16)) {
+            loads[worker.index()] += 1;
+        }
+    }
+    loads
+}
