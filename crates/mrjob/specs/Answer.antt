@@ -15,7 +15,7 @@ use Rattle.plan_lines.specs.Faults.{IsLeastFault, Reads}
 use Rattle.plan_text.specs.Value.{DeclaresWave, prices, starts}
 use Rattle.plan_text.specs.Report.{certified_line, fault_line, refused_line}
 use Rattle.plan_text.specs.declared.tool_error.ToolError.{ToolError}
-use Rattle.plan_text.specs.declared.tool_error.ToolError.TheVariants.{Text, Memory, Read, Write}
+use Rattle.plan_text.specs.declared.tool_error.ToolError.TheVariants.{Text}
 use Rattle.mrjob.specs.declared.check.CheckEnd.{CheckEnd}
 use Rattle.mrjob.specs.declared.check.CheckEnd.TheVariants.{Certified, Refused}
 

@@ -28,7 +28,8 @@ pub fn check<R: Read, W: Write>(
 ) -> Result<CheckEnd, ToolError>
     ensures ok { OnOk result (IfSome (R.remaining reader.old) (λ input.
         Wrote (W.contents writer.old) (W.contents writer.new) (take MOST_BYTES input) result)) }
-    ensures text { (fault : TextFault) → result ≡ Err (ToolError.Text fault) → IfSome (R.remaining reader.old) (λ input.
+    ensures text { (fault : TextFault) → result ≡ Err (ToolError.Text fault)
+        → IfSome (R.remaining reader.old) (λ input.
         Wrote (W.contents writer.old) (W.contents writer.new) (take MOST_BYTES input) result) }
     ensures memory { result ≡ Err ToolError.Memory → Keeps (W.contents writer.old) (W.contents writer.new) }
     ensures read { result ≡ Err ToolError.Read → Keeps (W.contents writer.old) (W.contents writer.new) }

@@ -46,6 +46,7 @@ impl WorkerSet {
         WorkerSet { words: [0; 4] }
     }
 
+    /// Whether the worker is in the set.
     pub fn has(&self, worker: WorkerNo) -> bool
         requires { worker < 256 }
         ensures { result ≡ has_number self.now worker }
@@ -53,6 +54,7 @@ impl WorkerSet {
         has_bit(&self.words, worker.index())
     }
 
+    /// Puts the worker in, if it is not there.
     pub fn put(&mut self, worker: WorkerNo)
         requires { worker < 256 }
         ensures value { self.new ≡ with_number self.old worker }
@@ -87,6 +89,7 @@ impl SplitSet {
         SplitSet { words: [0; 16] }
     }
 
+    /// Whether the split is in the set.
     pub fn has(&self, split: SplitNo) -> bool
         requires { split < 1024 }
         ensures { result ≡ has_number self.now split }
@@ -94,6 +97,7 @@ impl SplitSet {
         has_bit(&self.words, split.index())
     }
 
+    /// Puts the split in, if it is not there.
     pub fn put(&mut self, split: SplitNo)
         requires { split < 1024 }
         ensures value { self.new ≡ with_number self.old split }
@@ -130,6 +134,7 @@ impl PairSet {
         })
     }
 
+    /// A set of the same pairs, with memory of its own: 32 KiB.
     pub fn copy(&self, alloc: Global) -> Result<PairSet, AllocError>
         ensures { IfOk result (λ set. set ≡ self.now) }
     {
@@ -138,6 +143,7 @@ impl PairSet {
         })
     }
 
+    /// Whether the pair is in the set.
     pub fn has(&self, split: SplitNo, worker: WorkerNo) -> bool
         requires split { split < 1024 }
         requires worker { worker < 256 }
@@ -146,6 +152,7 @@ impl PairSet {
         has_bit(&self.words, split.index() * 256 + worker.index())
     }
 
+    /// Puts the pair in, if it is not there.
     pub fn put(&mut self, split: SplitNo, worker: WorkerNo)
         requires split { split < 1024 }
         requires worker { worker < 256 }

@@ -68,21 +68,21 @@ tidy_workers k e s fit h = h
 
 split_still : (workers : List Word) (name : Word) (e : SplitEntry) → IsTidySplit workers e → IsTidySplit (workers ++ name ∷ []) e
 split_still workers name e h = record {
-    bytes = h.bytes;
-    few_holders = h.few_holders;
-    holders = All-weaker _ _ (Contains-append_left workers (name ∷ [])) e.holders h.holders;
-    holders_differ = h.holders_differ;
-  }
+  bytes = h.bytes;
+  few_holders = h.few_holders;
+  holders = All-weaker _ _ (Contains-append_left workers (name ∷ [])) e.holders h.holders;
+  holders_differ = h.holders_differ;
+}
 
 tidy_splits : (k : Known) (e : Entries) (s : Statement) → IsFit k s → All (IsTidySplit k.workers) e.splits
     → All (IsTidySplit (entered k s).workers) (with_entry e s).splits
 tidy_splits k e (Worker name _ _) fit h = All-weaker _ _ (split_still k.workers name) e.splits h
 tidy_splits k e (Split name bytes holders) fit h = All-push (IsTidySplit k.workers) e.splits _ h (record {
-    bytes = at_most bytes 67108864 fit.in_range;
-    few_holders = at_most (length holders) 8 (λ past. fit.within_limit (inr past));
-    holders = fit.known;
-    holders_differ = fit.holders;
-  })
+  bytes = at_most bytes 67108864 fit.in_range;
+  few_holders = at_most (length holders) 8 (λ past. fit.within_limit (inr past));
+  holders = fit.known;
+  holders_differ = fit.holders;
+})
 tidy_splits k e s fit h = h
 
 abbrev AreKnown : List Word → List Word → Word × Word → Type 0
@@ -92,10 +92,10 @@ barred : (k : Known) (s : Statement) → IsFit k s → All (AreKnown k.splits k.
     → All (AreKnown (entered k s).splits (entered k s).workers) (entered k s).barred
 barred k (Worker name _ _) fit h =
     All-weaker (AreKnown k.splits k.workers) (AreKnown k.splits (k.workers ++ name ∷ []))
-      (λ pair known. (known.0, Contains-append_left k.workers (name ∷ []) pair.1 known.1)) k.barred h
+    (λ pair known. (known.0, Contains-append_left k.workers (name ∷ []) pair.1 known.1)) k.barred h
 barred k (Split name _ _) fit h =
     All-weaker (AreKnown k.splits k.workers) (AreKnown (k.splits ++ name ∷ []) k.workers)
-      (λ pair known. (Contains-append_left k.splits (name ∷ []) pair.0 known.0, known.1)) k.barred h
+    (λ pair known. (Contains-append_left k.splits (name ∷ []) pair.0 known.0, known.1)) k.barred h
 barred k (Barred split worker) fit h = All-push (AreKnown k.splits k.workers) k.barred (split, worker) h fit.known
 barred k s fit h = h
 
@@ -109,28 +109,28 @@ start_workers k e s fit h = h
 
 pub tidy-nil : IsTidy (known_at 0 []) (entries_of [])
 tidy-nil = record {
-    few_racks = omega arith;
-    few_workers = omega arith;
-    few_splits = omega arith;
-    one_entry_a_worker = refl;
-    one_entry_a_split = refl;
-    one_worker_a_start = refl;
-    tidy_workers = All-nil _;
-    tidy_splits = All-nil _;
-    barred = All-nil _;
-    start_workers = All-nil _;
-  }
+  few_racks = omega arith;
+  few_workers = omega arith;
+  few_splits = omega arith;
+  one_entry_a_worker = refl;
+  one_entry_a_split = refl;
+  one_worker_a_start = refl;
+  tidy_workers = All-nil _;
+  tidy_splits = All-nil _;
+  barred = All-nil _;
+  start_workers = All-nil _;
+}
 
 pub tidy-step : (k : Known) (e : Entries) (s : Statement) → IsFit k s → IsTidy k e → IsTidy (entered k s) (with_entry e s)
 tidy-step k e s fit tidy = record {
-    few_racks = few_racks k s fit tidy.few_racks;
-    few_workers = few_workers k s fit tidy.few_workers;
-    few_splits = few_splits k s fit tidy.few_splits;
-    one_entry_a_worker = one_entry_a_worker k e s tidy.one_entry_a_worker;
-    one_entry_a_split = one_entry_a_split k e s tidy.one_entry_a_split;
-    one_worker_a_start = one_worker_a_start k e s tidy.one_worker_a_start;
-    tidy_workers = tidy_workers k e s fit tidy.tidy_workers;
-    tidy_splits = tidy_splits k e s fit tidy.tidy_splits;
-    barred = barred k s fit tidy.barred;
-    start_workers = start_workers k e s fit tidy.start_workers;
-  }
+  few_racks = few_racks k s fit tidy.few_racks;
+  few_workers = few_workers k s fit tidy.few_workers;
+  few_splits = few_splits k s fit tidy.few_splits;
+  one_entry_a_worker = one_entry_a_worker k e s tidy.one_entry_a_worker;
+  one_entry_a_split = one_entry_a_split k e s tidy.one_entry_a_split;
+  one_worker_a_start = one_worker_a_start k e s tidy.one_worker_a_start;
+  tidy_workers = tidy_workers k e s fit tidy.tidy_workers;
+  tidy_splits = tidy_splits k e s fit tidy.tidy_splits;
+  barred = barred k s fit tidy.barred;
+  start_workers = start_workers k e s fit tidy.start_workers;
+}

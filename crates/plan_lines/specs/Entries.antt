@@ -2,7 +2,7 @@
 use Rattle.std.specs.Prelude.{ℕ, List, [], ◌∷◌, ◌++◌}
 use Rattle.std.specs.List.{flat_map}
 use Rattle.text_lines.specs.Texts.{Word}
-use Rattle.plan_lines.specs.Statements.{Statement, Problem, Rack, Worker, Split, Barred, Dead, Busy, Plan, Start, Price, End}
+use Rattle.plan_lines.specs.Statements.{Statement, Worker, Split, Start, Price}
 
 pub record WorkerEntry : Type 0 where
   pub name : Word

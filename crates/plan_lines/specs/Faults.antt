@@ -5,7 +5,7 @@ use Rattle.text_lines.specs.Texts.{IsName, IsPrintable, Line, Word, lines_of}
 use Rattle.text_lines.specs.Faults.{number_of_fault}
 use Rattle.text_lines.specs.declared.fault.Fault.{Fault}
 use Rattle.text_lines.specs.declared.fault.Fault.TheVariants.{Shape, Misnamed, Unknown, Repeated, OutOfRange, PassesLimit, Misplaced, RepeatedHolder, SecondEntry, NoPrice, TooLong, NoFeed, Unprintable, AfterEnd}
-use Rattle.plan_lines.specs.Statements.{Statement, Problem, Rack, Worker, Split, Barred, Dead, Busy, Plan, Start, Price, End, Declare, Says, SaysNothing}
+use Rattle.plan_lines.specs.Statements.{Statement, Problem, Rack, Worker, Split, Barred, Dead, Busy, Start, Price, End, Declare, Says, SaysNothing}
 use Rattle.plan_lines.specs.Known.{Known, known_at}
 
 -- ---- where a line may stand

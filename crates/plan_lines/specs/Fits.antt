@@ -1,5 +1,5 @@
 -- What it is for a line to have no fault, and for a fault to be the least.
-use Rattle.std.specs.Prelude.{ℕ, ◌≤◌}
+use Rattle.std.specs.Prelude.{◌≤◌}
 use Rattle.text_lines.specs.Faults.{number_of_fault}
 use Rattle.text_lines.specs.declared.fault.Fault.{Fault}
 use Rattle.plan_lines.specs.Statements.{Statement}

@@ -1,5 +1,5 @@
 -- What a line of the code says.
-use Rattle.std.specs.Prelude.{ℕ, List, map}
+use Rattle.std.specs.Prelude.{map}
 use Rattle.text_lines.specs.Texts.{number_of}
 use Rattle.plan_lines.specs.Statements.{Statement, Problem, Rack, Worker, Split, Barred, Dead, Busy, Plan, Start, Price, End}
 use Rattle.plan_lines.specs.declared.line.Line.{Line}

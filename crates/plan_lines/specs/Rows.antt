@@ -1,5 +1,5 @@
 -- The rows of the code as entries.
-use Rattle.std.specs.Prelude.{ℕ, List, map}
+use Rattle.std.specs.Prelude.{map}
 use Rattle.plan_lines.specs.Entries.{Entries, SplitEntry, WorkerEntry}
 use Rattle.plan_lines.specs.declared.rows.WorkerRow.{WorkerRow}
 use Rattle.plan_lines.specs.declared.rows.SplitRow.{SplitRow}

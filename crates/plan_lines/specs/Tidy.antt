@@ -1,5 +1,5 @@
 -- What the names and entries of lines without a fault keep to.
-use Rattle.std.specs.Prelude.{ℕ, List, ◌≡◌, ◌≢◌, ◌≤◌, length}
+use Rattle.std.specs.Prelude.{List, ◌≡◌, ◌≢◌, ◌≤◌, length}
 use Rattle.std.specs.List.{All, AllPairs, Contains}
 use Rattle.text_lines.specs.Texts.{Word}
 use Rattle.plan_lines.specs.Known.{Known}

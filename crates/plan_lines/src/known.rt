@@ -3,14 +3,17 @@ ghost use Rattle.text_lines.specs.Faults.{number_of_fault};
 ghost use Rattle.text_lines.specs.declared.fault.Fault.{Fault};
 
 use crate::line::Line;
-use crate::words::{are_in};
+use crate::words::are_in;
 use std::alloc::{AllocError, Global};
 use std::marker::Model;
 use text_lines::{Fault, NameTable, PairTable, is_name};
 
 const MOST_RACKS: usize = 32;
+
 const MOST_WORKERS: usize = 256;
+
 const MOST_SPLITS: usize = 1024;
+
 const MOST_HOLDERS: usize = 8;
 
 /// What the lines so far declare: the names of each kind, numbered from 0 in their order.
@@ -53,24 +56,25 @@ impl<'t> Model for KnownNames<'t> {
     ghost Value = { Known };
 
     ghost view = { λ k. record {
-        is_first = k.is_first;
-        racks = k.racks;
-        workers = k.workers;
-        splits = k.splits;
-        barred = k.barred;
-        dead = k.dead;
-        busy = k.busy;
-        started = k.started;
-        priced = k.priced;
-        plan_begun = k.plan_begun;
-        is_ended = k.is_ended;
+      is_first = k.is_first;
+      racks = k.racks;
+      workers = k.workers;
+      splits = k.splits;
+      barred = k.barred;
+      dead = k.dead;
+      busy = k.busy;
+      started = k.started;
+      priced = k.priced;
+      plan_begun = k.plan_begun;
+      is_ended = k.is_ended;
     } };
 }
 
 impl<'t> KnownNames<'t> {
     ghost use Rattle.std.specs.Prelude.{[]};
     ghost use Rattle.plan_lines.specs.Known.{entered, known_at};
-    ghost use Rattle.plan_lines.specs.Faults.{EntersAgain, Fails, HasPrices, HoldersDiffer, IsNamed, IsOutOfRange, IsPastLimit, IsTaken, MayStand, Repeats, UsesKnown};
+    ghost use Rattle.plan_lines.specs.Faults.{EntersAgain, Fails, HasPrices, IsPastLimit, IsTaken};
+    ghost use Rattle.plan_lines.specs.Faults.{MayStand, Repeats, UsesKnown};
     ghost use Rattle.plan_lines.specs.Fits.{IsFit, IsLeastOf};
     ghost use Rattle.plan_lines.specs.Lines.{statement_of};
 
@@ -93,6 +97,7 @@ impl<'t> KnownNames<'t> {
         }
     }
 
+    /// Whether a line `end` was taken.
     pub fn is_ended(&self) -> bool
         ensures { result ≡ self.now.is_ended }
     {
@@ -229,7 +234,8 @@ impl<'t> KnownNames<'t> {
         match line {
             Line::Rack { .. } => self.racks.len() >= MOST_RACKS,
             Line::Worker { .. } => self.workers.len() >= MOST_WORKERS,
-            Line::Split { holders, .. } => self.splits.len() >= MOST_SPLITS || holders.len() > MOST_HOLDERS,
+            Line::Split { holders, .. } => self.splits.len() >= MOST_SPLITS
+                || holders.len() > MOST_HOLDERS,
             _ => false,
         }
     }
@@ -255,7 +261,8 @@ impl<'t> KnownNames<'t> {
 
     /// The least fault of a line after these, if it has one.
     pub fn fault_of(&self, line: &Line<'_, 't>) -> Option<Fault>
-        ensures { MatchOption result (IsFit self.now (statement_of line.now)) (IsLeastOf (Fails self.now (statement_of line.now))) }
+        ensures { MatchOption result (IsFit self.now (statement_of line.now))
+            (IsLeastOf (Fails self.now (statement_of line.now))) }
     {
         if !self.may_stand(line) {
             Some(Fault::Misplaced)

@@ -6,21 +6,47 @@ use crate::words::{are_apart, are_names, is_at_most};
 use text_lines::{Number, is_name};
 
 const MOST_SLOTS: u64 = 16;
+
 const MOST_BLOCK_BYTES: u64 = 67_108_864;
 
 /// What a line says. A number keeps its word.
 #[derive(Clone, Copy, Debug)]
 pub enum Line<'w, 't> {
-    Problem { version: Number<'t> },
-    Rack { name: &'t str },
-    Worker { name: &'t str, rack: &'t str, slots: Number<'t> },
-    Split { name: &'t str, bytes: Number<'t>, holders: &'w [&'t str] },
-    Barred { split: &'t str, worker: &'t str },
-    Dead { worker: &'t str },
-    Busy { split: &'t str },
+    Problem {
+        version: Number<'t>,
+    },
+    Rack {
+        name: &'t str,
+    },
+    Worker {
+        name: &'t str,
+        rack: &'t str,
+        slots: Number<'t>,
+    },
+    Split {
+        name: &'t str,
+        bytes: Number<'t>,
+        holders: &'w [&'t str],
+    },
+    Barred {
+        split: &'t str,
+        worker: &'t str,
+    },
+    Dead {
+        worker: &'t str,
+    },
+    Busy {
+        split: &'t str,
+    },
     Plan,
-    Start { split: &'t str, worker: &'t str },
-    Price { name: &'t str, amount: Number<'t> },
+    Start {
+        split: &'t str,
+        worker: &'t str,
+    },
+    Price {
+        name: &'t str,
+        amount: Number<'t>,
+    },
     End,
 }
 
@@ -34,16 +60,29 @@ impl<'w, 't> Line<'w, 't> {
     {
         let (first, rest) = words.split_first()?;
         match (Keyword::of(first)?, rest) {
-            (Keyword::Problem, [version]) => Some(Line::Problem { version: Number::of(version)? }),
+            (Keyword::Problem, [version]) => Some(Line::Problem {
+                version: Number::of(version)?,
+            }),
             (Keyword::Rack, [name]) => Some(Line::Rack { name }),
-            (Keyword::Worker, [name, rack, slots]) => Some(Line::Worker { name, rack, slots: Number::of(slots)? }),
-            (Keyword::Split, [name, bytes, holders @ ..]) => Some(Line::Split { name, bytes: Number::of(bytes)?, holders }),
+            (Keyword::Worker, [name, rack, slots]) => Some(Line::Worker {
+                name,
+                rack,
+                slots: Number::of(slots)?,
+            }),
+            (Keyword::Split, [name, bytes, holders @ ..]) => Some(Line::Split {
+                name,
+                bytes: Number::of(bytes)?,
+                holders,
+            }),
             (Keyword::Barred, [split, worker]) => Some(Line::Barred { split, worker }),
             (Keyword::Dead, [worker]) => Some(Line::Dead { worker }),
             (Keyword::Busy, [split]) => Some(Line::Busy { split }),
             (Keyword::Plan, []) => Some(Line::Plan),
             (Keyword::Start, [split, worker]) => Some(Line::Start { split, worker }),
-            (Keyword::Price, [name, number]) => Some(Line::Price { name, amount: Number::of(number)? }),
+            (Keyword::Price, [name, number]) => Some(Line::Price {
+                name,
+                amount: Number::of(number)?,
+            }),
             (Keyword::End, []) => Some(Line::End),
             _ => None,
         }

@@ -61,10 +61,18 @@ impl<'t> Rows<'t> {
                     self.workers.push(WorkerRow { name, rack, slots })?;
                 }
             }
-            Line::Split { name, bytes, holders } => {
+            Line::Split {
+                name,
+                bytes,
+                holders,
+            } => {
                 if let Some(bytes) = bytes.value() {
                     let holders = Vec::from_slice(alloc, holders)?;
-                    self.splits.push(SplitRow { name, bytes, holders })?;
+                    self.splits.push(SplitRow {
+                        name,
+                        bytes,
+                        holders,
+                    })?;
                 }
             }
             Line::Start { worker, .. } => self.start_workers.push(worker)?,

@@ -11,5 +11,9 @@ pub fn said_by<'w, 't>(words: &'w [&'t str]) -> Option<Line<'w, 't>>
     ensures { MatchOption result ((s : Statement) → Say (map (λ w. w.now) words.entry.now) s → ⊥)
         (λ line. Say (map (λ w. w.now) words.entry.now) (statement_of line)) }
 {
-    if are_words(words) { Line::of(words) } else { None }
+    if are_words(words) {
+        Line::of(words)
+    } else {
+        None
+    }
 }

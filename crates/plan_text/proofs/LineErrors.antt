@@ -1,5 +1,5 @@
 -- The faults of a line that says a statement are those of the statement.
-use Rattle.std.proofs.Common.{ℕ, ◌≡◌, ◌≤◌, ◌<◌, List, true, false, sym, subst, ◌∙◌, arith}
+use Rattle.std.proofs.Common.{◌≡◌, ◌≤◌, true, false, sym, subst, ◌∙◌, arith}
 use Rattle.std.specs.List.{All}
 use Rattle.text_lines.specs.Texts.{IsPrintable, Line}
 use Rattle.text_lines.specs.Faults.{number_of_fault}

@@ -1,23 +1,21 @@
 -- Line by line: what is known of a text whose first lines have been read without a fault.
-use Rattle.std.proofs.Common.{ℕ, List, [], ◌∷◌, ◌≡◌, ◌++◌, ◌+◌, ◌≤◌, ◌<◌, ◌⊎◌, inl, inr, true, false, length, take, drop, refl, sym, ap, subst, ◌∙◌, arith, length-drop, length-append, add-one, suc, get_or, ◌==◌, drop_of_length-le}
-use Rattle.std.specs.List.{All}
+use Rattle.std.proofs.Common.{ℕ, List, [], ◌∷◌, ◌≡◌, ◌++◌, ◌+◌, ◌≤◌, ◌<◌, inl, inr, true, false, length, take, drop, refl, sym, ap, subst, ◌∙◌, arith, length-drop, length-append, add-one, suc, get_or, ◌==◌, drop_of_length-le}
 use Rattle.std.proofs.Math.Seq.{drop-cons, take-suc}
 use Rattle.std.proofs.lemmas.Bool.{cases_lt, cases_eq}
 use Rattle.std.proofs.lemmas.List.Splits.{length-slice_split}
-use Rattle.text_lines.specs.Texts.{IsPrintable, Line, lines_of}
-use Rattle.text_lines.specs.Faults.{number_of_fault}
+use Rattle.text_lines.specs.Texts.{Line, lines_of}
 use Rattle.text_lines.specs.declared.fault.Fault.{Fault}
 use Rattle.text_lines.specs.declared.fault.Fault.TheVariants.{Shape, Misnamed, Unknown, Repeated, OutOfRange, PassesLimit, Misplaced, RepeatedHolder, SecondEntry, NoPrice, TooLong, NoFeed, Unprintable, AfterEnd}
-use Rattle.plan_lines.specs.Statements.{Statement, Declare, Says}
+use Rattle.plan_lines.specs.Statements.{Statement, Declare}
 use Rattle.plan_lines.specs.Known.{Known, entered, known_at}
 use Rattle.plan_lines.specs.Entries.{Entries, entries_of, with_entry}
-use Rattle.plan_lines.specs.Faults.{Applies, FirstHas, IsFaultless, IsLeastAt, IsLeastFault, LineHas, Reads, RestHas, longest}
-use Rattle.plan_lines.specs.Fits.{IsFit, IsLeastOf}
+use Rattle.plan_lines.specs.Faults.{Applies, FirstHas, IsLeastAt, IsLeastFault, LineHas, RestHas, longest}
+use Rattle.plan_lines.specs.Fits.{IsLeastOf}
 use Rattle.plan_lines.specs.Tidy.{IsTidy}
 use Rattle.plan_lines.proofs.Spelled.{declare-unique}
 use Rattle.plan_lines.proofs.Steps.{declare-step, entries_of-step, known_at-step}
 use Rattle.plan_lines.proofs.Tidy.{tidy-nil, tidy-step}
-use Rattle.plan_text.specs.Draft.{Enters, IsAllRead, IsLeastError, Takes}
+use Rattle.plan_text.specs.Draft.{IsAllRead, IsLeastError, Takes}
 use Rattle.plan_text.specs.Reading.{IsReadingError, error_at}
 use Rattle.plan_text.specs.declared.draft.LineError.{LineError}
 use Rattle.plan_text.specs.declared.draft.LineError.TheVariants as error
@@ -98,11 +96,12 @@ more_faultless : (text rest line after : List ℕ) (n : ℕ) (k new : Known) (e 
     → (j : ℕ) (g : Fault) → j < n + 1 → Applies text j g → ⊥
 more_faultless text rest line after n k new e new_entries read split takes j g lt applies =
     elim (cases_lt j n) [
-      inl less ↦ read.faultless j g less applies
-    | inr ge ↦
-        let at : j ≡ n = omega arith in
-        line_faultless k line takes.statement (takes.printable, takes.not_ended) takes.says takes.enters.fit g
-          (line_has text rest line after n k e read split g (subst (λ i. Applies text i g) at applies)) ]
+      | inl less ↦ read.faultless j g less applies
+      | inr ge ↦
+          let at : j ≡ n = omega arith in
+          line_faultless k line takes.statement (takes.printable, takes.not_ended) takes.says takes.enters.fit g
+          (line_has text rest line after n k e read split g (subst (λ i. Applies text i g) at applies))
+    ]
 
 pub read_more : (text rest line after : List ℕ) (n : ℕ) (k new : Known) (e new_entries : Entries)
     → IsReadTo text rest n k e → lines_of rest ≡ line ∷ lines_of after → Takes k e line new new_entries
@@ -128,13 +127,18 @@ least_first : (text rest : List ℕ) (n : ℕ) (k : Known) (e : Entries) (f : Fa
     → length text ≤ longest → IsReadTo text rest n k e → IsLeastOf (FirstHas k (lines_of rest)) f → IsLeastAt text n f
 least_first text rest n k e f short read least = record {
   short = short;
-  applies = (read.before, read.says,
-    subst (λ q. FirstHas q (drop n (lines_of text)) f) read.known (subst (λ ls. FirstHas k ls f) read.left least.applies));
+  applies = (
+    read.before,
+    read.says,
+    subst (λ q. FirstHas q (drop n (lines_of text)) f) read.known (subst (λ ls. FirstHas k ls f) read.left least.applies),
+  );
   least = λ j g h. elim (cases_lt n j) [
-      inl later ↦ inl later
+    | inl later ↦ inl later
     | inr ge ↦ elim (cases_eq j n) [
-        inl at ↦ inr (sym at, least.least g (first_has text rest n k e read g (subst (λ i. Applies text i g) at h)))
-      | inr apart ↦ absurd (read.faultless j g (omega arith) h) ] ];
+      | inl at ↦ inr (sym at, least.least g (first_has text rest n k e read g (subst (λ i. Applies text i g) at h)))
+      | inr apart ↦ absurd (read.faultless j g (omega arith) h)
+    ]
+  ];
 }
 
 pub least_at : (text rest line after : List ℕ) (n : ℕ) (k : Known) (e : Entries) (f : Fault)
@@ -216,14 +220,16 @@ all_faultless : (text rest : List ℕ) (n : ℕ) (k : Known) (e : Entries) → I
     → k.is_ended ≡ true → (i : ℕ) (f : Fault) → Applies text i f → ⊥
 all_faultless text rest n k e read split ended i f applies =
     elim (cases_lt i n) [
-      inl less ↦ read.faultless i f less applies
-    | inr ge ↦ elim (cases_eq i n) [
-        inl at ↦ rest_faultless k f ended
-          (subst (λ ls. FirstHas k ls f) split (first_has text rest n k e read f (subst (λ j. Applies text j f) at applies)))
-      | inr apart ↦
-          let total = lines_read text rest n k e read split in
-          let gone : drop i (lines_of text) ≡ [] = drop_of_length-le (lines_of text) {i = i} (omega arith) in
-          subst (λ ls. FirstHas (known_at i applies.0) ls f) gone applies.2 ] ]
+      | inl less ↦ read.faultless i f less applies
+      | inr ge ↦ elim (cases_eq i n) [
+        | inl at ↦ rest_faultless k f ended
+            (subst (λ ls. FirstHas k ls f) split (first_has text rest n k e read f (subst (λ j. Applies text j f) at applies)))
+        | inr apart ↦
+            let total = lines_read text rest n k e read split in
+            let gone : drop i (lines_of text) ≡ [] = drop_of_length-le (lines_of text) {i = i} (omega arith) in
+            subst (λ ls. FirstHas (known_at i applies.0) ls f) gone applies.2
+      ]
+    ]
 
 pub reads_all : (text rest : List ℕ) (n : ℕ) (k : Known) (e : Entries) → length text ≤ longest → IsReadTo text rest n k e
     → lines_of rest ≡ [] ∷ [] → k.is_ended ≡ true → IsAllRead text k e

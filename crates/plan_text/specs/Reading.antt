@@ -6,7 +6,6 @@ use Rattle.plan_lines.specs.Known.{Known}
 use Rattle.plan_lines.specs.Entries.{Entries, entries_of}
 use Rattle.plan_text.specs.Value.{MakesWave, known_of, prices_in, starts_in}
 use Rattle.plan_text.specs.declared.built.PlanText.{PlanText}
-use Rattle.text_lines.specs.declared.fault.TextFault.{TextFault}
 use Rattle.plan_text.specs.declared.draft.LineError.{LineError}
 use Rattle.plan_text.specs.declared.draft.LineError.TheVariants as error
 use Rattle.plan_text.specs.declared.reader.ReadingError.{ReadingError}

@@ -1,6 +1,6 @@
 -- The value that the lines of a problem and a plan declare, over whole lists and by names.
-use Rattle.std.specs.Prelude.{ℕ, List, [], ◌∷◌, ◌≡◌, ◌<◌, ◌↔◌, Bool, not, Option, length, map, slice_index_or, unwrap_or}
-use Rattle.std.specs.List.{Contains, flat_map, list_any, position}
+use Rattle.std.specs.Prelude.{ℕ, List, [], ◌≡◌, ◌<◌, ◌↔◌, Bool, not, Option, length, map, slice_index_or, unwrap_or}
+use Rattle.std.specs.List.{Contains, list_any, position}
 use Rattle.std.specs.Option.{option_map}
 use Rattle.std.specs.Str.{bytes_eq}
 use Rattle.node_ids.specs.Sets.{HasPair}
@@ -11,8 +11,8 @@ use Rattle.wave_problem.specs.declared.lines.WorkerLine.{WorkerLine}
 use Rattle.price_certificate.specs.PriceList.{PriceList}
 use Rattle.text_lines.specs.Texts.{Word}
 use Rattle.plan_lines.specs.Statements.{Statement}
-use Rattle.plan_lines.specs.Known.{Known, known_at, racks, splits, workers, barred_in, busy_in, dead_in, priced_in, started_in}
-use Rattle.plan_lines.specs.Entries.{Entries, SplitEntry, WorkerEntry, amount_in, entries_of, split_entry, start_worker_in, worker_entry}
+use Rattle.plan_lines.specs.Known.{Known, known_at, racks, splits, workers}
+use Rattle.plan_lines.specs.Entries.{Entries, SplitEntry, WorkerEntry, entries_of}
 
 -- the number of a name: its place among the names of its kind
 abbrev pub number_in : List Word → Word → ℕ

@@ -50,7 +50,8 @@ impl<'t> Draft<'t> {
     /// Takes a line that has its line feed, given without it. After an error the draft may hold part of
     /// the line; its owner drops it.
     pub fn take(&mut self, alloc: Global, line: &'t [u8]) -> Result<(), LineError>
-        ensures ok { OnOk result (Takes self.old.names (entries_in self.old.rows) line.entry.now self.new.names (entries_in self.new.rows)) }
+        ensures ok { OnOk result (Takes self.old.names (entries_in self.old.rows) line.entry.now
+            self.new.names (entries_in self.new.rows)) }
         ensures err { IfErr result (IsLeastError (LineHas self.old.names line.entry.now)) }
     {
         let Some(line) = printable(line) else {
@@ -68,7 +69,8 @@ impl<'t> Draft<'t> {
 
     // Takes what a line says.
     fn enter(&mut self, alloc: Global, line: &Line<'_, 't>) -> Result<(), LineError>
-        ensures ok { OnOk result (Enters self.old.names (entries_in self.old.rows) (statement_of line.now) self.new.names (entries_in self.new.rows)) }
+        ensures ok { OnOk result (Enters self.old.names (entries_in self.old.rows) (statement_of line.now)
+            self.new.names (entries_in self.new.rows)) }
         ensures err { IfErr result (IsLeastError (Fails self.old.names (statement_of line.now))) }
     {
         if let Some(fault) = self.names.fault_of(line) {

@@ -32,7 +32,10 @@ pub fn read_plan(alloc: Global, text: &[u8]) -> Result<PlanText<'_>, ReadingErro
     ensures err { IfErr result (IsReadingError text.entry.now) }
 {
     if text.len() > LONGEST {
-        return Err(ReadingError::Text(TextFault { line: 0, number: Fault::TooLong }));
+        return Err(ReadingError::Text(TextFault {
+            line: 0,
+            number: Fault::TooLong,
+        }));
     }
     let mut draft = Draft::new(alloc);
     read_lines(alloc, text, &mut draft)?;

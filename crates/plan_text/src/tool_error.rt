@@ -10,7 +10,8 @@ pub enum ToolError {
     /// No memory was found; nothing is written.
     #[error("no memory")]
     Memory,
-    /// The reader failed, or the most calls that are made of a reader did not bring its end; nothing is written.
+    /// The reader failed, or the most calls that are made of one did not bring its end; nothing is
+    /// written.
     #[error("read fault")]
     Read,
     /// The writer failed, or took nothing; it may have taken a front of what was to be written.

@@ -15,6 +15,7 @@ pub const MOST_READS: u32 = 33_554_434;
 // The most bytes of one read.
 const PIECE: usize = 4096;
 
+/// Why a text was not read.
 #[derive(Clone, Copy, Debug, Error, PartialEq, Eq)]
 pub enum ReadError {
     /// The text had no room in memory.

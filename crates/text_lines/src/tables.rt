@@ -27,18 +27,21 @@ impl<'t> NameTable<'t> {
         }
     }
 
+    /// How many there are.
     pub fn len(&self) -> usize
         ensures { result ≡ length self.now }
     {
         self.names.len()
     }
 
+    /// Whether there are none.
     pub fn is_empty(&self) -> bool
         ensures { IsTrue result ↔ (self.now ≡ []) }
     {
         self.names.is_empty()
     }
 
+    /// Whether the name was declared.
     pub fn has(&self, name: &str) -> bool
         ensures { IsTrue result ↔ Contains self.now name.now }
     {
@@ -101,12 +104,14 @@ impl<'t> PairTable<'t> {
         }
     }
 
+    /// How many there are.
     pub fn len(&self) -> usize
         ensures { result ≡ length self.now }
     {
         self.pairs.len()
     }
 
+    /// Whether there are none.
     pub fn is_empty(&self) -> bool
         ensures { IsTrue result ↔ (self.now ≡ []) }
     {
@@ -122,6 +127,7 @@ impl<'t> PairTable<'t> {
         self.pairs.get_index(place).copied()
     }
 
+    /// Whether the pair was declared.
     pub fn has(&self, left: &str, right: &str) -> bool
         ensures { IsTrue result ↔ Contains self.now (left.now, right.now) }
     {

@@ -1,4 +1,4 @@
-use Rattle.std.proofs.Common.{ℕ, List, [], ◌≡◌, ◌≢◌, ◌<◌, ◌∙◌, ◌⊎◌, inl, inr, Bor, true, false, sym, ap, length, get_or, arith}
+use Rattle.std.proofs.Common.{ℕ, List, [], ◌≡◌, ◌≢◌, ◌<◌, ◌∙◌, inl, inr, Bor, true, false, sym, ap, length, get_or, arith}
 use Rattle.std.specs.Str.{bytes_eq}
 use Rattle.std.proofs.lemmas.Bool.{cases_lt}
 use Rattle.std.proofs.lemmas.List.{get_or_default}
@@ -23,7 +23,8 @@ differ_at names k i d k_in i_in apart same =
 pub loop-k-preserved : goal.loop-k-preserved
 loop-k-preserved c k d lt =
     elim (cases_lt k c.loop-k.k) [
-      inl less ↦ c.loop-k.invariant k d less
-    | inr ge ↦
-        let at : k ≡ c.loop-k.k = omega arith in
-        rw at (differ_at c.args.names.now c.loop-k.k c.args.i d (omega arith) c.requires (sym c.eq.ensures ∙ c.if-eq.false)) ]
+      | inl less ↦ c.loop-k.invariant k d less
+      | inr ge ↦
+          let at : k ≡ c.loop-k.k = omega arith in
+          rw at (differ_at c.args.names.now c.loop-k.k c.args.i d (omega arith) c.requires (sym c.eq.ensures ∙ c.if-eq.false))
+    ]

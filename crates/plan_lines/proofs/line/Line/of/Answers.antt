@@ -30,7 +30,7 @@ returns-in_ok-of-in-Worker-len3 c =
     let keyword : codes "worker" ≡ c.in_ok-first.first.now.now = search rules in
     let slots = c.in_ok-of-in-Worker-len3.ensures in
     rw (words ∙ ap (λ l. c.in_ok-first.first.now ∷ l) rest)
-        (sym keyword, (refl, (refl, ((slots.1, ap number_of (sym slots.0)), tt))))
+    (sym keyword, (refl, (refl, ((slots.1, ap number_of (sym slots.0)), tt))))
 
 pub returns-in_ok-of-in-Split-len2-up : goal.returns-in_ok-of-in-Split-len2-up
 returns-in_ok-of-in-Split-len2-up c =
@@ -39,29 +39,29 @@ returns-in_ok-of-in-Split-len2-up c =
     let keyword : codes "split" ≡ c.in_ok-first.first.now.now = search rules in
     let bytes = c.in_ok-of-in-Split-len2-up.ensures in
     rw (words ∙ ap (λ l. c.in_ok-first.first.now ∷ l) rest)
-        (sym keyword, (refl, ((bytes.1, ap number_of (sym bytes.0)), given_words _)))
+    (sym keyword, (refl, ((bytes.1, ap number_of (sym bytes.0)), given_words _)))
 
 rest_follows : (words : List (Bor (List ℕ))) (first : Bor (List ℕ)) (rest : List (Bor (List ℕ))) (k : Keyword) (s : Statement)
     → words ≡ first ∷ rest → text_of k ≡ first.now → Spells (map (λ w. w.now) words) s → MayFollow k (length rest)
 rest_follows words first rest k s is keyword h =
     let spelled : Spells (first.now ∷ map (λ w. w.now) rest) s = rw is at h in
     let known : Spells (text_of k ∷ map (λ w. w.now) rest) s =
-        subst (λ (w : Word). Spells (w ∷ map (λ w. w.now) rest) s) (sym keyword) spelled in
+    subst (λ (w : Word). Spells (w ∷ map (λ w. w.now) rest) s) (sym keyword) spelled in
     rw length-map at (spells-long k s (map (λ w. w.now) rest) known)
 
 pub returns-in_err-of : goal.returns-in_err-of
 returns-in_err-of c =
     let words : c.args.words.now ≡ c.in_ok-first.first.now ∷ c.in_ok-first.rest.now = search rules in
     rw c.from_residual-in_err-of.ensures
-        (rw words (λ s h. c.in_err-of.ensures (keyword_in s) (spells-keyword s c.in_ok-first.first.now.now _ h)))
+    (rw words (λ s h. c.in_err-of.ensures (keyword_in s) (spells-keyword s c.in_ok-first.first.now.now _ h)))
 
 pub returns-in_default : goal.returns-in_default
 returns-in_default c = λ s h.
     let words : c.args.words.now ≡ c.in_ok-first.first.now ∷ c.in_ok-first.rest.now = search rules in
     let n = length c.in_ok-first.rest.now in
     let long : (k : Keyword) → c.in_ok-of.field-0 ≡ k → MayFollow k n =
-        λ k e. rest_follows c.args.words.now c.in_ok-first.first.now c.in_ok-first.rest.now k s words
-            (ap text_of (sym e) ∙ c.in_ok-of.ensures) h in
+    λ k e. rest_follows c.args.words.now c.in_ok-first.first.now c.in_ok-first.rest.now k s words
+    (ap text_of (sym e) ∙ c.in_ok-of.ensures) h in
     let below : (m : ℕ) → n < m → n < m = λ m lt. lt in
     let from : (m : ℕ) → m ≤ n → m ≤ n = λ m le. le in
     elim c.in_default.branch [
@@ -102,4 +102,5 @@ returns-in_default c = λ s h.
       | goal.in_default-via-in-Price+else-this-lt2-8+else-this-lt3-4 w ↦
           omega (arith, long Price (search rules), from 3 (search rules))
       | goal.in_default-via-in-End+else-this-lt1-5 w ↦
-          omega (arith, long End (search rules), from 1 (search rules)) ]
+          omega (arith, long End (search rules), from 1 (search rules))
+    ]

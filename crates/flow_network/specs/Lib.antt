@@ -1,0 +1,4 @@
+pub mod Flows
+pub mod Flow
+pub mod Laws
+pub mod Leaving

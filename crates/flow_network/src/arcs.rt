@@ -1,0 +1,19 @@
+//! Arcs and residual arcs.
+
+/// An arc between two nodes, which are given by their indices, with its capacity in units and the cost
+/// of one unit.
+#[derive(Clone, Copy, Debug, PartialEq, Eq)]
+pub struct FlowArc {
+    pub from: usize,
+    pub to: usize,
+    pub capacity: u64,
+    pub cost: u64,
+}
+
+/// A residual arc, by the number of the arc in the order of adding: the arc itself, which has room while
+/// it carries less than its capacity, or its reverse, which has room while there is a unit to take back.
+#[derive(Clone, Copy, Debug, PartialEq, Eq)]
+pub enum ArcNo {
+    Forward(usize),
+    Reverse(usize),
+}

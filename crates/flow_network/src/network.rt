@@ -1,0 +1,308 @@
+//! The network: a layout of nodes, arcs between them, and the flow of each arc.
+ghost use Rattle.std.specs.Prelude.{◌≡◌, ℕ, ◌+◌, ◌-◌, ◌*◌, ◌<◌, ◌≤◌, ◌^◌, List, [], ◌∷◌, ◌++◌, length, pos, ◌-ℤ◌, OnOk, OnErr, ◌↔◌, IfOk, IfErr, slice_index, true, vec_len};
+ghost use Rattle.flow_network.specs.Flows.{tail_of, head_of, residual_of, arc_index, arc_at, IsResidual, IsPath, IsDistinct, pushed, inflow, outflow, unit_at, opposite, WithinCapacities, AllResidual, AreArcs, path_start, path_end, leaving_of, cost_of, IsNetwork};
+
+use crate::leaving::{Leaving, list_arc, none_leaving};
+use crate::{ArcNo, FlowArc, Look};
+use node_ids::Layout;
+use std::alloc::{AllocError, AllocFailed, Global};
+use std::marker::Model;
+
+/// Why an arc is not added.
+#[derive(Debug, Drop, thiserror::Error)]
+pub enum NetError {
+    /// There is no memory for the arc or its places in the lists.
+    #[error("no memory")]
+    Memory,
+    /// The network has 1,048,576 arcs already; this is tested first.
+    #[error("too many arcs")]
+    ArcLimit,
+}
+
+const ARC_LIMIT: usize = 1_048_576;
+
+/// A network of at most 4,096 nodes, those of the layout, with arcs and a flow of whole units.
+#[derive(Drop)]
+pub struct Network<L: Layout> {
+    layout: L,
+    arcs: Vec<FlowArc>,
+    flows: Vec<u64>,
+    leaving: Vec<Leaving>,
+}
+
+impl<L: Layout> Model for Network<L> {
+    ghost use Rattle.flow_network.specs.Flow.{Flow, IsFlow};
+
+    ghost Value = { Flow L };
+
+    ghost view = { λ n. record { layout = n.layout; arcs = n.arcs.items; flows = n.flows.items } };
+
+    ghost invariant = { λ n. IsFlow (L.node_count n.layout) n.arcs.items n.flows.items n.leaving.items };
+}
+
+impl<L: Layout> Network<L> {
+    /// A network without arcs.
+    pub fn new(alloc: Global, layout: L) -> Result<Self, AllocError>
+    where
+        L: Drop,
+        requires { L.node_count layout ≤ 4096 }
+        ensures layout { IfOk result (λ n. n.layout ≡ layout) }
+        ensures arcs { IfOk result (λ n. n.arcs ≡ []) }
+        ensures flows { IfOk result (λ n. n.flows ≡ []) }
+    {
+        let leaving = none_leaving(alloc, layout.size())?;
+        Ok(Network {
+            layout,
+            arcs: Vec::new(alloc),
+            flows: Vec::new(alloc),
+            leaving,
+        })
+    }
+
+    /// The numbering of the nodes.
+    pub fn layout(&self) -> &L
+        ensures { result.now ≡ self.now.layout }
+    {
+        &self.layout
+    }
+
+    /// How many arcs there are, not counting their reverses.
+    pub fn arcs(&self) -> usize
+        ensures { result ≡ length self.now.arcs }
+    {
+        self.arcs.len()
+    }
+
+    /// The units that an arc carries; those of its reverse are the same, given back.
+    pub fn flow(&self, arc: ArcNo) -> u64
+        requires { arc_index arc < length self.now.arcs }
+        ensures { result ≡ slice_index self.now.flows (arc_index arc) }
+    {
+        match arc {
+            ArcNo::Forward(k) => self.flows[k],
+            ArcNo::Reverse(k) => self.flows[k],
+        }
+    }
+
+    /// The residual arcs that leave a node, of those with no room too, in the order of adding.
+    pub fn arcs_from(&self, node: L::Node) -> &[ArcNo]
+        requires { L.is_member self.now.layout node ≡ true }
+        ensures { result.now ≡ leaving_of self.now.arcs (L.index_of self.now.layout node) }
+    {
+        self.leaving[self.layout.index(node)].all()
+    }
+
+    /// The arcs, by their numbers.
+    pub fn all_arcs(&self) -> &[FlowArc]
+        ensures { result.now ≡ self.now.arcs }
+    {
+        &self.arcs
+    }
+
+    /// The flows, by the numbers of their arcs.
+    pub fn all_flows(&self) -> &[u64]
+        ensures { result.now ≡ self.now.flows }
+    {
+        &self.flows
+    }
+
+    /// What is seen of a residual arc.
+    pub fn view(&self, arc: ArcNo) -> Look
+        requires { arc_index arc < length self.now.arcs }
+        ensures to { result.to ≡ head_of self.now.arcs arc }
+        ensures residual { result.residual ≡ residual_of self.now.arcs self.now.flows arc }
+        ensures cost { result.cost ≡ cost_of self.now.arcs arc }
+    {
+        match arc {
+            ArcNo::Forward(k) => {
+                let seen = self.arcs[k];
+                Look {
+                    to: seen.to,
+                    residual: seen.capacity - self.flows[k],
+                    cost: seen.cost as i64,
+                }
+            }
+            ArcNo::Reverse(k) => {
+                let seen = self.arcs[k];
+                Look {
+                    to: seen.from,
+                    residual: self.flows[k],
+                    cost: -(seen.cost as i64),
+                }
+            }
+        }
+    }
+
+    /// How many units more an arc takes.
+    pub fn residual(&self, arc: ArcNo) -> u64
+        requires { arc_index arc < length self.now.arcs }
+        ensures { result ≡ residual_of self.now.arcs self.now.flows arc }
+    {
+        match arc {
+            ArcNo::Forward(k) => self.arcs[k].capacity - self.flows[k],
+            ArcNo::Reverse(k) => self.flows[k],
+        }
+    }
+
+    /// The arc that takes a unit back.
+    pub fn reverse(&self, arc: ArcNo) -> ArcNo
+        ensures { result ≡ opposite arc }
+    {
+        match arc {
+            ArcNo::Forward(k) => ArcNo::Reverse(k),
+            ArcNo::Reverse(k) => ArcNo::Forward(k),
+        }
+    }
+
+    /// What flows into a node, less what flows out of it.
+    pub fn excess(&self, node: L::Node) -> i64
+        requires { L.is_member self.now.layout node ≡ true }
+        ensures { let v = L.index_of self.now.layout node in
+            result ≡ pos (inflow self.now.arcs self.now.flows v) -ℤ pos
+            (outflow self.now.arcs self.now.flows v) }
+    {
+        let index = self.layout.index(node);
+        let gained = inflow_of(&self.arcs, &self.flows, index);
+        let given = outflow_of(&self.arcs, &self.flows, index);
+        gained as i64 - given as i64
+    }
+
+    /// What holds of every network.
+    pub fn limits(&self)
+        ensures { IsNetwork (L.node_count self.now.layout) self.now.arcs self.now.flows }
+    {
+        let _nodes = self.leaving.len();
+    }
+
+    /// Pushes one unit along a path of at least one arc, no arc twice, each with room.
+    pub fn push(&mut self, path: &[ArcNo])
+        requires some_arc { 0 < length path.now }
+        requires distinct { IsDistinct path.now }
+        requires path { IsPath self.old.arcs self.old.flows path.now (path_start self.old.arcs path.now)
+            (path_end self.old.arcs path.now) }
+        ensures pushed { self.new ≡ record self.old { flows = pushed path.now self.old.flows } }
+        // a unit leaves the start and comes to the end; each other node keeps its balance
+        ensures balance { (w : ℕ) → inflow self.old.arcs self.new.flows w + outflow self.old.arcs self.old.flows w + unit_at (path_start self.old.arcs path.now) w
+            ≡ inflow self.old.arcs self.old.flows w + outflow self.old.arcs self.new.flows w + unit_at
+            (path_end self.old.arcs path.now) w }
+    {
+        self.push_along(path);
+    }
+
+    /// `push`, without what it says of balances.
+    fn push_along(&mut self, path: &[ArcNo])
+        requires distinct { IsDistinct path.now }
+        requires path { IsPath self.old.arcs self.old.flows path.now (path_start self.old.arcs path.now)
+            (path_end self.old.arcs path.now) }
+        ensures pushed { self.new ≡ record self.old { flows = pushed path.now self.old.flows } }
+        ensures sizes { length self.old.flows ≡ length self.old.arcs }
+    {
+        push_units(&self.arcs, &mut self.flows, path);
+    }
+
+    /// Adds an arc, which carries nothing at first. A refused call leaves the network as it was.
+    pub fn add_arc(
+        &mut self,
+        from: L::Node,
+        to: L::Node,
+        capacity: u64,
+        cost: u64,
+    ) -> Result<ArcNo, NetError>
+        requires from { L.is_member self.old.layout from ≡ true }
+        requires to { L.is_member self.old.layout to ≡ true }
+        requires capacity { capacity ≤ 4096 }
+        requires cost { cost < 2 ^ 39 }
+        ensures arc { IfOk result (λ a. a ≡ ArcNo.Forward (length self.old.arcs)) }
+        ensures arcs { OnOk result (self.new ≡ record self.old {
+          arcs = self.old.arcs ++ record { from = L.index_of self.old.layout from; to = L.index_of self.old.layout to; capacity = capacity; cost = cost } ∷ [];
+          flows = self.old.flows ++ 0 ∷ [];
+        }) }
+        ensures err { OnErr result (self.new ≡ self.old) }
+        ensures limit { IfErr result (λ e. (e ≡ NetError.ArcLimit) ↔ (length self.old.arcs ≡ 1048576)) }
+    {
+        if self.arcs.len() >= ARC_LIMIT {
+            return Err(NetError::ArcLimit);
+        }
+        let number = self.arcs.len();
+        let from = self.layout.index(from);
+        let to = self.layout.index(to);
+        if self
+            .arcs
+            .push(FlowArc {
+                from,
+                to,
+                capacity,
+                cost,
+            })
+            .is_err()
+        {
+            return Err(NetError::Memory);
+        }
+        if self.flows.push(0).is_err() {
+            self.arcs.truncate(number);
+            return Err(NetError::Memory);
+        }
+        match list_arc(&mut self.leaving, from, to, number) {
+            Ok(()) => Ok(ArcNo::Forward(number)),
+            Err(_) => {
+                self.arcs.truncate(number);
+                self.flows.truncate(number);
+                Err(NetError::Memory)
+            }
+        }
+    }
+}
+
+/// Moves one unit over each arc of a path.
+fn push_units(arcs: &[FlowArc], flows: &mut [u64], path: &[ArcNo])
+    requires arcs { AreArcs 4096 arcs.now }
+    requires sizes { length flows.old ≡ length arcs.now }
+    requires within { WithinCapacities arcs.now flows.old }
+    requires distinct { IsDistinct path.now }
+    requires residual { AllResidual arcs.now flows.old path.now }
+    ensures moved { flows.new ≡ pushed path.now flows.old }
+    ensures within { WithinCapacities arcs.now flows.new }
+{
+    for arc in path {
+        match *arc {
+            ArcNo::Forward(k) => flows[k] += 1,
+            ArcNo::Reverse(k) => flows[k] -= 1,
+        }
+    }
+}
+
+/// What flows into a node.
+fn inflow_of(arcs: &[FlowArc], flows: &[u64], node: usize) -> u64
+    requires arcs { AreArcs 4096 arcs.now }
+    requires limit { length arcs.now ≤ 1048576 }
+    requires sizes { length flows.now ≡ length arcs.now }
+    requires within { WithinCapacities arcs.now flows.now }
+    ensures sum { result ≡ inflow arcs.now flows.now node }
+    ensures bound { result ≤ 4096 * 1048576 }
+{
+    let mut gained = 0;
+    for k in 0..arcs.len() {
+        if arcs[k].to == node {
+            gained += flows[k];
+        }
+    }
+    gained
+}
+
+/// What flows out of a node.
+fn outflow_of(arcs: &[FlowArc], flows: &[u64], node: usize) -> u64
+    requires arcs { AreArcs 4096 arcs.now }
+    requires limit { length arcs.now ≤ 1048576 }
+    requires sizes { length flows.now ≡ length arcs.now }
+    requires within { WithinCapacities arcs.now flows.now }
+    ensures sum { result ≡ outflow arcs.now flows.now node }
+    ensures bound { result ≤ 4096 * 1048576 }
+{
+    let mut given = 0;
+    for k in 0..arcs.len() {
+        if arcs[k].from == node {
+            given += flows[k];
+        }
+    }
+    given
+}

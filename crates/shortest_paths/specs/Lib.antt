@@ -1,0 +1,4 @@
+pub mod Labels
+pub mod Paths
+pub mod Frontier
+pub mod Turns

@@ -1,0 +1,24 @@
+//! Least paths over the residual arcs of a network.
+//!
+//! `Potentials` give each arc its reduced cost. `distances` answers for each node the least reduced cost of a
+//! residual path and such a path, `distances_by` the same over a `Meter` with at most two looks an arc, and
+//! `distances_to` as much of it as a unit to one sink needs. Nodes are settled nearest first, by std's heap.
+//! Stands on `flow_network`, for the layers that ship units along least paths.
+#![tactic(auto)]
+
+mod frontier;
+mod labels;
+mod least;
+mod nearest_first;
+mod potentials;
+mod pricing;
+mod queue;
+mod reached;
+
+pub use least::{distances, distances_by, distances_to};
+pub use potentials::Potentials;
+pub use pricing::has_no_negative;
+pub use reached::{Buffers, Distances};
+
+#[cfg(test)]
+mod tests;
