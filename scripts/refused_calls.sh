@@ -1,6 +1,7 @@
 #!/usr/bin/env bash
 # Refuses the built programs one call in turn, on the example swap.txt, until a run meets none: each allocation,
-# each read and each write of the output. It also interrupts each transfer, and has them all move one byte.
+# each read and each write of the output. It also interrupts each transfer, and has them all move one byte. Last, it
+# refuses each allocation of the built test by which a refused arc leaves a network as it was.
 # usage: refused_calls.sh PROGRAM..
 set -euo pipefail
 cd "$(dirname "$0")/.."
@@ -57,5 +58,20 @@ for program in "$@"; do
     sweep "$program" interrupt " (0)" examples/swap.out
     sweep "$program" short " (0)" examples/swap.out
 done
+
+# A built test that holds whichever allocation is refused.
+tests=crates/flow_network/out/flow_network_tests
+name=tests::refused_arcs_leave_no_trace
+calls=0 wrong=0
+for ((nth = 1; nth <= 10000; nth++)); do
+    : > "$room/met"
+    env -i LD_PRELOAD="$room/refuse.so" REFUSE=alloc NTH="$nth" "$tests" "$name" \
+        > "$room/out" 2>&1 9> "$room/met" || { wrong=$((wrong + 1)); cat "$room/out"; }
+    [ -s "$room/met" ] || break
+    calls=$nth
+done
+echo "$tests: $name: $calls allocations, one refused in each run, $wrong wrong"
+if [ "$wrong" = 0 ] && [ "$calls" != 0 ] && [ "$nth" -le 10000 ]; then passed=$((passed + 1)); else failed=$((failed + 1)); fi
+
 echo "$passed passed, $failed failed"
 [ "$failed" = 0 ] && [ "$passed" != 0 ]

@@ -211,56 +211,94 @@ fn random(rt: &HostRuntime, seed: u64) -> Result<Network<Numbered>, Fail> {
     network(rt, NODES, &rows)
 }
 
-/// The least reduced cost of the paths with at most as many arcs as there are nodes, by rounds over all arcs.
-fn by_rounds(
+/// A residual path that visits no node twice.
+#[derive(Clone, Copy)]
+struct Walk {
+    end: usize,
+    visited: [bool; NODES],
+    cost: i64,
+}
+
+impl Walk {
+    /// The path with one arc more, where the arc leaves its end for a node that it has not visited.
+    fn over(self, potentials: &Potentials, from: usize, to: usize, cost: i64) -> Option<Walk> {
+        if self.end != from || self.visited.get(to).copied() != Some(false) {
+            return None;
+        }
+        let mut visited = self.visited;
+        if let Some(visit) = visited.get_mut(to) {
+            *visit = true;
+        }
+        let cost = self
+            .cost
+            .wrapping_add(cost)
+            .wrapping_add(potential(potentials, from)?)
+            .wrapping_sub(potential(potentials, to)?);
+        Some(Walk {
+            end: to,
+            visited,
+            cost,
+        })
+    }
+}
+
+/// All paths that are one of these with one residual arc more.
+fn longer(
+    rt: &HostRuntime,
+    network: &Network<Numbered>,
+    potentials: &Potentials,
+    paths: &[Walk],
+) -> Result<Vec<Walk>, Fail> {
+    let mut longer = Vec::new(rt.alloc());
+    for path in paths {
+        for (number, arc) in network.all_arcs().iter().enumerate() {
+            let carried = flow(network, number);
+            let cost = arc.cost.cast_signed();
+            if carried < arc.capacity {
+                if let Some(path) = path.over(potentials, arc.from, arc.to, cost) {
+                    longer.push(path)?;
+                }
+            }
+            if carried > 0 {
+                if let Some(path) = path.over(potentials, arc.to, arc.from, cost.wrapping_neg()) {
+                    longer.push(path)?;
+                }
+            }
+        }
+    }
+    Ok(longer)
+}
+
+/// The least reduced cost of all residual paths to each node, by listing them.
+fn by_paths(
     rt: &HostRuntime,
     network: &Network<Numbered>,
     potentials: &Potentials,
     from: usize,
 ) -> Result<Vec<Option<i64>>, Fail> {
     let mut best: Vec<Option<i64>> = vec![in rt.alloc(); None; NODES]?;
-    if let Some(start) = best.get_mut(from) {
-        *start = Some(0);
+    let mut start = Walk {
+        end: from,
+        visited: [false; NODES],
+        cost: 0,
+    };
+    if let Some(visit) = start.visited.get_mut(from) {
+        *visit = true;
     }
+    let mut paths = vec![in rt.alloc(); start]?;
     for _ in 0..NODES {
-        for (number, arc) in network.all_arcs().iter().enumerate() {
-            let carried = flow(network, number);
-            if carried < arc.capacity {
-                take(
-                    &mut best,
-                    potentials,
-                    arc.from,
-                    arc.to,
-                    arc.cost.cast_signed(),
-                );
-            }
-            if carried > 0 {
-                take(
-                    &mut best,
-                    potentials,
-                    arc.to,
-                    arc.from,
-                    arc.cost.cast_signed().wrapping_neg(),
-                );
-            }
+        for path in &paths {
+            note(&mut best, path);
         }
+        paths = longer(rt, network, potentials, &paths)?;
     }
     Ok(best)
 }
 
-/// Takes the path over one arc more where it is cheaper.
-fn take(best: &mut Vec<Option<i64>>, potentials: &Potentials, from: usize, to: usize, cost: i64) {
-    let known = best.get(from).copied().flatten();
-    let ends = (potential(potentials, from), potential(potentials, to));
-    if let (Some(known), (Some(leaves), Some(enters))) = (known, ends) {
-        let next = known
-            .wrapping_add(cost)
-            .wrapping_add(leaves)
-            .wrapping_sub(enters);
-        if let Some(at_end) = best.get_mut(to) {
-            if at_end.map_or(true, |old| next < old) {
-                *at_end = Some(next);
-            }
+fn note(best: &mut Vec<Option<i64>>, path: &Walk) {
+    if let Some(at_end) = best.get_mut(path.end) {
+        if at_end.map_or(true, |old| path.cost < old) {
+            *at_end = Some(path.cost);
         }
     }
 }
@@ -298,7 +336,7 @@ fn random_networks(rt: HostRuntime) -> Result<(), Fail> {
                 _ => 0,
             };
             assert_eq!(rt; excess(&network, node), want, "seed {seed}, node {node}");
-            let slow = by_rounds(&rt, &network, &potentials, node)?;
+            let slow = by_paths(&rt, &network, &potentials, node)?;
             let fast = by_search(&rt, &network, &potentials, node)?;
             assert_eq!(rt;
                 fast.as_slice(),
