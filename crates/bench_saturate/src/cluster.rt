@@ -57,6 +57,7 @@ impl Numbers {
 }
 
 impl Cluster {
+    /// The cluster of a shape, or None for want of memory.
     pub fn new(alloc: Global, shape: Shape) -> Option<Cluster> {
         let mut numbers = Numbers { state: 1 };
         let workers = workers(alloc, shape, &mut numbers)?;

@@ -55,6 +55,7 @@ impl Places {
 }
 
 impl FlowNetwork {
+    /// The network of a cluster, or None for want of memory or of room in a network.
     pub fn new(alloc: Global, cluster: &Cluster, kind: Kind) -> Option<FlowNetwork> {
         let places = Places::of(cluster);
         let nodes = places.sink.wrapping_add(1);

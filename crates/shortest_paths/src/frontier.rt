@@ -18,6 +18,7 @@ pub struct Frontier {
 }
 
 impl Frontier {
+    /// No node waits; nothing is allocated.
     pub fn new(alloc: Global) -> Frontier {
         Frontier {
             level: 0,

@@ -25,6 +25,7 @@ impl Model for Queue {
 }
 
 impl Queue {
+    /// No entries; nothing is allocated.
     pub fn new(alloc: Global) -> Queue
         ensures { result ≡ [] }
     {
@@ -33,6 +34,7 @@ impl Queue {
         }
     }
 
+    /// One entry more, for a node at a distance.
     pub fn put(&mut self, distance: u64, node: usize) -> Result<(), AllocError>
         ensures { OnOk result (IsPermutation ((distance, node) ∷ self.old) self.new) }
     {
@@ -40,6 +42,7 @@ impl Queue {
         Ok(())
     }
 
+    /// Takes an entry of the least distance, if there is one.
     pub fn take(&mut self) -> Option<(u64, usize)>
         ensures taken { IfSome result (λ p. IsPermutation self.old (p ∷ self.new)) }
         ensures nearest { IfSome result (λ p. All (λ q. p.0 ≤ q.0) self.old) }
@@ -49,6 +52,7 @@ impl Queue {
         Some(nearest)
     }
 
+    /// Drops all entries.
     pub fn clear(&mut self)
         ensures { self.new ≡ [] }
     {

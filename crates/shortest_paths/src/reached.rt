@@ -42,6 +42,7 @@ pub struct Buffers {
 }
 
 impl Buffers {
+    /// Empty buffers; nothing is allocated.
     pub fn new(alloc: Global) -> Buffers {
         Buffers {
             labels: Vec::new(alloc),
