@@ -6,6 +6,7 @@ use Rattle.std.proofs.lemmas.List.Folds.{list_any-append}
 use Rattle.plan_lines.specs.Statements.{Statement, Problem, Rack, Worker, Split, Barred, Dead, Busy, Plan, Start, Price, End, Declare, Says}
 use Rattle.text_lines.specs.Texts.{Line}
 use Rattle.plan_lines.specs.Known.{entered, known_at}
+use Rattle.plan_lines.specs.declared.purpose.Purpose.{Purpose}
 use Rattle.plan_lines.specs.Entries.{entries_of, with_entry}
 
 not_first : (i : ℕ) → (i + 1 == 0) ≡ false
@@ -21,18 +22,19 @@ or_true false = refl
 
 ruleset one_more = (flat_map-append, list_any-append, append-nil, or_false, or_true, not_first)
 
-pub known_at-step : (i : ℕ) (before : List Statement) (s : Statement) → known_at (i + 1) (before ++ s ∷ []) ≡ entered (known_at i before) s
-known_at-step i before (Problem _) = simp one_more
-known_at-step i before (Rack _) = simp one_more
-known_at-step i before (Worker _ _ _) = simp one_more
-known_at-step i before (Split _ _ _) = simp one_more
-known_at-step i before (Barred _ _) = simp one_more
-known_at-step i before (Dead _) = simp one_more
-known_at-step i before (Busy _) = simp one_more
-known_at-step i before Plan = simp one_more
-known_at-step i before (Start _ _) = simp one_more
-known_at-step i before (Price _ _) = simp one_more
-known_at-step i before End = simp one_more
+pub known_at-step : (purpose : Purpose) (i : ℕ) (before : List Statement) (s : Statement)
+    → known_at purpose (i + 1) (before ++ s ∷ []) ≡ entered (known_at purpose i before) s
+known_at-step purpose i before (Problem _) = simp one_more
+known_at-step purpose i before (Rack _) = simp one_more
+known_at-step purpose i before (Worker _ _ _) = simp one_more
+known_at-step purpose i before (Split _ _ _) = simp one_more
+known_at-step purpose i before (Barred _ _) = simp one_more
+known_at-step purpose i before (Dead _) = simp one_more
+known_at-step purpose i before (Busy _) = simp one_more
+known_at-step purpose i before Plan = simp one_more
+known_at-step purpose i before (Start _ _) = simp one_more
+known_at-step purpose i before (Price _ _) = simp one_more
+known_at-step purpose i before End = simp one_more
 
 pub entries_of-step : (before : List Statement) (s : Statement) → entries_of (before ++ s ∷ []) ≡ with_entry (entries_of before) s
 entries_of-step before (Problem _) = simp one_more

@@ -8,6 +8,7 @@ use Rattle.std.proofs.lemmas.List.Elements.{All-append, All-cons, All-nil, All-w
 use Rattle.text_lines.specs.Texts.{Word}
 use Rattle.plan_lines.specs.Statements.{Statement, Rack, Worker, Split, Barred, Start}
 use Rattle.plan_lines.specs.Known.{Known, entered, known_at}
+use Rattle.plan_lines.specs.declared.purpose.Purpose.{Purpose}
 use Rattle.plan_lines.specs.Entries.{Entries, SplitEntry, WorkerEntry, entries_of, with_entry}
 use Rattle.plan_lines.specs.Fits.{IsFit}
 use Rattle.plan_lines.specs.Tidy.{IsTidy, IsTidySplit, IsTidyWorker}
@@ -107,8 +108,8 @@ start_workers k e s fit h = h
 
 -- ---- all of it
 
-pub tidy-nil : IsTidy (known_at 0 []) (entries_of [])
-tidy-nil = record {
+pub tidy-nil : (purpose : Purpose) → IsTidy (known_at purpose 0 []) (entries_of [])
+tidy-nil purpose = record {
   few_racks = omega arith;
   few_workers = omega arith;
   few_splits = omega arith;

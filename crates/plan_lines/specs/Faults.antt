@@ -5,17 +5,30 @@ use Rattle.text_lines.specs.Texts.{IsName, IsPrintable, Line, Word, lines_of}
 use Rattle.text_lines.specs.Faults.{number_of_fault}
 use Rattle.text_lines.specs.declared.fault.Fault.{Fault}
 use Rattle.text_lines.specs.declared.fault.Fault.TheVariants.{Shape, Misnamed, Unknown, Repeated, OutOfRange, PassesLimit, Misplaced, RepeatedHolder, SecondEntry, NoPrice, TooLong, NoFeed, Unprintable, AfterEnd}
-use Rattle.plan_lines.specs.Statements.{Statement, Problem, Rack, Worker, Split, Barred, Dead, Busy, Start, Price, End, Declare, Says, SaysNothing}
+use Rattle.plan_lines.specs.Statements.{Statement, Problem, Rack, Worker, Split, Barred, Dead, Busy, Plan, Start, Price, End, Declare, Says, SaysNothing}
 use Rattle.plan_lines.specs.Known.{Known, known_at}
+use Rattle.plan_lines.specs.declared.purpose.Purpose.{Purpose}
+use Rattle.plan_lines.specs.declared.purpose.Purpose.TheVariants.{Checking, Planning}
 
 -- ---- where a line may stand
 
+-- after the first line, and before a line `plan`
+pub record IsInHead (k : Known) : Type 0 where
+  pub begun : k.is_first ≡ false
+  pub no_plan : k.plan_begun ≡ false
+
+-- a plan to check stands after the head; a text to plan from has none
+abbrev pub MayEnd : Purpose → Known → Type 0
+MayEnd Checking k = k.plan_begun ≡ true
+MayEnd Planning k = IsInHead k
+
 abbrev pub MayStand : Known → Statement → Type 0
 MayStand k (Problem _) = k.is_first ≡ true
+MayStand k Plan = IsInHead k × (k.purpose ≡ Checking)
 MayStand k (Start _ _) = k.plan_begun ≡ true
 MayStand k (Price _ _) = k.plan_begun ≡ true
-MayStand k End = k.plan_begun ≡ true
-MayStand k _ = (k.is_first ≡ false) × (k.plan_begun ≡ false)
+MayStand k End = MayEnd k.purpose k
+MayStand k _ = IsInHead k
 
 -- ---- the faults of a line that may stand where it does
 
@@ -80,9 +93,14 @@ EntersAgain k (Start split _) = Contains k.started split
 EntersAgain k (Price name _) = Contains k.priced name
 EntersAgain k _ = ⊥
 
--- at the end each split and each worker has its price
+-- each split and each worker has its price, where there is a plan to check
+abbrev pub IsPriced : Purpose → Known → Type 0
+IsPriced Checking k = All (Contains k.priced) k.splits × All (Contains k.priced) k.workers
+IsPriced Planning k = Unit {0}
+
+-- at the end nothing lacks its price
 abbrev pub HasPrices : Known → Statement → Type 0
-HasPrices k End = All (Contains k.priced) k.splits × All (Contains k.priced) k.workers
+HasPrices k End = IsPriced k.purpose k
 HasPrices k _ = Unit {0}
 
 abbrev pub IsWrong : Known → Statement → Fault → Type 0
@@ -132,9 +150,9 @@ FirstHas k (rest ∷ []) f = RestHas k rest f
 FirstHas k (line ∷ next ∷ more) f = LineHas k line f
 
 -- line i of the text, counted from 0, has the fault, in view of the lines before it
-abbrev pub Applies : List ℕ → ℕ → Fault → Type 0
-Applies text i f = (before : List Statement) × Declare (take i (lines_of text)) before
-    × FirstHas (known_at i before) (drop i (lines_of text)) f
+abbrev pub Applies : Purpose → List ℕ → ℕ → Fault → Type 0
+Applies purpose text i f = (before : List Statement) × Declare (take i (lines_of text)) before
+    × FirstHas (known_at purpose i before) (drop i (lines_of text)) f
 
 -- ---- the whole text
 
@@ -142,24 +160,24 @@ abbrev pub longest : ℕ
 longest = 16777216
 
 -- no fault applies
-pub record IsFaultless (text : List ℕ) : Type 0 where
+pub record IsFaultless (purpose : Purpose) (text : List ℕ) : Type 0 where
   pub short : length text ≤ longest
-  pub none : (i : ℕ) (f : Fault) → Applies text i f → ⊥
+  pub none : (i : ℕ) (f : Fault) → Applies purpose text i f → ⊥
 
 -- the statements of a text without a fault: each line but what follows the last line feed says one
-pub record Reads (text : List ℕ) (ss : List Statement) : Type 0 where
-  pub faultless : IsFaultless text
+pub record Reads (purpose : Purpose) (text : List ℕ) (ss : List Statement) : Type 0 where
+  pub faultless : IsFaultless purpose text
   pub says : Declare (take (length ss) (lines_of text)) ss
   pub whole : length (lines_of text) ≡ length ss + 1
 
 -- line i has the fault, no line before it has one, and it has none of a lower number
-pub record IsLeastAt (text : List ℕ) (i : ℕ) (f : Fault) : Type 0 where
+pub record IsLeastAt (purpose : Purpose) (text : List ℕ) (i : ℕ) (f : Fault) : Type 0 where
   pub short : length text ≤ longest
-  pub applies : Applies text i f
-  pub least : (j : ℕ) (g : Fault) → Applies text j g →
+  pub applies : Applies purpose text i f
+  pub least : (j : ℕ) (g : Fault) → Applies purpose text j g →
       (i < j) ⊎ ((i ≡ j) × (number_of_fault f ≤ number_of_fault g))
 
 -- the first faulty line, counted from 1, and in it the lowest number; line 0 for a text that is too long
-abbrev pub IsLeastFault : List ℕ → ℕ → Fault → Type 0
-IsLeastFault text line TooLong = (line ≡ 0) × (longest < length text)
-IsLeastFault text line f = (i : ℕ) × (line ≡ i + 1) × IsLeastAt text i f
+abbrev pub IsLeastFault : Purpose → List ℕ → ℕ → Fault → Type 0
+IsLeastFault purpose text line TooLong = (line ≡ 0) × (longest < length text)
+IsLeastFault purpose text line f = (i : ℕ) × (line ≡ i + 1) × IsLeastAt purpose text i f

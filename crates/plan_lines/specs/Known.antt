@@ -3,6 +3,7 @@ use Rattle.std.specs.Prelude.{ℕ, List, [], ◌∷◌, ◌++◌, ◌==◌, Bool
 use Rattle.std.specs.List.{flat_map, list_any}
 use Rattle.text_lines.specs.Texts.{Word}
 use Rattle.plan_lines.specs.Statements.{Statement, Problem, Rack, Worker, Split, Barred, Dead, Busy, Plan, Start, Price, End}
+use Rattle.plan_lines.specs.declared.purpose.Purpose.{Purpose}
 
 -- ---- what lines declare, by kinds, each in its order
 
@@ -58,6 +59,8 @@ splits ss = flat_map split_in ss
 -- ---- all of it
 
 pub record Known : Type 0 where
+  -- what the text is read for
+  pub purpose : Purpose
   -- no line stands before
   pub is_first : Bool
   pub racks : List Word
@@ -74,8 +77,9 @@ pub record Known : Type 0 where
   pub is_ended : Bool
 
 -- what is known in line i, counted from 0, of the statements of the lines before
-abbrev pub known_at : ℕ → List Statement → Known
-known_at i before = record {
+abbrev pub known_at : Purpose → ℕ → List Statement → Known
+known_at purpose i before = record {
+  purpose = purpose;
   is_first = i == 0;
   racks = racks before;
   workers = workers before;

@@ -3,6 +3,7 @@ ghost use Rattle.text_lines.specs.Faults.{number_of_fault};
 ghost use Rattle.text_lines.specs.declared.fault.Fault.{Fault};
 
 use crate::line::Line;
+use crate::purpose::Purpose;
 use crate::words::are_in;
 use std::alloc::{AllocError, Global};
 use std::marker::Model;
@@ -18,6 +19,7 @@ const MOST_HOLDERS: usize = 8;
 
 /// What the lines so far declare: the names of each kind, numbered from 0 in their order.
 pub struct KnownNames<'t> {
+    purpose: Purpose,
     is_first: bool,
     racks: NameTable<'t>,
     workers: NameTable<'t>,
@@ -35,6 +37,7 @@ pub struct KnownNames<'t> {
 impl Drop for KnownNames<'_> {
     fn drop(self) {
         let KnownNames {
+            purpose: _,
             is_first: _,
             racks: _,
             workers: _,
@@ -56,6 +59,7 @@ impl<'t> Model for KnownNames<'t> {
     ghost Value = { Known };
 
     ghost view = { λ k. record {
+      purpose = k.purpose;
       is_first = k.is_first;
       racks = k.racks;
       workers = k.workers;
@@ -73,16 +77,17 @@ impl<'t> Model for KnownNames<'t> {
 impl<'t> KnownNames<'t> {
     ghost use Rattle.std.specs.Prelude.{[]};
     ghost use Rattle.plan_lines.specs.Known.{entered, known_at};
-    ghost use Rattle.plan_lines.specs.Faults.{EntersAgain, Fails, HasPrices, IsPastLimit, IsTaken};
-    ghost use Rattle.plan_lines.specs.Faults.{MayStand, Repeats, UsesKnown};
+    ghost use Rattle.plan_lines.specs.Faults.{EntersAgain, Fails, HasPrices, IsInHead, IsPastLimit};
+    ghost use Rattle.plan_lines.specs.Faults.{IsPriced, IsTaken, MayEnd, MayStand, Repeats, UsesKnown};
     ghost use Rattle.plan_lines.specs.Fits.{IsFit, IsLeastOf};
     ghost use Rattle.plan_lines.specs.Lines.{statement_of};
 
     /// Before the first line. Nothing is allocated.
-    pub fn new(alloc: Global) -> KnownNames<'t>
-        ensures { result ≡ known_at 0 [] }
+    pub fn new(alloc: Global, purpose: Purpose) -> KnownNames<'t>
+        ensures { result ≡ known_at purpose 0 [] }
     {
         KnownNames {
+            purpose,
             is_first: true,
             racks: NameTable::new(alloc),
             workers: NameTable::new(alloc),
@@ -166,6 +171,7 @@ impl<'t> KnownNames<'t> {
         ensures workers { result.1 ≡ self.entry.workers }
     {
         let KnownNames {
+            purpose: _,
             is_first: _,
             racks: _,
             workers,
@@ -186,10 +192,36 @@ impl<'t> KnownNames<'t> {
     {
         match line {
             Line::Problem { .. } => self.is_first,
+            Line::Plan => self.is_in_head() && self.has_plan(),
             Line::Start { .. } => self.plan_begun,
             Line::Price { .. } => self.plan_begun,
-            Line::End => self.plan_begun,
-            _ => !self.is_first && !self.plan_begun,
+            Line::End => self.may_end(),
+            _ => self.is_in_head(),
+        }
+    }
+
+    fn is_in_head(&self) -> bool
+        ensures { IsTrue result ↔ IsInHead self.now }
+    {
+        !self.is_first && !self.plan_begun
+    }
+
+    // Whether a plan stands after the head.
+    fn has_plan(&self) -> bool
+        ensures { IsTrue result ↔ (self.now.purpose ≡ Purpose.Checking) }
+    {
+        match self.purpose {
+            Purpose::Checking => true,
+            Purpose::Planning => false,
+        }
+    }
+
+    fn may_end(&self) -> bool
+        ensures { IsTrue result ↔ MayEnd self.now.purpose self.now }
+    {
+        match self.purpose {
+            Purpose::Checking => self.plan_begun,
+            Purpose::Planning => self.is_in_head(),
         }
     }
 
@@ -254,8 +286,18 @@ impl<'t> KnownNames<'t> {
         ensures { IsTrue result ↔ HasPrices self.now (statement_of line.now) }
     {
         match line {
-            Line::End => self.splits.all_in(&self.priced) && self.workers.all_in(&self.priced),
+            Line::End => self.is_priced(),
             _ => true,
+        }
+    }
+
+    fn is_priced(&self) -> bool
+        ensures { IsTrue result ↔ IsPriced self.now.purpose self.now }
+    {
+        match self.purpose {
+            Purpose::Checking => self.splits.all_in(&self.priced)
+                && self.workers.all_in(&self.priced),
+            Purpose::Planning => true,
         }
     }
 

@@ -10,6 +10,7 @@
 pub mod keyword;
 pub mod known;
 pub mod line;
+pub mod purpose;
 pub mod rows;
 pub mod said;
 #[cfg(test)]
@@ -18,5 +19,6 @@ mod words;
 
 pub use known::KnownNames;
 pub use line::Line;
+pub use purpose::Purpose;
 pub use rows::Rows;
 pub use said::said_by;

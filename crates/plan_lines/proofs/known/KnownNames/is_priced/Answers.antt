@@ -1,15 +1,15 @@
 use Rattle.std.proofs.Common.{◌∙◌, sym, true, false, ◌≡◌}
-use Rattle.plan_lines.proofs.known.KnownNames.has_prices.Goals as goal
+use Rattle.plan_lines.proofs.known.KnownNames.is_priced.Goals as goal
 
 no_true : true ≡ false → ⊥
 no_true e = cc
 
 pub returns-then-all_in : goal.returns-then-all_in
 returns-then-all_in c =
-    rw (← c.self.view_is, c.in-End.is)
+    rw (← c.self.view_is, c.in-Checking.is)
     (λ t. (c.all_in.ensures.0 c.if-all_in.true, c.all_in-then-all_in.ensures.0 t), λ h. c.all_in-then-all_in.ensures.1 h.1)
 
 pub returns-else-all_in : goal.returns-else-all_in
 returns-else-all_in c =
-    rw (← c.self.view_is, c.in-End.is)
+    rw (← c.self.view_is, c.in-Checking.is)
     (λ t. absurd (no_true (sym t ∙ c.if-all_in.false)), λ h. c.all_in.ensures.1 h.0)
