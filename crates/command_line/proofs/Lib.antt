@@ -1,2 +1,5 @@
+pub mod Build
 pub mod Subcommands
+pub mod FlagRows
+pub mod FlagWalk
 pub mod Mrjob

@@ -1,15 +1,16 @@
 -- What clap finds in words that have no fault: one of the commands.
 use Rattle.std.proofs.Common.{◌≡◌, ◌∙◌, ℕ, cond, inl, inr, subst, Bool, true, false, List, [], ◌∷◌, Option, Some, None, codes, option_map, refl, sym, ap, true≢false}
 use Rattle.std.specs.Box.{box_value}
-use Rattle.std.specs.Prelude.{Box, IfSome, ◌||◌, is_some}
+use Rattle.std.specs.Prelude.{Box, IfSome, ◌⊎◌, ◌||◌, ◌++◌, find, is_some, length, map, option_and_then, take}
+use Rattle.std.specs.Option.{option_map_or}
 use Rattle.std.specs.Str.{bytes_eq}
 use Rattle.std.proofs.lemmas.Slice.Eq.{bytes_eq-Decides}
-use Rattle.clap.specs.Faults.{check_fault, defaults_fault, entered_fault, fault_of, is_simple_and_free, settle_fault, walk_fault}
-use Rattle.clap.specs.Simple.{HasMatchesOf, Shape, app_of, argument_words, built, entered, is_simple, names_of, rows_at, subcommand_of, subcommand_rows, subcommand_rows_of}
-use Rattle.clap.specs.Walk.{Row, Text, finished, nothing_held, settled, walk, walk_from}
+use Rattle.clap.specs.Faults.{check_fault, defaults_fault, entered_fault, fault_of, is_simple_and_free, level_fault, settle_fault, walk_fault}
+use Rattle.clap.specs.Simple.{HasMatchesOf, Shape, label_of, app_of, argument_words, built, built_leaf, help_shape, entered, is_simple, names_of, rows_at, subcommand_of, subcommand_rows, subcommand_rows_of}
+use Rattle.clap.specs.Walk.{Row, Text, answers_to, finished, nothing_held, one_of, rows_of, settled, walk, walk_from}
 use Rattle.clap.specs.declared.error.kind.ErrorKind.TheVariants.{MissingSubcommand, OutOfMemory}
 use Rattle.clap.specs.Kinds.{HasKind, IsAmong}
-use Rattle.clap.specs.Matches.{subcommand_name_of}
+use Rattle.clap.specs.Matches.{found_of, one_text, subcommand_name_of}
 use Rattle.clap.specs.Words.{kind_of}
 use Rattle.clap.specs.declared.builder.command.Command.{Command}
 use Rattle.clap.specs.declared.error.Error.{Error}
@@ -17,7 +18,10 @@ use Rattle.clap.specs.declared.parser.matches.ArgMatches.{ArgMatches}
 use Rattle.clap.specs.declared.parser.matches.ArgMatches.TheViews.{out-ArgMatches, out-SubCommand}
 use Rattle.clap.specs.declared.parser.matches.SubCommand.{SubCommand}
 use Rattle.clap.proofs.OnLiterals.{clap_on_literals}
-use Rattle.command_line.specs.Commands.{command_in, faults_in, mrjob}
+use Rattle.command_line.specs.Commands.{command_in, faults_in, flag_in, mrjob, value_in}
+use Rattle.clap.proofs.WalkLemmas.{one_text-rows}
+use Rattle.command_line.proofs.FlagRows.{Each, FlagRule, IsFlagText, each_found}
+use Rattle.command_line.proofs.FlagWalk.{level_read}
 use Rattle.command_line.proofs.Subcommands.{IsOther, never_help, no_fault}
 
 is_simple_program : is_simple mrjob ≡ true
@@ -28,6 +32,11 @@ is_free_program : is_simple_and_free mrjob ≡ true
 unfolding clap_on_literals
 is_free_program = refl
 
+-- the name is one of these
+abbrev pub IsOneOf : Option Text → List Text → Type 0
+IsOneOf found [] = ⊥
+IsOneOf found (name ∷ names) = (found ≡ Some name) ⊎ IsOneOf found names
+
 same_from_other : (a b : List ℕ) → bytes_eq a b ≡ false → bytes_eq b a ≡ false
 same_from_other a b other = go (bytes_eq b a) (bytes_eq-Decides b a).0
   where
@@ -35,33 +44,57 @@ same_from_other a b other = go (bytes_eq b a) (bytes_eq-Decides b a).0
     go true same = absurd (true≢false (sym ((bytes_eq-Decides a b).1 (sym (same refl))) ∙ other))
     go false same = refl
 
--- the subcommand that is entered, where `a` and `b` say which of the two the words name
-abbrev entered_of : Shape → Shape → List Text → Bool → Bool → Option (Text × List Row)
-entered_of first help words a b =
-    option_map (λ s. rows_at s words) (cond a (Some first) (cond b (Some help) None))
+-- the subcommand that is entered, where one is found
+abbrev entered_of : List Text → Option Shape → Option (Text × List Row)
+entered_of words = option_map (λ s. rows_at s words)
 
-entered_first : (first help : Shape) (words : List Text) (a b : Bool) → b ≡ false
-    → is_some (entered_of first help words a b) ≡ true
-    → option_map (λ p. p.0) (entered_of first help words a b) ≡ Some first.name
-entered_first first help words true b other some = refl
-entered_first first help words false false other some = cc
-entered_first first help words false true other some = cc
+module _ (word : Text) (words : List Text) where
+  abbrev found_in_shapes : List Shape → Option Shape
+  found_in_shapes = find (λ s. answers_to word (label_of s))
 
--- a walk that stopped at a subcommand, and not at `help`, has stopped at `check`
+  abbrev IsEntered : Option Shape → Type 0
+  IsEntered found = is_some (entered_of words found) ≡ true
+
+  abbrev IsNamed : Option Shape → List Shape → Type 0
+  IsNamed found shapes =
+      IsOneOf (option_map (λ p. p.0) (entered_of words found)) (map (λ s. s.name) shapes)
+
+  named_first : (first : Shape) (shapes : List Shape) (found : Option Shape) (is_first : Bool)
+      → IsEntered (cond is_first (Some first) found) → (IsEntered found → IsNamed found shapes)
+      → IsNamed (cond is_first (Some first) found) (first ∷ shapes)
+  named_first first shapes found true entered below = inl refl
+  named_first first shapes found false entered below = inr (below entered)
+
+  -- a search that finds a shape, and not the last one, finds one before it
+  named_before : (shapes : List Shape) (last : Shape) → answers_to word (label_of last) ≡ false
+      → IsEntered (found_in_shapes (shapes ++ last ∷ []))
+      → IsNamed (found_in_shapes (shapes ++ last ∷ [])) shapes
+  named_before [] last other entered =
+      let none : false ≡ true = rw other at entered in
+      cc
+  named_before (first ∷ shapes) last other entered =
+      named_first first shapes _ (answers_to word (label_of first)) entered (named_before shapes last other)
+
+-- the commands as they are built; clap puts `help` after them
+abbrev commands : List Shape
+commands = take (length mrjob.subs) (built mrjob).subs
+
+-- a walk that stopped at a subcommand, and not at `help`, has stopped at a command
 named : (stop : Option (Text × List Text)) → is_some (entered (built mrjob) stop) ≡ true
     → IfSome stop (λ p. IsOther p.0)
-    → option_map (λ p. p.0) (entered (built mrjob) stop) ≡ Some (codes "check")
+    → IsOneOf (option_map (λ p. p.0) (entered (built mrjob) stop)) (map (λ s. s.name) mrjob.subs)
 named None some other = cc
 named (Some p) some other =
-    entered_first _ _ p.1 _ _ (ap (λ b. b || false) (same_from_other p.0 (codes "help") other)) some
+    named_before p.0 p.1 commands (built_leaf help_shape) (ap (λ b. b || false) (same_from_other p.0 (codes "help") other)) some
 
 -- the last checks pass only where a subcommand was met
 has_command : (rows : List Row) (has : Bool) → check_fault (built mrjob).top rows has ≡ [] → has ≡ true
 has_command rows true none = refl
 has_command rows false none = let wanted : MissingSubcommand ∷ [] ≡ [] = none in cc
 
-check_named : (words : List Text) → faults_in words ≡ [] → command_in words ≡ Some (codes "check")
-check_named words none =
+command_named : (words : List Text) → faults_in words ≡ []
+    → IsOneOf (command_in words) (map (λ s. s.name) mrjob.subs)
+command_named words none =
     let program = built mrjob in
     let given = argument_words mrjob words in
     let end = walk program.top.rules (names_of program) nothing_held given in
@@ -74,6 +107,42 @@ check_named words none =
     (has_command (finished program.top.rules end.held) _ checks.1)
     (never_help program.top (names_of program) refl (walk_from nothing_held) given first.0)
 
+-- where a command has the option `--prices`, it is a flag
+prices_are_flags : Each (λ s. Each (FlagRule (codes "prices")) s.rules) (built mrjob).subs
+unfolding clap_on_literals
+prices_are_flags =
+    let other : false ≡ true → ⊥ = λ e. true≢false (sym e) in (
+      (λ e. absurd (other e), tt),
+      (
+        (λ e. (refl, refl, (inr refl, tt)), (λ e. absurd (other e), tt)),
+        ((λ e. absurd (other e), tt), tt),
+      ),
+    )
+
+-- what clap finds for `--prices` is the text of a flag
+prices_read : (words : List Text) → faults_in words ≡ [] → IfSome (value_in (codes "prices") words) IsFlagText
+prices_read words none =
+    let program = built mrjob in
+    let given = argument_words mrjob words in
+    let stop = (walk program.top.rules (names_of program) nothing_held given).stopped in
+    let first = no_fault (walk_fault program.top (names_of program) (walk_from nothing_held) given) _ none in
+    let below = no_fault (entered_fault program stop) _ first.1 in
+    at_stop stop below.0
+  where
+    at_shape : (words : List Text) (o : Option Shape) → IfSome o (λ s. Each (FlagRule (codes "prices")) s.rules)
+        → option_map_or (λ s. level_fault s [] nothing_held words false []) o [] ≡ []
+        → IfSome (option_and_then (λ p. one_of (codes "prices") p.1) (entered_of words o)) IsFlagText
+    at_shape words None flags none = tt
+    at_shape words (Some s) flags none = level_read (codes "prices") s [] flags words none
+
+    at_stop : (stop : Option (Text × List Text)) → entered_fault (built mrjob) stop ≡ []
+        → IfSome (option_and_then (λ p. one_of (codes "prices") p.1) (entered (built mrjob) stop)) IsFlagText
+    at_stop None none = tt
+    at_stop (Some p) none =
+        let meets : Shape → Bool = λ s. answers_to p.0 (label_of s) in
+        at_shape p.1 (find meets (built mrjob).subs)
+        (each_found (λ s. Each (FlagRule (codes "prices")) s.rules) meets (built mrjob).subs prices_are_flags) none
+
 name_in : {Z : Type 0} (met : Option (Box SubCommand Z))
     → option_map (λ b. (out-SubCommand (box_value b)).name.now) met
     ≡ option_map (λ p. p.0) (subcommand_rows met)
@@ -82,23 +151,63 @@ name_in (Some b) = refl
 
 module _ (program : Command) (words : List Text) (is : app_of program ≡ mrjob) where
   -- the matches name the command that the words name
-  pub found_in : (m : ArgMatches) → HasMatchesOf (app_of program) words m
+  found_in : (m : ArgMatches) → HasMatchesOf (app_of program) words m
       → subcommand_name_of m ≡ command_in words
   found_in m has =
       let rows : subcommand_rows_of m ≡ subcommand_of mrjob words =
       (has (ap is_simple is ∙ is_simple_program)).1 ∙ ap (λ a. subcommand_of a words) is in
       name_in (out-ArgMatches m).subcommand ∙ ap (option_map (λ p. p.0)) rows
 
+  pub named_in : (m : ArgMatches) → HasMatchesOf (app_of program) words m
+      → (met name : Text) → Some met ≡ subcommand_name_of m → met ≡ name → command_in words ≡ Some name
+  named_in m has met name met_is same = sym (found_in m has) ∙ sym met_is ∙ ap Some same
+
   -- words that are parsed have no fault
   pub unfaulted : (is_simple_and_free (app_of program) ≡ true → fault_of (app_of program) words ≡ [])
       → faults_in words ≡ []
   unfaulted none = sym (ap (λ a. fault_of a words) is) ∙ none (ap is_simple_and_free is ∙ is_free_program)
 
-  -- and name `check`
-  pub found_check : (m : ArgMatches) → HasMatchesOf (app_of program) words m
+  -- and name one of the commands
+  pub found_named : (m : ArgMatches) → HasMatchesOf (app_of program) words m
       → (is_simple_and_free (app_of program) ≡ true → fault_of (app_of program) words ≡ [])
-      → subcommand_name_of m ≡ Some (codes "check")
-  found_check m has none = found_in m has ∙ check_named words (unfaulted none)
+      → IsOneOf (subcommand_name_of m) (map (λ s. s.name) mrjob.subs)
+  found_named m has none = subst (λ name. IsOneOf name (map (λ s. s.name) mrjob.subs))
+      (sym (found_in m has)) (command_named words (unfaulted none))
+
+  -- what its matches hold for an option is what clap finds in the words
+  pub found_value : (m : ArgMatches) → HasMatchesOf (app_of program) words m → (options : ArgMatches)
+      → Some (rows_of (found_of options)) ≡ option_map (λ p. p.1) (subcommand_rows_of m)
+      → (id : Text) → one_text (found_of options) id ≡ value_in id words
+  found_value m has options rows_is id =
+      let rows : subcommand_rows_of m ≡ subcommand_of mrjob words =
+      (has (ap is_simple is ∙ is_simple_program)).1 ∙ ap (λ a. subcommand_of a words) is in
+      one_text-rows (found_of options) id ∙ in_rows (subcommand_of mrjob words)
+      (rows_is ∙ ap (option_map (λ p. p.1)) rows)
+    where
+      in_rows : (o : Option (Text × List Row)) → Some (rows_of (found_of options)) ≡ option_map (λ p. p.1) o
+          → one_of id (rows_of (found_of options)) ≡ option_and_then (λ p. one_of id p.1) o
+      in_rows None same = cc
+      in_rows (Some p) same = ap (λ o. option_and_then (one_of id) o) same
+
+  -- and a flag is read as clap finds it
+  pub found_flag : (m : ArgMatches) → HasMatchesOf (app_of program) words m
+      → (is_simple_and_free (app_of program) ≡ true → fault_of (app_of program) words ≡ [])
+      → (options : ArgMatches) → Some (rows_of (found_of options)) ≡ option_map (λ p. p.1) (subcommand_rows_of m)
+      → (given : Bool) → (one_text (found_of options) (codes "prices") ≡ None → given ≡ false)
+      → (one_text (found_of options) (codes "prices") ≡ Some (codes "true") → given ≡ true)
+      → (one_text (found_of options) (codes "prices") ≡ Some (codes "false") → given ≡ false)
+      → given ≡ flag_in (codes "prices") words
+  found_flag m has none options rows_is given if_none if_true if_false =
+      let value = found_value m has options rows_is (codes "prices") in
+      go (value_in (codes "prices") words) (prices_read words (unfaulted none))
+      (λ e. if_none (value ∙ e)) (λ e. if_true (value ∙ e)) (λ e. if_false (value ∙ e))
+    where
+      go : (o : Option Text) → IfSome o IsFlagText
+          → (o ≡ None → given ≡ false) → (o ≡ Some (codes "true") → given ≡ true) → (o ≡ Some (codes "false") → given ≡ false)
+          → given ≡ option_map_or (λ value. bytes_eq value (codes "true")) o false
+      go None text n t f = n refl
+      go (Some text) (inl is) n t f = t (ap Some is) ∙ sym (ap (λ v. bytes_eq v (codes "true")) is)
+      go (Some text) (inr is) n t f = f (ap Some is) ∙ sym (ap (λ v. bytes_eq v (codes "true")) is)
 
   -- an error is one of the words' faults, or memory
   pub faulted : (e : Error)

@@ -1,23 +1,47 @@
 -- The commands of mrjob, what clap finds in the words, and the statuses of faults.
-use Rattle.std.specs.Prelude.{ℕ, List, Option, codes, true, option_map}
-use Rattle.clap.specs.Simple.{on_top, new_shape}
-use Rattle.clap.specs.Words.{App, Text, fault_of, kind_of, new_app, subcommand_of, with_subcommand}
+use Rattle.std.specs.Prelude.{ℕ, Bool, List, Option, Some, codes, false, true, option_and_then, option_map}
+use Rattle.std.specs.Option.{option_map_or}
+use Rattle.std.specs.Str.{bytes_eq}
+use Rattle.clap.specs.Simple.{on_top}
+use Rattle.clap.specs.declared.builder.action.ArgAction.TheVariants.{SetTrue}
+use Rattle.clap.specs.Words.{App, Rule, Text, fault_of, kind_of, new_app, new_rule, one_of, subcommand_of, with_rule, with_subcommand}
 use Rattle.clap.specs.Kinds.{Kinds}
 use Rattle.clap.specs.declared.error.kind.ErrorKind.{ErrorKind}
 use Rattle.clap.specs.declared.error.kind.ErrorKind.TheVariants.{DisplayHelp, DisplayVersion}
 use Rattle.command_line.specs.declared.asked.Ask.{Ask}
-use Rattle.command_line.specs.declared.asked.Ask.TheVariants.{Check}
+use Rattle.command_line.specs.declared.asked.Ask.TheVariants.{Check, Plan}
 use Rattle.command_line.specs.declared.asked.AskError.{AskError}
 use Rattle.command_line.specs.declared.asked.AskError.TheVariants.{Fault, Memory}
 
--- the program with its commands, as clap is told of it; one of them has to be named
+-- the flag `--prices`, which takes no value
+abbrev pub prices : Rule
+prices = record (new_rule (codes "prices")) { long = Some (codes "prices"); action = Some SetTrue }
+
+abbrev pub check : App
+check = new_app (codes "check")
+
+abbrev pub plan : App
+plan = with_rule (new_app (codes "plan")) prices
+
+-- the program before it has commands; one of them has to be named
+abbrev pub program : App
+program = on_top (λ s. record s { subcommand_required = true }) (new_app (codes "mrjob"))
+
+-- the program with its commands, as clap is told of it
 abbrev pub mrjob : App
-mrjob = with_subcommand (on_top (λ s. record s { subcommand_required = true }) (new_app (codes "mrjob")))
-    (new_shape (codes "check"))
+mrjob = with_subcommand (with_subcommand program check.top) plan.top
 
 -- the command that clap finds in the words
 abbrev pub command_in : List Text → Option Text
 command_in words = option_map (λ p. p.0) (subcommand_of mrjob words)
+
+-- the text that clap finds for an option of that command
+abbrev pub value_in : Text → List Text → Option Text
+value_in id words = option_and_then (λ p. one_of id p.1) (subcommand_of mrjob words)
+
+-- clap finds the flag set: its text is `true` where it was given, else `false`
+abbrev pub flag_in : Text → List Text → Bool
+flag_in id words = option_map_or (λ value. bytes_eq value (codes "true")) (value_in id words) false
 
 -- the kinds of fault that clap finds in the words, a wish for help among them; none where it takes them
 abbrev pub faults_in : List Text → Kinds
@@ -26,6 +50,7 @@ faults_in words = fault_of mrjob words
 -- the word by which a command is called
 abbrev pub name_of : Ask → Text
 name_of Check = codes "check"
+name_of (Plan options) = codes "plan"
 
 -- help and the version were asked for; every other kind is wrong usage
 abbrev pub status_of_kind : ErrorKind → ℕ

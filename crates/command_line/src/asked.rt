@@ -3,6 +3,15 @@
 pub enum Ask {
     /// Check a plan by its prices.
     Check,
+    /// Plan a job's map starts.
+    Plan(PlanOptions),
+}
+
+/// What a plan is to be written with.
+#[derive(Clone, Copy, Debug, PartialEq, Eq)]
+pub struct PlanOptions {
+    /// Write the prices too.
+    pub prices: bool,
 }
 
 /// Why the words ask for no command.
