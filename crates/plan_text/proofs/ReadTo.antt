@@ -15,32 +15,37 @@ use Rattle.plan_lines.specs.Tidy.{IsTidy}
 use Rattle.plan_lines.proofs.Spelled.{declare-unique}
 use Rattle.plan_lines.proofs.Steps.{declare-step, entries_of-step, known_at-step}
 use Rattle.plan_lines.proofs.Tidy.{tidy-nil, tidy-step}
-use Rattle.plan_text.specs.Draft.{IsAllRead, IsLeastError, Takes}
+use Rattle.plan_lines.specs.declared.purpose.Purpose.{Purpose}
+use Rattle.plan_text.specs.Draft.{AreFitLines, IsAllRead, IsFitLine, IsLeastError, Takes}
 use Rattle.plan_text.specs.Reading.{IsReadingError, error_at}
 use Rattle.plan_text.specs.declared.draft.LineError.{LineError}
 use Rattle.plan_text.specs.declared.draft.LineError.TheVariants as error
+use Rattle.plan_text.proofs.FitLines.{fit-step, known_after, names_after}
 use Rattle.plan_text.proofs.LineErrors.{line_faultless}
 
--- the first n lines have no fault, and say the statements that k and e hold; the rest of the text is left
-pub record IsReadTo (text rest : List ℕ) (n : ℕ) (k : Known) (e : Entries) : Type 0 where
+-- the first n lines have no fault, and say the statements that k and e hold; these lines are left
+pub record IsReadTo (purpose : Purpose) (text : List ℕ) (left : List Line) (n : ℕ) (k : Known) (e : Entries) : Type 0 where
   pub before : List Statement
   pub count : length before ≡ n
   pub says : Declare (take n (lines_of text)) before
-  pub left : lines_of rest ≡ drop n (lines_of text)
-  pub known : k ≡ known_at n before
+  pub fit : AreFitLines (known_at purpose 0 []) (take n (lines_of text)) before
+  pub rest : left ≡ drop n (lines_of text)
+  pub known : k ≡ known_at purpose n before
   pub entries : e ≡ entries_of before
   pub tidy : IsTidy k e
-  pub faultless : (j : ℕ) (g : Fault) → j < n → Applies text j g → ⊥
+  pub faultless : (j : ℕ) (g : Fault) → j < n → Applies purpose text j g → ⊥
 
-pub read_none : (text : List ℕ) (k : Known) (e : Entries) → k ≡ known_at 0 [] → e ≡ entries_of [] → IsReadTo text text 0 k e
-read_none text k e known entries = record {
+pub read_none : (purpose : Purpose) (text : List ℕ) (k : Known) (e : Entries) → k ≡ known_at purpose 0 [] → e ≡ entries_of []
+    → IsReadTo purpose text (lines_of text) 0 k e
+read_none purpose text k e known entries = record {
   before = [];
   count = refl;
   says = tt;
-  left = refl;
+  fit = tt;
+  rest = refl;
   known = known;
   entries = entries;
-  tidy = rw (known, entries) tidy-nil;
+  tidy = rw (known, entries) (tidy-nil purpose);
   faultless = λ j g lt h. absurd (omega arith);
 }
 
@@ -74,87 +79,104 @@ first_of_more : (k : Known) (line : Line) (ls : List Line) (g : Fault) → 0 < l
 first_of_more k line [] g h has = absurd (omega arith)
 first_of_more k line (next ∷ more) g h has = has
 
-some_line : (text : List ℕ) → 0 < length (lines_of text)
+pub some_line : (text : List ℕ) → 0 < length (lines_of text)
 some_line text = omega (arith, length-slice_split (λ b. b == 10) text)
 
 -- a fault of line n is one of the line that is left first
-first_has : (text rest : List ℕ) (n : ℕ) (k : Known) (e : Entries) → IsReadTo text rest n k e
-    → (g : Fault) → Applies text n g → FirstHas k (lines_of rest) g
-first_has text rest n k e read g applies =
+first_has : (purpose : Purpose) (text : List ℕ) (left : List Line) (n : ℕ) (k : Known) (e : Entries)
+    → IsReadTo purpose text left n k e → (g : Fault) → Applies purpose text n g → FirstHas k left g
+first_has purpose text left n k e read g applies =
     let same : applies.0 ≡ read.before = declare-unique _ _ _ applies.1 read.says in
-    rw (read.known, read.left) (subst (λ b. FirstHas (known_at n b) (drop n (lines_of text)) g) same applies.2)
+    rw (read.known, read.rest) (subst (λ b. FirstHas (known_at purpose n b) (drop n (lines_of text)) g) same applies.2)
 
-line_has : (text rest line after : List ℕ) (n : ℕ) (k : Known) (e : Entries) → IsReadTo text rest n k e
-    → lines_of rest ≡ line ∷ lines_of after → (g : Fault) → Applies text n g → LineHas k line g
-line_has text rest line after n k e read split g applies =
-    feed_follows k line (lines_of after) g (some_line after) (subst (λ ls. FirstHas k ls g) split (first_has text rest n k e read g applies))
+line_has : (purpose : Purpose) (text : List ℕ) (left : List Line) (line : Line) (after : List Line) (n : ℕ) (k : Known) (e : Entries)
+    → IsReadTo purpose text left n k e → left ≡ line ∷ after → 0 < length after → (g : Fault) → Applies purpose text n g
+    → LineHas k line g
+line_has purpose text left line after n k e read split more g applies =
+    feed_follows k line after g more (subst (λ ls. FirstHas k ls g) split (first_has purpose text left n k e read g applies))
 
 -- ---- one line more
 
-more_faultless : (text rest line after : List ℕ) (n : ℕ) (k new : Known) (e new_entries : Entries)
-    → IsReadTo text rest n k e → lines_of rest ≡ line ∷ lines_of after → Takes k e line new new_entries
-    → (j : ℕ) (g : Fault) → j < n + 1 → Applies text j g → ⊥
-more_faultless text rest line after n k new e new_entries read split takes j g lt applies =
+more_faultless : (purpose : Purpose) (text : List ℕ) (left : List Line) (line : Line) (after : List Line) (n : ℕ) (k new : Known)
+    (e new_entries : Entries) → IsReadTo purpose text left n k e → left ≡ line ∷ after → 0 < length after
+    → Takes k e line new new_entries → (j : ℕ) (g : Fault) → j < n + 1 → Applies purpose text j g → ⊥
+more_faultless purpose text left line after n k new e new_entries read split more takes j g lt applies =
     elim (cases_lt j n) [
       | inl less ↦ read.faultless j g less applies
       | inr ge ↦
           let at : j ≡ n = omega arith in
           line_faultless k line takes.statement (takes.printable, takes.not_ended) takes.says takes.enters.fit g
-          (line_has text rest line after n k e read split g (subst (λ i. Applies text i g) at applies))
+          (line_has purpose text left line after n k e read split more g (subst (λ i. Applies purpose text i g) at applies))
     ]
 
-pub read_more : (text rest line after : List ℕ) (n : ℕ) (k new : Known) (e new_entries : Entries)
-    → IsReadTo text rest n k e → lines_of rest ≡ line ∷ lines_of after → Takes k e line new new_entries
-    → IsReadTo text after (n + 1) new new_entries
-read_more text rest line after n k new e new_entries read split takes =
-    let cut : drop n (lines_of text) ≡ line ∷ lines_of after = sym read.left ∙ split in
+-- a line that is taken fits after the lines before it
+taken_fits : (k new : Known) (line : Line) (e new_entries : Entries) → (takes : Takes k e line new new_entries)
+    → IsFitLine k line takes.statement
+taken_fits k new line e new_entries takes = record {
+  printable = takes.printable;
+  not_ended = takes.not_ended;
+  says = takes.says;
+  fit = takes.enters.fit;
+}
+
+pub read_more : (purpose : Purpose) (text : List ℕ) (left : List Line) (line : Line) (after : List Line) (n : ℕ) (k new : Known)
+    (e new_entries : Entries) → IsReadTo purpose text left n k e → left ≡ line ∷ after → 0 < length after
+    → Takes k e line new new_entries → IsReadTo purpose text after (n + 1) new new_entries
+read_more purpose text left line after n k new e new_entries read split more takes =
+    let cut : drop n (lines_of text) ≡ line ∷ after = sym read.rest ∙ split in
     let s = takes.statement in
+    let here : names_after (known_at purpose 0 []) read.before ≡ k =
+    known_after purpose read.before ∙ ap (λ i. known_at purpose i read.before) read.count ∙ sym read.known in
     record {
       before = read.before ++ s ∷ [];
       count = omega (arith, length-append read.before (s ∷ []), read.count);
-      says = rw (take_one n (lines_of text) (lines_of after) line cut) (declare-step _ _ line s read.says takes.says);
-      left = sym (drop_one n (lines_of text) (lines_of after) line cut);
-      known = takes.enters.known ∙ ap (λ old. entered old s) read.known ∙ sym (known_at-step n read.before s);
+      says = rw (take_one n (lines_of text) after line cut) (declare-step _ _ line s read.says takes.says);
+      fit = rw (take_one n (lines_of text) after line cut)
+          (fit-step (known_at purpose 0 []) _ read.before line s read.fit
+          (subst (λ names. IsFitLine names line s) (sym here) (taken_fits k new line e new_entries takes)));
+      rest = sym (drop_one n (lines_of text) after line cut);
+      known = takes.enters.known ∙ ap (λ old. entered old s) read.known ∙ sym (known_at-step purpose n read.before s);
       entries = takes.enters.entries ∙ ap (λ old. with_entry old s) read.entries ∙ sym (entries_of-step read.before s);
       tidy = rw (takes.enters.known, takes.enters.entries) (tidy-step k e s takes.enters.fit read.tidy);
-      faultless = more_faultless text rest line after n k new e new_entries read split takes;
+      faultless = more_faultless purpose text left line after n k new e new_entries read split more takes;
     }
 
 -- ---- a fault
 
 -- the least fault of the line that is left first is the text's
-least_first : (text rest : List ℕ) (n : ℕ) (k : Known) (e : Entries) (f : Fault)
-    → length text ≤ longest → IsReadTo text rest n k e → IsLeastOf (FirstHas k (lines_of rest)) f → IsLeastAt text n f
-least_first text rest n k e f short read least = record {
+least_first : (purpose : Purpose) (text : List ℕ) (left : List Line) (n : ℕ) (k : Known) (e : Entries) (f : Fault)
+    → length text ≤ longest → IsReadTo purpose text left n k e → IsLeastOf (FirstHas k left) f → IsLeastAt purpose text n f
+least_first purpose text left n k e f short read least = record {
   short = short;
   applies = (
     read.before,
     read.says,
-    subst (λ q. FirstHas q (drop n (lines_of text)) f) read.known (subst (λ ls. FirstHas k ls f) read.left least.applies),
+    subst (λ q. FirstHas q (drop n (lines_of text)) f) read.known (subst (λ ls. FirstHas k ls f) read.rest least.applies),
   );
   least = λ j g h. elim (cases_lt n j) [
     | inl later ↦ inl later
     | inr ge ↦ elim (cases_eq j n) [
-      | inl at ↦ inr (sym at, least.least g (first_has text rest n k e read g (subst (λ i. Applies text i g) at h)))
+      | inl at ↦ inr
+          (sym at, least.least g (first_has purpose text left n k e read g (subst (λ i. Applies purpose text i g) at h)))
       | inr apart ↦ absurd (read.faultless j g (omega arith) h)
     ]
   ];
 }
 
-pub least_at : (text rest line after : List ℕ) (n : ℕ) (k : Known) (e : Entries) (f : Fault)
-    → length text ≤ longest → IsReadTo text rest n k e → lines_of rest ≡ line ∷ lines_of after → IsLeastOf (LineHas k line) f
-    → IsLeastAt text n f
-least_at text rest line after n k e f short read split least =
-    least_first text rest n k e f short read (record {
-      applies = subst (λ ls. FirstHas k ls f) (sym split) (first_of_more k line (lines_of after) f (some_line after) least.applies);
-      least = λ g h. least.least g (feed_follows k line (lines_of after) g (some_line after) (subst (λ ls. FirstHas k ls g) split h));
+pub least_at : (purpose : Purpose) (text : List ℕ) (left : List Line) (line : Line) (after : List Line) (n : ℕ) (k : Known)
+    (e : Entries) (f : Fault) → length text ≤ longest → IsReadTo purpose text left n k e → left ≡ line ∷ after → 0 < length after
+    → IsLeastOf (LineHas k line) f → IsLeastAt purpose text n f
+least_at purpose text left line after n k e f short read split more least =
+    least_first purpose text left n k e f short read (record {
+      applies = subst (λ ls. FirstHas k ls f) (sym split) (first_of_more k line after f more least.applies);
+      least = λ g h. least.least g (feed_follows k line after g more (subst (λ ls. FirstHas k ls g) split h));
     })
 
-pub least_at_rest : (text rest line : List ℕ) (n : ℕ) (k : Known) (e : Entries) (f : Fault)
-    → length text ≤ longest → IsReadTo text rest n k e → lines_of rest ≡ line ∷ [] → IsLeastOf (RestHas k line) f
-    → IsLeastAt text n f
-least_at_rest text rest line n k e f short read split least =
-    least_first text rest n k e f short read (record {
+pub least_at_rest : (purpose : Purpose) (text : List ℕ) (left : List Line) (line : Line) (n : ℕ) (k : Known) (e : Entries)
+    (f : Fault) → length text ≤ longest → IsReadTo purpose text left n k e → left ≡ line ∷ [] → IsLeastOf (RestHas k line) f
+    → IsLeastAt purpose text n f
+least_at_rest purpose text left line n k e f short read split least =
+    least_first purpose text left n k e f short read (record {
       applies = subst (λ ls. FirstHas k ls f) (sym split) least.applies;
       least = λ g h. least.least g (subst (λ ls. FirstHas k ls g) split h);
     })
@@ -166,28 +188,30 @@ never_too_long k ([] ∷ []) h = h
 never_too_long k ((b ∷ bs) ∷ []) h = h
 never_too_long k (line ∷ next ∷ more) h = h
 
-pub least_fault : (text : List ℕ) (n : ℕ) (f : Fault) → IsLeastAt text n f → IsLeastFault text (n + 1) f
-least_fault text n TooLong h = absurd (never_too_long (known_at n h.applies.0) (drop n (lines_of text)) h.applies.2)
-least_fault text n Shape h = (n, refl, h)
-least_fault text n Misnamed h = (n, refl, h)
-least_fault text n Unknown h = (n, refl, h)
-least_fault text n Repeated h = (n, refl, h)
-least_fault text n OutOfRange h = (n, refl, h)
-least_fault text n PassesLimit h = (n, refl, h)
-least_fault text n Misplaced h = (n, refl, h)
-least_fault text n RepeatedHolder h = (n, refl, h)
-least_fault text n SecondEntry h = (n, refl, h)
-least_fault text n NoPrice h = (n, refl, h)
-least_fault text n NoFeed h = (n, refl, h)
-least_fault text n Unprintable h = (n, refl, h)
-least_fault text n AfterEnd h = (n, refl, h)
+pub least_fault : (purpose : Purpose) (text : List ℕ) (n : ℕ) (f : Fault) → IsLeastAt purpose text n f
+    → IsLeastFault purpose text (n + 1) f
+least_fault purpose text n TooLong h =
+    absurd (never_too_long (known_at purpose n h.applies.0) (drop n (lines_of text)) h.applies.2)
+least_fault purpose text n Shape h = (n, refl, h)
+least_fault purpose text n Misnamed h = (n, refl, h)
+least_fault purpose text n Unknown h = (n, refl, h)
+least_fault purpose text n Repeated h = (n, refl, h)
+least_fault purpose text n OutOfRange h = (n, refl, h)
+least_fault purpose text n PassesLimit h = (n, refl, h)
+least_fault purpose text n Misplaced h = (n, refl, h)
+least_fault purpose text n RepeatedHolder h = (n, refl, h)
+least_fault purpose text n SecondEntry h = (n, refl, h)
+least_fault purpose text n NoPrice h = (n, refl, h)
+least_fault purpose text n NoFeed h = (n, refl, h)
+least_fault purpose text n Unprintable h = (n, refl, h)
+least_fault purpose text n AfterEnd h = (n, refl, h)
 
-pub error_of_text : (text rest line after : List ℕ) (n : ℕ) (k : Known) (e : Entries) (err : LineError)
-    → length text ≤ longest → IsReadTo text rest n k e → lines_of rest ≡ line ∷ lines_of after → IsLeastError (LineHas k line) err
-    → IsReadingError text (error_at (n + 1) err)
-error_of_text text rest line after n k e (error.Fault f) short read split least =
-    least_fault text n f (least_at text rest line after n k e f short read split least)
-error_of_text text rest line after n k e error.Memory short read split least = tt
+pub error_of_text : (purpose : Purpose) (text : List ℕ) (left : List Line) (line : Line) (after : List Line) (n : ℕ) (k : Known)
+    (e : Entries) (err : LineError) → length text ≤ longest → IsReadTo purpose text left n k e → left ≡ line ∷ after
+    → 0 < length after → IsLeastError (LineHas k line) err → IsReadingError purpose text (error_at (n + 1) err)
+error_of_text purpose text left line after n k e (error.Fault f) short read split more least =
+    least_fault purpose text n f (least_at purpose text left line after n k e f short read split more least)
+error_of_text purpose text left line after n k e error.Memory short read split more least = tt
 
 -- ---- the end
 
@@ -210,37 +234,41 @@ rest_faultless k NoFeed ended h = h
 rest_faultless k Unprintable ended h = h
 rest_faultless k AfterEnd ended h = h
 
-lines_read : (text rest : List ℕ) (n : ℕ) (k : Known) (e : Entries) → IsReadTo text rest n k e → lines_of rest ≡ [] ∷ []
+lines_read : (purpose : Purpose) (text : List ℕ) (n : ℕ) (k : Known) (e : Entries) → IsReadTo purpose text ([] ∷ []) n k e
     → length (lines_of text) ≡ n + 1
-lines_read text rest n k e read split =
-    let left : [] ∷ [] ≡ drop n (lines_of text) = sym split ∙ read.left in
-    omega (arith, ap length left, length-drop n (lines_of text))
+lines_read purpose text n k e read = omega (arith, ap length read.rest, length-drop n (lines_of text))
 
-all_faultless : (text rest : List ℕ) (n : ℕ) (k : Known) (e : Entries) → IsReadTo text rest n k e → lines_of rest ≡ [] ∷ []
-    → k.is_ended ≡ true → (i : ℕ) (f : Fault) → Applies text i f → ⊥
-all_faultless text rest n k e read split ended i f applies =
+all_faultless : (purpose : Purpose) (text : List ℕ) (n : ℕ) (k : Known) (e : Entries) → IsReadTo purpose text ([] ∷ []) n k e
+    → k.is_ended ≡ true → (i : ℕ) (f : Fault) → Applies purpose text i f → ⊥
+all_faultless purpose text n k e read ended i f applies =
     elim (cases_lt i n) [
       | inl less ↦ read.faultless i f less applies
       | inr ge ↦ elim (cases_eq i n) [
         | inl at ↦ rest_faultless k f ended
-            (subst (λ ls. FirstHas k ls f) split (first_has text rest n k e read f (subst (λ j. Applies text j f) at applies)))
+            (first_has purpose text ([] ∷ []) n k e read f (subst (λ j. Applies purpose text j f) at applies))
         | inr apart ↦
-            let total = lines_read text rest n k e read split in
+            let total = lines_read purpose text n k e read in
             let gone : drop i (lines_of text) ≡ [] = drop_of_length-le (lines_of text) {i = i} (omega arith) in
-            subst (λ ls. FirstHas (known_at i applies.0) ls f) gone applies.2
+            subst (λ ls. FirstHas (known_at purpose i applies.0) ls f) gone applies.2
       ]
     ]
 
-pub reads_all : (text rest : List ℕ) (n : ℕ) (k : Known) (e : Entries) → length text ≤ longest → IsReadTo text rest n k e
-    → lines_of rest ≡ [] ∷ [] → k.is_ended ≡ true → IsAllRead text k e
-reads_all text rest n k e short read split ended = record {
+all_read : (purpose : Purpose) (text : List ℕ) (n : ℕ) (k : Known) (e : Entries) → length text ≤ longest
+    → IsReadTo purpose text ([] ∷ []) n k e → k.is_ended ≡ true → IsAllRead purpose text k e
+all_read purpose text n k e short read ended = record {
   statements = read.before;
   reads = record {
-    faultless = record { short = short; none = all_faultless text rest n k e read split ended };
+    faultless = record { short = short; none = all_faultless purpose text n k e read ended };
     says = rw read.count read.says;
-    whole = rw read.count (lines_read text rest n k e read split);
+    whole = rw read.count (lines_read purpose text n k e read);
   };
+  fit = rw read.count read.fit;
   known = rw read.count read.known;
   entries = read.entries;
   tidy = read.tidy;
 }
+
+pub reads_all : (purpose : Purpose) (text : List ℕ) (left : List Line) (n : ℕ) (k : Known) (e : Entries) → length text ≤ longest
+    → IsReadTo purpose text left n k e → left ≡ [] ∷ [] → k.is_ended ≡ true → IsAllRead purpose text k e
+reads_all purpose text left n k e short read empty ended =
+    all_read purpose text n k e short (subst (λ ls. IsReadTo purpose text ls n k e) empty read) ended

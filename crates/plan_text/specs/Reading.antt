@@ -1,15 +1,26 @@
 -- What is read of a text.
-use Rattle.std.specs.Prelude.{◌≡◌, List, ℕ}
+use Rattle.std.specs.Prelude.{◌≡◌, [], List, ℕ, length, take}
+use Rattle.text_lines.specs.Texts.{lines_of}
 use Rattle.plan_lines.specs.Statements.{Statement}
 use Rattle.plan_lines.specs.Faults.{IsLeastFault, Reads}
-use Rattle.plan_lines.specs.Known.{Known}
+use Rattle.plan_lines.specs.Known.{Known, known_at}
+use Rattle.plan_lines.specs.declared.purpose.Purpose.{Purpose}
+use Rattle.plan_lines.specs.declared.purpose.Purpose.TheVariants.{Checking, Planning}
 use Rattle.plan_lines.specs.Entries.{Entries, entries_of}
 use Rattle.plan_text.specs.Value.{MakesWave, known_of, prices_in, starts_in}
+use Rattle.plan_text.specs.Draft.{AreFitLines}
 use Rattle.plan_text.specs.declared.built.PlanText.{PlanText}
+use Rattle.plan_text.specs.declared.built.ProblemText.{ProblemText}
 use Rattle.plan_text.specs.declared.draft.LineError.{LineError}
 use Rattle.plan_text.specs.declared.draft.LineError.TheVariants as error
 use Rattle.plan_text.specs.declared.reader.ReadingError.{ReadingError}
 use Rattle.plan_text.specs.declared.reader.ReadingError.TheVariants as reading
+
+-- the problem and its names are those that the names and entries make
+pub record MakesProblem (k : Known) (e : Entries) (v : ProblemText) : Type 0 where
+  pub wave : MakesWave k e v.problem
+  pub splits : v.splits ≡ k.splits
+  pub workers : v.workers ≡ k.workers
 
 -- all parts are those that the names and entries make
 pub record MakesPlan (k : Known) (e : Entries) (v : PlanText) : Type 0 where
@@ -22,13 +33,21 @@ pub record MakesPlan (k : Known) (e : Entries) (v : PlanText) : Type 0 where
 -- the text has no fault, and its lines declare the value
 pub record IsReadingOf (text : List ℕ) (v : PlanText) : Type 0 where
   pub statements : List Statement
-  pub reads : Reads text statements
-  pub declares : MakesPlan (known_of statements) (entries_of statements) v
+  pub reads : Reads Checking text statements
+  pub declares : MakesPlan (known_of Checking statements) (entries_of statements) v
+
+-- the text to plan from has no fault, each of its lines without one after those before it, and its lines declare the
+-- problem
+pub record IsProblemOf (text : List ℕ) (v : ProblemText) : Type 0 where
+  pub statements : List Statement
+  pub reads : Reads Planning text statements
+  pub fit : AreFitLines (known_at Planning 0 []) (take (length statements) (lines_of text)) statements
+  pub declares : MakesProblem (known_of Planning statements) (entries_of statements) v
 
 -- the fault that is answered is the least of the text
-abbrev pub IsReadingError : List ℕ → ReadingError → Type 0
-IsReadingError text (reading.Text fault) = IsLeastFault text fault.line fault.number
-IsReadingError text reading.Memory = Unit {0}
+abbrev pub IsReadingError : Purpose → List ℕ → ReadingError → Type 0
+IsReadingError purpose text (reading.Text fault) = IsLeastFault purpose text fault.line fault.number
+IsReadingError purpose text reading.Memory = Unit {0}
 
 -- the error of a line as one of its text
 abbrev pub error_at : ℕ → LineError → ReadingError

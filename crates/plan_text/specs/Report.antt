@@ -1,8 +1,11 @@
 -- The lines that are written.
-use Rattle.std.specs.Prelude.{ℕ, List, [], ◌∷◌, ◌++◌, codes, slice_index_or}
+use Rattle.std.specs.Prelude.{ℕ, List, [], ◌∷◌, ◌++◌, Option, Some, None, codes, length, slice_index, slice_index_or}
+use Rattle.wave_problem.specs.Assignment.{start_of}
 use Rattle.std.specs.Fmt.{decimal}
+use Rattle.std.specs.List.{flat_map, range_with_len}
 use Rattle.price_certificate.specs.declared.Condition.{Condition}
 use Rattle.price_certificate.specs.declared.Condition.TheVariants.{Open, Allowed, Room, SplitPrice, WorkerPrice, Priced, Tight, Unstarted, Spare}
+use Rattle.price_certificate.specs.PriceList.{PriceList}
 use Rattle.text_lines.specs.Texts.{Word}
 use Rattle.text_lines.specs.Faults.{number_of_fault}
 use Rattle.text_lines.specs.declared.fault.Fault.{Fault}
@@ -36,3 +39,37 @@ refused_line splits workers (Priced s w) = refused_at_pair 5 (name_of splits s) 
 refused_line splits workers (Tight s w) = refused_at_pair 6 (name_of splits s) (name_of workers w)
 refused_line splits workers (Unstarted s) = refused_at 7 (name_of splits s)
 refused_line splits workers (Spare w) = refused_at 8 (name_of workers w)
+
+-- ---- a plan
+
+abbrev pub wave_line : ℕ → ℕ → List ℕ
+wave_line count cost = codes "wave " ++ decimal count ++ codes " " ++ decimal cost ++ 10 ∷ []
+
+-- the line of a split that starts on a worker, and none of one that does not start
+abbrev pub start_line : List Word → Word → Option ℕ → List ℕ
+start_line workers split (Some w) = codes "start " ++ split ++ codes " " ++ name_of workers w ++ 10 ∷ []
+start_line workers split None = []
+
+abbrev pub price_line : Word → ℕ → List ℕ
+price_line name amount = codes "price " ++ name ++ codes " " ++ decimal amount ++ 10 ∷ []
+
+-- the numbers of these names, from 0 on
+abbrev pub numbers_of : List Word → List ℕ
+numbers_of names = range_with_len 0 (length names)
+
+-- a line for each split that starts, by number
+abbrev pub start_lines : List Word → List Word → List (Option ℕ) → List ℕ
+start_lines splits workers starts =
+    flat_map (λ s. start_line workers (name_of splits s) (start_of starts s)) (numbers_of splits)
+
+-- a line for each name, by number
+abbrev pub price_lines_of : List Word → List ℕ → List ℕ
+price_lines_of names amounts = flat_map (λ n. price_line (name_of names n) (slice_index amounts n)) (numbers_of names)
+
+-- the prices of all splits, then of all workers
+abbrev pub price_lines : List Word → List Word → PriceList → List ℕ
+price_lines splits workers prices = price_lines_of splits prices.splits ++ price_lines_of workers prices.workers
+
+-- the starts and prices of a plan
+abbrev pub lines_of_plan : List Word → List Word → List (Option ℕ) → PriceList → List ℕ
+lines_of_plan splits workers starts prices = start_lines splits workers starts ++ price_lines splits workers prices

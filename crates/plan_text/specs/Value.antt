@@ -11,7 +11,9 @@ use Rattle.wave_problem.specs.declared.lines.WorkerLine.{WorkerLine}
 use Rattle.price_certificate.specs.PriceList.{PriceList}
 use Rattle.text_lines.specs.Texts.{Word}
 use Rattle.plan_lines.specs.Statements.{Statement}
-use Rattle.plan_lines.specs.Known.{Known, known_at, racks, splits, workers}
+use Rattle.plan_lines.specs.Known.{Known, known_at}
+use Rattle.plan_lines.specs.declared.purpose.Purpose.{Purpose}
+use Rattle.plan_lines.specs.declared.purpose.Purpose.TheVariants.{Checking}
 use Rattle.plan_lines.specs.Entries.{Entries, SplitEntry, WorkerEntry, entries_of}
 
 -- the number of a name: its place among the names of its kind
@@ -71,14 +73,15 @@ prices_in k e = record { splits = map (price_of_name k e) k.splits; workers = ma
 -- ---- of statements
 
 -- what is known after all these statements
-abbrev pub known_of : List Statement → Known
-known_of ss = known_at (length ss) ss
+abbrev pub known_of : Purpose → List Statement → Known
+known_of purpose ss = known_at purpose (length ss) ss
 
-abbrev pub DeclaresWave : List Statement → Wave → Type 0
-DeclaresWave ss wave = MakesWave (known_of ss) (entries_of ss) wave
+abbrev pub DeclaresWave : Purpose → List Statement → Wave → Type 0
+DeclaresWave purpose ss wave = MakesWave (known_of purpose ss) (entries_of ss) wave
 
+-- the starts and prices of a plan to check
 abbrev pub starts : List Statement → List (Option ℕ)
-starts ss = starts_in (known_of ss) (entries_of ss)
+starts ss = starts_in (known_of Checking ss) (entries_of ss)
 
 abbrev pub prices : List Statement → PriceList
-prices ss = prices_in (known_of ss) (entries_of ss)
+prices ss = prices_in (known_of Checking ss) (entries_of ss)

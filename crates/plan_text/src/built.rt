@@ -6,7 +6,7 @@ ghost use Rattle.wave_problem.specs.declared.TheConstants.{MAX_SLOTS, MAX_SPLITS
 ghost use Rattle.price_certificate.specs.Certificate.{HasOneSize, claim};
 ghost use Rattle.plan_lines.specs.Tidy.{IsTidy, IsTidySplit, IsTidyWorker};
 ghost use Rattle.plan_lines.specs.Rows.{entries_in, entry_of_split, entry_of_worker};
-ghost use Rattle.plan_text.specs.Reading.{MakesPlan};
+ghost use Rattle.plan_text.specs.Reading.{MakesPlan, MakesProblem};
 ghost use Rattle.plan_text.specs.Value.{IsBarred, MakesWave, number_in, split_line, tree_of, worker_line};
 ghost use Rattle.plan_text.specs.Value.{price_of_name, prices_in, start_of_name, starts_in};
 
@@ -29,8 +29,16 @@ pub struct PlanText<'t> {
     pub workers: NameTable<'t>,
 }
 
-/// What names and rows make. The only error is want of memory.
-pub fn build<'t>(
+/// A problem, and the names of its splits and workers by number.
+#[derive(Drop)]
+pub struct ProblemText<'t> {
+    pub problem: Problem,
+    pub splits: NameTable<'t>,
+    pub workers: NameTable<'t>,
+}
+
+/// What the names and rows of a text to check make. The only error is want of memory.
+pub fn build_plan_text<'t>(
     alloc: Global,
     names: KnownNames<'t>,
     rows: &Rows<'t>,
@@ -47,6 +55,26 @@ pub fn build<'t>(
         problem,
         plan,
         prices,
+        splits,
+        workers,
+    })
+}
+
+/// What the names and rows of a text to plan from make. The only error is want of memory.
+pub fn build_problem_text<'t>(
+    alloc: Global,
+    names: KnownNames<'t>,
+    rows: &Rows<'t>,
+) -> Result<ProblemText<'t>, AllocError>
+    requires { IsTidy names (entries_in rows.now) }
+    ensures value { IfOk result (MakesProblem names.entry (entries_in rows.now)) }
+    ensures splits { IfOk result (λ v. length v.splits ≡ length v.problem.splits) }
+    ensures workers { IfOk result (λ v. length v.workers ≡ length v.problem.workers) }
+{
+    let problem = build_problem(alloc, &names, rows)?;
+    let (splits, workers) = names.into_splits_and_workers();
+    Ok(ProblemText {
+        problem,
         splits,
         workers,
     })

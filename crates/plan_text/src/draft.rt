@@ -1,7 +1,7 @@
 ghost use Rattle.std.specs.Prelude.{◌≡◌, [], IfErr, OnOk};
 ghost use Rattle.plan_text.specs.declared.draft.LineError.TheVariants.{Memory};
 
-use plan_lines::{KnownNames, Line, Rows, said_by};
+use plan_lines::{KnownNames, Line, Purpose, Rows, said_by};
 use std::alloc::{AllocError, Global};
 use text_lines::{Fault, printable, words};
 
@@ -37,12 +37,12 @@ impl<'t> Draft<'t> {
     ghost use Rattle.plan_lines.specs.Lines.{statement_of};
 
     /// Before the first line. Nothing is allocated.
-    pub fn new(alloc: Global) -> Draft<'t>
-        ensures names { result.names ≡ known_at 0 [] }
+    pub fn new(alloc: Global, purpose: Purpose) -> Draft<'t>
+        ensures names { result.names ≡ known_at purpose 0 [] }
         ensures rows { entries_in result.rows ≡ entries_of [] }
     {
         Draft {
-            names: KnownNames::new(alloc),
+            names: KnownNames::new(alloc, purpose),
             rows: Rows::new(alloc),
         }
     }

@@ -6,11 +6,11 @@ ghost use Rattle.plan_lines.specs.Rows.{entries_in};
 ghost use Rattle.plan_text.specs.Draft.{IsAllRead};
 ghost use Rattle.plan_lines.specs.Entries.{entries_of};
 ghost use Rattle.plan_lines.specs.Known.{known_at};
-ghost use Rattle.plan_text.specs.Reading.{IsReadingError, IsReadingOf, error_at};
+ghost use Rattle.plan_text.specs.Reading.{IsProblemOf, IsReadingError, IsReadingOf, error_at};
 
-use crate::built::{PlanText, build};
+use crate::built::{PlanText, ProblemText, build_plan_text, build_problem_text};
 use crate::draft::{Draft, LineError};
-use plan_lines::KnownNames;
+use plan_lines::{KnownNames, Purpose};
 use std::alloc::Global;
 use text_lines::{Fault, TextFault, split_line};
 
@@ -29,7 +29,34 @@ pub enum ReadingError {
 pub fn read_plan(alloc: Global, text: &[u8]) -> Result<PlanText<'_>, ReadingError>
     ensures ok { IfOk result (IsReadingOf text.entry.now) }
     ensures sized { IfOk result (λ v. HasOneSize (claim v.problem v.plan.starts v.prices) v.plan.workers) }
-    ensures err { IfErr result (IsReadingError text.entry.now) }
+    ensures err { IfErr result (IsReadingError Purpose.Checking text.entry.now) }
+{
+    let Draft { names, rows } = read_draft(alloc, Purpose::Checking, text)?;
+    match build_plan_text(alloc, names, &rows) {
+        Ok(value) => Ok(value),
+        Err(_) => Err(ReadingError::Memory),
+    }
+}
+
+/// The problem that the lines of a text to plan from declare, or the text's least fault. The value
+/// borrows its names from the text.
+pub fn read_problem(alloc: Global, text: &[u8]) -> Result<ProblemText<'_>, ReadingError>
+    ensures ok { IfOk result (IsProblemOf text.entry.now) }
+    ensures splits { IfOk result (λ v. length v.splits ≡ length v.problem.splits) }
+    ensures workers { IfOk result (λ v. length v.workers ≡ length v.problem.workers) }
+    ensures err { IfErr result (IsReadingError Purpose.Planning text.entry.now) }
+{
+    let Draft { names, rows } = read_draft(alloc, Purpose::Planning, text)?;
+    match build_problem_text(alloc, names, &rows) {
+        Ok(value) => Ok(value),
+        Err(_) => Err(ReadingError::Memory),
+    }
+}
+
+// What all lines of a text say, read for a purpose.
+fn read_draft(alloc: Global, purpose: Purpose, text: &[u8]) -> Result<Draft<'_>, ReadingError>
+    ensures ok { IfOk result (λ draft. IsAllRead purpose text.entry.now draft.names (entries_in draft.rows)) }
+    ensures err { IfErr result (IsReadingError purpose text.entry.now) }
 {
     if text.len() > LONGEST {
         return Err(ReadingError::Text(TextFault {
@@ -37,22 +64,19 @@ pub fn read_plan(alloc: Global, text: &[u8]) -> Result<PlanText<'_>, ReadingErro
             number: Fault::TooLong,
         }));
     }
-    let mut draft = Draft::new(alloc);
+    let mut draft = Draft::new(alloc, purpose);
     read_lines(alloc, text, &mut draft)?;
-    let Draft { names, rows } = draft;
-    match build(alloc, names, &rows) {
-        Ok(value) => Ok(value),
-        Err(_) => Err(ReadingError::Memory),
-    }
+    Ok(draft)
 }
 
 // Takes all lines of a text, and what follows the last line feed.
 fn read_lines<'t>(alloc: Global, text: &'t [u8], draft: &mut Draft<'t>) -> Result<(), ReadingError>
     requires short { length text.now ≤ longest }
-    requires names { draft.old.names ≡ known_at 0 [] }
+    requires names { draft.old.names ≡ known_at draft.old.names.purpose 0 [] }
     requires rows { entries_in draft.old.rows ≡ entries_of [] }
-    ensures ok { OnOk result (IsAllRead text.entry.now draft.new.names (entries_in draft.new.rows)) }
-    ensures err { IfErr result (IsReadingError text.entry.now) }
+    ensures ok { OnOk result
+        (IsAllRead draft.old.names.purpose text.entry.now draft.new.names (entries_in draft.new.rows)) }
+    ensures err { IfErr result (IsReadingError draft.old.names.purpose text.entry.now) }
 {
     let mut rest = text;
     let mut lines_read: u32 = 0;
@@ -99,3 +123,6 @@ fn fault_of_rest(names: &KnownNames<'_>, rest: &[u8]) -> Option<Fault>
         None
     }
 }
+
+#[cfg(test)]
+mod tests;

@@ -1,0 +1,134 @@
+ghost use Rattle.std.specs.Prelude.{◌≡◌, ◌≤◌, ◌<◌, ◌++◌, IfOk, OnOk, length, string_bytes};
+ghost use Rattle.wave_problem.specs.declared.TheConstants.{MAX_SPLITS};
+ghost use Rattle.rack_tree.specs.declared.TheConstants.{MAX_WORKERS};
+ghost use Rattle.plan_text.specs.Report.{price_line, price_lines, price_lines_of, start_line, start_lines, wave_line};
+
+use crate::built::name_at;
+use node_ids::{SplitNo, WorkerNo};
+use price_certificate::Prices;
+use std::alloc::{AllocError, Global};
+use text_lines::NameTable;
+use wave_problem::Plan;
+
+/// The answer to a problem: how many splits its plan starts, their byte-distance, and the starts by
+/// rising split.
+pub fn planned(
+    alloc: Global,
+    splits: &NameTable<'_>,
+    workers: &NameTable<'_>,
+    plan: &Plan,
+    count: usize,
+    cost: u64,
+) -> Result<String, AllocError>
+    requires { length splits.now ≡ length plan.now.starts }
+    ensures { IfOk result (λ lines. string_bytes lines
+        ≡ wave_line count cost ++ start_lines splits.now workers.now plan.now.starts) }
+{
+    let mut lines = wave(alloc, count, cost)?;
+    add_starts(&mut lines, splits, workers, plan)?;
+    Ok(lines)
+}
+
+/// Appends the prices of all splits, then of all workers, each by number. After an error the lines may
+/// hold a front of them; their owner drops them.
+pub fn add_prices(
+    lines: &mut String,
+    splits: &NameTable<'_>,
+    workers: &NameTable<'_>,
+    prices: &Prices,
+) -> Result<(), AllocError>
+    requires splits { length splits.now ≡ length prices.now.splits }
+    requires workers { length workers.now ≡ length prices.now.workers }
+    requires few_splits { length splits.now ≤ MAX_SPLITS }
+    requires few_workers { length workers.now ≤ MAX_WORKERS }
+    ensures { OnOk result (string_bytes lines.new
+        ≡ string_bytes lines.old ++ price_lines splits.now workers.now prices.now) }
+{
+    add_split_prices(lines, splits, prices)?;
+    add_worker_prices(lines, workers, prices)
+}
+
+fn wave(alloc: Global, count: usize, cost: u64) -> Result<String, AllocError>
+    ensures { IfOk result (λ line. string_bytes line ≡ wave_line count cost) }
+{
+    format!(in alloc; "wave {count} {cost}\n")
+}
+
+fn add_starts(
+    lines: &mut String,
+    splits: &NameTable<'_>,
+    workers: &NameTable<'_>,
+    plan: &Plan,
+) -> Result<(), AllocError>
+    requires { length splits.now ≡ length plan.now.starts }
+    ensures { OnOk result (string_bytes lines.new
+        ≡ string_bytes lines.old ++ start_lines splits.now workers.now plan.now.starts) }
+{
+    for number in 0..plan.splits() {
+        let start = plan.of(SplitNo::new(number as u16));
+        add_start(lines, name_at(splits, number), workers, start)?;
+    }
+    Ok(())
+}
+
+// A line for a split that starts.
+fn add_start(
+    lines: &mut String,
+    split: &str,
+    workers: &NameTable<'_>,
+    start: Option<WorkerNo>,
+) -> Result<(), AllocError>
+    ensures { OnOk result (string_bytes lines.new
+        ≡ string_bytes lines.old ++ start_line workers.now split.now start) }
+{
+    match start {
+        Some(worker) => {
+            let worker = name_at(workers, worker.index());
+            write!(lines, "start {split} {worker}\n")
+        }
+        None => Ok(()),
+    }
+}
+
+fn add_split_prices(
+    lines: &mut String,
+    splits: &NameTable<'_>,
+    prices: &Prices,
+) -> Result<(), AllocError>
+    requires same { length splits.now ≡ length prices.now.splits }
+    requires few { length splits.now ≤ MAX_SPLITS }
+    ensures { OnOk result (string_bytes lines.new
+        ≡ string_bytes lines.old ++ price_lines_of splits.now prices.now.splits) }
+{
+    for number in 0..splits.len() {
+        let price = prices.split(SplitNo::new(number as u16));
+        add_price(lines, name_at(splits, number), price)?;
+    }
+    Ok(())
+}
+
+fn add_worker_prices(
+    lines: &mut String,
+    workers: &NameTable<'_>,
+    prices: &Prices,
+) -> Result<(), AllocError>
+    requires same { length workers.now ≡ length prices.now.workers }
+    requires few { length workers.now ≤ MAX_WORKERS }
+    ensures { OnOk result (string_bytes lines.new
+        ≡ string_bytes lines.old ++ price_lines_of workers.now prices.now.workers) }
+{
+    for number in 0..workers.len() {
+        let price = prices.worker(WorkerNo::new(number as u16));
+        add_price(lines, name_at(workers, number), price)?;
+    }
+    Ok(())
+}
+
+fn add_price(lines: &mut String, name: &str, price: u64) -> Result<(), AllocError>
+    ensures { OnOk result (string_bytes lines.new ≡ string_bytes lines.old ++ price_line name.now price) }
+{
+    write!(lines, "price {name} {price}\n")
+}
+
+#[cfg(test)]
+mod tests;
