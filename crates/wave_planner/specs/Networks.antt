@@ -1,0 +1,32 @@
+-- What the networks of a wave have in common, whatever lies between splits and workers.
+use Rattle.std.specs.Prelude.{ℕ, zero, suc, ◌≡◌, ◌<◌, ◌≤◌, true, cond, List, [], ◌∷◌, ◌++◌, length, slice_index}
+use Rattle.wave_problem.specs.Wave.{Wave, split_at, worker_at}
+use Rattle.flow_network.specs.declared.arcs.FlowArc.{FlowArc}
+use Rattle.flow_network.specs.Flows.{arc_at}
+
+-- the pending splits below a number, and all of them, rising
+abbrev pub pending_below : Wave → ℕ → List ℕ
+pending_below wave zero = []
+pending_below wave (suc n) = cond (split_at wave n).pending (pending_below wave n ++ n ∷ []) (pending_below wave n)
+
+abbrev pub pending_splits : Wave → List ℕ
+pending_splits wave = pending_below wave (length wave.splits)
+
+-- a live worker with a free slot
+abbrev pub IsUsable : Wave → ℕ → Type 0
+IsUsable wave w = ((worker_at wave w).live ≡ true) × (0 < (worker_at wave w).free)
+
+-- an arc stands in a list
+abbrev pub Stands : List FlowArc → FlowArc → Type 0
+Stands arcs a = (k : ℕ) × (k < length arcs) × (arc_at arcs k ≡ a)
+
+-- the arcs rise by the nodes that they leave, and each node past the first few is left by one at most
+abbrev pub AreRising : ℕ → List FlowArc → Type 0
+AreRising few arcs = (j k : ℕ) → j < k → k < length arcs →
+    ((arc_at arcs j).from ≤ (arc_at arcs k).from)
+    × (few ≤ (arc_at arcs j).from → (arc_at arcs j).from < (arc_at arcs k).from)
+
+-- an arc from u to v carries a unit
+abbrev pub Carries : List FlowArc → List ℕ → ℕ → ℕ → Type 0
+Carries arcs flows u v =
+    (k : ℕ) × (k < length arcs) × ((arc_at arcs k).from ≡ u) × ((arc_at arcs k).to ≡ v) × (0 < slice_index flows k)

@@ -1,0 +1,22 @@
+-- A plan with prices, as a caller sees it.
+use Rattle.wave_problem.specs.Wave.{Wave}
+use Rattle.wave_problem.specs.Assignment.{Plan}
+use Rattle.price_certificate.specs.PriceList.{PriceList}
+use Rattle.price_certificate.specs.Certificate.{claim, HasOneSize}
+use Rattle.certificate_checker.specs.declared.Certified.{Certified}
+use Rattle.certificate_checker.specs.Verdict.{IsCertified}
+
+pub record Planned : Type 0 where
+  pub plan : Plan
+  pub prices : PriceList
+  pub certified : Certified
+
+-- the prices certify the plan in the wave, with this count and cost
+pub record IsPlanFor (wave : Wave) (planned : Planned) : Type 0 where
+  pub one_size : HasOneSize (claim wave planned.plan.starts planned.prices) planned.plan.workers
+  pub certified : IsCertified (claim wave planned.plan.starts planned.prices) planned.certified
+
+-- they did so in some wave
+pub record WasCertified (planned : Planned) : Type 0 where
+  pub wave : Wave
+  pub plan_for : IsPlanFor wave planned

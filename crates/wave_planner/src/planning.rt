@@ -1,0 +1,121 @@
+//! Plans a wave.
+ghost use Rattle.std.specs.Prelude.{◌≡◌, map, length, IfOk};
+ghost use Rattle.wave_problem.specs.Assignment.{pairs_of, total, IsBest};
+ghost use Rattle.price_certificate.specs.Certificate.{claim, Certifies, HasOneSize};
+ghost use Rattle.wave_planner.specs.declared.layout.DirectNode.TheVariants.{Split};
+ghost use Rattle.wave_planner.specs.Networks.{pending_splits};
+ghost use Rattle.wave_planner.specs.Planned.{WasCertified};
+
+use crate::{DirectNode, build_direct, plan_of, prices_of};
+use augmenting_paths::saturate;
+use certificate_checker::{Certified, certify};
+use node_ids::SplitNo;
+use price_certificate::Prices;
+use std::alloc::{AllocError, Global};
+use std::marker::Model;
+use thiserror::Error;
+use wave_problem::{Plan, Problem};
+
+/// A plan with prices that certify it in the problem that it was made for, and its count and cost. Whoever has one
+/// knows that it was certified; against another problem `certify` tells anew.
+#[derive(Drop)]
+pub struct Planned {
+    plan: Plan,
+    prices: Prices,
+    certified: Certified,
+}
+
+impl Model for Planned {
+    ghost use Rattle.wave_planner.specs.Planned.{Planned, WasCertified};
+    ghost use Rattle.wave_planner.specs.PlannedView.{planned_of};
+
+    ghost Value = { Planned };
+
+    ghost view = { planned_of };
+
+    ghost invariant = { λ p. WasCertified (planned_of p) };
+}
+
+impl Planned {
+    /// Which splits start, and where.
+    pub fn plan(&self) -> &Plan
+        ensures { result.now ≡ self.now.plan }
+    {
+        &self.plan
+    }
+
+    /// The prices by which the plan is best.
+    pub fn prices(&self) -> &Prices
+        ensures { result.now ≡ self.now.prices }
+    {
+        &self.prices
+    }
+
+    /// How many splits start, and the byte-distance of the starts together.
+    pub fn certified(&self) -> Certified
+        ensures certified { result ≡ self.now.certified }
+        ensures known { WasCertified self.now }
+    {
+        self.certified
+    }
+}
+
+/// Why no plan is made.
+#[derive(Clone, Copy, Debug, PartialEq, Eq, Error)]
+pub enum PlanError {
+    /// There is no memory for the network, the search, the plan or the prices.
+    #[error("no memory")]
+    Memory,
+}
+
+/// A plan that starts as many splits as any admissible assignment, at the least cost among those, with prices that
+/// certify it. It takes one augmentation for each pending split.
+pub fn plan(alloc: Global, problem: &Problem) -> Result<Planned, PlanError>
+    ensures sizes { IfOk result (λ planned.
+        HasOneSize (claim problem.now planned.plan.starts planned.prices) planned.plan.workers) }
+    ensures certifies { IfOk result (λ planned. Certifies (claim problem.now planned.plan.starts planned.prices)) }
+    ensures best { IfOk result (λ planned. IsBest problem.now (pairs_of planned.plan.starts)) }
+    ensures count { IfOk result (λ planned. planned.certified.count ≡ length (pairs_of planned.plan.starts)) }
+    ensures cost { IfOk result (λ planned.
+        planned.certified.cost ≡ total problem.now (pairs_of planned.plan.starts)) }
+{
+    let Ok((plan, prices)) = priced_plan(alloc, problem) else {
+        return Err(PlanError::Memory);
+    };
+    match certify(problem, &plan, &prices) {
+        Ok(certified) => Ok(Planned {
+            plan,
+            prices,
+            certified,
+        }),
+        Err(_) => unreachable!(),
+    }
+}
+
+/// A plan with prices that certify it.
+fn priced_plan(alloc: Global, problem: &Problem) -> Result<(Plan, Prices), AllocError>
+    ensures sizes { IfOk result (λ pair. HasOneSize (claim problem.now pair.0.starts pair.1) pair.0.workers) }
+    ensures certifies { IfOk result (λ pair. Certifies (claim problem.now pair.0.starts pair.1)) }
+{
+    let mut network = build_direct(alloc, problem)?;
+    network.limits();
+    let sources = pending_nodes(alloc, problem)?;
+    let potentials = saturate(alloc, &mut network, &sources, DirectNode::Sink)?;
+    let plan = plan_of(alloc, problem, &network)?;
+    let prices = prices_of(alloc, problem, &plan, &potentials)?;
+    Ok((plan, prices))
+}
+
+/// The nodes of the pending splits, rising.
+fn pending_nodes(alloc: Global, problem: &Problem) -> Result<Vec<DirectNode>, AllocError>
+    ensures { IfOk result (λ nodes. nodes.items ≡ map Split (pending_splits problem.now)) }
+{
+    let mut nodes = Vec::new(alloc);
+    for i in 0..problem.splits() {
+        let split = SplitNo::new(i as u16);
+        if problem.is_pending(split) {
+            nodes.push(DirectNode::Split(split))?;
+        }
+    }
+    Ok(nodes)
+}
