@@ -1,0 +1,94 @@
+-- A text and its last line, and the text with a plan behind its head.
+use Rattle.std.proofs.Common.{ℕ, List, [], ◌∷◌, ◌++◌, ◌≡◌, ◌-◌, ◌∙◌, Option, true, false, codes, length, map, take, drop, refl, sym, ap, arith}
+use Rattle.std.proofs.lemmas.List.{append_assoc, length-append, length-drop, take-append-drop, take_at}
+use Rattle.price_certificate.specs.PriceList.{PriceList}
+use Rattle.text_lines.specs.Texts.{Line, Word, lines_of}
+use Rattle.text_lines.specs.declared.fault.Fault.{Fault}
+use Rattle.text_lines.specs.declared.fault.Fault.TheVariants.{Misplaced, NoFeed}
+use Rattle.plan_lines.specs.Statements.{Statement}
+use Rattle.plan_lines.specs.Known.{Known, known_at}
+use Rattle.plan_lines.specs.Faults.{FirstHas, Reads}
+use Rattle.plan_lines.specs.declared.purpose.Purpose.{Purpose}
+use Rattle.plan_text.specs.Report.{lines_of_plan, price_lines_of}
+use Rattle.written_plan.specs.Joined.{IsPlanFor, end_line, head_of, with_plan}
+use Rattle.written_plan.proofs.Lines.{joined, joined-append}
+use Rattle.written_plan.proofs.Pairs.{price_lines-text, price_pairs, price_text, start_lines-text, start_pairs, start_text}
+use Rattle.written_plan.proofs.PlanPart.{plan_texts}
+
+-- ---- the last line
+
+last_is : (k : Known) (rest : List Line) → length rest ≡ 1 → ((f : Fault) → FirstHas k rest f → ⊥)
+    → (rest ≡ [] ∷ []) × (k.is_ended ≡ true)
+last_is k [] one none = absurd (omega arith)
+last_is k ([] ∷ []) one none = (
+  refl,
+  elim k.is_ended as (λ b. (b ≡ false → ⊥) → b ≡ true) [
+    | true ↦ λ h. refl
+    | false ↦ λ h. absurd (h refl)
+  ] (none Misplaced),
+)
+last_is k ((b ∷ bs) ∷ []) one none = absurd (none NoFeed tt)
+last_is k (l ∷ m ∷ ls) one none = absurd (omega arith)
+
+-- nothing follows the last line feed, and before it the last line is `end`
+pub last_line : (purpose : Purpose) (text : List ℕ) (ss : List Statement) → Reads purpose text ss
+    → (drop (length ss) (lines_of text) ≡ [] ∷ []) × ((known_at purpose (length ss) ss).is_ended ≡ true)
+last_line purpose text ss reads =
+    let one : length (drop (length ss) (lines_of text)) ≡ 1 =
+    omega (arith, length-drop (length ss) (lines_of text), reads.whole) in
+    last_is (known_at purpose (length ss) ss) (drop (length ss) (lines_of text)) one
+    (λ f h. reads.faultless.none (length ss) f (ss, reads.says, h))
+
+pub all_lines : (purpose : Purpose) (text : List ℕ) (ss : List Statement) → Reads purpose text ss
+    → lines_of text ≡ take (length ss) (lines_of text) ++ [] ∷ []
+all_lines purpose text ss reads =
+    sym (take-append-drop (length ss) (lines_of text))
+    ∙ ap (λ rest. take (length ss) (lines_of text) ++ rest) (last_line purpose text ss reads).0
+
+-- ---- the text
+
+head_of-joined : (front : List ℕ) → head_of (front ++ end_line) ≡ front
+head_of-joined front =
+    take_at front end_line (length (front ++ end_line) - length end_line)
+    (omega (arith, length-append front end_line))
+
+regroup : (h a b c : List ℕ) → h ++ codes "plan" ++ (10 ∷ (a ++ (b ++ c))) ++ end_line
+    ≡ h ++ (codes "plan" ++ 10 ∷ (a ++ (b ++ (c ++ end_line))))
+regroup h a b c = simp append_assoc
+
+joined-plan : (a : List (Word × Word)) (b c : List (Word × ℕ)) → joined (plan_texts a b c)
+    ≡ codes "plan" ++ 10 ∷ (joined (map start_text a)
+    ++ (joined (map price_text b) ++ (joined (map price_text c) ++ end_line)))
+joined-plan a b c =
+    ap (λ rest. codes "plan" ++ 10 ∷ rest)
+    (joined-append (map start_text a) (map price_text b ++ (map price_text c ++ codes "end" ∷ []))
+    ∙ ap (λ rest. joined (map start_text a) ++ rest)
+    (joined-append (map price_text b) (map price_text c ++ codes "end" ∷ [])
+    ∙ ap (λ rest. joined (map price_text b) ++ rest) (joined-append (map price_text c) (codes "end" ∷ []))))
+
+-- the plan behind the head is lines put together as well
+pub text-with_plan : (text : List ℕ) (lines : List Line) (splits workers : List Word) (starts : List (Option ℕ))
+    (prices : PriceList)
+    → text ≡ joined (lines ++ codes "end" ∷ []) → IsPlanFor splits workers starts prices
+    → with_plan text (lines_of_plan splits workers starts prices)
+    ≡ joined (lines ++ plan_texts (start_pairs workers splits starts) (price_pairs splits prices.splits)
+    (price_pairs workers prices.workers))
+text-with_plan text lines splits workers starts prices whole plan =
+    let a = start_pairs workers splits starts in
+    let b = price_pairs splits prices.splits in
+    let c = price_pairs workers prices.workers in
+    let head : head_of text ≡ joined lines =
+    ap head_of (whole ∙ joined-append lines (codes "end" ∷ [])) ∙ head_of-joined (joined lines) in
+    ap (λ h. h ++ codes "plan" ++ (10 ∷ lines_of_plan splits workers starts prices) ++ end_line) head
+    ∙ ap (λ x. joined lines ++ codes "plan" ++ (10 ∷
+    (x ++ (price_lines_of splits prices.splits ++ price_lines_of workers prices.workers))) ++ end_line)
+    (start_lines-text splits workers starts plan.split_starts)
+    ∙ ap (λ x. joined lines ++ codes "plan" ++ (10 ∷
+    (joined (map start_text a) ++ (x ++ price_lines_of workers prices.workers))) ++ end_line)
+    (price_lines-text splits prices.splits plan.split_prices)
+    ∙ ap (λ x. joined lines ++ codes "plan" ++ (10 ∷
+    (joined (map start_text a) ++ (joined (map price_text b) ++ x))) ++ end_line)
+    (price_lines-text workers prices.workers plan.worker_prices)
+    ∙ regroup (joined lines) (joined (map start_text a)) (joined (map price_text b)) (joined (map price_text c))
+    ∙ ap (λ rest. joined lines ++ rest) (sym (joined-plan a b c))
+    ∙ sym (joined-append lines (plan_texts a b c))

@@ -1,0 +1,53 @@
+-- A plan that was written, put together with the head that it was made from, and what reads back from it.
+use Rattle.std.specs.Prelude.{ℕ, List, ◌∷◌, ◌++◌, ◌≡◌, ◌-◌, ◌^◌, ◌<◌, ◌≤◌, [], Option, Some, codes, length, take}
+use Rattle.std.specs.List.{All}
+use Rattle.wave_problem.specs.Wave.{Wave}
+use Rattle.wave_problem.specs.Assignment.{start_of}
+use Rattle.price_certificate.specs.PriceList.{PriceList}
+use Rattle.text_lines.specs.Texts.{Word}
+use Rattle.plan_lines.specs.Statements.{Statement}
+use Rattle.plan_lines.specs.Faults.{Reads, longest}
+use Rattle.plan_lines.specs.declared.purpose.Purpose.TheVariants.{Checking}
+use Rattle.plan_text.specs.Reading.{IsProblemOf}
+use Rattle.plan_text.specs.Report.{lines_of_plan}
+use Rattle.plan_text.specs.Value as value
+use Rattle.plan_text.specs.Value.{DeclaresWave}
+use Rattle.plan_text.specs.declared.built.ProblemText.{ProblemText}
+
+-- the last line of all, with its line feed
+abbrev pub end_line : List ℕ
+end_line = codes "end" ++ 10 ∷ []
+
+-- a text without its last line
+abbrev pub head_of : List ℕ → List ℕ
+head_of text = take (length text - length end_line) text
+
+-- the head of the text, a line `plan`, these lines, and `end`
+abbrev pub with_plan : List ℕ → List ℕ → List ℕ
+with_plan text lines = head_of text ++ codes "plan" ++ (10 ∷ lines) ++ end_line
+
+-- starts and prices for as many splits and workers as these; each start is of one of the workers, and each price can
+-- be read
+pub record IsPlanFor (splits workers : List Word) (starts : List (Option ℕ)) (prices : PriceList) : Type 0 where
+  pub split_starts : length starts ≡ length splits
+  pub split_prices : length prices.splits ≡ length splits
+  pub worker_prices : length prices.workers ≡ length workers
+  pub of_workers : (s w : ℕ) → start_of starts s ≡ Some w → w < length workers
+  pub split_amounts : All (λ amount. amount < 2 ^ 64) prices.splits
+  pub worker_amounts : All (λ amount. amount < 2 ^ 64) prices.workers
+
+-- the text to check has no fault, and declares the wave, the starts and the prices
+pub record ReadsBack (text : List ℕ) (wave : Wave) (starts : List (Option ℕ)) (prices : PriceList) : Type 0 where
+  pub statements : List Statement
+  pub reads : Reads Checking text statements
+  pub declared : DeclaresWave Checking statements wave
+  pub same_starts : value.starts statements ≡ starts
+  pub same_prices : value.prices statements ≡ prices
+
+-- a plan that was written for the problem of a text, put together with the head of that text, reads back as itself,
+-- where the whole is no longer than a text may be
+abbrev pub WrittenPlanReadsBack : Type 0
+WrittenPlanReadsBack = (text : List ℕ) (v : ProblemText) (starts : List (Option ℕ)) (prices : PriceList)
+    → IsProblemOf text v → IsPlanFor v.splits v.workers starts prices
+    → length (with_plan text (lines_of_plan v.splits v.workers starts prices)) ≤ longest
+    → ReadsBack (with_plan text (lines_of_plan v.splits v.workers starts prices)) v.problem starts prices
