@@ -1,4 +1,4 @@
--- What clap finds in words that have no fault: one of the commands.
+-- What clap finds in words that have no fault: one of the commands, and for `--prices` the text of a flag.
 use Rattle.std.proofs.Common.{◌≡◌, ◌∙◌, ℕ, cond, inl, inr, subst, Bool, true, false, List, [], ◌∷◌, Option, Some, None, codes, option_map, refl, sym, ap, true≢false}
 use Rattle.std.specs.Box.{box_value}
 use Rattle.std.specs.Prelude.{Box, IfSome, ◌⊎◌, ◌||◌, ◌++◌, find, is_some, length, map, option_and_then, take}
@@ -167,7 +167,7 @@ module _ (program : Command) (words : List Text) (is : app_of program ≡ mrjob)
       → faults_in words ≡ []
   unfaulted none = sym (ap (λ a. fault_of a words) is) ∙ none (ap is_simple_and_free is ∙ is_free_program)
 
-  -- and name one of the commands
+  -- they name one of the commands
   pub found_named : (m : ArgMatches) → HasMatchesOf (app_of program) words m
       → (is_simple_and_free (app_of program) ≡ true → fault_of (app_of program) words ≡ [])
       → IsOneOf (subcommand_name_of m) (map (λ s. s.name) mrjob.subs)
