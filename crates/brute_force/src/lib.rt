@@ -188,7 +188,9 @@ impl Small {
         for code in 0..625 {
             let choice = [code % 5, code / 5 % 5, code / 25 % 5, code / 125];
             if let Some(value) = self.value(choice) {
-                if value.count > best.count || (value.count == best.count && value.cost < best.cost) {
+                if value.count > best.count
+                    || (value.count == best.count && value.cost < best.cost)
+                {
                     best = value;
                 }
             }

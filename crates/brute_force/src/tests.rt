@@ -87,7 +87,11 @@ fn assert_best(rt: &impl Abort, alloc: Global, small: &Small) -> Result<(), Fail
         cost: best.cost,
     };
     assert_eq!(rt; planned.certified(), want, "{small:?}");
-    assert_eq!(rt; certify(&problem, planned.plan(), planned.prices()), Ok(want), "{small:?}");
+    assert_eq!(rt;
+        certify(&problem, planned.plan(), planned.prices()),
+        Ok(want),
+        "{small:?}"
+    );
     Ok(())
 }
 

@@ -16,8 +16,8 @@ use std::marker::Model;
 use thiserror::Error;
 use wave_problem::{Plan, Problem};
 
-/// A plan with prices that certify it in the problem that it was made for, and its count and cost. Whoever has one
-/// knows that it was certified; against another problem `certify` tells anew.
+/// A plan with prices that certify it in the problem that it was made for, and its count and cost. Whoever
+/// has one knows that it was certified; against another problem `certify` tells anew.
 #[derive(Drop)]
 pub struct Planned {
     plan: Plan,
@@ -68,8 +68,8 @@ pub enum PlanError {
     Memory,
 }
 
-/// A plan that starts as many splits as any admissible assignment, at the least cost among those, with prices that
-/// certify it. It takes one augmentation for each pending split.
+/// A plan that starts as many splits as any admissible assignment, at the least cost among those, with
+/// prices that certify it. It takes one augmentation for each pending split.
 pub fn plan(alloc: Global, problem: &Problem) -> Result<Planned, PlanError>
     ensures sizes { IfOk result (λ planned.
         HasOneSize (claim problem.now planned.plan.starts planned.prices) planned.plan.workers) }
