@@ -1,5 +1,5 @@
 -- Lines that are written one by one, by number.
-use Rattle.std.proofs.Common.{ℕ, List, [], ◌∷◌, ◌++◌, ◌≡◌, ◌+◌, ◌∙◌, zero, suc, sym, ap, arith, append-nil, append_assoc, add-one}
+use Rattle.std.proofs.Common.{ℕ, List, ◌++◌, ◌≡◌, ◌+◌, ◌∙◌, zero, suc, sym, ap, arith, append-nil, append_assoc, add-one}
 use Rattle.std.specs.List.{flat_map, range_with_len}
 
 lines_from : {X : Type 0} (f : ℕ → List X) (a n : ℕ)
