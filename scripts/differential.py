@@ -1,10 +1,12 @@
 #!/usr/bin/env python3
-"""Compares what built programs answer to made texts with what reference_check.py answers.
+"""Compares what built programs answer to made texts with what reference_check.py says of them.
 
     differential.py PROGRAM..
 
 The texts are the same in each run: those of `make_texts.py KIND SEED` for the seeds from 1, each front of one
-example, and texts at the limits on counts. The last line counts the groups of texts that agree.
+example, and texts at the limits on counts. A check's answer has to be the reference's. A plan with its prices has to
+start as many splits at as little cost as any choice of starts, and to be certified by the reference; without prices
+its lines are the same up to them. The last line counts the groups of texts that agree.
 """
 import os
 import random
@@ -14,39 +16,62 @@ from concurrent.futures import ThreadPoolExecutor
 
 sys.dont_write_bytecode = True
 import make_texts
-from reference_check import answer
+from reference_check import answer, misplanned
 
-SEEDS = {"best": 120, "changed": 200, "faulty": 320}
+CHECKED = {"best": 120, "changed": 200, "faulty": 320}
+PLANNED = {"problem": 300, "faulty_problem": 200}
 EXAMPLE = os.path.join(os.path.dirname(os.path.abspath(__file__)), "..", "examples", "swap.txt")
 
 
+def made(kind, count):
+    make = make_texts.KINDS[kind]
+    return [(f"make_texts.py {kind} {seed}", make(random.Random(seed))) for seed in range(1, count + 1)]
+
+
 def groups():
-    for kind, count in SEEDS.items():
-        make = make_texts.KINDS[kind]
-        yield kind, [(f"make_texts.py {kind} {seed}", make(random.Random(seed))) for seed in range(1, count + 1)]
+    """The name of each group, what finds a fault in the answers to one text, and the texts."""
+    for kind, count in CHECKED.items():
+        yield kind, wrong_check, made(kind, count)
+    for kind, count in PLANNED.items():
+        yield kind, wrong_plan, made(kind, count)
     with open(EXAMPLE, "rb") as file:
         text = file.read()
-    yield "front", [(f"the first {n} bytes of swap.txt", text[:n]) for n in range(len(text))]
+    yield "front", wrong_check, [(f"the first {n} bytes of swap.txt", text[:n]) for n in range(len(text))]
     limits = [(kind, over) for kind in make_texts.MOST for over in (0, 1)]
-    yield "limit", [(f"{over} past the most {kind}s", make_texts.limit(kind, over)) for kind, over in limits]
+    yield "limit", wrong_check, [
+        (f"{over} past the most {kind}s", make_texts.limit(kind, over)) for kind, over in limits
+    ]
 
 
-def said_by(program, text):
-    ran = subprocess.run([program, "check"], input=text, stdout=subprocess.PIPE, stderr=subprocess.PIPE, timeout=60)
+def said_by(program, words, text):
+    ran = subprocess.run([program, *words], input=text, stdout=subprocess.PIPE, stderr=subprocess.PIPE, timeout=60)
     return ran.stdout, ran.returncode
+
+
+def wrong_check(program, text):
+    said, wanted = said_by(program, ["check"], text), answer(text)
+    return None if said == wanted else f"it says {said}, and the reference {wanted}"
+
+
+def wrong_plan(program, text):
+    said = said_by(program, ["plan", "--prices"], text)
+    wrong = misplanned(text, *said)
+    if wrong:
+        return f"it says {said}, but {wrong}"
+    without = b"".join(line for line in said[0].splitlines(True) if not line.startswith(b"price "))
+    return None if said_by(program, ["plan"], text) == (without, said[1]) else "without prices it says otherwise"
 
 
 def main():
     passed = failed = 0
-    for kind, texts in groups():
-        wanted = [answer(text) for _, text in texts]
+    for kind, wrong, texts in groups():
         for program in sys.argv[1:]:
             with ThreadPoolExecutor(os.cpu_count()) as pool:
-                given = list(pool.map(lambda it: said_by(program, it[1]), texts))
-            differ = [at for at, (a, b) in enumerate(zip(given, wanted)) if a != b]
+                found = list(pool.map(lambda it: wrong(program, it[1]), texts))
+            differ = [at for at, it in enumerate(found) if it]
             print(f"{program}: {len(texts) - len(differ)} of {len(texts)} {kind} texts agree", flush=True)
             for at in differ[:3]:
-                print(f"  {texts[at][0]}: it says {given[at]}, and the reference {wanted[at]}")
+                print(f"  {texts[at][0]}: {found[at]}")
             passed, failed = passed + (not differ), failed + bool(differ)
     print(f"{passed} passed, {failed} failed")
     return 1 if failed or not passed else 0

@@ -1,7 +1,7 @@
 #!/usr/bin/env python3
 """Makes texts of problems with plans and prices for tests, the same ones for the same seed.
 
-    make_texts.py KIND SEED        writes one text; KIND is best, changed, faulty or large
+    make_texts.py KIND SEED        writes one text; KIND is best, changed, faulty, problem, faulty_problem or large
 """
 import random
 import sys
@@ -180,7 +180,26 @@ def faulty(rnd):
     """A text in which a line or a byte was spoiled; most have a fault, some more than one."""
     scenario = Scenario(rnd)
     scenario.plan()
-    lines = scenario.lines(rnd)
+    return spoiled(rnd, scenario.lines(rnd))
+
+
+def head(rnd):
+    """The lines of a problem to plan from."""
+    lines = Scenario(rnd).lines(rnd)
+    return [*lines[: lines.index("plan")], "end"]
+
+
+def problem(rnd):
+    """A problem to plan from."""
+    return text_of(head(rnd))
+
+
+def faulty_problem(rnd):
+    """A problem in which a line or a byte was spoiled."""
+    return spoiled(rnd, head(rnd))
+
+
+def spoiled(rnd, lines):
     for _ in range(rnd.choice([0, 1, 1, 1, 2, 3])):
         if lines:
             spoil_line(rnd, lines)
@@ -218,7 +237,14 @@ def large(rnd):
     return text_of(lines)
 
 
-KINDS = {"best": best, "changed": changed, "faulty": faulty, "large": large}
+KINDS = {
+    "best": best,
+    "changed": changed,
+    "faulty": faulty,
+    "problem": problem,
+    "faulty_problem": faulty_problem,
+    "large": large,
+}
 
 
 def main():

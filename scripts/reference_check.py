@@ -1,9 +1,9 @@
 #!/usr/bin/env python3
-"""Answers a text as `mrjob check` must: an independent reference for tests.
+"""Answers a text as `mrjob check` must, and judges what `mrjob plan` answered: an independent reference for tests.
 
 It is written from the definitions of docs/MODEL.md, the plain way, and shares nothing with the program.
 
-    reference_check.py < TEXT      writes the answer; the status is the program's: 0, 1 or 2
+    reference_check.py < TEXT      writes the answer of a check; the status is the program's: 0, 1 or 2
 """
 import re
 import sys
@@ -36,9 +36,11 @@ class Fault(Exception):
 
 
 class Given:
-    """What the lines so far declare. Racks, workers and splits are numbered in order of declaration."""
+    """What the lines so far declare. Racks, workers and splits are numbered in order of declaration. A text to check
+    has a plan after its head; a text to plan from is a head alone."""
 
-    def __init__(self):
+    def __init__(self, has_plan):
+        self.has_plan = has_plan
         self.lines = 0
         self.section = "head"
         self.numbers = {"rack": {}, "worker": {}, "split": {}}
@@ -82,7 +84,10 @@ def value(word):
 def may_stand(given, keyword):
     if given.lines == 0 or keyword == b"problem":
         return given.lines == 0 and keyword == b"problem"
-    return (given.section == "plan") == (keyword in (b"start", b"price", b"end"))
+    if keyword == b"plan" and not given.has_plan:
+        return False
+    after_head = (b"start", b"price", b"end") if given.has_plan else (b"start", b"price")
+    return (given.section == "plan") == (keyword in after_head)
 
 
 def faults(given, keyword, words):
@@ -124,7 +129,7 @@ def faults(given, keyword, words):
             found.add(8)
     if keyword == b"start" and names[0] in given.starts or keyword == b"price" and names[0] in given.prices:
         found.add(9)
-    if keyword == b"end":
+    if keyword == b"end" and given.has_plan:
         wanted = [*given.numbers["split"], *given.numbers["worker"]]
         if any(name not in given.prices for name in wanted):
             found.add(10)
@@ -155,12 +160,12 @@ def enter(given, keyword, words):
         given.section = "ended"
 
 
-def read(text):
+def read(text, has_plan=True):
     """What a text declares; raises its least fault, by line and then by number."""
     if len(text) > LONGEST_TEXT:
         raise Fault(0, 11)
     *lines, rest = text.split(b"\n")
-    given = Given()
+    given = Given(has_plan)
     for at, line in enumerate(lines, 1):
         if any(not 32 <= byte <= 126 for byte in line):
             raise Fault(at, 13)
@@ -262,6 +267,51 @@ def answer(text):
         return f"refused C{number} {b' '.join(names).decode()}\n".encode(), 1
     started = [(s, w) for s, w in enumerate(wave.starts) if w is not None]
     return f"certified {len(started)} {sum(wave.cost(*pair) for pair in started)}\n".encode(), 0
+
+
+def most_and_least(wave):
+    """The most splits that can start together, and the least cost of as many: by going over the workers' slots in
+    all ways that matter, split by split, with the free slots that are left as the state."""
+    found = {tuple(wave.free): (0, 0)}
+    for split in range(len(wave.splits)):
+        following = {}
+        for free, (count, cost) in found.items():
+            choices = [(free, (count, cost))]
+            for worker in range(len(wave.workers)):
+                if free[worker] and wave.is_admissible(split, worker):
+                    left = free[:worker] + (free[worker] - 1,) + free[worker + 1 :]
+                    choices.append((left, (count + 1, cost + wave.cost(split, worker))))
+            for left, (starts, spent) in choices:
+                known = following.get(left)
+                if known is None or (-starts, spent) < (-known[0], known[1]):
+                    following[left] = (starts, spent)
+        found = following
+    return min(found.values(), key=lambda it: (-it[0], it[1]))
+
+
+def misplanned(text, written, status):
+    """What is wrong with what `mrjob plan --prices` answered to a text, or None."""
+    try:
+        given = read(text, has_plan=False)
+    except Fault as fault:
+        return None if (written, status) == (f"{fault}\n".encode(), 2) else f"the text has {fault}"
+    given.prices = dict.fromkeys([*given.numbers["split"], *given.numbers["worker"]], 0)
+    wave = Wave(given)
+    count, cost = most_and_least(wave)
+    first, _, lines = written.partition(b"\n")
+    if (first, status) != (f"wave {count} {cost}".encode(), 0):
+        return f"{count} splits start at {cost}"
+    said = [line.split(b" ") for line in lines.splitlines()]
+    started = [words[1] for words in said if words[0] == b"start"]
+    if started != [name for name in wave.splits if name in started]:
+        return "the starts are not by split"
+    priced = [words[1] for words in said[len(started) :]]
+    if priced != wave.splits + wave.workers:
+        return "the prices are not those of all splits, then of all workers"
+    whole = text[: -len(b"end\n")] + b"plan\n" + lines + b"end\n"
+    if answer(whole) != (f"certified {count} {cost}\n".encode(), 0):
+        return f"a check of plan and prices answers {answer(whole)}"
+    return None
 
 
 def main():

@@ -1,7 +1,7 @@
 #!/usr/bin/env bash
-# Refuses the built programs one call in turn, on the example swap.txt, until a run meets none: each allocation,
-# each read and each write of the output. It also interrupts each transfer, and has them all move one byte. Last, it
-# refuses each allocation of the built test by which a refused arc leaves a network as it was.
+# Refuses the built programs one call in turn, on examples, until a run meets none: each allocation, each read and
+# each write of the output. It also interrupts each transfer, and has them all move one byte. Last, it refuses each
+# allocation of built tests that hold whichever is refused.
 # usage: refused_calls.sh PROGRAM..
 set -euo pipefail
 cd "$(dirname "$0")/.."
@@ -10,22 +10,25 @@ trap 'rm -rf "$room"' EXIT
 kit=$(dirname "$(rt doc)")
 # (by the compiler that the kit brings)
 "$kit/toolchain/bin/clang" -O2 -fPIC -shared -nostdlib -fuse-ld=lld -o "$room/refuse.so" scripts/refuse_call.c
-text=examples/swap.txt
 passed=0 failed=0
+
+# The example that is run, and the words of its command.
+example=examples/swap
+words=(check)
 
 # Runs the program with one call refused; the words that it says and its status are in $said.
 run() { # PROGRAM KIND NTH
     : > "$room/met"
     local status=0
-    env -i LD_PRELOAD="$room/refuse.so" REFUSE="$2" NTH="$3" "$1" check \
-        < "$text" > "$room/out" 2> "$room/err" 9> "$room/met" || status=$?
+    env -i LD_PRELOAD="$room/refuse.so" REFUSE="$2" NTH="$3" "$1" "${words[@]}" \
+        < "$example.txt" > "$room/out" 2> "$room/err" 9> "$room/met" || status=$?
     said="$(cat "$room/err") ($status)"
 }
 
 # Whether the last run gave the whole answer: std asks for an amortized growth first, and where that is refused for
 # just as much as is needed, so a run may go on after a refusal.
 is_whole() {
-    [ "$said" = " (0)" ] && cmp -s "$room/out" examples/swap.out
+    [ "$said" = " (0)" ] && cmp -s "$room/out" "$example.out"
 }
 
 sweep() { # PROGRAM KIND WORDS-AND-STATUS OUTPUT
@@ -38,40 +41,53 @@ sweep() { # PROGRAM KIND WORDS-AND-STATUS OUTPUT
             told=$((told + 1))
         elif [ "$2" != alloc ] || ! is_whole; then
             wrong=$((wrong + 1))
-            echo "$1: $2 $nth: it says: $said"
+            echo "$1 ${words[*]}: $2 $nth: it says: $said"
         fi
     done
     # the run that met no refusal, and at least one that did
     if ! is_whole || [ "$told" = 0 ] || [ "$nth" -gt 10000 ]; then
         wrong=$((wrong + 1))
-        echo "$1: $2: after $calls calls that were refused, it says: $said"
+        echo "$1 ${words[*]}: $2: after $calls calls that were refused, it says: $said"
     fi
-    echo "$1: $2: $calls calls, one refused in each run: $told told, $((calls - told - wrong)) done without, $wrong wrong"
+    echo "$1 ${words[*]}: $2: $calls calls, one refused in each run: $told told, $((calls - told - wrong)) done without, $wrong wrong"
     if [ "$wrong" = 0 ]; then passed=$((passed + 1)); else failed=$((failed + 1)); fi
 }
 
 : > "$room/nothing"
 for program in "$@"; do
+    example=examples/swap
+    words=(check)
     sweep "$program" alloc "mrjob: no memory (3)" "$room/nothing"
     sweep "$program" read "mrjob: read fault (4)" "$room/nothing"
     sweep "$program" write "mrjob: write fault (4)" "$room/nothing"
-    sweep "$program" interrupt " (0)" examples/swap.out
-    sweep "$program" short " (0)" examples/swap.out
+    sweep "$program" interrupt " (0)" "$example.out"
+    sweep "$program" short " (0)" "$example.out"
+    for example in examples/plan_swap examples/plan_count_first examples/plan_prices; do
+        mapfile -t words < "$example.args"
+        sweep "$program" alloc "mrjob: no memory (3)" "$room/nothing"
+    done
+    sweep "$program" read "mrjob: read fault (4)" "$room/nothing"
+    sweep "$program" write "mrjob: write fault (4)" "$room/nothing"
 done
 
-# A built test that holds whichever allocation is refused.
-tests=crates/flow_network/out/flow_network_tests
-name=tests::refused_arcs_leave_no_trace
-calls=0 wrong=0
-for ((nth = 1; nth <= 10000; nth++)); do
-    : > "$room/met"
-    env -i LD_PRELOAD="$room/refuse.so" REFUSE=alloc NTH="$nth" "$tests" "$name" \
-        > "$room/out" 2>&1 9> "$room/met" || { wrong=$((wrong + 1)); cat "$room/out"; }
-    [ -s "$room/met" ] || break
-    calls=$nth
-done
-echo "$tests: $name: $calls allocations, one refused in each run, $wrong wrong"
-if [ "$wrong" = 0 ] && [ "$calls" != 0 ] && [ "$nth" -le 10000 ]; then passed=$((passed + 1)); else failed=$((failed + 1)); fi
+# Refuses each allocation of a built test that holds whichever of them is refused.
+sweep_test() { # TESTS NAME
+    local tests=$1 name=$2 calls=0 wrong=0 nth
+    for ((nth = 1; nth <= 10000; nth++)); do
+        : > "$room/met"
+        env -i LD_PRELOAD="$room/refuse.so" REFUSE=alloc NTH="$nth" "$tests" "$name" \
+            > "$room/out" 2>&1 9> "$room/met" || { wrong=$((wrong + 1)); cat "$room/out"; }
+        [ -s "$room/met" ] || break
+        calls=$nth
+    done
+    echo "$tests: $name: $calls allocations, one refused in each run, $wrong wrong"
+    if [ "$wrong" = 0 ] && [ "$calls" != 0 ] && [ "$nth" -le 10000 ]; then passed=$((passed + 1)); else failed=$((failed + 1)); fi
+}
+
+sweep_test crates/flow_network/out/flow_network_tests tests::refused_arcs_leave_no_trace
+sweep_test crates/shuffle_reduce/out/shuffle_reduce_tests tests::a_refused_allocation_is_told
+sweep_test crates/beat_board/out/beat_board_tests tests::a_refused_board_leaves_no_trace
+sweep_test crates/lane_queue/out/lane_queue_tests tests::a_refused_close_gives_all_back
 
 echo "$passed passed, $failed failed"
 [ "$failed" = 0 ] && [ "$passed" != 0 ]

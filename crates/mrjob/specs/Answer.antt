@@ -1,8 +1,6 @@
 -- What a check answers to a text, and the line that it writes.
-use Rattle.std.specs.Prelude.{ℕ, List, ◌≡◌, Option, Ok, Err, length}
+use Rattle.std.specs.Prelude.{ℕ, List, ◌≡◌, Ok, Err, length}
 use Rattle.std.specs.declared.result.Result.{Result}
-use Rattle.std.specs.Io.KnownBytes.{Appends}
-use Rattle.text_lines.specs.Streams.{AppendsFront}
 use Rattle.text_lines.specs.Texts.{Word}
 use Rattle.text_lines.specs.declared.fault.Fault.{Fault}
 use Rattle.wave_problem.specs.Wave.{Wave}
@@ -12,6 +10,8 @@ use Rattle.price_certificate.specs.declared.Condition.{Condition}
 use Rattle.plan_lines.specs.Statements.{Statement}
 use Rattle.plan_lines.specs.Known.{splits, workers}
 use Rattle.plan_lines.specs.Faults.{IsLeastFault, Reads}
+use Rattle.plan_lines.specs.declared.purpose.Purpose.{Purpose}
+use Rattle.plan_lines.specs.declared.purpose.Purpose.TheVariants.{Checking}
 use Rattle.plan_text.specs.Value.{DeclaresWave, prices, starts}
 use Rattle.plan_text.specs.Report.{certified_line, fault_line, refused_line}
 use Rattle.plan_text.specs.declared.tool_error.ToolError.{ToolError}
@@ -43,30 +43,22 @@ claim_of wave ss = claim wave (starts ss) (prices ss)
 pub record AnswersRead (text : List ℕ) (end : CheckEnd) (line : List ℕ) : Type 0 where
   pub statements : List Statement
   pub wave : Wave
-  pub reads : Reads text statements
-  pub declared : DeclaresWave statements wave
+  pub reads : Reads Checking text statements
+  pub declared : DeclaresWave Checking statements wave
   pub judges : Judges end (claim_of wave statements) (splits statements) (workers statements) line
 
 -- the line names the least fault of the text
-pub record IsFaulty (text : List ℕ) (place : ℕ) (fault : Fault) (line : List ℕ) : Type 0 where
-  pub least : IsLeastFault text place fault
+pub record IsFaulty (purpose : Purpose) (text : List ℕ) (place : ℕ) (fault : Fault) (line : List ℕ) : Type 0 where
+  pub least : IsLeastFault purpose text place fault
   pub said : line ≡ fault_line place fault
 
 -- the line with which a check ends so
 abbrev pub Answers : List ℕ → Result CheckEnd ToolError → List ℕ → Type 0
 Answers text (Ok end) line = AnswersRead text end line
-Answers text (Err (Text fault)) line = IsFaulty text fault.line fault.number line
+Answers text (Err (Text fault)) line = IsFaulty Checking text fault.line fault.number line
 Answers text (Err _) line = ⊥
 
--- a writer took the line that answers the text
-pub record Wrote (old new : Option (List ℕ)) (text : List ℕ) (end : Result CheckEnd ToolError) : Type 0 where
-  pub line : List ℕ
-  pub answers : Answers text end line
-  pub appended : Appends old new line
-
--- a writer took a front of a line that answers the text
-pub record WroteFront (old new : Option (List ℕ)) (text : List ℕ) : Type 0 where
+-- the line is one with which a check of the text ends
+pub record IsSomeAnswer (text line : List ℕ) : Type 0 where
   pub end : Result CheckEnd ToolError
-  pub line : List ℕ
   pub answers : Answers text end line
-  pub appended : AppendsFront old new line

@@ -3,7 +3,8 @@ ghost use Rattle.std.specs.Io.KnownBytes.{Keeps};
 ghost use Rattle.text_lines.specs.declared.fault.TextFault.{TextFault};
 ghost use Rattle.text_lines.specs.declared.streams.TheConstants.{MOST_BYTES};
 ghost use Rattle.price_certificate.specs.Certificate.{HasOneSize, claim};
-ghost use Rattle.mrjob.specs.Answer.{Answers, Judges, Wrote, WroteFront};
+ghost use Rattle.mrjob.specs.Answer.{Answers, IsSomeAnswer, Judges};
+ghost use Rattle.mrjob.specs.Writing.{Wrote, WroteFront};
 
 use certificate_checker::certify;
 use plan_text::report::{certified, faulty, refused};
@@ -27,14 +28,14 @@ pub fn check<R: Read, W: Write>(
     writer: &mut W,
 ) -> Result<CheckEnd, ToolError>
     ensures ok { OnOk result (IfSome (R.remaining reader.old) (λ input.
-        Wrote (W.contents writer.old) (W.contents writer.new) (take MOST_BYTES input) result)) }
+        Wrote (W.contents writer.old) (W.contents writer.new) (Answers (take MOST_BYTES input) result))) }
     ensures text { (fault : TextFault) → result ≡ Err (ToolError.Text fault)
         → IfSome (R.remaining reader.old) (λ input.
-        Wrote (W.contents writer.old) (W.contents writer.new) (take MOST_BYTES input) result) }
+        Wrote (W.contents writer.old) (W.contents writer.new) (Answers (take MOST_BYTES input) result)) }
     ensures memory { result ≡ Err ToolError.Memory → Keeps (W.contents writer.old) (W.contents writer.new) }
     ensures read { result ≡ Err ToolError.Read → Keeps (W.contents writer.old) (W.contents writer.new) }
     ensures write { result ≡ Err ToolError.Write → IfSome (R.remaining reader.old) (λ input.
-        WroteFront (W.contents writer.old) (W.contents writer.new) (take MOST_BYTES input)) }
+        WroteFront (W.contents writer.old) (W.contents writer.new) (IsSomeAnswer (take MOST_BYTES input))) }
 {
     let text = match read_text(alloc, reader) {
         Ok(text) => text,

@@ -1,15 +1,19 @@
 //! `mrjob`: plans the map starts of a MapReduce job, and proves each plan best.
 //!
-//! `check` goes from the bytes of a reader to those of a writer, and its contract says what is written
-//! for what was read. `main` hands it the standard streams and turns what it answers into a status and
-//! words on standard error.
+//! `check` and `plan` go from the bytes of a reader to those of a writer, and their contracts say what is
+//! written for what was read. `main` hands them the standard streams and turns what they answer into a
+//! status and words on standard error.
 #![tactic(auto)]
 
 mod check;
+mod plan;
+#[cfg(test)]
+mod testing;
 
 use crate::check::{CheckEnd, check};
+use crate::plan::{PlanEnd, plan};
 use command_line::ask;
-use command_line::asked::{Ask, AskError};
+use command_line::asked::{Ask, AskError, PlanOptions};
 use plan_text::ToolError;
 use std::process::ExitCode;
 use std::{env, io};
@@ -53,7 +57,8 @@ fn answer(rt: &HostRuntime, given: &Vec<String>) -> u8 {
         }
     }
     match ask(rt.alloc(), words.as_slice()) {
-        Ok(Ask::Check) => status_of(rt, check(rt.alloc(), &mut rt.stdin(), &mut rt.stdout())),
+        Ok(Ask::Check) => run_check(rt),
+        Ok(Ask::Plan(options)) => run_plan(rt, options),
         Err(AskError::Memory) => fail(rt, NO_MEMORY, "mrjob: no memory"),
         Err(AskError::Fault(error)) => {
             let _ = error.print(rt);
@@ -62,14 +67,27 @@ fn answer(rt: &HostRuntime, given: &Vec<String>) -> u8 {
     }
 }
 
-fn status_of(rt: &HostRuntime, end: Result<CheckEnd, ToolError>) -> u8 {
-    match end {
+fn run_check(rt: &HostRuntime) -> u8 {
+    match check(rt.alloc(), &mut rt.stdin(), &mut rt.stdout()) {
         Ok(CheckEnd::Certified) => 0,
         Ok(CheckEnd::Refused) => 1,
-        Err(ToolError::Text(_)) => 2,
-        Err(ToolError::Memory) => fail(rt, NO_MEMORY, "mrjob: no memory"),
-        Err(ToolError::Read) => fail(rt, READ_OR_WRITE, "mrjob: read fault"),
-        Err(ToolError::Write) => fail(rt, READ_OR_WRITE, "mrjob: write fault"),
+        Err(error) => status_of(rt, error),
+    }
+}
+
+fn run_plan(rt: &HostRuntime, options: PlanOptions) -> u8 {
+    match plan(rt.alloc(), &mut rt.stdin(), &mut rt.stdout(), options) {
+        Ok(PlanEnd::Planned) => 0,
+        Err(error) => status_of(rt, error),
+    }
+}
+
+fn status_of(rt: &HostRuntime, error: ToolError) -> u8 {
+    match error {
+        ToolError::Text(_) => 2,
+        ToolError::Memory => fail(rt, NO_MEMORY, "mrjob: no memory"),
+        ToolError::Read => fail(rt, READ_OR_WRITE, "mrjob: read fault"),
+        ToolError::Write => fail(rt, READ_OR_WRITE, "mrjob: write fault"),
     }
 }
 

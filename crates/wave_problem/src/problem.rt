@@ -2,7 +2,7 @@ ghost use Rattle.std.specs.Prelude.{◌≡◌, ℕ, List, [], ◌∷◌, ◌++�
 ghost use Rattle.node_ids.specs.Sets.{HasPair};
 ghost use Rattle.rack_tree.specs.Tree.{distance};
 ghost use Rattle.rack_tree.specs.declared.TheConstants.{MAX_WORKERS};
-ghost use Rattle.wave_problem.specs.declared.TheConstants.{MAX_SPLITS, MAX_SLOTS, MAX_BYTES};
+ghost use Rattle.wave_problem.specs.declared.TheConstants.{MAX_SPLITS, MAX_HOLDERS, MAX_SLOTS, MAX_BYTES};
 ghost use Rattle.wave_problem.specs.Sums.{least};
 ghost use Rattle.wave_problem.specs.Wave.{cost, live_among, live_holders, reward, split_at, wave_from, worker_at, worker_in, AreHeldWell, AreSmall, IsAdmissible};
 
@@ -189,6 +189,7 @@ impl Problem {
         requires { split < length self.now.splits }
         ensures holders { result.now ≡ (split_at self.now split).holders }
         ensures known { All (λ h. h < length self.now.workers) result.now }
+        ensures limit { length result.now ≤ MAX_HOLDERS }
     {
         let line = &self.splits[split.index()];
         line.holders.as_slice()

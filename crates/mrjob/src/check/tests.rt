@@ -1,72 +1,13 @@
 use super::*;
-use std::io;
-use std::io::ErrorKind;
+use crate::testing::{Sink, Source, text_of};
 use std::process::Abort;
 use std::test::Fail;
-
-// Gives one byte a call; the call of the number `fails_at` fails.
-#[derive(Drop)]
-struct Source<'t> {
-    rest: &'t [u8],
-    calls: usize,
-    fails_at: usize,
-}
-
-impl<'t> Read for Source<'t> {
-    fn read(&mut self, buf: &mut [u8]) -> io::Result<usize> {
-        self.calls = self.calls.saturating_add(1);
-        if self.calls == self.fails_at {
-            return Err(io::Error::from(ErrorKind::ConnectionReset));
-        }
-        let count = buf.len().min(self.rest.len()).min(1);
-        buf[..count].copy_from_slice(&self.rest[..count]);
-        self.rest = &self.rest[count..];
-        Ok(count)
-    }
-}
-
-// Takes one byte a call, and `room` bytes in all.
-#[derive(Drop)]
-struct Sink {
-    taken: Vec<u8>,
-    room: usize,
-}
-
-impl Write for Sink {
-    fn write(&mut self, buf: &[u8]) -> io::Result<usize> {
-        if self.taken.len() >= self.room {
-            return Err(io::Error::from(ErrorKind::BrokenPipe));
-        }
-        let Some(byte) = buf.first() else {
-            return Ok(0);
-        };
-        match self.taken.push(*byte) {
-            Ok(()) => Ok(1),
-            Err(_) => Err(io::Error::from(ErrorKind::OutOfMemory)),
-        }
-    }
-
-    fn flush(&mut self) -> io::Result<()> {
-        Ok(())
-    }
-}
 
 const HEAD: &str = "problem 1/rack r/worker a r 1/worker b r 1/split s 10 a/split t 20 a/";
 
 const STARTS: &str = "plan/start s b/start t a/";
 
 const PRICES: &str = "price s 101/price t 91/price a 30/price b 0/end/";
-
-// A text of these parts, in which a slash stands for a line feed.
-fn text_of(alloc: Global, parts: [&str; 3]) -> Result<Vec<u8>, Fail> {
-    let mut text = Vec::new(alloc);
-    for part in parts {
-        for byte in part.as_bytes() {
-            text.push(if *byte == b'/' { b'\n' } else { *byte })?;
-        }
-    }
-    Ok(text)
-}
 
 // What a check of the text writes, and how it ends.
 fn checked(

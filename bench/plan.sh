@@ -1,0 +1,39 @@
+#!/usr/bin/env bash
+# Times `mrjob plan` beside LEMON's NetworkSimplex over the direct network, as whole processes that read the same
+# problem text, and prints a table: the least of five runs each, and how many times LEMON's time the program takes.
+# Both must answer the same count and cost. It needs a C++ compiler, and installs liblemon-dev where it is missing.
+set -euo pipefail
+cd "$(dirname "$0")/.."
+if [ ! -e /usr/include/lemon/network_simplex.h ]; then
+    apt-get install -y -qq liblemon-dev > /dev/null
+fi
+room=$(mktemp -d)
+trap 'rm -rf "$room"' EXIT
+g++ -std=c++17 -O2 -o "$room/plan_by_lemon" bench/plan_by_lemon.cc -llemon
+
+# The least time of five runs on a text, in microseconds; the output stays in the room.
+least() { # TEXT COMMAND..
+    local text=$1 start spent least=
+    shift
+    for _ in 1 2 3 4 5; do
+        start=${EPOCHREALTIME/./}
+        "$@" < "$text" > "$room/out"
+        spent=$((${EPOCHREALTIME/./} - start))
+        if [ -z "$least" ] || [ "$spent" -lt "$least" ]; then least=$spent; fi
+    done
+    echo "$least"
+}
+
+printf '%-14s %12s %12s %8s   %s\n' problem mrjob lemon /lemon answer
+for shape in $(bench/make_problems.py); do
+    bench/make_problems.py "$shape" > "$room/text"
+    lemon=$(least "$room/text" "$room/plan_by_lemon")
+    answer=$(head -n 1 "$room/out")
+    ours=$(least "$room/text" bin/mrjob plan)
+    if [ "$(head -n 1 "$room/out")" != "$answer" ]; then
+        echo "$shape: the answers differ: $(head -n 1 "$room/out"), and by LEMON $answer"
+        exit 1
+    fi
+    printf '%-14s %9d us %9d us %8s   %s\n' "$shape" "$ours" "$lemon" \
+        "$(awk -v a="$ours" -v b="$lemon" 'BEGIN { printf "%.2f", a / b }')" "$answer"
+done
