@@ -1,0 +1,8 @@
+use Rattle.std.proofs.Common.{take}
+use Rattle.std.specs.Prelude.{All}
+use Rattle.shuffle_reduce.specs.Merged.{AreSameTexts, PartView}
+use Rattle.shuffle_reduce.specs.Gather.{values_of}
+use Rattle.bench_words.proofs.job.all_cover.Given as goal
+
+abbrev pub invariant-loop-one : goal.invariant-loop-one
+invariant-loop-one l = All (λ (one : PartView). AreSameTexts one.texts (values_of l.texts)) (take l.one-index l.results)

@@ -1,0 +1,4 @@
+pub mod Merged
+pub mod Gather
+pub mod Order
+pub mod Indexed

@@ -1,0 +1,30 @@
+-- What a part's result holds, and which texts are covered.
+use Rattle.std.specs.Prelude.{◌≡◌, ◌↔◌, ℕ, ◌<◌, List, Any, Contains}
+use Rattle.word_map.specs.Words.{part_of}
+use Rattle.word_map.specs.Texts.{SplitDocuments, Pair, IsPairOf}
+use Rattle.word_map.specs.Runs.{AreRising}
+
+-- the word is a word of a document of one of the texts
+abbrev pub IsPairOfTexts : List SplitDocuments → Pair → Type 0
+IsPairOfTexts texts pair = Any (λ text. IsPairOf text.documents pair) texts
+
+-- the pairs of the texts whose word belongs to the part, rising
+pub record IsPartOf (texts : List SplitDocuments) (part parts : ℕ) (pairs : List Pair) : Type 0 where
+  pub rising : AreRising pairs
+  pub exact : (pair : Pair) → Contains pairs pair ↔ (IsPairOfTexts texts pair × (part_of pair.word parts ≡ part))
+
+-- what a part's result keeps: its part is one of the parts, and its pairs are those of the texts for it
+pub record IsPart (texts : List SplitDocuments) (part parts : ℕ) (pairs : List Pair) : Type 0 where
+  pub in_range : part < parts
+  pub exact : IsPartOf texts part parts pairs
+
+-- a part's result
+pub record PartView : Type 0 where
+  pub texts : List SplitDocuments
+  pub part : ℕ
+  pub parts : ℕ
+  pub pairs : List Pair
+
+-- the same texts, however often each stands
+abbrev pub AreSameTexts : List SplitDocuments → List SplitDocuments → Type 0
+AreSameTexts xs ys = (text : SplitDocuments) → Contains xs text ↔ Contains ys text

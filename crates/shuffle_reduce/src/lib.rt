@@ -1,0 +1,20 @@
+//! The reduce side of an inverted index: the runs of a part are merged into its result, and the results into the
+//! index.
+//!
+//! Upward the layer promises that `merge` gives just the pairs of its runs, rising, each once, that `covers` tells
+//! exactly whether a result is of the texts that are asked for, and that `finish` gives the sequential index of the
+//! texts, or says which is wrong: a part that stands twice, or one that is not there. It stands on the runs of
+//! `word_map`, whose type keeps that their pairs are right.
+#![tactic(auto)]
+
+mod counts;
+mod covers;
+mod gather;
+mod index;
+mod part;
+
+pub use index::{Entry, FinishError, Index, finish};
+pub use part::{PartResult, merge};
+
+#[cfg(test)]
+mod tests;

@@ -1,0 +1,173 @@
+ghost use Rattle.std.specs.Prelude.{◌≡◌, ◌<◌, ◌≤◌, length, vec_len, IfOk};
+ghost use Rattle.std.specs.Arc.{arc_value};
+ghost use Rattle.word_map.specs.Runs.{IsRunOf, IsRunFor, AreRunsOfText};
+ghost use Rattle.word_map.specs.Divided.{AreRunPairs};
+
+use crate::distinct::sort_distinct;
+use crate::divide::divide;
+use crate::posting::Posting;
+use crate::text::{Document, SplitText, Text};
+use crate::tokens::{all_in_lower_case, all_words};
+use node_ids::PartNo;
+use std::alloc::{AllocError, Global};
+use std::marker::Model;
+use std::mem;
+use std::sync::Arc;
+
+/// The pairs of a split's text for one part of its words: a word of a document with that document, by the
+/// bytes of the words and then by the documents' numbers, each once (OSDI 2004, section 4.2).
+#[derive(Drop)]
+pub struct Run {
+    text: Arc<SplitText>,
+    part: PartNo,
+    parts: usize,
+    pairs: Vec<Posting<Text>>,
+}
+
+impl Model for Run {
+    ghost use Rattle.std.specs.Arc.{arc_value};
+    ghost use Rattle.word_map.specs.Runs.{RunView, IsRun};
+
+    ghost Value = { RunView };
+
+    ghost view = { λ r. record { text = arc_value r.text; part = r.part; parts = r.parts; pairs = r.pairs.items } };
+
+    ghost invariant = { λ r. IsRun (arc_value r.text).documents r.part r.parts r.pairs.items };
+}
+
+impl Run {
+    fn new(text: Arc<SplitText>, part: PartNo, parts: usize, pairs: Vec<Posting<Text>>) -> Run
+        requires in_range { part < parts }
+        requires exact { IsRunOf (arc_value text).documents part parts pairs.items }
+        ensures { IsRunFor (arc_value text) part parts result }
+    {
+        Run {
+            text,
+            part,
+            parts,
+            pairs,
+        }
+    }
+
+    /// The text that the run was made of.
+    pub fn text(&self) -> &Arc<SplitText>
+        ensures { arc_value result.now ≡ self.now.text }
+    {
+        &self.text
+    }
+
+    /// The part of the words.
+    pub fn part(&self) -> PartNo
+        ensures value { result ≡ self.now.part }
+        ensures in_range { self.now.part < self.now.parts }
+    {
+        self.part
+    }
+
+    /// Into how many parts the words were divided.
+    pub fn parts(&self) -> usize
+        ensures { result ≡ self.now.parts }
+    {
+        self.parts
+    }
+
+    /// The pairs of the text for the part, rising, each once.
+    pub fn pairs(&self) -> &[Posting<Text>]
+        ensures value { result.now ≡ self.now.pairs }
+        ensures exact { IsRunOf self.now.text.documents self.now.part self.now.parts self.now.pairs }
+    {
+        self.pairs.as_slice()
+    }
+}
+
+/// What mapping a split made: a run of its text for each part of the words.
+#[derive(Drop)]
+pub struct MapResult {
+    text: Arc<SplitText>,
+    runs: Vec<Arc<Run>>,
+}
+
+impl Model for MapResult {
+    ghost use Rattle.std.specs.Prelude.{length};
+    ghost use Rattle.std.specs.Arc.{arc_value};
+    ghost use Rattle.word_map.specs.Runs.{MapView, AreRunsOfText};
+
+    ghost Value = { MapView };
+
+    ghost view = { λ r. record { text = arc_value r.text; parts = length r.runs.items } };
+
+    ghost invariant = { λ r. AreRunsOfText (arc_value r.text) r.runs.items };
+}
+
+impl MapResult {
+    /// The text that the result was made of.
+    pub fn text(&self) -> &Arc<SplitText>
+        ensures { arc_value result.now ≡ self.now.text }
+    {
+        &self.text
+    }
+
+    /// How many parts there are, and so how many runs.
+    pub fn parts(&self) -> usize
+        ensures { result ≡ self.now.parts }
+    {
+        self.runs.len()
+    }
+
+    /// The run of a part.
+    pub fn run(&self, part: PartNo) -> &Arc<Run>
+        requires { part < self.now.parts }
+        ensures { IsRunFor self.now.text part self.now.parts (arc_value result.now) }
+    {
+        &self.runs[part.index()]
+    }
+}
+
+/// Maps a split: the words of its text, divided into 1 to 64 parts by their hash, each part's pairs in a run.
+pub fn map_split(alloc: Global, text: Arc<SplitText>, parts: usize) -> Result<MapResult, AllocError>
+    requires some { 0 < parts }
+    requires few { parts ≤ 64 }
+    ensures text { IfOk result (λ made. made.text ≡ arc_value text) }
+    ensures parts { IfOk result (λ made. made.parts ≡ parts) }
+{
+    let divided = divided_pairs(alloc, text.documents(), parts)?;
+    let runs = all_runs(alloc, &text, divided)?;
+    Ok(MapResult { text, runs })
+}
+
+/// The pairs of the documents for each part.
+fn divided_pairs(
+    alloc: Global,
+    documents: &[Document],
+    parts: usize,
+) -> Result<Vec<Vec<Posting<Text>>>, AllocError>
+    requires { 0 < parts }
+    ensures { IfOk result (λ divided. AreRunPairs documents.now parts divided.items) }
+{
+    let lower = all_in_lower_case(alloc, documents)?;
+    let mut pairs = all_words(alloc, lower.as_slice())?;
+    sort_distinct(&mut pairs);
+    Ok(divide(alloc, pairs.as_slice(), parts)?)
+}
+
+/// A run of the text for each part.
+fn all_runs(
+    alloc: Global,
+    text: &Arc<SplitText>,
+    mut divided: Vec<Vec<Posting<Text>>>,
+) -> Result<Vec<Arc<Run>>, AllocError>
+    requires pairs { AreRunPairs (arc_value text.now).documents (vec_len divided) divided.items }
+    requires few { vec_len divided ≤ 64 }
+    ensures count { IfOk result (λ runs. length runs.items ≡ vec_len divided) }
+    ensures each { IfOk result (λ runs. AreRunsOfText (arc_value text.now) runs.items) }
+{
+    let parts = divided.len();
+    let mut runs = Vec::with_capacity(alloc, parts)?;
+    for part in 0..parts {
+        let pairs = mem::replace(&mut divided[part], Vec::new(alloc));
+        let text = Arc::try_clone(text)?;
+        let run = Run::new(text, PartNo::new(part as u8), parts, pairs);
+        runs.push(Arc::new(alloc, run)?)?;
+    }
+    Ok(runs)
+}
