@@ -1,0 +1,4 @@
+pub mod Values
+pub mod Views
+pub mod Rule
+pub mod Steps

@@ -1,0 +1,32 @@
+-- The rule of a board: each word is the sum of the counts over the list of views.
+use Rattle.std.specs.Prelude.{◌≡◌, ℕ, ◌<◌, ◌≤◌, ◌^◌, List, length, slice_index, if◌then◌else◌, ◌==◌}
+use Rattle.std.specs.List.{sum_by, All}
+use mathlib.Core.Option.{some}
+use lib.ListN.{get_elem?}
+use Rattle.atomic_table.specs.Table.{State}
+use Rattle.beat_board.specs.declared.view.View.{View}
+use Rattle.beat_board.specs.declared.view.Tally.{Tally}
+use Rattle.beat_board.specs.Values.{last_seen}
+
+-- the sum of the counts of a worker
+abbrev pub beats_of : ℕ → List Tally → ℕ
+beats_of w ts = sum_by (λ t. if t.worker == w then t.beats else 0) ts
+
+abbrev pub seats_in : View → ℕ
+seats_in v = length v.tallies
+
+-- each count is at most 2 ^ 40, and each number that was seen is at most its word
+pub record Fits (words : List ℕ) (v : View) : Type 0 where
+  pub small : All (λ t. t.beats ≤ 2 ^ 40) v.tallies
+  pub seen : (w : ℕ) → w < length words → last_seen w v.looks ≤ slice_index words w
+
+-- the first view is the maker's, which knows how many seats were made
+pub record Counted (words : List ℕ) (views : List View) : Type 0 where
+  pub width : length words ≡ 256
+  pub sums : (w : ℕ) → w < length words → slice_index words w ≡ sum_by (λ v. beats_of w v.tallies) views
+  pub made : (v : View) → get_elem? views 0 ≡ some v → sum_by seats_in views ≡ v.made
+  pub limit : sum_by seats_in views ≤ 4096
+  pub each : (id : ℕ) (v : View) → get_elem? views id ≡ some v → Fits words v
+
+abbrev pub Rule : State ℕ View → Type 0
+Rule s = Counted s.words s.views

@@ -1,0 +1,97 @@
+// What a thread knows of the board, and the steps by which that changes. No value of these types is made: they are
+// what the proofs carry along with a token of the table.
+use atomic_table::{Join, Play, Split, TableRule};
+use std::collections::LinkedList;
+
+// The beats that a seat made.
+pub struct Tally {
+    pub worker: u64,
+    pub beats: u64,
+}
+
+// A number that was answered for a worker.
+pub struct Look {
+    pub worker: u64,
+    pub beats: u64,
+}
+
+// The counts of the seats that it stands for and the numbers that it saw. The maker's also has the worker whose seat
+// is made next, and how many seats were made.
+pub struct View {
+    pub tallies: LinkedList<Tally>,
+    pub looks: LinkedList<Look>,
+    pub next: u64,
+    pub made: u64,
+}
+
+pub struct Sums;
+
+impl TableRule<u8, View, ()> for Sums {
+    ghost use Rattle.std.specs.Prelude.{[]};
+    ghost use Rattle.beat_board.specs.Rule.{Rule};
+    ghost use Rattle.beat_board.specs.Views.{making};
+
+    ghost holds = { λ _. Rule };
+
+    ghost first = { λ _. making [] 0 0 };
+}
+
+pub struct BeatStep;
+
+impl Play<u8, View> for BeatStep {
+    ghost use Rattle.beat_board.specs.Steps.{Beats};
+
+    ghost then = { Beats };
+}
+
+pub struct LookStep;
+
+impl Play<u8, View> for LookStep {
+    ghost use Rattle.beat_board.specs.Steps.{Looks};
+
+    ghost then = { Looks };
+}
+
+pub struct TurnStep;
+
+impl Play<u8, View> for TurnStep {
+    ghost use Rattle.beat_board.specs.Steps.{Turns};
+
+    ghost then = { Turns };
+}
+
+// A seat is split off from the maker.
+pub struct SeatSplit;
+
+impl Split<View> for SeatSplit {
+    ghost use Rattle.beat_board.specs.Views.{seated};
+    ghost use Rattle.beat_board.specs.Steps.{more};
+
+    ghost left = { more };
+
+    ghost right = { λ v. seated v.next 0 };
+}
+
+// A reader is split off from the maker.
+pub struct ReaderSplit;
+
+impl Split<View> for ReaderSplit {
+    ghost use Rattle.std.specs.Prelude.{[]};
+    ghost use Rattle.beat_board.specs.Views.{reading};
+
+    ghost left = { λ v. v };
+
+    ghost right = { λ v. reading [] };
+}
+
+// A seat comes back to the maker.
+pub struct SeatJoin;
+
+impl Join<View> for SeatJoin {
+    ghost use Rattle.beat_board.specs.Views.{spent};
+    ghost use Rattle.beat_board.specs.Steps.{gathers};
+
+    ghost both = { gathers };
+
+    ghost spent = { spent };
+}

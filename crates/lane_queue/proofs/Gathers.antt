@@ -1,0 +1,88 @@
+-- All passes in one, the last first, and what is taken with it.
+use Rattle.std.proofs.Common.{◌≡◌, ℕ, ◌&&◌, true, List, [], ◌∷◌, ◌++◌, length, refl, sym, ap, ◌∙◌, subst, arith, append_assoc, length-append}
+use Rattle.std.proofs.lemmas.List.{append-nil}
+use Rattle.std.proofs.lemmas.List.Sums.{sum_by-append}
+use Rattle.std.specs.List.{sum_by}
+use Rattle.crossbeam_queue.specs.Fifo.{Held}
+use Rattle.view_sums.proofs.Sums.{sum_by-one}
+use Rattle.lane_queue.specs.declared.order.Order.{Order}
+use Rattle.lane_queue.specs.declared.view.View.{View}
+use Rattle.lane_queue.specs.Orders.{is_alone}
+use Rattle.lane_queue.specs.Lanes.{PassValue, Saw, puts_of, takes_of, depths_of, one_each, IsWhole}
+use Rattle.lane_queue.specs.Steps.{hand, both, depth_of, Totals, Stands}
+use Rattle.lane_queue.proofs.Parts.{undivided}
+
+-- what the passes know together
+abbrev pub gathered : List PassValue → View
+gathered cs = hand (puts_of cs) (takes_of cs) (depths_of cs) (one_each cs)
+
+pub alone_none : (xs : List Order) → is_alone xs [] ≡ true
+alone_none [] = refl
+alone_none (x ∷ xs) = refl
+
+pub first : (v : View) (x : PassValue) → v ≡ hand v.puts v.takes (depth_of v.depths ∷ []) true
+    → v.puts ≡ x.puts → v.takes ≡ x.takes → depth_of v.depths ≡ x.depth → v ≡ gathered (x ∷ [])
+first v x e p t d =
+    let puts = p ∙ sym (append-nil x.puts) in
+    let takes = t ∙ sym (append-nil x.takes) in
+    let one : (is_alone x.puts [] && is_alone x.takes []) && true ≡ true =
+    ap (λ b. (b && is_alone x.takes []) && true) (alone_none x.puts) ∙ ap (λ b. b && true) (alone_none x.takes) in
+    e ∙ (λ k. hand (puts k) (takes k) (d k ∷ []) (sym one k))
+
+pub next : (v w : View) (x : PassValue) (cs : List PassValue) → v ≡ hand v.puts v.takes (depth_of v.depths ∷ []) true
+    → v.puts ≡ x.puts → v.takes ≡ x.takes → depth_of v.depths ≡ x.depth → w ≡ gathered cs → both v w ≡ gathered (x ∷ cs)
+next v w x cs e p t d f =
+    let is : v ≡ hand x.puts x.takes (x.depth ∷ []) true = e ∙ (λ k. hand (p k) (t k) (d k ∷ []) true) in
+    λ k. both (is k) (f k)
+
+pub moved : (all zs ys cs : List PassValue) (x : PassValue) → all ≡ zs ++ cs → zs ≡ ys ++ x ∷ [] → all ≡ ys ++ x ∷ cs
+moved all zs ys cs x e f = e ∙ ap (λ l. l ++ cs) f ∙ append_assoc ys (x ∷ []) cs
+
+pub empty_list : {A : Type 0} (xs : List A) → length xs ≡ 0 → xs ≡ []
+empty_list [] e = refl
+empty_list (x ∷ xs) e = absurd (omega arith)
+
+-- what one pass saw
+pub saw : (v : View) (x : PassValue) (items : List Order) → v ≡ hand v.puts v.takes (depth_of v.depths ∷ []) true
+    → v.puts ≡ x.puts → v.takes ≡ x.takes → depth_of v.depths ≡ x.depth → Stands v items → Saw x items
+saw v x items e p t d s =
+    let is : v ≡ hand x.puts x.takes (x.depth ∷ []) true = e ∙ (λ k. hand (p k) (t k) (d k ∷ []) true) in
+    let known = subst (λ u. Stands u items) is s in
+    record { stood = known.stood refl; all = λ z. (known.totals (undivided x.depth z)).in_turn refl }
+
+-- the view, after so much was taken
+abbrev pub further : View → List Order → View
+further v left = hand v.puts (v.takes ++ left) v.depths v.ordered
+
+ends : (v : View) (left items : List Order) → Totals (further v left) items → (IsWhole v.depths → length items ≡ 0) → Totals v left
+ends v left items t none whole =
+    let is : items ≡ [] = empty_list items (none whole) in
+    let told = t whole in record {
+      as_often = λ h. omega (arith, told.as_often h, sum_by-append h v.takes left, ap (sum_by h) is);
+      in_turn = λ o. told.in_turn o ∙ ap (λ l. (v.takes ++ left) ++ l) is ∙ append-nil (v.takes ++ left);
+    }
+
+pub ends_empty : (v w : View) (left : List Order) → w ≡ further v left → Held 0 (Totals w) → Totals v left
+ends_empty v w left e f = ends v left f.0 (subst (λ x. Totals x f.0) e f.2) (λ _. f.1)
+
+pub ends_full : (v w : View) (left : List Order) (count : ℕ) → w ≡ further v left → length left ≡ count
+    → Held count (Totals v) → ((items : List Order) × Totals w items) → Totals v left
+ends_full v w left count e len held last =
+    let now = subst (λ x. Totals x last.0) e last.1 in
+    ends v left last.0 now
+    (λ whole.
+    let before = (held.2 whole).as_often (λ x. 1) in
+    let after = (now whole).as_often (λ x. 1) in
+    let longer = length-append v.takes left in
+    omega (arith, before, after, sum_by-one v.puts, sum_by-one v.takes, sum_by-one held.0, sum_by-one last.0, sum_by-one (v.takes ++ left), longer, len, held.1))
+
+pub begins_further : (v : View) (left : List Order) → left ≡ [] → v ≡ further v left
+begins_further v left e =
+    let takes = sym (append-nil v.takes) ∙ ap (λ l. v.takes ++ l) (sym e) in
+    λ k. hand v.puts (takes k) v.depths v.ordered
+
+pub takes_further : (v w u : View) (left new : List Order) (x : Order) → w ≡ further v left
+    → u ≡ hand w.puts (w.takes ++ x ∷ []) w.depths w.ordered → new ≡ left ++ x ∷ [] → u ≡ further v new
+takes_further v w u left new x e f g =
+    let takes = append_assoc v.takes left (x ∷ []) ∙ ap (λ l. v.takes ++ l) (sym g) in
+    f ∙ (λ k. hand (e k).puts ((e k).takes ++ x ∷ []) (e k).depths (e k).ordered) ∙ (λ k. hand v.puts (takes k) v.depths v.ordered)

@@ -1,0 +1,5 @@
+pub mod Subs
+pub mod Parts
+pub mod Keeps
+pub mod Gathers
+pub mod Uses

@@ -1,0 +1,71 @@
+-- The parts of a lane: a pass whose part was halved so often has 2 ^ -depth of it.
+use Rattle.std.proofs.Common.{◌≡◌, ℕ, ◌+◌, ◌-◌, ◌*◌, ◌/◌, ◌^◌, ◌<◌, ◌≤◌, List, [], ◌∷◌, ◌++◌, length, refl, sym, ap, ◌∙◌, arith, mul_comm}
+use Rattle.std.proofs.lemmas.Nat.{pow-add, pow_pos}
+use Rattle.std.proofs.Math.Nat.{mul-div_cancel_left}
+use Rattle.std.proofs.lemmas.List.Sums.{sum_by-cons}
+use Rattle.std.specs.List.{sum_by}
+use Rattle.lane_queue.specs.Lanes.{AreWithin, IsWhole}
+use Rattle.lane_queue.specs.Steps.{deeper}
+
+-- parts, counted in smaller parts
+pub scale : (most k : ℕ) (ds : List ℕ) → AreWithin most ds
+    → sum_by (λ d. 2 ^ (most + k - d)) ds ≡ 2 ^ k * sum_by (λ d. 2 ^ (most - d)) ds
+scale most k [] h = omega arith
+scale most k (d ∷ ds) h =
+    let less : d ≤ most = h.0 in
+    let up : most + k - d ≡ k + (most - d) = omega arith in
+    let here : 2 ^ (most + k - d) ≡ 2 ^ k * 2 ^ (most - d) = ap (λ n. 2 ^ n) up ∙ pow-add 2 k (most - d) in
+    let rest = scale most k ds h.1 in
+    let fs = sum_by-cons (λ e. 2 ^ (most + k - e)) d ds in
+    let gs = sum_by-cons (λ e. 2 ^ (most - e)) d ds in
+    rw (fs, gs) (omega (arith, here, rest))
+
+cancel : (n x y : ℕ) → 0 < n → n * x ≡ n * y → x ≡ y
+cancel n x y pos e = sym (mul-div_cancel_left x pos) ∙ ap (λ z. z / n) e ∙ mul-div_cancel_left y pos
+
+-- parts that make up the whole do so however they are counted
+pub whole_at : (depth : ℕ) (ds : List ℕ) → AreWithin depth ds → IsWhole ds → sum_by (λ d. 2 ^ (depth - d)) ds ≡ 2 ^ depth
+whole_at depth ds within w =
+    let a = scale w.most depth ds w.within in
+    let b = scale depth w.most ds within in
+    let turn : w.most + depth ≡ depth + w.most = omega arith in
+    let same = ap (λ n. sum_by (λ d. 2 ^ (n - d)) ds) turn in
+    let e : 2 ^ w.most * sum_by (λ d. 2 ^ (depth - d)) ds ≡ 2 ^ w.most * 2 ^ depth =
+    sym b ∙ sym same ∙ a ∙ ap (λ n. 2 ^ depth * n) w.sum ∙ mul_comm (2 ^ depth) (2 ^ w.most) in
+    cancel (2 ^ w.most) (sum_by (λ d. 2 ^ (depth - d)) ds) (2 ^ depth) (pow_pos w.most) e
+
+-- only no parts come to nothing
+pub no_parts : (most : ℕ) (ds : List ℕ) → sum_by (λ d. 2 ^ (most - d)) ds ≡ 0 → ds ≡ []
+no_parts most [] e = refl
+no_parts most (d ∷ ds) e =
+    let pos = pow_pos (most - d) in
+    absurd (omega (arith, sum_by-cons (λ x. 2 ^ (most - x)) d ds))
+
+-- each halved, and counted in halves
+pub deeper_sum : (most : ℕ) (ds : List ℕ) → sum_by (λ d. 2 ^ (most + 1 - d)) (deeper ds) ≡ sum_by (λ d. 2 ^ (most - d)) ds
+deeper_sum most [] = refl
+deeper_sum most (d ∷ ds) =
+    let same : most + 1 - (d + 1) ≡ most - d = omega arith in
+    let fs = sum_by-cons (λ e. 2 ^ (most + 1 - e)) (d + 1) (deeper ds) in
+    let gs = sum_by-cons (λ e. 2 ^ (most - e)) d ds in
+    omega (arith, ap (λ n. 2 ^ n) same, deeper_sum most ds, fs, gs)
+
+pub deeper_within : (most : ℕ) (ds : List ℕ) → AreWithin most ds → AreWithin (most + 1) (deeper ds)
+deeper_within most [] h = tt
+deeper_within most (d ∷ ds) h = let le = h.0 in (omega arith, deeper_within most ds h.1)
+
+pub within_more : (most : ℕ) (ds : List ℕ) → AreWithin most ds → AreWithin (most + 1) ds
+within_more most [] h = tt
+within_more most (d ∷ ds) h = let le = h.0 in (omega arith, within_more most ds h.1)
+
+pub within_both : (most : ℕ) (ds es : List ℕ) → AreWithin most ds → AreWithin most es → AreWithin most (ds ++ es)
+within_both most [] es h k = k
+within_both most (d ∷ ds) es h k = (h.0, within_both most ds es h.1 k)
+
+pub not_deeper : (ds : List ℕ) → deeper ds ≡ [] → ds ≡ []
+not_deeper [] e = refl
+not_deeper (d ∷ ds) e = absurd (omega (arith, ap length e))
+
+-- the part of a pass that was never shared is the whole
+pub undivided : (d : ℕ) → d ≡ 0 → IsWhole (d ∷ [])
+undivided d e = record { most = 0; within = (omega arith, tt); sum = ap (λ n. sum_by (λ x. 2 ^ (0 - x)) (n ∷ [])) e }

@@ -1,0 +1,95 @@
+// What a pass knows of the lane, and the steps by which that changes. No value of these types is made: they are what
+// the proofs carry along with a pass.
+use crate::order::Order;
+use crossbeam_queue::protocol::{Join, Lesson, Outcome, Protocol, Split};
+use std::collections::LinkedList;
+
+// What was put and taken, the parts of the lane, and whether both lists are in the order of the lane.
+pub struct View {
+    pub puts: LinkedList<Order>,
+    pub takes: LinkedList<Order>,
+    pub depths: LinkedList<u64>,
+    pub ordered: bool,
+}
+
+pub struct InLine;
+
+impl Protocol<Order, View> for InLine {
+    ghost use Rattle.std.specs.Prelude.{[], ◌∷◌, true};
+    ghost use Rattle.lane_queue.specs.Rule.{Balanced};
+    ghost use Rattle.lane_queue.specs.Steps.{hand};
+
+    ghost holds = { Balanced };
+
+    ghost first = { hand [] [] (0 ∷ []) true };
+}
+
+pub struct PutStep;
+
+impl Outcome<Order, View> for PutStep {
+    ghost use Rattle.std.specs.Prelude.{◌≡◌};
+    ghost use Rattle.lane_queue.specs.Steps.{putting};
+
+    ghost then = { λ v x w. w ≡ putting v x };
+}
+
+impl Lesson<Order, View> for PutStep {
+    ghost use Rattle.lane_queue.specs.Steps.{Stands};
+
+    ghost fact = { Stands };
+}
+
+pub struct TakeStep;
+
+impl Outcome<Order, View> for TakeStep {
+    ghost use Rattle.std.specs.Prelude.{◌≡◌};
+    ghost use Rattle.lane_queue.specs.Steps.{taking};
+
+    ghost then = { λ v x w. w ≡ taking v x };
+}
+
+impl Lesson<Order, View> for TakeStep {
+    ghost use Rattle.lane_queue.specs.Steps.{Stands};
+
+    ghost fact = { Stands };
+}
+
+// An order is taken when the lane is closed.
+pub struct DrainStep;
+
+impl Outcome<Order, View> for DrainStep {
+    ghost use Rattle.std.specs.Prelude.{◌≡◌};
+    ghost use Rattle.lane_queue.specs.Steps.{taking};
+
+    ghost then = { λ v x w. w ≡ taking v x };
+}
+
+impl Lesson<Order, View> for DrainStep {
+    ghost use Rattle.lane_queue.specs.Steps.{Totals};
+
+    ghost fact = { Totals };
+}
+
+// A pass is split off from another, and each has half of its part.
+pub struct ShareSplit;
+
+impl Split<View> for ShareSplit {
+    ghost use Rattle.std.specs.Prelude.{[], true};
+    ghost use Rattle.lane_queue.specs.Steps.{hand, deeper};
+
+    ghost left = { λ v. hand v.puts v.takes (deeper v.depths) v.ordered };
+
+    ghost right = { λ v. hand [] [] (deeper v.depths) true };
+}
+
+// A pass takes in another, and has the parts of both.
+pub struct ShareJoin;
+
+impl Join<View> for ShareJoin {
+    ghost use Rattle.std.specs.Prelude.{[], true};
+    ghost use Rattle.lane_queue.specs.Steps.{hand, both};
+
+    ghost both = { both };
+
+    ghost spent = { hand [] [] [] true };
+}
