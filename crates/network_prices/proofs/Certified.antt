@@ -1,0 +1,251 @@
+-- A plan and prices read off a network's flows meet every condition of the certificate.
+use Rattle.std.proofs.Common.{◌≡◌, ℕ, zero, suc, ◌+◌, ◌-◌, ◌<◌, ◌≤◌, Bool, true, false, cond, eqb, max, List, [], ◌∷◌, length, get_or, Option, Some, None, refl, sym, ap, ◌∙◌, subst, inl, inr, ◌⊎◌, arith, unwrap_or, count_by}
+use Rattle.std.specs.Prelude.{◌==◌, IsSome}
+use Rattle.std.proofs.lemmas.Bool.{cases_Bool, cases_eq, cases_lt}
+use Rattle.std.proofs.lemmas.List.Sums.{sum_by-cons}
+use Rattle.flow_network.specs.declared.arcs.FlowArc.{FlowArc}
+use Rattle.flow_network.specs.Flows.{arc_at, WithinCapacities, NoNegative, inflow, outflow}
+use Rattle.wave_problem.specs.Wave.{Wave, IsAdmissible, split_at, worker_at, live_holders, cost, reward}
+use Rattle.wave_problem.specs.Assignment.{start_of, pairs_from, pairs_of, load}
+use Rattle.wave_problem.proofs.Bound.{pending_known, live_known}
+use Rattle.price_certificate.specs.PriceList.{PriceList}
+use Rattle.price_certificate.specs.declared.Condition.{Condition}
+use Rattle.price_certificate.specs.declared.Condition.TheVariants.{Open, Allowed, Room, SplitPrice, WorkerPrice, Priced, Tight, Unstarted, Spare}
+use Rattle.price_certificate.specs.Certificate.{Claim, claim, Holds, Certifies, split_price, worker_price, MayTake}
+use Rattle.network_prices.specs.Ways.{deepest, IsAmong, IsFed, IsInner, IsWay, CameFrom}
+use Rattle.network_prices.specs.Pending.{IsUsable}
+use Rattle.network_prices.specs.Networks.{WaveNodes, way_of, IsArcFrom, IsOffer, IsWaveNetwork}
+use Rattle.network_prices.specs.Prices.{IsShipped, end_of, IsPlanOf, ArePricesOf, PricesCertify}
+use Rattle.network_prices.proofs.Pending.{one_each, balanced}
+use Rattle.network_prices.proofs.Ways.{deepest-ge, CameBy, room_out, own_unit, came_down}
+use Rattle.network_prices.proofs.Sums.{inflow-lt, outflow-le, outflow-ge, outflow-ge_two}
+
+-- a load comes from a start
+some_start : (n w : ℕ) (starts : List (Option ℕ)) → 0 < load (pairs_from n starts) w → (s : ℕ) × (start_of starts s ≡ Some w)
+some_start n w [] l = absurd (omega arith)
+some_start n w (None ∷ rest) l = let found = some_start (n + 1) w rest l in (suc found.0, found.1)
+some_start n w (Some v ∷ rest) l = elim (cases_eq v w) [
+  | inl e ↦ (0, ap Some e)
+  | inr d ↦ (let found = some_start (n + 1) w rest (grind (arith, sum_by-cons (λ (pair : ℕ × ℕ). cond (pair.1 == w) 1 0) (n, v) (pairs_from (n + 1) rest))) in (suc found.0, found.1))
+]
+
+usable_or_not : (wave : Wave) (w : ℕ) → IsUsable wave w ⊎ (IsUsable wave w → ⊥)
+usable_or_not wave w = elim (cases_Bool (worker_at wave w).live) [
+  | inl t ↦ elim (cases_lt 0 (worker_at wave w).free) [
+    | inl l ↦ inl (t, l)
+    | inr n ↦ inr (λ u. let l = u.1 in absurd (omega arith))
+  ]
+  | inr f ↦ inr (λ u. let t = u.0 in (cc))
+]
+
+module _ (wave : Wave) (nodes : WaveNodes) (arcs : List FlowArc) (flows : List ℕ) (h : ℕ → ℕ) (starts : List (Option ℕ)) (prices : PriceList)
+    (network : IsWaveNetwork wave nodes arcs) (shipped : IsShipped wave nodes arcs flows)
+    (reduced : NoNegative arcs flows h) (at_sink : h nodes.sink ≡ 0)
+    (plan : IsPlanOf wave nodes arcs flows starts) (priced : ArePricesOf wave nodes h starts prices) where
+  own_one : (s : ℕ) → (split_at wave s).pending ≡ true → outflow arcs flows s ≡ 1
+  own_one = one_each wave nodes arcs flows network.past_splits network.no_entry shipped
+
+  even : (v : ℕ) → IsInner (length wave.splits) nodes.sink v → inflow arcs flows v ≡ outflow arcs flows v
+  even = balanced wave nodes arcs flows network.past_splits network.no_entry shipped
+
+  abbrev price : ℕ → ℕ → ℕ
+  price s w = unwrap_or (cost wave s w) 0
+
+  -- a split that starts is pending
+  pending : (s w : ℕ) → start_of starts s ≡ Some w → (split_at wave s).pending ≡ true
+  pending s w e = elim (cases_Bool (split_at wave s).pending) [
+    | inl t ↦ t
+    | inr f ↦ (let none = plan.idle s f in cc)
+  ]
+
+  -- the arc that a split's unit left by is its only one with a unit
+  no_other : (s i j : ℕ) → (split_at wave s).pending ≡ true → i < length arcs → j < length arcs → (arc_at arcs i).from ≡ s → (arc_at arcs j).from ≡ s
+      → (i ≡ j → ⊥) → 0 < get_or flows i 0 → get_or flows j 0 ≡ 0
+  no_other s i j p l m from from' n unit =
+      let two = outflow-ge_two arcs flows s i j shipped.sizes l m from from' n in
+      let one = own_one s p in omega arith
+
+  -- so no other arc of the split is cheaper
+  no_cheaper : (s i j : ℕ) → (split_at wave s).pending ≡ true → i < length arcs → j < length arcs → (arc_at arcs i).from ≡ s → (arc_at arcs j).from ≡ s
+      → (arc_at arcs j).capacity ≡ 1 → 0 < get_or flows i 0 → (arc_at arcs i).cost + h (arc_at arcs i).to ≤ (arc_at arcs j).cost + h (arc_at arcs j).to
+  no_cheaper s i j p l m from from' one unit = elim (cases_eq i j) [
+    | inl e ↦ (let c = ap (λ (k : ℕ). (arc_at arcs k).cost) e in let d = ap (λ (k : ℕ). h (arc_at arcs k).to) e in omega arith)
+    | inr n ↦
+        (let none = no_other s i j p l m from from' n unit in
+        let own = (reduced i l).1 unit in
+        let other = (reduced j m).0 (omega arith) in
+        let a = ap h from in let b = ap h from' in omega arith)
+  ]
+
+  -- a unit of the split on an arc other than its waiting arc costs no more than the reward
+  not_above_reward : (s i : ℕ) → (split_at wave s).pending ≡ true → i < length arcs → (arc_at arcs i).from ≡ s → ((arc_at arcs i).to ≡ nodes.unstarted → ⊥)
+      → 0 < get_or flows i 0 → (arc_at arcs i).cost + h (arc_at arcs i).to ≤ reward wave
+  not_above_reward s i p l from off unit =
+      let w = network.wait s p in
+      let wait = w.1 in
+      let other : i ≡ w.0 → ⊥ = λ e. off (ap (λ (k : ℕ). (arc_at arcs k).to) e ∙ wait.to_is) in
+      let none = no_other s i w.0 p l wait.listed from wait.from_is other unit in
+      let cap = wait.capacity_is in
+      let less = inflow-lt arcs flows nodes.unstarted w.0 shipped.sizes shipped.within wait.listed wait.to_is (omega arith) in
+      let same = even nodes.unstarted network.rest_inner in
+      let r = network.rest in
+      let rest = r.1 in
+      let out = outflow-ge arcs flows nodes.unstarted r.0 shipped.sizes rest.listed rest.from_is in
+      let room = rest.capacity_is in
+      let step = (reduced r.0 rest.listed).0 (omega arith) in
+      let free = rest.cost_is in
+      let a = ap h rest.from_is in let b = ap h rest.to_is in let c = at_sink in
+      let waits = no_cheaper s i w.0 p l wait.listed from wait.from_is wait.capacity_is unit in
+      let d = ap h wait.to_is in let f = wait.cost_is in
+      omega arith
+
+  -- a worker that a split starts on is usable
+  usable : (s w : ℕ) → start_of starts s ≡ Some w → IsUsable wave w
+  usable s w e = elim (usable_or_not wave w) [
+    | inl u ↦ u
+    | inr n ↦
+        (let p = pending s w e in
+        let c = plan.came s p in
+        let known = pending_known wave s p in
+        let at : CameFrom arcs flows c.0 s (nodes.worker w) = subst (λ (o : Option ℕ). CameFrom arcs flows c.0 s (end_of nodes o)) e c.1 in
+        absurd (not_there s w n (plan.known s w e) known c.0 at))
+  ]
+    where
+      not_there : (s w : ℕ) → (IsUsable wave w → ⊥) → w < length wave.workers → s < length wave.splits → (path : List ℕ) → CameFrom arcs flows path s (nodes.worker w) → ⊥
+      not_there s w n l k [] came = let inner = network.known w in absurd (omega arith)
+      not_there s w n l k (i ∷ path) came = network.closed w i l n came.0 came.2
+
+  -- the arc by which the unit of a split that starts came to its worker's way
+  came : (s w : ℕ) → start_of starts s ≡ Some w → (k : ℕ) × CameBy arcs flows h s (way_of nodes w) k
+  came s w e =
+      let p = pending s w e in
+      let c = plan.came s p in
+      let at : CameFrom arcs flows c.0 s (nodes.worker w) = subst (λ (o : Option ℕ). CameFrom arcs flows c.0 s (end_of nodes o)) e c.1 in
+      came_down arcs flows h (length wave.splits) nodes.sink shipped.sizes shipped.within reduced even network.no_entry s
+      c.0 (nodes.above w) (nodes.worker w) (pending_known wave s p) (network.ways w (usable s w e)) at
+
+  admissible : (s w : ℕ) → start_of starts s ≡ Some w → IsAdmissible wave s w
+  admissible s w e =
+      let c = came s w e in let by = c.1 in
+      (network.sound s w c.0 (pending_known wave s (pending s w e)) (usable s w e) by.listed by.from_is by.on_way).0
+
+  worth : (s w : ℕ) → start_of starts s ≡ Some w → (k : ℕ) × CameBy arcs flows h s (way_of nodes w) k × (price s w + worker_price prices w ≤ (arc_at arcs k).cost + h (arc_at arcs k).to)
+  worth s w e =
+      let c = came s w e in let by = c.1 in
+      let least = (network.sound s w c.0 (pending_known wave s (pending s w e)) (usable s w e) by.listed by.from_is by.on_way).1 in
+      let same = priced.usable w (usable s w e) in
+      let deep = by.deep in
+      (c.0, by, omega arith)
+
+  -- the start and the worker's price cost no more than the reward
+  fits : (s w : ℕ) → start_of starts s ≡ Some w → price s w + worker_price prices w ≤ reward wave
+  fits s w e =
+      let c = worth s w e in let by = c.1 in let bound = c.2 in
+      let off : (arc_at arcs c.0).to ≡ nodes.unstarted → ⊥ = λ u. network.apart w (usable s w e) (subst (λ (v : ℕ). IsAmong v (way_of nodes w)) u by.on_way) in
+      let less = not_above_reward s c.0 (pending s w e) by.listed by.from_is off by.unit in
+      omega arith
+
+  -- another start of a split that starts is worth no more, and one of a split that does not no more than the reward
+  worth_of_offer : (s w k : ℕ) → IsUsable wave w → IsOffer arcs s (way_of nodes w) (price s w) k
+      → (arc_at arcs k).cost + h (arc_at arcs k).to ≤ price s w + worker_price prices w
+  worth_of_offer s w k u offer =
+      let same = priced.usable w u in
+      let above = deepest-ge h (way_of nodes w) (arc_at arcs k).to offer.on_way in
+      let most = offer.at_most in
+      omega arith
+
+  spare : (w : ℕ) → load (pairs_of starts) w < (worker_at wave w).free → worker_price prices w ≡ 0
+  spare w l = elim (usable_or_not wave w) [
+    | inr n ↦ priced.unusable w n
+    | inl u ↦
+        (let s = network.slot w u in let slot = s.1 in
+        let known = live_known wave w u.0 in
+        let loads = plan.loads w known in
+        let out = outflow-ge arcs flows (nodes.worker w) s.0 shipped.sizes slot.listed slot.from_is in
+        let cap = slot.capacity_is in
+        let room : get_or flows s.0 0 < (arc_at arcs s.0).capacity = omega arith in
+        let deep = room_out arcs flows h (length wave.splits) nodes.sink shipped.sizes shipped.within reduced even
+        (nodes.above w) (nodes.worker w) s.0 (network.ways w u) slot.listed slot.from_is room in
+        let step = (reduced s.0 slot.listed).0 room in
+        let a = ap h slot.from_is in let b = ap h slot.to_is in let c = at_sink in let d = slot.cost_is in
+        let same = priced.usable w u in
+        omega arith)
+  ]
+
+  open_at : (s : ℕ) (o : Option ℕ) → start_of starts s ≡ o → IsSome o → ((split_at wave s).pending ≡ true) × (0 < length (live_holders wave s))
+  open_at s None e some = cc
+  open_at s (Some w) e some = let a = admissible s w e in (a.pending, a.held)
+
+  room : (w : ℕ) → load (pairs_of starts) w ≤ (worker_at wave w).free
+  room w = elim (cases_lt 0 (load (pairs_of starts) w)) [
+    | inr n ↦ omega arith
+    | inl l ↦
+        (let found = some_start 0 w starts l in
+        let u = usable found.0 w found.1 in
+        let loads = plan.loads w (plan.known found.0 w found.1) in
+        let most = outflow-le arcs flows (nodes.worker w) shipped.within in
+        let slots = network.slots w u in
+        omega arith)
+  ]
+
+  split_price_at : (s : ℕ) (o : Option ℕ) → start_of starts s ≡ o → split_price prices s ≤ reward wave
+  split_price_at s None e = let p = priced.unstarted s e in omega arith
+  split_price_at s (Some w) e = let p = priced.started s w e in omega arith
+
+  worker_price_at : (w : ℕ) → worker_price prices w ≤ reward wave
+  worker_price_at w = elim (usable_or_not wave w) [
+    | inr n ↦ (let p = priced.unusable w n in omega arith)
+    | inl u ↦ elim (cases_lt (load (pairs_of starts) w) (worker_at wave w).free) [
+      | inl l ↦ (let p = spare w l in omega arith)
+      | inr f ↦
+          (let some = u.1 in
+          let found = some_start 0 w starts (omega arith) in
+          let fit = fits found.0 w found.1 in omega arith)
+    ]
+  ]
+
+  waits : (s : ℕ) → (split_at wave s).pending ≡ true → (path : List ℕ) → CameFrom arcs flows path s nodes.unstarted → (j : ℕ) → j < length arcs → (arc_at arcs j).from ≡ s → (arc_at arcs j).capacity ≡ 1
+      → reward wave ≤ (arc_at arcs j).cost + h (arc_at arcs j).to
+  waits s p [] came j l from one = let known = pending_known wave s p in let inner = network.rest_inner.no_source in absurd (omega arith)
+  waits s p (k ∷ path) came j l from one =
+      let w = network.waiting k came.0 came.2 in
+      let own = own_unit arcs flows h (length wave.splits) nodes.sink shipped.sizes shipped.within reduced even network.no_entry s path (arc_at arcs k).from w.0 came.3 in
+      let less = no_cheaper s k j p came.0 l own from one came.1 in
+      let c = w.1 in
+      omega arith
+
+  priced_at_all : (s w : ℕ) (o : Option ℕ) → start_of starts s ≡ o → IsAdmissible wave s w → reward wave ≤ split_price prices s + worker_price prices w + price s w
+  priced_at_all s w None e a =
+      let offer = network.complete s w a in
+      let u : IsUsable wave w = (a.live, a.has_slot) in
+      let most = worth_of_offer s w offer.0 u offer.1 in
+      let c = plan.came s a.pending in
+      let at : CameFrom arcs flows c.0 s nodes.unstarted = subst (λ (o : Option ℕ). CameFrom arcs flows c.0 s (end_of nodes o)) e c.1 in
+      let wait = waits s a.pending c.0 at offer.0 offer.1.listed offer.1.from_is offer.1.one in
+      omega arith
+  priced_at_all s w (Some v) e a =
+      let offer = network.complete s w a in
+      let u : IsUsable wave w = (a.live, a.has_slot) in
+      let most = worth_of_offer s w offer.0 u offer.1 in
+      let own = worth s v e in let by = own.1 in let bound = own.2 in
+      let less = no_cheaper s own.0 offer.0 a.pending by.listed offer.1.listed by.from_is offer.1.from_is offer.1.one by.unit in
+      let p = priced.started s v e in
+      omega arith
+
+  tight : (s w : ℕ) → start_of starts s ≡ Some w → split_price prices s + worker_price prices w + price s w ≡ reward wave
+  tight s w e = let p = priced.started s w e in let f = fits s w e in omega arith
+
+  certifies : Certifies (claim wave starts prices)
+  certifies (Open s) = open_at s (start_of starts s) refl
+  certifies (Allowed s w) = λ e. (let a = admissible s w e in (a.live, a.not_barred))
+  certifies (Room w) = room w
+  certifies (SplitPrice s) = split_price_at s (start_of starts s) refl
+  certifies (WorkerPrice w) = worker_price_at w
+  certifies (Priced s w) = priced_at_all s w (start_of starts s) refl
+  certifies (Tight s w) = tight s w
+  certifies (Unstarted s) = priced.unstarted s
+  certifies (Spare w) = spare w
+
+pub prices_certify : PricesCertify
+prices_certify wave nodes arcs flows h starts prices network shipped reduced at_sink plan priced =
+    certifies wave nodes arcs flows h starts prices network shipped reduced at_sink plan priced

@@ -1,0 +1,10 @@
+-- sums at a node, and depths along a way
+pub mod Sums
+pub mod Ways
+-- each pending split sends one unit
+pub mod Pending
+-- what is read off certifies
+pub mod Certified
+-- units are handed on
+pub mod Units
+pub mod Places

@@ -1,0 +1,60 @@
+-- What a network of a wave has to offer, so that a plan and prices can be read off its flows.
+use Rattle.std.specs.Prelude.{◌≡◌, ℕ, ◌<◌, ◌≤◌, true, List, ◌∷◌, length, unwrap_or}
+use Rattle.flow_network.specs.declared.arcs.FlowArc.{FlowArc}
+use Rattle.flow_network.specs.Flows.{arc_at}
+use Rattle.flow_network.specs.Laws.{outroom}
+use Rattle.wave_problem.specs.Wave.{Wave, IsAdmissible, split_at, worker_at, cost, reward}
+use Rattle.network_prices.specs.Pending.{IsUsable}
+use Rattle.network_prices.specs.Ways.{inroom, IsAmong, IsWay, IsInner}
+
+-- the nodes of a network but for the splits, whose nodes are their numbers
+pub record WaveNodes : Type 0 where
+  pub worker : ℕ → ℕ
+  pub above : ℕ → List ℕ
+  pub unstarted : ℕ
+  pub sink : ℕ
+
+-- the way up from a worker's node to the root
+abbrev pub way_of : WaveNodes → ℕ → List ℕ
+way_of nodes w = nodes.worker w ∷ nodes.above w
+
+-- an arc by its number
+pub record IsArcFrom (arcs : List FlowArc) (k u v capacity cost : ℕ) : Type 0 where
+  pub listed : k < length arcs
+  pub from_is : (arc_at arcs k).from ≡ u
+  pub to_is : (arc_at arcs k).to ≡ v
+  pub capacity_is : (arc_at arcs k).capacity ≡ capacity
+  pub cost_is : (arc_at arcs k).cost ≡ cost
+
+-- an arc of a split that leads to a node of a way, at no more than a cost
+pub record IsOffer (arcs : List FlowArc) (s : ℕ) (way : List ℕ) (most k : ℕ) : Type 0 where
+  pub listed : k < length arcs
+  pub from_is : (arc_at arcs k).from ≡ s
+  pub on_way : IsAmong (arc_at arcs k).to way
+  pub one : (arc_at arcs k).capacity ≡ 1
+  pub at_most : (arc_at arcs k).cost ≤ most
+
+-- Each way up from a worker is a way of the network. The arcs of a split to a way's nodes are just what makes
+-- its starts there admissible, at no less than a start's cost, and one of them costs no more.
+pub record IsWaveNetwork (wave : Wave) (nodes : WaveNodes) (arcs : List FlowArc) : Type 0 where
+  pub past_splits : length wave.splits ≤ nodes.sink
+  pub no_entry : (k : ℕ) → k < length arcs → length wave.splits ≤ (arc_at arcs k).to
+  pub ways : (w : ℕ) → IsUsable wave w → IsWay arcs (length wave.splits) nodes.sink (way_of nodes w)
+  pub closed : (w k : ℕ) → w < length wave.workers → (IsUsable wave w → ⊥) → k < length arcs
+      → (arc_at arcs k).to ≡ nodes.worker w → ⊥
+  pub known : (w : ℕ) → length wave.splits ≤ nodes.worker w
+  pub sound : (s w k : ℕ) → s < length wave.splits → IsUsable wave w → k < length arcs
+      → (arc_at arcs k).from ≡ s → IsAmong (arc_at arcs k).to (way_of nodes w)
+      → IsAdmissible wave s w × (unwrap_or (cost wave s w) 0 ≤ (arc_at arcs k).cost)
+  pub complete : (s w : ℕ) → IsAdmissible wave s w
+      → (k : ℕ) × IsOffer arcs s (way_of nodes w) (unwrap_or (cost wave s w) 0) k
+  pub wait : (s : ℕ) → (split_at wave s).pending ≡ true
+      → (k : ℕ) × IsArcFrom arcs k s nodes.unstarted 1 (reward wave)
+  pub waiting : (k : ℕ) → k < length arcs → (arc_at arcs k).to ≡ nodes.unstarted
+      → ((arc_at arcs k).from < length wave.splits) × ((arc_at arcs k).cost ≡ reward wave)
+  pub rest : (k : ℕ) × IsArcFrom arcs k nodes.unstarted nodes.sink (inroom arcs nodes.unstarted) 0
+  pub apart : (w : ℕ) → IsUsable wave w → IsAmong nodes.unstarted (way_of nodes w) → ⊥
+  pub rest_inner : IsInner (length wave.splits) nodes.sink nodes.unstarted
+  pub slot : (w : ℕ) → IsUsable wave w
+      → (k : ℕ) × IsArcFrom arcs k (nodes.worker w) nodes.sink (worker_at wave w).free 0
+  pub slots : (w : ℕ) → IsUsable wave w → outroom arcs (nodes.worker w) ≡ (worker_at wave w).free

@@ -1,0 +1,123 @@
+-- What a start costs, by the level at which its worker meets a live holder.
+use Rattle.std.proofs.Common.{◌≡◌, ℕ, zero, suc, ◌*◌, ◌<◌, ◌≤◌, Bool, true, min, List, [], ◌∷◌, length, get_or, map, filter, fold, Option, Some, refl, sym, ap, ◌∙◌, inl, inr, ◌⊎◌, arith, unwrap_or}
+use Rattle.std.specs.Option.{option_map}
+use Rattle.std.proofs.lemmas.Bool.{cases_Bool, cases_eq, cases_lt, eq-eqb, ne_eqb}
+use Rattle.std.proofs.Math.Nat.{mul-le-mul_left}
+use Rattle.rack_tree.specs.Tree.{Tree, distance}
+use Rattle.wave_problem.specs.Sums.{least}
+use Rattle.wave_problem.specs.Wave.{Wave, split_at, worker_at, worker_in, live_holders, least_distance, cost}
+use Rattle.network_prices.specs.Ways.{IsAmong}
+
+-- the least of a list is no more than each of its numbers, and one of them
+fold-le : (xs : List ℕ) (a : ℕ) → fold min a xs ≤ a
+fold-le [] a = omega arith
+fold-le (x ∷ xs) a = let rest = fold-le xs (min a x) in omega arith
+
+fold-le_each : (f : ℕ → ℕ) (xs : List ℕ) (a x : ℕ) → IsAmong x xs → fold min a (map f xs) ≤ f x
+fold-le_each f [] a x among = absurd among
+fold-le_each f (y ∷ ys) a x among = elim among [
+  | inl e ↦ (let low = fold-le (map f ys) (min a (f y)) in let same = ap f e in omega arith)
+  | inr r ↦ fold-le_each f ys (min a (f y)) x r
+]
+
+pub least-le : (f : ℕ → ℕ) (xs : List ℕ) (x d : ℕ) → IsAmong x xs → least (map f xs) ≡ Some d → d ≤ f x
+least-le f [] x d among e = absurd among
+least-le f (y ∷ ys) x d among e =
+    let is : fold min (f y) (map f ys) ≡ d = cc in
+    elim among [
+      | inl s ↦ (let low = fold-le (map f ys) (f y) in let same = ap f s in omega arith)
+      | inr r ↦ (let low = fold-le_each f ys (f y) x r in omega arith)
+    ]
+
+min_is : (a b : ℕ) → (min a b ≡ a) ⊎ (min a b ≡ b)
+min_is a b = elim (cases_lt a b) [ inl l ↦ inl (omega arith) | inr n ↦ inr (omega arith) ]
+
+fold_is : (f : ℕ → ℕ) (xs : List ℕ) (a : ℕ) → (fold min a (map f xs) ≡ a) ⊎ ((x : ℕ) × IsAmong x xs × (fold min a (map f xs) ≡ f x))
+fold_is f [] a = inl refl
+fold_is f (y ∷ ys) a = elim (fold_is f ys (min a (f y))) [
+  | inr r ↦ inr (r.0, inr r.1, r.2)
+  | inl e ↦ elim (min_is a (f y)) [ inl p ↦ inl (e ∙ p) | inr q ↦ inr (y, inl refl, e ∙ q) ]
+]
+
+pub least_is : (f : ℕ → ℕ) (xs : List ℕ) → 0 < length xs → (x : ℕ) × IsAmong x xs × (least (map f xs) ≡ Some (f x))
+least_is f [] l = absurd (omega arith)
+least_is f (y ∷ ys) l = elim (fold_is f ys (f y)) [
+  | inl e ↦ (y, inl refl, ap Some e)
+  | inr r ↦ (r.0, inr r.1, ap Some r.2)
+]
+
+among_some : (xs : List ℕ) (x : ℕ) → IsAmong x xs → 0 < length xs
+among_some [] x a = absurd a
+among_some (y ∷ ys) x a = omega arith
+
+among_live : (p : ℕ → Bool) (xs : List ℕ) (x : ℕ) → IsAmong x (filter p xs) → p x ≡ true
+among_live p [] x a = absurd a
+among_live p (y ∷ ys) x a = elim (cases_Bool (p y)) [
+  | inl t ↦ (let here : IsAmong x (y ∷ filter p ys) = rw t at a in
+      elim here [ inl e ↦ ap p e ∙ t | inr r ↦ among_live p ys x r ])
+  | inr f ↦ among_live p ys x (let rest : IsAmong x (filter p ys) = rw f at a in rest)
+]
+
+pub holder_live : (wave : Wave) (s h : ℕ) → IsAmong h (live_holders wave s) → (worker_at wave h).live ≡ true
+holder_live wave s h a = among_live (λ h. (worker_in wave.workers h).live) (split_at wave s).holders h a
+
+pub holder_held : (wave : Wave) (s h : ℕ) → IsAmong h (live_holders wave s) → 0 < length (live_holders wave s)
+holder_held wave s h a = among_some (live_holders wave s) h a
+
+-- no live holder is nearer than a start's cost says, and one is as near
+cost_at : (wave : Wave) (s w d : ℕ) → least_distance wave s w ≡ Some d → unwrap_or (cost wave s w) 0 ≡ (split_at wave s).bytes * d
+cost_at wave s w d e = ap (λ (o : Option ℕ). unwrap_or (option_map (λ d. (split_at wave s).bytes * d) o) 0) e
+
+pub cost-le : (wave : Wave) (s w h : ℕ) → IsAmong h (live_holders wave s) → unwrap_or (cost wave s w) 0 ≤ (split_at wave s).bytes * distance wave.tree h w
+cost-le wave s w h among =
+    let best = least_is (λ h. distance wave.tree h w) (live_holders wave s) (holder_held wave s h among) in
+    let near = least-le (λ h. distance wave.tree h w) (live_holders wave s) h (distance wave.tree best.0 w) among best.2 in
+    let is = cost_at wave s w (distance wave.tree best.0 w) best.2 in
+    let scaled = mul-le-mul_left (split_at wave s).bytes near in
+    omega arith
+
+pub cost_is : (wave : Wave) (s w : ℕ) → 0 < length (live_holders wave s)
+    → (h : ℕ) × IsAmong h (live_holders wave s) × (unwrap_or (cost wave s w) 0 ≡ (split_at wave s).bytes * distance wave.tree h w)
+cost_is wave s w held =
+    let best = least_is (λ h. distance wave.tree h w) (live_holders wave s) held in
+    (best.0, best.1, cost_at wave s w (distance wave.tree best.0 w) best.2)
+
+-- the level at which two workers meet: they are the same, or of one rack, or of the cluster
+abbrev pub Meet : Tree → ℕ → ℕ → ℕ → Type 0
+Meet tree zero h w = h ≡ w
+Meet tree (suc zero) h w = get_or tree.rack_of h 0 ≡ get_or tree.rack_of w 0
+Meet tree (suc (suc level)) h w = Unit {0}
+
+pub distance-le : (tree : Tree) (level h w : ℕ) → Meet tree level h w → distance tree h w ≤ 2 * level
+distance-le tree zero h w m =
+    let r : get_or tree.rack_of h 0 ≡ get_or tree.rack_of w 0 = ap (λ (x : ℕ). get_or tree.rack_of x 0) m in
+    rw (eq-eqb (get_or tree.rack_of h 0) (get_or tree.rack_of w 0) r, eq-eqb (get_or tree.rack_of w 0) (get_or tree.rack_of h 0) (sym r), eq-eqb h w m, eq-eqb w h (sym m)) (omega arith)
+distance-le tree (suc zero) h w m =
+    rw (eq-eqb (get_or tree.rack_of h 0) (get_or tree.rack_of w 0) m, eq-eqb (get_or tree.rack_of w 0) (get_or tree.rack_of h 0) (sym m)) (omega arith)
+distance-le tree (suc (suc level)) h w m = omega arith
+
+pub distance_is : (tree : Tree) (h w : ℕ) → (level : ℕ) × (level < 3) × Meet tree level h w × (distance tree h w ≡ 2 * level)
+distance_is tree h w = elim (cases_eq (get_or tree.rack_of h 0) (get_or tree.rack_of w 0)) [
+  | inr n ↦ (2, omega arith, tt, rw (ne_eqb (get_or tree.rack_of h 0) (get_or tree.rack_of w 0) n, ne_eqb (get_or tree.rack_of w 0) (get_or tree.rack_of h 0) (λ q. n (sym q))) refl)
+  | inl e ↦ elim (cases_eq h w) [
+    | inl s ↦ (0, omega arith, s, rw (eq-eqb (get_or tree.rack_of h 0) (get_or tree.rack_of w 0) e, eq-eqb (get_or tree.rack_of w 0) (get_or tree.rack_of h 0) (sym e), eq-eqb h w s, eq-eqb w h (sym s)) refl)
+    | inr n ↦ (1, omega arith, e, rw (eq-eqb (get_or tree.rack_of h 0) (get_or tree.rack_of w 0) e, eq-eqb (get_or tree.rack_of w 0) (get_or tree.rack_of h 0) (sym e), ne_eqb h w n, ne_eqb w h (λ q. n (sym q))) refl)
+  ]
+]
+
+-- a live holder stands in the list of the holders, and each that stands there and lives is one
+pub holder_place : (p : ℕ → Bool) (xs : List ℕ) (h : ℕ) → IsAmong h (filter p xs) → (j : ℕ) × (j < length xs) × (get_or xs j 0 ≡ h)
+holder_place p [] h a = absurd a
+holder_place p (y ∷ ys) h a = elim (cases_Bool (p y)) [
+  | inl t ↦ (let here : IsAmong h (y ∷ filter p ys) = rw t at a in
+      elim here [ inl e ↦ (0, omega arith, sym e) | inr r ↦ (let found = holder_place p ys h r in let l = found.1 in (suc found.0, omega arith, found.2)) ])
+  | inr f ↦ (let rest : IsAmong h (filter p ys) = rw f at a in let found = holder_place p ys h rest in let l = found.1 in (suc found.0, omega arith, found.2))
+]
+
+pub among_kept : (p : ℕ → Bool) (xs : List ℕ) (i : ℕ) → i < length xs → p (get_or xs i 0) ≡ true → IsAmong (get_or xs i 0) (filter p xs)
+among_kept p [] i l t = absurd (omega arith)
+among_kept p (y ∷ ys) zero l t = rw t (inl refl)
+among_kept p (y ∷ ys) (suc i) l t = elim (cases_Bool (p y)) [
+  | inl k ↦ rw k (inr (among_kept p ys i (omega arith) t))
+  | inr f ↦ rw f (among_kept p ys i (omega arith) t)
+]

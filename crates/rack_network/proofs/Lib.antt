@@ -1,0 +1,10 @@
+-- what a start costs, by where its worker meets a holder, and that the network is one of its wave
+pub mod Levels
+pub mod RackWays
+-- the network is built
+pub mod Adding
+pub mod Steps
+-- the plan is read off
+pub mod Ends
+-- units are shipped
+pub mod Shipping

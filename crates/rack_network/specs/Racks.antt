@@ -1,0 +1,129 @@
+-- The rack network of a wave: its nodes by their places, and its arcs.
+use Rattle.std.specs.Prelude.{ℕ, ◌≡◌, ◌+◌, ◌*◌, ◌<◌, ◌≤◌, ◌==◌, true, cond, List, [], ◌∷◌, length, unwrap_or, slice_index, Option}
+use Rattle.node_ids.specs.Sets.{HasPair}
+use Rattle.wave_problem.specs.Wave.{Wave, IsAdmissible, split_at, worker_at, live_holders, cost, reward}
+use Rattle.wave_problem.specs.Sums.{sum_below}
+use Rattle.price_certificate.specs.PriceList.{PriceList}
+use Rattle.price_certificate.specs.Certificate.{claim, Certifies}
+use Rattle.flow_network.specs.declared.arcs.FlowArc.{FlowArc}
+use Rattle.flow_network.specs.Flows.{arc_at, NoNegative}
+use Rattle.flow_network.specs.Laws.{outroom}
+use Rattle.network_prices.specs.Pending.{IsUsable, pending_splits}
+use Rattle.network_prices.specs.Ways.{inroom, IsAmong}
+use Rattle.network_prices.specs.Networks.{WaveNodes, way_of}
+use Rattle.network_prices.specs.Prices.{IsShipped, IsPlanOf, ArePricesOf}
+use Rattle.rack_network.specs.declared.layout.RackLayout.{RackLayout}
+use Rattle.rack_network.specs.declared.arcs.RackArc.{RackArc}
+use Rattle.rack_network.specs.declared.arcs.RackArc.TheVariants.{Pair, Reach, Wait, Branch, Feed, Slot, Rest}
+
+-- a layout of the wave's size
+pub record IsSized (wave : Wave) (layout : RackLayout) : Type 0 where
+  pub splits : layout.splits ≡ length wave.splits
+  pub racks : layout.racks ≡ wave.tree.racks
+  pub workers : layout.workers ≡ length wave.workers
+
+-- the nodes: a split has its own number; then the cluster, the racks, the workers, the node of the splits that are
+-- not started, and the sink
+abbrev pub cluster_node : Wave → ℕ
+cluster_node wave = length wave.splits
+
+abbrev pub rack_node : Wave → ℕ → ℕ
+rack_node wave r = length wave.splits + 1 + r
+
+abbrev pub worker_node : Wave → ℕ → ℕ
+worker_node wave w = length wave.splits + 1 + wave.tree.racks + w
+
+abbrev pub unstarted_node : Wave → ℕ
+unstarted_node wave = length wave.splits + 1 + wave.tree.racks + length wave.workers
+
+abbrev pub sink_node : Wave → ℕ
+sink_node wave = length wave.splits + 1 + wave.tree.racks + length wave.workers + 1
+
+abbrev pub rack_of : Wave → ℕ → ℕ
+rack_of wave w = slice_index wave.tree.rack_of w
+
+-- above a worker's node hang its rack's and the cluster's
+abbrev pub rack_nodes : Wave → WaveNodes
+rack_nodes wave = record {
+  worker = worker_node wave;
+  above = λ w. rack_node wave (rack_of wave w) ∷ cluster_node wave ∷ [];
+  unstarted = unstarted_node wave;
+  sink = sink_node wave;
+}
+
+-- the node so many levels above a worker
+abbrev pub node_above : Wave → ℕ → ℕ → ℕ
+node_above wave level w = slice_index (way_of (rack_nodes wave) w) level
+
+-- the free slots that a live worker has, and those of a rack's live workers below n
+abbrev pub slots_of : Wave → ℕ → ℕ
+slots_of wave w = cond (worker_at wave w).live (worker_at wave w).free 0
+
+abbrev pub slots_below : Wave → ℕ → ℕ → ℕ
+slots_below wave n r = sum_below n (λ w. cond (rack_of wave w == r) (slots_of wave w) 0)
+
+-- a split has a barred pair
+abbrev pub HasBars : Wave → ℕ → Type 0
+HasBars wave s = (w : ℕ) × (w < length wave.workers) × HasPair wave.barred s w
+
+-- an arc of the network
+abbrev pub arc_of : Wave → RackArc → FlowArc
+arc_of wave (Pair s w) =
+    record { from = s; to = worker_node wave w; capacity = 1; cost = unwrap_or (cost wave s w) 0 }
+arc_of wave (Reach s level h) =
+    record { from = s; to = node_above wave level h; capacity = 1; cost = (split_at wave s).bytes * (2 * level) }
+arc_of wave (Wait s) = record { from = s; to = unstarted_node wave; capacity = 1; cost = reward wave }
+arc_of wave (Branch r) =
+    record { from = cluster_node wave; to = rack_node wave r; capacity = slots_below wave (length wave.workers) r; cost = 0 }
+arc_of wave (Feed w) =
+    record { from = rack_node wave (rack_of wave w); to = worker_node wave w; capacity = (worker_at wave w).free; cost = 0 }
+arc_of wave (Slot w) =
+    record { from = worker_node wave w; to = sink_node wave; capacity = (worker_at wave w).free; cost = 0 }
+arc_of wave Rest =
+    record { from = unstarted_node wave; to = sink_node wave; capacity = length (pending_splits wave); cost = 0 }
+
+-- a split without barred pairs reaches the nodes above each live holder, and the holder's own where it has a free
+-- slot
+pub record IsReach (wave : Wave) (s level h : ℕ) : Type 0 where
+  pub pending : (split_at wave s).pending ≡ true
+  pub no_bars : HasBars wave s → ⊥
+  pub levels : level < 3
+  pub holder : IsAmong h (live_holders wave s)
+  pub has_slot : level ≡ 0 → 0 < (worker_at wave h).free
+
+-- whether the wave has it
+abbrev pub IsWanted : Wave → RackArc → Type 0
+IsWanted wave (Pair s w) = IsAdmissible wave s w × HasBars wave s
+IsWanted wave (Reach s level h) = IsReach wave s level h
+IsWanted wave (Wait s) = (split_at wave s).pending ≡ true
+IsWanted wave (Branch r) = r < wave.tree.racks
+IsWanted wave (Feed w) = IsUsable wave w
+IsWanted wave (Slot w) = w < length wave.workers
+IsWanted wave Rest = Unit {0}
+
+-- an arc stands in a list
+abbrev pub Stands : List FlowArc → FlowArc → Type 0
+Stands arcs a = (k : ℕ) × (k < length arcs) × (arc_at arcs k ≡ a)
+
+-- The arcs of the rack network of a wave: each of them, and no others, in an order in which each leads past the
+-- starts of those before it. What leaves a rack or a worker, and what comes to the node of the splits that are not
+-- started, can carry just what the one arc on its other side can.
+pub record IsRackNetwork (wave : Wave) (arcs : List FlowArc) : Type 0 where
+  pub sound : (k : ℕ) → k < length arcs → (d : RackArc) × IsWanted wave d × (arc_at arcs k ≡ arc_of wave d)
+  pub complete : (d : RackArc) → IsWanted wave d → Stands arcs (arc_of wave d)
+  pub ordered : (j k : ℕ) → j ≤ k → k < length arcs → (arc_at arcs j).from < (arc_at arcs k).to
+  pub racks_known : (w : ℕ) → w < length wave.workers → rack_of wave w < wave.tree.racks
+  pub worker_room : (w : ℕ) → w < length wave.workers → outroom arcs (worker_node wave w) ≡ (worker_at wave w).free
+  pub rack_room : (r : ℕ) → r < wave.tree.racks
+      → outroom arcs (rack_node wave r) ≡ slots_below wave (length wave.workers) r
+  pub waiting_room : inroom arcs (unstarted_node wave) ≡ length (pending_splits wave)
+
+-- read off a flow and potentials under which no residual arc has a negative reduced cost, the prices certify
+-- the plan
+abbrev pub RackPricesCertify : Type 0
+RackPricesCertify =
+    (wave : Wave) (arcs : List FlowArc) (flows : List ℕ) (h : ℕ → ℕ) (starts : List (Option ℕ)) (prices : PriceList)
+    → IsRackNetwork wave arcs → IsShipped wave (rack_nodes wave) arcs flows
+    → NoNegative arcs flows h → h (sink_node wave) ≡ 0
+    → IsPlanOf wave (rack_nodes wave) arcs flows starts → ArePricesOf wave (rack_nodes wave) h starts prices
+    → Certifies (claim wave starts prices)
