@@ -5,7 +5,7 @@ use rack_tree::RackTree;
 use std::alloc::Global;
 use std::process::Abort;
 use std::test::Fail;
-use wave_planner::plan;
+use wave_planner::{NetworkKind, plan_with};
 use wave_problem::{Problem, SplitLine, WorkerLine};
 
 fn tree(rt: &impl Abort, alloc: Global, small: &Small) -> Result<RackTree, Fail> {
@@ -80,18 +80,17 @@ fn problem(rt: &impl Abort, alloc: Global, small: &Small) -> Result<Problem, Fai
 
 fn assert_best(rt: &impl Abort, alloc: Global, small: &Small) -> Result<(), Fail> {
     let problem = problem(rt, alloc, small)?;
-    let planned = plan(alloc, &problem)?;
     let best = small.best();
     let want = Certified {
         count: best.count,
         cost: best.cost,
     };
-    assert_eq!(rt; planned.certified(), want, "{small:?}");
-    assert_eq!(rt;
-        certify(&problem, planned.plan(), planned.prices()),
-        Ok(want),
-        "{small:?}"
-    );
+    for kind in [NetworkKind::Direct, NetworkKind::Racks] {
+        let planned = plan_with(alloc, &problem, kind)?;
+        assert_eq!(rt; planned.certified(), want, "{kind:?}: {small:?}");
+        let certified = certify(&problem, planned.plan(), planned.prices());
+        assert_eq!(rt; certified, Ok(want), "{kind:?}: {small:?}");
+    }
     Ok(())
 }
 

@@ -7,11 +7,14 @@ use Rattle.wave_problem.specs.Wave.{Wave, split_at, worker_at}
 use Rattle.wave_problem.proofs.Bound.{pending_known}
 use Rattle.wave_planner.specs.declared.direct.DirectArc.TheVariants.{Slot}
 use Rattle.wave_planner.specs.Direct.{IsDirect, arc_of, worker_node, sink_node}
-use Rattle.wave_planner.specs.Networks.{Stands, pending_splits}
+use Rattle.network_prices.specs.Pending.{pending_splits}
+use Rattle.wave_planner.specs.Networks.{Stands}
 use Rattle.wave_planner.specs.Prices.{IsShipped}
-use Rattle.wave_planner.proofs.Sums.{inflow_none, outflow_none, outflow-only, units_off, units_on}
+use Rattle.network_prices.proofs.Sums.{inflow_none}
+use Rattle.network_prices.proofs.Pending.{units_off, units_on}
+use Rattle.wave_planner.proofs.Sums.{outflow_none, outflow-only}
 use Rattle.wave_planner.proofs.Ends.{enters_no_split, leaves_no_sink}
-use Rattle.wave_planner.proofs.Pending.{times_past, times_pending}
+use Rattle.network_prices.proofs.Pending.{times_past, times_pending}
 
 module _ (wave : Wave) (arcs : List FlowArc) (flows : List ℕ) (direct : IsDirect wave arcs) (shipped : IsShipped wave arcs flows) where
   -- one unit leaves a pending split

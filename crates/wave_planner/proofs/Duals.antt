@@ -17,9 +17,11 @@ use Rattle.price_certificate.specs.declared.Condition.TheVariants.{Open, Allowed
 use Rattle.price_certificate.specs.Certificate.{claim, Certifies, Holds, worker_price}
 use Rattle.wave_planner.specs.declared.direct.DirectArc.TheVariants.{Pair, Wait, Slot, Rest}
 use Rattle.wave_planner.specs.Direct.{IsDirect, arc_of, worker_node, unstarted_node, sink_node}
-use Rattle.wave_planner.specs.Networks.{pending_splits, Carries, IsUsable}
+use Rattle.network_prices.specs.Pending.{pending_splits, IsUsable}
+use Rattle.wave_planner.specs.Networks.{Carries}
 use Rattle.wave_planner.specs.Prices.{IsReadOff, IsShipped, ArePrices, DirectPricesCertify}
-use Rattle.wave_planner.proofs.Sums.{outflow-ge_two, inflow-ge, inflow-ge_two, carrier}
+use Rattle.network_prices.proofs.Sums.{outflow-ge_two}
+use Rattle.wave_planner.proofs.Sums.{inflow-ge, inflow-ge_two, carrier}
 use Rattle.wave_planner.proofs.Ends.{leaves_split, enters_worker}
 use Rattle.wave_planner.proofs.Balances.{out_of_split, through_worker, into_sink, slot_no, slot_flow, load-le}
 

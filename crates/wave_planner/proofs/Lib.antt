@@ -1,6 +1,5 @@
--- for networks of every shape: sums of flows at a node, the pending splits, one arc more
+-- for networks of every shape: sums of flows at a node, one arc more
 pub mod Sums
-pub mod Pending
 pub mod Pushes
 -- the direct network: the arcs that meet at a node, and what they carry
 pub mod Ends

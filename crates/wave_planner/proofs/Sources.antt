@@ -11,10 +11,10 @@ use Rattle.augmenting_paths.specs.Shipping.{CanShip, AreMembers, IsShipment}
 use Rattle.wave_problem.specs.Wave.{Wave}
 use Rattle.wave_planner.specs.declared.direct.DirectArc.TheVariants.{Wait, Rest}
 use Rattle.wave_planner.specs.Direct.{IsDirect, sink_node}
-use Rattle.wave_planner.specs.Networks.{pending_splits}
+use Rattle.network_prices.specs.Pending.{pending_splits}
 use Rattle.wave_planner.specs.Prices.{IsShipped}
 use Rattle.wave_planner.proofs.Ends.{enters_no_split}
-use Rattle.wave_planner.proofs.Pending.{source_in, sources_rise, pending-le}
+use Rattle.network_prices.proofs.Pending.{source_in, sources_rise, pending-le}
 
 can_ship : (wave : Wave) (nodes : ℕ) (arcs : List FlowArc) → IsDirect wave arcs → AreArcs nodes arcs → CanShip nodes arcs (pending_splits wave) (sink_node wave)
 can_ship wave nodes arcs direct ends = record {

@@ -2,7 +2,7 @@
 use Rattle.std.proofs.Common.{◌≡◌, ℕ, zero, suc, ◌+◌, ◌*◌, ◌<◌, ◌≤◌, cond, eqb, List, [], ◌∷◌, length, get_or, refl, ap, inl, inr, arith}
 use Rattle.std.proofs.lemmas.Bool.{cases_lt, eq-eqb, ne_eqb, cases_eq}
 use Rattle.flow_network.specs.declared.arcs.FlowArc.{FlowArc}
-use Rattle.flow_network.specs.Flows.{arc_at, inflow, outflow, unit_at}
+use Rattle.flow_network.specs.Flows.{arc_at, inflow, outflow}
 
 -- no arc leaves the node
 pub outflow_none : (arcs : List FlowArc) (flows : List ℕ) (u : ℕ) → ((i : ℕ) → i < length arcs → (arc_at arcs i).from ≡ u → ⊥) → outflow arcs flows u ≡ 0
@@ -24,26 +24,7 @@ outflow-only (a ∷ arcs) (f ∷ flows) u (suc j) e l at only =
     let rest = outflow-only arcs flows u j (omega arith) (omega arith) at (λ i m q. let s : suc i ≡ suc j = only (suc i) (omega arith) q in omega arith) in
     rw (ne_eqb a.from u (λ q. let s : 0 ≡ suc j = only 0 (omega arith) q in absurd (omega arith))) (omega arith)
 
--- one arc's flow, and two arcs'
-pub outflow-ge : (arcs : List FlowArc) (flows : List ℕ) (v j : ℕ) → length flows ≡ length arcs → j < length arcs → (arc_at arcs j).from ≡ v → get_or flows j 0 ≤ outflow arcs flows v
-outflow-ge [] flows v j e l at = absurd (omega arith)
-outflow-ge (a ∷ arcs) [] v j e l at = absurd (omega arith)
-outflow-ge (a ∷ arcs) (f ∷ flows) v zero e l at = rw (eq-eqb a.from v at) (omega arith)
-outflow-ge (a ∷ arcs) (f ∷ flows) v (suc j) e l at = let rest = outflow-ge arcs flows v j (omega arith) (omega arith) at in omega arith
-
-pub outflow-ge_two : (arcs : List FlowArc) (flows : List ℕ) (v i j : ℕ) → length flows ≡ length arcs → i < length arcs → j < length arcs → (arc_at arcs i).from ≡ v → (arc_at arcs j).from ≡ v
-    → (i ≡ j → ⊥) → get_or flows i 0 + get_or flows j 0 ≤ outflow arcs flows v
-outflow-ge_two [] flows v i j e l m p q n = absurd (omega arith)
-outflow-ge_two (a ∷ arcs) [] v i j e l m p q n = absurd (omega arith)
-outflow-ge_two (a ∷ arcs) (f ∷ flows) v zero zero e l m p q n = absurd (n refl)
-outflow-ge_two (a ∷ arcs) (f ∷ flows) v zero (suc j) e l m p q n =
-    let rest = outflow-ge arcs flows v j (omega arith) (omega arith) q in rw (eq-eqb a.from v p) (omega arith)
-outflow-ge_two (a ∷ arcs) (f ∷ flows) v (suc i) zero e l m p q n =
-    let rest = outflow-ge arcs flows v i (omega arith) (omega arith) p in rw (eq-eqb a.from v q) (omega arith)
-outflow-ge_two (a ∷ arcs) (f ∷ flows) v (suc i) (suc j) e l m p q n =
-    let rest = outflow-ge_two arcs flows v i j (omega arith) (omega arith) (omega arith) p q (λ s. n (ap suc s)) in omega arith
-
--- the same of what flows in
+-- the flow of one arc that enters, and of two
 pub inflow-ge : (arcs : List FlowArc) (flows : List ℕ) (v j : ℕ) → length flows ≡ length arcs → j < length arcs → (arc_at arcs j).to ≡ v → get_or flows j 0 ≤ inflow arcs flows v
 inflow-ge [] flows v j e l at = absurd (omega arith)
 inflow-ge (a ∷ arcs) [] v j e l at = absurd (omega arith)
@@ -61,14 +42,6 @@ inflow-ge_two (a ∷ arcs) (f ∷ flows) v (suc i) zero e l m p q n =
     let rest = inflow-ge arcs flows v i (omega arith) (omega arith) p in rw (eq-eqb a.to v q) (omega arith)
 inflow-ge_two (a ∷ arcs) (f ∷ flows) v (suc i) (suc j) e l m p q n =
     let rest = inflow-ge_two arcs flows v i j (omega arith) (omega arith) (omega arith) p q (λ s. n (ap suc s)) in omega arith
-
--- no arc enters the node
-pub inflow_none : (arcs : List FlowArc) (flows : List ℕ) (v : ℕ) → ((i : ℕ) → i < length arcs → (arc_at arcs i).to ≡ v → ⊥) → inflow arcs flows v ≡ 0
-inflow_none [] flows v n = refl
-inflow_none (a ∷ arcs) [] v n = refl
-inflow_none (a ∷ arcs) (f ∷ flows) v n =
-    let rest = inflow_none arcs flows v (λ i l e. n (suc i) (omega arith) e) in
-    rw (ne_eqb a.to v (λ e. n 0 (omega arith) e)) (omega arith)
 
 -- where something flows in, an arc brings it
 carrier_rest : (arcs : List FlowArc) (a : FlowArc) (f : ℕ) (flows : List ℕ) (v : ℕ)
@@ -104,10 +77,3 @@ carrier_out (a ∷ arcs) (f ∷ flows) v m = elim (cases_eq a.from v) [
         let t = carrier_out arcs flows v (omega arith) in let l = t.1 in (suc t.0, omega arith, t.2, t.3))
   ]
 ]
-
--- count units at one node alone
-pub units_off : (count t v : ℕ) → (t ≡ v → ⊥) → count * unit_at t v ≡ 0
-units_off count t v n = rw (ne_eqb t v n) (omega arith)
-
-pub units_on : (count t : ℕ) → count * unit_at t t ≡ count
-units_on count t = rw (eq-eqb t t refl) (omega arith)

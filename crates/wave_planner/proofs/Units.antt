@@ -12,7 +12,8 @@ use Rattle.wave_problem.proofs.Bound.{pending_known, live_known}
 use Rattle.wave_planner.specs.Direct.{IsDirect, worker_node}
 use Rattle.wave_planner.specs.Prices.{IsReadOff, IsShipped}
 use Rattle.wave_planner.specs.Reading.{IsPairUnit, IsReadTo}
-use Rattle.wave_planner.proofs.Sums.{outflow-ge, outflow-ge_two, carrier_out}
+use Rattle.network_prices.proofs.Sums.{outflow-ge, outflow-ge_two}
+use Rattle.wave_planner.proofs.Sums.{carrier_out}
 use Rattle.flow_network.proofs.HandOn.{inflow-more}
 use Rattle.wave_planner.proofs.Balances.{out_of_split, through_worker}
 use Rattle.wave_planner.proofs.Ends.{leaves_split, enters_worker}

@@ -3,7 +3,8 @@ use Rattle.std.specs.Prelude.{ℕ, ◌≡◌, ◌+◌, ◌<◌, true, List, leng
 use Rattle.wave_problem.specs.Wave.{Wave, IsAdmissible, split_at, worker_at, cost, reward}
 use Rattle.flow_network.specs.declared.arcs.FlowArc.{FlowArc}
 use Rattle.flow_network.specs.Flows.{arc_at}
-use Rattle.wave_planner.specs.Networks.{pending_splits, Stands, AreRising}
+use Rattle.network_prices.specs.Pending.{pending_splits}
+use Rattle.wave_planner.specs.Networks.{Stands, AreRising}
 use Rattle.wave_planner.specs.declared.layout.DirectLayout.{DirectLayout}
 use Rattle.wave_planner.specs.declared.direct.DirectArc.{DirectArc}
 use Rattle.wave_planner.specs.declared.direct.DirectArc.TheVariants.{Pair, Wait, Slot, Rest}

@@ -4,18 +4,6 @@ use Rattle.wave_problem.specs.Wave.{Wave, split_at, worker_at}
 use Rattle.flow_network.specs.declared.arcs.FlowArc.{FlowArc}
 use Rattle.flow_network.specs.Flows.{arc_at}
 
--- the pending splits below a number, and all of them, rising
-abbrev pub pending_below : Wave → ℕ → List ℕ
-pending_below wave zero = []
-pending_below wave (suc n) = cond (split_at wave n).pending (pending_below wave n ++ n ∷ []) (pending_below wave n)
-
-abbrev pub pending_splits : Wave → List ℕ
-pending_splits wave = pending_below wave (length wave.splits)
-
--- a live worker with a free slot
-abbrev pub IsUsable : Wave → ℕ → Type 0
-IsUsable wave w = ((worker_at wave w).live ≡ true) × (0 < (worker_at wave w).free)
-
 -- an arc stands in a list
 abbrev pub Stands : List FlowArc → FlowArc → Type 0
 Stands arcs a = (k : ℕ) × (k < length arcs) × (arc_at arcs k ≡ a)

@@ -7,7 +7,8 @@ use Rattle.price_certificate.specs.Certificate.{claim, Certifies, split_price, w
 use Rattle.flow_network.specs.declared.arcs.FlowArc.{FlowArc}
 use Rattle.flow_network.specs.Flows.{outflow, NoNegative}
 use Rattle.augmenting_paths.specs.Shipping.{IsShipment}
-use Rattle.wave_planner.specs.Networks.{pending_splits, Carries, IsUsable}
+use Rattle.network_prices.specs.Pending.{pending_splits, IsUsable}
+use Rattle.wave_planner.specs.Networks.{Carries}
 use Rattle.wave_planner.specs.Direct.{IsDirect, worker_node, unstarted_node, sink_node}
 
 -- one unit goes from each pending split to the sink

@@ -3,7 +3,7 @@ use Rattle.std.specs.Prelude.{ℕ, ◌≡◌, ◌+◌, ◌-◌, List, slice_inde
 use Rattle.wave_problem.specs.Wave.{Wave, cost, reward}
 use Rattle.wave_problem.specs.Assignment.{start_of}
 use Rattle.wave_planner.specs.Direct.{worker_node}
-use Rattle.wave_planner.specs.Networks.{IsUsable}
+use Rattle.network_prices.specs.Pending.{IsUsable}
 
 -- of a slot of w: how deep a usable worker's node lies, else nothing
 pub record IsSlotPrice (wave : Wave) (h : ℕ → ℕ) (w price : ℕ) : Type 0 where

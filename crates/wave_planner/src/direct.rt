@@ -4,7 +4,7 @@ ghost use Rattle.wave_problem.specs.Wave.{Wave};
 ghost use Rattle.wave_problem.specs.declared.TheConstants.{MAX_SPLITS};
 ghost use Rattle.wave_planner.specs.Layout.{is_node, place_of};
 ghost use Rattle.wave_planner.specs.Direct.{arc_of, IsWanted};
-ghost use Rattle.wave_planner.specs.Networks.{pending_splits};
+ghost use Rattle.network_prices.specs.Pending.{pending_splits};
 ghost use Rattle.wave_planner.specs.Prices.{DirectPricesCertify};
 
 use crate::DirectNode;

@@ -1,10 +1,11 @@
 //! Plans of a wave that start as many splits as can be started, at the least cost, with prices that show it.
 //!
-//! `plan` builds the direct network of a problem, ships a unit from each pending split to the sink at the
-//! least cost, and reads the plan off the flow and the prices off the potentials. It always answers a best
-//! plan with prices that certify it, or that memory is wanting. The seams, for networks of other shapes too:
-//! a predicate on the arcs, a plan and prices as predicates on flow and potentials, and one law,
-//! `direct_prices_certify`. Stands on `augmenting_paths` and `certificate_checker`.
+//! `plan_with` builds a network of a problem, ships a unit from each pending split to the sink at the least
+//! cost, and reads the plan off the flow and the prices off the potentials. It always answers a best plan
+//! with prices that certify it, or that memory is wanting. The direct network stands here, with its seams: a
+//! predicate on the arcs, a plan and prices as predicates on flow and potentials, and one law,
+//! `direct_prices_certify`. The network with racks, over which `plan` goes, is `rack_network`'s. Stands on
+//! that, on `augmenting_paths` and on `certificate_checker`.
 #![tactic(auto)]
 
 mod direct;
@@ -17,7 +18,7 @@ mod reading;
 pub use direct::{DirectArc, MAX_ARCS, direct_prices_certify};
 pub use layout::{DirectLayout, DirectNode};
 pub use network::build_direct;
-pub use planning::{PlanError, Planned, plan};
+pub use planning::{NetworkKind, PlanError, Planned, plan, plan_with};
 pub use pricing::prices_of;
 pub use reading::plan_of;
 

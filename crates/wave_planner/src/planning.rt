@@ -3,7 +3,7 @@ ghost use Rattle.std.specs.Prelude.{◌≡◌, map, length, IfOk};
 ghost use Rattle.wave_problem.specs.Assignment.{pairs_of, total, IsBest};
 ghost use Rattle.price_certificate.specs.Certificate.{claim, Certifies, HasOneSize};
 ghost use Rattle.wave_planner.specs.declared.layout.DirectNode.TheVariants.{Split};
-ghost use Rattle.wave_planner.specs.Networks.{pending_splits};
+ghost use Rattle.network_prices.specs.Pending.{pending_splits};
 ghost use Rattle.wave_planner.specs.Planned.{WasCertified};
 
 use crate::{DirectNode, build_direct, plan_of, prices_of};
@@ -68,8 +68,17 @@ pub enum PlanError {
     Memory,
 }
 
+/// Over which network a wave is planned. The plans and the prices of the two may differ; both are best.
+#[derive(Clone, Copy, Debug, PartialEq, Eq)]
+pub enum NetworkKind {
+    /// An arc from each pending split to each worker with which it is admissible.
+    Direct,
+    /// Nodes for the racks and the cluster between splits and workers, so that far fewer arcs stand.
+    Racks,
+}
+
 /// A plan that starts as many splits as any admissible assignment, at the least cost among those, with
-/// prices that certify it. It takes one augmentation for each pending split.
+/// prices that certify it. It is made over the network with racks.
 pub fn plan(alloc: Global, problem: &Problem) -> Result<Planned, PlanError>
     ensures sizes { IfOk result (λ planned.
         HasOneSize (claim problem.now planned.plan.starts planned.prices) planned.plan.workers) }
@@ -79,7 +88,20 @@ pub fn plan(alloc: Global, problem: &Problem) -> Result<Planned, PlanError>
     ensures cost { IfOk result (λ planned.
         planned.certified.cost ≡ total problem.now (pairs_of planned.plan.starts)) }
 {
-    let Ok((plan, prices)) = priced_plan(alloc, problem) else {
+    plan_with(alloc, problem, NetworkKind::Racks)
+}
+
+/// The same over a network of this kind. It takes one augmentation for each pending split.
+pub fn plan_with(alloc: Global, problem: &Problem, kind: NetworkKind) -> Result<Planned, PlanError>
+    ensures sizes { IfOk result (λ planned.
+        HasOneSize (claim problem.now planned.plan.starts planned.prices) planned.plan.workers) }
+    ensures certifies { IfOk result (λ planned. Certifies (claim problem.now planned.plan.starts planned.prices)) }
+    ensures best { IfOk result (λ planned. IsBest problem.now (pairs_of planned.plan.starts)) }
+    ensures count { IfOk result (λ planned. planned.certified.count ≡ length (pairs_of planned.plan.starts)) }
+    ensures cost { IfOk result (λ planned.
+        planned.certified.cost ≡ total problem.now (pairs_of planned.plan.starts)) }
+{
+    let Ok((plan, prices)) = priced_plan_over(alloc, problem, kind) else {
         return Err(PlanError::Memory);
     };
     match certify(problem, &plan, &prices) {
@@ -92,7 +114,22 @@ pub fn plan(alloc: Global, problem: &Problem) -> Result<Planned, PlanError>
     }
 }
 
-/// A plan with prices that certify it.
+/// A plan over a network of this kind, with prices that certify it.
+fn priced_plan_over(
+    alloc: Global,
+    problem: &Problem,
+    kind: NetworkKind,
+) -> Result<(Plan, Prices), AllocError>
+    ensures sizes { IfOk result (λ pair. HasOneSize (claim problem.now pair.0.starts pair.1) pair.0.workers) }
+    ensures certifies { IfOk result (λ pair. Certifies (claim problem.now pair.0.starts pair.1)) }
+{
+    match kind {
+        NetworkKind::Direct => priced_plan(alloc, problem),
+        NetworkKind::Racks => rack_network::priced_plan(alloc, problem),
+    }
+}
+
+/// A plan over the direct network, with prices that certify it.
 fn priced_plan(alloc: Global, problem: &Problem) -> Result<(Plan, Prices), AllocError>
     ensures sizes { IfOk result (λ pair. HasOneSize (claim problem.now pair.0.starts pair.1) pair.0.workers) }
     ensures certifies { IfOk result (λ pair. Certifies (claim problem.now pair.0.starts pair.1)) }

@@ -1,5 +1,6 @@
 use crate::{
-    DirectArc, DirectLayout, DirectNode, Planned, build_direct, direct_prices_certify, plan,
+    DirectArc, DirectLayout, DirectNode, NetworkKind, Planned, build_direct, direct_prices_certify,
+    plan, plan_with,
 };
 use node_ids::{Layout, PairSet, SplitNo, WorkerNo};
 use rack_tree::RackTree;
@@ -72,7 +73,10 @@ fn problem(rt: &impl Abort, alloc: Global, row: Row<'_>) -> Result<Problem, Fail
 
 fn planned(rt: &impl Abort, alloc: Global, row: Row<'_>) -> Result<Planned, Fail> {
     let problem = problem(rt, alloc, row)?;
-    Ok(plan(alloc, &problem)?)
+    let direct = plan_with(alloc, &problem, NetworkKind::Direct)?;
+    let racks = plan(alloc, &problem)?;
+    assert_eq!(rt; direct.certified(), racks.certified());
+    Ok(racks)
 }
 
 // The count, the cost and the worker of each split.
@@ -175,9 +179,11 @@ fn one_host(rt: HostRuntime) -> Result<(), Fail> {
     };
     let problem = problem(&rt, alloc, row)?;
     assert_eq!(rt; build_direct(alloc, &problem)?.arcs(), 66_626);
-    let certified = plan(alloc, &problem)?.certified();
-    assert_eq!(rt; certified.count, 1024);
-    assert_eq!(rt; certified.cost, 274_877_906_944);
+    for kind in [NetworkKind::Direct, NetworkKind::Racks] {
+        let certified = plan_with(alloc, &problem, kind)?.certified();
+        assert_eq!(rt; certified.count, 1024);
+        assert_eq!(rt; certified.cost, 274_877_906_944);
+    }
     Ok(())
 }
 

@@ -1,5 +1,5 @@
 use Rattle.std.proofs.Common.{◌≡◌, ◌≤◌, length}
-use Rattle.wave_planner.specs.Networks.{pending_below}
+use Rattle.network_prices.specs.Pending.{pending_below}
 use Rattle.wave_planner.proofs.direct.pending_count.Given as goal
 
 abbrev pub invariant-loop-i : goal.invariant-loop-i

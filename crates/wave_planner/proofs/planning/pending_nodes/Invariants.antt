@@ -1,6 +1,6 @@
 use Rattle.std.proofs.Common.{◌≡◌, map}
 use Rattle.wave_planner.specs.declared.layout.DirectNode.TheVariants.{Split}
-use Rattle.wave_planner.specs.Networks.{pending_below}
+use Rattle.network_prices.specs.Pending.{pending_below}
 use Rattle.wave_planner.proofs.planning.pending_nodes.Given as goal
 
 abbrev pub invariant-loop-i : goal.invariant-loop-i
