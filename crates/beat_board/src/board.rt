@@ -1,4 +1,5 @@
-ghost use Rattle.std.specs.Prelude.{◌≡◌, ◌≢◌, ◌+◌, ◌<◌, ◌≤◌, ℕ, [], ◌∷◌, ◌↔◌, IfOk, IfErr, OnOk, OnErr, IsOk, IsErr, length, slice_index};
+ghost use Rattle.std.specs.Prelude.{◌≡◌, ◌≢◌, ◌+◌, ◌<◌, ◌≤◌, ℕ, [], ◌∷◌, ◌↔◌, length, slice_index};
+ghost use Rattle.std.specs.Prelude.{IfOk, IfErr, OnOk, OnErr, IsOk, IsErr};
 ghost use Rattle.std.specs.List.{All};
 ghost use Rattle.beat_board.specs.declared.TheConstants.{MAX_WORKERS, MAX_BEATS, MAX_SEATS};
 ghost use Rattle.beat_board.specs.Values.{beats_by, last_seen, look};
@@ -182,9 +183,11 @@ impl Board {
         requires seats { All (λ s. s.board ≡ self.board) seats.items }
         requires readers { All (λ r. r.board ≡ self.board) readers.items }
         ensures complete { IsOk result ↔ (length seats.items ≡ maker.seats) }
-        ensures totals { IfOk result (λ t. (w : ℕ) → w < MAX_WORKERS → slice_index t.beats w ≡ beats_by w seats.items) }
+        ensures totals { IfOk result (λ t. (w : ℕ) → w < MAX_WORKERS
+            → slice_index t.beats w ≡ beats_by w seats.items) }
         ensures missing { IfErr result (λ m. length seats.items + m.count ≡ maker.seats) }
-        ensures given_back { IfErr result (λ m. (m.board ≡ self) × (m.maker ≡ maker) × (m.seats ≡ seats) × (m.readers ≡ readers)) }
+        ensures given_back { IfErr result (λ m.
+            (m.board ≡ self) × (m.maker ≡ maker) × (m.seats ≡ seats) × (m.readers ≡ readers)) }
     {
         let given = seats.len() as u64;
         if given < maker.seats {

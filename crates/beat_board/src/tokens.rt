@@ -26,7 +26,8 @@ impl Model for Maker {
 
     ghost view = { λ m. record { board = m.token.table_id; seats = m.seats; readers = m.readers } };
 
-    ghost invariant = { λ m. (m.token.id ≡ 0) × (m.token.me.1 ≡ []) × (m.token.me.0 ≡ making [] m.token.me.0.next m.seats) × (m.seats + m.readers ≤ 4096) };
+    ghost invariant = { λ m. (m.token.id ≡ 0) × (m.token.me.1 ≡ [])
+        × (m.token.me.0 ≡ making [] m.token.me.0.next m.seats) × (m.seats + m.readers ≤ 4096) };
 }
 
 impl Maker {
@@ -55,7 +56,8 @@ impl Model for Seat {
 
     ghost view = { λ s. record { board = s.token.table_id; worker = s.worker; beats = s.beats } };
 
-    ghost invariant = { λ s. (s.token.me.1 ≡ []) × (s.token.me.0 ≡ seated s.worker s.beats) × (s.beats ≤ 2 ^ 40) × (s.worker < 256) };
+    ghost invariant = { λ s. (s.token.me.1 ≡ []) × (s.token.me.0 ≡ seated s.worker s.beats)
+        × (s.beats ≤ 2 ^ 40) × (s.worker < 256) };
 }
 
 /// The right to look at the words of one board. What it saw is known to contracts alone, and takes no memory.

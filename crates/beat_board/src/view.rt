@@ -3,20 +3,20 @@
 use atomic_table::{Join, Play, Split, TableRule};
 use std::collections::LinkedList;
 
-// The beats that a seat made.
+/// The beats that a seat made.
 pub struct Tally {
     pub worker: u64,
     pub beats: u64,
 }
 
-// A number that was answered for a worker.
+/// A number that was answered for a worker.
 pub struct Look {
     pub worker: u64,
     pub beats: u64,
 }
 
-// The counts of the seats that it stands for and the numbers that it saw. The maker's also has the worker whose seat
-// is made next, and how many seats were made.
+/// The counts of the seats that it stands for and the numbers that it saw. The maker's also has the
+/// worker whose seat is made next, and how many seats were made.
 pub struct View {
     pub tallies: LinkedList<Tally>,
     pub looks: LinkedList<Look>,
@@ -24,6 +24,7 @@ pub struct View {
     pub made: u64,
 }
 
+/// The rule of a board, and the view of its maker.
 pub struct Sums;
 
 impl TableRule<u8, View, ()> for Sums {
@@ -36,6 +37,7 @@ impl TableRule<u8, View, ()> for Sums {
     ghost first = { λ _. making [] 0 0 };
 }
 
+/// A beat of a seat.
 pub struct BeatStep;
 
 impl Play<u8, View> for BeatStep {
@@ -44,6 +46,7 @@ impl Play<u8, View> for BeatStep {
     ghost then = { Beats };
 }
 
+/// A look of a reader.
 pub struct LookStep;
 
 impl Play<u8, View> for LookStep {
@@ -52,6 +55,7 @@ impl Play<u8, View> for LookStep {
     ghost then = { Looks };
 }
 
+/// The maker turns to a worker.
 pub struct TurnStep;
 
 impl Play<u8, View> for TurnStep {
@@ -60,7 +64,7 @@ impl Play<u8, View> for TurnStep {
     ghost then = { Turns };
 }
 
-// A seat is split off from the maker.
+/// A seat is split off from the maker.
 pub struct SeatSplit;
 
 impl Split<View> for SeatSplit {
@@ -72,7 +76,7 @@ impl Split<View> for SeatSplit {
     ghost right = { λ v. seated v.next 0 };
 }
 
-// A reader is split off from the maker.
+/// A reader is split off from the maker.
 pub struct ReaderSplit;
 
 impl Split<View> for ReaderSplit {
@@ -84,7 +88,7 @@ impl Split<View> for ReaderSplit {
     ghost right = { λ v. reading [] };
 }
 
-// A seat comes back to the maker.
+/// A seat comes back to the maker.
 pub struct SeatJoin;
 
 impl Join<View> for SeatJoin {

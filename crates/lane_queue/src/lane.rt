@@ -1,4 +1,5 @@
-ghost use Rattle.std.specs.Prelude.{◌≡◌, ◌+◌, ◌<◌, ◌≤◌, ◌++◌, List, [], ◌∷◌, length, vec_capacity, IfOk, IfErr, IfSome, IfNone, IsOk, OnOk, OnErr, MatchOption};
+ghost use Rattle.std.specs.Prelude.{◌≡◌, ◌+◌, ◌<◌, ◌≤◌, ◌++◌, List, [], ◌∷◌, length, vec_capacity};
+ghost use Rattle.std.specs.Prelude.{IfOk, IfErr, IfSome, IfNone, IsOk, OnOk, OnErr, MatchOption};
 ghost use Rattle.std.specs.List.{All};
 ghost use Rattle.crossbeam_queue.specs.Passes.{view, IsPassOf, ruled_capacity};
 ghost use Rattle.lane_queue.specs.declared.TheConstants.{MAX_CAPACITY};
@@ -48,9 +49,16 @@ impl Model for Pass {
 
     ghost Value = { PassValue };
 
-    ghost view = { λ p. record { lane = p.token.table_id; puts = p.token.me.0.client.puts; takes = p.token.me.0.client.takes; depth = depth_of p.token.me.0.client.depths } };
+    ghost view = { λ p. record {
+      lane = p.token.table_id;
+      puts = p.token.me.0.client.puts;
+      takes = p.token.me.0.client.takes;
+      depth = depth_of p.token.me.0.client.depths;
+    } };
 
-    ghost invariant = { λ p. (p.token.me.1 ≡ []) × (p.token.me.0.client ≡ hand p.token.me.0.client.puts p.token.me.0.client.takes (depth_of p.token.me.0.client.depths ∷ []) true) };
+    ghost invariant = { λ p. (p.token.me.1 ≡ []) × (p.token.me.0.client
+        ≡ hand p.token.me.0.client.puts p.token.me.0.client.takes
+        (depth_of p.token.me.0.client.depths ∷ []) true) };
 }
 
 /// The lane was full.
@@ -93,7 +101,8 @@ impl Lane {
     pub fn share(&self, pass: &mut Pass) -> Result<Pass, AllocError>
         requires { pass.old.lane ≡ self.now.lane }
         ensures half { pass.new ≡ record pass.old { depth = pass.old.depth + 1 } }
-        ensures other { IfOk result (λ p. p ≡ record { lane = self.now.lane; puts = []; takes = []; depth = pass.old.depth + 1 }) }
+        ensures other { IfOk result (λ p. p
+            ≡ record { lane = self.now.lane; puts = []; takes = []; depth = pass.old.depth + 1 }) }
         ensures memory { IsOk result }
     {
         let token = self.queue.another::<ShareSplit>(&mut pass.token);
@@ -107,7 +116,8 @@ impl Lane {
         ensures put { OnOk result (pass.new ≡ record pass.old { puts = pass.old.puts ++ order ∷ [] }) }
         ensures err { OnErr result (pass.new ≡ pass.old) }
         ensures given_back { IfErr result (λ full. full.order ≡ order) }
-        ensures full { IfErr result (λ _. (items : List Order) × (length items ≡ self.now.capacity) × Saw pass.old items) }
+        ensures full { IfErr result (λ _. (items : List Order)
+            × (length items ≡ self.now.capacity) × Saw pass.old items) }
     {
         match self.queue.push_as::<PutStep, R>(rt, &mut pass.token, order) {
             Ok(()) => Ok(()),
@@ -119,7 +129,8 @@ impl Lane {
     pub fn take<R: Wait>(&self, rt: &R, pass: &mut Pass) -> Option<Order>
         requires { pass.old.lane ≡ self.now.lane }
         ensures lane { pass.new.lane ≡ pass.old.lane }
-        ensures taken { IfSome result (λ order. pass.new ≡ record pass.old { takes = pass.old.takes ++ order ∷ [] }) }
+        ensures taken { IfSome result (λ order. pass.new
+            ≡ record pass.old { takes = pass.old.takes ++ order ∷ [] }) }
         ensures none { IfNone result (pass.new ≡ pass.old) }
         ensures empty { IfNone result (Saw pass.old []) }
     {
@@ -135,7 +146,8 @@ impl Lane {
         passes: Vec<Pass>,
     ) -> Result<Tally, CloseRefused>
         requires { All (λ p. p.lane ≡ self.lane) passes.items }
-        ensures settled { IfOk result (λ t. IsWhole (depths_of passes.items) → Settles (one_each passes.items) (puts_of passes.items) (takes_of passes.items) t.left.items) }
+        ensures settled { IfOk result (λ t. IsWhole (depths_of passes.items)
+            → Settles (one_each passes.items) (puts_of passes.items) (takes_of passes.items) t.left.items) }
         ensures few { IfOk result (λ t. length t.left.items ≤ self.capacity) }
         ensures given_back { IfErr result (λ r. (r.lane ≡ self) × (r.passes ≡ passes)) }
     {
@@ -154,7 +166,10 @@ impl Lane {
 // All passes in one, the last first.
 fn gather(queue: &Queue, mut passes: Vec<Pass>) -> Option<Token>
     requires { All (λ p. p.lane ≡ queue.now.table.shared.table_id) passes.items }
-    ensures { MatchOption result (passes.items ≡ []) (λ p. IsPassOf queue.now p × (0 < length (depths_of passes.items)) × (view p ≡ hand (puts_of passes.items) (takes_of passes.items) (depths_of passes.items) (one_each passes.items))) }
+    ensures { MatchOption result (passes.items ≡ []) (λ p. IsPassOf queue.now p
+        × (0 < length (depths_of passes.items))
+        × (view p ≡ hand (puts_of passes.items) (takes_of passes.items) (depths_of passes.items)
+        (one_each passes.items))) }
 {
     let Pass { mut token } = passes.pop()?;
     while let Some(pass) = passes.pop() {

@@ -4,7 +4,7 @@ use crate::order::Order;
 use crossbeam_queue::protocol::{Join, Lesson, Outcome, Protocol, Split};
 use std::collections::LinkedList;
 
-// What was put and taken, the parts of the lane, and whether both lists are in the order of the lane.
+/// What was put and taken, the parts of the lane, and whether both lists are in the order of the lane.
 pub struct View {
     pub puts: LinkedList<Order>,
     pub takes: LinkedList<Order>,
@@ -12,6 +12,7 @@ pub struct View {
     pub ordered: bool,
 }
 
+/// The rule of a lane, and the view of its first pass.
 pub struct InLine;
 
 impl Protocol<Order, View> for InLine {
@@ -24,6 +25,7 @@ impl Protocol<Order, View> for InLine {
     ghost first = { hand [] [] (0 ∷ []) true };
 }
 
+/// An order is put at the back.
 pub struct PutStep;
 
 impl Outcome<Order, View> for PutStep {
@@ -39,6 +41,7 @@ impl Lesson<Order, View> for PutStep {
     ghost fact = { Stands };
 }
 
+/// The order at the front is taken.
 pub struct TakeStep;
 
 impl Outcome<Order, View> for TakeStep {
@@ -54,7 +57,7 @@ impl Lesson<Order, View> for TakeStep {
     ghost fact = { Stands };
 }
 
-// An order is taken when the lane is closed.
+/// An order is taken when the lane is closed.
 pub struct DrainStep;
 
 impl Outcome<Order, View> for DrainStep {

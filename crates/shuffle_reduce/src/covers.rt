@@ -125,7 +125,8 @@ fn is_among(text: &SplitText, others: &[Arc<SplitText>]) -> bool
 
 /// Whether each of the texts is one of the others.
 fn all_are_among(texts: &[Arc<SplitText>], others: &[Arc<SplitText>]) -> bool
-    ensures { IsTrue result ↔ ((text : SplitDocuments) → Contains (values_of texts.now) text → Contains (values_of others.now) text) }
+    ensures { IsTrue result ↔ ((text : SplitDocuments)
+        → Contains (values_of texts.now) text → Contains (values_of others.now) text) }
 {
     for text in texts {
         if !is_among(text, others) {

@@ -3,7 +3,8 @@ ghost use Rattle.word_map.specs.Texts.{Pair};
 ghost use Rattle.word_map.specs.Runs.{AreRising};
 ghost use Rattle.shuffle_reduce.specs.Merged.{AreSameTexts, PartView};
 ghost use Rattle.shuffle_reduce.specs.Gather.{values_of};
-ghost use Rattle.shuffle_reduce.specs.Indexed.{WordIsBelow, EndsWord, HaveOneWord, EntryView, IsIndexOf, HasDouble, HasMissing, pairs_of_entry, pairs_of_index};
+ghost use Rattle.shuffle_reduce.specs.Indexed.{WordIsBelow, EndsWord, HaveOneWord, EntryView, IsIndexOf};
+ghost use Rattle.shuffle_reduce.specs.Indexed.{HasDouble, HasMissing, pairs_of_entry, pairs_of_index};
 
 use crate::counts::{has_double, has_missing};
 use crate::gather::all_pairs;
@@ -155,7 +156,8 @@ pub fn finish(
     requires covers { All (λ (part : PartView). AreSameTexts part.texts (values_of texts.now)) results.now }
     requires same { All (λ (part : PartView). part.parts ≡ parts) results.now }
     ensures double { IsErrOf result FinishError.DoublePart ↔ HasDouble results.now }
-    ensures missing { IsErrOf result FinishError.MissingPart ↔ ((HasDouble results.now → ⊥) × HasMissing results.now parts) }
+    ensures missing { IsErrOf result FinishError.MissingPart
+        ↔ ((HasDouble results.now → ⊥) × HasMissing results.now parts) }
     ensures index { IfOk result (λ index. IsIndexOf (values_of texts.now) index) }
 {
     // a part that stands twice is told before one that is missing

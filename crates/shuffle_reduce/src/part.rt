@@ -26,7 +26,12 @@ impl Model for PartResult {
 
     ghost Value = { PartView };
 
-    ghost view = { λ r. record { texts = values_of r.texts.items; part = r.part; parts = r.parts; pairs = r.pairs.items } };
+    ghost view = { λ r. record {
+      texts = values_of r.texts.items;
+      part = r.part;
+      parts = r.parts;
+      pairs = r.pairs.items;
+    } };
 
     ghost invariant = { λ r. IsPart (values_of r.texts.items) r.part r.parts r.pairs.items };
 }
