@@ -1,6 +1,11 @@
-// Answers a problem text as `mrjob plan` does in its first line, by LEMON's NetworkSimplex over the direct network: an
-// arc from each pending split to each admissible worker at the pair's cost, one to the unstarted node at the reward,
-// and from these to the sink. It trusts the text to have no fault.
+// Answers a problem text as `mrjob plan` does in its first line, by LEMON's NetworkSimplex. It trusts the text to have
+// no fault.
+// usage: plan_by_lemon direct|racks
+//
+// In both networks an arc leads from each pending split to the unstarted node at the reward, and arcs from workers and
+// from that node to the sink. In the direct one an arc leads from a split to each admissible worker at the pair's cost.
+// In the other, arcs lead from a split without barred pairs to its live holders with a free slot, to their racks and to
+// the cluster, and on from there to the workers below; a split with a barred pair keeps its direct arcs.
 #include <algorithm>
 #include <cstdint>
 #include <cstdio>
@@ -80,8 +85,9 @@ int Distance(const Problem& problem, const Split& split, int worker) {
   return least;
 }
 
-int main() {
+int main(int count, char** words) {
   std::ios::sync_with_stdio(false);
+  const bool over_racks = count == 2 && std::string(words[1]) == "racks";
   const Problem problem = Read(std::cin);
   std::int64_t reward = 1;
   for (const Split& split : problem.splits) reward += 4 * split.bytes;
@@ -94,9 +100,17 @@ int main() {
     cost[arc] = price;
     return arc;
   };
-  std::vector<Graph::Node> workers;
-  for (std::size_t w = 0; w < problem.workers.size(); ++w) workers.push_back(graph.addNode());
-  const Graph::Node unstarted = graph.addNode(), sink = graph.addNode();
+  std::vector<Graph::Node> workers, racks;
+  std::vector<std::int64_t> slots_below;
+  for (const Worker& worker : problem.workers) {
+    workers.push_back(graph.addNode());
+    while (static_cast<int>(racks.size()) <= worker.rack) {
+      racks.push_back(graph.addNode());
+      slots_below.push_back(0);
+    }
+    if (worker.live) slots_below[worker.rack] += worker.slots;
+  }
+  const Graph::Node cluster = graph.addNode(), unstarted = graph.addNode(), sink = graph.addNode();
   std::int64_t pending = 0;
   for (std::size_t s = 0; s < problem.splits.size(); ++s) {
     const Split& split = problem.splits[s];
@@ -105,12 +119,32 @@ int main() {
     supply[node] = 1;
     ++pending;
     add(node, unstarted, 1, reward);
+    const auto first_bar = problem.barred.lower_bound({static_cast<int>(s), 0});
+    const bool is_barred = first_bar != problem.barred.end() && first_bar->first == static_cast<int>(s);
+    if (over_racks && !is_barred) {
+      std::set<int> met;
+      for (const int holder : split.holders) {
+        const Worker& worker = problem.workers[holder];
+        if (!worker.live) continue;
+        if (worker.slots > 0) add(node, workers[holder], 1, 0);
+        if (met.insert(worker.rack).second) add(node, racks[worker.rack], 1, 2 * split.bytes);
+      }
+      if (!met.empty()) add(node, cluster, 1, 4 * split.bytes);
+      continue;
+    }
     for (std::size_t w = 0; w < problem.workers.size(); ++w) {
       const Worker& worker = problem.workers[w];
       const int steps = Distance(problem, split, static_cast<int>(w));
       if (steps == 6 || !worker.live || worker.slots == 0) continue;
       if (problem.barred.count({static_cast<int>(s), static_cast<int>(w)}) != 0) continue;
       add(node, workers[w], 1, split.bytes * steps);
+    }
+  }
+  if (over_racks) {
+    for (std::size_t r = 0; r < racks.size(); ++r) add(cluster, racks[r], slots_below[r], 0);
+    for (std::size_t w = 0; w < problem.workers.size(); ++w) {
+      const Worker& worker = problem.workers[w];
+      if (worker.live && worker.slots > 0) add(racks[worker.rack], workers[w], worker.slots, 0);
     }
   }
   for (std::size_t w = 0; w < problem.workers.size(); ++w) add(workers[w], sink, problem.workers[w].slots, 0);
