@@ -73,7 +73,7 @@ impl Lesson<Order, View> for DrainStep {
     ghost fact = { Totals };
 }
 
-// A pass is split off from another, and each has half of its part.
+/// A pass is split off from another, and each has half of its part.
 pub struct ShareSplit;
 
 impl Split<View> for ShareSplit {
@@ -85,7 +85,7 @@ impl Split<View> for ShareSplit {
     ghost right = { λ v. hand [] [] (deeper v.depths) true };
 }
 
-// A pass takes in another, and has the parts of both.
+/// A pass takes in another, and has the parts of both.
 pub struct ShareJoin;
 
 impl Join<View> for ShareJoin {
