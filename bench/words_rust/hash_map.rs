@@ -55,9 +55,5 @@ fn finish(parts: &[Postings]) -> Vec<(String, Vec<u32>)> {
 }
 
 fn main() {
-    shared::run(
-        |splits| splits.iter().map(|split| map_split(split)).collect::<Vec<_>>(),
-        |mapped| (0..PARTS).map(|part| merge(mapped, part)).collect::<Vec<_>>(),
-        |parts| finish(parts),
-    );
+    shared::run(map_split, merge, finish);
 }

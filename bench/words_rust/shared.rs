@@ -43,17 +43,17 @@ pub fn words(text: &str) -> impl Iterator<Item = &str> {
 
 /// Maps, merges and finishes, and writes the counts, and the microseconds of the three where a word was given.
 pub fn run<M, P>(
-    map_all: impl Fn(&[Vec<Document>]) -> M,
-    merge_all: impl Fn(&M) -> P,
-    finish: impl Fn(&P) -> Vec<(String, Vec<u32>)>,
+    map_split: impl Fn(&[Document]) -> M,
+    merge: impl Fn(&[M], usize) -> P,
+    finish: impl Fn(&[P]) -> Vec<(String, Vec<u32>)>,
 ) {
     let splits = read_splits();
     let documents: usize = splits.iter().map(Vec::len).sum();
     let start = Instant::now();
-    let mapped = map_all(&splits);
+    let mapped: Vec<M> = splits.iter().map(|split| map_split(split)).collect();
     let map_time = start.elapsed();
     let start = Instant::now();
-    let merged = merge_all(&mapped);
+    let merged: Vec<P> = (0..PARTS).map(|part| merge(&mapped, part)).collect();
     let merge_time = start.elapsed();
     let start = Instant::now();
     let index = finish(&merged);

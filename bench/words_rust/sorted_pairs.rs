@@ -46,9 +46,5 @@ fn finish(parts: &[OwnPairs]) -> Vec<(String, Vec<u32>)> {
 }
 
 fn main() {
-    shared::run(
-        |splits| splits.iter().map(|split| map_split(split)).collect::<Vec<_>>(),
-        |mapped| (0..PARTS).map(|part| merge(mapped, part)).collect::<Vec<_>>(),
-        |parts| finish(parts),
-    );
+    shared::run(map_split, merge, finish);
 }
