@@ -1,11 +1,13 @@
 -- The one right answer to the question whether prices certify a plan.
-use Rattle.std.specs.Prelude.{ℕ, ◌≡◌, ◌<◌, length, Ok, Err, Option, Some, None}
+use Rattle.std.specs.Prelude.{ℕ, ◌≡◌, ◌<◌, length, Ok, Err, Option, Some, None, ⊤}
 use Rattle.std.specs.declared.result.Result.{Result}
 use Rattle.wave_problem.specs.Assignment.{pairs_of, total}
 use Rattle.price_certificate.specs.declared.Condition.{Condition}
 use Rattle.price_certificate.specs.declared.Condition.TheVariants.{Priced}
-use Rattle.price_certificate.specs.Certificate.{Claim, Certifies, Holds, IsFirstFailure}
+use Rattle.price_certificate.specs.Certificate.{AllHold, Claim, Certifies, Holds, IsFirstFailure}
 use Rattle.certificate_checker.specs.declared.Certified.{Certified}
+use Rattle.certificate_checker.specs.declared.CheckError.{CheckError}
+use Rattle.certificate_checker.specs.declared.CheckError.TheVariants.{Failed, Memory}
 
 -- the plan is certified, with its count and its cost
 pub record IsCertified (claim : Claim) (certified : Certified) : Type 0 where
@@ -17,6 +19,25 @@ pub record IsCertified (claim : Claim) (certified : Certified) : Type 0 where
 abbrev pub IsVerdict : Claim → Result Certified Condition → Type 0
 IsVerdict claim (Ok certified) = IsCertified claim certified
 IsVerdict claim (Err c) = IsFirstFailure claim c
+
+-- that answer from a checker that may also want memory
+abbrev pub answer_of : Result Certified Condition → Result Certified CheckError
+answer_of (Ok certified) = Ok certified
+answer_of (Err c) = Err (Failed c)
+
+-- what holds of the condition that failed, where one did
+abbrev pub IfFailed : {X : Type 0} → Result X CheckError → (Condition → Type 0) → Type 0
+IfFailed (Ok x) P = ⊤
+IfFailed (Err Memory) P = ⊤
+IfFailed (Err (Failed c)) P = P c
+
+-- the conditions that are tested before any pair is: with them no sum of a pair's prices and cost wraps
+pub record MayComparePairs (claim : Claim) : Type 0 where
+  pub opened : AllHold claim 1
+  pub allowed : AllHold claim 2
+  pub room : AllHold claim 3
+  pub split_prices : AllHold claim 4
+  pub worker_prices : AllHold claim 5
 
 -- what is found among the pairs of the split s: the first worker at which the prices are too low, or none
 abbrev pub IsFirstUnderpriced : Claim → ℕ → Option ℕ → Type 0

@@ -1,16 +1,23 @@
-ghost use Rattle.std.specs.Prelude.{◌≡◌, ℕ, ◌+◌, ◌*◌, ◌<◌, ◌≤◌, ◌↔◌, length, slice_index, unwrap_or, IsTrue, OnOk, IfErr, IfSome};
+ghost use Rattle.std.specs.Prelude.{◌≡◌, ℕ, ◌+◌, ◌*◌, ◌<◌, ◌≤◌, ◌↔◌, length, slice_index, slice_index_or, unwrap_or, IsTrue, OnOk, IfErr, IfOk, IfSome, None};
 ghost use Rattle.rack_tree.specs.declared.TheConstants.{MAX_WORKERS};
-ghost use Rattle.wave_problem.specs.declared.TheConstants.{MAX_SPLITS, MAX_BYTES};
+ghost use Rattle.wave_problem.specs.declared.TheConstants.{MAX_BYTES, MAX_SPLITS};
 ghost use Rattle.wave_problem.specs.Wave.{cost, reward, worker_at};
 ghost use Rattle.wave_problem.specs.Assignment.{load, pairs_of, start_of, total};
 ghost use Rattle.price_certificate.specs.Certificate.{AllHold, claim, Certifies, HasOneSize, Holds, IsFirstFailure, IsFirstOf, MayTake, priced_at, split_price, worker_price};
-ghost use Rattle.certificate_checker.specs.Verdict.{IsFirstUnderpriced};
+ghost use Rattle.certificate_checker.specs.Verdict.{IfFailed, IsFirstUnderpriced, MayComparePairs};
 
+use crate::{Certified, CheckError};
 use node_ids::{SplitNo, WorkerNo};
 use price_certificate::{Condition, Prices};
 use rack_tree::MAX_WORKERS;
+use rayon::prelude::*;
+use std::alloc::{AllocError, Global};
 use std::marker::Model;
-use wave_problem::{Near, Plan, Problem};
+use std::thread::Threads;
+use wave_problem::{MAX_SPLITS, Near, Plan, Problem};
+
+// How many splits a thread takes at the least: fewer are not worth the start of a thread.
+const SPLITS_PER_THREAD: usize = 128;
 
 // A problem, a plan and prices of one size, with what would be counted again at each place.
 #[derive(Drop)]
@@ -132,7 +139,18 @@ impl<'a> Checker<'a> {
         self.problem.cost(split, worker).unwrap_or(0)
     }
 
-    pub(crate) fn total(&self) -> u64
+    // What is said of the plan once it is certified.
+    pub(crate) fn certified(&self) -> Certified
+        ensures count { result.count ≡ length (pairs_of self.now.starts) }
+        ensures cost { result.cost ≡ total self.now.wave (pairs_of self.now.starts) }
+    {
+        Certified {
+            count: self.plan.count(),
+            cost: self.total(),
+        }
+    }
+
+    fn total(&self) -> u64
         ensures { result ≡ total self.now.wave (pairs_of self.now.starts) }
     {
         let mut total = 0;
@@ -228,12 +246,43 @@ impl<'a> Checker<'a> {
         ensures ok { OnOk result (Certifies self.now) }
         ensures err { IfErr result (IsFirstFailure self.now) }
     {
+        self.check_before_pairs()?;
+        self.check_priced()?;
+        self.check_after_pairs()
+    }
+
+    // As `check`, with the pass over the pairs on many threads.
+    pub(crate) fn check_on(
+        &self,
+        rt: &(impl Threads + Sync),
+        alloc: Global,
+    ) -> Result<(), CheckError>
+        ensures ok { OnOk result (Certifies self.now) }
+        ensures failed { IfFailed result (IsFirstFailure self.now) }
+    {
+        self.check_before_pairs()?;
+        self.check_priced_on(rt, alloc)?;
+        self.check_after_pairs()?;
+        Ok(())
+    }
+
+    fn check_before_pairs(&self) -> Result<(), Condition>
+        ensures ok { OnOk result (MayComparePairs self.now) }
+        ensures err { IfErr result (IsFirstFailure self.now) }
+    {
         self.check_open()?;
         self.check_allowed()?;
         self.check_room()?;
         self.check_split_prices()?;
-        self.check_worker_prices()?;
-        self.check_priced()?;
+        self.check_worker_prices()
+    }
+
+    fn check_after_pairs(&self) -> Result<(), Condition>
+        requires before { MayComparePairs self.now }
+        requires pairs { AllHold self.now 6 }
+        ensures ok { OnOk result (Certifies self.now) }
+        ensures err { IfErr result (IsFirstFailure self.now) }
+    {
         self.check_tight()?;
         self.check_unstarted()?;
         self.check_spare()
@@ -340,6 +389,48 @@ impl<'a> Checker<'a> {
             }
         }
         None
+    }
+
+    // As `check_priced`: the rows of pairs are looked at on many threads, and their answers in order.
+    fn check_priced_on(&self, rt: &(impl Threads + Sync), alloc: Global) -> Result<(), CheckError>
+        requires split_prices { AllHold self.now 4 }
+        requires worker_prices { AllHold self.now 5 }
+        ensures ok { OnOk result (AllHold self.now 6) }
+        ensures failed { IfFailed result (IsFirstOf self.now 6) }
+    {
+        let rows = self.underpriced_on(rt, alloc)?;
+        for i in 0..self.splits() {
+            let split = SplitNo::new(i as u16);
+            if let Some(worker) = rows[i] {
+                return Err(CheckError::Failed(Condition::Priced(split, worker)));
+            }
+        }
+        Ok(())
+    }
+
+    // The first underpriced worker of each split, found by as many threads as there are processors.
+    fn underpriced_on(
+        &self,
+        rt: &(impl Threads + Sync),
+        alloc: Global,
+    ) -> Result<Vec<Option<WorkerNo>>, AllocError>
+        requires split_prices { AllHold self.now 4 }
+        requires worker_prices { AllHold self.now 5 }
+        ensures one_each { IfOk result (λ rows. length rows.items ≡ length self.now.wave.splits) }
+        ensures first { IfOk result (λ rows. (s : ℕ) → s < length self.now.wave.splits
+            → IsFirstUnderpriced self.now s (slice_index_or rows.items s None)) }
+    {
+        (0..self.splits())
+            .into_par_iter()
+            .map(
+                |i: usize| -> Option<WorkerNo>
+                    requires { (i < length self.now.wave.splits) × (i < MAX_SPLITS)
+                        × AllHold self.now 4 × AllHold self.now 5 }
+                    ensures { IsFirstUnderpriced self.entry.now i result }
+                { self.first_underpriced(SplitNo::new(i as u16)) },
+            )
+            .with_min_len(SPLITS_PER_THREAD)
+            .collect(rt, alloc)
     }
 
     fn check_tight(&self) -> Result<(), Condition>

@@ -1,7 +1,7 @@
 ghost use Rattle.std.specs.Prelude.{◌↔◌, IsTrue};
 ghost use Rattle.price_certificate.specs.Certificate.{claim, HasOneSize};
 
-use crate::{Certified, certify};
+use crate::{Certified, CheckError, certify, certify_on};
 use node_ids::{PairSet, SplitNo, WorkerNo};
 use price_certificate::{Condition, Prices};
 use rack_tree::RackTree;
@@ -160,6 +160,12 @@ fn answers(rt: HostRuntime) -> Result<(), Fail> {
         let prices = Prices::from_lists(row.splits.to_vec(alloc)?, row.workers.to_vec(alloc)?);
         assert!(rt; are_of_one_size(&problem, &plan, &prices));
         assert_eq!(rt; certify(&problem, &plan, &prices), row.answer, "row {i}");
+        let on_threads = certify_on(&rt, alloc, &problem, &plan, &prices);
+        assert_eq!(rt;
+            on_threads,
+            row.answer.map_err(CheckError::Failed),
+            "row {i}"
+        );
     }
     Ok(())
 }
