@@ -2,3 +2,4 @@ pub mod Value
 pub mod Reading
 pub mod Report
 pub mod Draft
+pub mod Streams

@@ -1,4 +1,5 @@
-use text_lines::TextFault;
+use std::alloc::AllocError;
+use text_lines::{ReadError, TextFault, WriteError};
 use thiserror::Error;
 
 /// Why a command of the program gives no answer of its own.
@@ -17,4 +18,40 @@ pub enum ToolError {
     /// The writer failed, or took nothing; it may have taken a front of what was to be written.
     #[error("write fault")]
     Write,
+}
+
+impl From<AllocError> for ToolError {
+    ghost use Rattle.std.specs.Prelude.{◌≡◌};
+    ghost use Rattle.plan_text.specs.declared.tool_error.ToolError.TheVariants.{Memory};
+
+    ghost from_gives = { λ _ result. result ≡ Memory };
+
+    fn from(_: AllocError) -> Self {
+        ToolError::Memory
+    }
+}
+
+impl From<ReadError> for ToolError {
+    ghost use Rattle.std.specs.Prelude.{◌≡◌};
+    ghost use Rattle.plan_text.specs.Streams.{error_of_reading};
+
+    ghost from_gives = { λ error result. result ≡ error_of_reading error };
+
+    fn from(error: ReadError) -> Self {
+        match error {
+            ReadError::Memory => ToolError::Memory,
+            ReadError::Read => ToolError::Read,
+        }
+    }
+}
+
+impl From<WriteError> for ToolError {
+    ghost use Rattle.std.specs.Prelude.{◌≡◌};
+    ghost use Rattle.plan_text.specs.declared.tool_error.ToolError.TheVariants.{Write};
+
+    ghost from_gives = { λ _ result. result ≡ Write };
+
+    fn from(_: WriteError) -> Self {
+        ToolError::Write
+    }
 }
