@@ -4,9 +4,9 @@
     differential.py PROGRAM..
 
 The texts are the same in each run: those of `make_texts.py KIND SEED` for the seeds from 1, each front of one
-example, and texts at the limits on counts. A check's answer has to be the reference's. A plan with its prices has to
-start as many splits at as little cost as any choice of starts, and to be certified by the reference; without prices
-its lines are the same up to them. The last line counts the groups of texts that agree.
+example, and texts at the limits on counts. A check's answer has to be the reference's. A plan with its prices, over
+either network, has to start as many splits at as little cost as any choice of starts, and to be certified by the
+reference; without prices its lines are the same up to them. The last line counts the groups of texts that agree.
 """
 import os
 import random
@@ -53,13 +53,20 @@ def wrong_check(program, text):
     return None if said == wanted else f"it says {said}, and the reference {wanted}"
 
 
-def wrong_plan(program, text):
-    said = said_by(program, ["plan", "--prices"], text)
+def wrong_plan_over(program, words, text):
+    said = said_by(program, [*words, "--prices"], text)
     wrong = misplanned(text, *said)
     if wrong:
-        return f"it says {said}, but {wrong}"
+        return f"{' '.join(words)}: it says {said}, but {wrong}"
     without = b"".join(line for line in said[0].splitlines(True) if not line.startswith(b"price "))
-    return None if said_by(program, ["plan"], text) == (without, said[1]) else "without prices it says otherwise"
+    if said_by(program, words, text) != (without, said[1]):
+        return f"{' '.join(words)}: without prices it says otherwise"
+    return None
+
+
+def wrong_plan(program, text):
+    # (racks is what is taken where no network is named)
+    return wrong_plan_over(program, ["plan"], text) or wrong_plan_over(program, ["plan", "--network", "direct"], text)
 
 
 def main():

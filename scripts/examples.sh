@@ -1,26 +1,38 @@
 #!/usr/bin/env bash
 # Runs each example through the built programs, and compares output and status with the files beside it.
-# An example is run as `check`, or with the words of NAME.args where that file stands.
+# An example is run as `check`, or with the words of NAME.args where that file stands; a plan over each network too.
 # usage: examples.sh PROGRAM..
 set -euo pipefail
 cd "$(dirname "$0")/.."
 room=$(mktemp -d)
 trap 'rm -rf "$room"' EXIT
 passed=0 failed=0
+
+# Runs an example with these words.
+try() { # PROGRAM NAME WORDS..
+    local program=$1 name=$2 status=0
+    shift 2
+    "$program" "$@" < "$name.txt" > "$room/out" 2> "$room/err" || status=$?
+    if cmp -s "$room/out" "$name.out" && [ "$status" = "$(cat "$name.status")" ] && [ ! -s "$room/err" ]; then
+        passed=$((passed + 1))
+        echo "$program $*: $name.txt: ok"
+    else
+        failed=$((failed + 1))
+        echo "$program $*: $name.txt: FAILED, with status $status and this output:"
+        cat "$room/out" "$room/err"
+    fi
+}
+
 for program in "$@"; do
     for text in examples/*.txt; do
         name=${text%.txt}
         words=(check)
         if [ -f "$name.args" ]; then mapfile -t words < "$name.args"; fi
-        status=0
-        "$program" "${words[@]}" < "$text" > "$room/out" 2> "$room/err" || status=$?
-        if cmp -s "$room/out" "$name.out" && [ "$status" = "$(cat "$name.status")" ] && [ ! -s "$room/err" ]; then
-            passed=$((passed + 1))
-            echo "$program: $text: ok"
-        else
-            failed=$((failed + 1))
-            echo "$program: $text: FAILED, with status $status and this output:"
-            cat "$room/out" "$room/err"
+        try "$program" "$name" "${words[@]}"
+        if [ "${words[0]}" = plan ]; then
+            for network in direct racks; do
+                try "$program" "$name" "${words[@]}" --network "$network"
+            done
         fi
     done
 done

@@ -63,8 +63,11 @@ for program in "$@"; do
     sweep "$program" interrupt " (0)" "$example.out"
     sweep "$program" short " (0)" "$example.out"
     for example in examples/plan_swap examples/plan_count_first examples/plan_prices; do
-        mapfile -t words < "$example.args"
-        sweep "$program" alloc "mrjob: no memory (3)" "$room/nothing"
+        for network in direct racks; do
+            mapfile -t words < "$example.args"
+            words+=(--network "$network")
+            sweep "$program" alloc "mrjob: no memory (3)" "$room/nothing"
+        done
     done
     sweep "$program" read "mrjob: read fault (4)" "$room/nothing"
     sweep "$program" write "mrjob: write fault (4)" "$room/nothing"

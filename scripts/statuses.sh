@@ -48,13 +48,17 @@ for program in "$@"; do
     expect "help on a command" "$(given check --help < "$text")" 0 words nothing
     expect "help on planning" "$(given plan --help < "$text")" 0 words nothing
     expect "an unknown option" "$(given plan --price < "$text")" 64 nothing words
+    expect "an unknown network" "$(given plan --network ring < "$text")" 64 nothing words
+    expect "a network for a check" "$(given check --network racks < "$text")" 64 nothing words
     expect "a plan in a text to plan from" "$(given plan < "$text")" 2 "line 7: fault 7" nothing
     expect "a text that is too long" "$(head -c 16777217 /dev/zero | given check)" 2 "line 0: fault 11" nothing
     expect "a text that is far too long" "$(head -c 100000000 /dev/zero | given check)" 2 "line 0: fault 11" nothing
-    status=0
-    bench/make_problems.py one_host | "$program" plan > "$room/lines" 2> "$room/err" || status=$?
-    head -n 1 "$room/lines" > "$room/out"
-    expect "a thousand splits far from their one host" "$status" 0 "wave 1024 274877906944" nothing
+    for network in direct racks; do
+        status=0
+        bench/make_problems.py one_host | "$program" plan --network $network > "$room/lines" 2> "$room/err" || status=$?
+        head -n 1 "$room/lines" > "$room/out"
+        expect "a thousand splits far from their one host, $network" "$status" 0 "wave 1024 274877906944" nothing
+    done
     expect "an input that cannot be read" "$(given check < /)" 4 nothing "mrjob: read fault"
     status=0
     "$program" check < "$text" > /dev/full 2> "$room/err" || status=$?
