@@ -1,24 +1,23 @@
 -- A plan and prices read off a network's flows meet every condition of the certificate.
-use Rattle.std.proofs.Common.{◌≡◌, ℕ, zero, suc, ◌+◌, ◌-◌, ◌<◌, ◌≤◌, Bool, true, false, cond, eqb, max, List, [], ◌∷◌, length, get_or, Option, Some, None, refl, sym, ap, ◌∙◌, subst, inl, inr, ◌⊎◌, arith, unwrap_or, count_by}
+use Rattle.std.proofs.Common.{◌≡◌, ℕ, suc, ◌+◌, ◌<◌, ◌≤◌, true, cond, List, [], ◌∷◌, length, get_or, Option, Some, None, refl, ap, subst, inl, inr, ◌⊎◌, arith, unwrap_or}
 use Rattle.std.specs.Prelude.{◌==◌, IsSome}
 use Rattle.std.proofs.lemmas.Bool.{cases_Bool, cases_eq, cases_lt}
 use Rattle.std.proofs.lemmas.List.Sums.{sum_by-cons}
 use Rattle.flow_network.specs.declared.arcs.FlowArc.{FlowArc}
-use Rattle.flow_network.specs.Flows.{arc_at, WithinCapacities, NoNegative, inflow, outflow}
+use Rattle.flow_network.specs.Flows.{arc_at, NoNegative, inflow, outflow}
 use Rattle.wave_problem.specs.Wave.{Wave, IsAdmissible, split_at, worker_at, live_holders, cost, reward}
 use Rattle.wave_problem.specs.Assignment.{start_of, pairs_from, pairs_of, load}
 use Rattle.wave_problem.proofs.Bound.{pending_known, live_known}
 use Rattle.price_certificate.specs.PriceList.{PriceList}
-use Rattle.price_certificate.specs.declared.Condition.{Condition}
 use Rattle.price_certificate.specs.declared.Condition.TheVariants.{Open, Allowed, Room, SplitPrice, WorkerPrice, Priced, Tight, Unstarted, Spare}
-use Rattle.price_certificate.specs.Certificate.{Claim, claim, Holds, Certifies, split_price, worker_price, MayTake}
-use Rattle.network_prices.specs.Ways.{deepest, IsAmong, IsFed, IsInner, IsWay, CameFrom}
+use Rattle.price_certificate.specs.Certificate.{claim, Certifies, split_price, worker_price}
+use Rattle.network_prices.specs.Ways.{IsAmong, IsInner, CameFrom}
 use Rattle.network_prices.specs.Pending.{IsUsable}
-use Rattle.network_prices.specs.Networks.{WaveNodes, way_of, IsArcFrom, IsOffer, IsWaveNetwork}
+use Rattle.network_prices.specs.Networks.{WaveNodes, way_of, IsOffer, IsWaveNetwork}
 use Rattle.network_prices.specs.Prices.{IsShipped, end_of, IsPlanOf, ArePricesOf, PricesCertify}
-use Rattle.network_prices.proofs.Pending.{one_each, balanced}
+use Rattle.network_prices.proofs.Pending.{one_each, balanced, fed_by_others}
 use Rattle.network_prices.proofs.Ways.{deepest-ge, CameBy, room_out, own_unit, came_down}
-use Rattle.network_prices.proofs.Sums.{inflow-lt, outflow-le, outflow-ge, outflow-ge_two}
+use Rattle.network_prices.proofs.Sums.{outflow-le, outflow-ge, outflow-ge_two}
 
 -- a load comes from a start
 some_start : (n w : ℕ) (starts : List (Option ℕ)) → 0 < load (pairs_from n starts) w → (s : ℕ) × (start_of starts s ≡ Some w)
@@ -83,15 +82,15 @@ module _ (wave : Wave) (nodes : WaveNodes) (arcs : List FlowArc) (flows : List �
   not_above_reward s i p l from off unit =
       let w = network.wait s p in
       let wait = w.1 in
-      let other : i ≡ w.0 → ⊥ = λ e. off (ap (λ (k : ℕ). (arc_at arcs k).to) e ∙ wait.to_is) in
-      let none = no_other s i w.0 p l wait.listed from wait.from_is other unit in
-      let cap = wait.capacity_is in
-      let less = inflow-lt arcs flows nodes.unstarted w.0 shipped.sizes shipped.within wait.listed wait.to_is (omega arith) in
+      let known = pending_known wave s p in
+      let others = fed_by_others wave nodes arcs flows network.past_splits network.no_entry shipped nodes.unstarted i
+      (λ k m t. (network.waiting k m t).0) l (omega arith) off in
       let same = even nodes.unstarted network.rest_inner in
       let r = network.rest in
-      let rest = r.1 in
+      let rest = r.2 in
       let out = outflow-ge arcs flows nodes.unstarted r.0 shipped.sizes rest.listed rest.from_is in
       let room = rest.capacity_is in
+      let enough = r.3 in
       let step = (reduced r.0 rest.listed).0 (omega arith) in
       let free = rest.cost_is in
       let a = ap h rest.from_is in let b = ap h rest.to_is in let c = at_sink in

@@ -1,8 +1,10 @@
--- sums at a node, and depths along a way
+-- arcs in a list, sums at a node, and depths along a way
+pub mod Arcs
 pub mod Sums
 pub mod Ways
 -- each pending split sends one unit
 pub mod Pending
+pub mod Sources
 -- what is read off certifies
 pub mod Certified
 -- units are handed on

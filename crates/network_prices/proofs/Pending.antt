@@ -1,6 +1,6 @@
 -- The pending splits, each of which sends one unit to the sink.
-use Rattle.std.proofs.Common.{◌≡◌, ℕ, zero, suc, ◌+◌, ◌*◌, ◌<◌, ◌≤◌, Bool, true, false, cond, eqb, List, [], ◌∷◌, ◌++◌, length, get_or, refl, sym, ap, ◌∙◌, subst, inl, inr, arith}
-use Rattle.std.proofs.lemmas.Bool.{cases_Bool, cases_lt, cases_eq, eq-eqb, ne_eqb}
+use Rattle.std.proofs.Common.{◌≡◌, ℕ, zero, suc, ◌+◌, ◌*◌, ◌<◌, ◌≤◌, Bool, true, false, cond, List, [], ◌∷◌, ◌++◌, length, get_or, refl, sym, ap, ◌∙◌, subst, inl, inr, arith}
+use Rattle.std.proofs.lemmas.Bool.{cases_Bool, cases_lt, cases_eq, eq-eqb, ne_eqb, false≢true}
 use Rattle.std.proofs.lemmas.List.{get_or_append_left, get_or_push, length-append}
 use Rattle.flow_network.specs.declared.arcs.FlowArc.{FlowArc}
 use Rattle.flow_network.specs.Flows.{arc_at, inflow, outflow, unit_at}
@@ -12,7 +12,7 @@ use Rattle.network_prices.specs.Pending.{pending_below, pending_splits}
 use Rattle.network_prices.specs.Ways.{IsInner}
 use Rattle.network_prices.specs.Networks.{WaveNodes}
 use Rattle.network_prices.specs.Prices.{IsShipped}
-use Rattle.network_prices.proofs.Sums.{inflow_none}
+use Rattle.network_prices.proofs.Sums.{inflow_none, given, given_none, given_more, inflow-given_two}
 
 -- how often a node is among the pending splits
 pub pending-more : (wave : Wave) (n : ℕ) → (split_at wave n).pending ≡ true → pending_below wave (suc n) ≡ pending_below wave n ++ n ∷ []
@@ -45,6 +45,17 @@ times_pending wave (suc n) v l p = elim (cases_eq n v) [
         | inr f ↦ ap (times_in v) (pending-same wave n f) ∙ before
       ])
 ]
+
+times_other : (wave : Wave) (n v : ℕ) → (split_at wave v).pending ≡ false → times_in v (pending_below wave n) ≡ 0
+times_other wave zero v f = refl
+times_other wave (suc n) v f =
+    let before = times_other wave n v f in
+    elim (cases_Bool (split_at wave n).pending) [
+      | inl t ↦ (let apart : n ≡ v → ⊥ = λ e. false≢true (sym f ∙ sym (ap (λ (z : ℕ). (split_at wave z).pending) e) ∙ t) in
+          let off : unit_at n v ≡ 0 = ap (λ (b : Bool). cond b 1 0) (ne_eqb n v apart) in
+          ap (times_in v) (pending-more wave n t) ∙ times_in-push v (pending_below wave n) n ∙ omega arith)
+      | inr g ↦ ap (times_in v) (pending-same wave n g) ∙ before
+    ]
 
 -- each source is a pending split, and they rise
 pub source_in : (wave : Wave) (n k : ℕ) → k < length (pending_below wave n) → (get_or (pending_below wave n) k 0 < n) × ((split_at wave (get_or (pending_below wave n) k 0)).pending ≡ true)
@@ -104,6 +115,39 @@ module _ (wave : Wave) (nodes : WaveNodes) (arcs : List FlowArc) (flows : List �
       let one = times_pending wave (length wave.splits) s known p in
       let off = units_off (length (pending_splits wave)) nodes.sink s (λ e. omega arith) in
       let balance = shipped.balance s in
+      omega arith
+
+  -- and none another
+  none_each : (s : ℕ) → s < length wave.splits → (split_at wave s).pending ≡ false → outflow arcs flows s ≡ 0
+  none_each s known f =
+      let none = inflow_none arcs flows s (λ i l e. (let inner = no_entry i l in omega arith)) in
+      let zero_times = times_other wave (length wave.splits) s f in
+      let off = units_off (length (pending_splits wave)) nodes.sink s (λ e. omega arith) in
+      let balance = shipped.balance s in
+      omega arith
+
+  given_pending : (n : ℕ) → n ≤ length wave.splits → given n arcs flows ≡ length (pending_below wave n)
+  given_pending zero l = given_none arcs flows
+  given_pending (suc n) l =
+      let before = given_pending n (omega arith) in
+      let more = given_more n arcs flows in
+      elim (cases_Bool (split_at wave n).pending) [
+        | inl t ↦ (let one = one_each n t in
+            let listed = ap (λ (z : List ℕ). length z) (pending-more wave n t) in
+            let size = length-append (pending_below wave n) (n ∷ []) in
+            omega arith)
+        | inr f ↦ (let none = none_each n (omega arith) f in
+            let listed = ap (λ (z : List ℕ). length z) (pending-same wave n f) in
+            omega arith)
+      ]
+
+  -- a unit that goes elsewhere does not come to a node that is fed by the splits alone
+  pub fed_by_others : (v i : ℕ) → ((k : ℕ) → k < length arcs → (arc_at arcs k).to ≡ v → (arc_at arcs k).from < length wave.splits)
+      → i < length arcs → (arc_at arcs i).from < length wave.splits → ((arc_at arcs i).to ≡ v → ⊥)
+      → inflow arcs flows v + get_or flows i 0 ≤ length (pending_splits wave)
+  fed_by_others v i fed l source off =
+      let all = given_pending (length wave.splits) (omega arith) in
+      let part = inflow-given_two (length wave.splits) arcs flows v i fed l source off in
       omega arith
 
   -- what enters a node between the splits and the sink leaves it

@@ -1,13 +1,13 @@
 -- Each arc hands on the units that it carries.
-use Rattle.std.proofs.Common.{◌≡◌, ℕ, zero, suc, ◌+◌, ◌-◌, ◌<◌, ◌≤◌, Bool, true, false, cond, eqb, List, [], ◌∷◌, length, get_or, set, take, drop, count_by, refl, sym, ap, ◌∙◌, subst, inl, inr, ◌⊎◌, arith, add-one}
+use Rattle.std.proofs.Common.{◌≡◌, ℕ, zero, suc, ◌+◌, ◌<◌, ◌≤◌, Bool, false, cond, eqb, List, [], ◌∷◌, length, get_or, set, refl, sym, ◌∙◌, subst, inl, inr, arith}
 use Rattle.std.specs.Prelude.{◌==◌}
-use Rattle.std.proofs.lemmas.Bool.{cases_Bool, cases_eq, cases_lt, eq-eqb, ne_eqb}
+use Rattle.std.proofs.lemmas.Bool.{ne_eqb}
 use Rattle.std.proofs.lemmas.List.Sums.{sum_by-cons}
 use Rattle.flow_network.specs.declared.arcs.FlowArc.{FlowArc}
-use Rattle.flow_network.specs.Flows.{arc_at, inflow, outflow}
+use Rattle.flow_network.specs.Flows.{arc_at}
 use Rattle.flow_network.proofs.HandOn.{enough_wait, inflow-more, outflow-more}
 use Rattle.network_prices.specs.Ways.{CameFrom}
-use Rattle.network_prices.specs.HandOn.{standing, IsMoved, Passes, Ends, CanHandOn, IsHandedOn}
+use Rattle.network_prices.specs.HandOn.{standing, IsMoved, CanHandOn, IsHandedOn}
 
 -- one unit moves
 pub standing-set : (places : List ℕ) (i v x : ℕ) → i < length places

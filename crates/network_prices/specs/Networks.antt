@@ -4,8 +4,8 @@ use Rattle.flow_network.specs.declared.arcs.FlowArc.{FlowArc}
 use Rattle.flow_network.specs.Flows.{arc_at}
 use Rattle.flow_network.specs.Laws.{outroom}
 use Rattle.wave_problem.specs.Wave.{Wave, IsAdmissible, split_at, worker_at, cost, reward}
-use Rattle.network_prices.specs.Pending.{IsUsable}
-use Rattle.network_prices.specs.Ways.{inroom, IsAmong, IsWay, IsInner}
+use Rattle.network_prices.specs.Pending.{IsUsable, pending_splits}
+use Rattle.network_prices.specs.Ways.{IsAmong, IsWay, IsInner}
 
 -- the nodes of a network but for the splits, whose nodes are their numbers
 pub record WaveNodes : Type 0 where
@@ -17,6 +17,10 @@ pub record WaveNodes : Type 0 where
 -- the way up from a worker's node to the root
 abbrev pub way_of : WaveNodes → ℕ → List ℕ
 way_of nodes w = nodes.worker w ∷ nodes.above w
+
+-- an arc stands in a list
+abbrev pub Stands : List FlowArc → FlowArc → Type 0
+Stands arcs a = (k : ℕ) × (k < length arcs) × (arc_at arcs k ≡ a)
 
 -- an arc by its number
 pub record IsArcFrom (arcs : List FlowArc) (k u v capacity cost : ℕ) : Type 0 where
@@ -35,7 +39,8 @@ pub record IsOffer (arcs : List FlowArc) (s : ℕ) (way : List ℕ) (most k : �
   pub at_most : (arc_at arcs k).cost ≤ most
 
 -- Each way up from a worker is a way of the network. The arcs of a split to a way's nodes are just what makes
--- its starts there admissible, at no less than a start's cost, and one of them costs no more.
+-- its starts there admissible, at no less than a start's cost, and one of them costs no more. A pending split has
+-- an arc to the node of those that are not started, which can send on the units of all.
 pub record IsWaveNetwork (wave : Wave) (nodes : WaveNodes) (arcs : List FlowArc) : Type 0 where
   pub past_splits : length wave.splits ≤ nodes.sink
   pub no_entry : (k : ℕ) → k < length arcs → length wave.splits ≤ (arc_at arcs k).to
@@ -52,7 +57,8 @@ pub record IsWaveNetwork (wave : Wave) (nodes : WaveNodes) (arcs : List FlowArc)
       → (k : ℕ) × IsArcFrom arcs k s nodes.unstarted 1 (reward wave)
   pub waiting : (k : ℕ) → k < length arcs → (arc_at arcs k).to ≡ nodes.unstarted
       → ((arc_at arcs k).from < length wave.splits) × ((arc_at arcs k).cost ≡ reward wave)
-  pub rest : (k : ℕ) × IsArcFrom arcs k nodes.unstarted nodes.sink (inroom arcs nodes.unstarted) 0
+  pub rest : (k : ℕ) × (room : ℕ) × IsArcFrom arcs k nodes.unstarted nodes.sink room 0
+      × (length (pending_splits wave) ≤ room)
   pub apart : (w : ℕ) → IsUsable wave w → IsAmong nodes.unstarted (way_of nodes w) → ⊥
   pub rest_inner : IsInner (length wave.splits) nodes.sink nodes.unstarted
   pub slot : (w : ℕ) → IsUsable wave w

@@ -1,41 +1,20 @@
 -- Arcs are added one after the other.
-use Rattle.std.proofs.Common.{◌≡◌, ℕ, zero, suc, ◌+◌, ◌-◌, ◌<◌, ◌≤◌, cond, eqb, List, [], ◌∷◌, ◌++◌, length, get_or, refl, sym, ap, ◌∙◌, subst, ◌⊎◌, inl, inr, arith}
+use Rattle.std.proofs.Common.{◌≡◌, ℕ, suc, ◌+◌, ◌<◌, ◌≤◌, cond, eqb, List, [], ◌∷◌, ◌++◌, length, refl, sym, ap, ◌∙◌, subst, ◌⊎◌, inl, inr, arith}
 use Rattle.std.proofs.lemmas.Bool.{cases_lt, eq-eqb, ne_eqb}
-use Rattle.std.proofs.lemmas.List.{get_or_append_left, get_or_push, length-append, get_or-append_right}
+use Rattle.std.proofs.lemmas.List.{length-append}
 use Rattle.flow_network.specs.declared.arcs.FlowArc.{FlowArc}
 use Rattle.flow_network.specs.Flow.{Flow}
-use Rattle.flow_network.specs.Flows.{no_arc, arc_at}
+use Rattle.flow_network.specs.Flows.{arc_at}
 use Rattle.flow_network.specs.Laws.{outroom}
 use Rattle.wave_problem.specs.Wave.{Wave, worker_at}
 use Rattle.network_prices.specs.Pending.{pending_below}
 use Rattle.network_prices.specs.Ways.{inroom}
+use Rattle.network_prices.specs.Networks.{Stands}
+use Rattle.network_prices.proofs.Arcs.{at_old, at_new, stands_on, stands_new, each_push, IsAdded, one_more, still_empty}
 use Rattle.rack_network.specs.declared.layout.RackLayout.{RackLayout}
 use Rattle.rack_network.specs.declared.arcs.RackArc.{RackArc}
-use Rattle.rack_network.specs.Racks.{rack_node, worker_node, unstarted_node, rack_of, slots_below, arc_of, IsSized, IsWanted, Stands}
+use Rattle.rack_network.specs.Racks.{rack_node, worker_node, unstarted_node, rack_of, slots_below, arc_of, IsSized, IsWanted}
 use Rattle.rack_network.specs.Build.{Progress, IsDone, AreArcsTo, HasRooms, IsEmptyWithin, IsBuilt}
-
-at_old : (arcs : List FlowArc) (a : FlowArc) (k : ℕ) → k < length arcs → arc_at (arcs ++ a ∷ []) k ≡ arc_at arcs k
-at_old arcs a k l = get_or_append_left arcs (a ∷ []) no_arc k l
-
-at_new : (arcs : List FlowArc) (a : FlowArc) → arc_at (arcs ++ a ∷ []) (length arcs) ≡ a
-at_new arcs a = get_or_push arcs a no_arc (length arcs) refl
-
-pub stands_on : (arcs : List FlowArc) (a b : FlowArc) → Stands arcs b → Stands (arcs ++ a ∷ []) b
-stands_on arcs a b s = let size = length-append arcs (a ∷ []) in let l = s.1 in (s.0, omega arith, at_old arcs a s.0 s.1 ∙ s.2)
-
-pub stands_new : (arcs : List FlowArc) (a : FlowArc) → Stands (arcs ++ a ∷ []) a
-stands_new arcs a = let size = length-append arcs (a ∷ []) in (length arcs, omega arith, at_new arcs a)
-
--- where each arc has a property, and the one that is added
-each_push : (P : FlowArc → Type 0) (arcs : List FlowArc) (a : FlowArc) → ((k : ℕ) → k < length arcs → P (arc_at arcs k)) → P a
-    → (k : ℕ) → k < length (arcs ++ a ∷ []) → P (arc_at (arcs ++ a ∷ []) k)
-each_push P arcs a old new k l =
-    let size = length-append arcs (a ∷ []) in
-    elim (cases_lt k (length arcs)) [
-      | inl m ↦ subst P (sym (at_old arcs a k m)) (old k m)
-      | inr m ↦ (let last : length arcs ≡ k = omega arith in
-          subst P (sym (at_new arcs a) ∙ ap (arc_at (arcs ++ a ∷ [])) last) new)
-    ]
 
 -- an arc that leads past all starts
 ordered_push : (bound : ℕ) (arcs : List FlowArc) (a : FlowArc) → ((j k : ℕ) → j ≤ k → k < length arcs → (arc_at arcs j).from < (arc_at arcs k).to)
@@ -114,27 +93,12 @@ rooms_pass wave p q arcs waits feeds slots known rooms = record {
 abbrev IsKnown : Wave → FlowArc → Type 0
 IsKnown wave a = (d : RackArc) × IsWanted wave d × (a ≡ arc_of wave d)
 
--- no arc carries a unit yet
-no_more : (i : ℕ) → get_or {A = ℕ} (0 ∷ []) i 0 ≡ 0
-no_more zero = refl
-no_more (suc i) = refl
-
-zero_push : (flows : List ℕ) → ((k : ℕ) → get_or flows k 0 ≡ 0) → (k : ℕ) → get_or (flows ++ 0 ∷ []) k 0 ≡ 0
-zero_push flows z k = elim (cases_lt k (length flows)) [
-  | inl l ↦ get_or_append_left flows (0 ∷ []) 0 k l ∙ z k
-  | inr l ↦ get_or-append_right flows (0 ∷ []) (length flows) k 0 refl l ∙ no_more (k - length flows)
-]
-
--- one network after an arc was added to another
-abbrev pub IsAdded : FlowArc → Flow RackLayout → Flow RackLayout → Type 0
-IsAdded a old new = (new.layout ≡ old.layout) × (new.arcs ≡ old.arcs ++ a ∷ []) × (new.flows ≡ old.flows ++ 0 ∷ [])
-
 pub add_empty : (wave : Wave) (limit next : ℕ) (a : FlowArc) (old new : Flow RackLayout) → limit < next → IsEmptyWithin wave limit old
     → IsAdded a old new → IsEmptyWithin wave next new
 add_empty wave limit next a old new less e added = record {
   layout = subst (IsSized wave) (sym added.0) e.layout;
-  arc_limit = (let size = ap (λ (z : List FlowArc). length z) added.1 in let more = length-append old.arcs (a ∷ []) in let limited = e.arc_limit in omega arith);
-  empty = subst (λ (z : List ℕ). (k : ℕ) → get_or z k 0 ≡ 0) (sym added.2) (zero_push old.flows e.empty);
+  arc_limit = one_more a old new added limit next less e.arc_limit;
+  empty = still_empty a old new added e.empty;
 }
 
 -- an arc of the network is added, and with it q is done

@@ -10,6 +10,7 @@ use Rattle.wave_problem.proofs.Bound.{pending_known, live_known}
 use Rattle.network_prices.specs.Pending.{IsUsable}
 use Rattle.network_prices.specs.Ways.{IsAmong, IsFed, IsWay}
 use Rattle.network_prices.specs.Networks.{way_of, IsArcFrom, IsOffer, IsWaveNetwork}
+use Rattle.network_prices.proofs.Arcs.{arc_standing}
 use Rattle.network_prices.proofs.Certified.{prices_certify}
 use Rattle.rack_network.specs.declared.arcs.RackArc.{RackArc}
 use Rattle.rack_network.specs.declared.arcs.RackArc.TheVariants.{Pair, Reach, Wait, Branch, Feed, Slot, Rest}
@@ -212,17 +213,7 @@ module _ (wave : Wave) (arcs : List FlowArc) (network : IsRackNetwork wave arcs)
 
   -- each arc that the network wants, by its number
   the_arc : (d : RackArc) → IsWanted wave d → (k : ℕ) × IsArcFrom arcs k (arc_of wave d).from (arc_of wave d).to (arc_of wave d).capacity (arc_of wave d).cost
-  the_arc d wanted =
-      let there = network.complete d wanted in (
-        there.0,
-        record {
-          listed = there.1;
-          from_is = ap (λ (a : FlowArc). a.from) there.2;
-          to_is = ap (λ (a : FlowArc). a.to) there.2;
-          capacity_is = ap (λ (a : FlowArc). a.capacity) there.2;
-          cost_is = ap (λ (a : FlowArc). a.cost) there.2;
-        },
-      )
+  the_arc d wanted = arc_standing arcs (arc_of wave d) (network.complete d wanted)
 
   fed_worker : (w : ℕ) → IsUsable wave w → IsFed arcs (length wave.splits) (rack_node wave (rack_of wave w)) (worker_node wave w)
   fed_worker w u =
@@ -322,8 +313,7 @@ module _ (wave : Wave) (arcs : List FlowArc) (network : IsRackNetwork wave arcs)
     complete = is_complete;
     wait = λ s p. the_arc (Wait s) p;
     waiting = λ k l t. (let d = network.sound k l in to_unstarted d.0 d.1 (arc_at arcs k) d.2 t);
-    rest = (let f = the_arc Rest tt in let arc = f.1 in
-        (f.0, record { listed = arc.listed; from_is = arc.from_is; to_is = arc.to_is; capacity_is = arc.capacity_is ∙ sym network.waiting_room; cost_is = arc.cost_is }));
+    rest = (let f = the_arc Rest tt in (f.0, (arc_of wave Rest).capacity, f.1, omega arith));
     apart = apart_from;
     rest_inner = record { no_source = omega arith; no_sink = λ e. omega arith };
     slot = λ w u. the_arc (Slot w) (live_known wave w u.0);

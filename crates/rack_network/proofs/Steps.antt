@@ -9,14 +9,16 @@ use Rattle.wave_problem.specs.Wave.{Wave, IsAdmissible, split_at, worker_at, wor
 use Rattle.wave_problem.proofs.Bound.{pending_known, live_known}
 use Rattle.network_prices.specs.Pending.{IsUsable, pending_below}
 use Rattle.network_prices.specs.Ways.{IsAmong}
+use Rattle.network_prices.specs.Networks.{Stands}
 use Rattle.network_prices.proofs.Pending.{pending-more, pending-same}
+use Rattle.network_prices.proofs.Arcs.{IsAdded, stands_new}
 use Rattle.rack_network.specs.declared.layout.RackLayout.{RackLayout}
 use Rattle.rack_network.specs.declared.arcs.RackArc.{RackArc}
 use Rattle.rack_network.specs.declared.arcs.RackArc.TheVariants.{Pair, Reach, Wait, Branch, Feed, Slot, Rest}
-use Rattle.rack_network.specs.Racks.{cluster_node, rack_node, worker_node, unstarted_node, sink_node, node_above, rack_of, slots_of, slots_below, HasBars, arc_of, IsSized, IsReach, IsWanted, IsRackNetwork, Stands}
+use Rattle.rack_network.specs.Racks.{cluster_node, rack_node, worker_node, unstarted_node, sink_node, node_above, rack_of, slots_of, slots_below, HasBars, arc_of, IsSized, IsReach, IsWanted, IsRackNetwork}
 use Rattle.rack_network.specs.Build.{Progress, at_pair, at_reach, at_split, at_wait, above_sink, StandsEarly, IsMet, IsDone, AreArcsTo, HasRooms, IsEmptyWithin, IsBuilt}
 use Rattle.rack_network.proofs.Levels.{holder_place, among_kept}
-use Rattle.rack_network.proofs.Adding.{outroom_none, off, on, IsAdded, rooms_push, rooms_pass, take, pass, add_empty, stands_new}
+use Rattle.rack_network.proofs.Adding.{outroom_none, off, on, rooms_push, rooms_pass, take, pass, add_empty}
 
 -- a holder read off the code's list
 read_at : (xs : List ℕ) (i d e : ℕ) → i < length xs → get_or xs i d ≡ get_or xs i e

@@ -1,11 +1,11 @@
 -- What each arc of the direct network is, by the node at one of its ends.
-use Rattle.std.proofs.Common.{◌≡◌, ℕ, ◌+◌, ◌<◌, length, sym, ap, ◌∙◌, subst, ◌⊎◌, inl, inr, arith}
+use Rattle.std.proofs.Common.{◌≡◌, ℕ, ◌+◌, ◌<◌, ◌≤◌, length, sym, ap, ◌∙◌, subst, ◌⊎◌, inl, inr, arith}
 use Rattle.flow_network.specs.declared.arcs.FlowArc.{FlowArc}
-use Rattle.wave_problem.specs.Wave.{Wave, IsAdmissible}
-use Rattle.wave_problem.proofs.Bound.{pending_known}
+use Rattle.wave_problem.specs.Wave.{Wave, IsAdmissible, reward}
+use Rattle.wave_problem.proofs.Bound.{pending_known, live_known}
 use Rattle.wave_planner.specs.declared.direct.DirectArc.{DirectArc}
 use Rattle.wave_planner.specs.declared.direct.DirectArc.TheVariants.{Pair, Wait, Slot, Rest}
-use Rattle.wave_planner.specs.Direct.{worker_node, sink_node, arc_of, IsWanted}
+use Rattle.wave_planner.specs.Direct.{worker_node, unstarted_node, arc_of, IsWanted}
 
 -- what leaves a split
 pub leaves_split : (wave : Wave) (a : FlowArc) (d : DirectArc) (s : ℕ) → IsWanted wave d → a ≡ arc_of wave d → a.from ≡ s → s < length wave.splits
@@ -32,21 +32,21 @@ enters_worker wave a (Slot v) w want e f l =
 enters_worker wave a Rest w want e f l =
     let both : length wave.splits + length wave.workers + 1 ≡ length wave.splits + w = sym (ap (λ (b : FlowArc). b.to) e) ∙ f in absurd (omega arith)
 
--- nothing enters a split, and nothing leaves the sink
-pub enters_no_split : (wave : Wave) (a : FlowArc) (d : DirectArc) (s : ℕ) → IsWanted wave d → a ≡ arc_of wave d → a.to ≡ s → s < length wave.splits → ⊥
-enters_no_split wave a (Pair r w) s want e f l = let q : length wave.splits + w ≡ s = sym (ap (λ (b : FlowArc). b.to) e) ∙ f in omega arith
-enters_no_split wave a (Wait r) s want e f l = let q : length wave.splits + length wave.workers ≡ s = sym (ap (λ (b : FlowArc). b.to) e) ∙ f in omega arith
-enters_no_split wave a (Slot w) s want e f l = let q : length wave.splits + length wave.workers + 1 ≡ s = sym (ap (λ (b : FlowArc). b.to) e) ∙ f in omega arith
-enters_no_split wave a Rest s want e f l = let q : length wave.splits + length wave.workers + 1 ≡ s = sym (ap (λ (b : FlowArc). b.to) e) ∙ f in omega arith
+-- only splits lead to the node of those that are not started
+pub enters_unstarted : (wave : Wave) (a : FlowArc) (d : DirectArc) → IsWanted wave d → a ≡ arc_of wave d → a.to ≡ unstarted_node wave
+    → (a.from < length wave.splits) × (a.cost ≡ reward wave)
+enters_unstarted wave a (Pair s w) want e f =
+    let known = live_known wave w want.live in
+    let both : length wave.splits + w ≡ length wave.splits + length wave.workers = sym (ap (λ (b : FlowArc). b.to) e) ∙ f in absurd (omega arith)
+enters_unstarted wave a (Wait s) want e f = let known = pending_known wave s want in let from = ap (λ (b : FlowArc). b.from) e in (omega arith, ap (λ (b : FlowArc). b.cost) e)
+enters_unstarted wave a (Slot w) want e f =
+    let both : length wave.splits + length wave.workers + 1 ≡ length wave.splits + length wave.workers = sym (ap (λ (b : FlowArc). b.to) e) ∙ f in absurd (omega arith)
+enters_unstarted wave a Rest want e f =
+    let both : length wave.splits + length wave.workers + 1 ≡ length wave.splits + length wave.workers = sym (ap (λ (b : FlowArc). b.to) e) ∙ f in absurd (omega arith)
 
-pub leaves_no_sink : (wave : Wave) (a : FlowArc) (d : DirectArc) → IsWanted wave d → a ≡ arc_of wave d → a.from ≡ sink_node wave → ⊥
-leaves_no_sink wave a (Pair s w) want e f =
-    let known = pending_known wave s want.pending in
-    let q : s ≡ length wave.splits + length wave.workers + 1 = sym (ap (λ (b : FlowArc). b.from) e) ∙ f in omega arith
-leaves_no_sink wave a (Wait s) want e f =
-    let known = pending_known wave s want in
-    let q : s ≡ length wave.splits + length wave.workers + 1 = sym (ap (λ (b : FlowArc). b.from) e) ∙ f in omega arith
-leaves_no_sink wave a (Slot w) want e f =
-    let q : length wave.splits + w ≡ length wave.splits + length wave.workers + 1 = sym (ap (λ (b : FlowArc). b.from) e) ∙ f in omega arith
-leaves_no_sink wave a Rest want e f =
-    let q : length wave.splits + length wave.workers ≡ length wave.splits + length wave.workers + 1 = sym (ap (λ (b : FlowArc). b.from) e) ∙ f in omega arith
+-- no arc leads to a split
+pub past_splits : (wave : Wave) (a : FlowArc) (d : DirectArc) → a ≡ arc_of wave d → length wave.splits ≤ a.to
+past_splits wave a (Pair s w) e = let to = ap (λ (b : FlowArc). b.to) e in omega arith
+past_splits wave a (Wait s) e = let to = ap (λ (b : FlowArc). b.to) e in omega arith
+past_splits wave a (Slot w) e = let to = ap (λ (b : FlowArc). b.to) e in omega arith
+past_splits wave a Rest e = let to = ap (λ (b : FlowArc). b.to) e in omega arith

@@ -1,12 +1,11 @@
--- for networks of every shape: sums of flows at a node, one arc more
+-- sums of flows at a node, and arcs that rise
 pub mod Sums
-pub mod Pushes
--- the direct network: the arcs that meet at a node, and what they carry
+pub mod Rising
+-- the direct network: the arcs that meet at a node, and that it is a network of its wave, whose prices certify
 pub mod Ends
-pub mod Balances
+pub mod DirectWays
 -- it is built
 pub mod Adding
--- units are shipped, the plan is read off, and the prices certify it
+-- units are shipped, and the plan is read off
 pub mod Sources
 pub mod Units
-pub mod Duals

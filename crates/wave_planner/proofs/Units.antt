@@ -1,22 +1,23 @@
 -- The plan that is read off a flow, arc by arc.
-use Rattle.std.proofs.Common.{◌≡◌, ℕ, zero, suc, ◌+◌, ◌<◌, ◌≤◌, Bool, cond, eqb, List, [], ◌∷◌, length, get_or, set, take, Option, Some, None, refl, sym, ap, ◌∙◌, subst, ◌⊎◌, inl, inr, arith, replicate, get_or-set_same, get_or-set_other, length-set}
+use Rattle.std.proofs.Common.{◌≡◌, ℕ, zero, suc, ◌+◌, ◌<◌, ◌≤◌, Bool, true, cond, eqb, List, [], ◌∷◌, length, get_or, set, take, Option, Some, None, refl, sym, ap, ◌∙◌, subst, inl, inr, arith, replicate, get_or-set_same, get_or-set_other, length-set}
 use Rattle.std.specs.Prelude.{◌==◌, is_some}
 use Rattle.std.proofs.lemmas.Bool.{cases_lt, cases_eq, false≢true, eq-eqb, ne_eqb}
 use Rattle.std.proofs.lemmas.List.{take_all, get_or_past}
 use Rattle.std.proofs.lemmas.List.Sums.{sum_by-cons}
 use Rattle.flow_network.specs.declared.arcs.FlowArc.{FlowArc}
-use Rattle.flow_network.specs.Flows.{arc_at, inflow, unit_at}
-use Rattle.wave_problem.specs.Wave.{Wave, IsAdmissible}
+use Rattle.flow_network.specs.Flows.{arc_at, inflow, outflow, unit_at}
+use Rattle.wave_problem.specs.Wave.{Wave, IsAdmissible, split_at}
 use Rattle.wave_problem.specs.Assignment.{start_of, pairs_of, pairs_from, load, Plan}
 use Rattle.wave_problem.proofs.Bound.{pending_known, live_known}
-use Rattle.wave_planner.specs.Direct.{IsDirect, worker_node}
+use Rattle.wave_planner.specs.Direct.{IsDirect, direct_nodes, worker_node}
 use Rattle.wave_planner.specs.Prices.{IsReadOff, IsShipped}
 use Rattle.wave_planner.specs.Reading.{IsPairUnit, IsReadTo}
 use Rattle.network_prices.proofs.Sums.{outflow-ge, outflow-ge_two}
+use Rattle.network_prices.proofs.Pending.{one_each, balanced}
 use Rattle.wave_planner.proofs.Sums.{carrier_out}
 use Rattle.flow_network.proofs.HandOn.{inflow-more}
-use Rattle.wave_planner.proofs.Balances.{out_of_split, through_worker}
-use Rattle.wave_planner.proofs.Ends.{leaves_split, enters_worker}
+use Rattle.wave_planner.proofs.Ends.{leaves_split}
+use Rattle.wave_planner.proofs.DirectWays.{some_or_none, no_entry, pair_at}
 
 -- one start more
 load_set_from : (n : ℕ) (starts : List (Option ℕ)) (s w v : ℕ) → s < length starts → start_of starts s ≡ None
@@ -42,10 +43,6 @@ start_none zero s = refl
 start_none (suc m) zero = refl
 start_none (suc m) (suc s) = start_none m s
 
-some_or_none : (o : Option ℕ) → ((w : ℕ) × (o ≡ Some w)) ⊎ (o ≡ None)
-some_or_none None = inr refl
-some_or_none (Some w) = inl (w, refl)
-
 some_same : (a b : ℕ) → Some a ≡ Some b → a ≡ b
 some_same a b e = cc
 
@@ -60,16 +57,23 @@ read_none wave arcs flows plan e workers size = record {
 }
 
 module _ (wave : Wave) (arcs : List FlowArc) (flows : List ℕ) (direct : IsDirect wave arcs) (shipped : IsShipped wave arcs flows) where
+  own_one : (s : ℕ) → (split_at wave s).pending ≡ true → outflow arcs flows s ≡ 1
+  own_one = one_each wave (direct_nodes wave) arcs flows (omega arith) (no_entry wave arcs direct) shipped
+
+  -- what enters a worker leaves it
+  through : (w : ℕ) → w < length wave.workers → inflow arcs flows (worker_node wave w) ≡ outflow arcs flows (worker_node wave w)
+  through w l = balanced wave (direct_nodes wave) arcs flows (omega arith) (no_entry wave arcs direct) shipped (worker_node wave w)
+      (record { no_source = omega arith; no_sink = λ e. omega arith })
+
   -- the split of a pair's unit is pending, and this is its only unit
   admitted : (k s w : ℕ) → k < length arcs → IsPairUnit wave arcs flows k s w → IsAdmissible wave s w
   admitted k s w l p =
-      let d = direct.sound k l in
-      let pair = enters_worker wave (arc_at arcs k) d.0 w d.1 d.2 p.to p.worker in
+      let pair = pair_at wave arcs direct k w l p.worker p.to in
       subst (λ z. IsAdmissible wave z w) (sym (ap (λ (b : FlowArc). b.from) pair.2) ∙ p.from) pair.1
 
   one_only : (k s w : ℕ) → k < length arcs → IsPairUnit wave arcs flows k s w → get_or flows k 0 ≡ 1
   one_only k s w l p =
-      let one = out_of_split wave arcs flows direct shipped s (admitted k s w l p).pending in
+      let one = own_one s (admitted k s w l p).pending in
       let some = p.unit in
       let most = outflow-ge arcs flows s k shipped.sizes l p.from in
       omega arith
@@ -77,7 +81,7 @@ module _ (wave : Wave) (arcs : List FlowArc) (flows : List ℕ) (direct : IsDire
   -- two arcs do not carry units of one split
   same_arc : (i k s w v : ℕ) → i < length arcs → k < length arcs → IsPairUnit wave arcs flows i s w → IsPairUnit wave arcs flows k s v → i < k → ⊥
   same_arc i k s w v l m p q less =
-      let one = out_of_split wave arcs flows direct shipped s (admitted i s w l p).pending in
+      let one = own_one s (admitted i s w l p).pending in
       let some = p.unit in
       let more = q.unit in
       let both = outflow-ge_two arcs flows s i k shipped.sizes l m p.from q.from (λ e. omega arith) in
@@ -147,8 +151,7 @@ module _ (wave : Wave) (arcs : List FlowArc) (flows : List ℕ) (direct : IsDire
           | inr n ↦ ap (λ (b : Bool). cond b (get_or flows k 0) 0) (ne_eqb (arc_at arcs k).to (worker_node wave v) n)
           | inl e ↦ (let zero_flow : get_or flows k 0 ≡ 0 = elim (cases_lt 0 (get_or flows k 0)) [
             | inr z ↦ omega arith
-            | inl u ↦ (let d = direct.sound k l in
-                let pair = enters_worker wave (arc_at arcs k) d.0 v d.1 d.2 e m in
+            | inl u ↦ (let pair = pair_at wave arcs direct k v l m e in
                 absurd (none pair.0 v (record { split = pending_known wave pair.0 pair.1.pending; worker = m; from = ap (λ (b : FlowArc). b.from) pair.2; to = e; unit = u })))
           ] in
               ap (λ (b : Bool). cond b (get_or flows k 0) 0) (eq-eqb (arc_at arcs k).to (worker_node wave v) e) ∙ zero_flow)
@@ -166,7 +169,7 @@ module _ (wave : Wave) (arcs : List FlowArc) (flows : List ℕ) (direct : IsDire
         ] in
         (t.2.worker, (t.0, listed, t.2.from, t.2.to, t.2.unit)));
     waiting = λ s p e. (
-        let one = out_of_split wave arcs flows direct shipped s p in
+        let one = own_one s p in
         let known = pending_known wave s p in
         let c = carrier_out arcs flows s (omega arith) in
         let d = direct.sound c.0 c.1 in
@@ -182,5 +185,5 @@ module _ (wave : Wave) (arcs : List FlowArc) (flows : List ℕ) (direct : IsDire
         let flows_all : take j flows ≡ flows = take_all j flows (let z = shipped.sizes in omega arith) in
         let all : inflow (take j arcs) (take j flows) (worker_node wave w) ≡ inflow arcs flows (worker_node wave w) =
         ap (λ (z : List FlowArc). inflow z (take j flows) (worker_node wave w)) arcs_all ∙ ap (λ (z : List ℕ). inflow arcs z (worker_node wave w)) flows_all in
-        before ∙ all ∙ through_worker wave arcs flows direct shipped w l);
+        before ∙ all ∙ through w l);
   }

@@ -8,7 +8,8 @@ use Rattle.wave_planner.specs.declared.layout.DirectLayout.{DirectLayout}
 use Rattle.wave_planner.specs.declared.direct.DirectArc.{DirectArc}
 use Rattle.wave_planner.specs.declared.direct.DirectArc.TheVariants.{Pair}
 use Rattle.wave_planner.specs.Direct.{arc_of, IsSized, IsWanted}
-use Rattle.wave_planner.specs.Networks.{Stands, AreRising}
+use Rattle.network_prices.specs.Networks.{Stands}
+use Rattle.wave_planner.specs.Networks.{AreRising}
 
 -- arcs of the network alone, and all of those that leave a node below v
 pub record AreArcsTo (wave : Wave) (v : ℕ) (arcs : List FlowArc) : Type 0 where

@@ -1,10 +1,11 @@
 -- The direct network of a wave: its nodes by their places, and its arcs.
-use Rattle.std.specs.Prelude.{ℕ, ◌≡◌, ◌+◌, ◌<◌, true, List, length, unwrap_or}
+use Rattle.std.specs.Prelude.{ℕ, ◌≡◌, ◌+◌, ◌<◌, true, List, [], length, unwrap_or}
 use Rattle.wave_problem.specs.Wave.{Wave, IsAdmissible, split_at, worker_at, cost, reward}
 use Rattle.flow_network.specs.declared.arcs.FlowArc.{FlowArc}
 use Rattle.flow_network.specs.Flows.{arc_at}
 use Rattle.network_prices.specs.Pending.{pending_splits}
-use Rattle.wave_planner.specs.Networks.{Stands, AreRising}
+use Rattle.network_prices.specs.Networks.{Stands, WaveNodes}
+use Rattle.wave_planner.specs.Networks.{AreRising}
 use Rattle.wave_planner.specs.declared.layout.DirectLayout.{DirectLayout}
 use Rattle.wave_planner.specs.declared.direct.DirectArc.{DirectArc}
 use Rattle.wave_planner.specs.declared.direct.DirectArc.TheVariants.{Pair, Wait, Slot, Rest}
@@ -23,6 +24,15 @@ unstarted_node wave = length wave.splits + length wave.workers
 
 abbrev pub sink_node : Wave → ℕ
 sink_node wave = length wave.splits + length wave.workers + 1
+
+-- no node lies above a worker's
+abbrev pub direct_nodes : Wave → WaveNodes
+direct_nodes wave = record {
+  worker = worker_node wave;
+  above = λ w. [];
+  unstarted = unstarted_node wave;
+  sink = sink_node wave;
+}
 
 -- an arc of the network
 abbrev pub arc_of : Wave → DirectArc → FlowArc

@@ -1,12 +1,7 @@
 -- What the networks of a wave have in common, whatever lies between splits and workers.
-use Rattle.std.specs.Prelude.{ℕ, zero, suc, ◌≡◌, ◌<◌, ◌≤◌, true, cond, List, [], ◌∷◌, ◌++◌, length, slice_index}
-use Rattle.wave_problem.specs.Wave.{Wave, split_at, worker_at}
+use Rattle.std.specs.Prelude.{ℕ, ◌≡◌, ◌<◌, ◌≤◌, List, length, slice_index}
 use Rattle.flow_network.specs.declared.arcs.FlowArc.{FlowArc}
 use Rattle.flow_network.specs.Flows.{arc_at}
-
--- an arc stands in a list
-abbrev pub Stands : List FlowArc → FlowArc → Type 0
-Stands arcs a = (k : ℕ) × (k < length arcs) × (arc_at arcs k ≡ a)
 
 -- the arcs rise by the nodes that they leave, and each node past the first few is left by one at most
 abbrev pub AreRising : ℕ → List FlowArc → Type 0

@@ -1,6 +1,4 @@
-use Rattle.std.proofs.Common.{◌≡◌, ℕ, subst, sym, arith}
-use Rattle.network_prices.specs.HandOn.{IsHandedOn}
-use Rattle.network_prices.proofs.Units.{handed_none, enough_stand, to_sink, moved_on}
+use Rattle.network_prices.proofs.Units.{enough_stand, to_sink, moved_on}
 use Rattle.network_prices.proofs.handing.hand_all.Goals as goal
 use Rattle.network_prices.proofs.handing.hand_all.Goals.{then-arc-sink, else-arc-sink}
 

@@ -8,4 +8,6 @@ returns-clause-arcs c =
     c.add_workers.new.network c.add.new.network refl c.in_ok-add_workers.ensures (c.in_ok-add.ensures.layout, c.in_ok-add.ensures.arcs, c.in_ok-add.ensures.flows)
 
 pub returns-clause-empty : goal.returns-clause-empty
-returns-clause-empty c = rest_empty c.args.problem.now _ _ c.add_workers.new.network c.add.new.network c.in_ok-add_workers.ensures c.in_ok-add.ensures.flows
+returns-clause-empty c =
+    rest_empty c.args.problem.now _ _ c.add_workers.new.network c.add.new.network
+    c.in_ok-add_workers.ensures (c.in_ok-add.ensures.layout, c.in_ok-add.ensures.arcs, c.in_ok-add.ensures.flows)

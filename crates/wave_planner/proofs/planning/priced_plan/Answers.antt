@@ -3,7 +3,7 @@ use Rattle.flow_network.specs.declared.arcs.FlowArc.{FlowArc}
 use Rattle.flow_network.specs.Flows.{NoNegative}
 use Rattle.wave_planner.specs.Direct.{IsDirect}
 use Rattle.wave_planner.specs.Prices.{IsShipped}
-use Rattle.wave_planner.proofs.Duals.{prices_certify}
+use Rattle.wave_planner.proofs.DirectWays.{direct_prices}
 use Rattle.wave_planner.proofs.Sources.{all_members, few, ways, all_shipped, sink_is}
 use Rattle.wave_planner.proofs.planning.priced_plan.Goals as goal
 
@@ -33,7 +33,7 @@ pub returns-clause-certifies : goal.returns-clause-certifies
 returns-clause-certifies c =
     let same : c.saturate.new.network.arcs ≡ c.in_ok-network.network.arcs = c.saturate.ensures.arcs in
     let sink = sink_is c.args.problem.now _ _ c.deref.result.now c.in_ok-network.ensures.layout.splits c.in_ok-network.ensures.layout.workers (c.deref.ensures.value ∙ c.in_ok-sources.ensures) in
-    prices_certify c.args.problem.now c.saturate.new.network.arcs c.saturate.new.network.flows (λ v. get_or c.in_ok-potentials.potentials v 0) c.in_ok-plan.plan.starts c.in_ok-prices.prices
+    direct_prices c.args.problem.now c.saturate.new.network.arcs c.saturate.new.network.flows (λ v. get_or c.in_ok-potentials.potentials v 0) c.in_ok-plan.plan.starts c.in_ok-prices.prices
     (subst (IsDirect c.args.problem.now) (sym same) c.in_ok-network.ensures.arcs)
     (subst (λ (z : List FlowArc). IsShipped c.args.problem.now z c.saturate.new.network.flows) (sym same)
     (all_shipped c.args.problem.now _ _ c.deref.result.now c.in_ok-network.ensures.layout.splits c.in_ok-network.ensures.layout.workers (c.deref.ensures.value ∙ c.in_ok-sources.ensures)

@@ -1,15 +1,29 @@
--- One arc more at the end of a list of arcs.
+-- Arcs that stand in a list, and one more at its end.
 use Rattle.std.proofs.Common.{◌≡◌, ℕ, zero, suc, ◌-◌, ◌<◌, ◌≤◌, List, [], ◌∷◌, ◌++◌, length, get_or, refl, sym, ap, ◌∙◌, subst, inl, inr, arith}
 use Rattle.std.proofs.lemmas.Bool.{cases_lt}
 use Rattle.std.proofs.lemmas.List.{get_or_append_left, get_or_push, length-append, get_or-append_right}
 use Rattle.flow_network.specs.declared.arcs.FlowArc.{FlowArc}
+use Rattle.flow_network.specs.Flow.{Flow}
 use Rattle.flow_network.specs.Flows.{no_arc, arc_at}
-use Rattle.wave_planner.specs.Networks.{Stands, AreRising}
+use Rattle.network_prices.specs.Networks.{Stands, IsArcFrom}
 
-at_old : (arcs : List FlowArc) (a : FlowArc) (k : ℕ) → k < length arcs → arc_at (arcs ++ a ∷ []) k ≡ arc_at arcs k
+-- an arc that stands, by its number
+pub arc_standing : (arcs : List FlowArc) (a : FlowArc) → Stands arcs a → (k : ℕ) × IsArcFrom arcs k a.from a.to a.capacity a.cost
+arc_standing arcs a stands = (
+  stands.0,
+  record {
+    listed = stands.1;
+    from_is = ap (λ (b : FlowArc). b.from) stands.2;
+    to_is = ap (λ (b : FlowArc). b.to) stands.2;
+    capacity_is = ap (λ (b : FlowArc). b.capacity) stands.2;
+    cost_is = ap (λ (b : FlowArc). b.cost) stands.2;
+  },
+)
+
+pub at_old : (arcs : List FlowArc) (a : FlowArc) (k : ℕ) → k < length arcs → arc_at (arcs ++ a ∷ []) k ≡ arc_at arcs k
 at_old arcs a k l = get_or_append_left arcs (a ∷ []) no_arc k l
 
-at_new : (arcs : List FlowArc) (a : FlowArc) → arc_at (arcs ++ a ∷ []) (length arcs) ≡ a
+pub at_new : (arcs : List FlowArc) (a : FlowArc) → arc_at (arcs ++ a ∷ []) (length arcs) ≡ a
 at_new arcs a = get_or_push arcs a no_arc (length arcs) refl
 
 pub stands_on : (arcs : List FlowArc) (a b : FlowArc) → Stands arcs b → Stands (arcs ++ a ∷ []) b
@@ -29,31 +43,27 @@ each_push P arcs a old new k l =
           subst P (sym (at_new arcs a) ∙ ap (arc_at (arcs ++ a ∷ [])) last) new)
     ]
 
-pub rising_push : (few : ℕ) (arcs : List FlowArc) (a : FlowArc) → AreRising few arcs
-    → ((k : ℕ) → k < length arcs → ((arc_at arcs k).from ≤ a.from) × (few ≤ (arc_at arcs k).from → (arc_at arcs k).from < a.from))
-    → AreRising few (arcs ++ a ∷ [])
-rising_push few arcs a rising new j k less l =
-    let size = length-append arcs (a ∷ []) in
-    let first : (arc_at (arcs ++ a ∷ []) j).from ≡ (arc_at arcs j).from = ap (λ (b : FlowArc). b.from) (at_old arcs a j (omega arith)) in
-    elim (cases_lt k (length arcs)) [
-      | inl m ↦ (let second : (arc_at (arcs ++ a ∷ []) k).from ≡ (arc_at arcs k).from = ap (λ (b : FlowArc). b.from) (at_old arcs a k m) in
-          let old = rising j k less m in
-          let below = old.0 in
-          (omega arith, λ past. let above = old.1 (omega arith) in omega arith))
-      | inr m ↦ (let last : k ≡ length arcs = omega arith in
-          let second : (arc_at (arcs ++ a ∷ []) k).from ≡ a.from = ap (λ (z : ℕ). (arc_at (arcs ++ a ∷ []) z).from) last ∙ ap (λ (b : FlowArc). b.from) (at_new arcs a) in
-          let now = new j (omega arith) in
-          let below = now.0 in
-          (omega arith, λ past. let above = now.1 (omega arith) in omega arith))
-    ]
-
 -- no arc carries a unit yet
 no_more : (i : ℕ) → get_or {A = ℕ} (0 ∷ []) i 0 ≡ 0
 no_more zero = refl
 no_more (suc i) = refl
 
-pub zero_push : (flows : List ℕ) → ((k : ℕ) → get_or flows k 0 ≡ 0) → (k : ℕ) → get_or (flows ++ 0 ∷ []) k 0 ≡ 0
+zero_push : (flows : List ℕ) → ((k : ℕ) → get_or flows k 0 ≡ 0) → (k : ℕ) → get_or (flows ++ 0 ∷ []) k 0 ≡ 0
 zero_push flows z k = elim (cases_lt k (length flows)) [
   | inl l ↦ get_or_append_left flows (0 ∷ []) 0 k l ∙ z k
   | inr l ↦ get_or-append_right flows (0 ∷ []) (length flows) k 0 refl l ∙ no_more (k - length flows)
 ]
+
+-- one network after an arc was added to another
+abbrev pub IsAdded : {L : Type 0} → FlowArc → Flow L → Flow L → Type 0
+IsAdded a old new = (new.layout ≡ old.layout) × (new.arcs ≡ old.arcs ++ a ∷ []) × (new.flows ≡ old.flows ++ 0 ∷ [])
+
+module _ {L : Type 0} (a : FlowArc) (old new : Flow L) (added : IsAdded a old new) where
+  pub one_more : (limit next : ℕ) → limit < next → length old.arcs ≤ limit → length new.arcs ≤ next
+  one_more limit next less limited =
+      let size = ap (λ (z : List FlowArc). length z) added.1 in
+      let more = length-append old.arcs (a ∷ []) in
+      omega arith
+
+  pub still_empty : ((k : ℕ) → get_or old.flows k 0 ≡ 0) → (k : ℕ) → get_or new.flows k 0 ≡ 0
+  still_empty empty = subst (λ (z : List ℕ). (k : ℕ) → get_or z k 0 ≡ 0) (sym added.2) (zero_push old.flows empty)
