@@ -6,6 +6,7 @@ use Rattle.flow_network.specs.declared.arcs.FlowArc.{FlowArc}
 use Rattle.flow_network.specs.Flow.{Flow}
 use Rattle.flow_network.specs.Flows.{no_arc, arc_at}
 use Rattle.network_prices.specs.Networks.{Stands, IsArcFrom}
+use Rattle.network_prices.specs.Building.{IsEmptyWithin, IsAdded}
 
 -- an arc that stands, by its number
 pub arc_standing : (arcs : List FlowArc) (a : FlowArc) → Stands arcs a → (k : ℕ) × IsArcFrom arcs k a.from a.to a.capacity a.cost
@@ -54,16 +55,13 @@ zero_push flows z k = elim (cases_lt k (length flows)) [
   | inr l ↦ get_or-append_right flows (0 ∷ []) (length flows) k 0 refl l ∙ no_more (k - length flows)
 ]
 
--- one network after an arc was added to another
-abbrev pub IsAdded : {L : Type 0} → FlowArc → Flow L → Flow L → Type 0
-IsAdded a old new = (new.layout ≡ old.layout) × (new.arcs ≡ old.arcs ++ a ∷ []) × (new.flows ≡ old.flows ++ 0 ∷ [])
+pub add_empty : {L : Type 0} (sized : L → Type 0) (limit next : ℕ) (a : FlowArc) (old new : Flow L) → limit < next → IsEmptyWithin sized limit old
+    → IsAdded a old new → IsEmptyWithin sized next new
+add_empty sized limit next a old new less e added = record {
+  layout = subst sized (sym added.0) e.layout;
+  arc_limit = (let size = ap (λ (z : List FlowArc). length z) added.1 in let more = length-append old.arcs (a ∷ []) in let limited = e.arc_limit in omega arith);
+  empty = subst (λ (z : List ℕ). (k : ℕ) → get_or z k 0 ≡ 0) (sym added.2) (zero_push old.flows e.empty);
+}
 
-module _ {L : Type 0} (a : FlowArc) (old new : Flow L) (added : IsAdded a old new) where
-  pub one_more : (limit next : ℕ) → limit < next → length old.arcs ≤ limit → length new.arcs ≤ next
-  one_more limit next less limited =
-      let size = ap (λ (z : List FlowArc). length z) added.1 in
-      let more = length-append old.arcs (a ∷ []) in
-      omega arith
-
-  pub still_empty : ((k : ℕ) → get_or old.flows k 0 ≡ 0) → (k : ℕ) → get_or new.flows k 0 ≡ 0
-  still_empty empty = subst (λ (z : List ℕ). (k : ℕ) → get_or z k 0 ≡ 0) (sym added.2) (zero_push old.flows empty)
+pub more_room : {L : Type 0} (sized : L → Type 0) (limit next : ℕ) (network : Flow L) → limit ≤ next → IsEmptyWithin sized limit network → IsEmptyWithin sized next network
+more_room sized limit next network less e = record { layout = e.layout; arc_limit = (let limited = e.arc_limit in omega arith); empty = e.empty }

@@ -1,7 +1,9 @@
--- what a network of a wave has to offer
+-- what a network of a wave has to offer, and how it grows
 pub mod Pending
 pub mod Ways
 pub mod Networks
+pub mod Building
 -- what is read off its flows
 pub mod Prices
+pub mod Pricing
 pub mod HandOn

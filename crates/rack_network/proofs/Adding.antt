@@ -10,11 +10,12 @@ use Rattle.wave_problem.specs.Wave.{Wave, worker_at}
 use Rattle.network_prices.specs.Pending.{pending_below}
 use Rattle.network_prices.specs.Ways.{inroom}
 use Rattle.network_prices.specs.Networks.{Stands}
-use Rattle.network_prices.proofs.Arcs.{at_old, at_new, stands_on, stands_new, each_push, IsAdded, one_more, still_empty}
+use Rattle.network_prices.specs.Building.{IsAdded}
+use Rattle.network_prices.proofs.Arcs.{at_old, at_new, stands_on, stands_new, each_push, add_empty, more_room}
 use Rattle.rack_network.specs.declared.layout.RackLayout.{RackLayout}
 use Rattle.rack_network.specs.declared.arcs.RackArc.{RackArc}
 use Rattle.rack_network.specs.Racks.{rack_node, worker_node, unstarted_node, rack_of, slots_below, arc_of, IsSized, IsWanted}
-use Rattle.rack_network.specs.Build.{Progress, IsDone, AreArcsTo, HasRooms, IsEmptyWithin, IsBuilt}
+use Rattle.rack_network.specs.Build.{Progress, IsDone, AreArcsTo, HasRooms, IsBuilt}
 
 -- an arc that leads past all starts
 ordered_push : (bound : ℕ) (arcs : List FlowArc) (a : FlowArc) → ((j k : ℕ) → j ≤ k → k < length arcs → (arc_at arcs j).from < (arc_at arcs k).to)
@@ -93,14 +94,6 @@ rooms_pass wave p q arcs waits feeds slots known rooms = record {
 abbrev IsKnown : Wave → FlowArc → Type 0
 IsKnown wave a = (d : RackArc) × IsWanted wave d × (a ≡ arc_of wave d)
 
-pub add_empty : (wave : Wave) (limit next : ℕ) (a : FlowArc) (old new : Flow RackLayout) → limit < next → IsEmptyWithin wave limit old
-    → IsAdded a old new → IsEmptyWithin wave next new
-add_empty wave limit next a old new less e added = record {
-  layout = subst (IsSized wave) (sym added.0) e.layout;
-  arc_limit = one_more a old new added limit next less e.arc_limit;
-  empty = still_empty a old new added e.empty;
-}
-
 -- an arc of the network is added, and with it q is done
 take_arc : (wave : Wave) (p q : Progress) (least bound : ℕ) (d : RackArc) (arcs : List FlowArc) → least ≤ bound → IsWanted wave d → (arc_of wave d).from < bound → bound ≤ (arc_of wave d).to
     → ((e : RackArc) → IsWanted wave e → IsDone wave q e → IsDone wave p e ⊎ (arc_of wave e ≡ arc_of wave d))
@@ -121,7 +114,7 @@ pub take : (wave : Wave) (p q : Progress) (least bound limit next : ℕ) (d : Ra
     → (AreArcsTo wave p least old.arcs → HasRooms wave p old.arcs → HasRooms wave q (old.arcs ++ arc_of wave d ∷ []))
     → IsBuilt wave p least limit old → IsAdded (arc_of wave d) old new → IsBuilt wave q bound next new
 take wave p q least bound limit next d old new less raised want low high done rooms b added = record {
-  frame = add_empty wave limit next (arc_of wave d) old new less b.frame added;
+  frame = add_empty (IsSized wave) limit next (arc_of wave d) old new less b.frame added;
   arcs = subst (AreArcsTo wave q bound) (sym added.1) (take_arc wave p q least bound d old.arcs raised want low high done b.arcs);
   rooms = subst (HasRooms wave q) (sym added.1) (rooms b.arcs b.rooms);
 }
@@ -132,7 +125,7 @@ pub pass : (wave : Wave) (p q : Progress) (least bound limit next : ℕ) (networ
     → (HasRooms wave p network.arcs → HasRooms wave q network.arcs)
     → IsBuilt wave p least limit network → IsBuilt wave q bound next network
 pass wave p q least bound limit next network less raised done rooms b = record {
-  frame = record { layout = b.frame.layout; arc_limit = (let limited = b.frame.arc_limit in omega arith); empty = b.frame.empty };
+  frame = more_room (IsSized wave) limit next network less b.frame;
   arcs = record {
     sound = b.arcs.sound;
     complete = λ e wanted now. elim (done e wanted now) [ inl was ↦ b.arcs.complete e wanted was | inr stands ↦ stands ];

@@ -11,14 +11,15 @@ use Rattle.network_prices.specs.Pending.{IsUsable, pending_below}
 use Rattle.network_prices.specs.Ways.{IsAmong}
 use Rattle.network_prices.specs.Networks.{Stands}
 use Rattle.network_prices.proofs.Pending.{pending-more, pending-same}
-use Rattle.network_prices.proofs.Arcs.{IsAdded, stands_new}
+use Rattle.network_prices.specs.Building.{IsEmptyWithin, IsAdded}
+use Rattle.network_prices.proofs.Arcs.{stands_new, add_empty}
 use Rattle.rack_network.specs.declared.layout.RackLayout.{RackLayout}
 use Rattle.rack_network.specs.declared.arcs.RackArc.{RackArc}
 use Rattle.rack_network.specs.declared.arcs.RackArc.TheVariants.{Pair, Reach, Wait, Branch, Feed, Slot, Rest}
 use Rattle.rack_network.specs.Racks.{cluster_node, rack_node, worker_node, unstarted_node, sink_node, node_above, rack_of, slots_of, slots_below, HasBars, arc_of, IsSized, IsReach, IsWanted, IsRackNetwork}
-use Rattle.rack_network.specs.Build.{Progress, at_pair, at_reach, at_split, at_wait, above_sink, StandsEarly, IsMet, IsDone, AreArcsTo, HasRooms, IsEmptyWithin, IsBuilt}
+use Rattle.rack_network.specs.Build.{Progress, at_pair, at_reach, at_split, at_wait, above_sink, StandsEarly, IsMet, IsDone, AreArcsTo, HasRooms, IsBuilt}
 use Rattle.rack_network.proofs.Levels.{holder_place, among_kept}
-use Rattle.rack_network.proofs.Adding.{outroom_none, off, on, rooms_push, rooms_pass, take, pass, add_empty}
+use Rattle.rack_network.proofs.Adding.{outroom_none, off, on, rooms_push, rooms_pass, take, pass}
 
 -- a holder read off the code's list
 read_at : (xs : List ℕ) (i d e : ℕ) → i < length xs → get_or xs i d ≡ get_or xs i e
@@ -486,8 +487,8 @@ module _ (wave : Wave) where
         waiting_room = now.rooms.waiting;
       }
 
-  pub rest_frame : (limit next : ℕ) (old new : Flow RackLayout) → limit < next → IsBuilt wave all_but_rest (unstarted_node wave) limit old → IsAdded (arc_of wave Rest) old new → IsEmptyWithin wave next new
-  rest_frame limit next old new less b added = add_empty wave limit next (arc_of wave Rest) old new less b.frame added
+  pub rest_frame : (limit next : ℕ) (old new : Flow RackLayout) → limit < next → IsBuilt wave all_but_rest (unstarted_node wave) limit old → IsAdded (arc_of wave Rest) old new → IsEmptyWithin (IsSized wave) next new
+  rest_frame limit next old new less b added = add_empty (IsSized wave) limit next (arc_of wave Rest) old new less b.frame added
 
   -- before the first arc
   pub none_yet : (network : Flow RackLayout) → IsSized wave network.layout → network.arcs ≡ [] → network.flows ≡ [] → IsBuilt wave (at_split 0) (cluster_node wave) 0 network

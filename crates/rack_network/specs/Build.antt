@@ -8,6 +8,7 @@ use Rattle.flow_network.specs.Laws.{outroom}
 use Rattle.network_prices.specs.Pending.{pending_below}
 use Rattle.network_prices.specs.Ways.{inroom}
 use Rattle.network_prices.specs.Networks.{Stands}
+use Rattle.network_prices.specs.Building.{IsEmptyWithin}
 use Rattle.rack_network.specs.declared.layout.RackLayout.{RackLayout}
 use Rattle.rack_network.specs.declared.arcs.RackArc.{RackArc}
 use Rattle.rack_network.specs.declared.arcs.RackArc.TheVariants.{Pair, Reach, Wait, Branch, Feed, Slot, Rest}
@@ -73,13 +74,7 @@ pub record HasRooms (wave : Wave) (p : Progress) (arcs : List FlowArc) : Type 0 
   pub workers : (w : ℕ) → w < p.slots → outroom arcs (worker_node wave w) ≡ (worker_at wave w).free
   pub racks_known : (w : ℕ) → w < p.feeds → rack_of wave w < wave.tree.racks
 
--- a network of the wave's size with at most so many arcs, none of which carries a unit
-pub record IsEmptyWithin (wave : Wave) (limit : ℕ) (network : Flow RackLayout) : Type 0 where
-  pub layout : IsSized wave network.layout
-  pub arc_limit : length network.arcs ≤ limit
-  pub empty : (k : ℕ) → slice_index network.flows k ≡ 0
-
 pub record IsBuilt (wave : Wave) (p : Progress) (bound limit : ℕ) (network : Flow RackLayout) : Type 0 where
-  pub frame : IsEmptyWithin wave limit network
+  pub frame : IsEmptyWithin (IsSized wave) limit network
   pub arcs : AreArcsTo wave p bound network.arcs
   pub rooms : HasRooms wave p network.arcs

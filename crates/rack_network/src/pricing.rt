@@ -3,7 +3,8 @@ ghost use Rattle.std.specs.Prelude.{◌≡◌, ℕ, ◌+◌, ◌<◌, length, sl
 ghost use Rattle.wave_problem.specs.Wave.{reward};
 ghost use Rattle.network_prices.specs.Prices.{ArePricesOf};
 ghost use Rattle.rack_network.specs.Racks.{rack_nodes};
-ghost use Rattle.rack_network.specs.Pricing.{IsSlotPrice, IsSplitPrice};
+ghost use Rattle.network_prices.specs.Pricing.{IsSplitPrice};
+ghost use Rattle.rack_network.specs.Pricing.{IsSlotPrice};
 
 use node_ids::{SplitNo, WorkerNo};
 use price_certificate::Prices;

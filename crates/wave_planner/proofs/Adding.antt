@@ -1,5 +1,5 @@
 -- Arcs are added one after the other.
-use Rattle.std.proofs.Common.{◌≡◌, ℕ, ◌+◌, ◌<◌, ◌≤◌, true, false, List, [], ◌∷◌, ◌++◌, length, get_or, refl, sym, ap, ◌∙◌, subst, inl, inr, arith}
+use Rattle.std.proofs.Common.{◌≡◌, ℕ, ◌+◌, ◌<◌, true, false, List, [], ◌∷◌, ◌++◌, length, get_or, refl, sym, ap, ◌∙◌, subst, inl, inr, arith}
 use Rattle.std.proofs.lemmas.Bool.{cases_lt, cases_eq, false≢true}
 use Rattle.flow_network.specs.declared.arcs.FlowArc.{FlowArc}
 use Rattle.flow_network.specs.Flow.{Flow}
@@ -10,9 +10,10 @@ use Rattle.wave_planner.specs.declared.direct.DirectArc.{DirectArc}
 use Rattle.wave_planner.specs.declared.direct.DirectArc.TheVariants.{Pair, Wait, Slot, Rest}
 use Rattle.wave_planner.specs.Direct.{arc_of, IsSized, IsWanted, IsDirect}
 use Rattle.network_prices.specs.Networks.{Stands}
-use Rattle.network_prices.proofs.Arcs.{stands_on, stands_new, each_push, IsAdded, one_more, still_empty}
+use Rattle.network_prices.specs.Building.{IsAdded}
+use Rattle.network_prices.proofs.Arcs.{stands_on, stands_new, each_push, add_empty, more_room}
 use Rattle.wave_planner.proofs.Rising.{rising_push}
-use Rattle.wave_planner.specs.Build.{AreArcsTo, AreArcsWithin, IsEmptyWithin, IsBuilt, IsBuiltWithin}
+use Rattle.wave_planner.specs.Build.{AreArcsTo, AreArcsWithin, IsBuilt, IsBuiltWithin}
 
 abbrev IsKnown : Wave → FlowArc → Type 0
 IsKnown wave a = (d : DirectArc) × IsWanted wave d × (a ≡ arc_of wave d)
@@ -140,21 +141,10 @@ take_rest wave arcs b = record {
   rising = rising_push (length wave.splits) arcs (arc_of wave Rest) b.rising (λ k m. (let before = b.before k m in (omega arith, λ past. omega arith)));
 }
 
-pub add_empty : (wave : Wave) (limit next : ℕ) (a : FlowArc) (old new : Flow DirectLayout) → limit < next → IsEmptyWithin wave limit old
-    → IsAdded a old new → IsEmptyWithin wave next new
-add_empty wave limit next a old new less e added = record {
-  layout = subst (IsSized wave) (sym added.0) e.layout;
-  arc_limit = one_more a old new added limit next less e.arc_limit;
-  empty = still_empty a old new added e.empty;
-}
-
-pub more_room : (wave : Wave) (limit next : ℕ) (network : Flow DirectLayout) → limit ≤ next → IsEmptyWithin wave limit network → IsEmptyWithin wave next network
-more_room wave limit next network less e = record { layout = e.layout; arc_limit = (let limited = e.arc_limit in omega arith); empty = e.empty }
-
 pub pair_built : (wave : Wave) (s j w limit next : ℕ) (old new : Flow DirectLayout) → w ≡ j → limit < next → s < length wave.splits → IsAdmissible wave s w
     → IsBuiltWithin wave s j limit old → IsAdded (arc_of wave (Pair s w)) old new → IsBuiltWithin wave s (j + 1) next new
 pair_built wave s j w limit next old new e less known may b added = record {
-  frame = add_empty wave limit next (arc_of wave (Pair s w)) old new less b.frame added;
+  frame = add_empty (IsSized wave) limit next (arc_of wave (Pair s w)) old new less b.frame added;
   arcs = subst (λ z. AreArcsWithin wave s (z + 1) new.arcs) e (subst (AreArcsWithin wave s (w + 1)) (sym added.1)
       (take_pair wave s w old.arcs known may (subst (λ z. AreArcsWithin wave s z old.arcs) (sym e) b.arcs)));
 }
@@ -162,14 +152,14 @@ pair_built wave s j w limit next old new e less known may b added = record {
 pub skip_built : (wave : Wave) (s j w limit next : ℕ) (old : Flow DirectLayout) → w ≡ j → limit < next → (IsAdmissible wave s w → ⊥)
     → IsBuiltWithin wave s j limit old → IsBuiltWithin wave s (j + 1) next old
 skip_built wave s j w limit next old e less may_not b = record {
-  frame = more_room wave limit next old (omega arith) b.frame;
+  frame = more_room (IsSized wave) limit next old (omega arith) b.frame;
   arcs = skip_pair wave s j old.arcs (λ may. may_not (subst (IsAdmissible wave s) (sym e) may)) b.arcs;
 }
 
 pub split_built : (wave : Wave) (s w limit next : ℕ) (old new : Flow DirectLayout) → limit < next → s < length wave.splits → w ≡ length wave.workers → (split_at wave s).pending ≡ true
     → IsBuiltWithin wave s w limit old → IsAdded (arc_of wave (Wait s)) old new → IsBuilt wave (s + 1) next new
 split_built wave s w limit next old new less known all pending b added = record {
-  frame = add_empty wave limit next (arc_of wave (Wait s)) old new less b.frame added;
+  frame = add_empty (IsSized wave) limit next (arc_of wave (Wait s)) old new less b.frame added;
   arcs = subst (AreArcsTo wave (s + 1)) (sym added.1) (end_pending wave s known old.arcs (subst (λ z. AreArcsWithin wave s z old.arcs) all b.arcs) pending);
 }
 
@@ -178,7 +168,7 @@ pub slot_built : (wave : Wave) (v w next_node limit next : ℕ) (old new : Flow 
 slot_built wave v w next_node limit next old new less l here after b added =
     let at : length wave.splits + w + 1 ≡ next_node = omega arith in
     record {
-      frame = add_empty wave limit next (arc_of wave (Slot w)) old new less b.frame added;
+      frame = add_empty (IsSized wave) limit next (arc_of wave (Slot w)) old new less b.frame added;
       arcs = subst (λ z. AreArcsTo wave z new.arcs) at (subst (AreArcsTo wave (length wave.splits + w + 1)) (sym added.1) (take_slot wave w old.arcs l (subst (λ z. AreArcsTo wave z old.arcs) (sym here) b.arcs)));
     }
 
@@ -188,4 +178,4 @@ rest_built wave v limit old new at b added =
     subst (IsDirect wave) (sym added.1) (take_rest wave old.arcs (subst (λ z. AreArcsTo wave z old.arcs) at b.arcs))
 
 pub rest_empty : (wave : Wave) (v limit : ℕ) (old new : Flow DirectLayout) → IsBuilt wave v limit old → IsAdded (arc_of wave Rest) old new → (k : ℕ) → get_or new.flows k 0 ≡ 0
-rest_empty wave v limit old new b added = still_empty (arc_of wave Rest) old new added b.frame.empty
+rest_empty wave v limit old new b added = (add_empty (IsSized wave) limit (limit + 1) (arc_of wave Rest) old new (omega arith) b.frame added).empty

@@ -1,14 +1,15 @@
 -- How far the direct network of a wave is built.
-use Rattle.std.specs.Prelude.{ℕ, ◌≡◌, ◌+◌, ◌<◌, ◌≤◌, List, length, slice_index}
+use Rattle.std.specs.Prelude.{ℕ, ◌≡◌, ◌+◌, ◌<◌, List, length}
 use Rattle.wave_problem.specs.Wave.{Wave, IsAdmissible}
 use Rattle.flow_network.specs.declared.arcs.FlowArc.{FlowArc}
 use Rattle.flow_network.specs.Flow.{Flow}
 use Rattle.flow_network.specs.Flows.{arc_at}
+use Rattle.network_prices.specs.Networks.{Stands}
+use Rattle.network_prices.specs.Building.{IsEmptyWithin}
 use Rattle.wave_planner.specs.declared.layout.DirectLayout.{DirectLayout}
 use Rattle.wave_planner.specs.declared.direct.DirectArc.{DirectArc}
 use Rattle.wave_planner.specs.declared.direct.DirectArc.TheVariants.{Pair}
 use Rattle.wave_planner.specs.Direct.{arc_of, IsSized, IsWanted}
-use Rattle.network_prices.specs.Networks.{Stands}
 use Rattle.wave_planner.specs.Networks.{AreRising}
 
 -- arcs of the network alone, and all of those that leave a node below v
@@ -26,16 +27,10 @@ pub record AreArcsWithin (wave : Wave) (s w : ℕ) (arcs : List FlowArc) : Type 
   pub before : (k : ℕ) → k < length arcs → (arc_at arcs k).from < s + 1
   pub rising : AreRising (length wave.splits) arcs
 
--- a network of the wave's size with at most so many arcs, none of which carries a unit
-pub record IsEmptyWithin (wave : Wave) (limit : ℕ) (network : Flow DirectLayout) : Type 0 where
-  pub layout : IsSized wave network.layout
-  pub arc_limit : length network.arcs ≤ limit
-  pub empty : (k : ℕ) → slice_index network.flows k ≡ 0
-
 pub record IsBuilt (wave : Wave) (v limit : ℕ) (network : Flow DirectLayout) : Type 0 where
-  pub frame : IsEmptyWithin wave limit network
+  pub frame : IsEmptyWithin (IsSized wave) limit network
   pub arcs : AreArcsTo wave v network.arcs
 
 pub record IsBuiltWithin (wave : Wave) (s w limit : ℕ) (network : Flow DirectLayout) : Type 0 where
-  pub frame : IsEmptyWithin wave limit network
+  pub frame : IsEmptyWithin (IsSized wave) limit network
   pub arcs : AreArcsWithin wave s w network.arcs

@@ -2,7 +2,8 @@
 ghost use Rattle.std.specs.Prelude.{◌≡◌, ℕ, ◌+◌, ◌<◌, length, slice_index, IfOk};
 ghost use Rattle.wave_problem.specs.Wave.{reward};
 ghost use Rattle.wave_planner.specs.Prices.{ArePrices};
-ghost use Rattle.wave_planner.specs.Pricing.{IsSlotPrice, IsSplitPrice};
+ghost use Rattle.network_prices.specs.Pricing.{IsSplitPrice};
+ghost use Rattle.wave_planner.specs.Pricing.{IsSlotPrice};
 
 use node_ids::{SplitNo, WorkerNo};
 use price_certificate::Prices;

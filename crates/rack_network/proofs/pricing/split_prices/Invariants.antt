@@ -1,5 +1,5 @@
 use Rattle.std.proofs.Common.{◌≡◌, ℕ, ◌<◌, length, get_or}
-use Rattle.rack_network.specs.Pricing.{IsSplitPrice}
+use Rattle.network_prices.specs.Pricing.{IsSplitPrice}
 use Rattle.rack_network.proofs.pricing.split_prices.Given as goal
 
 abbrev pub invariant-loop-i : goal.invariant-loop-i
