@@ -1,13 +1,8 @@
 -- Ways up from a worker's node to the root, and where the units of the splits come down.
-use Rattle.std.specs.Prelude.{◌≡◌, ℕ, ◌+◌, ◌<◌, ◌≤◌, ◌==◌, cond, max, List, [], ◌∷◌, length, slice_index, ◌⊎◌}
+use Rattle.std.specs.Prelude.{◌≡◌, ℕ, ◌<◌, ◌≤◌, max, List, [], ◌∷◌, length, slice_index, ◌⊎◌}
 use Rattle.flow_network.specs.declared.arcs.FlowArc.{FlowArc}
 use Rattle.flow_network.specs.Flows.{arc_at}
 use Rattle.flow_network.specs.Laws.{outroom}
-
--- what the arcs that lead to a node can carry together
-abbrev pub inroom : List FlowArc → ℕ → ℕ
-inroom [] v = 0
-inroom (a ∷ arcs) v = cond (a.to == v) a.capacity 0 + inroom arcs v
 
 -- the greatest depth on a way
 abbrev pub deepest : (ℕ → ℕ) → List ℕ → ℕ

@@ -8,13 +8,12 @@ use Rattle.flow_network.specs.Flows.{arc_at}
 use Rattle.flow_network.specs.Laws.{outroom}
 use Rattle.wave_problem.specs.Wave.{Wave, worker_at}
 use Rattle.network_prices.specs.Pending.{pending_below}
-use Rattle.network_prices.specs.Ways.{inroom}
 use Rattle.network_prices.specs.Networks.{Stands}
 use Rattle.network_prices.specs.Building.{IsAdded}
 use Rattle.network_prices.proofs.Arcs.{at_old, at_new, stands_on, stands_new, each_push, add_empty, more_room}
 use Rattle.rack_network.specs.declared.layout.RackLayout.{RackLayout}
 use Rattle.rack_network.specs.declared.arcs.RackArc.{RackArc}
-use Rattle.rack_network.specs.Racks.{rack_node, worker_node, unstarted_node, rack_of, slots_below, arc_of, IsSized, IsWanted}
+use Rattle.rack_network.specs.Racks.{rack_node, worker_node, unstarted_node, rack_of, slots_below, arc_of, inroom, IsSized, IsWanted}
 use Rattle.rack_network.specs.Build.{Progress, IsDone, AreArcsTo, HasRooms, IsBuilt}
 
 -- an arc that leads past all starts

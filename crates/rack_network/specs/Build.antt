@@ -6,13 +6,12 @@ use Rattle.flow_network.specs.Flow.{Flow}
 use Rattle.flow_network.specs.Flows.{arc_at}
 use Rattle.flow_network.specs.Laws.{outroom}
 use Rattle.network_prices.specs.Pending.{pending_below}
-use Rattle.network_prices.specs.Ways.{inroom}
 use Rattle.network_prices.specs.Networks.{Stands}
 use Rattle.network_prices.specs.Building.{IsEmptyWithin}
 use Rattle.rack_network.specs.declared.layout.RackLayout.{RackLayout}
 use Rattle.rack_network.specs.declared.arcs.RackArc.{RackArc}
 use Rattle.rack_network.specs.declared.arcs.RackArc.TheVariants.{Pair, Reach, Wait, Branch, Feed, Slot, Rest}
-use Rattle.rack_network.specs.Racks.{rack_node, worker_node, unstarted_node, node_above, rack_of, slots_below, arc_of, IsSized, IsWanted}
+use Rattle.rack_network.specs.Racks.{rack_node, worker_node, unstarted_node, node_above, rack_of, slots_below, arc_of, inroom, IsSized, IsWanted}
 
 -- How many have all their arcs: of the splits; of the workers and levels that the next split reaches, and of its
 -- holders at the next level; of the racks below the cluster, of the workers below racks, of those above the sink.

@@ -9,7 +9,7 @@ use Rattle.flow_network.specs.declared.arcs.FlowArc.{FlowArc}
 use Rattle.flow_network.specs.Flows.{arc_at, NoNegative}
 use Rattle.flow_network.specs.Laws.{outroom}
 use Rattle.network_prices.specs.Pending.{IsUsable, pending_splits}
-use Rattle.network_prices.specs.Ways.{inroom, IsAmong}
+use Rattle.network_prices.specs.Ways.{IsAmong}
 use Rattle.network_prices.specs.Networks.{WaveNodes, way_of, Stands}
 use Rattle.network_prices.specs.Prices.{IsShipped, IsPlanOf, ArePricesOf}
 use Rattle.rack_network.specs.declared.layout.RackLayout.{RackLayout}
@@ -100,6 +100,11 @@ IsWanted wave (Branch r) = r < wave.tree.racks
 IsWanted wave (Feed w) = IsUsable wave w
 IsWanted wave (Slot w) = w < length wave.workers
 IsWanted wave Rest = Unit {0}
+
+-- what the arcs that lead to a node can carry together
+abbrev pub inroom : List FlowArc → ℕ → ℕ
+inroom [] v = 0
+inroom (a ∷ arcs) v = cond (a.to == v) a.capacity 0 + inroom arcs v
 
 -- The arcs of the rack network of a wave: each of them, and no others, in an order in which each leads past the
 -- starts of those before it. What leaves a rack or a worker, and what comes to the node of the splits that are not

@@ -1,7 +1,7 @@
-use Rattle.std.proofs.Common.{◌≡◌, ℕ, zero, suc, ◌+◌, ◌<◌, ◌≤◌, List, [], ◌∷◌, length, get_or, refl, arith}
+use Rattle.std.proofs.Common.{◌≡◌, ℕ, zero, suc, ◌+◌, ◌<◌, ◌≤◌, List, [], ◌∷◌, get_or, refl, arith}
 use Rattle.flow_network.specs.declared.arcs.FlowArc.{FlowArc}
 use Rattle.flow_network.specs.Flows.{arc_at, inflow, outflow}
-use Rattle.network_prices.specs.HandOn.{standing, Passes, CanHandOn}
+use Rattle.network_prices.specs.HandOn.{standing, CanHandOn}
 use Rattle.network_prices.proofs.tests.a_unit_is_handed_on.Goals as goal
 
 abbrev one_arc : List FlowArc
