@@ -5,3 +5,4 @@ pub mod Rests
 pub mod Shapes
 pub mod Fits
 pub mod Tidy
+pub mod OneReading
