@@ -5,3 +5,4 @@ pub mod ReadsFit
 pub mod Numbers
 pub mod Parts
 pub mod PlanLines
+pub mod OneWave
