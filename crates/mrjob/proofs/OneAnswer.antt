@@ -7,7 +7,6 @@ use Rattle.text_lines.specs.Texts.{Word}
 use Rattle.text_lines.specs.declared.fault.TextFault.{TextFault}
 use Rattle.plan_lines.specs.Known.{splits, workers}
 use Rattle.plan_lines.specs.Entries.{entries_of}
-use Rattle.plan_lines.specs.Statements.{Statement}
 use Rattle.plan_lines.specs.declared.purpose.Purpose.TheVariants.{Checking}
 use Rattle.plan_lines.proofs.OneReading.{least_fault-unique, reads-faultless, reads-unique}
 use Rattle.plan_text.specs.Report.{fault_line, refused_line}
