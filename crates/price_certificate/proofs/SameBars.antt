@@ -15,7 +15,7 @@ HaveSamePairs x y = (s w : ℕ) → w < 256 → HasPair x s w ↔ HasPair y s w
 pub have_same_pairs-sym : (x y : List ℕ) → HaveSamePairs x y → HaveSamePairs y x
 have_same_pairs-sym x y same s w lt = ((same s w lt).1, (same s w lt).0)
 
--- and so of all: each number is the place of such a pair
+-- then they have the same pairs of all workers: each place is one of such a worker
 in_other : (x y : List ℕ) → HaveSamePairs x y → (s w : ℕ) → HasPair x s w → HasPair y s w
 in_other x y same s w h =
     let n = s * 256 + w in
