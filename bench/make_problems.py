@@ -11,11 +11,12 @@ BLOCK = 67_108_864
 
 SHAPES = {
     "one_host": "one host without slots holds all splits; 64 workers of 16 slots stand in another rack",
+    "one_of_many": "32 racks of 8 workers of 4 slots; one of these workers holds all splits",
     "spread": "32 racks of 8 workers with 4 to 16 slots; each split has 3 holders anywhere",
     "eight_holders": "the same, with 8 holders each",
     "few_hosts": "the same, with 3 holders each among 16 workers",
     "barred": "as few_hosts; each fourth split has a barred pair",
-    "crowded": "256 workers of 4 slots, holders among 64 workers, splits of three sizes",
+    "crowded": "256 workers of 3 slots, so too few; holders among 64 workers, splits of three sizes",
     "scarce": "256 workers of 0 to 2 slots, so that most splits wait; holders among 32 workers, splits of all sizes",
 }
 
@@ -24,13 +25,17 @@ def workers(shape, rnd):
     """The rack and the free slots of each worker."""
     if shape == "one_host":
         return [(0, 0)] + [(1, 16)] * 64
-    slots = {"crowded": lambda: 4, "scarce": lambda: rnd.randint(0, 2)}.get(shape, lambda: rnd.randint(4, 16))
+    slots = {
+        "one_of_many": lambda: 4,
+        "crowded": lambda: 3,
+        "scarce": lambda: rnd.randint(0, 2),
+    }.get(shape, lambda: rnd.randint(4, 16))
     return [(w // 8, slots()) for w in range(256)]
 
 
 def split(shape, rnd):
     """The bytes and the holders of a split."""
-    if shape == "one_host":
+    if shape in ("one_host", "one_of_many"):
         return BLOCK, [0]
     apart = {"few_hosts": 16, "barred": 16, "crowded": 4, "scarce": 8}.get(shape, 1)
     size = {"crowded": lambda: BLOCK >> rnd.randrange(3), "scarce": lambda: rnd.randint(0, BLOCK)}.get(

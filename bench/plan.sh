@@ -1,8 +1,10 @@
 #!/usr/bin/env bash
-# Times `mrjob plan`, which goes over the network with racks, beside LEMON's NetworkSimplex over that network and over
-# the direct one, as whole processes that read the same problem text, and prints a table: the least of five runs each,
-# and how many times LEMON's time on the same network the program takes. All must answer the same count and cost. It
-# needs a C++ compiler, and installs liblemon-dev where it is missing.
+# Times `mrjob plan` over both networks, the one with racks and the direct one, beside two C++ programs over
+# the same networks: LEMON's NetworkSimplex, and plain successive shortest paths. Each is timed as a whole
+# process that reads the same problem text. One table is printed: the least of five runs each, in microseconds
+# (of fewer, once they have taken two seconds together), and how many times the others' time on the same
+# network mrjob takes. All must answer the same count and cost. Where bin/mrjob has no option for the direct
+# network, `-` stands in its place. It needs a C++ compiler, and installs liblemon-dev where it is missing.
 set -euo pipefail
 cd "$(dirname "$0")/.."
 if [ ! -e /usr/include/lemon/network_simplex.h ]; then
@@ -11,33 +13,65 @@ fi
 room=$(mktemp -d)
 trap 'rm -rf "$room"' EXIT
 g++ -std=c++17 -O2 -o "$room/plan_by_lemon" bench/plan_by_lemon.cc -llemon
+g++ -std=c++17 -O2 -o "$room/plan_by_paths" bench/plan_by_paths.cc
 
-# The least time of five runs on a text, in microseconds; the output stays in the room.
-least() { # TEXT COMMAND..
-    local text=$1 start spent least=
-    shift
+run() { # PROGRAM NETWORK
+    case "$1 $2" in
+        "mrjob racks") bin/mrjob plan ;;
+        "mrjob direct") bin/mrjob plan --network direct ;;
+        lemon*) "$room/plan_by_lemon" "$2" ;;
+        plain*) "$room/plan_by_paths" "$2" ;;
+    esac
+}
+
+# The least time of a program on the text, in microseconds. Its answer must be that of all others.
+least() { # PROGRAM NETWORK
+    local start spent answer least= total=0
+    if [ "$1 $2" = "mrjob direct" ] && [ -z "$has_direct" ]; then
+        echo -
+        return
+    fi
     for _ in 1 2 3 4 5; do
         start=${EPOCHREALTIME/./}
-        "$@" < "$text" > "$room/out"
+        run "$1" "$2" < "$room/text" > "$room/out" || return
         spent=$((${EPOCHREALTIME/./} - start))
         if [ -z "$least" ] || [ "$spent" -lt "$least" ]; then least=$spent; fi
+        total=$((total + spent))
+        if [ "$total" -gt 2000000 ]; then break; fi
     done
+    answer=$(head -n 1 "$room/out")
+    [ -e "$room/answer" ] || echo "$answer" > "$room/answer"
+    if [ "$(cat "$room/answer")" != "$answer" ]; then
+        echo "$shape: the answers differ: $(cat "$room/answer"), and by $1 over $2 $answer" >&2
+        return 1
+    fi
     echo "$least"
 }
 
-printf '%-14s %12s %12s %12s %8s   %s\n' problem mrjob "lemon racks" "lemon direct" /racks answer
+ratio() { # OURS THEIRS
+    awk -v ours="$1" -v theirs="$2" 'BEGIN { if (ours == "-") print "-"; else printf "%.2f", ours / theirs }'
+}
+
+declare -A spent
+has_direct=
+if printf 'problem 1\nend\n' | bin/mrjob plan --network direct > /dev/null 2>&1; then has_direct=yes; fi
+printf '%-14s %17s %17s %17s %13s %13s\n' "" mrjob LEMON plain mrjob/LEMON mrjob/plain
+line='%-14s %8s %8s %8s %8s %8s %8s %6s %6s %6s %6s   %s\n'
+printf "$line" problem racks direct racks direct racks direct racks direct racks direct answer
 for shape in $(bench/make_problems.py); do
     bench/make_problems.py "$shape" > "$room/text"
-    ours=$(least "$room/text" bin/mrjob plan)
-    answer=$(head -n 1 "$room/out")
-    for kind in racks direct; do
-        least "$room/text" "$room/plan_by_lemon" $kind > "$room/$kind"
-        if [ "$(head -n 1 "$room/out")" != "$answer" ]; then
-            echo "$shape: the answers differ: $answer, and by LEMON over $kind $(head -n 1 "$room/out")"
-            exit 1
-        fi
+    rm -f "$room/answer"
+    row=()
+    for program in mrjob lemon plain; do
+        for network in racks direct; do
+            spent[$program $network]=$(least $program $network)
+            row+=("${spent[$program $network]}")
+        done
     done
-    racks=$(cat "$room/racks")
-    printf '%-14s %9d us %9d us %9d us %8s   %s\n' "$shape" "$ours" "$racks" "$(cat "$room/direct")" \
-        "$(awk -v a="$ours" -v b="$racks" 'BEGIN { printf "%.2f", a / b }')" "$answer"
+    for program in lemon plain; do
+        for network in racks direct; do
+            row+=("$(ratio "${spent[mrjob $network]}" "${spent[$program $network]}")")
+        done
+    done
+    printf "$line" "$shape" "${row[@]}" "$(cat "$room/answer")"
 done
