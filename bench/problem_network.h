@@ -17,6 +17,7 @@
 #include <string>
 #include <string_view>
 #include <unordered_map>
+#include <utility>
 #include <vector>
 
 #include "network.h"
@@ -68,7 +69,7 @@ inline int ToNumber(std::string_view word) {
 
 inline Problem ReadProblem(std::string_view text) {
   Problem problem;
-  std::unordered_map<std::string_view, int> numbers;
+  std::unordered_map<std::string_view, int> numbers;  // racks, workers and splits share one name space
   while (!text.empty()) {
     const std::vector<std::string_view> words = TakeLine(text);
     if (words[0] == "rack") {
@@ -80,7 +81,7 @@ inline Problem ReadProblem(std::string_view text) {
       numbers[words[1]] = static_cast<int>(problem.splits.size());
       Split split{ToNumber(words[2]), true, {}, {}};
       for (std::size_t i = 3; i < words.size(); ++i) split.holders.push_back(numbers.at(words[i]));
-      problem.splits.push_back(split);
+      problem.splits.push_back(std::move(split));
     } else if (words[0] == "barred") {
       problem.splits[numbers.at(words[1])].barred.push_back(numbers.at(words[2]));
     } else if (words[0] == "dead") {
