@@ -1,5 +1,6 @@
 pub mod Build
+pub mod Addresses
 pub mod Subcommands
-pub mod FlagRows
-pub mod FlagWalk
+pub mod Rows
+pub mod Walk
 pub mod Mrjob

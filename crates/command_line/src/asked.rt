@@ -7,11 +7,22 @@ pub enum Ask {
     Plan(PlanOptions),
 }
 
-/// What a plan is to be written with.
+/// Over which network a wave is planned.
+#[derive(Clone, Copy, Debug, PartialEq, Eq)]
+pub enum NetworkKind {
+    /// An arc from each pending split to each worker with which it is admissible.
+    Direct,
+    /// Nodes for the racks and the cluster between splits and workers, so that far fewer arcs stand.
+    Racks,
+}
+
+/// How a plan is to be made and what is written of it.
 #[derive(Clone, Copy, Debug, PartialEq, Eq)]
 pub struct PlanOptions {
     /// Write the prices too.
     pub prices: bool,
+    /// The network over which the plan is sought.
+    pub network: NetworkKind,
 }
 
 /// Why the words ask for no command.

@@ -1,6 +1,6 @@
 ghost use Rattle.std.specs.Prelude.{◌≡◌, IfOk};
 ghost use Rattle.clap.specs.Words.{app_of};
-ghost use Rattle.command_line.specs.Commands.{check, mrjob, plan};
+ghost use Rattle.command_line.specs.Commands.{IsTold, check, mrjob_of, plan_of};
 
 use clap::{Arg, ArgAction, Command};
 use std::alloc::{AllocError, Global};
@@ -43,6 +43,11 @@ const PLAN_ABOUT: &str = "Plans a job's map starts at the least byte-distance";
 
 const PRICES_HELP: &str = "Writes the prices too, which certify the plan";
 
+const NETWORK_HELP: &str = "Seeks the plan over this network; over each it is best";
+
+// The words that name a network.
+static NETWORKS: [&str; 2] = ["direct", "racks"];
+
 const PLAN_TEXTS: &str = "\
 Input:   a problem, as text on standard input
 Output:  `wave COUNT COST`, then `start SPLIT WORKER` for each start, and with --prices
@@ -71,21 +76,28 @@ fn check_command<'a>(alloc: Global) -> Command<'a>
 }
 
 fn plan_command<'a>(alloc: Global) -> Result<Command<'a>, AllocError>
-    ensures { IfOk result (λ command. app_of command ≡ plan) }
+    ensures { IfOk result (λ command. IsTold plan_of (app_of command)) }
 {
     let prices = Arg::new(alloc, "prices")
         .long("prices")
         .help(PRICES_HELP)
         .action(ArgAction::SetTrue);
+    let network = Arg::new(alloc, "network")
+        .long("network")
+        .help(NETWORK_HELP)
+        .value_name("NETWORK")
+        .value_parser(NETWORKS.as_slice())
+        .default_value("racks");
     Command::new(alloc, "plan")
         .about(PLAN_ABOUT)
         .after_help(PLAN_TEXTS)
-        .arg(prices)
+        .arg(prices)?
+        .arg(network)
 }
 
 /// `mrjob` and its commands.
 pub(crate) fn all_commands<'a>(alloc: Global) -> Result<Command<'a>, AllocError>
-    ensures { IfOk result (λ commands. app_of commands ≡ mrjob) }
+    ensures { IfOk result (λ commands. IsTold mrjob_of (app_of commands)) }
 {
     let plan = plan_command(alloc)?;
     Command::new(alloc, "mrjob")

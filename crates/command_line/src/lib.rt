@@ -9,16 +9,17 @@
 ghost use Rattle.std.specs.Prelude.{◌≡◌, [], Err, IfOk, IsOk, Ok, Some, codes};
 ghost use Rattle.clap.specs.Kinds.{IsAmong};
 ghost use Rattle.clap.specs.Walk.{texts};
-ghost use Rattle.clap.specs.Words.{kind_of};
-ghost use Rattle.command_line.specs.Commands.{command_in, faults_in, flag_in, name_of};
+ghost use Rattle.clap.specs.Words.{first_value, found_of, kind_of};
+ghost use Rattle.command_line.specs.Commands.{NamesNetwork, command_in, faults_in, flag_in, name_of, value_in, word_of};
 
 pub mod asked;
 mod commands;
 #[cfg(test)]
 mod tests;
 
-use crate::asked::{Ask, AskError, PlanOptions};
+use crate::asked::{Ask, AskError, NetworkKind, PlanOptions};
 use crate::commands::all_commands;
+use clap::ArgMatches;
 use clap::error::ErrorKind;
 use std::alloc::Global;
 
@@ -27,6 +28,9 @@ pub fn ask<'a>(alloc: Global, words: &'a [&'a str]) -> Result<Ask, AskError>
     ensures command { IfOk result (λ ask. command_in (texts words.entry.now) ≡ Some (name_of ask)) }
     ensures flag { (options : _) → result ≡ Ok (Ask.Plan options)
         → options.prices ≡ flag_in (codes "prices") (texts words.entry.now) }
+
+    ensures network { (options : _) → result ≡ Ok (Ask.Plan options)
+        → value_in (codes "network") (texts words.entry.now) ≡ Some (word_of options.network) }
 
     // An answer comes only for words that have no fault, and a fault is one that the words have: a
     // mistake, or their wish for help.
@@ -44,11 +48,24 @@ pub fn ask<'a>(alloc: Global, words: &'a [&'a str]) -> Result<Ask, AskError>
                 "check" => Ok(Ask::Check),
                 "plan" => Ok(Ask::Plan(PlanOptions {
                     prices: options.get_flag("prices"),
+                    network: network_named(options),
                 })),
                 _ => unreachable!(),
             }
         }
         Err(error) if error.kind() == ErrorKind::OutOfMemory => Err(AskError::Memory),
         Err(error) => Err(AskError::Fault(error)),
+    }
+}
+
+// The network that the option names.
+fn network_named(options: &ArgMatches) -> NetworkKind
+    requires { NamesNetwork (found_of options.now) }
+    ensures { first_value (found_of options.now) (codes "network") ≡ Some (word_of result) }
+{
+    match options.get_str("network") {
+        Some("direct") => NetworkKind::Direct,
+        Some("racks") => NetworkKind::Racks,
+        _ => unreachable!(),
     }
 }

@@ -1,5 +1,5 @@
 use crate::ask;
-use crate::asked::{Ask, AskError, PlanOptions};
+use crate::asked::{Ask, AskError, NetworkKind, PlanOptions};
 use std::alloc::Global;
 use std::process::Abort;
 
@@ -26,13 +26,13 @@ fn check_is_asked_for(rt: HostRuntime) {
 #[test]
 fn plan_is_asked_for(rt: HostRuntime) {
     let asked = answer(&rt, rt.alloc(), ["mrjob", "plan"].as_slice());
-    assert!(rt; matches!(asked, Ok(Ask::Plan(PlanOptions { prices: false }))));
+    assert!(rt; matches!(asked, Ok(Ask::Plan(PlanOptions { prices: false, network: NetworkKind::Racks }))));
 }
 
 #[test]
 fn plan_is_asked_for_with_prices(rt: HostRuntime) {
     let asked = answer(&rt, rt.alloc(), ["mrjob", "plan", "--prices"].as_slice());
-    assert!(rt; matches!(asked, Ok(Ask::Plan(PlanOptions { prices: true }))));
+    assert!(rt; matches!(asked, Ok(Ask::Plan(PlanOptions { prices: true, network: NetworkKind::Racks }))));
 }
 
 // The words are refused as usage, with a text that holds the reason.

@@ -1,7 +1,7 @@
-use Rattle.std.proofs.Common.{rules, refl, ◌≡◌}
+use Rattle.std.proofs.Common.{rules, refl, ap, ◌∙◌, ◌≡◌}
 use Rattle.std.proofs.lemmas.Result.{IfOk-weaker}
-use Rattle.clap.specs.Words.{app_of}
-use Rattle.command_line.specs.Commands.{check, plan, program}
+use Rattle.clap.specs.Words.{app_of, with_subcommand}
+use Rattle.command_line.specs.Commands.{IsTold, check, plan_of, program}
 use Rattle.command_line.proofs.Build.{added}
 use Rattle.command_line.proofs.commands.all_commands.Goals as goal
 
@@ -9,5 +9,9 @@ pub returns : goal.returns
 returns c =
     let is_program : app_of c.subcommand_required.result ≡ program = search rules in
     let with_check = added _ _ _ program check c.in_ok-subcommand.ensures is_program c.check_command.ensures refl in
-    IfOk-weaker c.subcommand-2.result _ _ (λ commands adds. added _ _ _ _ plan adds with_check c.in_ok-plan.ensures refl)
-    c.subcommand-2.ensures
+    let plan : IsTold plan_of (app_of c.in_ok-plan.plan) = c.in_ok-plan.ensures in
+    IfOk-weaker c.subcommand-2.result _ _ (λ commands adds. record {
+      choices = plan.choices;
+      words = plan.words;
+      shape = added _ _ _ _ (plan_of plan.choices) adds with_check plan.shape refl;
+    }) c.subcommand-2.ensures

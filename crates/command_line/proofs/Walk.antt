@@ -1,4 +1,4 @@
--- A walk in which no step is at fault keeps the rows a flag's.
+-- A walk in which no step is at fault keeps the rows of an argument good.
 use Rattle.std.proofs.Common.{◌≡◌, ℕ, zero, suc, Bool, cond, true, false, List, [], ◌∷◌, Option, Some, None, refl, sym, subst}
 use Rattle.std.specs.Prelude.{◌&&◌, IfSome, drop, encode_utf8, fold, is_some, length, slice_get}
 use Rattle.std.specs.Option.{option_map_or}
@@ -9,7 +9,7 @@ use Rattle.clap.specs.Lexer.{long_of, short_of}
 use Rattle.clap.specs.Simple.{Shape}
 use Rattle.clap.specs.Walk.{Held, Names, Outcome, Row, Rule, Step, Text, Waiting, Walk, done, waits, plain, refused, idle, option, positional, next, trailing, subcommand, value, after_flag, after_step, arg_by_id, arg_by_index, arg_by_long, arg_by_short, attached_value, bundle_met, bundle_step, flag_met, is_pending, long_met, long_or_other, nothing_held, one_of, option_met, option_word, plain_word, reacted, rows_after, settled, settled_rows, short_met, short_or_plain, subcommand_met, subcommand_or_other, takes_several, takes_values, to_positional, used_by_id, walk, walk_from, walked, walked_from, word_met}
 use Rattle.clap.specs.declared.error.kind.ErrorKind.TheVariants.{TooManyValues}
-use Rattle.command_line.proofs.FlagRows.{Each, FlagRow, FlagRule, IsFlagText, defaults_kept, each_found, flag_read, used_kept}
+use Rattle.command_line.proofs.Rows.{Each, Finds, GoodRow, GoodRule, defaults_kept, each_found, has_default, has_rule, rows_read, used_kept}
 use Rattle.command_line.proofs.Subcommands.{no_fault}
 
 -- a word that is no flag changes no row
@@ -29,45 +29,45 @@ after_rows c waiting word h (waits id) = refl
 after_rows c waiting word h plain = plain_rows c waiting word h
 after_rows c waiting word h refused = plain_rows c waiting word h
 
-module _ (flag : Text) (c : List Rule) (again : Bool) (flags_only : Each (FlagRule flag) c) where
-  -- the rows are a flag's
+module _ (id : Text) (IsGood : Text → Type 0) (c : List Rule) (again : Bool) (good : Each (GoodRule id IsGood) c) where
+  -- the rows are good
   abbrev Kept : Held → Type 0
-  Kept h = Each (FlagRow flag) h.rows
+  Kept h = Each (GoodRow id IsGood) h.rows
 
-  by_id_kept : (o : Option Rule) → IfSome o (FlagRule flag) → (values : List Text) (rows : List Row)
-      → option_map_or (λ a. use_fault again a values rows) o [] ≡ [] → Each (FlagRow flag) rows
-      → Each (FlagRow flag) (used_by_id o values rows)
+  by_id_kept : (o : Option Rule) → IfSome o (GoodRule id IsGood) → (values : List Text) (rows : List Row)
+      → option_map_or (λ a. use_fault again a values rows) o [] ≡ [] → Each (GoodRow id IsGood) rows
+      → Each (GoodRow id IsGood) (used_by_id o values rows)
   by_id_kept None rule values rows none all = all
-  by_id_kept (Some a) rule values rows none all = used_kept flag a rule again values rows none all
+  by_id_kept (Some a) rule values rows none all = used_kept id IsGood a rule again values rows none all
 
   pub settled_kept : (h : Held) → settle_fault c again h ≡ [] → Kept h → Kept (settled c h)
   settled_kept h none all = go h.pending none
     where
       go : (o : Option (Text × List Text))
           → option_map_or (λ p. option_map_or (λ a. use_fault again a p.1 h.rows) (arg_by_id c p.0) []) o [] ≡ []
-          → Each (FlagRow flag) (settled_rows c o h.rows)
+          → Each (GoodRow id IsGood) (settled_rows c o h.rows)
       go None none = all
       go (Some p) none =
-          by_id_kept (arg_by_id c p.0) (each_found (FlagRule flag) _ c flags_only) p.1 h.rows none all
+          by_id_kept (arg_by_id c p.0) (each_found (GoodRule id IsGood) _ c good) p.1 h.rows none all
 
-  reacted_kept : (a : Rule) → FlagRule flag a → (values : List Text) (h : Held)
+  reacted_kept : (a : Rule) → GoodRule id IsGood a → (values : List Text) (h : Held)
       → react_fault c again a values h ≡ [] → Kept h → Kept (reacted c a values h)
   reacted_kept a rule values h none all =
       let parts = no_fault (settle_fault c again h) _ none in
-      used_kept flag a rule again values (settled c h).rows parts.1 (settled_kept h parts.0 all)
+      used_kept id IsGood a rule again values (settled c h).rows parts.1 (settled_kept h parts.0 all)
 
-  option_kept : (a : Rule) → FlagRule flag a → (v : Option Text) (h : Held)
+  option_kept : (a : Rule) → GoodRule id IsGood a → (v : Option Text) (h : Held)
       → option_fault c again a v h ≡ [] → Kept h → Kept (option_met c a v h).0
   option_kept a rule (Some v) h none all = reacted_kept a rule (v ∷ []) h none all
   option_kept a rule None h none all = settled_kept h none all
 
-  flag_kept : (a : Rule) → FlagRule flag a → (v : Option Text) (h : Held)
+  flag_kept : (a : Rule) → GoodRule id IsGood a → (v : Option Text) (h : Held)
       → ◌≡◌ {A = Kinds} (cond (is_some v) (TooManyValues ∷ []) (react_fault c again a [] h)) []
       → Kept h → Kept (flag_met c a v h).0
   flag_kept a rule (Some v) h none all = all
   flag_kept a rule None h none all = reacted_kept a rule [] h none all
 
-  long_kept : (o : Option Rule) → IfSome o (FlagRule flag) → (v : Option Text) (h : Held)
+  long_kept : (o : Option Rule) → IfSome o (GoodRule id IsGood) → (v : Option Text) (h : Held)
       → long_fault c again o v h ≡ [] → Kept h → Kept (long_met c o v h).0
   long_kept None rule v h none all = all
   long_kept (Some a) rule v h none all = go (takes_values a) none
@@ -78,7 +78,7 @@ module _ (flag : Text) (c : List Rule) (again : Bool) (flags_only : Each (FlagRu
       go true none = option_kept a rule v h none all
       go false none = flag_kept a rule v h none all
 
-  short_kept : (o : Option Rule) → IfSome o (FlagRule flag) → (rest : Text) (h : Held)
+  short_kept : (o : Option Rule) → IfSome o (GoodRule id IsGood) → (rest : Text) (h : Held)
       (fault : Held → Kinds) (then : Held → Held × Outcome)
       → ((k : Held) → fault k ≡ [] → Kept k → Kept (then k).0)
       → short_fault c again o rest h fault ≡ [] → Kept h → Kept (short_met c o rest h then).0
@@ -101,7 +101,7 @@ module _ (flag : Text) (c : List Rule) (again : Bool) (flags_only : Each (FlagRu
   bundle_step_kept None flags skip so_far h fault then goes none all = all
   bundle_step_kept (Some x) flags zero so_far h fault then goes none all =
       let rest = drop (length (encode_utf8 x)) flags in
-      short_kept (arg_by_short c x) (each_found (FlagRule flag) _ c flags_only) rest h
+      short_kept (arg_by_short c x) (each_found (GoodRule id IsGood) _ c good) rest h
       (fault rest 0) (then rest 0 done) (goes rest 0 done) none all
   bundle_step_kept (Some x) flags (suc skip) so_far h fault then goes none all =
       goes (drop (length (encode_utf8 x)) flags) skip so_far h none all
@@ -116,13 +116,13 @@ module _ (flag : Text) (c : List Rule) (again : Bool) (flags_only : Each (FlagRu
 
   after_kept : (waiting : Waiting) (word : Text) (h : Held) (o : Outcome) → Kept h
       → Kept (after_flag c waiting word h o).0
-  after_kept waiting word h o all = subst (Each (FlagRow flag)) (sym (after_rows c waiting word h o)) all
+  after_kept waiting word h o all = subst (Each (GoodRow id IsGood)) (sym (after_rows c waiting word h o)) all
 
   short_word_kept : (waiting : Waiting) (word : Text) (o : Option Text) (h : Held)
       → option_map_or (λ flags. flags_fault c again (length flags) flags h.skip (record h { skip = 0 })) o [] ≡ []
       → Kept h → Kept (short_or_plain c waiting word o h).0
   short_word_kept waiting word None h none all =
-      subst (Each (FlagRow flag)) (sym (plain_rows c waiting word h)) all
+      subst (Each (GoodRow id IsGood)) (sym (plain_rows c waiting word h)) all
   short_word_kept waiting word (Some flags) h none all =
       after_kept waiting word _ _ (bundle_kept (length flags) flags h.skip plain (record h { skip = 0 }) none all)
 
@@ -131,7 +131,7 @@ module _ (flag : Text) (c : List Rule) (again : Bool) (flags_only : Each (FlagRu
   flag_word_kept waiting word None h none all = short_word_kept waiting word (short_of word) h none all
   flag_word_kept waiting word (Some p) h none all =
       after_kept waiting word _ _
-      (long_kept (arg_by_long c p.0) (each_found (FlagRule flag) _ c flags_only) p.1 h none all)
+      (long_kept (arg_by_long c p.0) (each_found (GoodRule id IsGood) _ c good) p.1 h none all)
 
   pending_kept : (a : Rule) (word : Text) (h : Held) → positional_fault c again a h ≡ [] → Kept h
       → Kept (cond (is_pending a h.pending && takes_several a) h (settled c h))
@@ -142,40 +142,40 @@ module _ (flag : Text) (c : List Rule) (again : Bool) (flags_only : Each (FlagRu
       go true none = all
       go false none = settled_kept h none all
 
-module _ (flag : Text) (s : Shape) (names : Names) (flags_only : Each (FlagRule flag) s.rules) where
+module _ (id : Text) (IsGood : Text → Type 0) (s : Shape) (names : Names) (good : Each (GoodRule id IsGood) s.rules) where
   abbrev IsKept : Walk → Type 0
-  IsKept w = Each (FlagRow flag) w.held.rows
+  IsKept w = Each (GoodRow id IsGood) w.held.rows
 
   other_kept : (o : Option Text) (waiting : Waiting) (position : ℕ) (word : Text) (h : Held)
-      → other_fault s o word h ≡ [] → Each (FlagRow flag) h.rows
-      → Each (FlagRow flag) (subcommand_or_other s.rules o waiting position word h).0.rows
+      → other_fault s o word h ≡ [] → Each (GoodRow id IsGood) h.rows
+      → Each (GoodRow id IsGood) (subcommand_or_other s.rules o waiting position word h).0.rows
   other_kept (Some name) waiting position word h none all = all
   other_kept None waiting position word h none all = go (bytes_eq word (45 ∷ 45 ∷ [])) none
     where
       go : (b : Bool)
           → ◌≡◌ {A = Kinds} (cond b [] (flag_word_fault s.rules s.args_override_self (long_of word) word h)) []
-          → Each (FlagRow flag) (cond b (h, trailing position)
+          → Each (GoodRow id IsGood) (cond b (h, trailing position)
           (long_or_other s.rules waiting word (long_of word) h)).0.rows
       go true none = all
       go false none =
-          flag_word_kept flag s.rules s.args_override_self flags_only waiting word (long_of word) h none all
+          flag_word_kept id IsGood s.rules s.args_override_self good waiting word (long_of word) h none all
 
   word_kept : (is_trailing : Bool) (waiting : Waiting) (position : ℕ) (word : Text) (h : Held)
-      → word_fault s names is_trailing waiting word h ≡ [] → Each (FlagRow flag) h.rows
-      → Each (FlagRow flag) (word_met s.rules names is_trailing waiting position word h).0.rows
+      → word_fault s names is_trailing waiting word h ≡ [] → Each (GoodRow id IsGood) h.rows
+      → Each (GoodRow id IsGood) (word_met s.rules names is_trailing waiting position word h).0.rows
   word_kept true waiting position word h none all = all
   word_kept false waiting position word h none all =
       other_kept (subcommand_met names waiting word) waiting position word h none all
 
   positional_kept : (o : Option Rule) (word : Text) (w : Walk) (h : Held)
       → option_map_or (λ a. positional_fault s.rules s.args_override_self a h) o (stray_fault s) ≡ []
-      → Each (FlagRow flag) h.rows → IsKept (to_positional s.rules o word w h)
+      → Each (GoodRow id IsGood) h.rows → IsKept (to_positional s.rules o word w h)
   positional_kept None word w h none all = all
   positional_kept (Some a) word w h none all =
-      pending_kept flag s.rules s.args_override_self flags_only a word h none all
+      pending_kept id IsGood s.rules s.args_override_self good a word h none all
 
   step_kept : (word : Text) (w : Walk) (h : Held) (step : Step) → step_fault s w.position h step ≡ []
-      → Each (FlagRow flag) h.rows → IsKept (after_step s.rules word w h step)
+      → Each (GoodRow id IsGood) h.rows → IsKept (after_step s.rules word w h step)
   step_kept word w h (next waiting) none all = all
   step_kept word w h (trailing position) none all = all
   step_kept word w h (subcommand name) none all = all
@@ -198,13 +198,13 @@ module _ (flag : Text) (s : Shape) (names : Names) (flags_only : Each (FlagRule 
       let parts = no_fault (turn_fault s names w word) _ none in
       walk_kept (walked s.rules names w word) words parts.1 (turn_kept w.stopped w word parts.0 all)
 
-  -- what is read of the flag at the end of a level with no fault
+  -- what is read of the argument at the end of a level with no fault
   pub level_read : (words : List Text) → level_fault s names nothing_held words false [] ≡ []
-      → IfSome (one_of flag (rows_after s.rules names words)) IsFlagText
-  level_read words none =
+      → has_rule id s.rules ≡ true → Finds id IsGood (rows_after s.rules names words)
+  level_read words none has =
       let end = (walk s.rules names nothing_held words).held in
       let first = no_fault (walk_fault s names (walk_from nothing_held) words) _ none in
       let last = no_fault (settle_fault s.rules s.args_override_self end) _ first.1 in
       let held = walk_kept (walk_from nothing_held) words first.0 tt in
-      let settles = settled_kept flag s.rules s.args_override_self flags_only end last.0 held in
-      flag_read flag _ (defaults_kept flag s.rules flags_only _ settles)
+      let settles = settled_kept id IsGood s.rules s.args_override_self good end last.0 held in
+      rows_read id IsGood _ (defaults_kept id IsGood s.rules good _ settles) (has_default id IsGood s.rules good has _)
