@@ -14,8 +14,8 @@ use Rattle.clap.specs.declared.error.kind.ErrorKind.{ErrorKind}
 use Rattle.clap.specs.declared.error.kind.ErrorKind.TheVariants.{DisplayHelp, DisplayVersion}
 use Rattle.command_line.specs.declared.asked.Ask.{Ask}
 use Rattle.command_line.specs.declared.asked.Ask.TheVariants.{Check, Plan}
-use Rattle.command_line.specs.declared.asked.NetworkKind.{NetworkKind}
-use Rattle.command_line.specs.declared.asked.NetworkKind.TheVariants.{Direct, Racks}
+use Rattle.wave_planner.specs.declared.NetworkKind.{NetworkKind}
+use Rattle.wave_planner.specs.declared.NetworkKind.TheVariants.{Direct, Racks}
 use Rattle.command_line.specs.declared.asked.AskError.{AskError}
 use Rattle.command_line.specs.declared.asked.AskError.TheVariants.{Fault, Memory}
 

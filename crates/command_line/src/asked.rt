@@ -1,3 +1,5 @@
+use wave_planner::NetworkKind;
+
 /// A command with its options.
 #[derive(Clone, Copy, Debug, PartialEq, Eq)]
 pub enum Ask {
@@ -5,15 +7,6 @@ pub enum Ask {
     Check,
     /// Plan a job's map starts.
     Plan(PlanOptions),
-}
-
-/// Over which network a wave is planned.
-#[derive(Clone, Copy, Debug, PartialEq, Eq)]
-pub enum NetworkKind {
-    /// An arc from each pending split to each worker with which it is admissible.
-    Direct,
-    /// Nodes for the racks and the cluster between splits and workers, so that far fewer arcs stand.
-    Racks,
 }
 
 /// How a plan is to be made and what is written of it.

@@ -43,7 +43,7 @@ const PLAN_ABOUT: &str = "Plans a job's map starts at the least byte-distance";
 
 const PRICES_HELP: &str = "Writes the prices too, which certify the plan";
 
-const NETWORK_HELP: &str = "Seeks the plan over this network; over each it is best";
+const NETWORK_HELP: &str = "Seeks the plan over this network; over either it is best";
 
 // The words that name a network.
 static NETWORKS: [&str; 2] = ["direct", "racks"];

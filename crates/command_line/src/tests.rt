@@ -1,7 +1,8 @@
 use crate::ask;
-use crate::asked::{Ask, AskError, NetworkKind, PlanOptions};
+use crate::asked::{Ask, AskError, PlanOptions};
 use std::alloc::Global;
 use std::process::Abort;
+use wave_planner::NetworkKind;
 
 // What the words after the program's name come to: a command, or an error's status and text.
 fn answer(rt: &impl Abort, alloc: Global, words: &[&str]) -> Result<Ask, (u8, String)> {
@@ -23,28 +24,74 @@ fn check_is_asked_for(rt: HostRuntime) {
     assert!(rt; matches!(asked, Ok(Ask::Check)));
 }
 
-#[test]
-fn plan_is_asked_for(rt: HostRuntime) {
-    let asked = answer(&rt, rt.alloc(), ["mrjob", "plan"].as_slice());
-    assert!(rt; matches!(asked, Ok(Ask::Plan(PlanOptions { prices: false, network: NetworkKind::Racks }))));
+// The words ask for a plan over this network, with prices or without.
+fn asks_for_plan(
+    rt: &impl Abort,
+    alloc: Global,
+    words: &[&str],
+    network: NetworkKind,
+    prices: bool,
+) {
+    match answer(rt, alloc, words) {
+        Ok(asked) => {
+            let wanted = Ask::Plan(PlanOptions { prices, network });
+            assert_eq!(rt; asked, wanted, "{words:?}");
+        }
+        Err((_, text)) => panic!(rt; "{text}"),
+    }
 }
 
 #[test]
-fn plan_is_asked_for_with_prices(rt: HostRuntime) {
-    let asked = answer(&rt, rt.alloc(), ["mrjob", "plan", "--prices"].as_slice());
-    assert!(rt; matches!(asked, Ok(Ask::Plan(PlanOptions { prices: true, network: NetworkKind::Racks }))));
+fn plan_goes_over_racks_where_no_network_is_named(rt: HostRuntime) {
+    let alloc = rt.alloc();
+    asks_for_plan(&rt, alloc, &["mrjob", "plan"], NetworkKind::Racks, false);
+    let with_prices = &["mrjob", "plan", "--prices"];
+    asks_for_plan(&rt, alloc, with_prices, NetworkKind::Racks, true);
 }
 
-// The words are refused as usage, with a text that holds the reason.
-fn is_usage(rt: &impl Abort, alloc: Global, words: &[&str], reason: &str) {
+#[test]
+fn plan_goes_over_the_network_that_is_named(rt: HostRuntime) {
+    let plans: [(&[&str], NetworkKind, bool); 5] = [
+        (
+            &["mrjob", "plan", "--network", "direct"],
+            NetworkKind::Direct,
+            false,
+        ),
+        (
+            &["mrjob", "plan", "--network=racks"],
+            NetworkKind::Racks,
+            false,
+        ),
+        (
+            &["mrjob", "plan", "--network=direct", "--prices"],
+            NetworkKind::Direct,
+            true,
+        ),
+        (
+            &["mrjob", "plan", "--prices", "--network", "direct"],
+            NetworkKind::Direct,
+            true,
+        ),
+        (
+            &["mrjob", "plan", "--prices", "--network", "racks"],
+            NetworkKind::Racks,
+            true,
+        ),
+    ];
+    for (words, network, prices) in plans {
+        asks_for_plan(&rt, rt.alloc(), words, network, prices);
+    }
+}
+
+// The words are refused as usage, with a text that holds these parts.
+fn is_usage(rt: &impl Abort, alloc: Global, words: &[&str], parts: &[&str]) {
     match answer(rt, alloc, words) {
         Ok(_) => panic!(rt; "{words:?}"),
         Err((status, text)) => {
             assert_eq!(rt; status, 64, "{words:?}");
-            assert!(rt;
-                text.contains(reason) && text.contains("Usage: mrjob"),
-                "{text}"
-            );
+            for part in parts {
+                assert!(rt; text.contains(*part), "{text}");
+            }
         }
     }
 }
@@ -62,7 +109,7 @@ fn wrong_words_are_usage(rt: HostRuntime) {
         (&["mrjob", "help", "fly"], "unrecognized subcommand 'fly'"),
     ];
     for (words, reason) in wrong {
-        is_usage(&rt, rt.alloc(), words, reason);
+        is_usage(&rt, rt.alloc(), words, &[reason, "Usage: mrjob"]);
     }
 }
 
@@ -77,7 +124,7 @@ fn wrong_words_of_check_are_usage(rt: HostRuntime) {
         (&["mrjob", "check", "check"], "unexpected argument 'check'"),
     ];
     for (words, reason) in wrong {
-        is_usage(&rt, rt.alloc(), words, reason);
+        is_usage(&rt, rt.alloc(), words, &[reason, "Usage: mrjob"]);
     }
 }
 
@@ -100,19 +147,46 @@ fn wrong_words_of_plan_are_usage(rt: HostRuntime) {
         ),
     ];
     for (words, reason) in wrong {
-        is_usage(&rt, rt.alloc(), words, reason);
+        is_usage(&rt, rt.alloc(), words, &[reason, "Usage: mrjob"]);
+    }
+}
+
+#[test]
+fn wrong_networks_are_usage(rt: HostRuntime) {
+    let wrong: [(&[&str], &str); 5] = [
+        (
+            &["mrjob", "plan", "--network"],
+            "a value is required for '--network <NETWORK>'",
+        ),
+        (
+            &["mrjob", "plan", "--network", "ring"],
+            "invalid value 'ring' for '--network <NETWORK>'\n  [possible values: direct, racks]",
+        ),
+        (&["mrjob", "plan", "--network="], "a value is required"),
+        (
+            &["mrjob", "plan", "--network", "direct", "--network", "racks"],
+            "'--network <NETWORK>' cannot be used multiple times",
+        ),
+        (
+            &["mrjob", "check", "--network", "direct"],
+            "unexpected argument '--network'",
+        ),
+    ];
+    for (words, reason) in wrong {
+        is_usage(&rt, rt.alloc(), words, &[reason, "try '--help'"]);
     }
 }
 
 #[test]
 fn help_is_no_usage(rt: HostRuntime) {
-    let helps: [(&[&str], &str); 7] = [
+    let helps: [(&[&str], &str); 8] = [
         (&["mrjob", "--help"], "Statuses:"),
         (&["mrjob", "-h"], "Statuses:"),
         (&["mrjob", "help"], "Statuses:"),
         (&["mrjob", "check", "--help"], "Input:"),
         (&["mrjob", "help", "check"], "Input:"),
         (&["mrjob", "plan", "--help"], "--prices"),
+        (&["mrjob", "plan", "--help"], "XX"),
         (&["mrjob", "help", "plan"], "price a 0"),
     ];
     for (words, part) in helps {
