@@ -1,5 +1,5 @@
 -- The rows that an argument gets begin with a good text, as long as no use of it is at fault.
-use Rattle.std.proofs.Common.{◌≡◌, ℕ, Bool, cond, true, false, List, [], ◌∷◌, ◌++◌, Option, Some, ap, option_map, refl, subst, true≢false}
+use Rattle.std.proofs.Common.{◌≡◌, ℕ, Bool, cond, true, false, List, [], ◌∷◌, ◌++◌, Some, ap, option_map, refl, subst, true≢false}
 use Rattle.std.specs.Prelude.{◌||◌, ◌+◌, IfSome, find, fold, min, option_and_then, slice_get}
 use Rattle.std.specs.List.{list_any}
 use Rattle.std.specs.Str.{bytes_eq}

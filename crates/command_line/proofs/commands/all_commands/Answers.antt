@@ -1,6 +1,6 @@
-use Rattle.std.proofs.Common.{rules, refl, ap, ◌∙◌, ◌≡◌}
+use Rattle.std.proofs.Common.{rules, refl, ◌≡◌}
 use Rattle.std.proofs.lemmas.Result.{IfOk-weaker}
-use Rattle.clap.specs.Words.{app_of, with_subcommand}
+use Rattle.clap.specs.Words.{app_of}
 use Rattle.command_line.specs.Commands.{IsTold, check, plan_of, program}
 use Rattle.command_line.proofs.Build.{added}
 use Rattle.command_line.proofs.commands.all_commands.Goals as goal

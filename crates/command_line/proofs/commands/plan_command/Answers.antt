@@ -1,8 +1,8 @@
-use Rattle.std.proofs.Common.{rules, refl, ap, ap₂, sym, map, ◌∙◌, ◌≡◌, Some}
+use Rattle.std.proofs.Common.{rules, ap₂, ◌∙◌, ◌≡◌}
 use Rattle.std.proofs.lemmas.Result.{IfOk-weaker}
 use Rattle.clap.specs.Walk.{texts}
 use Rattle.clap.specs.Words.{app_of, new_app, rule_of, with_rule}
-use Rattle.command_line.specs.Commands.{network_of, network_words, plan_of, prices}
+use Rattle.command_line.specs.Commands.{network_of, network_words, prices}
 use Rattle.command_line.proofs.commands.plan_command.Goals as goal
 
 pub returns : goal.returns
