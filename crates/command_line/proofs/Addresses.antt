@@ -153,7 +153,8 @@ module _ (c : List Rule) where
       ap (λ rows. record h { rows = rows; pending = None })
       (used_same a values (settled there h).rows ∙ ap (λ (k : Held). used a values k.rows) (settled_same h))
 
-  option_same : (a : Rule) (v : Option Text) (h : Held) → option_met there (moved_rule a) v h ≡ option_met c a v h
+  option_same : (a : Rule) (v : Option Text) (h : Held) → option_met there (moved_rule a) v h
+      ≡ option_met c a v h
   option_same a (Some v) h = ap (λ k. (k, done)) (reacted_same a (v ∷ []) h)
   option_same a None h = ap (λ k. (record k { pending = Some (a.id, []) }, waits a.id)) (settled_same h)
 
@@ -166,7 +167,8 @@ module _ (c : List Rule) where
   long_same None v h = refl
   long_same (Some a) v h = ap₂ (cond (takes_values a)) (option_same a v h) (flag_same a v h)
 
-  short_same : (o : Option Rule) (rest : Text) (h : Held) (f g : Held → Held × Outcome) → ((k : Held) → f k ≡ g k)
+  short_same : (o : Option Rule) (rest : Text) (h : Held) (f g : Held → Held × Outcome)
+      → ((k : Held) → f k ≡ g k)
       → short_met there (option_map moved_rule o) rest h f ≡ short_met c o rest h g
   short_same None rest h f g same = refl
   short_same (Some a) rest h f g same =
@@ -193,7 +195,8 @@ module _ (c : List Rule) where
       bundle_step_same (slice_get (chars flags) 0) flags skip so_far h (bundle_met there k) (bundle_met c k)
       (bundle_same k)
 
-  plain_same : (waiting : Waiting) (word : Text) (h : Held) → plain_word there waiting word h ≡ plain_word c waiting word h
+  plain_same : (waiting : Waiting) (word : Text) (h : Held) → plain_word there waiting word h
+      ≡ plain_word c waiting word h
   plain_same idle word h = refl
   plain_same positional word h = refl
   plain_same (option id) word h =
@@ -238,7 +241,8 @@ module _ (c : List Rule) where
       ap (cond (bytes_eq word (45 ∷ 45 ∷ [])) (h, trailing position)) (flag_word_same waiting word (long_of word) h)
 
   word_same : (names : Names) (is_trailing : Bool) (waiting : Waiting) (position : ℕ) (word : Text) (h : Held)
-      → word_met there names is_trailing waiting position word h ≡ word_met c names is_trailing waiting position word h
+      → word_met there names is_trailing waiting position word h
+      ≡ word_met c names is_trailing waiting position word h
   word_same names is_trailing waiting position word h =
       ap (cond is_trailing (h, value)) (other_same (subcommand_met names waiting word) waiting position word h)
 
@@ -289,7 +293,8 @@ module _ (c : List Rule) where
 default_same : (rows : List Row) (a : Rule) → with_default rows (moved_rule a) ≡ with_default rows a
 default_same rows a = ap (λ how. cond (has_row a.id rows) rows (default_rows a.id how a.defaults rows)) (by_same a)
 
-defaults_same : (rows : List Row) (c : List Rule) → fold with_default rows (map moved_rule c) ≡ fold with_default rows c
+defaults_same : (rows : List Row) (c : List Rule) → fold with_default rows (map moved_rule c)
+    ≡ fold with_default rows c
 defaults_same rows [] = refl
 defaults_same rows (a ∷ c) =
     ap (λ now. fold with_default now (map moved_rule c)) (default_same rows a) ∙ defaults_same (with_default rows a) c
@@ -321,7 +326,8 @@ module _ (c : List Rule) (again : Bool) where
       at (Some a) values = use_same again a values h.rows
 
       go : (o : Option (Text × List Text))
-          → option_map_or (λ p. option_map_or (λ a. use_fault again a p.1 h.rows) (arg_by_id here p.0) []) o []
+          → option_map_or (λ p. option_map_or (λ a. use_fault again a p.1 h.rows)
+          (arg_by_id here p.0) []) o []
           ≡ option_map_or (λ p. option_map_or (λ a. use_fault again a p.1 h.rows) (arg_by_id c p.0) []) o []
       go None = refl
       go (Some p) =
@@ -346,7 +352,8 @@ module _ (c : List Rule) (again : Bool) where
       ap₂ (cond (takes_values a)) (option_fault_same a v h)
       (ap (cond (is_some v) (TooManyValues ∷ [])) (react_fault_same a [] h))
 
-  short_fault_same : (o : Option Rule) (rest : Text) (h : Held) (f g : Held → Kinds) → ((k : Held) → f k ≡ g k)
+  short_fault_same : (o : Option Rule) (rest : Text) (h : Held) (f g : Held → Kinds)
+      → ((k : Held) → f k ≡ g k)
       → short_fault here again (option_map moved_rule o) rest h f ≡ short_fault c again o rest h g
   short_fault_same None rest h f g same = refl
   short_fault_same (Some a) rest h f g same =
@@ -398,12 +405,14 @@ defaults_fault_same rows (a ∷ c) =
     ap₂ or_else (default_fault_same rows a)
     (ap (λ now. defaults_fault now (map moved_rule c)) (default_same rows a) ∙ defaults_fault_same (with_default rows a) c)
 
-any_same : (test : Rule → Bool) (c : List Rule) → list_any test (map moved_rule c) ≡ list_any (λ a. test (moved_rule a)) c
+any_same : (test : Rule → Bool) (c : List Rule) → list_any test (map moved_rule c)
+    ≡ list_any (λ a. test (moved_rule a)) c
 any_same test [] = refl
 any_same test (a ∷ c) = ap (λ b. test (moved_rule a) || b) (any_same test c)
 
 module _ (s : Shape) (names : Names) where
-  other_fault_same : (o : Option Text) (word : Text) (h : Held) → other_fault (moved_shape s) o word h ≡ other_fault s o word h
+  other_fault_same : (o : Option Text) (word : Text) (h : Held) → other_fault (moved_shape s) o word h
+      ≡ other_fault s o word h
   other_fault_same (Some name) word h = refl
   other_fault_same None word h =
       ap (cond (bytes_eq word (45 ∷ 45 ∷ [])) [])
@@ -426,7 +435,8 @@ module _ (s : Shape) (names : Names) where
       go (Some a) =
           ap (cond (is_pending a h.pending && takes_several a) []) (settle_fault_same s.rules s.args_override_self h)
 
-  turn_fault_same : (w : Walk) (word : Text) → turn_fault (moved_shape s) names w word ≡ turn_fault s names w word
+  turn_fault_same : (w : Walk) (word : Text) → turn_fault (moved_shape s) names w word
+      ≡ turn_fault s names w word
   turn_fault_same w word =
       let met = word_met s.rules names w.is_trailing w.waiting w.position word w.held in
       ap (cond (is_some w.stopped) [])
@@ -436,7 +446,8 @@ module _ (s : Shape) (names : Names) where
       (word_same s.rules names w.is_trailing w.waiting w.position word w.held)
       ∙ step_fault_same w.position met.0 met.1))
 
-  walk_fault_same : (w : Walk) (words : List Text) → walk_fault (moved_shape s) names w words ≡ walk_fault s names w words
+  walk_fault_same : (w : Walk) (words : List Text) → walk_fault (moved_shape s) names w words
+      ≡ walk_fault s names w words
   unfolding walk_fault
   walk_fault_same w [] = refl
   walk_fault_same w (word ∷ words) =
@@ -444,7 +455,8 @@ module _ (s : Shape) (names : Names) where
       (ap (λ v. walk_fault (moved_shape s) names v words) (next_same s.rules names w word)
       ∙ walk_fault_same (walked s.rules names w word) words)
 
-  check_fault_same : (rows : List Row) (has : Bool) → check_fault (moved_shape s) rows has ≡ check_fault s rows has
+  check_fault_same : (rows : List Row) (has : Bool) → check_fault (moved_shape s) rows has
+      ≡ check_fault s rows has
   check_fault_same rows has =
       ap (λ wants. check_kinds
       (not has && (s.arg_required_else_help && not (list_any (λ r. explicit_source r.source) rows)))
@@ -506,11 +518,13 @@ pub entered_same : (a : App) (stop : Option (Text × List Text)) → entered (mo
 entered_same a None = refl
 entered_same a (Some p) = ap (option_map (λ s. rows_at s p.1)) (shape_same p.0 a.subs) ∙ go (found_in p.0 a.subs)
   where
-    go : (o : Option Shape) → option_map (λ s. rows_at s p.1) (option_map moved_shape o) ≡ option_map (λ s. rows_at s p.1) o
+    go : (o : Option Shape) → option_map (λ s. rows_at s p.1) (option_map moved_shape o)
+        ≡ option_map (λ s. rows_at s p.1) o
     go None = refl
     go (Some s) = ap (λ rows. Some (s.name, rows)) (rows_same s.rules [] p.1)
 
-entered_fault_same : (a : App) (stop : Option (Text × List Text)) → entered_fault (moved_app a) stop ≡ entered_fault a stop
+entered_fault_same : (a : App) (stop : Option (Text × List Text)) → entered_fault (moved_app a) stop
+    ≡ entered_fault a stop
 entered_fault_same a None = refl
 entered_fault_same a (Some p) =
     ap (λ o. option_map_or (λ s. level_fault s [] nothing_held p.1 false []) o []) (shape_same p.0 a.subs)
@@ -523,7 +537,8 @@ entered_fault_same a (Some p) =
     go (Some s) = level_same s [] nothing_held p.1 false []
 
 -- its faults
-pub fault_same : (a : App) (words : List Text) → built_fault (moved_app a) nothing_held words ≡ built_fault a nothing_held words
+pub fault_same : (a : App) (words : List Text) → built_fault (moved_app a) nothing_held words
+    ≡ built_fault a nothing_held words
 fault_same a words =
     ap (λ names. let stop = (walk a.top.rules names nothing_held words).stopped in
     level_fault a.top names nothing_held words (is_some (entered (moved_app a) stop)) (entered_fault (moved_app a) stop))

@@ -24,7 +24,9 @@ added old sub new program command adds old_is sub_is plain =
     ∙ ap₂ with_subcommand old_is (ap (λ (a : App). a.top) sub_is)
 
 -- what holds of the commands holds of those that `map_err` hands on
-pub handed_on : {E : Type 0} (F : Type 0) (P : Command → Type 0) (Q : E → Type 0) (all : Result Command E) (commands : Command)
-    → IfOk all P → MatchResult all (λ x. ◌≡◌ {A = Result Command F} (Ok commands) (Ok x)) Q → true ≡ is_ok all → P commands
+pub handed_on : {E : Type 0} (F : Type 0) (P : Command → Type 0) (Q : E → Type 0) (all : Result Command E)
+    (commands : Command)
+    → IfOk all P → MatchResult all (λ x. ◌≡◌ {A = Result Command F} (Ok commands) (Ok x)) Q → true
+    ≡ is_ok all → P commands
 handed_on F P Q (Ok x) commands holds same ok = subst P (sym (ap (λ r. result_unwrap_or r commands) same)) holds
 handed_on F P Q (Err e) commands holds cases ok = absurd (true≢false ok)

@@ -1,4 +1,5 @@
--- What clap finds in words that have no fault: one of the commands, and for an argument of `plan` a text that it takes.
+-- What clap finds in words that have no fault: one of the commands, and for an argument of `plan` a text
+-- that it takes.
 use Rattle.std.proofs.Common.{◌≡◌, ◌∙◌, ℕ, cond, inl, inr, subst, Bool, true, false, List, [], ◌∷◌, Option, Some, None, codes, option_map, refl, sym, ap, ap₂, true≢false}
 use Rattle.std.specs.Box.{box_value}
 use Rattle.std.specs.Prelude.{Box, IfSome, ◌⊎◌, ◌||◌, ◌++◌, find, is_some, length, map, option_and_then, take, unwrap_or}
@@ -131,7 +132,8 @@ some_kind : (k : ErrorKind) (kinds : Kinds) → ◌≡◌ {A = Kinds} (k ∷ kin
 some_kind k kinds none = cc
 
 -- the first value of a use that is not at fault passes the parser
-first_passes : (least most : ℕ) (again : Bool) (id : Text) (p : ValueParser) (v : Text) (vs : List Text) (rows : List Row)
+first_passes : (least most : ℕ) (again : Bool) (id : Text) (p : ValueParser) (v : Text) (vs : List Text)
+    (rows : List Row)
     → or_else (range_kinds least most (length (v ∷ vs)))
     (or_else (repeat_fault again id rows) (values_kinds false p (v ∷ vs))) ≡ []
     → value_kinds false p v ≡ []
@@ -148,7 +150,8 @@ either false true one other none = other refl
 either false false one other none = absurd (some_kind InvalidValue [] none)
 
 -- `--prices` is a flag
-flag_values : (again : Bool) (values : List Text) (rows : List Row) → use_fault again (with_index 1 (filled prices)) values rows ≡ []
+flag_values : (again : Bool) (values : List Text) (rows : List Row)
+    → use_fault again (with_index 1 (filled prices)) values rows ≡ []
     → IsLed (codes "prices") IsFlagText (values_or_missing (with_index 1 (filled prices)) values)
 flag_values again [] rows none = inl refl
 flag_values again (v ∷ vs) rows none =
@@ -160,7 +163,8 @@ abbrev network : Rule
 network = network_of (at_zero (map at_zero network_words))
 
 -- `--network` takes one of the words
-network_values : (again : Bool) (values : List Text) (rows : List Row) → use_fault again (with_index 1 (filled network)) values rows ≡ []
+network_values : (again : Bool) (values : List Text) (rows : List Row)
+    → use_fault again (with_index 1 (filled network)) values rows ≡ []
     → IsLed (codes "network") IsNetworkWord (values_or_missing (with_index 1 (filled network)) values)
 network_values again [] rows none = absurd (some_kind _ _ none)
 network_values again (v ∷ vs) rows none =
@@ -199,7 +203,8 @@ plan_has_network =
     )
 
 -- what `plan` finds for such an argument
-argument_read : (id : Text) (IsGood : Text → Type 0) → PlanHas id IsGood (built mrjob).subs → (words : List Text)
+argument_read : (id : Text) (IsGood : Text → Type 0) → PlanHas id IsGood (built mrjob).subs
+    → (words : List Text)
     → faults_in words ≡ [] → (rows : List Row) → subcommand_of mrjob words ≡ Some (codes "plan", rows)
     → Finds id IsGood rows
 argument_read id IsGood has words none rows is =
@@ -232,7 +237,8 @@ argument_read id IsGood has words none rows is =
 -- ---- what clap was told of
 
 -- with the words at address 0 the commands are the same
-pub as_at_zero : (choices : Choices) → texts choices.now ≡ network_words → moved_app (built (mrjob_of choices)) ≡ built mrjob
+pub as_at_zero : (choices : Choices) → texts choices.now ≡ network_words
+    → moved_app (built (mrjob_of choices)) ≡ built mrjob
 as_at_zero choices words = ap (λ ts. built (mrjob_of (at_zero (map at_zero ts)))) words
 
 name_in : {Z : Type 0} (met : Option (Box SubCommand Z))
@@ -268,14 +274,16 @@ module _ (program : Command) (words : List Text) (told : IsTold mrjob_of (app_of
   is_free_told = ap is_simple_and_free told.shape ∙ is_free_program told.choices
 
   -- the matches have the subcommand that the words name
-  subcommand_in : (m : ArgMatches) → HasMatchesOf (app_of program) words m → subcommand_rows_of m ≡ subcommand_of mrjob words
+  subcommand_in : (m : ArgMatches) → HasMatchesOf (app_of program) words m → subcommand_rows_of m
+      ≡ subcommand_of mrjob words
   subcommand_in m has =
       (has is_simple_told).1 ∙ (ap (λ a. subcommand_of a words) told.shape
       ∙ (sym (subcommand_same (built (mrjob_of told.choices)) (argument_words mrjob words))
       ∙ ap (λ a. entered a (stop_after a.top.rules (names_of a) (argument_words mrjob words))) (as_at_zero told.choices told.words)))
 
   -- the matches name the command that the words name
-  found_in : (m : ArgMatches) → HasMatchesOf (app_of program) words m → subcommand_name_of m ≡ command_in words
+  found_in : (m : ArgMatches) → HasMatchesOf (app_of program) words m → subcommand_name_of m
+      ≡ command_in words
   found_in m has = name_in (out-ArgMatches m).subcommand ∙ ap (option_map (λ p. p.0)) (subcommand_in m has)
 
   pub named_in : (m : ArgMatches) → HasMatchesOf (app_of program) words m
@@ -298,7 +306,8 @@ module _ (program : Command) (words : List Text) (told : IsTold mrjob_of (app_of
   pub found_argument : (id : Text) (IsGood : Text → Type 0) → PlanHas id IsGood (built mrjob).subs
       → (m : ArgMatches) → HasMatchesOf (app_of program) words m
       → (is_simple_and_free (app_of program) ≡ true → fault_of (app_of program) words ≡ [])
-      → (options : ArgMatches) → Some (rows_of (found_of options)) ≡ option_map (λ p. p.1) (subcommand_rows_of m)
+      → (options : ArgMatches) → Some (rows_of (found_of options))
+      ≡ option_map (λ p. p.1) (subcommand_rows_of m)
       → (met : Text) → Some met ≡ subcommand_name_of m → met ≡ codes "plan"
       → (text : Text) × IsGood text × (first_value (found_of options) id ≡ Some text)
       × (one_text (found_of options) id ≡ Some text) × (value_in id words ≡ Some text)
@@ -314,7 +323,8 @@ module _ (program : Command) (words : List Text) (told : IsTold mrjob_of (app_of
         ap (λ o. option_and_then (λ (p : Text × List Row). one_of id p.1) o) found ∙ read.3,
       )
     where
-      both_parts : (o : Option (Text × List Row)) {name : Text} {rows : List Row} → option_map (λ p. p.0) o ≡ Some name
+      both_parts : (o : Option (Text × List Row)) {name : Text} {rows : List Row}
+          → option_map (λ p. p.0) o ≡ Some name
           → Some rows ≡ option_map (λ p. p.1) o → o ≡ Some (name, rows)
       both_parts None named found = cc
       both_parts (Some p) named found =

@@ -161,24 +161,28 @@ module _ (id : Text) (IsGood : Text → Type 0) where
 
   -- ---- a row stands for an argument that has a default
 
-  stays : (other : Text) (s : ValueSource) (values : List Text) (missing rows : List Row) → has_row id rows ≡ true
+  stays : (other : Text) (s : ValueSource) (values : List Text) (missing rows : List Row)
+      → has_row id rows ≡ true
       → has_row id (at_row other (more_values s values) missing rows) ≡ true
   stays other s values missing [] has = cc
   stays other s values missing (r ∷ rs) has = go (bytes_eq r.id other) (stays other s values missing rs)
     where
-      either : (b : Bool) → (has_row id rs ≡ true → has_row id (at_row other (more_values s values) missing rs) ≡ true)
+      either : (b : Bool) →
+          (has_row id rs ≡ true → has_row id (at_row other (more_values s values) missing rs) ≡ true)
           → (b || has_row id rs) ≡ true
           → (b || has_row id (at_row other (more_values s values) missing rs)) ≡ true
       either true below e = refl
       either false below e = below e
 
-      go : (b : Bool) → (has_row id rs ≡ true → has_row id (at_row other (more_values s values) missing rs) ≡ true)
+      go : (b : Bool) → (has_row id rs ≡ true
+          → has_row id (at_row other (more_values s values) missing rs) ≡ true)
           → has_row id (cond b (more_values s values r ++ rs)
           (r ∷ at_row other (more_values s values) missing rs)) ≡ true
       go true below = has
       go false below = either (bytes_eq r.id id) below has
 
-  default_stays : (a : Rule) (rows : List Row) → has_row id rows ≡ true → has_row id (with_default rows a) ≡ true
+  default_stays : (a : Rule) (rows : List Row) → has_row id rows ≡ true → has_row id (with_default rows a)
+      ≡ true
   default_stays a rows has = go (has_row a.id rows)
     where
       made : (values : List Text) → has_row id (default_rows a.id (reading_by a) values rows) ≡ true
@@ -189,14 +193,16 @@ module _ (id : Text) (IsGood : Text → Type 0) where
       go true = has
       go false = made a.defaults
 
-  all_stay : (rules : List Rule) (rows : List Row) → has_row id rows ≡ true → has_row id (fold with_default rows rules) ≡ true
+  all_stay : (rules : List Rule) (rows : List Row) → has_row id rows ≡ true
+      → has_row id (fold with_default rows rules) ≡ true
   all_stay [] rows has = has
   all_stay (a ∷ rest) rows has = all_stay rest (with_default rows a) (default_stays a rows has)
 
   row_made : (a : Rule) → IsLed a.defaults → (rows : List Row) → has_row a.id (with_default rows a) ≡ true
   row_made a led rows = go (has_row a.id rows) refl
     where
-      new : (values : List Text) → IsLed values → has_row a.id (default_rows a.id (reading_by a) values rows) ≡ true
+      new : (values : List Text) → IsLed values
+          → has_row a.id (default_rows a.id (reading_by a) values rows) ≡ true
       new [] led = absurd led
       new (v ∷ vs) led = made a.id (reading_by a) DefaultValue (v ∷ vs) rows
 
@@ -236,7 +242,8 @@ module _ (id : Text) (IsGood : Text → Type 0) where
       first how [] led is = absurd led
       first how (v ∷ vs) led is = (v, led, refl, ap (λ reading. Some (read_as reading v)) is)
 
-      go : (b : Bool) → (b ≡ true → IsLed r.values × (r.reading ≡ AsWritten)) → (has_row id rs ≡ true → Finds rs)
+      go : (b : Bool) → (b ≡ true → IsLed r.values × (r.reading ≡ AsWritten))
+          → (has_row id rs ≡ true → Finds rs)
           → (b || has_row id rs) ≡ true → (text : Text) × IsGood text
           × (option_and_then (λ r. slice_get r.values 0) (cond b (Some r) (find (λ x. bytes_eq x.id id) rs)) ≡ Some text)
           × (option_and_then row_text (cond b (Some r) (find (λ x. bytes_eq x.id id) rs)) ≡ Some text)

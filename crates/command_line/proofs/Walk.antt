@@ -13,7 +13,8 @@ use Rattle.command_line.proofs.Rows.{Each, Finds, GoodRow, GoodRule, defaults_ke
 use Rattle.command_line.proofs.Subcommands.{no_fault}
 
 -- a word that is no flag changes no row
-plain_rows : (c : List Rule) (waiting : Waiting) (word : Text) (h : Held) → (plain_word c waiting word h).0.rows ≡ h.rows
+plain_rows : (c : List Rule) (waiting : Waiting) (word : Text) (h : Held)
+    → (plain_word c waiting word h).0.rows ≡ h.rows
 plain_rows c idle word h = refl
 plain_rows c positional word h = refl
 plain_rows c (option id) word h = go (arg_by_id c id)
@@ -44,7 +45,8 @@ module _ (id : Text) (IsGood : Text → Type 0) (c : List Rule) (again : Bool) (
   settled_kept h none all = go h.pending none
     where
       go : (o : Option (Text × List Text))
-          → option_map_or (λ p. option_map_or (λ a. use_fault again a p.1 h.rows) (arg_by_id c p.0) []) o [] ≡ []
+          → option_map_or (λ p. option_map_or (λ a. use_fault again a p.1 h.rows)
+          (arg_by_id c p.0) []) o [] ≡ []
           → Each (GoodRow id IsGood) (settled_rows c o h.rows)
       go None none = all
       go (Some p) none =
@@ -95,7 +97,8 @@ module _ (id : Text) (IsGood : Text → Type 0) (c : List Rule) (again : Bool) (
 
   bundle_step_kept : (o : Option ℕ) (flags : Text) (skip : ℕ) (so_far : Outcome) (h : Held)
       (fault : Text → ℕ → Held → Kinds) (then : Text → ℕ → Outcome → Held → Held × Outcome)
-      → ((rest : Text) (n : ℕ) (o : Outcome) (k : Held) → fault rest n k ≡ [] → Kept k → Kept (then rest n o k).0)
+      → ((rest : Text) (n : ℕ) (o : Outcome) (k : Held) → fault rest n k ≡ [] → Kept k
+      → Kept (then rest n o k).0)
       → bundle_step_fault c again o flags skip h fault ≡ [] → Kept h
       → Kept (bundle_step c o flags skip so_far h then).0
   bundle_step_kept None flags skip so_far h fault then goes none all = all

@@ -10,7 +10,8 @@ ghost use Rattle.std.specs.Prelude.{◌≡◌, [], Err, IfOk, IsOk, Ok, Some, co
 ghost use Rattle.clap.specs.Kinds.{IsAmong};
 ghost use Rattle.clap.specs.Walk.{texts};
 ghost use Rattle.clap.specs.Words.{first_value, found_of, kind_of};
-ghost use Rattle.command_line.specs.Commands.{NamesNetwork, command_in, faults_in, flag_in, name_of, value_in, word_of};
+ghost use Rattle.command_line.specs.Commands.{NamesNetwork, command_in, faults_in, flag_in, name_of};
+ghost use Rattle.command_line.specs.Commands.{value_in, word_of};
 
 pub mod asked;
 mod commands;
@@ -29,7 +30,6 @@ pub fn ask<'a>(alloc: Global, words: &'a [&'a str]) -> Result<Ask, AskError>
     ensures command { IfOk result (λ ask. command_in (texts words.entry.now) ≡ Some (name_of ask)) }
     ensures flag { (options : _) → result ≡ Ok (Ask.Plan options)
         → options.prices ≡ flag_in (codes "prices") (texts words.entry.now) }
-
     ensures network { (options : _) → result ≡ Ok (Ask.Plan options)
         → value_in (codes "network") (texts words.entry.now) ≡ Some (word_of options.network) }
 

@@ -32,21 +32,29 @@ IsMrjob commands = IsTold mrjob_of (app_of commands)
 
 pub returns-in-check-clause-command : goal.returns-in-check-clause-command
 returns-in-check-clause-command c =
-    named_in c.in_ok-commands.commands _ (handed_on AskError IsMrjob _ c.all_commands.result _ c.all_commands.ensures c.in_ok-commands.ensures.cases c.in_ok-commands.ensures.variant) c.in-Ok.matches c.in-Ok.ensures.matches
+    let told = handed_on AskError IsMrjob _ c.all_commands.result _ c.all_commands.ensures
+    c.in_ok-commands.ensures.cases c.in_ok-commands.ensures.variant in
+    named_in c.in_ok-commands.commands _ told c.in-Ok.matches c.in-Ok.ensures.matches
     _ (codes "check") c.in-Some.ensures.name (search rules)
 
 pub returns-in-check-clause-ok : goal.returns-in-check-clause-ok
 returns-in-check-clause-ok c ok =
-    unfaulted c.in_ok-commands.commands _ (handed_on AskError IsMrjob _ c.all_commands.result _ c.all_commands.ensures c.in_ok-commands.ensures.cases c.in_ok-commands.ensures.variant) c.in-Ok.ensures.kinds
+    let told = handed_on AskError IsMrjob _ c.all_commands.result _ c.all_commands.ensures
+    c.in_ok-commands.ensures.cases c.in_ok-commands.ensures.variant in
+    unfaulted c.in_ok-commands.commands _ told c.in-Ok.ensures.kinds
 
 pub returns-in-plan-clause-command : goal.returns-in-plan-clause-command
 returns-in-plan-clause-command c =
-    named_in c.in_ok-commands.commands _ (handed_on AskError IsMrjob _ c.all_commands.result _ c.all_commands.ensures c.in_ok-commands.ensures.cases c.in_ok-commands.ensures.variant) c.in-Ok.matches c.in-Ok.ensures.matches
+    let told = handed_on AskError IsMrjob _ c.all_commands.result _ c.all_commands.ensures
+    c.in_ok-commands.ensures.cases c.in_ok-commands.ensures.variant in
+    named_in c.in_ok-commands.commands _ told c.in-Ok.matches c.in-Ok.ensures.matches
     _ (codes "plan") c.in-Some.ensures.name (search rules)
 
 pub returns-in-plan-clause-flag : goal.returns-in-plan-clause-flag
 returns-in-plan-clause-flag c =
-    let found = found_argument c.in_ok-commands.commands _ (handed_on AskError IsMrjob _ c.all_commands.result _ c.all_commands.ensures c.in_ok-commands.ensures.cases c.in_ok-commands.ensures.variant) (codes "prices") IsFlagText plan_has_prices
+    let told = handed_on AskError IsMrjob _ c.all_commands.result _ c.all_commands.ensures
+    c.in_ok-commands.ensures.cases c.in_ok-commands.ensures.variant in
+    let found = found_argument c.in_ok-commands.commands _ told (codes "prices") IsFlagText plan_has_prices
     c.in-Ok.matches c.in-Ok.ensures.matches c.in-Ok.ensures.kinds c.in-Some.options.now c.in-Some.ensures.rows
     _ c.in-Some.ensures.name (search rules) in
     let flag = found_flag (texts c.args.words.now) c.in-Some.options.now found.0 found.1 found.3 found.4
@@ -55,14 +63,18 @@ returns-in-plan-clause-flag c =
 
 pub network_named-requires : goal.network_named-requires
 network_named-requires c =
-    let found = found_argument c.in_ok-commands.commands _ (handed_on AskError IsMrjob _ c.all_commands.result _ c.all_commands.ensures c.in_ok-commands.ensures.cases c.in_ok-commands.ensures.variant) (codes "network") IsNetworkWord plan_has_network
+    let told = handed_on AskError IsMrjob _ c.all_commands.result _ c.all_commands.ensures
+    c.in_ok-commands.ensures.cases c.in_ok-commands.ensures.variant in
+    let found = found_argument c.in_ok-commands.commands _ told (codes "network") IsNetworkWord plan_has_network
     c.in-Ok.matches c.in-Ok.ensures.matches c.in-Ok.ensures.kinds c.in-Some.options.now c.in-Some.ensures.rows
     _ c.in-Some.ensures.name (search rules) in
     (found.1.0, found.2 ∙ ap Some found.1.1)
 
 pub returns-in-plan-clause-network : goal.returns-in-plan-clause-network
 returns-in-plan-clause-network c =
-    let found = found_argument c.in_ok-commands.commands _ (handed_on AskError IsMrjob _ c.all_commands.result _ c.all_commands.ensures c.in_ok-commands.ensures.cases c.in_ok-commands.ensures.variant) (codes "network") IsNetworkWord plan_has_network
+    let told = handed_on AskError IsMrjob _ c.all_commands.result _ c.all_commands.ensures
+    c.in_ok-commands.ensures.cases c.in_ok-commands.ensures.variant in
+    let found = found_argument c.in_ok-commands.commands _ told (codes "network") IsNetworkWord plan_has_network
     c.in-Ok.matches c.in-Ok.ensures.matches c.in-Ok.ensures.kinds c.in-Some.options.now c.in-Some.ensures.rows
     _ c.in-Some.ensures.name (search rules) in
     λ options is. found.4 ∙ sym found.2 ∙ c.network_named.ensures
@@ -70,13 +82,17 @@ returns-in-plan-clause-network c =
 
 pub returns-in-plan-clause-ok : goal.returns-in-plan-clause-ok
 returns-in-plan-clause-ok c ok =
-    unfaulted c.in_ok-commands.commands _ (handed_on AskError IsMrjob _ c.all_commands.result _ c.all_commands.ensures c.in_ok-commands.ensures.cases c.in_ok-commands.ensures.variant) c.in-Ok.ensures.kinds
+    let told = handed_on AskError IsMrjob _ c.all_commands.result _ c.all_commands.ensures
+    c.in_ok-commands.ensures.cases c.in_ok-commands.ensures.variant in
+    unfaulted c.in_ok-commands.commands _ told c.in-Ok.ensures.kinds
 
 pub unreachable-requires-in_default-name : goal.unreachable-requires-in_default-name
 unreachable-requires-in_default-name c =
+    let told = handed_on AskError IsMrjob _ c.all_commands.result _ c.all_commands.ensures
+    c.in_ok-commands.ensures.cases c.in_ok-commands.ensures.variant in
     let is : (name : List ℕ) → subcommand_name_of c.in-Ok.matches ≡ Some name → c.in-Some.name.now ≡ name =
     λ name same. the_some _ _ (c.in-Some.ensures.name ∙ same) in
-    elim (found_named c.in_ok-commands.commands _ (handed_on AskError IsMrjob _ c.all_commands.result _ c.all_commands.ensures c.in_ok-commands.ensures.cases c.in_ok-commands.ensures.variant)
+    elim (found_named c.in_ok-commands.commands _ told
     c.in-Ok.matches c.in-Ok.ensures.matches c.in-Ok.ensures.kinds) [
       | inl check ↦ c.in_default-name.not-check (is _ check)
       | inr (inl plan) ↦ c.in_default-name.not-plan (is _ plan)
@@ -85,7 +101,9 @@ unreachable-requires-in_default-name c =
 
 pub returns-clause-fault : goal.returns-clause-fault
 returns-clause-fault c =
-    let among = faulted c.in_ok-commands.commands _ (handed_on AskError IsMrjob _ c.all_commands.result _ c.all_commands.ensures c.in_ok-commands.ensures.cases c.in_ok-commands.ensures.variant) c.in-Err-2.error c.in-Err-2.ensures.kinds
+    let told = handed_on AskError IsMrjob _ c.all_commands.result _ c.all_commands.ensures
+    c.in_ok-commands.ensures.cases c.in_ok-commands.ensures.variant in
+    let among = faulted c.in_ok-commands.commands _ told c.in-Err-2.error c.in-Err-2.ensures.kinds
     (λ memory. true≢false (sym (sym c.if-eq.false ∙ c.eq.ensures
     ∙ ap (λ k. sameb the_type k OutOfMemory)
     (c.kind.ensures ∙ ap kind_of c.in-Err-2.error-is ∙ memory)))) in
