@@ -182,7 +182,8 @@ module _ (c : List Rule) where
   bundle_step_same None flags skip so_far h f g same = refl
   bundle_step_same (Some x) flags zero so_far h f g same =
       let rest = drop (length (encode_utf8 x)) flags in
-      ap (λ o. short_met there o rest h (f rest 0 done)) (found_same (λ a. not (is_some a.index) && has_short a x) c)
+      ap (λ o. short_met there o rest h (f rest 0 done))
+      (found_same (λ a. not (is_some a.index) && has_short a x) c)
       ∙ short_same (arg_by_short c x) rest h (f rest 0 done) (g rest 0 done) (same rest 0 done)
   bundle_step_same (Some x) flags (suc skip) so_far h f g same =
       same (drop (length (encode_utf8 x)) flags) skip so_far h
@@ -200,7 +201,8 @@ module _ (c : List Rule) where
   plain_same idle word h = refl
   plain_same positional word h = refl
   plain_same (option id) word h =
-      ap (λ (p : Held × Waiting). (p.0, next p.1)) (ap (λ o. option_word o id word h) (by_id id) ∙ go (arg_by_id c id))
+      ap (λ (p : Held × Waiting). (p.0, next p.1))
+      (ap (λ o. option_word o id word h) (by_id id) ∙ go (arg_by_id c id))
     where
       go : (o : Option Rule) → option_word (option_map moved_rule o) id word h ≡ option_word o id word h
       go None = refl
@@ -232,19 +234,22 @@ module _ (c : List Rule) where
   flag_word_same waiting word None h = short_word_same waiting word (short_of word) h
   flag_word_same waiting word (Some p) h =
       ap (λ (q : Held × Outcome). after_flag there waiting word q.0 q.1) (by_long p.0 p.1 h)
-      ∙ after_same waiting word (long_met c (arg_by_long c p.0) p.1 h).0 (long_met c (arg_by_long c p.0) p.1 h).1
+      ∙ after_same waiting word (long_met c (arg_by_long c p.0) p.1 h).0
+      (long_met c (arg_by_long c p.0) p.1 h).1
 
   other_same : (o : Option Text) (waiting : Waiting) (position : ℕ) (word : Text) (h : Held)
       → subcommand_or_other there o waiting position word h ≡ subcommand_or_other c o waiting position word h
   other_same (Some name) waiting position word h = refl
   other_same None waiting position word h =
-      ap (cond (bytes_eq word (45 ∷ 45 ∷ [])) (h, trailing position)) (flag_word_same waiting word (long_of word) h)
+      ap (cond (bytes_eq word (45 ∷ 45 ∷ [])) (h, trailing position))
+      (flag_word_same waiting word (long_of word) h)
 
   word_same : (names : Names) (is_trailing : Bool) (waiting : Waiting) (position : ℕ) (word : Text) (h : Held)
       → word_met there names is_trailing waiting position word h
       ≡ word_met c names is_trailing waiting position word h
   word_same names is_trailing waiting position word h =
-      ap (cond is_trailing (h, value)) (other_same (subcommand_met names waiting word) waiting position word h)
+      ap (cond is_trailing (h, value))
+      (other_same (subcommand_met names waiting word) waiting position word h)
 
   positional_same : (o : Option Rule) (word : Text) (w : Walk) (h : Held)
       → to_positional there (option_map moved_rule o) word w h ≡ to_positional c o word w h
@@ -291,17 +296,20 @@ module _ (c : List Rule) where
       ∙ walk_same names (walked c names w word) words
 
 default_same : (rows : List Row) (a : Rule) → with_default rows (moved_rule a) ≡ with_default rows a
-default_same rows a = ap (λ how. cond (has_row a.id rows) rows (default_rows a.id how a.defaults rows)) (by_same a)
+default_same rows a =
+    ap (λ how. cond (has_row a.id rows) rows (default_rows a.id how a.defaults rows)) (by_same a)
 
 defaults_same : (rows : List Row) (c : List Rule) → fold with_default rows (map moved_rule c)
     ≡ fold with_default rows c
 defaults_same rows [] = refl
 defaults_same rows (a ∷ c) =
-    ap (λ now. fold with_default now (map moved_rule c)) (default_same rows a) ∙ defaults_same (with_default rows a) c
+    ap (λ now. fold with_default now (map moved_rule c)) (default_same rows a)
+    ∙ defaults_same (with_default rows a) c
 
 finished_same : (c : List Rule) (h : Held) → finished (map moved_rule c) h ≡ finished c h
 finished_same c h =
-    ap (λ (k : Held). fold with_default k.rows (map moved_rule c)) (settled_same c h) ∙ defaults_same (settled c h).rows c
+    ap (λ (k : Held). fold with_default k.rows (map moved_rule c)) (settled_same c h)
+    ∙ defaults_same (settled c h).rows c
 
 -- the rows at the end of a walk
 pub rows_same : (c : List Rule) (names : Names) (words : List Text)
@@ -331,7 +339,8 @@ module _ (c : List Rule) (again : Bool) where
           ≡ option_map_or (λ p. option_map_or (λ a. use_fault again a p.1 h.rows) (arg_by_id c p.0) []) o []
       go None = refl
       go (Some p) =
-          ap (λ o. option_map_or (λ a. use_fault again a p.1 h.rows) o []) (by_id c p.0) ∙ at (arg_by_id c p.0) p.1
+          ap (λ o. option_map_or (λ a. use_fault again a p.1 h.rows) o []) (by_id c p.0)
+          ∙ at (arg_by_id c p.0) p.1
 
   react_fault_same : (a : Rule) (values : List Text) (h : Held)
       → react_fault here again (moved_rule a) values h ≡ react_fault c again a values h
@@ -366,7 +375,8 @@ module _ (c : List Rule) (again : Bool) where
   bundle_step_fault_same None flags skip h f g same = refl
   bundle_step_fault_same (Some x) flags zero h f g same =
       let rest = drop (length (encode_utf8 x)) flags in
-      ap (λ o. short_fault here again o rest h (f rest 0)) (found_same (λ a. not (is_some a.index) && has_short a x) c)
+      ap (λ o. short_fault here again o rest h (f rest 0))
+      (found_same (λ a. not (is_some a.index) && has_short a x) c)
       ∙ short_fault_same (arg_by_short c x) rest h (f rest 0) (g rest 0) (same rest 0)
   bundle_step_fault_same (Some x) flags (suc skip) h f g same =
       same (drop (length (encode_utf8 x)) flags) skip h
@@ -376,7 +386,8 @@ module _ (c : List Rule) (again : Bool) where
   unfolding flags_fault
   flags_fault_same zero flags skip h = refl
   flags_fault_same (suc k) flags skip h =
-      bundle_step_fault_same (slice_get (chars flags) 0) flags skip h (flags_fault here again k) (flags_fault c again k)
+      bundle_step_fault_same (slice_get (chars flags) 0) flags skip h (flags_fault here again k)
+      (flags_fault c again k)
       (flags_fault_same k)
 
   flag_word_fault_same : (o : Option (Text × Option Text)) (word : Text) (h : Held)
@@ -387,8 +398,10 @@ module _ (c : List Rule) (again : Bool) where
   flag_word_fault_same None word h = go (short_of word)
     where
       go : (o : Option Text)
-          → option_map_or (λ flags. flags_fault here again (length flags) flags h.skip (record h { skip = 0 })) o []
-          ≡ option_map_or (λ flags. flags_fault c again (length flags) flags h.skip (record h { skip = 0 })) o []
+          → option_map_or (λ flags. flags_fault here again (length flags) flags h.skip
+          (record h { skip = 0 })) o []
+          ≡ option_map_or (λ flags. flags_fault c again (length flags) flags h.skip
+          (record h { skip = 0 })) o []
       go None = refl
       go (Some flags) = flags_fault_same (length flags) flags h.skip (record h { skip = 0 })
 
@@ -403,7 +416,8 @@ unfolding defaults_fault
 defaults_fault_same rows [] = refl
 defaults_fault_same rows (a ∷ c) =
     ap₂ or_else (default_fault_same rows a)
-    (ap (λ now. defaults_fault now (map moved_rule c)) (default_same rows a) ∙ defaults_fault_same (with_default rows a) c)
+    (ap (λ now. defaults_fault now (map moved_rule c)) (default_same rows a)
+    ∙ defaults_fault_same (with_default rows a) c)
 
 any_same : (test : Rule → Bool) (c : List Rule) → list_any test (map moved_rule c)
     ≡ list_any (λ a. test (moved_rule a)) c
@@ -424,7 +438,8 @@ module _ (s : Shape) (names : Names) where
   step_fault_same position h (trailing at) = refl
   step_fault_same position h (subcommand name) = refl
   step_fault_same position h value =
-      ap (λ o. option_map_or (λ a. positional_fault (map moved_rule s.rules) s.args_override_self a h) o (stray_fault s))
+      ap (λ o. option_map_or (λ a. positional_fault (map moved_rule s.rules) s.args_override_self a h) o
+      (stray_fault s))
       (by_index s.rules position) ∙ go (arg_by_index s.rules position)
     where
       go : (o : Option Rule)
@@ -433,7 +448,8 @@ module _ (s : Shape) (names : Names) where
           ≡ option_map_or (λ a. positional_fault s.rules s.args_override_self a h) o (stray_fault s)
       go None = refl
       go (Some a) =
-          ap (cond (is_pending a h.pending && takes_several a) []) (settle_fault_same s.rules s.args_override_self h)
+          ap (cond (is_pending a h.pending && takes_several a) [])
+          (settle_fault_same s.rules s.args_override_self h)
 
   turn_fault_same : (w : Walk) (word : Text) → turn_fault (moved_shape s) names w word
       ≡ turn_fault s names w word
@@ -516,7 +532,8 @@ module _ (word : Text) where
 -- the subcommand that is entered, with its rows
 pub entered_same : (a : App) (stop : Option (Text × List Text)) → entered (moved_app a) stop ≡ entered a stop
 entered_same a None = refl
-entered_same a (Some p) = ap (option_map (λ s. rows_at s p.1)) (shape_same p.0 a.subs) ∙ go (found_in p.0 a.subs)
+entered_same a (Some p) =
+    ap (option_map (λ s. rows_at s p.1)) (shape_same p.0 a.subs) ∙ go (found_in p.0 a.subs)
   where
     go : (o : Option Shape) → option_map (λ s. rows_at s p.1) (option_map moved_shape o)
         ≡ option_map (λ s. rows_at s p.1) o
@@ -541,7 +558,8 @@ pub fault_same : (a : App) (words : List Text) → built_fault (moved_app a) not
     ≡ built_fault a nothing_held words
 fault_same a words =
     ap (λ names. let stop = (walk a.top.rules names nothing_held words).stopped in
-    level_fault a.top names nothing_held words (is_some (entered (moved_app a) stop)) (entered_fault (moved_app a) stop))
+    level_fault a.top names nothing_held words (is_some (entered (moved_app a) stop))
+    (entered_fault (moved_app a) stop))
     (names_same a.subs)
     ∙ (let stop = (walk a.top.rules (names_of a) nothing_held words).stopped in
     ap₂ (λ o below. level_fault a.top (names_of a) nothing_held words (is_some o) below)

@@ -28,5 +28,6 @@ pub handed_on : {E : Type 0} (F : Type 0) (P : Command → Type 0) (Q : E → Ty
     (commands : Command)
     → IfOk all P → MatchResult all (λ x. ◌≡◌ {A = Result Command F} (Ok commands) (Ok x)) Q → true
     ≡ is_ok all → P commands
-handed_on F P Q (Ok x) commands holds same ok = subst P (sym (ap (λ r. result_unwrap_or r commands) same)) holds
+handed_on F P Q (Ok x) commands holds same ok =
+    subst P (sym (ap (λ r. result_unwrap_or r commands) same)) holds
 handed_on F P Q (Err e) commands holds cases ok = absurd (true≢false ok)

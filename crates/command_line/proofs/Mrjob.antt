@@ -92,7 +92,8 @@ named : (stop : Option (Text × List Text)) → is_some (entered (built mrjob) s
     → IsOneOf (option_map (λ p. p.0) (entered (built mrjob) stop)) (map (λ s. s.name) mrjob.subs)
 named None some other = cc
 named (Some p) some other =
-    named_before p.0 p.1 commands (built_leaf help_shape) (ap (λ b. b || false) (same_from_other p.0 (codes "help") other)) some
+    named_before p.0 p.1 commands (built_leaf help_shape)
+    (ap (λ b. b || false) (same_from_other p.0 (codes "help") other)) some
 
 -- the last checks pass only where a subcommand was met
 has_command : (rows : List Row) (has : Bool) → check_fault (built mrjob).top rows has ≡ [] → has ≡ true
@@ -126,7 +127,8 @@ IsNetworkWord t = (network : NetworkKind) × (t ≡ word_of network)
 -- of the commands, `plan` has the argument, which gets good texts
 abbrev PlanHas : Text → (Text → Type 0) → List Shape → Type 0
 PlanHas id IsGood =
-    Each (λ s. bytes_eq s.name (codes "plan") ≡ true → Each (GoodRule id IsGood) s.rules × (has_rule id s.rules ≡ true))
+    Each (λ s. bytes_eq s.name (codes "plan") ≡ true → Each (GoodRule id IsGood) s.rules
+    × (has_rule id s.rules ≡ true))
 
 some_kind : (k : ErrorKind) (kinds : Kinds) → ◌≡◌ {A = Kinds} (k ∷ kinds) [] → ⊥
 some_kind k kinds none = cc
@@ -171,7 +173,8 @@ network_values again (v ∷ vs) rows none =
     either (bytes_eq (codes "direct") v) (bytes_eq (codes "racks") v || false)
     (λ e. (Direct, sym ((bytes_eq-Decides (codes "direct") v).0 e)))
     (λ e. (Racks, sym ((bytes_eq-Decides (codes "racks") v).0 (or_false (bytes_eq (codes "racks") v) e))))
-    (first_passes 1 1 again (codes "network") (parser.Names (at_zero (map at_zero network_words))) v vs rows none)
+    (first_passes 1 1 again (codes "network")
+    (parser.Names (at_zero (map at_zero network_words))) v vs rows none)
   where
     or_false : (b : Bool) → (b || false) ≡ true → b ≡ true
     or_false true e = refl
@@ -183,7 +186,13 @@ plan_has_prices =
     let other : false ≡ true → ⊥ = λ e. true≢false (sym e) in (
       (λ e. absurd (other e)),
       (
-        (λ e. (((λ e. (refl, refl, flag_values, inr refl)), ((λ e. absurd (other e)), ((λ e. absurd (other e)), tt))), refl)),
+        (λ e. (
+          (
+            (λ e. (refl, refl, flag_values, inr refl)),
+            ((λ e. absurd (other e)), ((λ e. absurd (other e)), tt)),
+          ),
+          refl,
+        )),
         ((λ e. absurd (other e)), tt),
       ),
     )
@@ -195,7 +204,10 @@ plan_has_network =
       (λ e. absurd (other e)),
       (
         (λ e. (
-          ((λ e. absurd (other e)), ((λ e. (refl, refl, network_values, (Racks, refl))), ((λ e. absurd (other e)), tt))),
+          (
+            (λ e. absurd (other e)),
+            ((λ e. (refl, refl, network_values, (Racks, refl))), ((λ e. absurd (other e)), tt)),
+          ),
           refl,
         )),
         ((λ e. absurd (other e)), tt),
@@ -222,7 +234,8 @@ argument_read id IsGood has words none rows is =
         → entered_of words o ≡ Some (codes "plan", rows) → Finds id IsGood rows
     at_shape words None good none is = cc
     at_shape words (Some s) good none is =
-        let name : s.name ≡ codes "plan" = ap (λ (o : Option (Text × List Row)). (unwrap_or o (s.name, [])).0) is in
+        let name : s.name ≡ codes "plan" =
+        ap (λ (o : Option (Text × List Row)). (unwrap_or o (s.name, [])).0) is in
         let has = good ((bytes_eq-Decides s.name (codes "plan")).1 name) in
         subst (Finds id IsGood) (ap (λ (o : Option (Text × List Row)). (unwrap_or o (s.name, [])).1) is)
         (level_read id IsGood s [] has.0 words none has.1)
@@ -265,7 +278,8 @@ module _ (program : Command) (words : List Text) (told : IsTold mrjob_of (app_of
   faults_same =
       ap (λ a. fault_of a words) told.shape
       ∙ (sym (fault_same (built (mrjob_of told.choices)) (argument_words mrjob words))
-      ∙ ap (λ a. built_fault a nothing_held (argument_words mrjob words)) (as_at_zero told.choices told.words))
+      ∙ ap (λ a. built_fault a nothing_held (argument_words mrjob words))
+      (as_at_zero told.choices told.words))
 
   is_simple_told : is_simple (app_of program) ≡ true
   is_simple_told = ap is_simple told.shape ∙ is_simple_program told.choices
@@ -279,7 +293,8 @@ module _ (program : Command) (words : List Text) (told : IsTold mrjob_of (app_of
   subcommand_in m has =
       (has is_simple_told).1 ∙ (ap (λ a. subcommand_of a words) told.shape
       ∙ (sym (subcommand_same (built (mrjob_of told.choices)) (argument_words mrjob words))
-      ∙ ap (λ a. entered a (stop_after a.top.rules (names_of a) (argument_words mrjob words))) (as_at_zero told.choices told.words)))
+      ∙ ap (λ a. entered a (stop_after a.top.rules (names_of a) (argument_words mrjob words)))
+      (as_at_zero told.choices told.words)))
 
   -- the matches name the command that the words name
   found_in : (m : ArgMatches) → HasMatchesOf (app_of program) words m → subcommand_name_of m

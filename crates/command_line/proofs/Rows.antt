@@ -85,7 +85,8 @@ module _ (id : Text) (IsGood : Text → Type 0) where
       → (rows : List Row) → Each GoodRow rows → Each GoodRow (at_row other change missing rows)
   at_row_kept other change missing changed new [] all = new
   at_row_kept other change missing changed new (r ∷ rs) all =
-      go (bytes_eq r.id other) (λ same. changed r same all.0) (at_row_kept other change missing changed new rs all.1)
+      go (bytes_eq r.id other) (λ same. changed r same all.0)
+      (at_row_kept other change missing changed new rs all.1)
     where
       go : (b : Bool) → (b ≡ true → Each GoodRow (change r)) → Each GoodRow (at_row other change missing rs)
           → Each GoodRow (cond b (change r ++ rs) (r ∷ at_row other change missing rs))
@@ -103,7 +104,8 @@ module _ (id : Text) (IsGood : Text → Type 0) where
       → (rows : List Row) → Each GoodRow rows → Each GoodRow (with_count other how s n rows)
   with_count_kept other how s n differs rows all =
       at_row_kept other (new_count s n) _
-      (λ r same row. (λ is. absurd (differs (same_id other r.id same is)), tt)) (λ is. absurd (differs is), tt) rows all
+      (λ r same row. (λ is. absurd (differs (same_id other r.id same is)), tt))
+      (λ is. absurd (differs is), tt) rows all
 
   without_kept : (other : Text) (rows : List Row) → Each GoodRow rows → Each GoodRow (without other rows)
   without_kept other rows all = at_row_kept other (λ _. []) [] (λ r same row. tt) tt rows all
@@ -142,7 +144,8 @@ module _ (id : Text) (IsGood : Text → Type 0) where
   default_kept : (other : Text) (how : Reading) (values : List Text) → GoodValues other how values
       → (rows : List Row) → Each GoodRow rows → Each GoodRow (default_rows other how values rows)
   default_kept other how [] good rows all = all
-  default_kept other how (v ∷ vs) good rows all = with_values_kept other how DefaultValue (v ∷ vs) good rows all
+  default_kept other how (v ∷ vs) good rows all =
+      with_values_kept other how DefaultValue (v ∷ vs) good rows all
 
   with_default_kept : (a : Rule) → GoodRule a → (rows : List Row) → Each GoodRow rows
       → Each GoodRow (with_default rows a)
@@ -245,7 +248,8 @@ module _ (id : Text) (IsGood : Text → Type 0) where
       go : (b : Bool) → (b ≡ true → IsLed r.values × (r.reading ≡ AsWritten))
           → (has_row id rs ≡ true → Finds rs)
           → (b || has_row id rs) ≡ true → (text : Text) × IsGood text
-          × (option_and_then (λ r. slice_get r.values 0) (cond b (Some r) (find (λ x. bytes_eq x.id id) rs)) ≡ Some text)
+          × (option_and_then (λ r. slice_get r.values 0) (cond b (Some r) (find (λ x. bytes_eq x.id id) rs))
+          ≡ Some text)
           × (option_and_then row_text (cond b (Some r) (find (λ x. bytes_eq x.id id) rs)) ≡ Some text)
       go true row below e = first r.reading r.values (row refl).0 (row refl).1
       go false row below e = below e

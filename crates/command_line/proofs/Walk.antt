@@ -30,7 +30,8 @@ after_rows c waiting word h (waits id) = refl
 after_rows c waiting word h plain = plain_rows c waiting word h
 after_rows c waiting word h refused = plain_rows c waiting word h
 
-module _ (id : Text) (IsGood : Text → Type 0) (c : List Rule) (again : Bool) (good : Each (GoodRule id IsGood) c) where
+module _ (id : Text) (IsGood : Text → Type 0) (c : List Rule) (again : Bool)
+    (good : Each (GoodRule id IsGood) c) where
   -- the rows are good
   abbrev Kept : Held → Type 0
   Kept h = Each (GoodRow id IsGood) h.rows
@@ -114,7 +115,8 @@ module _ (id : Text) (IsGood : Text → Type 0) (c : List Rule) (again : Bool) (
   unfolding flags_fault bundle_met
   bundle_kept zero flags skip so_far h none all = all
   bundle_kept (suc k) flags skip so_far h none all =
-      bundle_step_kept (slice_get (chars flags) 0) flags skip so_far h (flags_fault c again k) (bundle_met c k)
+      bundle_step_kept (slice_get (chars flags) 0) flags skip so_far h (flags_fault c again k)
+      (bundle_met c k)
       (bundle_kept k) none all
 
   after_kept : (waiting : Waiting) (word : Text) (h : Held) (o : Outcome) → Kept h
@@ -122,12 +124,14 @@ module _ (id : Text) (IsGood : Text → Type 0) (c : List Rule) (again : Bool) (
   after_kept waiting word h o all = subst (Each (GoodRow id IsGood)) (sym (after_rows c waiting word h o)) all
 
   short_word_kept : (waiting : Waiting) (word : Text) (o : Option Text) (h : Held)
-      → option_map_or (λ flags. flags_fault c again (length flags) flags h.skip (record h { skip = 0 })) o [] ≡ []
+      → option_map_or (λ flags. flags_fault c again (length flags) flags h.skip (record h { skip = 0 })) o []
+      ≡ []
       → Kept h → Kept (short_or_plain c waiting word o h).0
   short_word_kept waiting word None h none all =
       subst (Each (GoodRow id IsGood)) (sym (plain_rows c waiting word h)) all
   short_word_kept waiting word (Some flags) h none all =
-      after_kept waiting word _ _ (bundle_kept (length flags) flags h.skip plain (record h { skip = 0 }) none all)
+      after_kept waiting word _ _
+      (bundle_kept (length flags) flags h.skip plain (record h { skip = 0 }) none all)
 
   flag_word_kept : (waiting : Waiting) (word : Text) (o : Option (Text × Option Text)) (h : Held)
       → flag_word_fault c again o word h ≡ [] → Kept h → Kept (long_or_other c waiting word o h).0
@@ -145,7 +149,8 @@ module _ (id : Text) (IsGood : Text → Type 0) (c : List Rule) (again : Bool) (
       go true none = all
       go false none = settled_kept h none all
 
-module _ (id : Text) (IsGood : Text → Type 0) (s : Shape) (names : Names) (good : Each (GoodRule id IsGood) s.rules) where
+module _ (id : Text) (IsGood : Text → Type 0) (s : Shape) (names : Names)
+    (good : Each (GoodRule id IsGood) s.rules) where
   abbrev IsKept : Walk → Type 0
   IsKept w = Each (GoodRow id IsGood) w.held.rows
 
@@ -156,7 +161,8 @@ module _ (id : Text) (IsGood : Text → Type 0) (s : Shape) (names : Names) (goo
   other_kept None waiting position word h none all = go (bytes_eq word (45 ∷ 45 ∷ [])) none
     where
       go : (b : Bool)
-          → ◌≡◌ {A = Kinds} (cond b [] (flag_word_fault s.rules s.args_override_self (long_of word) word h)) []
+          → ◌≡◌ {A = Kinds}
+          (cond b [] (flag_word_fault s.rules s.args_override_self (long_of word) word h)) []
           → Each (GoodRow id IsGood) (cond b (h, trailing position)
           (long_or_other s.rules waiting word (long_of word) h)).0.rows
       go true none = all
@@ -210,4 +216,5 @@ module _ (id : Text) (IsGood : Text → Type 0) (s : Shape) (names : Names) (goo
       let last = no_fault (settle_fault s.rules s.args_override_self end) _ first.1 in
       let held = walk_kept (walk_from nothing_held) words first.0 tt in
       let settles = settled_kept id IsGood s.rules s.args_override_self good end last.0 held in
-      rows_read id IsGood _ (defaults_kept id IsGood s.rules good _ settles) (has_default id IsGood s.rules good has _)
+      rows_read id IsGood _ (defaults_kept id IsGood s.rules good _ settles)
+      (has_default id IsGood s.rules good has _)

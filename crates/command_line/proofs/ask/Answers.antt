@@ -65,7 +65,8 @@ pub network_named-requires : goal.network_named-requires
 network_named-requires c =
     let told = handed_on AskError IsMrjob _ c.all_commands.result _ c.all_commands.ensures
     c.in_ok-commands.ensures.cases c.in_ok-commands.ensures.variant in
-    let found = found_argument c.in_ok-commands.commands _ told (codes "network") IsNetworkWord plan_has_network
+    let found = found_argument c.in_ok-commands.commands _ told
+    (codes "network") IsNetworkWord plan_has_network
     c.in-Ok.matches c.in-Ok.ensures.matches c.in-Ok.ensures.kinds c.in-Some.options.now c.in-Some.ensures.rows
     _ c.in-Some.ensures.name (search rules) in
     (found.1.0, found.2 ∙ ap Some found.1.1)
@@ -74,7 +75,8 @@ pub returns-in-plan-clause-network : goal.returns-in-plan-clause-network
 returns-in-plan-clause-network c =
     let told = handed_on AskError IsMrjob _ c.all_commands.result _ c.all_commands.ensures
     c.in_ok-commands.ensures.cases c.in_ok-commands.ensures.variant in
-    let found = found_argument c.in_ok-commands.commands _ told (codes "network") IsNetworkWord plan_has_network
+    let found = found_argument c.in_ok-commands.commands _ told
+    (codes "network") IsNetworkWord plan_has_network
     c.in-Ok.matches c.in-Ok.ensures.matches c.in-Ok.ensures.kinds c.in-Some.options.now c.in-Some.ensures.rows
     _ c.in-Some.ensures.name (search rules) in
     λ options is. found.4 ∙ sym found.2 ∙ c.network_named.ensures

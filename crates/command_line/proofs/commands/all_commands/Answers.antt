@@ -8,7 +8,8 @@ use Rattle.command_line.proofs.commands.all_commands.Goals as goal
 pub returns : goal.returns
 returns c =
     let is_program : app_of c.subcommand_required.result ≡ program = search rules in
-    let with_check = added _ _ _ program check c.in_ok-subcommand.ensures is_program c.check_command.ensures refl in
+    let with_check = added _ _ _ program check c.in_ok-subcommand.ensures is_program
+    c.check_command.ensures refl in
     let plan : IsTold plan_of (app_of c.in_ok-plan.plan) = c.in_ok-plan.ensures in
     IfOk-weaker c.subcommand-2.result _ _ (λ commands adds. record {
       choices = plan.choices;

@@ -15,5 +15,6 @@ returns c =
       choices = c.as_slice.result;
       words = words;
       shape = adds.shape (search rules)
-          ∙ ap₂ with_rule (c.in_ok-arg.ensures.shape (search rules) ∙ ap₂ with_rule plan_is prices_is) network_is;
+          ∙ ap₂ with_rule (c.in_ok-arg.ensures.shape (search rules)
+          ∙ ap₂ with_rule plan_is prices_is) network_is;
     }) c.arg-2.ensures
