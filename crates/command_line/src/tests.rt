@@ -186,7 +186,10 @@ fn help_is_no_usage(rt: HostRuntime) {
         (&["mrjob", "check", "--help"], "Input:"),
         (&["mrjob", "help", "check"], "Input:"),
         (&["mrjob", "plan", "--help"], "--prices"),
-        (&["mrjob", "plan", "--help"], "XX"),
+        (
+            &["mrjob", "plan", "--help"],
+            "[default: racks] [possible values: direct, racks]",
+        ),
         (&["mrjob", "help", "plan"], "price a 0"),
     ];
     for (words, part) in helps {
