@@ -3,8 +3,8 @@
 # the same networks: LEMON's NetworkSimplex, and plain successive shortest paths. Each is timed as a whole
 # process that reads the same problem text. One table is printed: the least of five runs each, in microseconds
 # (of fewer, once they have taken two seconds together), and how many times the others' time on the same
-# network mrjob takes. All must answer the same count and cost. Where bin/mrjob has no option for the direct
-# network, `-` stands in its place. It needs a C++ compiler, and installs liblemon-dev where it is missing.
+# network mrjob takes. All must answer the same count and cost. It needs a C++ compiler, and installs liblemon-dev
+# where it is missing.
 set -euo pipefail
 cd "$(dirname "$0")/.."
 if [ ! -e /usr/include/lemon/network_simplex.h ]; then
@@ -17,8 +17,7 @@ g++ -std=c++17 -O2 -o "$room/plan_by_paths" bench/plan_by_paths.cc
 
 run() { # PROGRAM NETWORK
     case "$1 $2" in
-        "mrjob racks") bin/mrjob plan ;;
-        "mrjob direct") bin/mrjob plan --network direct ;;
+        mrjob*) bin/mrjob plan --network "$2" ;;
         lemon*) "$room/plan_by_lemon" "$2" ;;
         plain*) "$room/plan_by_paths" "$2" ;;
     esac
@@ -27,10 +26,6 @@ run() { # PROGRAM NETWORK
 # The least time of a program on the text, in microseconds. Its answer must be that of all others.
 least() { # PROGRAM NETWORK
     local start spent answer least= total=0
-    if [ "$1 $2" = "mrjob direct" ] && [ -z "$has_direct" ]; then
-        echo -
-        return
-    fi
     for _ in 1 2 3 4 5; do
         start=${EPOCHREALTIME/./}
         run "$1" "$2" < "$room/text" > "$room/out" || return
@@ -49,12 +44,10 @@ least() { # PROGRAM NETWORK
 }
 
 ratio() { # OURS THEIRS
-    awk -v ours="$1" -v theirs="$2" 'BEGIN { if (ours == "-") print "-"; else printf "%.2f", ours / theirs }'
+    awk -v ours="$1" -v theirs="$2" 'BEGIN { printf "%.2f", ours / theirs }'
 }
 
 declare -A spent
-has_direct=
-if printf 'problem 1\nend\n' | bin/mrjob plan --network direct > /dev/null 2>&1; then has_direct=yes; fi
 printf '%-14s %17s %17s %17s %13s %13s\n' "" mrjob LEMON plain mrjob/LEMON mrjob/plain
 line='%-14s %8s %8s %8s %8s %8s %8s %6s %6s %6s %6s   %s\n'
 printf "$line" problem racks direct racks direct racks direct racks direct racks direct answer

@@ -1,3 +1,4 @@
 pub mod Answering
 pub mod Planning
 pub mod OneAnswer
+pub mod Written

@@ -14,6 +14,8 @@ use Rattle.plan_lines.specs.declared.purpose.Purpose.{Purpose}
 use Rattle.plan_lines.specs.declared.purpose.Purpose.TheVariants.{Checking}
 use Rattle.plan_text.specs.Value.{DeclaresWave, prices, starts}
 use Rattle.plan_text.specs.Report.{certified_line, fault_line, refused_line}
+use Rattle.plan_text.specs.declared.reader.ReadingError.{ReadingError}
+use Rattle.plan_text.specs.declared.reader.ReadingError.TheVariants as reading
 use Rattle.plan_text.specs.declared.tool_error.ToolError.{ToolError}
 use Rattle.plan_text.specs.declared.tool_error.ToolError.TheVariants.{Text}
 use Rattle.mrjob.specs.declared.check.CheckEnd.{CheckEnd}
@@ -52,6 +54,11 @@ pub record IsFaulty (purpose : Purpose) (text : List ℕ) (place : ℕ) (fault :
   pub least : IsLeastFault purpose text place fault
   pub said : line ≡ fault_line place fault
 
+-- the line names the fault for which a text could not be read, and the command ends with it
+abbrev pub TellsFault : ReadingError → ToolError → List ℕ → Type 0
+TellsFault (reading.Text fault) error line = (error ≡ Text fault) × (line ≡ fault_line fault.line fault.number)
+TellsFault reading.Memory error line = ⊥
+
 -- the line with which a check ends so
 abbrev pub Answers : List ℕ → Result CheckEnd ToolError → List ℕ → Type 0
 Answers text (Ok end) line = AnswersRead text end line
@@ -62,3 +69,9 @@ Answers text (Err _) line = ⊥
 pub record IsSomeAnswer (text line : List ℕ) : Type 0 where
   pub end : Result CheckEnd ToolError
   pub answers : Answers text end line
+
+-- the text has been answered: memory was found, and no stream failed
+abbrev pub HasAnswered : Result CheckEnd ToolError → Type 0
+HasAnswered (Ok end) = Unit {0}
+HasAnswered (Err (Text fault)) = Unit {0}
+HasAnswered (Err _) = ⊥

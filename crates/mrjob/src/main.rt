@@ -6,16 +6,18 @@
 #![tactic(auto)]
 
 mod check;
+mod faults;
 mod plan;
 #[cfg(test)]
 mod testing;
 
-use crate::check::{CheckEnd, check};
+use crate::check::{CheckEnd, check_on};
 use crate::plan::{PlanEnd, plan};
 use command_line::ask;
 use command_line::asked::{Ask, AskError, PlanOptions};
 use plan_text::ToolError;
 use std::process::ExitCode;
+use std::thread::Threads;
 use std::{env, io};
 
 const NO_MEMORY: u8 = 3;
@@ -25,13 +27,14 @@ const READ_OR_WRITE: u8 = 4;
 const USAGE: u8 = 64;
 
 fn main(rt: HostRuntime) -> ExitCode {
-    ExitCode::from(run(&rt))
+    ExitCode::from(run(&rt, &rt))
 }
 
-// The status with which the program exits.
-fn run(rt: &HostRuntime) -> u8 {
+// The status with which the program exits. Only `main` can say that its runtime starts threads, so what
+// does is handed on beside it.
+fn run(rt: &HostRuntime, threads: &(impl Threads + Sync)) -> u8 {
     match given_words(rt) {
-        Ok(given) => answer(rt, &given),
+        Ok(given) => answer(rt, threads, &given),
         Err(error) if error.kind() == io::ErrorKind::OutOfMemory => fail(
             rt,
             NO_MEMORY,
@@ -49,7 +52,7 @@ fn given_words(rt: &HostRuntime) -> io::Result<Vec<String>> {
     Ok(given)
 }
 
-fn answer(rt: &HostRuntime, given: &Vec<String>) -> u8 {
+fn answer(rt: &HostRuntime, threads: &(impl Threads + Sync), given: &Vec<String>) -> u8 {
     let mut words = Vec::new(rt.alloc());
     for word in given {
         if words.push(word.as_str()).is_err() {
@@ -57,7 +60,7 @@ fn answer(rt: &HostRuntime, given: &Vec<String>) -> u8 {
         }
     }
     match ask(rt.alloc(), words.as_slice()) {
-        Ok(Ask::Check) => run_check(rt),
+        Ok(Ask::Check) => run_check(rt, threads),
         Ok(Ask::Plan(options)) => run_plan(rt, options),
         Err(AskError::Memory) => fail(rt, NO_MEMORY, "mrjob: no memory"),
         Err(AskError::Fault(error)) => {
@@ -67,8 +70,8 @@ fn answer(rt: &HostRuntime, given: &Vec<String>) -> u8 {
     }
 }
 
-fn run_check(rt: &HostRuntime) -> u8 {
-    match check(rt.alloc(), &mut rt.stdin(), &mut rt.stdout()) {
+fn run_check(rt: &HostRuntime, threads: &(impl Threads + Sync)) -> u8 {
+    match check_on(threads, rt.alloc(), &mut rt.stdin(), &mut rt.stdout()) {
         Ok(CheckEnd::Certified) => 0,
         Ok(CheckEnd::Refused) => 1,
         Err(error) => status_of(rt, error),

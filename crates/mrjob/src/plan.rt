@@ -5,14 +5,14 @@ ghost use Rattle.text_lines.specs.declared.streams.TheConstants.{MOST_BYTES};
 ghost use Rattle.mrjob.specs.Planned.{Answers, IsSomeAnswer, PlansProblem};
 ghost use Rattle.mrjob.specs.Writing.{Wrote, WroteFront};
 
+use crate::faults::fault_answer;
 use command_line::asked::PlanOptions;
 use plan_text::plan_report::{add_prices, planned};
-use plan_text::report::faulty;
-use plan_text::{ProblemText, ReadingError, ToolError, read_problem};
+use plan_text::{ProblemText, ToolError, read_problem};
 use std::alloc::{AllocError, Global};
 use std::io::{Read, Write};
-use text_lines::{ReadError, read_text, write_text};
-use wave_planner::PlanError;
+use text_lines::{read_text, write_text};
+use wave_planner::{PlanError, plan_with};
 
 /// How planning ends that was written.
 #[derive(Clone, Copy, Debug, PartialEq, Eq)]
@@ -44,18 +44,9 @@ pub fn plan<R: Read, W: Write>(
         WroteFront (W.contents writer.old) (W.contents writer.new)
         (IsSomeAnswer (take MOST_BYTES input) options.prices)) }
 {
-    let text = match read_text(alloc, reader) {
-        Ok(text) => text,
-        Err(ReadError::Memory) => return Err(ToolError::Memory),
-        Err(ReadError::Read) => return Err(ToolError::Read),
-    };
-    let (lines, end) = match answer(alloc, text.as_slice(), options) {
-        Ok(answer) => answer,
-        Err(_) => return Err(ToolError::Memory),
-    };
-    if write_text(writer, lines.as_bytes()).is_err() {
-        return Err(ToolError::Write);
-    }
+    let text = read_text(alloc, reader)?;
+    let (lines, end) = answer(alloc, text.as_slice(), options)?;
+    write_text(writer, lines.as_bytes())?;
     end
 }
 
@@ -69,8 +60,10 @@ fn answer(
 {
     match read_problem(alloc, text) {
         Ok(read) => Ok((plan_lines(alloc, &read, options)?, Ok(PlanEnd::Planned))),
-        Err(ReadingError::Text(fault)) => Ok((faulty(alloc, fault)?, Err(ToolError::Text(fault)))),
-        Err(ReadingError::Memory) => Err(AllocError),
+        Err(error) => {
+            let (line, error) = fault_answer(alloc, error)?;
+            Ok((line, Err(error)))
+        }
     }
 }
 
@@ -87,7 +80,7 @@ fn plan_lines(
 {
     // (what these readers promise: there are few workers, and no price is past what can be read back)
     let _limits = (read.problem.workers(), read.problem.reward());
-    let best = match wave_planner::plan(alloc, &read.problem) {
+    let best = match plan_with(alloc, &read.problem, options.network) {
         Ok(best) => best,
         Err(PlanError::Memory) => return Err(AllocError),
     };

@@ -9,9 +9,20 @@ const STARTS: &str = "plan/start s b/start t a/";
 
 const PRICES: &str = "price s 101/price t 91/price a 30/price b 0/end/";
 
+// How a text is checked: by `check` or by `check_on`.
+#[derive(Clone, Copy, Debug)]
+enum Way {
+    OneThread,
+    ManyThreads,
+}
+
+const WAYS: [Way; 2] = [Way::OneThread, Way::ManyThreads];
+
 // What a check of the text writes, and how it ends.
 fn checked(
+    rt: &(impl Threads + Sync),
     alloc: Global,
+    way: Way,
     text: &[u8],
     fails_at: usize,
     room: usize,
@@ -25,26 +36,37 @@ fn checked(
         taken: Vec::new(alloc),
         room,
     };
-    let end = check(alloc, &mut source, &mut sink);
+    let end = match way {
+        Way::OneThread => check(alloc, &mut source, &mut sink),
+        Way::ManyThreads => check_on(rt, alloc, &mut source, &mut sink),
+    };
     (sink, end)
 }
 
-// The text's parts are answered by this line.
-fn expect(rt: &impl Abort, alloc: Global, parts: [&str; 3], line: &str) -> Result<(), Fail> {
+// The text's parts are answered by this line, in both ways.
+fn expect(
+    rt: &(impl Abort + Threads + Sync),
+    alloc: Global,
+    parts: [&str; 3],
+    line: &str,
+) -> Result<(), Fail> {
     let text = text_of(alloc, parts)?;
-    let (sink, end) = checked(alloc, &text, 0, 100);
-    assert_eq!(rt;
-        sink.taken.as_slice(),
-        text_of(alloc, [line, "/", ""])?.as_slice(),
-        "{line}"
-    );
-    match end {
-        Ok(CheckEnd::Certified) => assert!(rt; line.starts_with("certified"), "{line}"),
-        Ok(CheckEnd::Refused) => assert!(rt; line.starts_with("refused"), "{line}"),
-        Err(error) => assert!(rt;
-            matches!(error, ToolError::Text(_)) && line.starts_with("line"),
-            "{line}"
-        ),
+    let written = text_of(alloc, [line, "/", ""])?;
+    for way in WAYS {
+        let (sink, end) = checked(rt, alloc, way, &text, 0, 100);
+        assert_eq!(rt;
+            sink.taken.as_slice(),
+            written.as_slice(),
+            "{line}, {way:?}"
+        );
+        match end {
+            Ok(CheckEnd::Certified) => assert!(rt; line.starts_with("certified"), "{line}"),
+            Ok(CheckEnd::Refused) => assert!(rt; line.starts_with("refused"), "{line}"),
+            Err(error) => assert!(rt;
+                matches!(error, ToolError::Text(_)) && line.starts_with("line"),
+                "{line}"
+            ),
+        }
     }
     Ok(())
 }
@@ -256,10 +278,12 @@ fn bad_lines_have_a_fault(rt: HostRuntime) -> Result<(), Fail> {
 #[test]
 fn a_reader_that_fails_gets_nothing_written(rt: HostRuntime) -> Result<(), Fail> {
     let text = text_of(rt.alloc(), [HEAD, STARTS, PRICES])?;
-    for call in 1..=text.len() + 1 {
-        let (sink, end) = checked(rt.alloc(), &text, call, 100);
-        assert_eq!(rt; end, Err(ToolError::Read), "call {call}");
-        assert!(rt; sink.taken.is_empty(), "call {call}");
+    for way in WAYS {
+        for call in 1..=text.len() + 1 {
+            let (sink, end) = checked(&rt, rt.alloc(), way, &text, call, 100);
+            assert_eq!(rt; end, Err(ToolError::Read), "call {call}, {way:?}");
+            assert!(rt; sink.taken.is_empty(), "call {call}, {way:?}");
+        }
     }
     Ok(())
 }
@@ -267,14 +291,16 @@ fn a_reader_that_fails_gets_nothing_written(rt: HostRuntime) -> Result<(), Fail>
 #[test]
 fn a_writer_that_fails_has_the_front(rt: HostRuntime) -> Result<(), Fail> {
     let text = text_of(rt.alloc(), [HEAD, STARTS, PRICES])?;
-    for room in 0..15 {
-        let (sink, end) = checked(rt.alloc(), &text, 0, room);
-        assert_eq!(rt; end, Err(ToolError::Write), "room for {room}");
-        assert_eq!(rt; sink.taken.len(), room);
-        assert!(rt;
-            b"certified 2 20\n".starts_with(sink.taken.as_slice()),
-            "room for {room}"
-        );
+    for way in WAYS {
+        for room in 0..15 {
+            let (sink, end) = checked(&rt, rt.alloc(), way, &text, 0, room);
+            assert_eq!(rt; end, Err(ToolError::Write), "room for {room}, {way:?}");
+            assert_eq!(rt; sink.taken.len(), room);
+            assert!(rt;
+                b"certified 2 20\n".starts_with(sink.taken.as_slice()),
+                "room for {room}, {way:?}"
+            );
+        }
     }
     Ok(())
 }

@@ -3,6 +3,7 @@ use crate::check::{CheckEnd, check};
 use crate::testing::{Sink, Source, text_of};
 use std::process::Abort;
 use std::test::Fail;
+use wave_planner::NetworkKind;
 
 const HEAD: &str = "problem 1/rack r/worker a r 1/worker b r 1/split s 10 a/split t 20 a/";
 
@@ -10,7 +11,7 @@ const HEAD: &str = "problem 1/rack r/worker a r 1/worker b r 1/split s 10 a/spli
 fn written(
     alloc: Global,
     text: &[u8],
-    prices: bool,
+    options: PlanOptions,
     fails_at: usize,
     room: usize,
 ) -> (Sink, Result<PlanEnd, ToolError>) {
@@ -23,11 +24,21 @@ fn written(
         taken: Vec::new(alloc),
         room,
     };
-    let end = plan(alloc, &mut source, &mut sink, PlanOptions { prices });
+    let end = plan(alloc, &mut source, &mut sink, options);
     (sink, end)
 }
 
-// The text is answered by these lines.
+const NETWORKS: [NetworkKind; 2] = [NetworkKind::Direct, NetworkKind::Racks];
+
+// The options of a plan over racks.
+fn over_racks(prices: bool) -> PlanOptions {
+    PlanOptions {
+        prices,
+        network: NetworkKind::Racks,
+    }
+}
+
+// The text is answered by these lines, over both networks.
 fn expect(
     rt: &impl Abort,
     alloc: Global,
@@ -36,18 +47,21 @@ fn expect(
     lines: &str,
 ) -> Result<(), Fail> {
     let text = text_of(alloc, [text, "", ""])?;
-    let (sink, end) = written(alloc, &text, prices, 0, 1000);
-    assert_eq!(rt;
-        sink.taken.as_slice(),
-        text_of(alloc, [lines, "", ""])?.as_slice(),
-        "{lines}"
-    );
-    match end {
-        Ok(PlanEnd::Planned) => assert!(rt; lines.starts_with("wave"), "{lines}"),
-        Err(error) => assert!(rt;
-            matches!(error, ToolError::Text(_)) && lines.starts_with("line"),
-            "{lines}"
-        ),
+    let answer = text_of(alloc, [lines, "", ""])?;
+    for network in NETWORKS {
+        let (sink, end) = written(alloc, &text, PlanOptions { prices, network }, 0, 1000);
+        assert_eq!(rt;
+            sink.taken.as_slice(),
+            answer.as_slice(),
+            "{lines}, {network:?}"
+        );
+        match end {
+            Ok(PlanEnd::Planned) => assert!(rt; lines.starts_with("wave"), "{lines}"),
+            Err(error) => assert!(rt;
+                matches!(error, ToolError::Text(_)) && lines.starts_with("line"),
+                "{lines}"
+            ),
+        }
     }
     Ok(())
 }
@@ -130,7 +144,7 @@ fn a_text_to_plan_from_has_no_plan(rt: HostRuntime) -> Result<(), Fail> {
 fn a_check_certifies_what_was_planned(rt: HostRuntime) -> Result<(), Fail> {
     let alloc = rt.alloc();
     let text = text_of(alloc, [HEAD, "end/", ""])?;
-    let (sink, end) = written(alloc, &text, true, 0, 1000);
+    let (sink, end) = written(alloc, &text, over_racks(true), 0, 1000);
     assert_eq!(rt; end, Ok(PlanEnd::Planned));
     let mut whole = text_of(alloc, [HEAD, "plan/", ""])?;
     let first = text_of(alloc, ["wave 2 20/", "", ""])?;
@@ -159,7 +173,7 @@ fn a_check_certifies_what_was_planned(rt: HostRuntime) -> Result<(), Fail> {
 fn a_reader_that_fails_gets_nothing_written(rt: HostRuntime) -> Result<(), Fail> {
     let text = text_of(rt.alloc(), [HEAD, "end/", ""])?;
     for call in 1..=text.len() + 1 {
-        let (sink, end) = written(rt.alloc(), &text, true, call, 1000);
+        let (sink, end) = written(rt.alloc(), &text, over_racks(true), call, 1000);
         assert_eq!(rt; end, Err(ToolError::Read), "call {call}");
         assert!(rt; sink.taken.is_empty(), "call {call}");
     }
@@ -171,7 +185,7 @@ fn a_writer_that_fails_has_the_front(rt: HostRuntime) -> Result<(), Fail> {
     let text = text_of(rt.alloc(), [HEAD, "end/", ""])?;
     let lines = text_of(rt.alloc(), ["wave 2 20/start s b/start t a/", "", ""])?;
     for room in 0..lines.len() {
-        let (sink, end) = written(rt.alloc(), &text, false, 0, room);
+        let (sink, end) = written(rt.alloc(), &text, over_racks(false), 0, room);
         assert_eq!(rt; end, Err(ToolError::Write), "room for {room}");
         assert_eq!(rt; sink.taken.len(), room);
         assert!(rt; lines.starts_with(sink.taken.as_slice()), "room for {room}");

@@ -16,7 +16,7 @@ returns c =
     let made = claim v.problem best.plan.starts best.prices in
     let as_said = c.certified-said.ensures.certified in
     let front = front_of v.splits v.workers made c.certified-said.result.count c.certified-said.result.cost
-    c.plan-2.result.now.starts (string_bytes c.in_ok-lines.lines) (ap (λ (p : Plan). p.starts) c.plan-2.ensures)
+    c.plan.result.now.starts (string_bytes c.in_ok-lines.lines) (ap (λ (p : Plan). p.starts) c.plan.ensures)
     (ap (λ (s : Certified). s.count) as_said ∙ c.in-Ok.ensures.count)
     (ap (λ (s : Certified). s.cost) as_said ∙ c.in-Ok.ensures.cost) c.in_ok-lines.ensures in
     plans_problem c.args.options.prices v.splits v.workers made _ (string_bytes c.if-options.lines)
