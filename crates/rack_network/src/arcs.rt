@@ -7,6 +7,7 @@ ghost use Rattle.rack_network.specs.Layout.{is_node, place_of};
 ghost use Rattle.rack_network.specs.Racks.{arc_of, node_above, slots_below, slots_of, IsWanted};
 
 use crate::RackNode;
+use network_prices::pending_count;
 use node_ids::{RackNo, SplitNo, WorkerNo};
 use wave_problem::Problem;
 
@@ -124,18 +125,4 @@ fn slots_below(problem: &Problem, rack: RackNo) -> u64
         }
     }
     slots
-}
-
-/// How many splits are pending.
-fn pending_count(problem: &Problem) -> u64
-    ensures count { result ≡ length (pending_splits problem.now) }
-    ensures limit { result ≤ MAX_SPLITS }
-{
-    let mut count = 0;
-    for i in 0..problem.splits() {
-        if problem.is_pending(SplitNo::new(i as u16)) {
-            count += 1;
-        }
-    }
-    count
 }

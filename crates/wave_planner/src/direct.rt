@@ -8,6 +8,7 @@ ghost use Rattle.network_prices.specs.Pending.{pending_splits};
 ghost use Rattle.wave_planner.specs.Prices.{DirectPricesCertify};
 
 use crate::DirectNode;
+use network_prices::pending_count;
 use node_ids::{SplitNo, WorkerNo};
 use wave_problem::Problem;
 
@@ -72,20 +73,6 @@ impl DirectArc {
             DirectArc::Rest => pending_count(problem),
         }
     }
-}
-
-/// How many splits are pending.
-fn pending_count(problem: &Problem) -> u64
-    ensures count { result ≡ length (pending_splits problem.now) }
-    ensures limit { result ≤ MAX_SPLITS }
-{
-    let mut count = 0;
-    for i in 0..problem.splits() {
-        if problem.is_pending(SplitNo::new(i as u16)) {
-            count += 1;
-        }
-    }
-    count
 }
 
 /// The prices read off a least-cost flow of the direct network certify the plan read off it, by linear duality

@@ -1,11 +1,10 @@
 //! Reads the prices off the potentials of a least-cost flow.
 ghost use Rattle.std.specs.Prelude.{◌≡◌, ℕ, ◌+◌, ◌<◌, length, slice_index, IfOk};
-ghost use Rattle.wave_problem.specs.Wave.{reward};
 ghost use Rattle.wave_planner.specs.Prices.{ArePrices};
-ghost use Rattle.network_prices.specs.Pricing.{IsSplitPrice};
 ghost use Rattle.wave_planner.specs.Pricing.{IsSlotPrice};
 
-use node_ids::{SplitNo, WorkerNo};
+use network_prices::split_prices;
+use node_ids::WorkerNo;
 use price_certificate::Prices;
 use shortest_paths::Potentials;
 use std::alloc::{AllocError, Global};
@@ -52,46 +51,5 @@ fn slot_price(problem: &Problem, depths: &[u64], worker: WorkerNo) -> u64
         depths[problem.splits() + worker.index()]
     } else {
         0
-    }
-}
-
-/// The price of each split, by the prices of the workers.
-fn split_prices(
-    alloc: Global,
-    problem: &Problem,
-    plan: &Plan,
-    workers: &[u64],
-) -> Result<Vec<u64>, AllocError>
-    requires starts { length plan.now.starts ≡ length problem.now.splits }
-    requires known { plan.now.workers ≡ length problem.now.workers }
-    requires workers { length workers.now ≡ length problem.now.workers }
-    ensures size { IfOk result (λ prices. length prices.items ≡ length problem.now.splits) }
-    ensures each { IfOk result (λ prices. (s : ℕ) → s < length problem.now.splits
-        → IsSplitPrice problem.now workers.now plan.now.starts s (slice_index prices.items s)) }
-{
-    let worth = problem.reward();
-    let mut prices = Vec::new(alloc);
-    for i in 0..problem.splits() {
-        prices.push(split_price(problem, plan, workers, worth, SplitNo::new(i as u16)))?;
-    }
-    Ok(prices)
-}
-
-fn split_price(problem: &Problem, plan: &Plan, workers: &[u64], worth: u64, split: SplitNo) -> u64
-    requires split { split < length problem.now.splits }
-    requires starts { length plan.now.starts ≡ length problem.now.splits }
-    requires known { plan.now.workers ≡ length problem.now.workers }
-    requires workers { length workers.now ≡ length problem.now.workers }
-    requires worth { worth ≡ reward problem.now }
-    ensures { IsSplitPrice problem.now workers.now plan.now.starts split result }
-{
-    match plan.of(split) {
-        Some(worker) => {
-            let cost = problem.cost(split, worker).unwrap_or(0);
-            worth
-                .saturating_sub(workers[worker.index()])
-                .saturating_sub(cost)
-        }
-        None => 0,
     }
 }
