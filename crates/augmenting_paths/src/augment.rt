@@ -9,10 +9,10 @@ use node_ids::Layout;
 use shortest_paths::{Buffers, Distances, Potentials, distances_to};
 use std::alloc::{AllocError, Global};
 
-/// Ships one unit from each source to the sink, at the least total cost, by successive shortest paths (Ahuja,
-/// Magnanti and Orlin, Network Flows, section 9.7), one augmentation a source. It answers the potentials that
-/// show it: the sink's is 0, and no residual arc has a negative reduced cost. Only memory can fail, and then the
-/// network may hold part of the flow.
+/// Ships one unit from each source to the sink, at the least total cost, by successive shortest paths
+/// (Ahuja, Magnanti and Orlin, Network Flows, section 9.7), one augmentation a source. It answers the
+/// potentials that show it: the sink's is 0, and no residual arc has a negative reduced cost. Only memory
+/// can fail, and then the network may hold part of the flow.
 pub fn saturate<L: Layout>(
     alloc: Global,
     network: &mut Network<L>,
@@ -53,8 +53,8 @@ pub fn saturate<L: Layout>(
     Ok(potentials)
 }
 
-/// Ships the unit of the source of this number along a least path, and lowers the potentials. The buffers come
-/// back for the next unit.
+/// Ships the unit of the source of this number along a least path, and lowers the potentials. The buffers
+/// come back for the next unit.
 fn ship<L: Layout>(
     alloc: Global,
     network: &mut Network<L>,
@@ -106,8 +106,8 @@ fn shortfall(total: u64, distance: Option<u64>) -> u64
     }
 }
 
-/// Lowers each potential by what the node's distance lacks of the sink's; that is nothing where the sink is at
-/// distance 0.
+/// Lowers each potential by what the node's distance lacks of the sink's; that is nothing where the sink
+/// is at distance 0.
 fn lower_all(potentials: &mut Potentials, found: &Distances, nodes: usize, total: u64)
     requires nodes { nodes ≡ length potentials.old }
     requires found { nodes ≡ length found.now }

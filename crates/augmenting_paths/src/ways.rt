@@ -10,8 +10,8 @@ use std::alloc::{AllocError, Global};
 /// How many units `saturate` ships at most.
 pub const MAX_SOURCES: usize = 4096;
 
-/// Whether `saturate` may be called: each clause that it requires is tested. The test takes time in proportion
-/// to the arcs times the sources; a caller that knows its network need not make it.
+/// Whether `saturate` may be called: each clause that it requires is tested. The test takes time in
+/// proportion to the arcs times the sources; a caller that knows its network need not make it.
 pub fn can_ship<L: Layout>(
     alloc: Global,
     network: &Network<L>,

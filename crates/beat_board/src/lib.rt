@@ -1,18 +1,18 @@
 //! A board of beats: one word for each worker, which is the sum of the beats of its seats.
 //!
-//! Each thread that beats for a worker has a `Seat`, and each that looks has a `Reader`; the thread that made the
-//! board keeps the `Maker`. A beat is one atomic addition and a look one atomic load, so neither waits for anybody.
-//! Upward the layer promises: a beat answers at least the seat's own count; the looks of one reader at one worker
-//! never fall; `close` answers for each worker the sum of the beats that its seats made, or how many seats are still
-//! out. The rule under which the threads' steps go together is `specs/Rule.antt`: at every moment each word is the
-//! sum of the counts over what all threads know. It stands on the words of `atomic_table`, on `view_sums` and on the
-//! numbers of `node_ids`.
+//! Each thread that beats for a worker has a `Seat`, and each that looks has a `Reader`; the thread that
+//! made the board keeps the `Maker`. A beat is one atomic addition and a look one atomic load, so neither
+//! waits for anybody. Upward the layer promises: a beat answers at least the seat's own count; the looks
+//! of one reader at one worker never fall; `close` answers for each worker the sum of the beats that its
+//! seats made, or how many seats are still out. The rule under which the threads' steps go together is
+//! `specs/Rule.antt`: at every moment each word is the sum of the counts over what all threads know. It
+//! stands on the words of `atomic_table`, on `view_sums` and on the numbers of `node_ids`.
 //!
 //! # How the layer above uses it
-//! The calling thread makes board and maker, hands each worker's thread a seat, and keeps a reader. A thread that
-//! ends gives its seat back by its join, and `close` takes them all. A contract tells what a seat made by its value
-//! `{ board; worker; beats }`, so a caller proves what the totals are, whatever order the threads beat in. The
-//! crate's tests prove this one, in which two threads beat for one worker:
+//! The calling thread makes board and maker, hands each worker's thread a seat, and keeps a reader. A
+//! thread that ends gives its seat back by its join, and `close` takes them all. A contract tells what a
+//! seat made by its value `{ board; worker; beats }`, so a caller proves what the totals are, whatever
+//! order the threads beat in. The crate's tests prove this one, in which two threads beat for one worker:
 //!
 //! ```text
 //! // So many beats of the seat.

@@ -113,7 +113,8 @@ fn beat_and_look<R: Threads + Sync>(
     )
 }
 
-/// Two threads beat a thousand times each for one worker, and a third looks on. The seats come back one by one.
+/// Two threads beat a thousand times each for one worker, and a third looks on. The seats come back one
+/// by one.
 #[test]
 fn two_threads_beat_for_one_worker(rt: HostRuntime) -> Result<(), Fail> {
     let worker = WorkerNo::new(0);

@@ -1,8 +1,8 @@
 ghost use Rattle.std.specs.Prelude.{◌≡◌, ◌+◌, ◌<◌, ◌↔◌, IsTrue, false};
 ghost use Rattle.beat_board.specs.declared.TheConstants.{MAX_SEATS};
 
-// The maker, the seats and the readers of a board. Each has a token of the table, which takes no bytes and with which
-// its steps are made.
+// The maker, the seats and the readers of a board. Each has a token of the table, which takes no bytes
+// and with which its steps are made.
 use crate::MAX_SEATS;
 use crate::view::View;
 use std::marker::Model;

@@ -1,5 +1,5 @@
-// What a thread knows of the board, and the steps by which that changes. No value of these types is made: they are
-// what the proofs carry along with a token of the table.
+// What a thread knows of the board, and the steps by which that changes. No value of these types is made:
+// they are what the proofs carry along with a token of the table.
 use atomic_table::{Join, Play, Split, TableRule};
 use std::collections::LinkedList;
 

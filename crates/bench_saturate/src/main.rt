@@ -1,8 +1,9 @@
 //! Times `saturate` on networks of 1,024 splits and up to 256 workers.
 //!
-//! Without an argument it writes for each shape how many nodes and arcs there are and the cost of the flow,
-//! which are always the same. With `time` it writes the microseconds of a call of `saturate` too, the least of
-//! five; with the name of a shape it writes that network in the DIMACS form of minimum cost flow problems.
+//! Without an argument it writes for each shape how many nodes and arcs there are and the cost of the
+//! flow, which are always the same. With `time` it writes the microseconds of a call of `saturate` too,
+//! the least of five; with the name of a shape it writes that network in the DIMACS form of minimum cost
+//! flow problems.
 #![tactic(auto)]
 
 mod cluster;

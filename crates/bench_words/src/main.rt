@@ -1,7 +1,8 @@
 //! Times `map_split`, `merge` and `finish` on a text whose lines are documents, in 256 splits and 8 parts.
 //!
-//! It reads the text from its input and writes how many documents, pairs and words there are, which is always the
-//! same. With `time` it then writes the microseconds of all calls of each of the three, one number a line.
+//! It reads the text from its input and writes how many documents, pairs and words there are, which is
+//! always the same. With `time` it then writes the microseconds of all calls of each of the three, one
+//! number a line.
 #![tactic(auto)]
 
 mod job;

@@ -35,8 +35,8 @@ impl Model for Lane {
     ghost view = { λ l. record { lane = l.queue.table.shared.table_id; capacity = ruled_capacity l.queue } };
 }
 
-/// The right to put into one lane and to take from it. What it put and took is known to contracts alone, and takes no
-/// memory. One thread holds it at a time.
+/// The right to put into one lane and to take from it. What it put and took is known to contracts alone,
+/// and takes no memory. One thread holds it at a time.
 #[derive(Drop)]
 pub struct Pass {
     token: Token,
@@ -85,7 +85,8 @@ pub struct CloseRefused {
 }
 
 impl Lane {
-    /// An empty lane for so many orders, and its first pass, whose part is the whole lane. It takes all its memory here.
+    /// An empty lane for so many orders, and its first pass, whose part is the whole lane. It takes all
+    /// its memory here.
     pub fn new(alloc: Global, capacity: usize) -> Result<(Lane, Pass), AllocError>
         requires some { 0 < capacity }
         requires few { capacity ≤ MAX_CAPACITY }
@@ -96,8 +97,8 @@ impl Lane {
         Ok((Lane { queue }, Pass { token }))
     }
 
-    /// Another pass, which gets half of this one's part of the lane. Any pass may be shared, and as often as one
-    /// likes. It takes no memory, so it is never refused.
+    /// Another pass, which gets half of this one's part of the lane. Any pass may be shared, and as often
+    /// as one likes. It takes no memory, so it is never refused.
     pub fn share(&self, pass: &mut Pass) -> Result<Pass, AllocError>
         requires { pass.old.lane ≡ self.now.lane }
         ensures half { pass.new ≡ record pass.old { depth = pass.old.depth + 1 } }
@@ -137,8 +138,8 @@ impl Lane {
         self.queue.pop_as::<TakeStep, R>(rt, &mut pass.token)
     }
 
-    /// Ends the lane, and answers what was left in it. The passes that are given settle it only where they are all
-    /// that were made: where their parts make up the whole lane.
+    /// Ends the lane, and answers what was left in it. The passes that are given settle it only where
+    /// they are all that were made: where their parts make up the whole lane.
     pub fn close<R: Wait>(
         self,
         rt: &R,

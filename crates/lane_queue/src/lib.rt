@@ -1,20 +1,22 @@
 //! Lanes of orders: bounded queues that threads share.
 //!
-//! Each thread that puts orders into a lane or takes them has a `Pass`; more passes are made by `share`. A put adds at
-//! the back and a take takes from the front, in one step each. Upward the layer promises: an order that is not put
-//! comes back; where all passes come to `close`, each order was taken or is left as often as it was put; and where
-//! one pass alone put and one alone took, what was taken and then what is left is what was put, in its order. The rule
-//! under which the threads' steps go together is `specs/Rule.antt`: what was sent is what was got, and then what the
-//! lane holds. It stands on the ruled queue of `crossbeam_queue`, on `view_sums`, and on the texts and runs of
-//! `word_map`, which an order carries.
+//! Each thread that puts orders into a lane or takes them has a `Pass`; more passes are made by `share`.
+//! A put adds at the back and a take takes from the front, in one step each. Upward the layer promises:
+//! an order that is not put comes back; where all passes come to `close`, each order was taken or is left
+//! as often as it was put; and where one pass alone put and one alone took, what was taken and then what
+//! is left is what was put, in its order. The rule under which the threads' steps go together is
+//! `specs/Rule.antt`: what was sent is what was got, and then what the lane holds. It stands on the ruled
+//! queue of `crossbeam_queue`, on `view_sums`, and on the texts and runs of `word_map`, which an order
+//! carries.
 //!
 //! # How the layer above uses it
-//! The calling thread makes the lane and shares its pass with the worker's thread. It puts and the worker takes; at
-//! the end the worker's pass comes back by its join, and `close` takes both. A contract sees a pass as
-//! `{ lane; puts; takes; depth }`. That no other pass was made is said by the depths: each `share` halves a part, and
-//! the passes at hand are all where their parts make up the whole lane (`IsWhole`; for a pass and its one share
-//! `proofs/Uses.antt` has the proof). The crate's tests prove this caller, whose `put_and_take` runs two threads, one
-//! that puts all orders and one that takes as many:
+//! The calling thread makes the lane and shares its pass with the worker's thread. It puts and the worker
+//! takes; at the end the worker's pass comes back by its join, and `close` takes both. A contract sees a
+//! pass as `{ lane; puts; takes; depth }`. That no other pass was made is said by the depths: each
+//! `share` halves a part, and the passes at hand are all where their parts make up the whole lane
+//! (`IsWhole`; for a pass and its one share `proofs/Uses.antt` has the proof). The crate's tests prove
+//! this caller, whose `put_and_take` runs two threads, one that puts all orders and one that takes as
+//! many:
 //!
 //! ```text
 //! fn hand_over<R: Threads + Wait + Sync>(rt: &R, alloc: Global, orders: Vec<Order>) -> Option<Vec<Order>>

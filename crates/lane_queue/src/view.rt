@@ -1,5 +1,5 @@
-// What a pass knows of the lane, and the steps by which that changes. No value of these types is made: they are what
-// the proofs carry along with a pass.
+// What a pass knows of the lane, and the steps by which that changes. No value of these types is made:
+// they are what the proofs carry along with a pass.
 use crate::order::Order;
 use crossbeam_queue::protocol::{Join, Lesson, Outcome, Protocol, Split};
 use std::collections::LinkedList;

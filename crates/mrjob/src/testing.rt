@@ -1,5 +1,5 @@
-// What the tests of the commands share: a reader and a writer of one byte a call, and texts in which a slash stands for
-// a line feed.
+// What the tests of the commands share: a reader and a writer of one byte a call, and texts in which a
+// slash stands for a line feed.
 use std::alloc::Global;
 use std::io;
 use std::io::{ErrorKind, Read, Write};

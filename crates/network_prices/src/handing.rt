@@ -4,9 +4,9 @@ ghost use Rattle.network_prices.specs.HandOn.{standing, CanHandOn, IsHandedOn, I
 
 use flow_network::FlowArc;
 
-/// Hands units on, arc by arc, as far as the last node before the sink. There is one place for each unit: the node
-/// at which it is. It takes about as many steps as there are arcs, and one for each unit at each arc that carries
-/// some.
+/// Hands units on, arc by arc, as far as the last node before the sink. There is one place for each unit:
+/// the node at which it is. It takes about as many steps as there are arcs, and one for each unit at each
+/// arc that carries some.
 pub fn hand_all(places: &mut [usize], arcs: &[FlowArc], flows: &[u64], sink: usize)
     requires { CanHandOn arcs.now flows.now sink places.old }
     ensures { IsHandedOn arcs.now flows.now sink places.old places.new (length arcs.now) }

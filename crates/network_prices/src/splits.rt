@@ -22,8 +22,8 @@ pub fn pending_count(problem: &Problem) -> u64
     count
 }
 
-/// The price of each split, by the prices of a slot of each worker: what its start leaves of the reward, where the
-/// plan starts it; else 0.
+/// The price of each split, by the prices of a slot of each worker: what its start leaves of the reward,
+/// where the plan starts it; else 0.
 pub fn split_prices(
     alloc: Global,
     problem: &Problem,

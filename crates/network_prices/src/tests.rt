@@ -28,8 +28,8 @@ fn the_law_can_be_cited() {
     prices_certify();
 }
 
-// Three splits of 10, 20 and 30 bytes on worker a, the last of them not pending; workers a and b, with one slot each,
-// in one rack. So the reward is 241, and a start of the first on b costs 20.
+// Three splits of 10, 20 and 30 bytes on worker a, the last of them not pending; workers a and b, with
+// one slot each, in one rack. So the reward is 241, and a start of the first on b costs 20.
 fn problem(rt: &impl Abort, alloc: Global) -> Result<Problem, Fail> {
     let mut tree = RackTree::new(alloc);
     let rack = tree.add_rack()?;
@@ -70,7 +70,8 @@ fn fits(problem: &Problem, plan: &Plan, workers: &[u64]) -> bool
         && workers.len() == problem.workers()
 }
 
-// The first split starts on b and the second on a, with slots at 30 and 0: they are worth 241 - 0 - 20 and 241 - 30.
+// The first split starts on b and the second on a, with slots at 30 and 0: they are worth 241 - 0 - 20
+// and 241 - 30.
 #[test]
 fn a_start_leaves_its_price(rt: HostRuntime) -> Result<(), Fail> {
     let alloc = rt.alloc();

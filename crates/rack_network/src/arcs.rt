@@ -11,8 +11,8 @@ use network_prices::pending_count;
 use node_ids::{RackNo, SplitNo, WorkerNo};
 use wave_problem::Problem;
 
-/// How many arcs a rack network has at most: 257 for each split, one for each rack, two for each worker, and the
-/// last.
+/// How many arcs a rack network has at most: 257 for each split, one for each rack, two for each worker,
+/// and the last.
 pub const MAX_ARCS: usize = 263_713;
 
 /// How many nodes a way up from a worker has: its own, its rack's, the cluster's.
@@ -23,8 +23,8 @@ pub const LEVELS: u8 = 3;
 pub enum RackArc {
     /// From a split with barred pairs to a worker on which it may start: one unit, at the cost of the start.
     Pair(SplitNo, WorkerNo),
-    /// From a split without barred pairs to the node so many levels above a live holder: one unit, at the cost of a
-    /// start on a worker that is no nearer.
+    /// From a split without barred pairs to the node so many levels above a live holder: one unit, at the
+    /// cost of a start on a worker that is no nearer.
     Reach(SplitNo, u8, WorkerNo),
     /// From a pending split to `Unstarted`: one unit, at the cost of the reward.
     Wait(SplitNo),

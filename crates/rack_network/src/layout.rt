@@ -19,8 +19,8 @@ pub enum RackNode {
     Sink,
 }
 
-/// The nodes of the rack network: the splits, `Cluster`, the racks, the workers, `Unstarted`, `Sink`. So each arc
-/// leads to a later node.
+/// The nodes of the rack network: the splits, `Cluster`, the racks, the workers, `Unstarted`, `Sink`. So
+/// each arc leads to a later node.
 #[derive(Clone, Copy, Debug, PartialEq, Eq)]
 pub struct RackLayout {
     /// How many splits there are.

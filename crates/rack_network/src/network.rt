@@ -12,9 +12,9 @@ use node_ids::{RackNo, SplitNo, WorkerNo};
 use std::alloc::{AllocError, Global};
 use wave_problem::{Near, Problem};
 
-/// The rack network of a problem, without flow: split by split the arcs to workers, racks and `Cluster` and to
-/// `Unstarted`, then those of `Cluster`, of the racks and of the workers, then the last. Where live holders of a
-/// split stand below one node, one arc leads from the split to it.
+/// The rack network of a problem, without flow: split by split the arcs to workers, racks and `Cluster`
+/// and to `Unstarted`, then those of `Cluster`, of the racks and of the workers, then the last. Where
+/// live holders of a split stand below one node, one arc leads from the split to it.
 pub fn build(alloc: Global, problem: &Problem) -> Result<Network<RackLayout>, AllocError>
     ensures layout { IfOk result (λ network. IsSized problem.now network.layout) }
     ensures arcs { IfOk result (λ network. IsRackNetwork problem.now network.arcs) }

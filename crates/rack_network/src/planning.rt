@@ -8,8 +8,8 @@ use price_certificate::Prices;
 use std::alloc::{AllocError, Global};
 use wave_problem::{Plan, Problem};
 
-/// A plan with prices that certify it: it starts as many splits as any admissible assignment, at the least cost
-/// among those. It takes one augmentation for each pending split.
+/// A plan with prices that certify it: it starts as many splits as any admissible assignment, at the
+/// least cost among those. It takes one augmentation for each pending split.
 pub fn priced_plan(alloc: Global, problem: &Problem) -> Result<(Plan, Prices), AllocError>
     ensures sizes { IfOk result (λ pair. HasOneSize (claim problem.now pair.0.starts pair.1) pair.0.workers) }
     ensures certifies { IfOk result (λ pair. Certifies (claim problem.now pair.0.starts pair.1)) }

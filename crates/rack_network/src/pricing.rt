@@ -11,9 +11,9 @@ use shortest_paths::Potentials;
 use std::alloc::{AllocError, Global};
 use wave_problem::{Plan, Problem};
 
-/// The prices: of a usable worker's slot, how far the lowest potential on the way up from its node, its own, its
-/// rack's and `Cluster`'s, lies below 0; of a started split, what its cost and its worker's price leave of the
-/// reward; else 0.
+/// The prices: of a usable worker's slot, how far the lowest potential on the way up from its node, its
+/// own, its rack's and `Cluster`'s, lies below 0; of a started split, what its cost and its worker's
+/// price leave of the reward; else 0.
 pub fn prices_of(
     alloc: Global,
     problem: &Problem,

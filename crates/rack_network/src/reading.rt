@@ -12,8 +12,8 @@ use node_ids::{Layout, SplitNo, WorkerNo};
 use std::alloc::{AllocError, Global};
 use wave_problem::{Plan, Problem};
 
-/// The plan that starts each split on the worker at which its unit ends, where units that meet in a rack or in
-/// `Cluster` are handed on one by one, and leaves out those whose unit flows through `Unstarted`.
+/// The plan that starts each split on the worker at which its unit ends, where units that meet in a rack
+/// or in `Cluster` are handed on one by one, and leaves out those whose unit flows through `Unstarted`.
 pub fn plan_of(
     alloc: Global,
     problem: &Problem,

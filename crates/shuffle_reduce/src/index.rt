@@ -118,7 +118,8 @@ impl Index {
     }
 }
 
-/// Why there is no index. A part that stands twice is told before one that is not there, and want of memory last.
+/// Why there is no index. A part that stands twice is told before one that is not there, and want of
+/// memory last.
 #[derive(Clone, Copy, Debug, Error, PartialEq, Eq)]
 pub enum FinishError {
     /// No result is of a part that is below the number of parts.
@@ -143,8 +144,8 @@ impl From<AllocError> for FinishError {
     }
 }
 
-/// The index of the texts, from the results of 1 to 64 parts, in any order: what mapping and reducing all of the
-/// texts one after another would give.
+/// The index of the texts, from the results of 1 to 64 parts, in any order: what mapping and reducing all
+/// of the texts one after another would give.
 pub fn finish(
     alloc: Global,
     parts: usize,

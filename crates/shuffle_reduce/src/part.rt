@@ -10,8 +10,8 @@ use std::marker::Model;
 use std::sync::Arc;
 use word_map::{Posting, Run, SplitText, Text, sort_distinct};
 
-/// The pairs of some texts for one part of their words: what the reduce of that part made (OSDI 2004, section 3.1).
-/// The pairs stand by the bytes of the words and then by the documents' numbers, each once.
+/// The pairs of some texts for one part of their words: what the reduce of that part made (OSDI 2004,
+/// section 3.1). The pairs stand by the bytes of the words and then by the documents' numbers, each once.
 #[derive(Drop)]
 pub struct PartResult {
     texts: Vec<Arc<SplitText>>,
@@ -67,8 +67,9 @@ impl PartResult {
         self.pairs.as_slice()
     }
 
-    /// Whether the texts are these and no others; a text that is given twice counts once. It sorts references to
-    /// the texts, in memory that it gives back; where that is refused, it compares each text with each other one.
+    /// Whether the texts are these and no others; a text that is given twice counts once. It sorts
+    /// references to the texts, in memory that it gives back; where that is refused, it compares each
+    /// text with each other one.
     pub fn covers(&self, texts: &[Arc<SplitText>]) -> bool
         ensures { IsTrue result ↔ AreSameTexts self.now.texts (values_of texts.now) }
     {
@@ -76,7 +77,8 @@ impl PartResult {
     }
 }
 
-/// Merges the runs of a part. The result has the pairs of the runs, rising, each once; without a run it has none.
+/// Merges the runs of a part. The result has the pairs of the runs, rising, each once; without a run it
+/// has none.
 pub fn merge(
     alloc: Global,
     parts: usize,

@@ -12,8 +12,8 @@ use network_prices::pending_count;
 use node_ids::{SplitNo, WorkerNo};
 use wave_problem::Problem;
 
-/// How many arcs a direct network has at most: one for each split and worker together, one more for each split
-/// and for each worker, and the last.
+/// How many arcs a direct network has at most: one for each split and worker together, one more for each
+/// split and for each worker, and the last.
 pub const MAX_ARCS: usize = 263_425;
 
 /// An arc of the direct network.
@@ -75,8 +75,8 @@ impl DirectArc {
     }
 }
 
-/// The prices read off a least-cost flow of the direct network certify the plan read off it, by linear duality
-/// (Ahuja, Magnanti and Orlin, Network Flows, section 9.4).
+/// The prices read off a least-cost flow of the direct network certify the plan read off it, by linear
+/// duality (Ahuja, Magnanti and Orlin, Network Flows, section 9.4).
 pub fn direct_prices_certify()
     ensures { DirectPricesCertify }
 {}

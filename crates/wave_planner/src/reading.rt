@@ -10,8 +10,8 @@ use node_ids::{Layout, SplitNo, WorkerNo};
 use std::alloc::{AllocError, Global};
 use wave_problem::{Plan, Problem};
 
-/// The plan that starts each split on the worker to which its unit flows, and leaves out those whose unit flows
-/// through `Unstarted`.
+/// The plan that starts each split on the worker to which its unit flows, and leaves out those whose unit
+/// flows through `Unstarted`.
 pub fn plan_of(
     alloc: Global,
     problem: &Problem,

@@ -1,9 +1,9 @@
 //! The map side of an inverted index: the words of a split's documents, divided into parts.
 //!
-//! A word is a longest run of ASCII letters, in lower case, and its part is its hash modulo the number of parts.
-//! Upward the layer promises that a `Run` holds just the pairs of a word and a document that its text has for its
-//! part, rising, each once; the type keeps this, so whoever has a run has its pairs right. `map_split` makes a run
-//! for each part. It stands on the numbers of `node_ids`.
+//! A word is a longest run of ASCII letters, in lower case, and its part is its hash modulo the number of
+//! parts. Upward the layer promises that a `Run` holds just the pairs of a word and a document that its
+//! text has for its part, rising, each once; the type keeps this, so whoever has a run has its pairs
+//! right. `map_split` makes a run for each part. It stands on the numbers of `node_ids`.
 #![tactic(auto)]
 
 mod distinct;

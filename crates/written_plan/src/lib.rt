@@ -1,8 +1,8 @@
 //! The law that a plan, written beside the problem text that it was made from, is a text to check.
 //!
-//! The head of a text to plan from, a line `plan`, the lines that are written for starts and prices, and `end`
-//! make a text without a fault, which declares the same wave, starts and prices. It stands on the lines of
-//! `plan_lines` and the texts of `plan_text`, for the program that writes plans.
+//! The head of a text to plan from, a line `plan`, the lines that are written for starts and prices, and
+//! `end` make a text without a fault, which declares the same wave, starts and prices. It stands on the
+//! lines of `plan_lines` and the texts of `plan_text`, for the program that writes plans.
 #![tactic(auto)]
 
 ghost use Rattle.written_plan.specs.Joined.{WrittenPlanReadsBack};
