@@ -116,10 +116,11 @@ stop_least arcs flows h start settled labels sink t stop = record {
 pub stop_none : (labels : List (Option Label)) (settled : List Bool) (sink : Option ℕ) → IsNearest labels settled None → MayStop labels settled sink
 stop_none labels settled sink n v l w = elim (cases_Bool (is_settled settled v)) [ inl t ↦ inl t | inr f ↦ absurd (n v l f w) ]
 
-pub stop_sink : (labels : List (Option Label)) (settled : List Bool) (sink : Option ℕ) (v : ℕ) (label : Label) → sink ≡ Some v → IsNearest labels settled (Some (v, label)) → MayStop labels settled sink
-stop_sink labels settled sink v label e n y l w = elim (cases_Bool (is_settled settled y)) [
+pub stop_sink : (labels : List (Option Label)) (settled : List Bool) (sink : Option ℕ) (v : ℕ) (label : Label)
+    → ReachesSink labels sink label.distance → IsNearest labels settled (Some (v, label)) → MayStop labels settled sink
+stop_sink labels settled sink v label reached n y l w = elim (cases_Bool (is_settled settled y)) [
   | inl t ↦ inl t
-  | inr f ↦ inr (subst (λ s. ReachesSink labels s l.distance) (sym e) (label, n.2, n.3 y l f w))
+  | inr f ↦ inr (sink_more labels sink _ _ (n.3 y l f w) reached)
 ]
 
 -- how many nodes are settled

@@ -4,7 +4,7 @@ ghost use Rattle.flow_network.specs.Flows.{tail_of, head_of, arc_index, leaving_
 ghost use Rattle.shortest_paths.specs.Labels.{label_at, is_settled, relaxed, next_label};
 ghost use Rattle.shortest_paths.specs.Frontier.{IsFrontier};
 ghost use Rattle.shortest_paths.specs.Paths.{IsPriced};
-ghost use Rattle.shortest_paths.specs.Turns.{LooksOver, AreLeast};
+ghost use Rattle.shortest_paths.specs.Turns.{LooksOver, AreLeast, ReachesSink};
 
 use crate::Potentials;
 use crate::frontier::Frontier;
@@ -134,13 +134,20 @@ fn look_around<L: Layout>(
     Ok(())
 }
 
-fn is_sink(sink: Option<usize>, node: usize) -> bool
-    ensures { IsTrue result ↔ (sink ≡ Some node) }
+/// Whether the sink, where there is one, was reached by a path of at most this distance.
+fn is_sink_reached(sink: Option<usize>, labels: &[Option<Label>], most: u64) -> bool
+    ensures { IsTrue result ↔ ReachesSink labels.now sink most }
 {
-    sink == Some(node)
+    match sink {
+        Some(sink) if sink < labels.len() => match labels[sink] {
+            Some(label) => label.distance <= most,
+            None => false,
+        },
+        _ => false,
+    }
 }
 
-/// Settles one node after the other, the nearest first, until none is left or the sink is the nearest.
+/// Settles one node after the other, the nearest first, until none is left or none is nearer than the sink.
 pub fn settle<L: Layout>(
     meter: &mut Meter<L>,
     potentials: &Potentials,
@@ -168,7 +175,7 @@ pub fn settle<L: Layout>(
     });
     frontier.begin(start)?;
     while let Some((node, known)) = frontier.take(labels, settled) {
-        if is_sink(sink, node) {
+        if is_sink_reached(sink, labels, known.distance) {
             return Ok(());
         }
         settled[node] = true;

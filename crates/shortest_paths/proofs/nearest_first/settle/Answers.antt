@@ -13,12 +13,12 @@ loop-node-init g c = record {
   waits = rw (c.requires.labels, c.requires.settled, c.begin.ensures.level, c.in_ok-begin.ensures.near, c.begin.ensures.far) (frontier_begins _ _ c.requires.start);
 }
 
-pub returns-then-is_sink-clause-least : goal.returns-then-is_sink-clause-least
-returns-then-is_sink-clause-least g c =
-    search_ends _ _ _ _ _ _ _ c.loop-node.invariant.search c.args.sink (stop_sink _ _ _ _ _ (c.is_sink.ensures.0 c.if-is_sink.true) c.in-Some.ensures.nearest)
+pub returns-then-is_sink_reached-clause-least : goal.returns-then-is_sink_reached-clause-least
+returns-then-is_sink_reached-clause-least g c =
+    search_ends _ _ _ _ _ _ _ c.loop-node.invariant.search c.args.sink (stop_sink _ _ _ _ _ (c.is_sink_reached.ensures.0 c.if-is_sink_reached.true) c.in-Some.ensures.nearest)
 
-pub returns-then-is_sink-clause-steps : goal.returns-then-is_sink-clause-steps
-returns-then-is_sink-clause-steps g c = let few = few_looks c.args.meter.now.network.arcs c.loop-node.settled in let count = c.loop-node.invariant.count in omega arith
+pub returns-then-is_sink_reached-clause-steps : goal.returns-then-is_sink_reached-clause-steps
+returns-then-is_sink_reached-clause-steps g c = let few = few_looks c.args.meter.now.network.arcs c.loop-node.settled in let count = c.loop-node.invariant.count in omega arith
 
 pub look_around-requires-clause-count : goal.look_around-requires-clause-count
 look_around-requires-clause-count g c =
