@@ -52,7 +52,7 @@ pub fn distances_by<L: Layout>(
 }
 
 /// `distances` as far as the sink: a node that is farther has some path or none. It keeps no more than it
-/// needs of the buffers' room, and ends as soon as the sink is the nearest node left.
+/// needs of the buffers' room, and ends as soon as no node left is nearer than the sink.
 pub fn distances_to<L: Layout>(
     buffers: Buffers,
     network: &Network<L>,
