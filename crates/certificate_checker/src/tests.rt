@@ -169,3 +169,60 @@ fn answers(rt: HostRuntime) -> Result<(), Fail> {
     }
     Ok(())
 }
+
+// Three hundred splits of one byte on one worker that has a slot, so that more than one thread looks at pairs. No split
+// starts; those before `first` have the reward as their price, and the others have none.
+fn long_case(
+    rt: &impl Abort,
+    alloc: Global,
+    first: usize,
+) -> Result<(Problem, Plan, Prices), Fail> {
+    let mut tree = RackTree::new(alloc);
+    let rack = tree.add_rack()?;
+    assert!(rt; rack.index() < tree.racks());
+    tree.add_worker(rack)?;
+    let workers = vec![in alloc; WorkerLine {
+        live: true,
+        free: 1
+    }; 1]?;
+    let mut splits = Vec::new(alloc);
+    let mut prices = Vec::new(alloc);
+    for split in 0..300usize {
+        splits.push(SplitLine {
+            bytes: 1,
+            pending: true,
+            holders: [WorkerNo::new(0)].to_vec(alloc)?,
+        })?;
+        prices.push(if split < first { 1201 } else { 0 })?;
+    }
+    assert!(rt; workers.len() == tree.workers());
+    let problem = Problem::new(alloc, tree, workers, splits, PairSet::new(alloc)?)?;
+    let plan = Plan::new(alloc, 300, 1)?;
+    Ok((
+        problem,
+        plan,
+        Prices::from_lists(prices, vec![in alloc; 0; 1]?),
+    ))
+}
+
+fn underpriced(split: u16) -> Result<Certified, Condition> {
+    Err(Condition::Priced(SplitNo::new(split), WorkerNo::new(0)))
+}
+
+#[test]
+fn threads_name_the_first_failure(rt: HostRuntime) -> Result<(), Fail> {
+    let alloc = rt.alloc();
+    for first in [0u16, 1, 127, 128, 200, 299] {
+        let (problem, plan, prices) = long_case(&rt, alloc, usize::from(first))?;
+        assert!(rt; are_of_one_size(&problem, &plan, &prices));
+        let told = certify(&problem, &plan, &prices);
+        assert_eq!(rt; told, underpriced(first), "from {first} on");
+        let on_threads = certify_on(&rt, alloc, &problem, &plan, &prices);
+        assert_eq!(rt;
+            on_threads,
+            told.map_err(CheckError::Failed),
+            "from {first} on"
+        );
+    }
+    Ok(())
+}
