@@ -81,7 +81,8 @@ parser_same (Some p) = refl
 by_same : (a : Rule) → reading_by (moved_rule a) ≡ reading_by a
 by_same a = ap reading_of (parser_same a.parser) ∙ reading_same (parser_of_value a.parser)
 
-used_same : (a : Rule) (values : List Text) (rows : List Row) → used (moved_rule a) values rows ≡ used a values rows
+used_same : (a : Rule) (values : List Text) (rows : List Row)
+    → used (moved_rule a) values rows ≡ used a values rows
 used_same a [] rows = ap (λ how. used_as (action_of a) a.id how a.missing rows) (by_same a)
 used_same a (v ∷ vs) rows = ap (λ how. used_as (action_of a) a.id how (v ∷ vs) rows) (by_same a)
 

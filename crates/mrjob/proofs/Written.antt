@@ -11,9 +11,10 @@ use Rattle.mrjob.specs.declared.check.CheckEnd.{CheckEnd}
 use Rattle.mrjob.proofs.OneAnswer.{one_answer}
 
 -- all of it
-pub wrote : (IsAnswer : List ℕ → List ℕ → Type 0) (remaining old new : Option (List ℕ)) (read text line bytes : List ℕ)
-    → IfSome remaining (λ input. read ≡ take MOST_BYTES input) → text ≡ read → IsAnswer text line → bytes ≡ line
-    → Appends old new bytes → IfSome remaining (λ input. Wrote old new (IsAnswer (take MOST_BYTES input)))
+pub wrote : (IsAnswer : List ℕ → List ℕ → Type 0) (remaining old new : Option (List ℕ))
+    (read text line bytes : List ℕ) → IfSome remaining (λ input. read ≡ take MOST_BYTES input)
+    → text ≡ read → IsAnswer text line → bytes ≡ line → Appends old new bytes
+    → IfSome remaining (λ input. Wrote old new (IsAnswer (take MOST_BYTES input)))
 wrote IsAnswer None old new read text line bytes given shown answers told appended = tt
 wrote IsAnswer (Some input) old new read text line bytes given shown answers told appended = record {
   written = line;
@@ -40,12 +41,14 @@ where_ok (Err e) P holds = tt
 
 -- ---- as any other answer to the text
 
-pub wrote_the_same : (remaining old new : Option (List ℕ)) (read text line bytes : List ℕ) (end : Result CheckEnd ToolError)
-    → IfSome remaining (λ input. read ≡ take MOST_BYTES input) → text ≡ read → Answers text end line → bytes ≡ line
-    → Appends old new bytes → IfSome remaining (λ input. (other : Result CheckEnd ToolError) (said : List ℕ)
+pub wrote_the_same : (remaining old new : Option (List ℕ)) (read text line bytes : List ℕ)
+    (end : Result CheckEnd ToolError) → IfSome remaining (λ input. read ≡ take MOST_BYTES input)
+    → text ≡ read → Answers text end line → bytes ≡ line → Appends old new bytes
+    → IfSome remaining (λ input. (other : Result CheckEnd ToolError) (said : List ℕ)
     → Answers (take MOST_BYTES input) other said → HasAnswered end → (end ≡ other) × Appends old new said)
 wrote_the_same None old new read text line bytes end given shown answers told appended = tt
-wrote_the_same (Some input) old new read text line bytes end given shown answers told appended = λ other said right _.
+wrote_the_same (Some input) old new read text line bytes end given shown answers told appended =
+    λ other said right _.
     let ours = subst (λ t. Answers t end line) (shown ∙ given) answers in
     let one = one_answer (take MOST_BYTES input) end other line said ours right in
     (one.0, subst (λ b. Appends old new b) (told ∙ one.1) appended)
