@@ -4,7 +4,7 @@ use Rattle.std.proofs.lemmas.List.{take_all}
 use Rattle.shuffle_reduce.specs.Merged.{PartView, AreSameTexts}
 use Rattle.shuffle_reduce.specs.Gather.{values_of}
 use Rattle.shuffle_reduce.proofs.IndexLemmas.{all_more}
-use Rattle.shuffle_reduce.proofs.tests.are_ready.Goals as goal
+use Rattle.word_tests.proofs.indexes.are_ready.Goals as goal
 
 pub loop-one-preserved : goal.loop-one-preserved
 loop-one-preserved c =

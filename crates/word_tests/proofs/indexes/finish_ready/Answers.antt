@@ -1,5 +1,5 @@
 use Rattle.std.proofs.Common.{refl}
-use Rattle.shuffle_reduce.proofs.tests.finish_ready.Goals as goal
+use Rattle.word_tests.proofs.indexes.finish_ready.Goals as goal
 
 -- the results are of the texts
 pub finish-requires-clause-covers : goal.finish-requires-clause-covers

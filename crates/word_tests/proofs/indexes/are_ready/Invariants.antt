@@ -2,7 +2,7 @@ use Rattle.std.proofs.Common.{◌≡◌, take}
 use Rattle.std.specs.Prelude.{All}
 use Rattle.shuffle_reduce.specs.Merged.{AreSameTexts, PartView}
 use Rattle.shuffle_reduce.specs.Gather.{values_of}
-use Rattle.shuffle_reduce.proofs.tests.are_ready.Given as goal
+use Rattle.word_tests.proofs.indexes.are_ready.Given as goal
 
 abbrev pub invariant-loop-one : goal.invariant-loop-one
 invariant-loop-one l = record {

@@ -2,27 +2,14 @@ ghost use Rattle.std.specs.Prelude.{◌≡◌, All, IsTrue};
 ghost use Rattle.shuffle_reduce.specs.Merged.{AreSameTexts, PartView};
 ghost use Rattle.shuffle_reduce.specs.Gather.{values_of};
 
-use crate::*;
-use node_ids::{DocNo, PartNo, SplitNo};
+use crate::texts::text;
+use node_ids::{DocNo, PartNo};
+use shuffle_reduce::{FinishError, Index, PartResult, finish, merge};
 use std::alloc::{AllocError, Global};
 use std::process::Abort;
 use std::sync::Arc;
 use std::test::Fail;
-use word_map::{Document, MapResult, Run, SplitText, Text, map_split};
-
-// The text of split 7 with these documents, numbered from 0.
-fn text(alloc: Global, documents: &[&str]) -> Result<Arc<SplitText>, AllocError> {
-    let mut all = Vec::new(alloc);
-    let mut number = 0u32;
-    for document in documents {
-        all.push(Document {
-            number: DocNo::new(number),
-            text: Text::new(String::from_str(alloc, document)?),
-        })?;
-        number = number.wrapping_add(1);
-    }
-    Ok(Arc::new(alloc, SplitText::new(SplitNo::new(7), all))?)
-}
+use word_map::{MapResult, Run, SplitText, map_split};
 
 // The result of a part of two, merged of the part's run given twice.
 fn merged_twice(
@@ -132,17 +119,19 @@ fn each_document_stands_once(rt: HostRuntime) -> Result<(), Fail> {
 
 #[test]
 fn double_comes_before_missing(rt: HostRuntime) -> Result<(), Fail> {
-    let alloc = rt.alloc();
-    assert_eq!(rt; refusal(&rt, alloc, &[1])?, Some(FinishError::MissingPart));
-    assert_eq!(rt; refusal(&rt, alloc, &[])?, Some(FinishError::MissingPart));
-    assert_eq!(rt;
-        refusal(&rt, alloc, &[0, 1, 0])?,
-        Some(FinishError::DoublePart)
-    );
-    assert_eq!(rt;
-        refusal(&rt, alloc, &[0, 0])?,
-        Some(FinishError::DoublePart)
-    );
+    let rows: [(&[u8], FinishError); 4] = [
+        (&[1], FinishError::MissingPart),
+        (&[], FinishError::MissingPart),
+        (&[0, 1, 0], FinishError::DoublePart),
+        (&[0, 0], FinishError::DoublePart),
+    ];
+    for (parts, want) in rows {
+        assert_eq!(rt;
+            refusal(&rt, rt.alloc(), parts)?,
+            Some(want),
+            "parts {parts:?}"
+        );
+    }
     Ok(())
 }
 
@@ -157,21 +146,32 @@ fn a_refused_allocation_is_told(rt: HostRuntime) {
     }
 }
 
+// The second part of a text's result, which has no pair.
+fn empty_part(rt: &impl Abort, alloc: Global, own: &Arc<SplitText>) -> Option<PartResult> {
+    let made = map_split(alloc, Arc::try_clone(own).ok()?, 2).ok()?;
+    merged_twice(rt, alloc, &made, 1).ok()
+}
+
 #[test]
-fn covers_its_texts_alone(rt: HostRuntime) -> Result<(), Fail> {
-    let alloc = rt.alloc();
-    let own = text(alloc, &["one"])?;
-    let other = text(alloc, &["two"])?;
-    let made = map_split(alloc, Arc::try_clone(&own)?, 2)?;
-    let result = merged_twice(&rt, alloc, &made, 1)?;
+fn a_result_is_of_its_part(rt: HostRuntime) -> Result<(), Fail> {
+    let own = text(rt.alloc(), &["one"])?;
+    let result = empty_part(&rt, rt.alloc(), &own).ok_or("no result")?;
     assert_eq!(rt; result.part(), PartNo::new(1));
     assert_eq!(rt; result.parts(), 2);
     assert_eq!(rt; result.texts().len(), 2);
     assert_eq!(rt; result.pairs().len(), 0);
-    assert!(rt; !result.covers(&[]));
-    let same = text(alloc, &["one"])?;
+    Ok(())
+}
+
+#[test]
+fn covers_its_texts_alone(rt: HostRuntime) -> Result<(), Fail> {
+    let other = text(rt.alloc(), &["two"])?;
+    let own = text(rt.alloc(), &["one"])?;
+    let same = text(rt.alloc(), &["one"])?;
+    let result = empty_part(&rt, rt.alloc(), &own).ok_or("no result")?;
     let three = [other, own, same];
     let texts = &three[..];
+    assert!(rt; !result.covers(&[]));
     assert!(rt; result.covers(&texts[1..2]));
     assert!(rt; result.covers(&texts[1..]));
     assert!(rt; !result.covers(texts));
