@@ -1,6 +1,6 @@
 use Rattle.std.proofs.Common.{rules, ◌≡◌, ◌+◌, ap, sym, ◌∙◌, [], ◌∷◌, ◌++◌, length}
 use Rattle.lane_queue.proofs.Uses.{takes_all}
-use Rattle.lane_queue.proofs.tests.hand_over.Goals as goal
+use Rattle.thread_tests.proofs.lanes.hand_over.Goals as goal
 
 pub returns-in-Ok : goal.returns-in-Ok
 returns-in-Ok g c =

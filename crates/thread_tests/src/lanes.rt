@@ -1,10 +1,10 @@
 ghost use Rattle.std.specs.Prelude.{◌≡◌, ◌<◌, ◌≤◌, ◌++◌, [], ◌∷◌, length, vec_len, vec_capacity, IfSome};
 
-use crate::*;
+use lane_queue::{Lane, Order, Pass};
 use node_ids::{AttemptNo, PartNo, SplitNo};
 use std::alloc::{AllocError, Global};
 use std::sync::{Arc, Wait};
-use std::test::*;
+use std::test::Fail;
 use std::thread;
 use std::thread::Threads;
 use word_map::SplitText;

@@ -1,11 +1,11 @@
 ghost use Rattle.std.specs.Prelude.{◌≡◌, ◌+◌, ◌*◌, ◌<◌, ◌≤◌, IfSome, IsTrue};
 ghost use Rattle.beat_board.specs.declared.TheConstants.{MAX_BEATS};
 
-use crate::*;
+use beat_board::{Board, Reader, Seat};
 use node_ids::WorkerNo;
 use std::alloc::Global;
 use std::sync::{Condvar, Mutex, Wait};
-use std::test::*;
+use std::test::Fail;
 use std::thread;
 use std::thread::Threads;
 

@@ -1,5 +1,5 @@
 use Rattle.std.proofs.Common.{◌≡◌, ◌≤◌, ◌++◌, length, vec_capacity}
-use Rattle.lane_queue.proofs.tests.take_many.Given as goal
+use Rattle.thread_tests.proofs.lanes.take_many.Given as goal
 
 abbrev pub invariant-loop : goal.invariant-loop
 invariant-loop g l =
