@@ -8,11 +8,11 @@
 #![tactic(auto)]
 
 pub mod layout;
+pub mod numbered;
 pub mod numbers;
 pub mod sets;
-#[cfg(test)]
-mod tests;
 
 pub use layout::Layout;
+pub use numbered::Numbered;
 pub use numbers::{AttemptNo, DocNo, PartNo, RackNo, SplitNo, WorkerNo};
 pub use sets::{PairSet, SplitSet, WorkerSet};
