@@ -22,8 +22,8 @@ use Rattle.clap.specs.declared.parser.matches.ArgMatches.{ArgMatches}
 use Rattle.clap.specs.declared.parser.matches.ArgMatches.TheViews.{out-ArgMatches, out-SubCommand}
 use Rattle.clap.specs.declared.parser.matches.SubCommand.{SubCommand}
 use Rattle.clap.proofs.OnLiterals.{clap_on_literals}
-use Rattle.wave_planner.specs.declared.NetworkKind.{NetworkKind}
-use Rattle.wave_planner.specs.declared.NetworkKind.TheVariants.{Direct, Racks}
+use Rattle.flow_network.specs.declared.NetworkKind.{NetworkKind}
+use Rattle.flow_network.specs.declared.NetworkKind.TheVariants.{Direct, Racks}
 use Rattle.command_line.specs.Commands.{Choices, IsTold, at_zero, command_in, faults_in, flag_in, mrjob, mrjob_of, network_of, network_words, prices, value_in, word_of}
 use Rattle.clap.proofs.WalkLemmas.{first_value-rows, one_text-rows}
 use Rattle.command_line.proofs.Addresses.{fault_same, moved_app, subcommand_same}

@@ -16,8 +16,8 @@ use Rattle.clap.specs.declared.error.kind.ErrorKind.{ErrorKind}
 use Rattle.clap.specs.declared.error.kind.ErrorKind.TheVariants.{DisplayHelp, DisplayVersion}
 use Rattle.command_line.specs.declared.asked.Ask.{Ask}
 use Rattle.command_line.specs.declared.asked.Ask.TheVariants.{Check, Plan}
-use Rattle.wave_planner.specs.declared.NetworkKind.{NetworkKind}
-use Rattle.wave_planner.specs.declared.NetworkKind.TheVariants.{Direct, Racks}
+use Rattle.flow_network.specs.declared.NetworkKind.{NetworkKind}
+use Rattle.flow_network.specs.declared.NetworkKind.TheVariants.{Direct, Racks}
 use Rattle.command_line.specs.declared.asked.AskError.{AskError}
 use Rattle.command_line.specs.declared.asked.AskError.TheVariants.{Fault, Memory}
 

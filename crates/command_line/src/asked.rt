@@ -1,4 +1,4 @@
-use wave_planner::NetworkKind;
+use flow_network::NetworkKind;
 
 /// A command with its options.
 #[derive(Clone, Copy, Debug, PartialEq, Eq)]

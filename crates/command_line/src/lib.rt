@@ -22,8 +22,8 @@ use crate::asked::{Ask, AskError, PlanOptions};
 use crate::commands::all_commands;
 use clap::ArgMatches;
 use clap::error::ErrorKind;
+use flow_network::NetworkKind;
 use std::alloc::Global;
-use wave_planner::NetworkKind;
 
 /// The command that the words ask for with its options, the program's name being the first word.
 pub fn ask<'a>(alloc: Global, words: &'a [&'a str]) -> Result<Ask, AskError>

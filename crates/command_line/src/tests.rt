@@ -1,8 +1,8 @@
 use crate::ask;
 use crate::asked::{Ask, AskError, PlanOptions};
+use flow_network::NetworkKind;
 use std::alloc::Global;
 use std::process::Abort;
-use wave_planner::NetworkKind;
 
 // What the words after the program's name come to: a command, or an error's status and text.
 fn answer(rt: &impl Abort, alloc: Global, words: &[&str]) -> Result<Ask, (u8, String)> {

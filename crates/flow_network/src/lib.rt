@@ -7,12 +7,14 @@
 #![tactic(auto)]
 
 mod arcs;
+mod kinds;
 pub mod laws;
 mod leaving;
 mod meter;
 mod network;
 
 pub use arcs::{ArcNo, FlowArc};
+pub use kinds::NetworkKind;
 pub use meter::{Look, Meter};
 pub use network::{NetError, Network};
 

@@ -16,9 +16,10 @@ mod pricing;
 mod reading;
 
 pub use direct::{DirectArc, MAX_ARCS, direct_prices_certify};
+pub use flow_network::NetworkKind;
 pub use layout::{DirectLayout, DirectNode};
 pub use network::build_direct;
-pub use planning::{NetworkKind, PlanError, Planned, plan, plan_with};
+pub use planning::{PlanError, Planned, plan, plan_with};
 pub use pricing::prices_of;
 pub use reading::plan_of;
 

@@ -9,6 +9,7 @@ ghost use Rattle.wave_planner.specs.Planned.{WasCertified};
 use crate::{DirectNode, build_direct, plan_of, prices_of};
 use augmenting_paths::saturate;
 use certificate_checker::{Certified, certify};
+use flow_network::NetworkKind;
 use node_ids::SplitNo;
 use price_certificate::Prices;
 use std::alloc::{AllocError, Global};
@@ -66,15 +67,6 @@ pub enum PlanError {
     /// There is no memory for the network, the search, the plan or the prices.
     #[error("no memory")]
     Memory,
-}
-
-/// Over which network a wave is planned. The plans and the prices of the two may differ; both are best.
-#[derive(Clone, Copy, Debug, PartialEq, Eq)]
-pub enum NetworkKind {
-    /// An arc from each pending split to each worker with which it is admissible.
-    Direct,
-    /// Nodes for the racks and the cluster between splits and workers, so that far fewer arcs stand.
-    Racks,
 }
 
 /// A plan that starts as many splits as any admissible assignment, at the least cost among those, with
