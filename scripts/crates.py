@@ -10,12 +10,13 @@ PARTS = ("src", "specs", "proofs")
 
 
 class Crate:
-    """A crate of crates.txt, in the folder of a repository."""
+    """A crate, by its line of crates.txt."""
 
-    def __init__(self, root, name, libraries):
-        self.name, self.libraries = name, libraries
-        self.folder = root / "crates" / name
-        self.rlib = self.folder / "out/rlib" / f"{name}.rlib"
+    def __init__(self, line):
+        head, _, libraries = line.partition(":")
+        self.line, self.name, self.libraries = line, head.split()[0], libraries.split()
+        self.folder = ROOT / "crates" / self.name
+        self.rlib = self.folder / "out/rlib" / f"{self.name}.rlib"
 
     def is_program(self):
         return (self.folder / "src/main.rt").exists()
@@ -37,15 +38,10 @@ class Crate:
         return file.exists() and all(it.changed() <= file.stat().st_mtime for it in [*self.below(crates), self])
 
 
-def read_crates(root=ROOT):
-    """The crates by their names, in the order of crates.txt."""
-    crates = {}
-    for line in (root / "crates.txt").read_text().splitlines():
-        head, colon, libraries = line.partition("#")[0].partition(":")
-        if colon:
-            name = head.split()[0]
-            crates[name] = Crate(root, name, libraries.split())
-    return crates
+def read_crates(listed=ROOT / "crates.txt"):
+    """The crates that are listed, by their names and in that order."""
+    lines = [it.partition("#")[0].strip() for it in listed.read_text().splitlines()]
+    return {it.name: it for it in map(Crate, filter(None, lines))}
 
 
 def kit():
