@@ -13,6 +13,3 @@ mod ways;
 
 pub use augment::saturate;
 pub use ways::{MAX_SOURCES, can_ship};
-
-#[cfg(test)]
-mod tests;

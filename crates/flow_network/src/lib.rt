@@ -17,6 +17,3 @@ pub use arcs::{ArcNo, FlowArc};
 pub use kinds::NetworkKind;
 pub use meter::{Look, Meter};
 pub use network::{NetError, Network};
-
-#[cfg(test)]
-mod tests;

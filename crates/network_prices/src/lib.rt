@@ -14,6 +14,3 @@ mod splits;
 pub use handing::hand_all;
 pub use laws::prices_certify;
 pub use splits::{pending_count, split_prices};
-
-#[cfg(test)]
-mod tests;

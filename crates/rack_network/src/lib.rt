@@ -25,6 +25,3 @@ pub use planning::priced_plan;
 pub use pricing::prices_of;
 pub use reading::plan_of;
 pub use sources::pending_nodes;
-
-#[cfg(test)]
-mod tests;

@@ -19,6 +19,3 @@ pub use least::{distances, distances_by, distances_to};
 pub use potentials::Potentials;
 pub use pricing::has_no_negative;
 pub use reached::{Buffers, Distances};
-
-#[cfg(test)]
-mod tests;

@@ -22,6 +22,3 @@ pub use network::build_direct;
 pub use planning::{PlanError, Planned, plan, plan_with};
 pub use pricing::prices_of;
 pub use reading::plan_of;
-
-#[cfg(test)]
-mod tests;

@@ -1,47 +1,12 @@
-//! Small problems made from a seed, and the best plan of each found by trying all of them.
-//!
-//! It is written from the definitions alone and shares no code with the planner: the tests compare `plan` and
-//! `certify` with it on some hundred problems. Stands on all layers up to `wave_planner`.
-#![tactic(auto)]
+//! Small problems, and the best plan of each found by trying all of them, from the definitions alone.
+ghost use Rattle.std.specs.Prelude.{◌<◌};
 
-ghost use Rattle.std.specs.Prelude.{◌≡◌, ◌<◌};
-
-/// A linear congruential generator (Knuth, The Art of Computer Programming, section 3.3.4).
-#[derive(Clone, Copy, Debug)]
-pub struct Random {
-    state: u64,
-}
-
-impl Random {
-    /// The generator that starts at this seed.
-    pub fn new(seed: u64) -> Self {
-        Random { state: seed }
-    }
-
-    /// The next number below a limit.
-    pub fn below(&mut self, limit: u64) -> u64
-        requires { 0 < limit }
-        ensures { result < limit }
-    {
-        self.state = self
-            .state
-            .wrapping_mul(6_364_136_223_846_793_005)
-            .wrapping_add(1_442_695_040_888_963_407);
-        (self.state >> 33) % limit
-    }
-
-    /// True about once in so many times.
-    pub fn once_in(&mut self, times: u64) -> bool
-        requires { 0 < times }
-    {
-        self.below(times) == 0
-    }
-}
+use crate::random::Random;
 
 /// A worker of a small problem. One past the last is dead.
 #[derive(Clone, Copy, Debug, Default, PartialEq, Eq)]
 pub struct Worker {
-    pub rack: u64,
+    pub rack: u16,
     pub live: bool,
     pub free: u8,
 }
@@ -56,16 +21,16 @@ pub struct Split {
 }
 
 /// A problem with at most four splits and workers in at most three racks.
-#[derive(Clone, Copy, Debug)]
+#[derive(Clone, Copy, Debug, Default)]
 pub struct Small {
-    pub splits: u64,
-    pub workers: u64,
+    pub splits: usize,
+    pub workers: usize,
     pub split: [Split; 4],
     pub worker: [Worker; 4],
 }
 
 /// How many splits start, and the byte-distance of the starts together.
-#[derive(Clone, Copy, Debug, PartialEq, Eq)]
+#[derive(Clone, Copy, Debug, Default, PartialEq, Eq)]
 pub struct Value {
     pub count: usize,
     pub cost: u64,
@@ -73,47 +38,85 @@ pub struct Value {
 
 fn random_worker(random: &mut Random) -> Worker {
     Worker {
-        rack: random.below(3),
+        rack: random.one_of(&[0, 1, 2]),
         live: !random.once_in(5),
-        free: [0, 1, 1, 2][random.below(4) as usize],
+        free: random.one_of(&[0, 1, 1, 2]),
     }
 }
 
-fn random_split(random: &mut Random, workers: u64) -> Split {
+fn random_split(random: &mut Random, workers: usize) -> Split {
     let mut split = Split {
-        bytes: [0, 1, 2, 3, 7, 10, 20, 100][random.below(8) as usize],
+        bytes: random.one_of(&[0, 1, 2, 3, 7, 10, 20, 100]),
         pending: !random.once_in(6),
         ..Split::default()
     };
     for _ in 0..random.below(4) {
-        split.held_by[random.below(workers.clamp(1, 4)) as usize] = workers > 0;
+        let holder = random.below(workers as u64) as usize;
+        if let Some(holds) = split.held_by.get_mut(holder) {
+            *holds = workers > 0;
+        }
     }
-    for w in 0..4 {
+    for w in 0..4usize {
         split.barred_on[w] = random.once_in(6);
     }
     split
 }
 
+/// One of four, or none.
+fn only(place: usize) -> [bool; 4] {
+    let mut only = [false; 4];
+    if place < 4 {
+        only[place] = true;
+    }
+    only
+}
+
 impl Small {
     /// A problem made by chance.
     pub fn random(random: &mut Random) -> Small {
-        let splits = random.below(5);
-        let workers = random.below(5);
         let mut small = Small {
-            splits,
-            workers,
-            split: [Split::default(); 4],
-            worker: [Worker::default(); 4],
+            splits: random.below(5) as usize,
+            workers: random.below(5) as usize,
+            ..Small::default()
         };
-        for w in 0..4 {
-            if (w as u64) < workers {
-                small.worker[w] = random_worker(random);
+        for i in 0..4usize {
+            if i < small.workers {
+                small.worker[i] = random_worker(random);
+            }
+            if i < small.splits {
+                small.split[i] = random_split(random, small.workers);
             }
         }
-        for s in 0..4 {
-            if (s as u64) < splits {
-                small.split[s] = random_split(random, workers);
-            }
+        small
+    }
+
+    /// The same with a live worker more, in a rack, with so many free slots.
+    pub fn with_worker(&self, rack: u16, free: u8) -> Small {
+        let mut small = *self;
+        let place = small.workers;
+        if place < 4 {
+            small.worker[place] = Worker {
+                rack,
+                live: true,
+                free,
+            };
+            small.workers += 1;
+        }
+        small
+    }
+
+    /// The same with a pending split more, on a worker, barred on another; 4 is none.
+    pub fn with_split(&self, bytes: u64, holder: usize, barred: usize) -> Small {
+        let mut small = *self;
+        let place = small.splits;
+        if place < 4 {
+            small.split[place] = Split {
+                bytes,
+                pending: true,
+                held_by: only(holder),
+                barred_on: only(barred),
+            };
+            small.splits += 1;
         }
         small
     }
@@ -136,7 +139,7 @@ impl Small {
         requires w { w < 4 }
     {
         let mut least = None;
-        for h in 0..4 {
+        for h in 0..4usize {
             if self.split[s].held_by[h] && self.worker[h].live {
                 let steps = self.distance(h, w);
                 if least.is_none_or(|least| steps < least) {
@@ -157,21 +160,19 @@ impl Small {
         if !split.pending || !worker.live || split.barred_on[w] {
             return None;
         }
-        match self.least_distance(s, w) {
-            Some(steps) => Some(split.bytes.wrapping_mul(steps)),
-            None => None,
-        }
+        let steps = self.least_distance(s, w)?;
+        Some(split.bytes.wrapping_mul(steps))
     }
 
     /// What a choice is worth that gives each split a worker's place, or 4 for none; none if it is not
     /// admissible.
     fn value(&self, choice: [usize; 4]) -> Option<Value> {
-        let mut value = Value { count: 0, cost: 0 };
+        let mut value = Value::default();
         let mut left = [0; 4];
-        for w in 0..4 {
+        for w in 0..4usize {
             left[w] = self.worker[w].free;
         }
-        for s in 0..4 {
+        for s in 0..4usize {
             let w = choice[s];
             if w < 4 {
                 let cost = self.cost(s, w)?;
@@ -185,8 +186,8 @@ impl Small {
 
     /// The greatest count of all choices, and the least cost with that count.
     pub fn best(&self) -> Value {
-        let mut best = Value { count: 0, cost: 0 };
-        for code in 0..625 {
+        let mut best = Value::default();
+        for code in 0..625usize {
             let choice = [code % 5, code / 5 % 5, code / 25 % 5, code / 125];
             if let Some(value) = self.value(choice) {
                 if value.count > best.count
@@ -199,6 +200,3 @@ impl Small {
         best
     }
 }
-
-#[cfg(test)]
-mod tests;
