@@ -46,4 +46,5 @@ within tree workers splits entries barred one few same small held = rw same (rec
   bytes = λ i d lt. (small.each_small i d lt).bytes;
   holders = λ i d lt. (small.each_small i d lt).holders;
   known = λ i d lt. (held i d lt).known;
+  distinct = λ i d lt. (held i d lt).once;
 })

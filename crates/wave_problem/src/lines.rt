@@ -1,6 +1,6 @@
 ghost use Rattle.std.specs.Prelude.{◌≡◌, ◌≢◌, ℕ, ◌<◌, ◌≤◌, ◌↔◌, length, All, AllPairs, IsTrue, false, slice_index_or};
 ghost use Rattle.wave_problem.specs.declared.TheConstants.{MAX_SLOTS};
-ghost use Rattle.wave_problem.specs.Wave.{AreHeldWell, AreSmall, IsHeldWell, IsSmall};
+ghost use Rattle.wave_problem.specs.Wave.{AreHeldWell, AreSmall, AreSmallSplits, IsHeldWell, IsSmall};
 
 use crate::{MAX_BYTES, MAX_HOLDERS, MAX_SLOTS, MAX_SPLITS};
 use node_ids::WorkerNo;
@@ -30,10 +30,39 @@ impl Model for SplitLine {
     ghost view = { λ s. record { bytes = s.bytes; pending = s.pending; holders = s.holders.items } };
 }
 
+impl SplitLine {
+    /// The same line, with its holders lent.
+    pub fn lent(&self) -> SplitRef<'_>
+        ensures { result ≡ self.now }
+    {
+        SplitRef {
+            bytes: self.bytes,
+            pending: self.pending,
+            holders: &self.holders,
+        }
+    }
+}
+
+/// As a `SplitLine`, with the holders lent.
+#[derive(Drop)]
+pub struct SplitRef<'h> {
+    pub bytes: u64,
+    pub pending: bool,
+    pub holders: &'h [WorkerNo],
+}
+
+impl<'h> Model for SplitRef<'h> {
+    ghost use Rattle.wave_problem.specs.Wave.{Split};
+
+    ghost Value = { Split };
+
+    ghost view = { λ s. record { bytes = s.bytes; pending = s.pending; holders = s.holders.now } };
+}
+
 pub(crate) fn are_small(workers: &[WorkerLine], splits: &[SplitLine]) -> bool
     ensures { IsTrue result ↔ AreSmall workers.now splits.now }
 {
-    splits.len() <= MAX_SPLITS && have_few_slots(workers) && are_small_splits(splits)
+    have_few_slots(workers) && are_small_splits(splits)
 }
 
 fn have_few_slots(workers: &[WorkerLine]) -> bool
@@ -42,7 +71,15 @@ fn have_few_slots(workers: &[WorkerLine]) -> bool
     workers.iter().all(|worker| worker.free <= MAX_SLOTS)
 }
 
-fn are_small_splits(splits: &[SplitLine]) -> bool
+/// Whether a problem may have these splits, as far as its limits say: few enough, each of few enough bytes
+/// and holders.
+pub fn are_small_splits(splits: &[SplitLine]) -> bool
+    ensures { IsTrue result ↔ AreSmallSplits splits.now }
+{
+    splits.len() <= MAX_SPLITS && are_small_each(splits)
+}
+
+fn are_small_each(splits: &[SplitLine]) -> bool
     ensures { IsTrue result ↔ All IsSmall splits.now }
 {
     splits.iter().all(|split| is_small(split))
@@ -54,7 +91,8 @@ fn is_small(split: &SplitLine) -> bool
     split.bytes <= MAX_BYTES && split.holders.len() <= MAX_HOLDERS
 }
 
-pub(crate) fn are_held_well(workers: usize, splits: &[SplitLine]) -> bool
+/// Whether each holder is one of so many workers, and none stands twice among the holders of a split.
+pub fn are_held_well(workers: usize, splits: &[SplitLine]) -> bool
     ensures { IsTrue result ↔ AreHeldWell workers splits.now }
 {
     for i in 0..splits.len() {

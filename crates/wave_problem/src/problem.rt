@@ -1,12 +1,12 @@
-ghost use Rattle.std.specs.Prelude.{◌≡◌, ℕ, List, [], ◌∷◌, ◌++◌, ◌+◌, ◌*◌, ◌<◌, ◌≤◌, ◌↔◌, length, map, sum_by, All, IsTrue, OnOk, IfOk, IfSome, Err};
+ghost use Rattle.std.specs.Prelude.{◌≡◌, ◌≢◌, ℕ, List, [], ◌∷◌, ◌++◌, ◌+◌, ◌*◌, ◌<◌, ◌≤◌, ◌↔◌, length, map, sum_by, All, AllPairs, IsTrue, OnOk, IfOk, IfSome, Err};
 ghost use Rattle.node_ids.specs.Sets.{HasPair};
 ghost use Rattle.rack_tree.specs.Tree.{distance};
 ghost use Rattle.rack_tree.specs.declared.TheConstants.{MAX_WORKERS};
 ghost use Rattle.wave_problem.specs.declared.TheConstants.{MAX_SPLITS, MAX_HOLDERS, MAX_SLOTS, MAX_BYTES};
 ghost use Rattle.wave_problem.specs.Sums.{least};
-ghost use Rattle.wave_problem.specs.Wave.{cost, live_among, live_holders, reward, split_at, wave_from, worker_at, worker_in, AreHeldWell, AreSmall, IsAdmissible};
+ghost use Rattle.wave_problem.specs.Wave.{cost, live_among, live_holders, reward, split_at, wave_from, worker_at, worker_in, AreHeldWell, AreSmall, IsAdmissible, IsWithinLimits};
 
-use crate::lines::{SplitLine, WorkerLine, are_held_well, are_small};
+use crate::lines::{SplitLine, SplitRef, WorkerLine, are_held_well, are_small};
 use node_ids::{PairSet, SplitNo, WorkerNo};
 use rack_tree::RackTree;
 use smallvec::SmallVec;
@@ -30,13 +30,13 @@ impl Model for SplitEntry {
     ghost view = { λ s. record { bytes = s.bytes; pending = s.pending; holders = s.holders.items } };
 }
 
-fn keep_inline(alloc: Global, line: &SplitLine) -> Result<SplitEntry, AllocError>
+fn keep_inline(alloc: Global, line: &SplitRef<'_>) -> Result<SplitEntry, AllocError>
     ensures { IfOk result (λ entry. entry ≡ line.now) }
 {
     Ok(SplitEntry {
         bytes: line.bytes,
         pending: line.pending,
-        holders: SmallVec::from_slice(alloc, &line.holders)?,
+        holders: SmallVec::from_slice(alloc, line.holders)?,
     })
 }
 
@@ -45,8 +45,20 @@ fn keep_all(alloc: Global, lines: &[SplitLine]) -> Result<Vec<SplitEntry>, Alloc
 {
     let mut entries = Vec::new(alloc);
     for line in lines {
-        let entry = keep_inline(alloc, line)?;
+        let entry = keep_inline(alloc, &line.lent())?;
         entries.push(entry)?;
+    }
+    Ok(entries)
+}
+
+// As `keep_all`, with room taken at once.
+fn keep_lent(alloc: Global, lines: &[SplitRef<'_>]) -> Result<Vec<SplitEntry>, AllocError>
+    ensures { IfOk result (λ entries. entries.items ≡ lines.now) }
+{
+    let mut entries = Vec::with_capacity(alloc, lines.len())?;
+    for line in lines {
+        let entry = keep_inline(alloc, line)?;
+        entries.push_reserved(entry);
     }
     Ok(entries)
 }
@@ -125,6 +137,26 @@ impl Problem {
         }
     }
 
+    /// The problem of parts that are known to keep to the limits. Room for the splits is taken at once.
+    pub fn within_limits(
+        alloc: Global,
+        tree: RackTree,
+        workers: Vec<WorkerLine>,
+        splits: &[SplitRef<'_>],
+        barred: PairSet,
+    ) -> Result<Problem, AllocError>
+        requires { IsWithinLimits (wave_from tree workers.items splits.now barred) }
+        ensures { IfOk result (λ p. p ≡ wave_from tree workers.items splits.now barred) }
+    {
+        let splits = keep_lent(alloc, splits)?;
+        Ok(Problem {
+            tree,
+            workers,
+            splits,
+            barred,
+        })
+    }
+
     /// The racks and the rack of each worker.
     pub fn tree(&self) -> &RackTree
         ensures tree { result.now ≡ self.now.tree }
@@ -189,6 +221,7 @@ impl Problem {
         requires { split < length self.now.splits }
         ensures holders { result.now ≡ (split_at self.now split).holders }
         ensures known { All (λ h. h < length self.now.workers) result.now }
+        ensures distinct { AllPairs (λ a b. a ≢ b) result.now }
         ensures limit { length result.now ≤ MAX_HOLDERS }
     {
         let line = &self.splits[split.index()];
@@ -289,7 +322,7 @@ fn closer(nearest: Option<u8>, steps: u8) -> u8
     }
 }
 
-fn any_live(workers: &[WorkerLine], holders: &[WorkerNo]) -> bool
+pub(crate) fn any_live(workers: &[WorkerLine], holders: &[WorkerNo]) -> bool
     requires { All (λ h. h < length workers.now) holders.now }
     ensures { IsTrue result ↔ (0 < length (live_among workers.now holders.now)) }
 {

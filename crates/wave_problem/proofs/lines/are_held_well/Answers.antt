@@ -1,13 +1,11 @@
-use Rattle.std.proofs.Common.{◌≡◌, false, true, arith, sym, refl, ◌∙◌}
+use Rattle.std.proofs.Common.{arith, sym, refl, ◌∙◌}
+use Rattle.std.proofs.lemmas.Bool.{false≢true}
 use Rattle.wave_problem.proofs.Made.{held_more, held_one}
 use Rattle.wave_problem.proofs.lines.are_held_well.Goals as goal
 
-no_true : false ≡ true → ⊥
-no_true e = cc
-
 pub returns-then-not-is_held_well : goal.returns-then-not-is_held_well
 returns-then-not-is_held_well c = (
-  λ wrong. absurd (no_true wrong),
+  λ wrong. absurd (false≢true wrong),
   λ held. sym c.if-not-is_held_well.true ∙ c.is_held_well.ensures.1
       (held_one _ _ _ _ c.loop-i-test.true c.index-splits-i.is held),
 )

@@ -1,16 +1,14 @@
-use Rattle.std.proofs.Common.{◌≤◌, false, true, ◌≡◌, refl, subst, sym, ◌∙◌}
+use Rattle.std.proofs.Common.{◌≤◌, refl, subst, sym, ◌∙◌}
+use Rattle.std.proofs.lemmas.Bool.{false≢true}
 use Rattle.wave_problem.proofs.Made.{moved_held, moved_small, within}
 use Rattle.wave_problem.proofs.problem.Problem.new.Goals as goal
-
-no_true : false ≡ true → ⊥
-no_true e = cc
 
 pub returns-then-not-are_held_well-clause-holder : goal.returns-then-not-are_held_well-clause-holder
 returns-then-not-are_held_well-clause-holder c = (
   λ same. (
     moved_small _ _ _ _ c.deref.ensures.value c.deref-2.ensures.value
         (c.are_small.ensures.0 c.if-not-are_small.false),
-    λ held. no_true (sym c.if-not-are_held_well.true ∙ c.are_held_well.ensures.1
+    λ held. false≢true (sym c.if-not-are_held_well.true ∙ c.are_held_well.ensures.1
         (moved_held _ _ _ _ (c.requires ∙ sym c.workers-count.ensures.count)
         (sym c.deref-3.ensures.value) held)),
   ),
