@@ -1,7 +1,8 @@
 #!/usr/bin/env python3
-"""Writes the problems on which plans are timed, the same ones each time: 1,024 splits, and up to 256 workers.
+"""Writes the problems on which plans are timed, the same ones each time: 1,024 splits and up to 256 workers, or fewer.
 
-    make_problems.py SHAPE         writes the text of one shape; without an argument it writes their names
+    make_problems.py SHAPE [SPLITS]    writes the text of one shape, with a worker for each four splits where SPLITS, a multiple of
+                                       128, is given; without an argument it writes the names of the shapes
 """
 import random
 import sys
@@ -21,7 +22,7 @@ SHAPES = {
 }
 
 
-def workers(shape, rnd):
+def workers(shape, count, rnd):
     """The rack and the free slots of each worker."""
     if shape == "one_host":
         return [(0, 0)] + [(1, 16)] * 64
@@ -30,10 +31,10 @@ def workers(shape, rnd):
         "crowded": lambda: 3,
         "scarce": lambda: rnd.randint(0, 2),
     }.get(shape, lambda: rnd.randint(4, 16))
-    return [(w // 8, slots()) for w in range(256)]
+    return [(w // 8, slots()) for w in range(count)]
 
 
-def split(shape, rnd):
+def split(shape, count, rnd):
     """The bytes and the holders of a split."""
     if shape in ("one_host", "one_of_many"):
         return BLOCK, [0]
@@ -41,21 +42,22 @@ def split(shape, rnd):
     size = {"crowded": lambda: BLOCK >> rnd.randrange(3), "scarce": lambda: rnd.randint(0, BLOCK)}.get(
         shape, lambda: BLOCK
     )()
-    return size, rnd.sample(range(0, 256, apart), 8 if shape == "eight_holders" else 3)
+    return size, rnd.sample(range(0, count, apart), 8 if shape == "eight_holders" else 3)
 
 
 def main():
-    if len(sys.argv) != 2:
+    if len(sys.argv) == 1:
         print(*SHAPES, sep="\n")
         return
-    shape = sys.argv[1]
+    shape, splits = sys.argv[1], int(sys.argv[2]) if len(sys.argv) > 2 else SPLITS
+    count = splits // 4
     rnd = random.Random(shape)
     lines = ["problem 1"]
-    stand = workers(shape, rnd)
+    stand = workers(shape, count, rnd)
     lines += [f"rack r{r}" for r in range(1 + max(rack for rack, _ in stand))]
     lines += [f"worker w{w} r{rack} {slots}" for w, (rack, slots) in enumerate(stand)]
-    for s in range(SPLITS):
-        size, holders = split(shape, rnd)
+    for s in range(splits):
+        size, holders = split(shape, count, rnd)
         lines.append(" ".join([f"split s{s} {size}"] + [f"w{w}" for w in holders]))
         if shape == "barred" and s % 4 == 0:
             lines.append(f"barred s{s} w{rnd.choice(holders)}")

@@ -3,13 +3,10 @@
 # the same networks: LEMON's NetworkSimplex, and plain successive shortest paths. Each is timed as a whole
 # process that reads the same problem text. One table is printed: the least of five runs each, in microseconds
 # (of fewer, once they have taken two seconds together), and how many times the others' time on the same
-# network mrjob takes. All must answer the same count and cost. It needs a C++ compiler, and installs liblemon-dev
-# where it is missing.
+# network mrjob takes. All must answer the same count and cost. It needs a C++ compiler and Debian's liblemon-dev.
 set -euo pipefail
 cd "$(dirname "$0")/.."
-if [ ! -e /usr/include/lemon/network_simplex.h ]; then
-    apt-get install -y -qq liblemon-dev > /dev/null
-fi
+bench/needs_lemon
 room=$(mktemp -d)
 trap 'rm -rf "$room"' EXIT
 g++ -std=c++17 -O2 -o "$room/plan_by_lemon" bench/plan_by_lemon.cc -llemon

@@ -1,27 +1,21 @@
-#!/bin/sh
+#!/usr/bin/env bash
 # Times `saturate` beside plain successive shortest paths in C++ and LEMON's NetworkSimplex, on the same networks
 # and in one run, and prints a table: the least of five calls each, and how many times the others' time it takes.
-# It needs a C++ compiler, and installs liblemon-dev where it is missing.
-set -eu
-bench=$(cd "$(dirname "$0")" && pwd)
-cd "$bench/../crates/bench_saturate"
-
-if [ ! -e /usr/include/lemon/network_simplex.h ]; then
-  apt-get install -y -qq liblemon-dev >/dev/null
-fi
+# It needs a C++ compiler and Debian's liblemon-dev.
+set -euo pipefail
+cd "$(dirname "$0")/.."
+bench/needs_lemon
 folder=$(mktemp -d)
 trap 'rm -rf "$folder"' EXIT
-g++ -std=c++17 -O2 -o "$folder/min_cost_flow" "$bench/min_cost_flow.cc" -llemon
-
-rt run >"$folder/log" 2>&1 || { cat "$folder/log"; exit 1; }
-program=$(pwd)/out/bench_saturate
-"$program" >"$folder/costs"
-"$program" time >"$folder/saturate"
+g++ -std=c++17 -O2 -o "$folder/min_cost_flow" bench/min_cost_flow.cc -llemon
+program=$(scripts/bench_program.py bench_saturate)
+"$program" > "$folder/costs"
+"$program" time > "$folder/saturate"
 
 printf '%-10s %10s %10s %10s %10s %10s\n' network saturate plain lemon /plain /lemon
 for name in a_racks a_direct b_racks d_racks f_racks; do
-  "$program" "$name" >"$folder/network"
-  "$folder/min_cost_flow" <"$folder/network" >"$folder/others"
+  "$program" "$name" > "$folder/network"
+  "$folder/min_cost_flow" < "$folder/network" > "$folder/others"
   awk -v name="$name" '
     FILENAME ~ /saturate$/ && $1 == name { ours = $2 }
     FILENAME ~ /costs$/ && $1 == name ":" { cost = $NF }

@@ -1,22 +1,25 @@
-#!/bin/sh
+#!/usr/bin/env bash
 # Times `map_split`, `merge` and `finish` beside two plain Rust programs that do the same, one by sorted pairs and one
 # by hash maps, on the same text and in one run, and prints a table in milliseconds: of each the least of five calls,
-# and how many times the others' time ours takes. The text is gathered by make_words.py, or given as FILE.
+# and how many times the others' time ours takes. The text has one document a line. It needs rustc.
 # usage: words.sh [FILE]
-set -eu
-bench=$(cd "$(dirname "$0")" && pwd)
+set -euo pipefail
+cd "$(dirname "$0")/.."
+text=${1:-${XDG_CACHE_HOME:-$HOME/.cache}/mrjob-bench/words.txt}
+if [ ! -e "$text" ]; then
+    echo "there is no $text: bench/make_words.py $text makes one of packages that it downloads" >&2
+    exit 1
+fi
+if ! command -v rustc > /dev/null; then
+    echo "rustc is missing, which builds the programs to compare with" >&2
+    exit 1
+fi
 folder=$(mktemp -d)
 trap 'rm -rf "$folder"' EXIT
-text=${1:-$folder/text}
-[ -e "$text" ] || python3 "$bench/make_words.py" "$text"
-[ -e "$text" ] || exit 0
-command -v rustc >/dev/null || { echo "no rustc: the programs to compare with are not built"; exit 0; }
 for name in sorted_pairs hash_map; do
-  rustc -O --edition 2021 -o "$folder/$name" "$bench/words_rust/$name.rs"
+    rustc -O --edition 2021 -o "$folder/$name" "bench/words_rust/$name.rs"
 done
-cd "$bench/../crates/bench_words"
-rt run <stdin >"$folder/log" 2>&1 || { cat "$folder/log"; exit 1; }
-program=$(pwd)/out/bench_words
+program=$(scripts/bench_program.py bench_words)
 
 # The least times of five calls, one call's lines beside another's.
 least() {

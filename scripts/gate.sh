@@ -1,28 +1,49 @@
 #!/usr/bin/env bash
-# The gate. `rt ci` proves every crate from nothing, tries the must-fail edits and runs the tests; then the scripts
-# try the programs that it built. The last line sums up what all of them counted.
+# The gate. `rt ci` proves every crate from nothing, tries the must-fail edits and runs the tests. Then, side by side,
+# edits.py tries the edits over the libraries that it left, and the scripts try the programs that it built. The last
+# line sums up what all of them counted.
 set -uo pipefail
 cd "$(dirname "$0")/.." || exit 1
-log=$(mktemp)
-trap 'rm -f "$log"' EXIT
+room=$(mktemp -d)
+trap 'rm -rf "$room"' EXIT
 passed=0 failed=0
 
-# Runs a command whose last line of output is 'N passed, M failed', and adds that up.
-count() { # COMMAND..
-    echo "== $*"
-    "$@" | tee "$log"
-    local status=${PIPESTATUS[0]}
-    if [[ $(tail -n 1 "$log") =~ ^([0-9]+)\ passed,\ ([0-9]+)\ failed$ ]]; then
+# Adds up what a command counted, whose last line of output is 'N passed, M failed'.
+add_up() { # COMMAND STATUS LOG
+    if [[ $(tail -n 1 "$3") =~ ^([0-9]+)\ passed,\ ([0-9]+)\ failed$ ]]; then
         passed=$((passed + BASH_REMATCH[1]))
         failed=$((failed + BASH_REMATCH[2]))
-        if [ "$status" != 0 ] && [ "${BASH_REMATCH[2]}" = 0 ]; then failed=$((failed + 1)); fi
+        if [ "$2" != 0 ] && [ "${BASH_REMATCH[2]}" = 0 ]; then failed=$((failed + 1)); fi
     else
-        echo "$1 ended with status $status and counted nothing"
+        echo "$1 ended with status $2 and counted nothing"
         failed=$((failed + 1))
     fi
 }
 
-count rt ci
+commands=() logs=() started=()
+
+# Starts a command, whose words are shown when it is counted.
+start() { # COMMAND..
+    local log="$room/${#commands[@]}"
+    "$@" > "$log" 2>&1 &
+    commands+=("$*") logs+=("$log") started+=($!)
+}
+
+# Shows and counts all that were started, in their order.
+count_all() {
+    local at status
+    for at in "${!commands[@]}"; do
+        status=0
+        wait "${started[at]}" || status=$?
+        echo "== ${commands[at]}"
+        cat "${logs[at]}"
+        add_up "${commands[at]}" "$status" "${logs[at]}"
+    done
+}
+
+echo "== rt ci"
+rt ci | tee "$room/ci"
+add_up "rt ci" "${PIPESTATUS[0]}" "$room/ci"
 # the program as LLVM builds it and, where it can, as Rattle's own compiler does
 programs=()
 for program in crates/mrjob/out/mrjob crates/mrjob/out/mrjob.by-rattle; do
@@ -34,10 +55,12 @@ if [ ${#programs[@]} = 0 ]; then
 else
     mkdir -p bin
     install -m 755 "${programs[0]}" bin/mrjob
-    count scripts/examples.sh "${programs[@]}"
-    count scripts/statuses.sh "${programs[@]}"
-    count scripts/refused_calls.sh "${programs[@]}"
-    count scripts/differential.py "${programs[@]}"
+    start scripts/examples.sh "${programs[@]}"
+    start scripts/statuses.sh "${programs[@]}"
+    start scripts/refused_calls.sh "${programs[@]}"
+    start scripts/differential.py "${programs[@]}"
 fi
+start scripts/edits.py
+count_all
 echo "$passed passed, $failed failed"
 [ "$failed" = 0 ]

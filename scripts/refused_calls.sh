@@ -88,9 +88,9 @@ sweep_test() { # TESTS NAME
 }
 
 sweep_test crates/flow_network/out/flow_network_tests tests::refused_arcs_leave_no_trace
-sweep_test crates/shuffle_reduce/out/shuffle_reduce_tests tests::a_refused_allocation_is_told
-sweep_test crates/beat_board/out/beat_board_tests tests::a_refused_board_leaves_no_trace
-sweep_test crates/lane_queue/out/lane_queue_tests tests::a_refused_close_gives_all_back
+sweep_test crates/word_tests/out/word_tests_tests indexes::a_refused_allocation_is_told
+sweep_test crates/thread_tests/out/thread_tests_tests boards::a_refused_board_leaves_no_trace
+sweep_test crates/thread_tests/out/thread_tests_tests lanes::a_refused_close_gives_all_back
 
 echo "$passed passed, $failed failed"
 [ "$failed" = 0 ] && [ "$passed" != 0 ]

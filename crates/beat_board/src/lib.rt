@@ -49,10 +49,7 @@
 //! ```
 #![tactic(auto)]
 
-pub mod board;
-#[cfg(test)]
-mod tests;
-pub mod tokens;
+pub mod board;pub mod tokens;
 mod view;
 
 pub use board::{Board, Missing, SeatError, Totals, Worn};

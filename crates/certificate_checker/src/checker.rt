@@ -1,4 +1,4 @@
-ghost use Rattle.std.specs.Prelude.{◌≡◌, ℕ, ◌+◌, ◌*◌, ◌<◌, ◌≤◌, ◌↔◌, length, slice_index, slice_index_or, unwrap_or, IsTrue, OnOk, IfErr, IfOk, IfSome, None};
+ghost use Rattle.std.specs.Prelude.{◌≡◌, ℕ, ◌+◌, ◌*◌, ◌<◌, ◌≤◌, ◌↔◌, length, slice_index, slice_index_or, unwrap_or, IsTrue, OnOk, Err, IfErr, IfOk, IfSome, None};
 ghost use Rattle.rack_tree.specs.declared.TheConstants.{MAX_WORKERS};
 ghost use Rattle.wave_problem.specs.declared.TheConstants.{MAX_BYTES, MAX_SPLITS};
 ghost use Rattle.wave_problem.specs.Wave.{cost, reward, worker_at};
@@ -259,6 +259,7 @@ impl<'a> Checker<'a> {
     ) -> Result<(), CheckError>
         ensures ok { OnOk result (Certifies self.now) }
         ensures failed { IfFailed result (IsFirstFailure self.now) }
+        ensures memory { result ≡ Err CheckError.Memory → MayComparePairs self.now }
     {
         self.check_before_pairs()?;
         self.check_priced_on(rt, alloc)?;

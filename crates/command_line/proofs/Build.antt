@@ -1,7 +1,6 @@
 -- How the table of commands is put together.
-use Rattle.std.proofs.Common.{◌≡◌, ◌∙◌, ap, Bool, true, false, subst, sym, true≢false, refl, ap₂}
-use Rattle.std.specs.Prelude.{Err, IfOk, MatchResult, Ok, Result, not}
-use Rattle.std.specs.Result.{is_ok, result_unwrap_or}
+use Rattle.std.proofs.Common.{◌≡◌, ◌∙◌, ap, Bool, true, false, sym, true≢false, refl, ap₂}
+use Rattle.std.specs.Prelude.{not}
 use Rattle.clap.specs.Words.{AddsSubcommand, App, app_of, with_subcommand}
 use Rattle.clap.specs.declared.builder.command.Command.{Command}
 use Rattle.clap.specs.declared.builder.command.Command.TheViews.{out-Command}
@@ -22,12 +21,3 @@ pub added : (old sub new : Command) (program command : App) → AddsSubcommand o
 added old sub new program command adds old_is sub_is plain =
     adds.shape (is_local sub (ap (λ (a : App). a.top.is_plain) sub_is ∙ plain))
     ∙ ap₂ with_subcommand old_is (ap (λ (a : App). a.top) sub_is)
-
--- what holds of the commands holds of those that `map_err` hands on
-pub handed_on : {E : Type 0} (F : Type 0) (P : Command → Type 0) (Q : E → Type 0) (all : Result Command E)
-    (commands : Command)
-    → IfOk all P → MatchResult all (λ x. ◌≡◌ {A = Result Command F} (Ok commands) (Ok x)) Q → true
-    ≡ is_ok all → P commands
-handed_on F P Q (Ok x) commands holds same ok =
-    subst P (sym (ap (λ r. result_unwrap_or r commands) same)) holds
-handed_on F P Q (Err e) commands holds cases ok = absurd (true≢false ok)

@@ -26,19 +26,3 @@ pub enum AskError {
     /// Want of memory.
     Memory,
 }
-
-impl AskError {
-    ghost use Rattle.std.specs.Prelude.{◌≡◌};
-    ghost use Rattle.command_line.specs.Commands.{status_of};
-
-    /// The status with which the program exits: 0 after help, 3 for want of memory, 64 for usage.
-    pub fn status(&self) -> u8
-        ensures { result ≡ status_of self.now }
-    {
-        match self {
-            AskError::Fault(error) if error.use_stderr() => 64,
-            AskError::Fault(_) => 0,
-            AskError::Memory => 3,
-        }
-    }
-}

@@ -1,6 +1,6 @@
 ghost use Rattle.std.specs.Prelude.{◌≡◌, IfOk};
 ghost use Rattle.clap.specs.Words.{app_of};
-ghost use Rattle.command_line.specs.Commands.{IsTold, check, mrjob_of, plan_of};
+ghost use Rattle.command_line.specs.Commands.{check, mrjob, plan};
 
 use clap::{Arg, ArgAction, Command};
 use std::alloc::{AllocError, Global};
@@ -43,10 +43,8 @@ const PLAN_ABOUT: &str = "Plans a job's map starts at the least byte-distance";
 
 const PRICES_HELP: &str = "Writes the prices too, which certify the plan";
 
-const NETWORK_HELP: &str = "Seeks the plan over this network; over either it is best";
-
-// The words that name a network.
-static NETWORKS: [&str; 2] = ["direct", "racks"];
+const NETWORK_HELP: &str =
+    "Seeks the plan over this network, direct or racks; over either it is best";
 
 const PLAN_TEXTS: &str = "\
 Input:   a problem, as text on standard input
@@ -75,8 +73,9 @@ fn check_command<'a>(alloc: Global) -> Command<'a>
         .after_help(CHECK_TEXTS)
 }
 
-fn plan_command<'a>(alloc: Global) -> Result<Command<'a>, AllocError>
-    ensures { IfOk result (λ command. IsTold plan_of (app_of command)) }
+/// The command that plans.
+pub(crate) fn plan_command<'a>(alloc: Global) -> Result<Command<'a>, AllocError>
+    ensures { IfOk result (λ command. app_of command ≡ plan) }
 {
     let prices = Arg::new(alloc, "prices")
         .long("prices")
@@ -86,7 +85,6 @@ fn plan_command<'a>(alloc: Global) -> Result<Command<'a>, AllocError>
         .long("network")
         .help(NETWORK_HELP)
         .value_name("NETWORK")
-        .value_parser(NETWORKS.as_slice())
         .default_value("racks");
     Command::new(alloc, "plan")
         .about(PLAN_ABOUT)
@@ -97,7 +95,7 @@ fn plan_command<'a>(alloc: Global) -> Result<Command<'a>, AllocError>
 
 /// `mrjob` and its commands.
 pub(crate) fn all_commands<'a>(alloc: Global) -> Result<Command<'a>, AllocError>
-    ensures { IfOk result (λ commands. IsTold mrjob_of (app_of commands)) }
+    ensures { IfOk result (λ commands. app_of commands ≡ mrjob) }
 {
     let plan = plan_command(alloc)?;
     Command::new(alloc, "mrjob")

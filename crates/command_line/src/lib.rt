@@ -6,24 +6,25 @@
 //! a variant of `Ask` and an arm of `ask`.
 #![tactic(auto)]
 
-ghost use Rattle.std.specs.Prelude.{◌≡◌, [], Err, IfOk, IsOk, Ok, Some, codes};
-ghost use Rattle.clap.specs.Kinds.{IsAmong};
+ghost use Rattle.std.specs.Prelude.{◌≡◌, [], Err, IfOk, IsOk, MatchOption, Ok, Some, codes};
 ghost use Rattle.clap.specs.Walk.{texts};
 ghost use Rattle.clap.specs.Words.{first_value, found_of, kind_of};
-ghost use Rattle.command_line.specs.Commands.{NamesNetwork, command_in, faults_in, flag_in, name_of};
-ghost use Rattle.command_line.specs.Commands.{value_in, word_of};
+ghost use Rattle.command_line.specs.Commands.{HasFault, NamesNoNetwork, command_in, faults_in, flag_in, name_of};
+ghost use Rattle.command_line.specs.Commands.{RefusesNetwork, is_set, value_in, word_of};
 
 pub mod asked;
 mod commands;
-#[cfg(test)]
-mod tests;
 
 use crate::asked::{Ask, AskError, PlanOptions};
-use crate::commands::all_commands;
+use crate::commands::{all_commands, plan_command};
 use clap::ArgMatches;
 use clap::error::ErrorKind;
-use flow_network::NetworkKind;
 use std::alloc::Global;
+use flow_network::NetworkKind;
+
+const UNKNOWN_NETWORK: &str = "\
+invalid value for '--network <NETWORK>'
+  [possible values: direct, racks]";
 
 /// The command that the words ask for with its options, the program's name being the first word.
 pub fn ask<'a>(alloc: Global, words: &'a [&'a str]) -> Result<Ask, AskError>
@@ -33,13 +34,15 @@ pub fn ask<'a>(alloc: Global, words: &'a [&'a str]) -> Result<Ask, AskError>
     ensures network { (options : _) → result ≡ Ok (Ask.Plan options)
         → value_in (codes "network") (texts words.entry.now) ≡ Some (word_of options.network) }
 
-    // An answer comes only for words that have no fault, and a fault is one that the words have: a
-    // mistake, or their wish for help.
+    // An answer comes only for words in which clap finds no fault, and a fault is one that the words
+    // have: a mistake, or their wish for help.
     ensures ok { IsOk result → faults_in (texts words.entry.now) ≡ [] }
     ensures fault { (error : _) → result ≡ Err (AskError.Fault error)
-        → IsAmong (kind_of error) (faults_in (texts words.entry.now)) }
+        → HasFault (texts words.entry.now) (kind_of error) }
 {
-    let commands = all_commands(alloc).map_err(|_| AskError::Memory)?;
+    let Ok(commands) = all_commands(alloc) else {
+        return Err(AskError::Memory);
+    };
     match commands.try_get_matches_from(words) {
         Ok(matches) => {
             let Some((name, options)) = matches.subcommand() else {
@@ -47,10 +50,13 @@ pub fn ask<'a>(alloc: Global, words: &'a [&'a str]) -> Result<Ask, AskError>
             };
             match name {
                 "check" => Ok(Ask::Check),
-                "plan" => Ok(Ask::Plan(PlanOptions {
-                    prices: options.get_flag("prices"),
-                    network: network_named(options),
-                })),
+                "plan" => match network_named(options) {
+                    Some(network) => Ok(Ask::Plan(PlanOptions {
+                        prices: is_given(options, "prices"),
+                        network,
+                    })),
+                    None => Err(unknown_network(alloc)),
+                },
                 _ => unreachable!(),
             }
         }
@@ -59,14 +65,37 @@ pub fn ask<'a>(alloc: Global, words: &'a [&'a str]) -> Result<Ask, AskError>
     }
 }
 
+// Whether the flag is given.
+fn is_given(options: &ArgMatches, flag: &str) -> bool
+    ensures { result ≡ is_set (first_value (found_of options.now) flag.now) }
+{
+    match options.get_str(flag) {
+        Some(text) => text == "true",
+        None => false,
+    }
+}
+
 // The network that the option names.
-fn network_named(options: &ArgMatches) -> NetworkKind
-    requires { NamesNetwork (found_of options.now) }
-    ensures { first_value (found_of options.now) (codes "network") ≡ Some (word_of result) }
+fn network_named(options: &ArgMatches) -> Option<NetworkKind>
+    ensures { MatchOption result (NamesNoNetwork (first_value (found_of options.now) (codes "network")))
+        (λ network. first_value (found_of options.now) (codes "network") ≡ Some (word_of network)) }
 {
     match options.get_str("network") {
-        Some("direct") => NetworkKind::Direct,
-        Some("racks") => NetworkKind::Racks,
-        _ => unreachable!(),
+        Some("direct") => Some(NetworkKind::Direct),
+        Some("racks") => Some(NetworkKind::Racks),
+        _ => None,
+    }
+}
+
+// The fault of words that name another network.
+fn unknown_network(alloc: Global) -> AskError
+    ensures { RefusesNetwork result }
+{
+    let Ok(mut command) = plan_command(alloc) else {
+        return AskError::Memory;
+    };
+    match command.error(ErrorKind::InvalidValue, UNKNOWN_NETWORK) {
+        Ok(error) => AskError::Fault(error),
+        Err(_) => AskError::Memory,
     }
 }

@@ -38,10 +38,7 @@
 #![tactic(auto)]
 
 pub mod lane;
-pub mod order;
-#[cfg(test)]
-mod tests;
-mod view;
+pub mod order;mod view;
 
 pub use lane::{CloseRefused, Full, Lane, Pass, Tally};
 pub use order::Order;

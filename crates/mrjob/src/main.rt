@@ -1,46 +1,37 @@
 //! `mrjob`: plans the map starts of a MapReduce job, and proves each plan best.
 //!
-//! `check` and `plan` go from the bytes of a reader to those of a writer, and their contracts say what is
-//! written for what was read. `main` hands them the standard streams and turns what they answer into a
-//! status and words on standard error.
+//! The commands stand in `tools`, whose contracts say what is written for what was read. `main` hands them
+//! the standard streams and turns how they end into a status and words on standard error, by the table of
+//! `tools::Ending`.
 #![tactic(auto)]
 
-mod check;
-mod faults;
-mod plan;
-#[cfg(test)]
-mod testing;
-
-use crate::check::{CheckEnd, check_on};
-use crate::plan::{PlanEnd, plan};
 use command_line::ask;
-use command_line::asked::{Ask, AskError, PlanOptions};
-use plan_text::ToolError;
+use command_line::asked::{Ask, AskError};
 use std::process::ExitCode;
 use std::thread::Threads;
 use std::{env, io};
-
-const NO_MEMORY: u8 = 3;
-
-const READ_OR_WRITE: u8 = 4;
-
-const USAGE: u8 = 64;
+use text_reading::ToolError;
+use tools::{Ending, check_on, plan};
 
 fn main(rt: HostRuntime) -> ExitCode {
-    ExitCode::from(run(&rt, &rt))
+    let ending = run(&rt, &rt);
+    if let Some(words) = ending.words() {
+        let _ = eprintln!(rt; "{words}");
+    }
+    ExitCode::from(ending.status())
 }
 
-// The status with which the program exits. Only `main` can say that its runtime starts threads, so what
-// does is handed on beside it.
-fn run(rt: &HostRuntime, threads: &(impl Threads + Sync)) -> u8 {
+// Only `main` can say that its runtime starts threads, so what does is handed on beside it.
+fn run(rt: &HostRuntime, threads: &(impl Threads + Sync)) -> Ending {
     match given_words(rt) {
         Ok(given) => answer(rt, threads, &given),
-        Err(error) if error.kind() == io::ErrorKind::OutOfMemory => fail(
-            rt,
-            NO_MEMORY,
-            "mrjob: no memory",
-        ),
-        Err(_) => fail(rt, USAGE, "mrjob: the words are not text"),
+        Err(error) if error.kind() == io::ErrorKind::OutOfMemory => {
+            Ending::Failed(ToolError::Memory)
+        }
+        Err(_) => {
+            let _ = eprintln!(rt; "mrjob: the words are not text");
+            Ending::Misused
+        }
     }
 }
 
@@ -52,49 +43,34 @@ fn given_words(rt: &HostRuntime) -> io::Result<Vec<String>> {
     Ok(given)
 }
 
-fn answer(rt: &HostRuntime, threads: &(impl Threads + Sync), given: &Vec<String>) -> u8 {
+fn answer(rt: &HostRuntime, threads: &(impl Threads + Sync), given: &Vec<String>) -> Ending {
     let mut words = Vec::new(rt.alloc());
     for word in given {
         if words.push(word.as_str()).is_err() {
-            return fail(rt, NO_MEMORY, "mrjob: no memory");
+            return Ending::Failed(ToolError::Memory);
         }
     }
     match ask(rt.alloc(), words.as_slice()) {
-        Ok(Ask::Check) => run_check(rt, threads),
-        Ok(Ask::Plan(options)) => run_plan(rt, options),
-        Err(AskError::Memory) => fail(rt, NO_MEMORY, "mrjob: no memory"),
-        Err(AskError::Fault(error)) => {
-            let _ = error.print(rt);
-            if error.use_stderr() { USAGE } else { 0 }
+        Ok(ask) => run_command(rt, threads, ask),
+        Err(error) => show(rt, &error),
+    }
+}
+
+fn run_command(rt: &HostRuntime, threads: &(impl Threads + Sync), ask: Ask) -> Ending {
+    let (mut input, mut output) = (rt.stdin(), rt.stdout());
+    match ask {
+        Ask::Check => Ending::of_check(check_on(threads, rt.alloc(), &mut input, &mut output)),
+        Ask::Plan(options) => Ending::of_plan(plan(rt.alloc(), &mut input, &mut output, options)),
+    }
+}
+
+// Prints why the words name no command. Help that can't be written is a fault of writing.
+fn show(rt: &HostRuntime, error: &AskError) -> Ending {
+    let ending = Ending::of_asking(error);
+    if let AskError::Fault(text) = error {
+        if text.print(rt).is_err() && ending == Ending::Well {
+            return Ending::Failed(ToolError::Write);
         }
     }
-}
-
-fn run_check(rt: &HostRuntime, threads: &(impl Threads + Sync)) -> u8 {
-    match check_on(threads, rt.alloc(), &mut rt.stdin(), &mut rt.stdout()) {
-        Ok(CheckEnd::Certified) => 0,
-        Ok(CheckEnd::Refused) => 1,
-        Err(error) => status_of(rt, error),
-    }
-}
-
-fn run_plan(rt: &HostRuntime, options: PlanOptions) -> u8 {
-    match plan(rt.alloc(), &mut rt.stdin(), &mut rt.stdout(), options) {
-        Ok(PlanEnd::Planned) => 0,
-        Err(error) => status_of(rt, error),
-    }
-}
-
-fn status_of(rt: &HostRuntime, error: ToolError) -> u8 {
-    match error {
-        ToolError::Text(_) => 2,
-        ToolError::Memory => fail(rt, NO_MEMORY, "mrjob: no memory"),
-        ToolError::Read => fail(rt, READ_OR_WRITE, "mrjob: read fault"),
-        ToolError::Write => fail(rt, READ_OR_WRITE, "mrjob: write fault"),
-    }
-}
-
-fn fail(rt: &HostRuntime, status: u8, words: &str) -> u8 {
-    let _ = eprintln!(rt; "{words}");
-    status
+    ending
 }

@@ -1,5 +1,6 @@
-ghost use Rattle.std.specs.Prelude.{◌≡◌, ℕ, ◌*◌, ◌<◌, ◌⊎◌, ◌↔◌, IfOk, length};
+ghost use Rattle.std.specs.Prelude.{◌≡◌, ℕ, ◌*◌, ◌<◌, ◌⊎◌, ◌↔◌, ◌≤◌, IfOk, IsTrue, length};
 ghost use Rattle.node_ids.specs.Sets.{Has, HasPair, has_number, with_number, with_pair, place_of_pair, no_pairs, no_splits, no_workers};
+ghost use Rattle.node_ids.specs.Members.{AreBelow};
 
 use crate::numbers::{SplitNo, WorkerNo};
 use std::alloc::{AllocError, Global};
@@ -19,6 +20,19 @@ fn set_bit(words: &mut [u64], n: usize)
     ensures members { (k : ℕ) → Has words.new k ↔ ((k ≡ n) ⊎ Has words.old k) }
 {
     words[n / 64] |= 1 << (n % 64);
+}
+
+// Whether the set has no number from the size on.
+fn are_all_below(words: &[u64], size: usize) -> bool
+    requires { length words.now ≤ 4096 }
+    ensures { IsTrue result ↔ AreBelow size words.now }
+{
+    for n in size..64 * words.len() {
+        if has_bit(words, n) {
+            return false;
+        }
+    }
+    true
 }
 
 /// A set of workers, of which there are at most 256.
@@ -62,6 +76,13 @@ impl WorkerSet {
     {
         set_bit(&mut self.words, worker.index());
     }
+
+    /// Whether all members are below the size.
+    pub fn are_below(&self, workers: usize) -> bool
+        ensures { IsTrue result ↔ AreBelow workers self.now }
+    {
+        are_all_below(&self.words, workers)
+    }
 }
 
 /// A set of splits, of which there are at most 1,024.
@@ -104,6 +125,13 @@ impl SplitSet {
         ensures members { (n : ℕ) → Has self.new n ↔ ((n ≡ split) ⊎ Has self.old n) }
     {
         set_bit(&mut self.words, split.index());
+    }
+
+    /// Whether all members are below the size.
+    pub fn are_below(&self, splits: usize) -> bool
+        ensures { IsTrue result ↔ AreBelow splits self.now }
+    {
+        are_all_below(&self.words, splits)
     }
 }
 

@@ -13,8 +13,6 @@ pub mod line;
 pub mod purpose;
 pub mod rows;
 pub mod said;
-#[cfg(test)]
-mod tests;
 mod words;
 
 pub use known::KnownNames;

@@ -2,4 +2,3 @@ pub mod Value
 pub mod Reading
 pub mod Report
 pub mod Draft
-pub mod Streams

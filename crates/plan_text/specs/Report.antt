@@ -7,14 +7,9 @@ use Rattle.price_certificate.specs.declared.Condition.{Condition}
 use Rattle.price_certificate.specs.declared.Condition.TheVariants.{Open, Allowed, Room, SplitPrice, WorkerPrice, Priced, Tight, Unstarted, Spare}
 use Rattle.price_certificate.specs.PriceList.{PriceList}
 use Rattle.text_lines.specs.Texts.{Word}
-use Rattle.text_lines.specs.Faults.{number_of_fault}
-use Rattle.text_lines.specs.declared.fault.Fault.{Fault}
 
 abbrev pub certified_line : ℕ → ℕ → List ℕ
 certified_line count cost = codes "certified " ++ decimal count ++ codes " " ++ decimal cost ++ 10 ∷ []
-
-abbrev pub fault_line : ℕ → Fault → List ℕ
-fault_line line fault = codes "line " ++ decimal line ++ codes ": fault " ++ decimal (number_of_fault fault) ++ 10 ∷ []
 
 -- a condition that fails at a split or a worker
 abbrev pub refused_at : ℕ → Word → List ℕ

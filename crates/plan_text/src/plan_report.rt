@@ -129,6 +129,3 @@ fn add_price(lines: &mut String, name: &str, price: u64) -> Result<(), AllocErro
 {
     write!(lines, "price {name} {price}\n")
 }
-
-#[cfg(test)]
-mod tests;

@@ -123,6 +123,3 @@ fn fault_of_rest(names: &KnownNames<'_>, rest: &[u8]) -> Option<Fault>
         None
     }
 }
-
-#[cfg(test)]
-mod tests;

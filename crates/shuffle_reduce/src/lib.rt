@@ -15,6 +15,3 @@ mod part;
 
 pub use index::{Entry, FinishError, Index, finish};
 pub use part::{PartResult, merge};
-
-#[cfg(test)]
-mod tests;

@@ -12,9 +12,6 @@ pub mod names;
 pub mod number;
 pub mod streams;
 pub mod tables;
-#[cfg(test)]
-mod tests;
-
 pub use fault::{Fault, TextFault};
 pub use lines::{printable, split_line, words};
 pub use names::is_name;

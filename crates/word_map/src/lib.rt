@@ -22,6 +22,3 @@ pub use posting::Posting;
 pub use runs::{MapResult, Run, map_split};
 pub use text::{Document, SplitText, Text};
 pub use word::Word;
-
-#[cfg(test)]
-mod tests;

@@ -1,18 +1,13 @@
 use Rattle.std.proofs.Common.{rules, refl, ◌≡◌}
 use Rattle.std.proofs.lemmas.Result.{IfOk-weaker}
 use Rattle.clap.specs.Words.{app_of}
-use Rattle.command_line.specs.Commands.{IsTold, check, plan_of, program}
+use Rattle.command_line.specs.Commands.{check, plan, program}
 use Rattle.command_line.proofs.Build.{added}
 use Rattle.command_line.proofs.commands.all_commands.Goals as goal
 
 pub returns : goal.returns
 returns c =
     let is_program : app_of c.subcommand_required.result ≡ program = search rules in
-    let with_check = added _ _ _ program check c.in_ok-subcommand.ensures is_program
-    c.check_command.ensures refl in
-    let plan : IsTold plan_of (app_of c.in_ok-plan.plan) = c.in_ok-plan.ensures in
-    IfOk-weaker c.subcommand-2.result _ _ (λ commands adds. record {
-      choices = plan.choices;
-      words = plan.words;
-      shape = added _ _ _ _ (plan_of plan.choices) adds with_check plan.shape refl;
-    }) c.subcommand-2.ensures
+    let with_check = added _ _ _ program check c.in_ok-subcommand.ensures is_program c.check_command.ensures refl in
+    IfOk-weaker c.subcommand-2.result _ _ (λ commands adds. added _ _ _ _ plan adds with_check c.in_ok-plan.ensures refl)
+    c.subcommand-2.ensures

@@ -1,5 +1,0 @@
-use Rattle.std.proofs.Common.{◌≡◌, ◌+◌}
-use Rattle.beat_board.proofs.tests.beat_often.Given as goal
-
-abbrev pub invariant-loop : goal.invariant-loop
-invariant-loop l = l.seat ≡ record l.fn.seat { beats = l.fn.seat.beats + l.counter }

@@ -1,0 +1,4 @@
+pub mod Holding
+pub mod Copying
+pub mod Room
+pub mod Orders

@@ -1,0 +1,61 @@
+-- Which copies are to be made, so that each split comes nearer to its target.
+use Rattle.std.specs.Prelude.{ℕ, ◌≡◌, ◌<◌, ◌≤◌, ◌⊎◌, ◌==◌, ◌&&◌, Bool, true, not, min, List, map, length, slice_index, count_by, All, Contains}
+use Rattle.std.specs.List.Sorted.{IsStrictlyIncreasing}
+use Rattle.rack_tree.specs.Tree.{Tree}
+use Rattle.worker_table.specs.Workers.{Workers, is_live}
+use Rattle.block_map.specs.Holdings.{holders_of, is_holder}
+use Rattle.block_map.specs.declared.CopyOrder.{CopyOrder}
+
+-- what decides which copies are made
+pub record Holdings : Type 0 where
+  pub workers : Workers
+  pub tree : Tree
+  pub lists : List (List ℕ)  -- the holders of each split
+  pub target : ℕ
+
+abbrev pub holdings : Workers → Tree → List (List ℕ) → ℕ → Holdings
+holdings workers tree lists target = record { workers = workers; tree = tree; lists = lists; target = target }
+
+abbrev pub live_count : Workers → ℕ
+live_count workers = count_by (λ worker. worker.live) workers.each
+
+-- the split has a holder, and fewer than the lesser of the target and the number of live workers
+pub record WantsCopy (h : Holdings) (s : ℕ) : Type 0 where
+  pub held : 0 < length (holders_of h.lists s)
+  pub few : length (holders_of h.lists s) < min h.target (live_count h.workers)
+
+-- a live worker without a replica of the split
+abbrev pub may_hold : Holdings → ℕ → ℕ → Bool
+may_hold h s w = is_live h.workers w && not (is_holder h.lists s w)
+
+-- how many of these holders are in a rack
+abbrev pub replicas_in : Tree → ℕ → List ℕ → ℕ
+replicas_in tree rack holders = count_by (λ holder. slice_index tree.rack_of holder == rack) holders
+
+-- how many replicas of the split are in the worker's rack
+abbrev pub replicas_beside : Holdings → ℕ → ℕ → ℕ
+replicas_beside h s w = replicas_in h.tree (slice_index h.tree.rack_of w) (holders_of h.lists s)
+
+-- the number at the worker's rack in a list of numbers by rack
+abbrev pub replicas_at : List ℕ → Tree → ℕ → ℕ
+replicas_at by_rack tree w = slice_index by_rack (slice_index tree.rack_of w)
+
+-- fewer replicas of the split are beside v than beside w, or as many and v is no higher
+abbrev pub IsNoWorse : Holdings → ℕ → ℕ → ℕ → Type 0
+IsNoWorse h s v w =
+    (replicas_beside h s v < replicas_beside h s w)
+    ⊎ ((replicas_beside h s v ≡ replicas_beside h s w) × (v ≤ w))
+
+-- from the lowest holder to the worker in whose rack the fewest replicas are, the lowest among equals
+pub record IsCopy (h : Holdings) (order : CopyOrder) : Type 0 where
+  pub wanted : WantsCopy h order.split
+  pub held : Contains (holders_of h.lists order.split) order.from
+  pub lowest : All (λ holder. order.from ≤ holder) (holders_of h.lists order.split)
+  pub allowed : may_hold h order.split order.to ≡ true
+  pub fewest : (w : ℕ) → may_hold h order.split w ≡ true → IsNoWorse h order.split order.to w
+
+-- one copy for each split that wants one, by rising split, and no other
+pub record AreCopies (h : Holdings) (orders : List CopyOrder) : Type 0 where
+  pub rising : IsStrictlyIncreasing (map (λ order. order.split) orders)
+  pub each : All (IsCopy h) orders
+  pub all : (s : ℕ) → WantsCopy h s → Contains (map (λ order. order.split) orders) s

@@ -1,5 +1,0 @@
-use Rattle.std.proofs.Common.{◌≡◌, ◌++◌}
-use Rattle.lane_queue.proofs.tests.put_all.Given as goal
-
-abbrev pub invariant-loop-order : goal.invariant-loop-order
-invariant-loop-order g l = l.pass ≡ record l.fn.pass { puts = l.fn.pass.puts ++ l.yielded }

@@ -1,0 +1,74 @@
+-- A replica that is added or lost keeps a state tidy.
+use Rattle.std.proofs.Common.{◌≡◌, ◌≢◌, ℕ, List, [], ◌∷◌, ◌++◌, length, true, false, not, ◌==◌, None, sym, ◌∙◌, arith, All}
+use Rattle.std.specs.List.{list_any}
+use Rattle.std.specs.Cmp.{unsigned_Decides}
+use Rattle.std.proofs.lemmas.Bool.{true≢false, leb-false, or_parts, not-false}
+use Rattle.std.proofs.lemmas.List.Sums.{length-filter, count_by-le-length}
+use Rattle.std.proofs.lemmas.List.Kept.{AllPairs-filter}
+use Rattle.std.proofs.lemmas.List.Elements.{All-nil, All-cons, All-append, All-filter}
+use Rattle.node_ids.proofs.Updating.{length-updated}
+use Rattle.worker_table.specs.Workers.{Workers, is_live}
+use Rattle.block_map.specs.Holdings.{holders_of, are_eight, without, with_holder, without_holder}
+use Rattle.master_state.specs.States.{Setup, State}
+use Rattle.master_state.specs.Refusals.{Add, Lose, reasons, refusal}
+use Rattle.master_state.specs.Changes.{after}
+use Rattle.master_state.specs.Tidy.{IsTidy, AreHolders}
+use Rattle.master_state.proofs.Lists.{AllPairs-append, All-updated}
+use Rattle.master_state.proofs.Reasons.{none_applies, room_left}
+use Rattle.master_state.proofs.Tidying.{tidy_held}
+use Rattle.std.proofs.lemmas.List.{length-append}
+
+held_without : (workers : Workers) (w : ℕ) (holders : List ℕ) → AreHolders workers holders →
+    AreHolders workers (without w holders)
+held_without workers w holders held = record {
+  few = omega (
+    arith,
+    length-filter (λ h. not (h == w)) holders,
+    count_by-le-length (λ h. not (h == w)) holders,
+    held.few,
+  );
+  once = AllPairs-filter (λ a b. a ≢ b) (λ h. not (h == w)) holders held.once;
+  live = All-filter (λ h. not (h == w)) (λ h. is_live workers h ≡ true) holders held.live;
+}
+
+-- no holder is a worker that is none
+none_is : (w : ℕ) (holders : List ℕ) → list_any (λ h. h == w) holders ≡ false →
+    All (λ h. All (λ v. h ≢ v) (w ∷ [])) holders
+none_is w [] none = All-nil (λ h. All (λ v. h ≢ v) (w ∷ []))
+none_is w (h ∷ holders) none =
+    All-cons (λ g. All (λ v. g ≢ v) (w ∷ [])) h holders
+    (All-cons (λ v. h ≢ v) w [] (λ same. true≢false (sym ((unsigned_Decides h w).1 same)
+    ∙ (or_parts (h == w) (list_any (λ g. g == w) holders) none).0)) (All-nil (λ v. h ≢ v)))
+    (none_is w holders (or_parts (h == w) (list_any (λ g. g == w) holders) none).1)
+
+held_with : (workers : Workers) (w : ℕ) (holders : List ℕ) → is_live workers w ≡ true →
+    list_any (λ h. h == w) holders ≡ false →
+    are_eight holders ≡ false → AreHolders workers holders → AreHolders workers (holders ++ w ∷ [])
+held_with workers w holders lives none few held = record {
+  few = omega (arith, length-append holders (w ∷ []), leb-false 8 (length holders) few);
+  once = AllPairs-append (λ a b. a ≢ b) holders (w ∷ []) held.once
+      (λ i j d below l. absurd (omega (arith, below, l))) (none_is w holders none);
+  live = All-append (λ h. is_live workers h ≡ true) holders (w ∷ []) held.live
+      (All-cons (λ h. is_live workers h ≡ true) w [] lives (All-nil (λ h. is_live workers h ≡ true)));
+}
+
+pub tidy_lose : (setup : Setup) (s : State) (split w : ℕ) → IsTidy setup s →
+    refusal setup s (Lose split w) ≡ None →
+    IsTidy setup (after s (Lose split w))
+tidy_lose setup s split w tidy allowed =
+    tidy_held setup s (without_holder s.holders split w) tidy (length-updated (without w) s.holders split)
+    (All-updated (AreHolders s.workers) (without w) s.holders split [] tidy.held
+    (held_without s.workers w (holders_of s.holders split)))
+    (room_left setup s (none_applies (reasons setup s (Lose split w)) allowed).1.0)
+
+pub tidy_add : (setup : Setup) (s : State) (split w : ℕ) → IsTidy setup s →
+    refusal setup s (Add split w) ≡ None →
+    IsTidy setup (after s (Add split w))
+tidy_add setup s split w tidy allowed =
+    let none = none_applies (reasons setup s (Add split w)) allowed in
+    tidy_held setup s (with_holder s.holders split w) tidy
+    (length-updated (λ holders. holders ++ w ∷ []) s.holders split)
+    (All-updated (AreHolders s.workers) (λ holders. holders ++ w ∷ []) s.holders split [] tidy.held
+    (held_with s.workers w (holders_of s.holders split) (not-false (is_live s.workers w) none.0)
+    none.1.0 none.1.1.0))
+    (room_left setup s none.1.1.1.0)

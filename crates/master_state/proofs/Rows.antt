@@ -1,0 +1,100 @@
+-- The late result of a dead worker, and its return.
+use Rattle.std.proofs.Common.{◌≡◌, ℕ, List, [], ◌∷◌, ◌++◌, Some, None, refl, replicate, true}
+use Rattle.word_map.specs.Runs.{MapView}
+use Rattle.wave_problem.specs.Assignment.{total}
+use Rattle.worker_table.specs.Workers.{is_live, is_silent, swept}
+use Rattle.master_state.specs.declared.answers.Why.TheVariants.{OldAttempt, LiveWorker, HistoryFull}
+use Rattle.master_state.specs.declared.states.SplitState.TheVariants.{Running, Pending}
+use Rattle.master_state.specs.declared.states.Limits.{Limits}
+use Rattle.master_state.specs.States.{Setup, opening, start_of}
+use Rattle.master_state.specs.Refusals.{MapDone, Join, Sweep, Add, Lose}
+use Rattle.master_state.specs.Steps.{problem_of}
+use Rattle.master_state.proofs.Scripts.{Move, Ask, Start, played, answers}
+
+-- one rack, worker 0 with a slot, split 0 of 5 bytes on it, one part, a silence of 3
+abbrev pub job_with : Limits → Setup
+job_with limits = record {
+  cluster = record {
+    tree = record { racks = 1; rack_of = 0 ∷ [] };
+    slots = 1 ∷ [];
+    splits = record { bytes = 5; pending = true; holders = 0 ∷ [] } ∷ [];
+    texts = record { split = 0; documents = [] } ∷ [];
+    parts = 1;
+    silence = 3;
+  };
+  limits = limits;
+}
+
+abbrev pub job : Setup
+job = job_with (record { events = 9; attempts = 2; sweeps = 4 })
+
+abbrev pub made : MapView
+made = record { text = record { split = 0; documents = [] }; parts = 1 }
+
+abbrev pub one_beat : List ℕ
+one_beat = 1 ∷ replicate 255 0
+
+abbrev pub three_sweeps : List Move
+three_sweeps = Start ((0, 0) ∷ []) ∷ Ask (Sweep one_beat) ∷ Ask (Sweep one_beat) ∷ Ask (Sweep one_beat) ∷ []
+
+abbrev pub silent : List Move
+silent = three_sweeps ++ Ask (Sweep one_beat) ∷ []
+
+abbrev pub script : List Move
+script =
+    silent
+    ++ Ask (MapDone 1 made) ∷ Ask (Join 0 (1 ∷ [])) ∷ Ask (Join 0 []) ∷ Start ((0, 0) ∷ []) ∷ Ask
+    (MapDone 1 made) ∷ []
+
+answers_are : answers job script
+    ≡ None ∷ None ∷ None ∷ None ∷ None ∷ Some OldAttempt ∷ None ∷ Some LiveWorker ∷ None ∷ Some OldAttempt ∷
+    []
+answers_are = refl
+
+cost_is : total (problem_of job (opening job)) ((0, 0) ∷ []) ≡ 0
+cost_is = refl
+
+lives_still : is_live (played job three_sweeps).workers 0 ≡ true
+lives_still = refl
+
+dies_now : is_silent (swept (played job three_sweeps).workers one_beat) 0 ≡ true
+dies_now = refl
+
+nothing_left : (played job silent).splits ≡ Pending ∷ []
+nothing_left = refl
+
+holds_nothing : (played job silent).holders ≡ [] ∷ []
+holds_nothing = refl
+
+second_attempt : (played job script).splits ≡ Running (record { number = 2; worker = 0 }) None ∷ []
+second_attempt = refl
+
+told : start_of (played job script) 2 ≡ start_of (played job script) 1
+told = refl
+
+events_are : (played job script).events ≡ 7
+events_are = refl
+
+-- two workers with a slot each, two splits on the first; room for one event, one attempt and no sweep
+abbrev pub small : Setup
+small = record {
+  cluster = record {
+    tree = record { racks = 1; rack_of = 0 ∷ 0 ∷ [] };
+    slots = 1 ∷ 1 ∷ [];
+    splits = record { bytes = 10; pending = true; holders = 0 ∷ [] } ∷ record {
+      bytes = 20;
+      pending =
+          true;
+      holders = 0 ∷ [];
+    } ∷ [];
+    texts = record { split = 0; documents = [] } ∷ record { split = 1; documents = [] } ∷ [];
+    parts = 1;
+    silence = 3;
+  };
+  limits = record { events = 1; attempts = 1; sweeps = 0 };
+}
+
+full_answers : answers small (Start ((0, 1) ∷ (1, 0) ∷ []) ∷ Ask (Sweep one_beat) ∷ Ask (Add 0 1) ∷ Ask
+    (Lose 0 1) ∷ [])
+    ≡ Some HistoryFull ∷ Some HistoryFull ∷ None ∷ Some HistoryFull ∷ []
+full_answers = refl

@@ -1,0 +1,175 @@
+-- What a caller sees of a master, and what an answer of it promises.
+use Rattle.std.specs.Prelude.{ℕ, ◌≡◌, ◌+◌, ◌⊎◌, ◌↔◌, Bool, true, false, not, if◌then◌else◌, IsTrue, List, [], ◌∷◌, ◌++◌, length, All, count_by, Option, Some, None, Ok, Err}
+use Rattle.std.specs.declared.result.Result.{Result}
+use Rattle.node_ids.specs.Sets.{has_number}
+use Rattle.wave_problem.specs.Wave.{IsAdmissible}
+use Rattle.wave_problem.specs.Assignment.{pairs_of}
+use Rattle.price_certificate.specs.Certificate.{Claim, Certifies, IsFirstFailure, claim}
+use Rattle.price_certificate.specs.PriceList.{PriceList}
+use Rattle.shuffle_reduce.specs.Merged.{PartView, AreSameTexts}
+use Rattle.shuffle_reduce.specs.Gather.{AreOfPart, texts_of}
+use Rattle.shuffle_reduce.specs.Indexed.{count_of}
+use Rattle.worker_table.specs.Workers.{swept, is_silent}
+use Rattle.master_state.specs.declared.answers.Answer.{Answer}
+use Rattle.master_state.specs.declared.answers.Answer.TheVariants as answer
+use Rattle.master_state.specs.declared.answers.AnswerWith.{AnswerWith}
+use Rattle.master_state.specs.declared.answers.AnswerWith.TheVariants as handed
+use Rattle.master_state.specs.declared.answers.BackupAnswer.{BackupAnswer}
+use Rattle.master_state.specs.declared.answers.BackupAnswer.TheVariants as backup
+use Rattle.master_state.specs.declared.answers.ReduceAnswer.{ReduceAnswer}
+use Rattle.master_state.specs.declared.answers.ReduceAnswer.TheVariants as reduced
+use Rattle.master_state.specs.declared.answers.Reply.{Reply}
+use Rattle.master_state.specs.declared.answers.Glance.{Glance}
+use Rattle.master_state.specs.declared.answers.Why.{Why}
+use Rattle.master_state.specs.declared.answers.Why.TheVariants.{Memory}
+use Rattle.master_state.specs.declared.answers.CommitError.{CommitError}
+use Rattle.master_state.specs.declared.answers.CommitError.TheVariants as commit
+use Rattle.master_state.specs.declared.answers.Wave.{Wave}
+use Rattle.master_state.specs.declared.events.Event.{Event}
+use Rattle.master_state.specs.declared.events.Event.TheVariants as events
+use Rattle.master_state.specs.States.{Setup, State, IsWhole, AreSmall, next_attempt}
+use Rattle.master_state.specs.Tests.{all_running, is_done, part_is_done, part_at, next_part, next_worker}
+use Rattle.master_state.specs.Refusals.{Call, MapDone, MapFailed, Withdraw, Die, Join, Add, Lose, Sweep, ReduceStart, PartDone, PartFailed, Backup, refusal, has_no_room, is_not_reducible}
+use Rattle.master_state.specs.Steps.{IsWave, IsChange, IsLegal, problem_of}
+use Rattle.master_state.specs.Tidy.{IsTidy}
+
+-- a master as its callers see it
+pub record Job : Type 0 where
+  pub setup : Setup
+  pub history : List Event
+  pub state : State
+  pub results : List PartView  -- of the parts that are done, in the order in which they were accepted
+
+-- the event by which an accepted call stands in the history
+abbrev pub event_of : State → Call → Event
+event_of s (MapDone a result) = events.MapDone a
+event_of s (MapFailed a) = events.MapFailed a
+event_of s (Withdraw a) = events.Withdraw a
+event_of s (Die w) = events.Die w
+event_of s (Join w set) = events.Join w set
+event_of s (Add split w) = events.Add split w
+event_of s (Lose split w) = events.Lose split w
+event_of s (Sweep counts) = events.Sweep (length s.sweeps + 1)
+event_of s ReduceStart = events.ReduceStart (next_attempt s) (next_part s) (next_worker s)
+event_of s (PartDone a result) = events.PartDone a
+event_of s (PartFailed a) = events.PartFailed a
+event_of s (Backup split w) = events.Backup (next_attempt s) split w
+
+-- the result that it adds
+abbrev pub added_by : Call → List PartView
+added_by (PartDone a result) = result ∷ []
+added_by call = []
+
+-- the event is the next of the history, at this place, and these results were added
+pub record IsNext (old : Job) (event : Event) (added : List PartView) (place : ℕ) (new : Job) : Type 0 where
+  pub place_is : place ≡ length old.history + 1
+  pub setup : new.setup ≡ old.setup
+  pub history : new.history ≡ old.history ++ event ∷ []
+  pub results : new.results ≡ old.results ++ added
+
+-- the call was accepted at this place
+pub record IsAccepted (old : Job) (call : Call) (place : ℕ) (new : Job) : Type 0 where
+  pub change : IsChange old.setup old.state call new.state
+  pub next : IsNext old (event_of old.state call) (added_by call) place new
+
+-- the call was ignored for the first reason that applies, and nothing has changed
+pub record IsIgnored (old : Job) (call : Call) (why : Why) (new : Job) : Type 0 where
+  pub refused : refusal old.setup old.state call ≡ Some why
+  pub same : new ≡ old
+
+-- what an answer says of a call
+abbrev pub Answers : Job → Call → Answer → Job → Type 0
+Answers old call (answer.Accepted place) new = IsAccepted old call place new
+Answers old call (answer.Ignored why) new = IsIgnored old call why new
+
+-- the same of a call that was handed a value, which comes back where the call was ignored
+abbrev pub AnswersWith : {R : Type 0} → Job → Call → R → AnswerWith R → Job → Type 0
+AnswersWith old call given (handed.Accepted place) new = IsAccepted old call place new
+AnswersWith old call given (handed.Ignored why back) new = (back ≡ given) × IsIgnored old call why new
+
+-- the answer names the attempt that was started
+abbrev pub AnswersBackup : Job → ℕ → ℕ → BackupAnswer → Job → Type 0
+AnswersBackup old split w (backup.Accepted place a) new =
+    (a ≡ next_attempt old.state) × IsAccepted old (Backup split w) place new
+AnswersBackup old split w (backup.Ignored why) new = IsIgnored old (Backup split w) why new
+
+-- the reply has the attempt, the part and the worker, and the run of each text for the part
+pub record IsReply (old : Job) (reply : Reply) : Type 0 where
+  pub attempt : reply.attempt ≡ next_attempt old.state
+  pub part : reply.part ≡ next_part old.state
+  pub worker : reply.worker ≡ next_worker old.state
+  pub of_part : AreOfPart reply.runs.items reply.part old.setup.cluster.parts
+  pub texts : texts_of reply.runs.items ≡ old.setup.cluster.texts
+
+-- want of memory is answered only where there is no other reason
+abbrev pub AnswersReduce : Job → ReduceAnswer → Job → Type 0
+AnswersReduce old (reduced.Accepted place reply) new =
+    IsReply old reply × IsAccepted old ReduceStart place new
+AnswersReduce old (reduced.Ignored why) new =
+    IsIgnored old ReduceStart why new
+    ⊎ ((why ≡ Memory) × (refusal old.setup old.state ReduceStart ≡ None) × (new ≡ old))
+
+-- whether the worker died in a sweep that was answered so
+abbrev pub died_in : Job → List ℕ → Answer → ℕ → Bool
+died_in old counts (answer.Accepted place) w = is_silent (swept old.state.workers counts) w
+died_in old counts (answer.Ignored why) w = false
+
+-- the answer to a sweep, and the set of those that died
+pub record AnswersSweep (old : Job) (counts : List ℕ) (given : Answer) (dead : List ℕ) (new : Job)
+    : Type 0 where
+  pub answer : Answers old (Sweep counts) given new
+  pub dead_are : (w : ℕ) → has_number dead w ≡ died_in old counts given w
+
+-- the plan was committed as a wave, best in the state that it changed
+pub record IsCommitted (old : Job) (plan : List (Option ℕ)) (wave : Wave) (new : Job) : Type 0 where
+  pub change : IsWave old.setup old.state wave.first wave.count wave.cost plan new.state
+  pub next : IsNext old (events.Wave wave.first wave.count wave.cost) [] wave.place new
+
+-- no place for the event is left, or fewer attempts than the plan starts
+abbrev pub lacks_room : Job → List (Option ℕ) → Bool
+lacks_room job plan = has_no_room job.setup job.state (length (pairs_of plan))
+
+-- a plan and prices as a claim on the present state
+abbrev pub present : Job → List (Option ℕ) → PriceList → Claim
+present job plan prices = claim (problem_of job.setup job.state) plan prices
+
+-- What the answer to a commit says. Whether there is room, and whether the prices certify the plan, is asked
+-- of
+-- the present state; want of memory comes between the two.
+abbrev pub AnswersCommit : Job → List (Option ℕ) → PriceList → Result Wave CommitError → Job → Type 0
+AnswersCommit old plan prices (Ok wave) new =
+    Certifies (present old plan prices) × IsCommitted old plan wave new
+AnswersCommit old plan prices (Err commit.HistoryFull) new = (lacks_room old plan ≡ true) × (new ≡ old)
+AnswersCommit old plan prices (Err commit.Memory) new = (lacks_room old plan ≡ false) × (new ≡ old)
+AnswersCommit old plan prices (Err (commit.Stale c)) new =
+    (lacks_room old plan ≡ false) × IsFirstFailure (present old plan prices) c × (new ≡ old)
+
+-- a pair is admissible
+abbrev pub IsReady : Job → Type 0
+IsReady job = (split : ℕ) × (w : ℕ) × IsAdmissible (problem_of job.setup job.state) split w
+
+-- what a glance shows
+pub record IsGlance (job : Job) (glance : Glance) : Type 0 where
+  pub ready : IsTrue glance.ready ↔ IsReady job
+  pub reducible : glance.reducible ≡ not (is_not_reducible job.state)
+  pub running : glance.running ≡ length (all_running job.state)
+  pub open_splits : glance.open_splits ≡ count_by (λ split. not (is_done split)) job.state.splits
+  pub open_parts : glance.open_parts ≡ count_by (λ part. not (part_is_done part)) job.state.parts
+
+-- the result covers the cluster's texts and is of its number of parts
+pub record IsResult (setup : Setup) (result : PartView) : Type 0 where
+  pub texts : AreSameTexts result.texts setup.cluster.texts
+  pub parts : result.parts ≡ setup.cluster.parts
+
+-- one result of each done part, and no other
+pub record AreResults (setup : Setup) (s : State) (results : List PartView) : Type 0 where
+  pub each : All (IsResult setup) results
+  pub one_each : (r : ℕ) → count_of results r ≡ (if part_is_done (part_at s r) then 1 else 0)
+
+-- what every master keeps
+pub record IsKept (job : Job) : Type 0 where
+  pub whole : IsWhole job.setup.cluster
+  pub small : AreSmall job.setup.limits
+  pub legal : IsLegal job.setup job.history job.state
+  pub tidy : IsTidy job.setup job.state
+  pub results : AreResults job.setup job.state job.results

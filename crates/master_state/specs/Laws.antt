@@ -1,0 +1,74 @@
+-- What holds of the machine, for whoever sees its calls alone. The functions of `laws` prove each.
+use Rattle.std.specs.Prelude.{ℕ, ◌≡◌, List, ◌∷◌, ◌++◌, Option, Some, None, true}
+use Rattle.word_map.specs.Runs.{MapView}
+use Rattle.shuffle_reduce.specs.Merged.{PartView, AreSameTexts}
+use Rattle.master_state.specs.declared.answers.Why.TheVariants.{OldAttempt, WrongInput}
+use Rattle.master_state.specs.declared.events.Event.{Event}
+use Rattle.master_state.specs.declared.events.Event.TheVariants as events
+use Rattle.master_state.specs.declared.states.Attempt.{Attempt}
+use Rattle.master_state.specs.declared.states.Work.TheVariants as works
+use Rattle.master_state.specs.declared.states.SplitState.TheVariants.{Running}
+use Rattle.master_state.specs.States.{Setup, State, IsWhole, start_of}
+use Rattle.master_state.specs.Tests.{runs, split_at}
+use Rattle.master_state.specs.Refusals.{MapDone, MapFailed, Withdraw, Die, PartDone, refusal, text_of}
+use Rattle.master_state.specs.Changes.{after}
+use Rattle.master_state.specs.Steps.{Leads, IsLegal, IsWave}
+use Rattle.master_state.specs.Tidy.{IsTidy}
+
+-- every state that a legal history leads to is tidy
+abbrev pub LegalStatesAreTidy : Type 0
+LegalStatesAreTidy =
+    (setup : Setup) (history : List Event) (s : State) → IsWhole setup.cluster →
+    IsLegal setup history s → IsTidy setup s
+
+-- what came before a wave leads to a state in which it is best, and from its change on the later events lead
+-- to the last state
+pub record IsWaveAmong (setup : Setup) (before later : List Event) (first count cost : ℕ)
+    (last : State) : Type 0 where
+  pub old : State
+  pub new : State
+  pub plan : List (Option ℕ)
+  pub legal : IsLegal setup before old
+  pub wave : IsWave setup old first count cost plan new
+  pub leads : Leads setup new later last
+
+abbrev pub EveryWaveIsBest : Type 0
+EveryWaveIsBest =
+    (setup : Setup) (before later : List Event) (first count cost : ℕ) (last : State) →
+    IsLegal setup (before ++ events.Wave first count cost ∷ later) last →
+    IsWaveAmong setup before later first count cost last
+
+-- a result is never refused for its input where it was made as its start told: of the split's text
+abbrev pub ResultsAsToldAreRight : Type 0
+ResultsAsToldAreRight =
+    (setup : Setup) (s : State) (a split w : ℕ) (result : MapView) → IsTidy setup s →
+    start_of s a ≡ Some (record { work = works.Split split; worker = w }) →
+    result.text ≡ text_of setup split → result.parts ≡ setup.cluster.parts →
+    refusal setup s (MapDone a result) ≡ Some WrongInput → ⊥
+
+-- or of the part and all texts
+abbrev pub PartsAsToldAreRight : Type 0
+PartsAsToldAreRight =
+    (setup : Setup) (s : State) (a r w : ℕ) (result : PartView) → IsTidy setup s →
+    start_of s a ≡ Some (record { work = works.Part r; worker = w }) →
+    result.part ≡ r → result.parts ≡ setup.cluster.parts → AreSameTexts result.texts setup.cluster.texts →
+    refusal setup s (PartDone a result) ≡ Some WrongInput → ⊥
+
+-- once a split is done, the result of another attempt of it is old
+abbrev pub SecondResultsAreOld : Type 0
+SecondResultsAreOld =
+    (setup : Setup) (s : State) (split a b : ℕ) (result other : MapView) → IsTidy setup s →
+    runs a (split_at s split) ≡ true → runs b (split_at s split) ≡ true →
+    refusal setup (after s (MapDone a result)) (MapDone b other) ≡ Some OldAttempt
+
+-- where one of two attempts of a split fails, is withdrawn or dies, the other goes on alone
+pub record GoesOnAlone (s : State) (split : ℕ) (lost other : Attempt) : Type 0 where
+  pub failed : split_at (after s (MapFailed lost.number)) split ≡ Running other None
+  pub withdrawn : split_at (after s (Withdraw lost.number)) split ≡ Running other None
+  pub died : split_at (after s (Die lost.worker)) split ≡ Running other None
+
+abbrev pub TheOtherGoesOn : Type 0
+TheOtherGoesOn =
+    (setup : Setup) (s : State) (split : ℕ) (one other : Attempt) → IsTidy setup s →
+    split_at s split ≡ Running one (Some other) →
+    GoesOnAlone s split one other × GoesOnAlone s split other one

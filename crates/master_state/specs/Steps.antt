@@ -1,0 +1,75 @@
+-- The problem of a state, the step of each event, and the histories that the machine may have.
+use Rattle.std.specs.Prelude.{ℕ, ◌≡◌, ◌+◌, ◌-◌, false, List, [], ◌∷◌, length, map, zip, Option, None}
+use Rattle.word_map.specs.Runs.{MapView}
+use Rattle.shuffle_reduce.specs.Merged.{PartView}
+use Rattle.wave_problem.specs.declared.lines.WorkerLine.{WorkerLine}
+use Rattle.wave_problem.specs.Wave.{Wave, Split, wave_from}
+use Rattle.wave_problem.specs.Assignment.{IsBest, pairs_of, total}
+use Rattle.worker_table.specs.declared.Worker.{Worker}
+use Rattle.master_state.specs.declared.events.Event.{Event}
+use Rattle.master_state.specs.declared.events.Event.TheVariants as events
+use Rattle.master_state.specs.declared.states.SplitState.{SplitState}
+use Rattle.master_state.specs.States.{Setup, State, opening, next_attempt}
+use Rattle.master_state.specs.Tests.{is_pending, next_part, next_worker}
+use Rattle.master_state.specs.Refusals.{Call, MapDone, MapFailed, Withdraw, Die, Join, Add, Lose, Sweep, ReduceStart, PartDone, PartFailed, Backup, IsKnown, refusal, has_no_room}
+use Rattle.master_state.specs.Changes.{after, after_wave}
+
+-- a worker, and a split with its state and its holders, as a wave sees them
+abbrev pub worker_line : Worker → WorkerLine
+worker_line worker = record { live = worker.live; free = worker.slots - worker.taken }
+
+abbrev pub split_line : Split → SplitState → List ℕ → Split
+split_line split state holders = record { bytes = split.bytes; pending = is_pending state; holders = holders }
+
+-- what the next wave is planned from
+abbrev pub problem_of : Setup → State → Wave
+problem_of setup s =
+    wave_from setup.cluster.tree
+    (map worker_line s.workers.each)
+    (map (λ line. split_line line.0.0 line.0.1 line.1) (zip (zip setup.cluster.splits s.splits) s.holders))
+    s.workers.barred
+
+-- a wave makes the starts of ANY plan that is best in the old state
+pub record IsWave (setup : Setup) (old : State) (first count cost : ℕ) (plan : List (Option ℕ)) (new : State)
+    : Type 0 where
+  pub best : IsBest (problem_of setup old) (pairs_of plan)
+  pub room : has_no_room setup old (length (pairs_of plan)) ≡ false
+  pub first_is : first ≡ next_attempt old
+  pub count_is : count ≡ length (pairs_of plan)
+  pub cost_is : cost ≡ total (problem_of setup old) (pairs_of plan)
+  pub leads : new ≡ after_wave old (pairs_of plan)
+
+-- the call is one for this cluster, it is not refused, and its change is made
+pub record IsChange (setup : Setup) (old : State) (call : Call) (new : State) : Type 0 where
+  pub known : IsKnown setup call
+  pub allowed : refusal setup old call ≡ None
+  pub leads : new ≡ after old call
+
+-- from old, the event leads to new
+abbrev pub Step : Setup → State → Event → State → Type 0
+Step setup old (events.Wave first count cost) new =
+    (plan : List (Option ℕ)) × IsWave setup old first count cost plan new
+Step setup old (events.MapDone a) new = (result : MapView) × IsChange setup old (MapDone a result) new
+Step setup old (events.MapFailed a) new = IsChange setup old (MapFailed a) new
+Step setup old (events.Withdraw a) new = IsChange setup old (Withdraw a) new
+Step setup old (events.Die w) new = IsChange setup old (Die w) new
+Step setup old (events.Join w set) new = IsChange setup old (Join w set) new
+Step setup old (events.Add split w) new = IsChange setup old (Add split w) new
+Step setup old (events.Lose split w) new = IsChange setup old (Lose split w) new
+Step setup old (events.Sweep place) new =
+    (counts : List ℕ) × (place ≡ length old.sweeps + 1) × IsChange setup old (Sweep counts) new
+Step setup old (events.ReduceStart a r w) new =
+    (a ≡ next_attempt old) × (r ≡ next_part old) × (w ≡ next_worker old) × IsChange setup old ReduceStart new
+Step setup old (events.PartDone a) new = (result : PartView) × IsChange setup old (PartDone a result) new
+Step setup old (events.PartFailed a) new = IsChange setup old (PartFailed a) new
+Step setup old (events.Backup a split w) new =
+    (a ≡ next_attempt old) × IsChange setup old (Backup split w) new
+
+-- the events lead from old to new, one step after another
+abbrev pub Leads : Setup → State → List Event → State → Type 0
+Leads setup old [] new = new ≡ old
+Leads setup old (event ∷ events) new = (mid : State) × Step setup old event mid × Leads setup mid events new
+
+-- the machine may have this history from its opening state on, and it leads to the state
+abbrev pub IsLegal : Setup → List Event → State → Type 0
+IsLegal setup history state = Leads setup (opening setup) history state

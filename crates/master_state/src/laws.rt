@@ -1,0 +1,35 @@
+//! Laws of the machine, each proved once, of its definitions alone.
+ghost use Rattle.master_state.specs.Laws.{
+  EveryWaveIsBest,
+  LegalStatesAreTidy,
+  PartsAsToldAreRight,
+  ResultsAsToldAreRight,
+  SecondResultsAreOld,
+  TheOtherGoesOn,
+};
+
+/// A state that a legal history leads to keeps its tables in agreement.
+pub fn legal_states_are_tidy()
+    ensures { LegalStatesAreTidy }
+{}
+
+/// Each wave of a legal history is best in the state that it changed.
+pub fn every_wave_is_best()
+    ensures { EveryWaveIsBest }
+{}
+
+/// What is made as the start of its attempt told is never refused for a wrong input.
+pub fn results_as_told_are_right()
+    ensures splits { ResultsAsToldAreRight }
+    ensures parts { PartsAsToldAreRight }
+{}
+
+/// Of two attempts of a split the second that is done is an old one.
+pub fn second_results_are_old()
+    ensures { SecondResultsAreOld }
+{}
+
+/// The loss of one of two attempts leaves the other.
+pub fn the_other_goes_on()
+    ensures { TheOtherGoesOn }
+{}

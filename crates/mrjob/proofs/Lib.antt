@@ -1,4 +1,0 @@
-pub mod Answering
-pub mod Planning
-pub mod OneAnswer
-pub mod Written

@@ -1,0 +1,68 @@
+ghost use Rattle.std.specs.Prelude.{◌≡◌, IfOk, string_bytes};
+ghost use Rattle.plan_text.specs.Report.{certified_line, refused_at, refused_at_pair, refused_line};
+
+use crate::built::name_at;
+use price_certificate::Condition;
+use std::alloc::{AllocError, Global};
+use text_lines::NameTable;
+
+/// The answer to a plan that is best: how many splits it starts, and their byte-distance.
+pub fn certified(alloc: Global, count: usize, cost: u64) -> Result<String, AllocError>
+    ensures { IfOk result (λ line. string_bytes line ≡ certified_line count cost) }
+{
+    format!(in alloc; "certified {count} {cost}\n")
+}
+
+/// The answer to a plan that its prices do not certify: the first condition that fails, at its place.
+pub fn refused(
+    alloc: Global,
+    splits: &NameTable<'_>,
+    workers: &NameTable<'_>,
+    condition: Condition,
+) -> Result<String, AllocError>
+    ensures { IfOk result (λ line. string_bytes line ≡ refused_line splits.now workers.now condition) }
+{
+    match condition {
+        Condition::Open(s) => refusal(alloc, 1, name_at(splits, s.index())),
+        Condition::Allowed(s, w) => refusal_of_pair(
+            alloc,
+            2,
+            name_at(splits, s.index()),
+            name_at(workers, w.index()),
+        ),
+        Condition::Room(w) => refusal(alloc, 3, name_at(workers, w.index())),
+        Condition::SplitPrice(s) => refusal(alloc, 4, name_at(splits, s.index())),
+        Condition::WorkerPrice(w) => refusal(alloc, 4, name_at(workers, w.index())),
+        Condition::Priced(s, w) => refusal_of_pair(
+            alloc,
+            5,
+            name_at(splits, s.index()),
+            name_at(workers, w.index()),
+        ),
+        Condition::Tight(s, w) => refusal_of_pair(
+            alloc,
+            6,
+            name_at(splits, s.index()),
+            name_at(workers, w.index()),
+        ),
+        Condition::Unstarted(s) => refusal(alloc, 7, name_at(splits, s.index())),
+        Condition::Spare(w) => refusal(alloc, 8, name_at(workers, w.index())),
+    }
+}
+
+fn refusal(alloc: Global, condition: u8, name: &str) -> Result<String, AllocError>
+    ensures { IfOk result (λ line. string_bytes line ≡ refused_at condition name.now) }
+{
+    format!(in alloc; "refused C{condition} {name}\n")
+}
+
+fn refusal_of_pair(
+    alloc: Global,
+    condition: u8,
+    split: &str,
+    worker: &str,
+) -> Result<String, AllocError>
+    ensures { IfOk result (λ line. string_bytes line ≡ refused_at_pair condition split.now worker.now) }
+{
+    format!(in alloc; "refused C{condition} {split} {worker}\n")
+}

@@ -1,0 +1,15 @@
+use node_ids::{SplitNo, WorkerNo};
+use price_certificate::Prices;
+use std::test::Fail;
+
+#[test]
+fn prices_are_as_set(rt: HostRuntime) -> Result<(), Fail> {
+    let mut prices = Prices::new(rt.alloc(), 2, 1)?;
+    assert!(rt; prices.splits() == 2 && prices.workers() == 1);
+    prices.set_split(SplitNo::new(1), 91);
+    prices.set_worker(WorkerNo::new(0), 30);
+    assert_eq!(rt; prices.split(SplitNo::new(0)), 0);
+    assert_eq!(rt; prices.split(SplitNo::new(1)), 91);
+    assert_eq!(rt; prices.worker(WorkerNo::new(0)), 30);
+    Ok(())
+}

@@ -1,6 +1,0 @@
-use Rattle.std.proofs.Common.{refl}
-use Rattle.shuffle_reduce.proofs.tests.finish_ready.Goals as goal
-
--- the results are of the texts
-pub finish-requires-clause-covers : goal.finish-requires-clause-covers
-finish-requires-clause-covers c = c.if-not-are_ready.ensures.covers refl

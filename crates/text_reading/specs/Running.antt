@@ -1,0 +1,55 @@
+-- What a run of a command takes from its reader and leaves with its writer.
+use Rattle.std.specs.Prelude.{ℕ, List, ◌≡◌, Option, Ok, Err, IfSome, take}
+use Rattle.std.specs.declared.result.Result.{Result}
+use Rattle.std.specs.Io.KnownBytes.{Appends, Keeps}
+use Rattle.text_lines.specs.Streams.{AppendsFront, ConsumesAtMost}
+use Rattle.text_lines.specs.declared.fault.TextFault.{TextFault}
+use Rattle.text_lines.specs.declared.streams.TheConstants.{MOST_BYTES}
+use Rattle.text_reading.specs.declared.tool_error.ToolError.{ToolError}
+use Rattle.text_reading.specs.declared.tool_error.ToolError.TheVariants.{Memory, Read, Text, Write}
+
+-- all of an answer
+pub record Wrote (old new : Option (List ℕ)) (IsAnswer : List ℕ → Type 0) : Type 0 where
+  pub written : List ℕ
+  pub answers : IsAnswer written
+  pub appended : Appends old new written
+
+-- a front of an answer
+pub record WroteFront (old new : Option (List ℕ)) (IsAnswer : List ℕ → Type 0) : Type 0 where
+  pub meant : List ℕ
+  pub answers : IsAnswer meant
+  pub appended : AppendsFront old new meant
+
+-- a command that answered the text ends so
+abbrev pub outcome : {End : Type 0} → Result End TextFault → Result End ToolError
+outcome (Ok end) = Ok end
+outcome (Err fault) = Err (Text fault)
+
+-- the lines are some with which a command ends
+pub record IsSomeAnswer {End : Type 0} (Answers : Result End TextFault → List ℕ → Type 0) (lines : List ℕ) : Type 0 where
+  pub end : Result End TextFault
+  pub answers : Answers end lines
+
+-- a command of these answers read one text from a reader, wrote its answer to a writer, and ended so
+pub record HasRun {End : Type 0} (Answers : List ℕ → Result End TextFault → List ℕ → Type 0)
+    (unread left old new : Option (List ℕ)) (result : Result End ToolError) : Type 0 where
+  pub answered : (end : Result End TextFault) → result ≡ outcome end
+      → IfSome unread (λ input. Wrote old new (Answers (take MOST_BYTES input) end))
+  pub memory : result ≡ Err Memory → Keeps old new
+  pub read : result ≡ Err Read → Keeps old new
+  pub write : result ≡ Err Write
+      → IfSome unread (λ input. WroteFront old new (IsSomeAnswer (Answers (take MOST_BYTES input))))
+  pub few : ConsumesAtMost unread left MOST_BYTES
+
+-- each text has one end, and answers that are alike
+abbrev pub HasOneAnswer : {End : Type 0} → (List ℕ → Result End TextFault → List ℕ → Type 0)
+    → (List ℕ → List ℕ → Type 0) → Type 0
+HasOneAnswer {End} Answers Alike = (text : List ℕ) (a b : Result End TextFault) (x y : List ℕ) → Answers text a x
+    → Answers text b y → (a ≡ b) × Alike x y
+
+-- what was written is the answer of the text: any other answer has the same end, and is alike
+abbrev pub WroteItsAnswer : {End : Type 0} → (List ℕ → Result End TextFault → List ℕ → Type 0)
+    → (List ℕ → List ℕ → Type 0) → Option (List ℕ) → Option (List ℕ) → Option (List ℕ) → Result End ToolError → Type 0
+WroteItsAnswer {End} Answers Alike unread old new result = (end : Result End TextFault) → result ≡ outcome end
+    → IfSome unread (λ input. (other : Result End TextFault) (line : List ℕ) → Answers (take MOST_BYTES input) other line
+    → (end ≡ other) × Wrote old new (λ written. Alike written line))

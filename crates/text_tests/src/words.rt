@@ -1,0 +1,87 @@
+use std::test::Fail;
+use text_lines::{Fault, Number, is_name, printable, split_line, words};
+
+#[test]
+fn lines_end_at_line_feeds(rt: HostRuntime) {
+    let rows: [(&[u8], &[u8], Option<&[u8]>); 4] = [
+        (b"a b\n\n a", b"a b", Some(b"\n a")),
+        (b"\n a", b"", Some(b" a")),
+        (b" a", b" a", None),
+        (b"", b"", None),
+    ];
+    for (text, line, rest) in rows {
+        assert_eq!(rt; split_line(text), (line, rest), "{text:?}");
+    }
+}
+
+#[test]
+fn words_stand_between_spaces(rt: HostRuntime) -> Result<(), Fail> {
+    let rows: [(&str, &[&str]); 3] = [
+        (" a  b ", &["", "a", "", "b", ""]),
+        ("a", &["a"]),
+        ("", &[""]),
+    ];
+    for (line, want) in rows {
+        assert_eq!(rt; words(rt.alloc(), line)?.as_slice(), want, "{line}");
+    }
+    Ok(())
+}
+
+#[test]
+fn printable_lines(rt: HostRuntime) {
+    let rows: [(&[u8], Option<&str>); 6] = [
+        (b" ~", Some(" ~")),
+        (b"", Some("")),
+        (b"\t", None),
+        (b"\x7f", None),
+        (b"\xc3\xa9", None),
+        (b"a\x1f", None),
+    ];
+    for (line, want) in rows {
+        assert_eq!(rt; printable(line), want, "{line:?}");
+    }
+}
+
+#[test]
+fn names(rt: HostRuntime) {
+    for (word, is) in [
+        ("a", true),
+        ("Z", true),
+        ("w-1_x.y", true),
+        ("abcdefghijklmnopqrstuvwxyz012345", true),
+        ("abcdefghijklmnopqrstuvwxyz0123456", false),
+        ("", false),
+        ("1a", false),
+        ("-a", false),
+        ("_a", false),
+        (".a", false),
+        ("a b", false),
+        ("a/b", false),
+    ] {
+        assert_eq!(rt; is_name(word), is, "{word}");
+    }
+}
+
+#[test]
+fn numbers(rt: HostRuntime) {
+    for (word, want) in [
+        ("0", Some(0)),
+        ("7", Some(7)),
+        ("10", Some(10)),
+        ("18446744073709551615", Some(u64::MAX)),
+        ("18446744073709551616", None),
+        ("9999999999999999999999999999999999999999", None),
+    ] {
+        let value = Number::of(word).map(|number| number.value());
+        assert_eq!(rt; value, Some(want), "{word}");
+    }
+    for word in ["", "00", "01", "-1", "+1", "1a", "1 ", "0x1"] {
+        assert!(rt; Number::of(word).is_none(), "{word}");
+    }
+}
+
+#[test]
+fn faults_have_their_numbers(rt: HostRuntime) {
+    assert_eq!(rt; Fault::Shape.number(), 1);
+    assert_eq!(rt; Fault::AfterEnd.number(), 14);
+}

@@ -1,0 +1,15 @@
+use Rattle.std.proofs.Common.{string_bytes}
+use Rattle.plan_lines.specs.declared.purpose.Purpose.TheVariants.{Planning}
+use Rattle.tools.proofs.BestPlans.{plans_read}
+use Rattle.tools.proofs.LeastFault.{tells_least}
+use Rattle.tools.proofs.planning.PlannerCommand.answer.Goals as goal
+
+pub returns-in_ok-plan_lines-in-Ok : goal.returns-in_ok-plan_lines-in-Ok
+returns-in_ok-plan_lines-in-Ok c =
+    plans_read c.args.text.now c.in-Ok.read c.args.self.now.0.prices (string_bytes c.in_ok-plan_lines-in-Ok.field-0)
+    c.in-Ok.ensures.ok c.in_ok-plan_lines-in-Ok.ensures
+
+pub returns-in_ok-line-in-Err : goal.returns-in_ok-line-in-Err
+returns-in_ok-line-in-Err c =
+    tells_least Planning c.args.text.now c.in-Err.error c.in_ok-line-in-Err.fault (string_bytes c.in_ok-line-in-Err.line)
+    c.in-Err.ensures.err c.in_ok-line-in-Err.ensures

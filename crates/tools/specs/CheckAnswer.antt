@@ -1,0 +1,63 @@
+-- What a check answers to a text, and the line that it writes.
+use Rattle.std.specs.Prelude.{ℕ, List, ◌≡◌, Ok, Err, length}
+use Rattle.std.specs.declared.result.Result.{Result}
+use Rattle.text_lines.specs.Texts.{Word}
+use Rattle.text_lines.specs.declared.fault.TextFault.{TextFault}
+use Rattle.wave_problem.specs.Wave.{Wave}
+use Rattle.wave_problem.specs.Assignment.{IsBest, pairs_of, total}
+use Rattle.price_certificate.specs.Certificate.{Claim, Certifies, IsFirstFailure, claim}
+use Rattle.price_certificate.specs.declared.Condition.{Condition}
+use Rattle.plan_lines.specs.Statements.{Statement}
+use Rattle.plan_lines.specs.Known.{splits, workers}
+use Rattle.plan_lines.specs.Faults.{IsLeastFault, Reads}
+use Rattle.plan_lines.specs.declared.purpose.Purpose.{Purpose}
+use Rattle.plan_lines.specs.declared.purpose.Purpose.TheVariants.{Checking}
+use Rattle.plan_text.specs.Value.{DeclaresWave, prices, starts}
+use Rattle.plan_text.specs.Report.{certified_line, refused_line}
+use Rattle.text_reading.specs.FaultLine.{fault_line}
+use Rattle.plan_text.specs.declared.reader.ReadingError.{ReadingError}
+use Rattle.plan_text.specs.declared.reader.ReadingError.TheVariants as reading
+use Rattle.tools.specs.declared.ending.CheckEnd.{CheckEnd}
+use Rattle.tools.specs.declared.ending.CheckEnd.TheVariants.{Certified, Refused}
+
+-- the prices certify the plan, which so is best in the problem; the line has its count and its cost
+pub record SaysCertified (c : Claim) (line : List ℕ) : Type 0 where
+  pub certifies : Certifies c
+  pub best : IsBest c.wave (pairs_of c.starts)
+  pub said : line ≡ certified_line (length (pairs_of c.starts)) (total c.wave (pairs_of c.starts))
+
+-- this condition fails, no earlier one does, and the line names it with its split and worker
+pub record SaysRefused (condition : Condition) (c : Claim) (splits workers : List Word) (line : List ℕ) : Type 0 where
+  pub first : IsFirstFailure c condition
+  pub said : line ≡ refused_line splits workers condition
+
+-- the line on a claim, by the names of its splits and workers
+abbrev pub Judges : CheckEnd → Claim → List Word → List Word → List ℕ → Type 0
+Judges Certified c splits workers line = SaysCertified c line
+Judges (Refused condition) c splits workers line = SaysRefused condition c splits workers line
+
+abbrev pub claim_of : Wave → List Statement → Claim
+claim_of wave ss = claim wave (starts ss) (prices ss)
+
+-- the line is on the problem, plan and prices that the text declares
+pub record AnswersRead (text : List ℕ) (end : CheckEnd) (line : List ℕ) : Type 0 where
+  pub statements : List Statement
+  pub wave : Wave
+  pub reads : Reads Checking text statements
+  pub declared : DeclaresWave Checking statements wave
+  pub judges : Judges end (claim_of wave statements) (splits statements) (workers statements) line
+
+-- the line names the least fault of the text
+pub record IsFaulty (purpose : Purpose) (text : List ℕ) (fault : TextFault) (line : List ℕ) : Type 0 where
+  pub least : IsLeastFault purpose text fault.line fault.number
+  pub said : line ≡ fault_line fault
+
+-- the line names the fault for which a text could not be read
+abbrev pub TellsFault : ReadingError → TextFault → List ℕ → Type 0
+TellsFault (reading.Text fault) told line = (told ≡ fault) × (line ≡ fault_line fault)
+TellsFault reading.Memory told line = ⊥
+
+-- the line with which a check ends so
+abbrev pub CheckAnswer : List ℕ → Result CheckEnd TextFault → List ℕ → Type 0
+CheckAnswer text (Ok end) line = AnswersRead text end line
+CheckAnswer text (Err fault) line = IsFaulty Checking text fault line

@@ -1,0 +1,52 @@
+-- The statuses with which the program exits, and its words on standard error.
+use Rattle.std.specs.Prelude.{ℕ, List, Option, Some, None, Ok, Err, codes}
+use Rattle.std.specs.declared.result.Result.{Result}
+use Rattle.clap.specs.Words.{kind_of}
+use Rattle.clap.specs.declared.error.kind.ErrorKind.{ErrorKind}
+use Rattle.clap.specs.declared.error.kind.ErrorKind.TheVariants.{DisplayHelp, DisplayVersion}
+use Rattle.command_line.specs.declared.asked.AskError.{AskError}
+use Rattle.command_line.specs.declared.asked.AskError.TheVariants as asked
+use Rattle.text_reading.specs.declared.tool_error.ToolError.{ToolError}
+use Rattle.text_reading.specs.declared.tool_error.ToolError.TheVariants.{Memory, Read, Text, Write}
+use Rattle.tools.specs.declared.ending.CheckEnd.{CheckEnd}
+use Rattle.tools.specs.declared.ending.CheckEnd.TheVariants as check
+use Rattle.tools.specs.declared.ending.Ending.{Ending}
+use Rattle.tools.specs.declared.ending.Ending.TheVariants.{Failed, Misused, Refused, Well}
+use Rattle.tools.specs.declared.ending.PlanEnd.{PlanEnd}
+
+abbrev pub ending_of_check : Result CheckEnd ToolError → Ending
+ending_of_check (Ok check.Certified) = Well
+ending_of_check (Ok (check.Refused condition)) = Refused
+ending_of_check (Err error) = Failed error
+
+abbrev pub ending_of_plan : Result PlanEnd ToolError → Ending
+ending_of_plan (Ok end) = Well
+ending_of_plan (Err error) = Failed error
+
+-- help and the version were asked for; every other kind is wrong usage
+abbrev pub ending_of_kind : ErrorKind → Ending
+ending_of_kind DisplayHelp = Well
+ending_of_kind DisplayVersion = Well
+ending_of_kind _ = Misused
+
+abbrev pub ending_of_asking : AskError → Ending
+ending_of_asking (asked.Fault error) = ending_of_kind (kind_of error)
+ending_of_asking asked.Memory = Failed Memory
+
+abbrev pub status_of : Ending → ℕ
+status_of Well = 0
+status_of Refused = 1
+status_of (Failed (Text fault)) = 2
+status_of (Failed Memory) = 3
+status_of (Failed Read) = 4
+status_of (Failed Write) = 4
+status_of Misused = 64
+
+abbrev pub words_of : Ending → Option (List ℕ)
+words_of (Failed Memory) = Some (codes "mrjob: no memory")
+words_of (Failed Read) = Some (codes "mrjob: read fault")
+words_of (Failed Write) = Some (codes "mrjob: write fault")
+words_of (Failed (Text fault)) = None
+words_of Well = None
+words_of Refused = None
+words_of Misused = None

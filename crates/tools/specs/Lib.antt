@@ -1,0 +1,4 @@
+pub mod CheckAnswer
+pub mod PlanAnswer
+pub mod Ending
+pub mod OneAnswer

@@ -1,0 +1,78 @@
+-- A check answers each text in one way, with at most one end and one line; planning has at most one end for it.
+use Rattle.std.proofs.Common.{ℕ, List, Bool, Ok, Err, ◌≡◌, ◌∙◌, refl, sym, ap, subst}
+use Rattle.price_certificate.specs.Certificate.{Claim}
+use Rattle.price_certificate.proofs.SameBars.{HaveSamePairs, barring, have_same_pairs-sym}
+use Rattle.price_certificate.proofs.SameBars.{certified-faultless, first_failures-equal}
+use Rattle.text_lines.specs.Texts.{Word}
+use Rattle.text_lines.specs.declared.fault.TextFault.{TextFault}
+use Rattle.plan_lines.specs.Known.{splits, workers}
+use Rattle.plan_lines.specs.Entries.{entries_of}
+use Rattle.plan_lines.specs.declared.purpose.Purpose.{Purpose}
+use Rattle.plan_lines.specs.declared.purpose.Purpose.TheVariants.{Checking, Planning}
+use Rattle.plan_lines.proofs.OneReading.{least_fault-unique, reads-faultless, reads-unique}
+use Rattle.plan_text.specs.Report.{refused_line}
+use Rattle.plan_text.specs.Value.{DeclaresWave, known_of}
+use Rattle.text_reading.specs.FaultLine.{fault_line}
+use Rattle.text_reading.specs.Running.{HasOneAnswer}
+use Rattle.plan_text.proofs.OneWave.{same_bars, same_parts}
+use Rattle.tools.specs.CheckAnswer.{AnswersRead, CheckAnswer, IsFaulty, Judges, claim_of}
+use Rattle.tools.specs.PlanAnswer.{AnyLines, PlanAnswer}
+use Rattle.tools.specs.declared.ending.CheckEnd.{CheckEnd}
+use Rattle.tools.specs.declared.ending.CheckEnd.TheVariants.{Certified, Refused}
+use Rattle.tools.specs.declared.ending.PlanEnd.TheVariants.{Planned}
+
+-- claims that differ only in how the set of barred pairs is kept are judged alike
+one_judgement : (c : Claim) (ss ws : List Word) (p q : List ℕ) → HaveSamePairs p q
+    → (a b : CheckEnd) (x y : List ℕ) → Judges a (barring c p) ss ws x
+    → Judges b (barring c q) ss ws y → (a ≡ b) × (x ≡ y)
+one_judgement c ss ws p q same Certified Certified x y g h = (refl, g.said ∙ sym h.said)
+one_judgement c ss ws p q same Certified (Refused b) x y g h =
+    absurd (certified-faultless c p q same b g.certifies h.first)
+one_judgement c ss ws p q same (Refused a) Certified x y g h =
+    absurd (certified-faultless c q p (have_same_pairs-sym p q same) a h.certifies g.first)
+one_judgement c ss ws p q same (Refused a) (Refused b) x y g h =
+    let condition = first_failures-equal c p q same a b g.first h.first in
+    (ap Refused condition, g.said ∙ ap (refused_line ss ws) condition ∙ sym h.said)
+
+-- the statements are the same, and the waves that they declare
+one_answer_read : (text : List ℕ) (a b : CheckEnd) (x y : List ℕ) → AnswersRead text a x
+    → AnswersRead text b y → (a ≡ b) × (x ≡ y)
+one_answer_read text a b x y g h =
+    let ss = g.statements in
+    let k = known_of Checking ss in
+    let e = entries_of ss in
+    let same : h.statements ≡ ss = reads-unique Checking text h.statements ss h.reads g.reads in
+    let made : DeclaresWave Checking ss h.wave =
+    subst (λ q. DeclaresWave Checking q h.wave) same h.declared in
+    let judges : Judges b (claim_of h.wave ss) (splits ss) (workers ss) y =
+    subst (λ q. Judges b (claim_of h.wave q) (splits q) (workers q) y) same h.judges in
+    let parts = same_parts k e g.wave h.wave g.declared made in
+    one_judgement (claim_of g.wave ss) (splits ss) (workers ss) g.wave.barred h.wave.barred
+    (same_bars k e g.wave h.wave g.declared made) a b x y g.judges
+    (subst (λ w. Judges b (claim_of w ss) (splits ss) (workers ss) y) parts judges)
+
+one_fault : (purpose : Purpose) (text : List ℕ) (f g : TextFault) (x y : List ℕ) → IsFaulty purpose text f x
+    → IsFaulty purpose text g y → (f ≡ g) × (x ≡ y)
+one_fault purpose text f g x y p q =
+    let same = least_fault-unique purpose text f.line g.line f.number g.number p.least q.least in
+    let faults : f ≡ g = λ i. record { line = same.0 i; number = same.1 i } in
+    (faults, p.said ∙ ap fault_line faults ∙ sym q.said)
+
+-- at most one end of a check and one line answer a text
+pub one_check_answer : HasOneAnswer CheckAnswer (λ x y. x ≡ y)
+one_check_answer text (Ok a) (Ok b) x y g h = let one = one_answer_read text a b x y g h in (ap Ok one.0, one.1)
+one_check_answer text (Ok a) (Err f) x y g h =
+    absurd (reads-faultless Checking text g.statements f.line f.number g.reads h.least)
+one_check_answer text (Err f) (Ok b) x y g h =
+    absurd (reads-faultless Checking text h.statements f.line f.number h.reads g.least)
+one_check_answer text (Err f) (Err g) x y p q = let one = one_fault Checking text f g x y p q in (ap Err one.0, one.1)
+
+-- at most one end of planning answers a text
+pub one_plan_answer : (with_prices : Bool) → HasOneAnswer (λ text. PlanAnswer text with_prices) AnyLines
+one_plan_answer with_prices text (Ok Planned) (Ok Planned) x y g h = (refl, tt)
+one_plan_answer with_prices text (Ok a) (Err f) x y g h =
+    absurd (reads-faultless Planning text g.statements f.line f.number g.reads h.least)
+one_plan_answer with_prices text (Err f) (Ok b) x y g h =
+    absurd (reads-faultless Planning text h.statements f.line f.number h.reads g.least)
+one_plan_answer with_prices text (Err f) (Err g) x y p q =
+    let one = one_fault Planning text f g x y p q in (ap Err one.0, tt)

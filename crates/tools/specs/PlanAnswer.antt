@@ -1,0 +1,73 @@
+-- What is answered to a problem that is to be planned, and the lines that are written.
+use Rattle.std.specs.Prelude.{ℕ, List, [], ⊤, ◌≡◌, ◌++◌, ◌≤◌, Bool, true, false, Option, Ok, Err, length}
+use Rattle.std.specs.declared.result.Result.{Result}
+use Rattle.text_lines.specs.Texts.{Word}
+use Rattle.text_lines.specs.declared.fault.TextFault.{TextFault}
+use Rattle.wave_problem.specs.Wave.{Wave}
+use Rattle.wave_problem.specs.Assignment.{IsBest, pairs_of, total}
+use Rattle.price_certificate.specs.Certificate.{Claim, Certifies, claim}
+use Rattle.price_certificate.specs.PriceList.{PriceList}
+use Rattle.plan_lines.specs.Statements.{Statement}
+use Rattle.plan_lines.specs.Known.{splits, workers}
+use Rattle.plan_lines.specs.Faults.{Reads, longest}
+use Rattle.plan_lines.specs.declared.purpose.Purpose.TheVariants.{Planning}
+use Rattle.plan_text.specs.Value.{DeclaresWave}
+use Rattle.plan_text.specs.Report.{certified_line, lines_of_plan, price_lines, start_lines, wave_line}
+use Rattle.written_plan.specs.Joined.{IsPlanFor, with_plan}
+use Rattle.tools.specs.CheckAnswer.{CheckAnswer, IsFaulty}
+use Rattle.tools.specs.declared.ending.CheckEnd.TheVariants.{Certified}
+use Rattle.tools.specs.declared.ending.PlanEnd.{PlanEnd}
+
+-- how many splits a plan starts, and at what cost
+abbrev pub count_of : Claim → ℕ
+count_of c = length (pairs_of c.starts)
+
+abbrev pub cost_of : Claim → ℕ
+cost_of c = total c.wave (pairs_of c.starts)
+
+-- the prices, where they are asked for
+abbrev pub asked_prices : Bool → List Word → List Word → PriceList → List ℕ
+asked_prices true splits workers prices = price_lines splits workers prices
+asked_prices false splits workers prices = []
+
+-- the prices certify the plan, which so is best in the problem; the lines have its count, its cost and its starts, and
+-- the prices where they are asked for
+pub record SaysPlanned (with_prices : Bool) (c : Claim) (splits workers : List Word) (lines : List ℕ) : Type 0 where
+  pub certifies : Certifies c
+  pub best : IsBest c.wave (pairs_of c.starts)
+  pub said : lines ≡ wave_line (count_of c) (cost_of c) ++ start_lines splits workers c.starts
+      ++ asked_prices with_prices splits workers c.prices
+
+-- starts and prices, put after the head of the text, are a text that a check certifies, where it is short enough
+abbrev pub ChecksAgain : List ℕ → Claim → List Word → List Word → Type 0
+ChecksAgain text c splits workers =
+    length (with_plan text (lines_of_plan splits workers c.starts c.prices)) ≤ longest
+    → CheckAnswer (with_plan text (lines_of_plan splits workers c.starts c.prices)) (Ok Certified)
+    (certified_line (count_of c) (cost_of c))
+
+-- the lines are on the problem that the text declares
+pub record PlansRead (text : List ℕ) (with_prices : Bool) (lines : List ℕ) : Type 0 where
+  pub statements : List Statement
+  pub wave : Wave
+  pub starts : List (Option ℕ)
+  pub prices : PriceList
+  pub reads : Reads Planning text statements
+  pub declared : DeclaresWave Planning statements wave
+  pub says : SaysPlanned with_prices (claim wave starts prices) (splits statements) (workers statements) lines
+  pub checks : ChecksAgain text (claim wave starts prices) (splits statements) (workers statements)
+
+-- the lines with which planning ends so
+abbrev pub PlanAnswer : List ℕ → Bool → Result PlanEnd TextFault → List ℕ → Type 0
+PlanAnswer text with_prices (Ok end) lines = PlansRead text with_prices lines
+PlanAnswer text with_prices (Err fault) lines = IsFaulty Planning text fault lines
+
+-- which of the best plans is written, and with which prices, stays free
+abbrev pub AnyLines : List ℕ → List ℕ → Type 0
+AnyLines _ _ = ⊤
+
+-- the lines are on a plan of this problem, whose splits and workers have these names
+pub record PlansProblem (wave : Wave) (splits workers : List Word) (with_prices : Bool) (lines : List ℕ) : Type 0 where
+  pub starts : List (Option ℕ)
+  pub prices : PriceList
+  pub sized : IsPlanFor splits workers starts prices
+  pub says : SaysPlanned with_prices (claim wave starts prices) splits workers lines

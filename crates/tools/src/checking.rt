@@ -1,0 +1,152 @@
+ghost use Rattle.std.specs.Prelude.{◌≡◌, ⊤, IfOk, string_bytes};
+ghost use Rattle.std.specs.Thread.{IsSync};
+ghost use Rattle.price_certificate.specs.Certificate.{HasOneSize, claim};
+ghost use Rattle.certificate_checker.specs.Verdict.{IsVerdict};
+ghost use Rattle.text_reading.specs.Running.{HasRun, WroteItsAnswer};
+ghost use Rattle.tools.specs.CheckAnswer.{CheckAnswer, Judges};
+ghost use Rattle.tools.specs.OneAnswer.{one_check_answer};
+
+use crate::ending::CheckEnd;
+use crate::faults::fault_answer;
+use certificate_checker::{Certified, CheckError, certify, certify_on};
+use plan_text::check_report::{certified, refused};
+use plan_text::{PlanText, read_plan};
+use price_certificate::Condition;
+use std::alloc::{AllocError, Global};
+use std::io::{Read, Write};
+use std::thread::Threads;
+use text_lines::TextFault;
+use text_reading::{Command, ToolError, run_command};
+
+/// Reads a problem, a plan and prices, and writes whether the prices certify the plan, or the text's
+/// least fault. All of the line is made before its first byte is written.
+pub fn check<R: Read, W: Write>(
+    alloc: Global,
+    reader: &mut R,
+    writer: &mut W,
+) -> Result<CheckEnd, ToolError>
+    ensures ran { HasRun CheckAnswer (R.remaining reader.old) (R.remaining reader.new)
+        (W.contents writer.old) (W.contents writer.new) result }
+{
+    run_command(&Checker(OneThread), alloc, reader, writer)
+}
+
+/// Writes the bytes that `check` writes, with the longest pass of the check on many threads; or writes
+/// nothing, for want of memory.
+pub fn check_on<R: Read, W: Write>(
+    rt: &(impl Threads + Sync),
+    alloc: Global,
+    reader: &mut R,
+    writer: &mut W,
+) -> Result<CheckEnd, ToolError>
+    ensures ran { HasRun CheckAnswer (R.remaining reader.old) (R.remaining reader.new)
+        (W.contents writer.old) (W.contents writer.new) result }
+
+    // The answer to a text is the only one.
+    ensures same { WroteItsAnswer CheckAnswer (λ written line. written ≡ line) (R.remaining reader.old)
+        (W.contents writer.old) (W.contents writer.new) result }
+{
+    run_command(&Checker(ManyThreads(rt)), alloc, reader, writer)
+}
+
+/// What says whether prices certify a plan, or finds no memory for it.
+pub trait Certifier {
+    ghost ready: { Self → Type 0 } = { λ _. ⊤ };
+
+    fn verdict(
+        &self,
+        alloc: Global,
+        read: &PlanText<'_>,
+    ) -> Result<Result<Certified, Condition>, AllocError>
+        requires ready { ready self.now }
+        requires sized { HasOneSize (claim read.now.problem read.now.plan.starts read.now.prices) read.now.plan.workers }
+        ensures { IfOk result (IsVerdict (claim read.now.problem read.now.plan.starts read.now.prices)) };
+}
+
+/// A verdict that is found on this thread.
+#[derive(Drop)]
+pub struct OneThread;
+
+impl Certifier for OneThread {
+    fn verdict(
+        &self,
+        _alloc: Global,
+        read: &PlanText<'_>,
+    ) -> Result<Result<Certified, Condition>, AllocError> {
+        Ok(certify(&read.problem, &read.plan, &read.prices))
+    }
+}
+
+/// A verdict whose longest pass is made on many threads.
+#[derive(Drop)]
+pub struct ManyThreads<'a, T: Threads + Sync>(&'a T);
+
+impl<'a, T: Threads + Sync> Certifier for ManyThreads<'a, T> {
+    ghost ready = { λ _. IsSync T.row };
+
+    fn verdict(
+        &self,
+        alloc: Global,
+        read: &PlanText<'_>,
+    ) -> Result<Result<Certified, Condition>, AllocError> {
+        match certify_on(self.0, alloc, &read.problem, &read.plan, &read.prices) {
+            Ok(certified) => Ok(Ok(certified)),
+            Err(CheckError::Failed(condition)) => Ok(Err(condition)),
+            Err(CheckError::Memory) => Err(AllocError),
+        }
+    }
+}
+
+/// A check.
+#[derive(Drop)]
+pub struct Checker<C: Certifier>(C);
+
+impl<C: Certifier> Command for Checker<C> {
+    type End = CheckEnd;
+
+    ghost ready = { λ checker. C.ready checker.0 };
+
+    ghost Answers = { λ _. CheckAnswer };
+
+    ghost one_answer = { λ _. one_check_answer };
+
+    fn answer(
+        &self,
+        alloc: Global,
+        text: &[u8],
+    ) -> Result<(String, Result<CheckEnd, TextFault>), AllocError> {
+        match read_plan(alloc, text) {
+            Ok(read) => {
+                let verdict = self.0.verdict(alloc, &read)?;
+                let (line, end) = judge(alloc, &read, verdict)?;
+                Ok((line, Ok(end)))
+            }
+            Err(error) => {
+                let (line, fault) = fault_answer(alloc, error)?;
+                Ok((line, Err(fault)))
+            }
+        }
+    }
+}
+
+// The line on what was read, by the verdict on it, and how the check ends with it.
+fn judge(
+    alloc: Global,
+    read: &PlanText<'_>,
+    verdict: Result<Certified, Condition>,
+) -> Result<(String, CheckEnd), AllocError>
+    requires { IsVerdict (claim read.now.problem read.now.plan.starts read.now.prices) verdict }
+    ensures { IfOk result (λ given. Judges given.1 (claim read.now.problem read.now.plan.starts read.now.prices)
+        read.now.splits read.now.workers (string_bytes given.0)) }
+{
+    match verdict {
+        Ok(answer) => Ok((
+            certified(alloc, answer.count, answer.cost)?,
+            CheckEnd::Certified,
+        )),
+        Err(condition) => Ok((
+            refused(alloc, &read.splits, &read.workers, condition)?,
+            CheckEnd::Refused(condition),
+        )),
+    }
+}

@@ -1,0 +1,94 @@
+use command_line::asked::AskError;
+use price_certificate::Condition;
+use text_reading::ToolError;
+
+/// How a check ends that was written.
+#[derive(Clone, Copy, Debug, PartialEq, Eq)]
+pub enum CheckEnd {
+    Certified,
+    /// The first condition that fails.
+    Refused(Condition),
+}
+
+/// How planning ends that was written.
+#[derive(Clone, Copy, Debug, PartialEq, Eq)]
+pub enum PlanEnd {
+    /// A best plan, which its prices certify.
+    Planned,
+}
+
+/// How the program ends.
+#[derive(Clone, Copy, Debug, PartialEq, Eq)]
+pub enum Ending {
+    /// A plan was certified or made, or help was given.
+    Well,
+    /// A condition refuses the plan.
+    Refused,
+    /// The words of the command line ask for nothing.
+    Misused,
+    /// The command has no answer of its own.
+    Failed(ToolError),
+}
+
+impl Ending {
+    ghost use Rattle.std.specs.Prelude.{◌≡◌};
+    ghost use Rattle.std.specs.Option.{option_map};
+    ghost use Rattle.tools.specs.Ending.{ending_of_asking, ending_of_check, ending_of_plan, status_of, words_of};
+
+    pub fn of_check(end: Result<CheckEnd, ToolError>) -> Ending
+        ensures { result ≡ ending_of_check end }
+    {
+        match end {
+            Ok(CheckEnd::Certified) => Ending::Well,
+            Ok(CheckEnd::Refused(_)) => Ending::Refused,
+            Err(error) => Ending::Failed(error),
+        }
+    }
+
+    pub fn of_plan(end: Result<PlanEnd, ToolError>) -> Ending
+        ensures { result ≡ ending_of_plan end }
+    {
+        match end {
+            Ok(PlanEnd::Planned) => Ending::Well,
+            Err(error) => Ending::Failed(error),
+        }
+    }
+
+    /// The end of a program whose words name no command.
+    pub fn of_asking(error: &AskError) -> Ending
+        ensures { result ≡ ending_of_asking error.now }
+    {
+        match error {
+            AskError::Fault(error) if error.use_stderr() => Ending::Misused,
+            AskError::Fault(_) => Ending::Well,
+            AskError::Memory => Ending::Failed(ToolError::Memory),
+        }
+    }
+
+    /// The status with which the program exits.
+    pub fn status(self) -> u8
+        ensures { result ≡ status_of self }
+    {
+        match self {
+            Ending::Well => 0,
+            Ending::Refused => 1,
+            Ending::Failed(ToolError::Text(_)) => 2,
+            Ending::Failed(ToolError::Memory) => 3,
+            Ending::Failed(ToolError::Read | ToolError::Write) => 4,
+            Ending::Misused => 64,
+        }
+    }
+
+    /// What is told on standard error, without its line feed; the text of wrong words is `clap`'s.
+    pub fn words(self) -> Option<&'static str>
+        ensures { option_map (λ words. words.now) result ≡ words_of self }
+    {
+        match self {
+            Ending::Failed(ToolError::Memory) => Some("mrjob: no memory"),
+            Ending::Failed(ToolError::Read) => Some("mrjob: read fault"),
+            Ending::Failed(ToolError::Write) => Some("mrjob: write fault"),
+            Ending::Failed(ToolError::Text(_)) => None,
+            Ending::Well | Ending::Refused | Ending::Misused => None,
+        }
+    }
+}

@@ -1,0 +1,20 @@
+ghost use Rattle.std.specs.Prelude.{IfOk, string_bytes};
+ghost use Rattle.tools.specs.CheckAnswer.{TellsFault};
+
+use plan_text::ReadingError;
+use std::alloc::{AllocError, Global};
+use text_lines::TextFault;
+use text_reading::faulty;
+
+// The line that answers a text with a fault, and the fault; or want of memory.
+pub(crate) fn fault_answer(
+    alloc: Global,
+    error: ReadingError,
+) -> Result<(String, TextFault), AllocError>
+    ensures { IfOk result (λ told. TellsFault error told.1 (string_bytes told.0)) }
+{
+    match error {
+        ReadingError::Text(fault) => Ok((faulty(alloc, fault)?, fault)),
+        ReadingError::Memory => Err(AllocError),
+    }
+}

@@ -1,0 +1,91 @@
+ghost use Rattle.std.specs.Prelude.{◌≡◌, IfOk, length, string_bytes};
+ghost use Rattle.text_reading.specs.Running.{HasRun};
+ghost use Rattle.tools.specs.PlanAnswer.{AnyLines, PlanAnswer, PlansProblem};
+ghost use Rattle.tools.specs.OneAnswer.{one_plan_answer};
+
+use crate::ending::PlanEnd;
+use crate::faults::fault_answer;
+use command_line::asked::PlanOptions;
+use plan_text::plan_report::{add_prices, planned};
+use plan_text::{ProblemText, read_problem};
+use std::alloc::{AllocError, Global};
+use std::io::{Read, Write};
+use text_lines::TextFault;
+use text_reading::{Command, ToolError, run_command};
+use wave_planner::{PlanError, plan_with};
+
+/// Reads a problem, and writes a best plan of its map starts, with prices if the options ask for them,
+/// or the text's least fault. All lines are made before their first byte is written. The starts and
+/// prices, put with a line `plan` in front of the problem's line `end`, are a text that `check`
+/// certifies, where it has at most 16,777,216 bytes.
+pub fn plan<R: Read, W: Write>(
+    alloc: Global,
+    reader: &mut R,
+    writer: &mut W,
+    options: PlanOptions,
+) -> Result<PlanEnd, ToolError>
+    ensures { HasRun (λ text. PlanAnswer text options.prices) (R.remaining reader.old) (R.remaining reader.new)
+        (W.contents writer.old) (W.contents writer.new) result }
+{
+    run_command(&Planner(options), alloc, reader, writer)
+}
+
+/// Planning, by these options.
+#[derive(Drop)]
+pub struct Planner(PlanOptions);
+
+impl Command for Planner {
+    type End = PlanEnd;
+
+    ghost Answers = { λ planner text. PlanAnswer text planner.0.prices };
+
+    ghost Alike = { AnyLines };
+
+    ghost one_answer = { λ planner. one_plan_answer planner.0.prices };
+
+    fn answer(
+        &self,
+        alloc: Global,
+        text: &[u8],
+    ) -> Result<(String, Result<PlanEnd, TextFault>), AllocError> {
+        match read_problem(alloc, text) {
+            Ok(read) => Ok((plan_lines(alloc, &read, self.0)?, Ok(PlanEnd::Planned))),
+            Err(error) => {
+                let (line, fault) = fault_answer(alloc, error)?;
+                Ok((line, Err(fault)))
+            }
+        }
+    }
+}
+
+// The lines on a best plan of the problem that was read.
+fn plan_lines(
+    alloc: Global,
+    read: &ProblemText<'_>,
+    options: PlanOptions,
+) -> Result<String, AllocError>
+    requires splits { length read.now.splits ≡ length read.now.problem.splits }
+    requires workers { length read.now.workers ≡ length read.now.problem.workers }
+    ensures { IfOk result (λ lines. PlansProblem read.now.problem read.now.splits read.now.workers
+        options.prices (string_bytes lines)) }
+{
+    // (what these readers promise: there are few workers, and no price is past what can be read back)
+    let _limits = (read.problem.workers(), read.problem.reward());
+    let best = match plan_with(alloc, &read.problem, options.network) {
+        Ok(best) => best,
+        Err(PlanError::Memory) => return Err(AllocError),
+    };
+    let said = best.certified();
+    let mut lines = planned(
+        alloc,
+        &read.splits,
+        &read.workers,
+        best.plan(),
+        said.count,
+        said.cost,
+    )?;
+    if options.prices {
+        add_prices(&mut lines, &read.splits, &read.workers, best.prices())?;
+    }
+    Ok(lines)
+}

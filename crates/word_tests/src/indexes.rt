@@ -1,0 +1,189 @@
+ghost use Rattle.std.specs.Prelude.{◌≡◌, All, IsTrue};
+ghost use Rattle.shuffle_reduce.specs.Merged.{AreSameTexts, PartView};
+ghost use Rattle.shuffle_reduce.specs.Gather.{values_of};
+
+use crate::texts::text;
+use node_ids::{DocNo, PartNo};
+use shuffle_reduce::{FinishError, Index, PartResult, finish, merge};
+use std::alloc::{AllocError, Global};
+use std::process::Abort;
+use std::sync::Arc;
+use std::test::Fail;
+use word_map::{MapResult, Run, SplitText, map_split};
+
+// The result of a part of two, merged of the part's run given twice.
+fn merged_twice(
+    rt: &impl Abort,
+    alloc: Global,
+    made: &MapResult,
+    part: u8,
+) -> Result<PartResult, AllocError> {
+    assert!(rt; part < 2);
+    assert!(rt; made.parts() == 2);
+    let part = PartNo::new(part);
+    let run = made.run(part);
+    let runs: [Arc<Run>; 2] = [Arc::try_clone(run)?, Arc::try_clone(run)?];
+    Ok(merge(alloc, 2, part, &runs)?)
+}
+
+// The results of the parts with these numbers.
+fn results_of(
+    rt: &impl Abort,
+    alloc: Global,
+    text: &Arc<SplitText>,
+    parts: &[u8],
+) -> Result<Vec<PartResult>, AllocError> {
+    let made = map_split(alloc, Arc::try_clone(text)?, 2)?;
+    let mut results = Vec::new(alloc);
+    for part in parts {
+        results.push(merged_twice(rt, alloc, &made, *part)?)?;
+    }
+    Ok(results)
+}
+
+// Whether each result is of these texts and of two parts.
+fn are_ready(results: &[PartResult], texts: &[Arc<SplitText>]) -> bool
+    ensures covers { IsTrue result → All (λ (one : PartView). AreSameTexts one.texts (values_of texts.now)) results.now }
+    ensures parts { IsTrue result → All (λ (one : PartView). one.parts ≡ 2) results.now }
+{
+    for one in results {
+        if !one.covers(texts) {
+            return false;
+        }
+        if one.parts() != 2 {
+            return false;
+        }
+    }
+    true
+}
+
+// What comes of the results, where they are ready.
+fn finish_ready(
+    alloc: Global,
+    texts: &[Arc<SplitText>],
+    results: &[PartResult],
+) -> Option<Result<Index, FinishError>> {
+    if !are_ready(results, texts) {
+        return None;
+    }
+    Some(finish(alloc, 2, texts, results))
+}
+
+// What comes of the parts with these numbers.
+fn finished(
+    rt: &impl Abort,
+    alloc: Global,
+    parts: &[u8],
+) -> Result<Option<Result<Index, FinishError>>, AllocError> {
+    let text = text(alloc, &["The cat", "cat, THE dog"])?;
+    let results = results_of(rt, alloc, &text, parts)?;
+    let texts = [text];
+    Ok(finish_ready(alloc, &texts, results.as_slice()))
+}
+
+// Why there is no index of the parts with these numbers.
+fn refusal(
+    rt: &impl Abort,
+    alloc: Global,
+    parts: &[u8],
+) -> Result<Option<FinishError>, AllocError> {
+    Ok(match finished(rt, alloc, parts)? {
+        Some(Err(why)) => Some(why),
+        _ => None,
+    })
+}
+
+// The entries of the index have these words, and the documents that these numbers begin and end with.
+fn has_just(index: &Index, words: &[&str], documents: &[(u32, u32)]) -> bool {
+    index.entries().len() == words.len()
+        && index
+            .entries()
+            .iter()
+            .zip(words)
+            .all(|(entry, word)| entry.word() == *word)
+        && index.entries().iter().zip(documents).all(|(entry, (first, last))| {
+            entry.documents().first() == Some(&DocNo::new(*first))
+                && entry.documents().last() == Some(&DocNo::new(*last))
+        })
+}
+
+#[test]
+fn each_document_stands_once(rt: HostRuntime) -> Result<(), Fail> {
+    let alloc = rt.alloc();
+    let Some(Ok(index)) = finished(&rt, alloc, &[1, 0])? else {
+        panic!(rt; "no index");
+    };
+    assert!(rt; has_just(&index, &["cat", "dog", "the"], &[(0, 1), (1, 1), (0, 1)]));
+    Ok(())
+}
+
+#[test]
+fn double_comes_before_missing(rt: HostRuntime) -> Result<(), Fail> {
+    let rows: [(&[u8], FinishError); 4] = [
+        (&[1], FinishError::MissingPart),
+        (&[], FinishError::MissingPart),
+        (&[0, 1, 0], FinishError::DoublePart),
+        (&[0, 0], FinishError::DoublePart),
+    ];
+    for (parts, want) in rows {
+        assert_eq!(rt;
+            refusal(&rt, rt.alloc(), parts)?,
+            Some(want),
+            "parts {parts:?}"
+        );
+    }
+    Ok(())
+}
+
+// It holds whichever allocation is refused, one or none.
+#[test]
+fn a_refused_allocation_is_told(rt: HostRuntime) {
+    match finished(&rt, rt.alloc(), &[0, 1]) {
+        Ok(Some(Ok(index))) => assert_eq!(rt; index.entries().len(), 3),
+        Ok(Some(Err(why))) => assert_eq!(rt; why, FinishError::Memory),
+        Ok(None) => panic!(rt; "a result does not cover its texts"),
+        Err(_) => {}
+    }
+}
+
+// The second part of a text's result, which has no pair.
+fn empty_part(rt: &impl Abort, alloc: Global, own: &Arc<SplitText>) -> Option<PartResult> {
+    let made = map_split(alloc, Arc::try_clone(own).ok()?, 2).ok()?;
+    merged_twice(rt, alloc, &made, 1).ok()
+}
+
+#[test]
+fn a_result_is_of_its_part(rt: HostRuntime) -> Result<(), Fail> {
+    let own = text(rt.alloc(), &["one"])?;
+    let result = empty_part(&rt, rt.alloc(), &own).ok_or("no result")?;
+    assert_eq!(rt; result.part(), PartNo::new(1));
+    assert_eq!(rt; result.parts(), 2);
+    assert_eq!(rt; result.texts().len(), 2);
+    assert_eq!(rt; result.pairs().len(), 0);
+    Ok(())
+}
+
+#[test]
+fn covers_its_texts_alone(rt: HostRuntime) -> Result<(), Fail> {
+    let other = text(rt.alloc(), &["two"])?;
+    let own = text(rt.alloc(), &["one"])?;
+    let same = text(rt.alloc(), &["one"])?;
+    let result = empty_part(&rt, rt.alloc(), &own).ok_or("no result")?;
+    let three = [other, own, same];
+    let texts = &three[..];
+    assert!(rt; !result.covers(&[]));
+    assert!(rt; result.covers(&texts[1..2]));
+    assert!(rt; result.covers(&texts[1..]));
+    assert!(rt; !result.covers(texts));
+    assert!(rt; !result.covers(&texts[..1]));
+    Ok(())
+}
+
+#[test]
+fn no_run_gives_no_pair(rt: HostRuntime) -> Result<(), Fail> {
+    let alloc = rt.alloc();
+    let result = merge(alloc, 64, PartNo::new(63), &[])?;
+    assert!(rt; result.covers(&[]));
+    assert!(rt; result.pairs().is_empty());
+    Ok(())
+}

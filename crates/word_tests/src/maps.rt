@@ -1,0 +1,94 @@
+use crate::texts::text;
+use node_ids::{DocNo, PartNo, SplitNo};
+use std::alloc::Global;
+use std::process::Abort;
+use std::sync::Arc;
+use std::test::Fail;
+use word_map::{Document, MapResult, Run, SplitText, Text, map_split, part_of};
+
+// Tells whether the run has just these words with these documents, in this order.
+fn has_just(run: &Run, want: &[(&str, u32)]) -> bool {
+    run.pairs().len() == want.len()
+        && run.pairs().iter().zip(want).all(|(pair, (word, number))| {
+            pair.word.as_str() == *word && pair.document == DocNo::new(*number)
+        })
+}
+
+fn mapped(alloc: Global, documents: &[&str]) -> Option<MapResult> {
+    map_split(alloc, text(alloc, documents).ok()?, 1).ok()
+}
+
+// Whether the one part of the text has just these pairs.
+fn maps_to(rt: &impl Abort, alloc: Global, documents: &[&str], want: &[(&str, u32)]) -> bool {
+    match mapped(alloc, documents) {
+        Some(made) => {
+            assert!(rt; made.parts() == 1);
+            has_just(made.run(PartNo::new(0)), want)
+        }
+        None => false,
+    }
+}
+
+#[test]
+fn a_word_has_its_part(rt: HostRuntime) {
+    for (word, hash, of_two, of_three, of_five) in [
+        ("cat", 98_262, 0, 0, 2),
+        ("dog", 99_644, 0, 2, 4),
+        ("the", 114_801, 1, 0, 1),
+        ("one", 110_182, 0, 1, 2),
+        ("two", 115_276, 0, 1, 1),
+    ] {
+        for (parts, part) in [(1 << 32, hash), (2, of_two), (3, of_three), (5, of_five)] {
+            assert_eq!(rt; part_of(word, parts), part, "{word} of {parts}");
+        }
+    }
+}
+
+#[test]
+fn two_documents_in_two_parts(rt: HostRuntime) -> Result<(), Fail> {
+    let text = text(rt.alloc(), &["The cat", "cat, THE dog"])?;
+    let made = map_split(rt.alloc(), Arc::try_clone(&text)?, 2)?;
+    assert!(rt; made.text().is_same(&text));
+    assert!(rt; made.parts() == 2);
+    let first = made.run(PartNo::new(0));
+    assert!(rt; has_just(first, &[("cat", 0), ("cat", 1), ("dog", 1)]));
+    let second = made.run(PartNo::new(1));
+    assert!(rt; has_just(second, &[("the", 0), ("the", 1)]));
+    assert!(rt; second.text().is_same(&text));
+    assert_eq!(rt; second.part(), PartNo::new(1));
+    assert_eq!(rt; second.parts(), 2);
+    Ok(())
+}
+
+#[test]
+fn words_are_longest_runs_of_letters(rt: HostRuntime) {
+    let alloc = rt.alloc();
+    assert!(rt; maps_to(&rt, alloc, &["A-a b2B"], &[("a", 0), ("b", 0)]));
+    assert!(rt; maps_to(&rt, alloc, &["Q"], &[("q", 0)]));
+    assert!(rt; maps_to(&rt, alloc, &["4 , 2\t.@[`{"], &[]));
+    assert!(rt; maps_to(&rt, alloc, &["", "z\u{e9}Z"], &[("z", 1)]));
+    assert!(rt; maps_to(&rt, alloc, &[], &[]));
+}
+
+fn empty_documents(alloc: Global, count: u32) -> Option<Arc<SplitText>> {
+    let mut all = Vec::new(alloc);
+    for number in 0..count {
+        all.push(Document {
+            number: DocNo::new(number),
+            text: Text::new(String::new(alloc)),
+        })
+        .ok()?;
+    }
+    Arc::new(alloc, SplitText::new(SplitNo::new(0), all)).ok()
+}
+
+#[test]
+fn many_documents_of_nothing(rt: HostRuntime) -> Result<(), Fail> {
+    let text = empty_documents(rt.alloc(), 65_536).ok_or("no text")?;
+    let made = map_split(rt.alloc(), text, 64)?;
+    assert!(rt; made.parts() == 64);
+    for part in 0..64 {
+        assert_eq!(rt; made.run(PartNo::new(part)).pairs().len(), 0, "part {part}");
+    }
+    Ok(())
+}

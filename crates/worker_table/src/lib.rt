@@ -1,0 +1,286 @@
+//! The workers of a job as a table: who lives, how many slots are taken, who has been silent for how
+//! many sweeps, and which pairs of a split and a worker are barred.
+//!
+//! Upward it promises that each call makes of the table just what `specs/Workers.antt` says: one worker
+//! changes, or one bar is added, or every live worker hears its count in a sweep, which tells who has
+//! been silent too long and marks nobody dead. Only `new` takes memory. It stands on the sets of `node_ids`.
+#![tactic(auto)]
+
+ghost use Rattle.std.specs.Prelude.{◌≡◌, ℕ, ◌<◌, ◌≤◌, [], length, All, IfOk, IfSome, is_some, map, ◌&&◌, ◌==◌};
+ghost use Rattle.std.specs.List.{list_any, position_or_len};
+ghost use Rattle.node_ids.specs.Sets.{has_number};
+ghost use Rattle.worker_table.specs.Workers.{
+  IsTable,
+  IsWithin,
+  free_slots,
+  fresh,
+  has_free_slot,
+  heard,
+  heard_from,
+  is_barred,
+  is_live,
+  is_silent,
+  opening_workers,
+  swept,
+  taken_slots,
+  with_bar,
+  with_death,
+  with_return,
+  with_slot_given,
+  with_slot_taken,
+  worker_at,
+};
+
+use node_ids::{PairSet, SplitNo, WorkerNo, WorkerSet};
+use std::alloc::{AllocError, Global};
+use std::marker::Model;
+
+/// A worker as the table keeps it. `silence` is the number of sweeps, one after the other, in which its
+/// beats had not risen above `beat`.
+#[derive(Clone, Copy, Debug, PartialEq, Eq)]
+pub struct Worker {
+    pub live: bool,
+    pub slots: u8,
+    pub taken: u8,
+    pub beat: u64,
+    pub silence: u32,
+}
+
+/// The workers of a job, numbered from 0, and the pairs of a split and a worker that are barred.
+#[derive(Drop)]
+pub struct WorkerTable {
+    limit: u32,
+    workers: Vec<Worker>,
+    bars: PairSet,
+}
+
+impl Model for WorkerTable {
+    ghost use Rattle.worker_table.specs.Workers.{Workers, IsTable};
+
+    ghost Value = { Workers };
+
+    ghost use Rattle.worker_table.specs.View.{table_of};
+
+    ghost view = { table_of };
+
+    ghost invariant = { λ t. IsTable (table_of t) };
+}
+
+impl WorkerTable {
+    /// A table of live workers with these numbers of slots. `silence` is the number of sweeps without a
+    /// new beat at which a worker is silent too long. The table of bars, 32 KiB, is for 1,024 splits.
+    pub fn new(alloc: Global, slots: &[u8], silence: u32) -> Result<WorkerTable, AllocError>
+        requires workers { length slots.now ≤ 256 }
+        requires slots { All (λ n. n ≤ 16) slots.now }
+        requires silence { 1 ≤ silence }
+        ensures { IfOk result (λ table. table ≡ opening_workers slots.now silence) }
+    {
+        Ok(WorkerTable {
+            limit: silence,
+            workers: fresh_workers(alloc, slots, silence)?,
+            bars: PairSet::new(alloc)?,
+        })
+    }
+
+    /// Each worker, by its number.
+    pub fn workers(&self) -> &[Worker]
+        ensures value { result.now ≡ self.now.each }
+        ensures table { IsTable self.now }
+    {
+        &self.workers
+    }
+
+    /// Whether the worker lives.
+    pub fn live(&self, worker: WorkerNo) -> bool
+        requires { worker < length self.now.each }
+        ensures { result ≡ is_live self.now worker }
+    {
+        self.workers[worker.index()].live
+    }
+
+    /// How many slots the worker has, free or taken.
+    pub fn slots(&self, worker: WorkerNo) -> u8
+        requires { worker < length self.now.each }
+        ensures count { result ≡ (worker_at self.now worker).slots }
+        ensures limit { result ≤ 16 }
+    {
+        self.workers[worker.index()].slots
+    }
+
+    /// How many slots of the worker are not taken. A dead worker's are all free.
+    pub fn free(&self, worker: WorkerNo) -> u8
+        requires { worker < length self.now.each }
+        ensures count { result ≡ free_slots self.now worker }
+        ensures limit { result ≤ 16 }
+    {
+        let found = self.workers[worker.index()];
+        found.slots - found.taken
+    }
+
+    /// The lowest live worker with a free slot.
+    pub fn first_free(&self) -> Option<WorkerNo>
+        ensures found { is_some result ≡ list_any has_free_slot self.now.each }
+        ensures lowest { IfSome result (λ worker. worker ≡ position_or_len has_free_slot self.now.each) }
+    {
+        first_free(&self.workers)
+    }
+
+    /// Whether the pair is barred.
+    pub fn barred(&self, split: SplitNo, worker: WorkerNo) -> bool
+        requires split { split < 1024 }
+        requires worker { worker < 256 }
+        ensures { result ≡ is_barred self.now split worker }
+    {
+        self.bars.has(split, worker)
+    }
+
+    /// All barred pairs.
+    pub fn bars(&self) -> &PairSet
+        ensures { result.now ≡ self.now.barred }
+    {
+        &self.bars
+    }
+
+    /// Bars the pair for good.
+    pub fn bar(&mut self, split: SplitNo, worker: WorkerNo)
+        requires split { split < 1024 }
+        requires worker { worker < 256 }
+        ensures { self.new ≡ with_bar self.old split worker }
+    {
+        self.bars.put(split, worker);
+    }
+
+    /// Marks the worker dead, and all its slots free.
+    pub fn die(&mut self, worker: WorkerNo)
+        requires { worker < length self.old.each }
+        ensures { self.new ≡ with_death self.old worker }
+    {
+        let found = &mut self.workers[worker.index()];
+        found.live = false;
+        found.taken = 0;
+    }
+
+    /// Marks the worker live, and as just heard. Its last beat stays.
+    pub fn join(&mut self, worker: WorkerNo)
+        requires { worker < length self.old.each }
+        ensures { self.new ≡ with_return self.old worker }
+    {
+        let found = &mut self.workers[worker.index()];
+        found.live = true;
+        found.silence = 0;
+    }
+
+    /// Takes a slot of the worker.
+    pub fn take_slot(&mut self, worker: WorkerNo)
+        requires known { worker < length self.old.each }
+        requires free { 0 < free_slots self.old worker }
+        ensures { self.new ≡ with_slot_taken self.old worker }
+    {
+        let found = &mut self.workers[worker.index()];
+        found.taken += 1;
+    }
+
+    /// Gives a slot of the worker back.
+    pub fn give_slot(&mut self, worker: WorkerNo)
+        requires known { worker < length self.old.each }
+        requires taken { 0 < taken_slots self.old worker }
+        ensures { self.new ≡ with_slot_given self.old worker }
+    {
+        let found = &mut self.workers[worker.index()];
+        found.taken -= 1;
+    }
+
+    /// Lets each live worker hear the count of its beats, and tells who has been silent too long. Nobody
+    /// is marked dead.
+    pub fn sweep(&mut self, counts: &[u64; 256]) -> WorkerSet
+        ensures heard { self.new ≡ swept self.old counts.now }
+        ensures silent { (w : ℕ) → has_number result w ≡ is_silent self.new w }
+    {
+        hear_each(self.limit, &mut self.workers, counts);
+        silent_workers(self.limit, &self.workers)
+    }
+}
+
+fn first_free(workers: &[Worker]) -> Option<WorkerNo>
+    requires { length workers.now ≤ 256 }
+    ensures found { is_some result ≡ list_any has_free_slot workers.now }
+    ensures lowest { IfSome result (λ worker. worker ≡ position_or_len has_free_slot workers.now) }
+{
+    for (i, worker) in workers.iter().enumerate() {
+        if has_free_slot(worker) {
+            return Some(WorkerNo::new(i as u16));
+        }
+    }
+    None
+}
+
+fn has_free_slot(worker: &Worker) -> bool
+    ensures { result ≡ has_free_slot worker.now }
+{
+    worker.live && worker.taken < worker.slots
+}
+
+fn fresh_workers(alloc: Global, slots: &[u8], limit: u32) -> Result<Vec<Worker>, AllocError>
+    requires { All (λ n. n ≤ 16) slots.now }
+    ensures each { IfOk result (λ workers. workers.items ≡ map fresh slots.now) }
+    ensures within { IfOk result (λ workers. All (IsWithin limit) workers.items) }
+{
+    let mut workers = Vec::with_capacity(alloc, slots.len())?;
+    for slots in slots {
+        workers.push(Worker {
+            live: true,
+            slots: *slots,
+            taken: 0,
+            beat: 0,
+            silence: 0,
+        })?;
+    }
+    Ok(workers)
+}
+
+// Each worker hears the count at its number.
+fn hear_each(limit: u32, workers: &mut Vec<Worker>, counts: &[u64; 256])
+    requires { length workers.old.items ≤ 256 }
+    ensures { workers.new.items ≡ heard_from 0 limit workers.old.items counts.now }
+{
+    for i in 0..workers.len() {
+        workers[i] = hear(limit, workers[i], counts[i]);
+    }
+}
+
+// The worker after a sweep that read this count of its beats.
+fn hear(limit: u32, worker: Worker, count: u64) -> Worker
+    ensures { result ≡ heard limit worker count }
+{
+    let mut worker = worker;
+    if worker.live {
+        if count > worker.beat {
+            worker.beat = count;
+            worker.silence = 0;
+        } else {
+            worker.silence = worker.silence.saturating_add(1).min(limit);
+        }
+    }
+    worker
+}
+
+fn has_been_silent(limit: u32, worker: &Worker) -> bool
+    ensures { result ≡ (worker.now.live && worker.now.silence == limit) }
+{
+    worker.live && worker.silence == limit
+}
+
+// Those who have been silent for as many sweeps as the limit says.
+fn silent_workers(limit: u32, workers: &[Worker]) -> WorkerSet
+    requires { length workers.now ≤ 256 }
+    ensures { (w : ℕ) → has_number result w
+        ≡ is_silent (record { limit = limit; each = workers.now; barred = [] }) w }
+{
+    let mut silent = WorkerSet::new();
+    for (i, worker) in workers.iter().enumerate() {
+        if has_been_silent(limit, worker) {
+            silent.put(WorkerNo::new(i as u16));
+        }
+    }
+    silent
+}

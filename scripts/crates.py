@@ -1,0 +1,55 @@
+"""The crates of the repository, as crates.txt lists them."""
+import os
+import re
+import subprocess
+from pathlib import Path
+
+ROOT = Path(__file__).resolve().parent.parent
+# What a crate is made of.
+PARTS = ("src", "specs", "proofs")
+
+
+class Crate:
+    """A crate, by its line of crates.txt."""
+
+    def __init__(self, line):
+        head, _, libraries = line.partition(":")
+        self.line, self.name, self.libraries = line, head.split()[0], libraries.split()
+        self.folder = ROOT / "crates" / self.name
+        self.rlib = self.folder / "out/rlib" / f"{self.name}.rlib"
+
+    def is_program(self):
+        return (self.folder / "src/main.rt").exists()
+
+    def below(self, crates):
+        """The repository's crates on which this one stands, lowest first."""
+        found = []
+        for name in self.libraries:
+            if name in crates:
+                found += [it for it in [*crates[name].below(crates), crates[name]] if it not in found]
+        return found
+
+    def changed(self):
+        """When one of its sources changed last."""
+        return max(it.stat().st_mtime for part in PARTS for it in (self.folder / part).rglob("*"))
+
+    def is_made(self, file, crates):
+        """Whether the file is there, and no older than the sources of the crate and of those below."""
+        return file.exists() and all(it.changed() <= file.stat().st_mtime for it in [*self.below(crates), self])
+
+
+def read_crates(listed=ROOT / "crates.txt"):
+    """The crates that are listed, by their names and in that order."""
+    lines = [it.partition("#")[0].strip() for it in listed.read_text().splitlines()]
+    return {it.name: it for it in map(Crate, filter(None, lines))}
+
+
+def kit():
+    """The folder of the Rattle kit."""
+    return Path(subprocess.run(["rt", "doc"], check=True, capture_output=True, text=True).stdout.strip()).parent
+
+
+def places(memory):
+    """How many checks that each take so many KiB fit side by side: one a processor, as far as memory holds them."""
+    free = int(re.search(r"MemAvailable:\s+(\d+)", Path("/proc/meminfo").read_text())[1])
+    return max(1, min(len(os.sched_getaffinity(0)), free // memory))

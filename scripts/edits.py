@@ -1,0 +1,309 @@
+#!/usr/bin/env python3
+"""Tries the wrong edits of edits/CRATE/*.edit: the prover must refuse each, by a goal of the function it changes.
+
+    edits.py [CRATE..]      (each crate that has edits, where none is named)
+
+An edit has the form of a must-fail edit: a line 'file: src/lib.rt', and then pairs of lines 'old: TEXT' and
+'new: TEXT', each old TEXT standing once in that file. Edits of different functions of a crate stand in one copy of it
+and are tried by one check. An edit is refused where the check names a goal of its own function that is not proved: a
+clause, an invariant, a safety goal, or what a callee requires. That a callee is no longer proved, that a proof file
+names what is gone, or that a text cannot be read, refuses nothing. What a group leaves open is tried among fewer
+others, and last alone. An edit that stands in no function's body, or in several, is tried alone, and a goal of any
+function of the crate refuses it.
+
+A crate counts as proved without its edits, as `rt ci` or `rt check` says. Its libraries are taken from out/, as
+either leaves them, and are built where they are missing or older than their sources. The checkout stays as it is.
+JOBS=N tries N crates side by side. The last line is 'N passed, M failed'.
+"""
+import os
+import re
+import shutil
+import subprocess
+import sys
+import tempfile
+from concurrent.futures import ThreadPoolExecutor
+from dataclasses import dataclass
+from pathlib import Path
+
+sys.dont_write_bytecode = True
+from crates import PARTS, ROOT, kit, places, read_crates
+
+KIT = kit()
+# The memory on which a check is planned, in KiB.
+CHECK_MEMORY = 3_000_000
+
+FUNCTION = re.compile(r"( *)(?:pub(?:\([^)]*\))? )?(?:const |unsafe |extern \"C\" )*fn (\w+)")
+IMPL = re.compile(r"(?:unsafe )?impl(?:<.*?>)? (?P<trait>\w.*? for )?(?P<type>\w+)")
+# A line that ends a function's head: its body's brace, or the end of the item.
+ENDS_HEAD = re.compile(r" *(?:\S.*)?[{};]$")
+# Where a goal stands that is not proved, and its name.
+OPEN_GOAL = re.compile(r"note: (?:\./)?(src/\S+?):(\d+):\d+: it is not proved that .*\(`([^`]+)`\)")
+# An answer that proves its goal no longer, by the folder of its function's proof.
+OPEN_ANSWER = re.compile(r"(?:\./)?proofs/(\S+)/Answers\.antt:\d+:\d+: error: `([^`]+)`: (.*)")
+# What antt says where an answer names what is no longer there.
+NAMES = re.compile(r"is not in scope|has no field|has no `|is no name|was not admitted")
+
+
+def check_words(crate, crates):
+    """The command that checks a copy of the crate over its built libraries, in the folder of the copy."""
+    words = [f"{KIT}/bin/rattle", "check", "--crate-name", crate.name]
+    words.append("src/main.rt" if crate.is_program() else "src/lib.rt")
+    for name in ["std", *crate.libraries]:
+        rlib = crates[name].rlib if name in crates else f"{KIT}/rlibs/{name}.rlib"
+        words += ["--extern", f"{name}={rlib}"]
+    for place in [f"{KIT}/rlibs", *(it.rlib.parent for it in crate.below(crates))]:
+        words += ["-L", f"dependency={place}"]
+    words += ["--antt-project", f"{KIT}/rattle/logic/antt-project.json", "--logic-built", f"{KIT}/logic_built"]
+    return [*words, "--jobs", "1", "--links", f"{crate.name}="]
+
+
+@dataclass(frozen=True)
+class Function:
+    """A function of a source file, with its lines from 1 on: the first of its attributes, and those of its braces."""
+
+    file: str
+    first: int
+    opens: int
+    last: int
+    # its module, the type of its impl where it has one, and its name
+    path: tuple
+    # what `rattle check --only` names it by, or nothing
+    asked: str
+
+    def has(self, place):
+        """Whether a place is in the function: a line of a file, or, with line 0, the folder of its proof."""
+        where, line = place
+        if line:
+            return self.file == where and self.first <= line <= self.last
+        names = where.split("/")
+        # (an impl of a trait goes by its type's name and the trait's)
+        return len(names) == len(self.path) and all(
+            name == own or own[0].isupper() and name.startswith(own) for name, own in zip(names, self.path)
+        )
+
+
+def functions_of(file, text):
+    """The functions of a source file, as rt fmt lays it out: an item ends on the line that closes at its indent."""
+    lines = text.split("\n")
+    names = file.removeprefix("src/").removesuffix(".rt").split("/")
+    module = tuple(it for it in names if it not in ("lib", "main", "mod"))
+    found = []
+    for at, line in enumerate(lines):
+        head = FUNCTION.match(line)
+        if not head:
+            continue
+        indent, name = head.groups()
+        ends = (it for it in range(at, len(lines)) if ENDS_HEAD.match(lines[it]))
+        opens = next(it for it in ends if depth(lines[it]) <= len(indent))
+        if not lines[opens].endswith("{"):
+            # (one without a body, or on a single line)
+            continue
+        last, first = lines.index(indent + "}", opens), at
+        while first and re.match(rf"{indent}(#\[|\)\]|//| )", lines[first - 1]):
+            first -= 1
+        block = next((it for it in reversed(lines[:at]) if it and it[0] not in " }{"), "") if indent else ""
+        impl = IMPL.match(block)
+        path = (*module, *([impl["type"]] if impl else []), name)
+        # (of an impl of a trait, whose name is rattle's own, the whole module is asked for)
+        asked = path if not block or impl and not impl["trait"] else module
+        found.append(Function(file, first + 1, opens + 1, last + 1, path, "::".join(asked)))
+    return found
+
+
+def depth(line):
+    return len(line) - len(line.lstrip(" "))
+
+
+class Unfit(Exception):
+    """Why an edit cannot be applied."""
+
+
+class Edit:
+    def __init__(self, path, crate):
+        self.path = path
+        self.texts = {}
+        self.changes = []
+        file = old = None
+        for line in path.read_text(encoding="utf-8").splitlines():
+            key, _, text = line.partition(":")
+            text = text.removeprefix(" ")
+            if key == "file":
+                file = text.strip()
+            elif key == "old":
+                old = text
+            elif key == "new" and file and old:
+                self.change(crate, file, old, text)
+                old = None
+            elif line.strip():
+                raise Unfit(f"this line has no place in it: {line}")
+        if not self.changes:
+            raise Unfit("it has no 'old:' and 'new:' pair")
+        self.function = self.place(crate)
+
+    def change(self, crate, file, old, new):
+        if file not in self.texts:
+            if not file.startswith(("src/", "specs/", "proofs/")) or not (crate.folder / file).is_file():
+                raise Unfit(f"the crate has no file {file}")
+            self.texts[file] = (crate.folder / file).read_text(encoding="utf-8")
+        count = self.texts[file].count(old)
+        if count != 1:
+            raise Unfit(f"an 'old:' text stands {count} times in {file}, and not once")
+        at = self.texts[file].index(old)
+        # (neither text has a line's end, so each change leaves the lines their numbers)
+        self.changes.append((file, self.texts[file].count("\n", 0, at) + 1))
+        self.texts[file] = self.texts[file].replace(old, new)
+
+    def place(self, crate):
+        """The function whose body has all that the edit changes, or None."""
+        found = set()
+        for file, line in self.changes:
+            text = (crate.folder / file).read_text(encoding="utf-8")
+            functions = functions_of(file, text) if file.endswith(".rt") else []
+            holders = [it for it in functions if it.opens < line < it.last]
+            found.add(holders[-1] if holders else None)
+        return found.pop() if len(found) == 1 else None
+
+
+@dataclass(frozen=True)
+class Verdict:
+    """What a check said: the goals that are not proved, each with its place, and its whole text."""
+
+    goals: tuple
+    said: str
+
+    def against(self, function):
+        """The goals of this function that are not proved, or of any where it is None."""
+        return [goal for place, goal in self.goals if function is None or function.has(place)]
+
+
+class Trial:
+    """The edits of a crate, tried on a copy of it in a room of its own, over what the earlier checks there proved."""
+
+    def __init__(self, crate, crates, room):
+        self.crate, self.words, self.room = crate, check_words(crate, crates), Path(room)
+        self.checks = self.seconds = 0
+        kept = crate.folder / "out/incremental"
+        if kept.is_dir():
+            shutil.copytree(kept, self.room / "kept")
+
+    def check(self, edits):
+        """Checks the functions of these edits, or the whole crate where one has none, in a copy that has them all."""
+        copy = self.room / "copy"
+        for part in PARTS:
+            if (self.crate.folder / part).is_dir():
+                shutil.copytree(self.crate.folder / part, copy / part)
+        for edit in edits:
+            for file, line in edit.changes:
+                # (edits of different functions are of different lines)
+                lines = (copy / file).read_text(encoding="utf-8").split("\n")
+                lines[line - 1] = edit.texts[file].split("\n")[line - 1]
+                (copy / file).write_text("\n".join(lines), encoding="utf-8")
+        asked = [it.function.asked if it.function else "" for it in edits]
+        only = [word for it in dict.fromkeys(asked) for word in ("--only", it)] if all(asked) else []
+        said, status = self.run([*self.words, "--incremental", str(self.room / "kept"), *only], copy)
+        shutil.rmtree(copy)
+        if status != 1 or not re.search(r"^(logic=not-proved|only=).*\n\Z", said, re.M):
+            return Verdict((), said)
+        goals = [((file, int(line)), goal) for file, line, goal in OPEN_GOAL.findall(said)]
+        for folder, goal, why in OPEN_ANSWER.findall(said):
+            # (a proof file may have lemmas beside its answers)
+            answers = (self.crate.folder / "proofs" / folder / "Answers.antt").read_text(encoding="utf-8")
+            if f"pub {goal} : goal.{goal}" in answers and not NAMES.search(why):
+                goals.append(((folder, 0), f"{goal} by its answer"))
+        return Verdict(tuple(goals), said)
+
+    def run(self, words, folder):
+        with tempfile.TemporaryFile("w+", errors="replace") as out:
+            ran = subprocess.Popen(words, cwd=folder, stdin=subprocess.DEVNULL, stdout=out, stderr=subprocess.STDOUT)
+            _, status, usage = os.wait4(ran.pid, 0)
+            ran.returncode = os.waitstatus_to_exitcode(status)
+            out.seek(0)
+            said = out.read()
+        self.checks += 1
+        self.seconds += usage.ru_utime + usage.ru_stime
+        return said, ran.returncode
+
+    def judge(self, group, told):
+        """Tries these edits by one check, and tells of each that it refuses, and of one alone in any case."""
+        verdict = self.check(group)
+        for edit in group:
+            goals = verdict.against(edit.function)
+            if goals:
+                told[edit] = True, f"refused: {', '.join(dict.fromkeys(goals))}"
+            elif len(group) == 1:
+                told[edit] = False, "NOT REFUSED by a goal of its own; of the check's words:\n" + gist(verdict.said)
+
+    def try_all(self, edits):
+        """Tells of each edit whether it is refused, and why."""
+        told = {}
+        left, alone = [it for it in edits if it.function], [it for it in edits if not it.function]
+        while left:
+            group = {}
+            for edit in left:
+                group.setdefault(edit.function, edit)
+            self.judge([*group.values()], told)
+            if not any(it in told for it in group.values()):
+                # (as where one cannot be compiled)
+                alone += group.values()
+            left = [it for it in left if it not in told and it not in alone]
+        for edit in alone:
+            self.judge([edit], told)
+        return told
+
+
+def gist(said):
+    """The lines of a check's words that say what it refused, or else the first ones."""
+    lines = said.splitlines()
+    found = [it for it in lines if re.search(r"error|it is not proved|^fn .*: (no|not) ", it)] or lines
+    return "\n".join(f"    {it[:300]}" for it in found[:12])
+
+
+def try_crate(crate, crates, paths):
+    """Tries a crate's edits, prints a line for each, and gives how many are refused."""
+    edits, lines, refused = [], [], 0
+    for path in paths:
+        try:
+            edits.append(Edit(path, crate))
+        except (Unfit, UnicodeDecodeError) as why:
+            lines.append(f"{path.relative_to(ROOT)}: BAD EDIT: {why}")
+    with tempfile.TemporaryDirectory(prefix="edits-") as room:
+        trial = Trial(crate, crates, room)
+        for edit, (is_refused, why) in trial.try_all(edits).items():
+            lines.append(f"{edit.path.relative_to(ROOT)}: {why}")
+            refused += is_refused
+    lines.append(f"{crate.name}: {refused} of {len(paths)} refused, {trial.checks} checks, {trial.seconds:.0f} s")
+    print("\n".join(lines), flush=True)
+    return refused
+
+
+def build_libraries(crates, names):
+    """Builds the libraries on which these crates stand, where they are missing or old."""
+    for name in names:
+        for library in crates[name].below(crates):
+            if not library.is_made(library.rlib, crates):
+                subprocess.run(["rt", "lib"], cwd=library.folder, check=True)
+
+
+def main(names):
+    crates = read_crates()
+    found = {it.name: sorted(it.iterdir()) for it in sorted((ROOT / "edits").iterdir())}
+    strays = [it for name, paths in found.items() for it in paths if name not in crates or it.suffix != ".edit"]
+    for it in strays:
+        print(f"{it.relative_to(ROOT)}: BAD EDIT: an edit is a file edits/CRATE/NAME.edit, of a crate of crates.txt")
+    names = names or [it for it in found if it in crates]
+    for name in names:
+        if name not in crates or not found.get(name):
+            sys.exit(f"{name} is no crate with edits")
+    build_libraries(crates, names)
+    edits = {name: [it for it in found[name] if it not in strays] for name in names}
+    # (what takes longest begins first)
+    names = sorted(names, key=lambda it: -sum(path.stat().st_size for path in crates[it].folder.rglob("*.rt")))
+    with ThreadPoolExecutor(int(os.environ.get("JOBS", 0)) or places(CHECK_MEMORY)) as pool:
+        refused = sum(pool.map(lambda it: try_crate(crates[it], crates, edits[it]), names))
+    failed = sum(map(len, edits.values())) - refused + len(strays)
+    print(f"{refused} passed, {failed} failed")
+    return 1 if failed or not refused else 0
+
+
+if __name__ == "__main__":
+    sys.exit(main(sys.argv[1:]))
