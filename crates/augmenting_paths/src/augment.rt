@@ -1,10 +1,11 @@
 //! One unit after the other along least paths.
-ghost use Rattle.std.specs.Prelude.{◌≡◌, ℕ, ◌+◌, ◌<◌, ◌≤◌, ◌^◌, length, map, slice_index, slice_index_or, true, IfOk, OnOk, None};
+ghost use Rattle.std.specs.Prelude.{◌≡◌, ℕ, ◌+◌, ◌<◌, ◌≤◌, ◌^◌, length, map, slice_index, slice_index_or, true, IfOk, OnOk, None, Some};
+ghost use Rattle.flow_network.specs.Flows.{NoNegative};
 ghost use Rattle.flow_network.specs.Laws.{short_of};
-ghost use Rattle.shortest_paths.specs.Paths.{option_distance};
+ghost use Rattle.shortest_paths.specs.Paths.{option_distance, AreLeastUpTo};
 ghost use Rattle.augmenting_paths.specs.Shipping.{CanShip, HasShipped, IsCheapest, AreMembers};
 
-use flow_network::Network;
+use flow_network::{Meter, Network};
 use node_ids::Layout;
 use shortest_paths::{Buffers, Distances, Potentials, distances_to};
 use std::alloc::{AllocError, Global};
@@ -53,8 +54,8 @@ pub fn saturate<L: Layout>(
     Ok(potentials)
 }
 
-/// Ships the unit of the source of this number along a least path, and lowers the potentials. The buffers
-/// come back for the next unit.
+// Ships the unit of the source of this number along a least path, and lowers the potentials. The buffers
+// come back for the next unit.
 fn ship<L: Layout>(
     alloc: Global,
     network: &mut Network<L>,
@@ -82,7 +83,7 @@ fn ship<L: Layout>(
     ensures layout { network.new.layout ≡ network.old.layout }
 {
     let end = network.layout().index(sink);
-    let found = distances_to(buffers, network, potentials, sources[count], sink)?;
+    let found = least_paths(buffers, network, potentials, sources[count], sink)?;
     let path = match found.path(alloc, end)? {
         Some(path) => path,
         None => unreachable!(),
@@ -96,7 +97,29 @@ fn ship<L: Layout>(
     Ok(found.into_buffers())
 }
 
-/// What a distance lacks of the sink's.
+// The least paths from a node as far as the sink. The search is lent a meter, under which it looks at most
+// twice at each arc.
+fn least_paths<L: Layout>(
+    buffers: Buffers,
+    network: &Network<L>,
+    potentials: &Potentials,
+    from: L::Node,
+    sink: L::Node,
+) -> Result<Distances, AllocError>
+    requires from { L.is_member network.now.layout from ≡ true }
+    requires sink { L.is_member network.now.layout sink ≡ true }
+    requires nodes { length potentials.now ≡ L.node_count network.now.layout }
+    requires reduced { NoNegative network.now.arcs network.now.flows (slice_index potentials.now) }
+    ensures size { IfOk result (λ d. length d ≡ length potentials.now) }
+    ensures least { IfOk result (λ d. AreLeastUpTo network.now.arcs network.now.flows
+        (slice_index potentials.now)
+        (L.index_of network.now.layout from) (Some (L.index_of network.now.layout sink)) d) }
+{
+    let mut meter = Meter::new(network);
+    distances_to(buffers, &mut meter, potentials, from, sink)
+}
+
+// What a distance lacks of the sink's.
 fn shortfall(total: u64, distance: Option<u64>) -> u64
     ensures { result ≡ short_of total distance }
 {
@@ -106,8 +129,8 @@ fn shortfall(total: u64, distance: Option<u64>) -> u64
     }
 }
 
-/// Lowers each potential by what the node's distance lacks of the sink's; that is nothing where the sink
-/// is at distance 0.
+// Lowers each potential by what the node's distance lacks of the sink's; that is nothing where the sink
+// is at distance 0.
 fn lower_all(potentials: &mut Potentials, found: &Distances, nodes: usize, total: u64)
     requires nodes { nodes ≡ length potentials.old }
     requires found { nodes ≡ length found.now }

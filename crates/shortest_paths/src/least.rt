@@ -51,26 +51,29 @@ pub fn distances_by<L: Layout>(
     Ok(found)
 }
 
-/// `distances` as far as the sink: a node that is farther has some path or none. It keeps no more than it
+/// `distances_by` as far as the sink: a node that is farther has some path or none. It keeps no more than it
 /// needs of the buffers' room, and ends as soon as no node left is nearer than the sink.
 pub fn distances_to<L: Layout>(
     buffers: Buffers,
-    network: &Network<L>,
+    meter: &mut Meter<L>,
     potentials: &Potentials,
     from: L::Node,
     sink: L::Node,
 ) -> Result<Distances, AllocError>
-    requires from { L.is_member network.now.layout from ≡ true }
-    requires sink { L.is_member network.now.layout sink ≡ true }
-    requires nodes { length potentials.now ≡ L.node_count network.now.layout }
-    requires reduced { NoNegative network.now.arcs network.now.flows (slice_index potentials.now) }
+    requires count { meter.old.count ≡ 0 }
+    requires from { L.is_member meter.old.network.layout from ≡ true }
+    requires sink { L.is_member meter.old.network.layout sink ≡ true }
+    requires nodes { length potentials.now ≡ L.node_count meter.old.network.layout }
+    requires reduced { NoNegative meter.old.network.arcs meter.old.network.flows
+        (slice_index potentials.now) }
     ensures size { IfOk result (λ d. length d ≡ length potentials.now) }
-    ensures least { IfOk result (λ d. AreLeastUpTo network.now.arcs network.now.flows
+    ensures least { IfOk result (λ d. AreLeastUpTo meter.old.network.arcs meter.old.network.flows
         (slice_index potentials.now)
-        (L.index_of network.now.layout from) (Some (L.index_of network.now.layout sink)) d) }
+        (L.index_of meter.old.network.layout from) (Some (L.index_of meter.old.network.layout sink)) d) }
+    ensures network { meter.new.network ≡ meter.old.network }
+    ensures steps { meter.new.count ≤ 2 * length meter.old.network.arcs }
 {
-    let start = network.layout().index(from);
-    let end = network.layout().index(sink);
-    let mut meter = Meter::new(network);
-    buffers.search(&mut meter, potentials, start, Some(end))
+    let start = meter.layout().index(from);
+    let end = meter.layout().index(sink);
+    buffers.search(meter, potentials, start, Some(end))
 }

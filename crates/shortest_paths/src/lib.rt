@@ -2,7 +2,8 @@
 //!
 //! `Potentials` give each arc its reduced cost. `distances` answers for each node the least reduced cost of a
 //! residual path and such a path, `distances_by` the same over a `Meter` with at most two looks an arc, and
-//! `distances_to` as much of it as a unit to one sink needs. Nodes are settled nearest first, by std's heap.
+//! `distances_to`, with no more looks, as much of it as a unit to one sink needs. Nodes are settled nearest
+//! first, by std's heap.
 //! Stands on `flow_network`, for the layers that ship units along least paths.
 #![tactic(auto)]
 

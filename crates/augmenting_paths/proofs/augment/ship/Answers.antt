@@ -3,8 +3,8 @@ use Rattle.flow_network.specs.Flow.{Flow}
 use Rattle.augmenting_paths.proofs.Shipped.{member_read, not_none, taken, total_small, unit_shipped, all_lowered}
 use Rattle.augmenting_paths.proofs.augment.ship.Goals as goal
 
-pub distances_to-requires-clause-from : goal.distances_to-requires-clause-from
-distances_to-requires-clause-from g c = member_read _ _ _ _ c.requires.count c.index-sources-count.is c.requires.members
+pub least_paths-requires-clause-from : goal.least_paths-requires-clause-from
+least_paths-requires-clause-from g c = member_read _ _ _ _ c.requires.count c.index-sources-count.is c.requires.members
 
 pub unreachable-requires : goal.unreachable-requires
 unreachable-requires g c =
