@@ -1,5 +1,5 @@
 -- A command whose texts have one answer each wrote that of its text.
-use Rattle.std.proofs.Common.{ℕ, List, Option, Some, None, Result, Ok, Err, ◌≡◌, ◌∙◌, IfSome, ap, subst, sym, take}
+use Rattle.std.proofs.Common.{ℕ, List, Option, Some, None, Result, Ok, Err, ◌≡◌, ◌∙◌, IfSome, subst, sym, take}
 use Rattle.std.specs.Io.KnownBytes.{Appends}
 use Rattle.text_lines.specs.declared.fault.TextFault.{TextFault}
 use Rattle.text_lines.specs.declared.streams.TheConstants.{MOST_BYTES}
