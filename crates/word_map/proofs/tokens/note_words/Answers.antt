@@ -1,5 +1,5 @@
 use Rattle.word_map.proofs.RunLemmas.{run_from_span, begins_after, adds_one_more, adds_all, boundary_after_run}
-use Rattle.word_map.proofs.tokens.push_words.Goals as goal
+use Rattle.word_map.proofs.tokens.note_words.Goals as goal
 
 pub range-requires-clause-end_boundary : goal.range-requires-clause-end_boundary
 range-requires-clause-end_boundary c =
@@ -14,10 +14,10 @@ loop-start-preserved c =
     let inside = rw c.as_bytes-bytes.ensures.value at c.loop-start-test.true in
     let span = rw c.as_bytes-bytes.ensures.value at c.span_end-stop.ensures in
     let gap = rw c.as_bytes-bytes.ensures.value at c.span_end-start-in-loop-start.ensures in
-    let pushed = rw (c.new-word.ensures, c.range.ensures.value) at c.in_ok-push.ensures.items in
+    let noted = rw (c.new.ensures, c.range.ensures.value) at c.in_ok-note.ensures in
     record {
       begins = begins_after (run_from_span before.begins inside span) gap;
-      adds = rw pushed (adds_one_more before.begins inside span gap before.adds);
+      adds = adds_one_more before.begins inside span gap before.adds noted.exact;
     }
 
 -- the end is reached, so all runs are there
