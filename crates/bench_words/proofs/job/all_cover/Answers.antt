@@ -10,7 +10,7 @@ use Rattle.bench_words.proofs.job.all_cover.Goals as goal
 pub loop-one-preserved : goal.loop-one-preserved
 loop-one-preserved c =
     all_more (λ (one : PartView). AreSameTexts one.texts (values_of c.args.texts.now)) c.args.results.now c.loop-one.one-index
-    c.loop-one-test.true c.one-item.is c.loop-one.invariant (c.if-not-covers.ensures.0 refl)
+    c.loop-one-test.true c.one-item.is c.loop-one.invariant (c.if-not-covers.ensures.same.0 refl)
 
 -- all of them do
 pub returns : goal.returns
