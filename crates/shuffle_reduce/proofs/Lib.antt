@@ -1,3 +1,4 @@
 pub mod OrderLemmas
+pub mod CoverLemmas
 pub mod MergeLemmas
 pub mod IndexLemmas

@@ -1,7 +1,8 @@
 -- What a part's result holds, and which texts are covered.
-use Rattle.std.specs.Prelude.{◌≡◌, ◌↔◌, ℕ, ◌<◌, List, Any, Contains}
+use Rattle.std.specs.Prelude.{◌≡◌, ◌↔◌, ◌&&◌, ℕ, ◌<◌, Bool, List, Any, Contains}
+use Rattle.std.specs.List.{list_all, list_any}
 use Rattle.word_map.specs.Words.{part_of}
-use Rattle.word_map.specs.Texts.{SplitDocuments, Pair, IsPairOf}
+use Rattle.word_map.specs.Texts.{SplitDocuments, Pair, IsPairOf, same_text}
 use Rattle.word_map.specs.Runs.{AreRising}
 
 -- the word is a word of a document of one of the texts
@@ -28,3 +29,11 @@ pub record PartView : Type 0 where
 -- the same texts, however often each stands
 abbrev pub AreSameTexts : List SplitDocuments → List SplitDocuments → Type 0
 AreSameTexts xs ys = (text : SplitDocuments) → Contains xs text ↔ Contains ys text
+
+-- whether each text of the one list stands in the other
+abbrev pub are_among : List SplitDocuments → List SplitDocuments → Bool
+are_among xs ys = list_all (λ text. list_any (same_text text) ys) xs
+
+-- whether the lists have the same texts
+abbrev pub same_texts : List SplitDocuments → List SplitDocuments → Bool
+same_texts xs ys = are_among xs ys && are_among ys xs

@@ -1,11 +1,11 @@
-ghost use Rattle.std.specs.Prelude.{◌≡◌, ◌++◌, IfOk, OnOk};
-ghost use Rattle.word_map.specs.Runs.{IsRunOf};
+ghost use Rattle.std.specs.Prelude.{◌≡◌, IfOk};
+ghost use Rattle.word_map.specs.Entries.{pairs_of_index};
 ghost use Rattle.shuffle_reduce.specs.Gather.{GathersRuns, GathersResults, texts_of, values_of};
 
 use crate::part::PartResult;
 use std::alloc::{AllocError, Global};
 use std::sync::Arc;
-use word_map::{Posting, Run, SplitText, Text, Word, owned};
+use word_map::{Run, SplitText, WordTable};
 
 /// The texts of the runs.
 pub(crate) fn all_texts(alloc: Global, runs: &[Arc<Run>]) -> Result<Vec<Arc<SplitText>>, AllocError>
@@ -18,68 +18,27 @@ pub(crate) fn all_texts(alloc: Global, runs: &[Arc<Run>]) -> Result<Vec<Arc<Spli
     Ok(texts)
 }
 
-/// Adds the pairs.
-fn push_all<'a>(
-    pairs: &'a [Posting<Text>],
-    all: &mut Vec<Posting<Word<'a>>>,
-) -> Result<(), AllocError>
-    ensures { OnOk result (all.new.items ≡ all.old.items ++ pairs.now) }
+/// The words of the runs, each with the documents of all runs.
+pub(crate) fn gathered_runs(alloc: Global, runs: &[Arc<Run>]) -> Result<WordTable<'_>, AllocError>
+    ensures { IfOk result (λ table. GathersRuns runs.now (pairs_of_index table)) }
 {
-    for pair in pairs {
-        all.push(Posting {
-            word: Word::new(pair.word.as_str()),
-            document: pair.document,
-        })?;
-    }
-    Ok(())
-}
-
-/// Adds the pairs of the run.
-fn push_run<'a>(run: &'a Run, all: &mut Vec<Posting<Word<'a>>>) -> Result<(), AllocError>
-    ensures pairs { OnOk result (all.new.items ≡ all.old.items ++ run.now.pairs) }
-    ensures exact { IsRunOf run.now.text.documents run.now.part run.now.parts run.now.pairs }
-{
-    Ok(push_all(run.pairs(), all)?)
-}
-
-/// The pairs of the runs, one run after another.
-pub(crate) fn gathered(
-    alloc: Global,
-    runs: &[Arc<Run>],
-) -> Result<Vec<Posting<Word<'_>>>, AllocError>
-    ensures { IfOk result (λ pairs. GathersRuns runs.now pairs.items) }
-{
-    let mut pairs = Vec::new(alloc);
+    let mut table = WordTable::new(alloc);
     for run in runs {
-        push_run(run, &mut pairs)?;
+        table.add(alloc, run.entries())?;
     }
-    Ok(pairs)
+    Ok(table)
 }
 
-/// The pairs of the results, one result after another.
-pub(crate) fn all_pairs(
+/// The words of the results, each with the documents of all results.
+pub(crate) fn gathered_results(
     alloc: Global,
     results: &[PartResult],
-) -> Result<Vec<Posting<Word<'_>>>, AllocError>
-    ensures { IfOk result (λ pairs. GathersResults results.now pairs.items) }
+) -> Result<WordTable<'_>, AllocError>
+    ensures { IfOk result (λ table. GathersResults results.now (pairs_of_index table)) }
 {
-    let mut pairs = Vec::new(alloc);
+    let mut table = WordTable::new(alloc);
     for part in results {
-        push_all(part.pairs(), &mut pairs)?;
+        table.add(alloc, part.entries())?;
     }
-    Ok(pairs)
-}
-
-/// The pairs with words of their own memory.
-pub(crate) fn all_owned(
-    alloc: Global,
-    pairs: &[Posting<Word<'_>>],
-) -> Result<Vec<Posting<Text>>, AllocError>
-    ensures { IfOk result (λ own. own.items ≡ pairs.now) }
-{
-    let mut own = Vec::with_capacity(alloc, pairs.len())?;
-    for pair in pairs {
-        own.push(owned(alloc, pair)?)?;
-    }
-    Ok(own)
+    Ok(table)
 }

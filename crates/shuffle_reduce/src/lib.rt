@@ -13,5 +13,6 @@ mod gather;
 mod index;
 mod part;
 
-pub use index::{Entry, FinishError, Index, finish};
-pub use part::{PartResult, merge};
+pub use index::{FinishError, Index, are_ready, finish};
+pub use part::{PartResult, are_of_part, merge};
+pub use word_map::Entry;

@@ -1,14 +1,15 @@
 ghost use Rattle.std.specs.Prelude.{◌≡◌, ◌↔◌, ◌<◌, ◌≤◌, IfOk, IsTrue};
-ghost use Rattle.shuffle_reduce.specs.Merged.{IsPartOf, AreSameTexts};
+ghost use Rattle.shuffle_reduce.specs.Merged.{IsPartOf, AreSameTexts, same_texts};
+ghost use Rattle.word_map.specs.Entries.{AreEntries, pairs_of_index};
 ghost use Rattle.shuffle_reduce.specs.Gather.{AreOfPart, ArePairsOfRuns, texts_of, values_of};
 
 use crate::covers::are_same_texts;
-use crate::gather::{all_owned, all_texts, gathered};
+use crate::gather::{all_texts, gathered_runs};
 use node_ids::PartNo;
 use std::alloc::{AllocError, Global};
 use std::marker::Model;
 use std::sync::Arc;
-use word_map::{Posting, Run, SplitText, Text, sort_distinct};
+use word_map::{Entry, Run, SplitText};
 
 /// The pairs of some texts for one part of their words: what the reduce of that part made (OSDI 2004,
 /// section 3.1). The pairs stand by the bytes of the words and then by the documents' numbers, each once.
@@ -17,12 +18,13 @@ pub struct PartResult {
     texts: Vec<Arc<SplitText>>,
     part: PartNo,
     parts: usize,
-    pairs: Vec<Posting<Text>>,
+    entries: Vec<Entry>,
 }
 
 impl Model for PartResult {
     ghost use Rattle.shuffle_reduce.specs.Merged.{PartView, IsPart};
     ghost use Rattle.shuffle_reduce.specs.Gather.{values_of};
+    ghost use Rattle.word_map.specs.Entries.{AreEntries, pairs_of_index};
 
     ghost Value = { PartView };
 
@@ -30,10 +32,11 @@ impl Model for PartResult {
       texts = values_of r.texts.items;
       part = r.part;
       parts = r.parts;
-      pairs = r.pairs.items;
+      pairs = pairs_of_index r.entries.items;
     } };
 
-    ghost invariant = { λ r. IsPart (values_of r.texts.items) r.part r.parts r.pairs.items };
+    ghost invariant = { λ r. IsPart (values_of r.texts.items) r.part r.parts (pairs_of_index r.entries.items)
+        × AreEntries r.entries.items };
 }
 
 impl PartResult {
@@ -59,21 +62,23 @@ impl PartResult {
         self.parts
     }
 
-    /// The pairs of the texts for the part, rising, each once.
-    pub fn pairs(&self) -> &[Posting<Text>]
-        ensures value { result.now ≡ self.now.pairs }
+    /// The pairs of the texts for the part: each word once, with the documents that have it.
+    pub fn entries(&self) -> &[Entry]
+        ensures value { pairs_of_index result.now ≡ self.now.pairs }
         ensures exact { IsPartOf self.now.texts self.now.part self.now.parts self.now.pairs }
+        ensures entries { AreEntries result.now }
     {
-        self.pairs.as_slice()
+        self.entries.as_slice()
     }
 
-    /// Whether the texts are these and no others; a text that is given twice counts once. It sorts
-    /// references to the texts, in memory that it gives back; where that is refused, it compares each
-    /// text with each other one.
+    /// Whether the texts are these and no others; a text that is given twice counts once. It takes no
+    /// memory: it compares the lists place by place, and only where they differ each text with each
+    /// other one.
     pub fn covers(&self, texts: &[Arc<SplitText>]) -> bool
-        ensures { IsTrue result ↔ AreSameTexts self.now.texts (values_of texts.now) }
+        ensures same { IsTrue result ↔ AreSameTexts self.now.texts (values_of texts.now) }
+        ensures value { result ≡ same_texts self.now.texts (values_of texts.now) }
     {
-        are_same_texts(*self.texts.allocator(), self.texts.as_slice(), texts)
+        are_same_texts(self.texts.as_slice(), texts)
     }
 }
 
@@ -95,27 +100,46 @@ pub fn merge(
     ensures exact { IfOk result (λ merged. IsPartOf (texts_of runs.now) part parts merged.pairs) }
 {
     let texts = all_texts(alloc, runs)?;
-    let pairs = merged_pairs(alloc, runs, part, parts)?;
+    let entries = merged_entries(alloc, runs, part, parts)?;
     Ok(PartResult {
         texts,
         part,
         parts,
-        pairs,
+        entries,
     })
 }
 
-/// The pairs of the runs, each once, rising, with words of their own.
-fn merged_pairs(
+/// The words of the runs, each with the documents of all runs.
+fn merged_entries(
     alloc: Global,
     runs: &[Arc<Run>],
     part: PartNo,
     parts: usize,
-) -> Result<Vec<Posting<Text>>, AllocError>
+) -> Result<Vec<Entry>, AllocError>
     requires { AreOfPart runs.now part parts }
-    ensures pairs { IfOk result (λ pairs. ArePairsOfRuns runs.now pairs.items) }
-    ensures exact { IfOk result (λ pairs. IsPartOf (texts_of runs.now) part parts pairs.items) }
+    ensures pairs { IfOk result (λ entries. ArePairsOfRuns runs.now (pairs_of_index entries.items)) }
+    ensures exact { IfOk result (λ entries. IsPartOf (texts_of runs.now) part parts (pairs_of_index entries.items)) }
+    ensures entries { IfOk result (λ entries. AreEntries entries.items) }
 {
-    let mut pairs = gathered(alloc, runs)?;
-    sort_distinct(&mut pairs);
-    Ok(all_owned(alloc, pairs.as_slice())?)
+    let table = gathered_runs(alloc, runs)?;
+    Ok(table.into_entries(alloc)?)
+}
+
+/// Whether the run is of this part and this number of parts.
+fn is_of_part(run: &Run, part: PartNo, parts: usize) -> bool
+    ensures { IsTrue result ↔ ((run.now.part ≡ part) × (run.now.parts ≡ parts)) }
+{
+    run.part() == part && run.parts() == parts
+}
+
+/// Whether each run is of this part and this number of parts, as `merge` asks.
+pub fn are_of_part(runs: &[Arc<Run>], part: PartNo, parts: usize) -> bool
+    ensures { IsTrue result ↔ AreOfPart runs.now part parts }
+{
+    for run in runs {
+        if !is_of_part(run, part, parts) {
+            return false;
+        }
+    }
+    true
 }

@@ -1,51 +1,151 @@
--- Room for one more part, and one more pair in its part.
-use Rattle.std.proofs.Common.{◌≡◌, ◌≢◌, ℕ, ◌+◌, ◌<◌, Bool, true, false, cond, List, [], ◌∷◌, ◌++◌, length, get_or, set, take, ⊎_elim, sym, ap, ◌∙◌, subst, arith, append-nil, Vec, eqb}
-use Rattle.std.specs.Prelude.{◌==◌, filter}
+-- Room for one more part, one more entry in its part, and what the entries of a part are.
+use Rattle.std.proofs.Common.{◌≡◌, ◌≢◌, ℕ, ◌+◌, ◌<◌, Bool, true, false, cond, List, [], ◌∷◌, ◌++◌, length, get_or, set, map, ⊎_elim, sym, ap, ◌∙◌, subst, arith, append-nil, append_assoc, Vec, eqb, eq-eqb}
+use Rattle.std.specs.Prelude.{◌↔◌, ◌==◌, Any, Contains, filter}
 use Rattle.std.specs.declared.alloc.Global.{Global}
-use Rattle.std.proofs.lemmas.Bool.{cases_lt}
+use Rattle.std.proofs.lemmas.Bool.{cases_lt, eqb-true}
 use Rattle.std.proofs.lemmas.Bool.Decides.{eqb_tells}
 use Rattle.std.proofs.Math.Seq.{get_or-append_seam}
-use Rattle.std.proofs.lemmas.List.{length_push, take_more, get_or_append_left, get_or-set_same, get_or-set_other, length-set}
-use Rattle.std.proofs.lemmas.List.Elements.{filter-append}
+use Rattle.std.proofs.lemmas.List.{length_push, get_or_append_left, get_or-set_same, get_or-set_other, length-set}
+use Rattle.std.proofs.lemmas.List.Elements.{All-filter}
+use Rattle.std.proofs.lemmas.List.Kept.{AllPairs-filter}
+use Rattle.word_map.specs.declared.text.Document.{Document}
 use Rattle.word_map.specs.Words.{part_of}
-use Rattle.word_map.specs.Texts.{Pair}
-use Rattle.word_map.specs.Divided.{AreDivided}
+use Rattle.word_map.specs.Texts.{Pair, IsPairOf, in_lower_case}
+use Rattle.word_map.specs.Tokens.{AreRunsOf, IsRunOfDocument}
+use Rattle.word_map.specs.Entries.{EntryView, AreEntries, pairs_of_index, WordIsBelow, DocumentsRise}
+use Rattle.word_map.specs.Divided.{AreDivided, AreEntriesOfParts, AreRunEntries, own_entries}
+use Rattle.word_map.proofs.PairLemmas.{any_from_member, member_from_any, Contains-from_filter, Contains-filter, pairs_of_lower}
+use Rattle.word_map.proofs.EntryLemmas.{HasPair, entries_of_pair, pair_in_entries, pairs_of_entries_rise}
 
 -- room for one more part
-pub divided_room : {parts : ℕ} (divided : List (Vec Pair Global)) (room : Vec Pair Global) → AreDivided [] parts divided → room.items ≡ [] → AreDivided [] (parts + 1) (divided ++ room ∷ [])
+pub divided_room : {parts : ℕ} (divided : List (Vec EntryView Global)) (room : Vec EntryView Global) →
+    AreDivided [] parts divided → room.items ≡ [] → AreDivided [] (parts + 1) (divided ++ room ∷ [])
 divided_room {parts} divided room was empty = record {
   count = length_push divided room ∙ ap (λ n. n + 1) was.count;
   each = λ part d low.
       ⊎_elim
-      (λ (before : part < length divided). ap (λ v. v.items) (get_or_append_left divided (room ∷ []) d part before) ∙ was.each part d (omega (arith, was.count)))
+      (λ (before : part < length divided). ap (λ v. v.items)
+          (get_or_append_left divided (room ∷ []) d part before)
+          ∙ was.each part d (omega (arith, was.count)))
       (λ after. let last : part ≡ length divided = omega (arith, was.count) in
-      ap (λ n. (get_or (divided ++ room ∷ []) n d).items) last ∙ ap (λ v. v.items) (get_or-append_seam divided room [] d) ∙ empty)
+      ap (λ n. (get_or (divided ++ room ∷ []) n d).items) last
+          ∙ ap (λ v. v.items) (get_or-append_seam divided room [] d) ∙ empty)
       (cases_lt part (length divided));
 }
 
--- the pairs of a part, before and after one more pair
-own_pairs : ℕ → ℕ → List Pair → List Pair
-own_pairs part parts pairs = filter (λ pair. part_of pair.word parts == part) pairs
+-- each part has its entries but for those that are left
+pub record AreDividedBut (left entries : List EntryView) (parts : ℕ)
+    (divided : List (Vec EntryView Global)) : Type 0 where
+  pub count : length divided ≡ parts
+  pub each : (part : ℕ) (d : Vec EntryView Global) → part < parts →
+      (get_or divided part d).items ++ own_entries part parts left ≡ own_entries part parts entries
 
-one_more_own : (part parts : ℕ) (pairs : List Pair) (pair : Pair) (b : Bool) → eqb (part_of pair.word parts) part ≡ b → filter (λ pair. part_of pair.word parts == part) (pairs ++ pair ∷ []) ≡ filter (λ pair. part_of pair.word parts == part) pairs ++ cond b (pair ∷ []) []
-one_more_own part parts pairs pair b is = filter-append (λ pair. part_of pair.word parts == part) pairs (pair ∷ []) ∙ ap (λ c. filter (λ pair. part_of pair.word parts == part) pairs ++ cond c (pair ∷ []) []) is
+pub divided_none : {parts : ℕ} (entries : List EntryView) (divided : List (Vec EntryView Global)) →
+    AreDivided [] parts divided → AreDividedBut entries entries parts divided
+divided_none {parts} entries divided none = record {
+  count = none.count;
+  each = λ part d low. ap (λ es. es ++ own_entries part parts entries) (none.each part d low);
+}
 
--- one more pair, in the part of its word
-pub divided_more : (pairs : List Pair) (i : ℕ) (parts : ℕ) (divided : List (Vec Pair Global)) {pair : Pair} {part : ℕ} {was : Vec Pair Global} (now : Vec Pair Global) → i < length pairs → pair ≡ get_or pairs i pair → AreDivided (take i pairs) parts divided → part ≡ part_of pair.word parts → part < parts → was ≡ get_or divided part was → now.items ≡ was.items ++ pair ∷ [] → AreDivided (take (i + 1) pairs) parts (set divided part now)
-divided_more pairs i parts divided {pair} {part} {was} now inside is before own low was_is now_is =
-    let more : take (i + 1) pairs ≡ take i pairs ++ pair ∷ [] = take_more pairs i pair inside ∙ ap (λ d. take i pairs ++ d ∷ []) (sym is) in
-    subst (λ ps. AreDivided ps parts (set divided part now)) (sym more) (record {
-      count = simp length-set before.count;
-      each = λ k d below.
-          ⊎_elim
-          (λ (same : (eqb (part_of pair.word parts) k ≡ true) × (part_of pair.word parts ≡ k)).
-          let k_is : part ≡ k = own ∙ same.1 in
-          let in_range : part < length divided = omega (arith, before.count) in
-          ap (λ n. (get_or (set divided part now) n d).items) (sym k_is) ∙ ap (λ v. v.items) (get_or-set_same divided part now d in_range)
-          ∙ now_is ∙ ap (λ v. v.items ++ pair ∷ []) was_is ∙ ap (λ ps. ps ++ pair ∷ []) (before.each part was low) ∙ ap (λ n. filter (λ pair. part_of pair.word parts == n) (take i pairs) ++ pair ∷ []) k_is
-          ∙ sym (one_more_own k parts (take i pairs) pair true same.0))
-          (λ (other : (eqb (part_of pair.word parts) k ≡ false) × (part_of pair.word parts ≢ k)).
-          let k_not : k ≢ part = (λ e. other.1 (sym own ∙ sym e)) in
-          ap (λ v. v.items) (get_or-set_other divided part k now d k_not) ∙ before.each k d below ∙ sym (one_more_own k parts (take i pairs) pair false other.0 ∙ append-nil (filter (λ pair. part_of pair.word parts == k) (take i pairs))))
-          (eqb_tells (part_of pair.word parts) k);
-    })
+pub divided_all : {parts : ℕ} (entries : List EntryView) (divided : List (Vec EntryView Global)) →
+    AreDividedBut [] entries parts divided → AreDivided entries parts divided
+divided_all {parts} entries divided all = record {
+  count = all.count;
+  each = λ part d low. sym (append-nil (get_or divided part d).items) ∙ all.each part d low;
+}
+
+-- an entry goes before the others of its part
+own_first : (part parts : ℕ) (entry : EntryView) (left : List EntryView) (b : Bool) →
+    eqb (part_of entry.word parts) part ≡ b → own_entries part parts (entry ∷ left) ≡ cond b
+    (entry ∷ own_entries part parts left) (own_entries part parts left)
+own_first part parts entry left b is = ap (λ c. cond c (entry ∷ own_entries part parts left)
+    (own_entries part parts left)) is
+
+-- one more entry, in the part of its word
+pub divided_more : (left entries : List EntryView) (parts : ℕ)
+    (divided : List (Vec EntryView Global)) {entry : EntryView} {part : ℕ} {was : Vec EntryView Global}
+    (now : Vec EntryView Global) → AreDividedBut (entry ∷ left) entries parts divided →
+    part ≡ part_of entry.word parts → part < parts → was ≡ get_or divided part was →
+    now.items ≡ was.items ++ entry ∷ [] → AreDividedBut left entries parts (set divided part now)
+divided_more left entries parts divided {entry} {part} {was} now before own low was_is now_is = record {
+  count = simp length-set before.count;
+  each = λ k d below.
+      ⊎_elim
+      (λ (same : (eqb (part_of entry.word parts) k ≡ true) × (part_of entry.word parts ≡ k)).
+      let k_is : part ≡ k = own ∙ same.1 in
+      let in_range : part < length divided = omega (arith, before.count) in
+      ap (λ n. (get_or (set divided part now) n d).items ++ own_entries k parts left) (sym k_is)
+          ∙ ap (λ v. v.items ++ own_entries k parts left) (get_or-set_same divided part now d in_range)
+      ∙ ap (λ es. es ++ own_entries k parts left) now_is
+          ∙ append_assoc was.items (entry ∷ []) (own_entries k parts left)
+      ∙ ap (λ es. was.items ++ es) (sym (own_first k parts entry left true same.0))
+      ∙ ap (λ v. v.items ++ own_entries k parts (entry ∷ left)) (was_is ∙ ap (λ n. get_or divided n was) k_is)
+      ∙ before.each k was below)
+      (λ (other : (eqb (part_of entry.word parts) k ≡ false) × (part_of entry.word parts ≢ k)).
+      let k_not : k ≢ part = (λ e. other.1 (sym own ∙ sym e)) in
+      ap (λ v. v.items ++ own_entries k parts left) (get_or-set_other divided part k now d k_not)
+      ∙ ap (λ es. (get_or divided k d).items ++ es) (sym (own_first k parts entry left false other.0))
+          ∙ before.each k d below)
+      (eqb_tells (part_of entry.word parts) k);
+}
+
+-- the pairs of the entries of a part are those whose words belong to it
+pub pairs_of_own : (part parts : ℕ) (entries : List EntryView) (pair : Pair) →
+    Contains (pairs_of_index (own_entries part parts entries)) pair ↔
+    (Contains (pairs_of_index entries) pair × (part_of pair.word parts ≡ part))
+pairs_of_own part parts entries pair = (
+  (λ h.
+      let m = member_from_any (HasPair pair) (own_entries part parts entries)
+          (entries_of_pair (own_entries part parts entries) pair h) in
+      let kept = Contains-from_filter (λ (e : EntryView). part_of e.word parts == part) entries m.0 m.1 in (
+        pair_in_entries entries pair (any_from_member (HasPair pair) entries m.0 kept.0 m.2),
+        ap (λ w. part_of w parts) (sym m.2.0) ∙ eqb-true (part_of m.0.word parts) part kept.1,
+      )),
+  (λ h.
+      let m = member_from_any (HasPair pair) entries (entries_of_pair entries pair h.0) in
+      let passes = eq-eqb (part_of m.0.word parts) part (ap (λ w. part_of w parts) m.2.0 ∙ h.1) in
+      pair_in_entries (own_entries part parts entries) pair
+          (any_from_member (HasPair pair) (own_entries part parts entries) m.0
+      (Contains-filter (λ (e : EntryView). part_of e.word parts == part) entries m.0 passes m.1) m.2)),
+)
+
+-- the entries of a part are entries
+own_are_entries : (part parts : ℕ) (entries : List EntryView) → AreEntries entries →
+    AreEntries (own_entries part parts entries)
+own_are_entries part parts entries are = record {
+  words = AllPairs-filter WordIsBelow (λ (e : EntryView). part_of e.word parts == part) entries are.words;
+  documents =
+      All-filter (λ (e : EntryView). part_of e.word parts == part) DocumentsRise entries are.documents;
+  some = All-filter (λ (e : EntryView). part_of e.word parts == part)
+      (λ (e : EntryView). 0 < length e.documents) entries are.some;
+}
+
+-- the entries of the text in lower case, divided, are those of the documents for each part
+pub entries_of_parts : {documents lower : List Document} (table entries : List EntryView)
+    (divided : List (Vec EntryView Global)) {parts : ℕ} → lower ≡ map in_lower_case documents →
+    AreRunsOf lower (pairs_of_index table) → AreEntries entries →
+    ((pair : Pair) → Contains (pairs_of_index entries) pair ↔ Contains (pairs_of_index table) pair) →
+    AreDivided entries parts divided → AreEntriesOfParts documents parts divided
+entries_of_parts {documents} {lower} table entries divided {parts} is_lower runs are same division =
+    record { count = division.count; each = λ part d low. subst (AreRunEntries documents part parts)
+    (sym (division.each part d low)) (of_part part) }
+  where
+    of_part : (part : ℕ) → AreRunEntries documents part parts (own_entries part parts entries)
+    of_part part = let own = own_are_entries part parts entries are in record {
+      sorted = own;
+      exact = record {
+        rising = pairs_of_entries_rise (own_entries part parts entries) own.words own.documents;
+        exact = λ pair. (
+          (λ h.
+              let there = (pairs_of_own part parts entries pair).0 h in
+              ((pairs_of_lower documents pair).0 (subst (Any (IsRunOfDocument pair)) is_lower
+                  ((runs.exact pair).0 ((same pair).0 there.0))), there.1)),
+          (λ (h : IsPairOf documents pair × (part_of pair.word parts ≡ part)).
+              (pairs_of_own part parts entries pair).1 (
+            (same pair).1 ((runs.exact pair).1 (subst (Any (IsRunOfDocument pair)) (sym is_lower)
+                ((pairs_of_lower documents pair).1 h.0))),
+            h.1,
+          )),
+        );
+      };
+    }

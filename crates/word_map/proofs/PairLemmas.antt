@@ -1,24 +1,16 @@
 -- The runs of several documents, their words, and the pairs of one part.
-use Rattle.std.proofs.Common.{◌≡◌, ℕ, ◌+◌, ◌-◌, ◌<◌, Bool, true, false, cond, List, [], ◌∷◌, ◌++◌, length, get_or, take, drop, map, inl, inr, ◌⊎◌, ⊎_elim, sym, refl, ap, ◌∙◌, subst, arith, eq-eqb, Vec}
-use Rattle.std.specs.Prelude.{◌↔◌, ◌==◌, Contains, Any, filter, slice_range}
+use Rattle.std.proofs.Common.{◌≡◌, ℕ, ◌+◌, ◌-◌, ◌<◌, Bool, true, false, cond, List, [], ◌∷◌, ◌++◌, length, get_or, take, drop, map, inl, inr, ◌⊎◌, ⊎_elim, sym, refl, ap, ◌∙◌, subst, arith}
+use Rattle.std.specs.Prelude.{◌↔◌, Contains, Any, filter, slice_range}
 use Rattle.std.specs.Char.{is_ascii_alphabetic, to_ascii_lowercase}
 use Rattle.std.specs.List.{drop-map, take-map}
 use Rattle.std.proofs.Math.ListN.{get_or-map}
-use Rattle.std.proofs.lemmas.Bool.{false≢true, eqb-true}
+use Rattle.std.proofs.lemmas.Bool.{false≢true}
 use Rattle.std.proofs.lemmas.Bool.Decides.{nat_tests}
 use Rattle.std.proofs.lemmas.List.{take_more, length-map}
 use Rattle.std.proofs.lemmas.List.Elements.{Contains-push, Contains-push_cases, Contains-append_left, Contains-append_right, Contains-append_cases}
-use Rattle.std.proofs.lemmas.List.Kept.{IsStrictlySortedBy-filter}
 use Rattle.word_map.specs.declared.text.Document.{Document}
-use Rattle.word_map.specs.Words.{letter_at, IsLongestRun, IsWordOf, part_of}
+use Rattle.word_map.specs.Words.{letter_at, IsLongestRun, IsWordOf}
 use Rattle.word_map.specs.Texts.{Pair, IsPairOf, in_lower_case}
-use Rattle.word_map.specs.Runs.{pair_cmp, AreRising, IsRunOf}
-use Rattle.std.proofs.lemmas.Map.Lookups.{exact_pairs, exact_bytes, exact_unsigned}
-use Rattle.std.specs.Cmp.Lexicographic.{slice_cmp}
-use Rattle.std.specs.Ordering.{nat_cmp}
-use Rattle.std.specs.declared.alloc.Global.{Global}
-use Rattle.word_map.specs.Divided.{AreDivided, AreRunPairs}
-use Rattle.word_map.specs.Distinct.{TellsApart}
 use Rattle.word_map.specs.Tokens.{AddsRuns, AreRunsOf, IsRunOfDocument, IsRunIn}
 
 module _ {X : Type 0} where
@@ -156,28 +148,3 @@ pairs_of_lower documents pair = (
   (λ h. any_weaker (λ d. IsRunOfDocument pair (in_lower_case d)) (λ d. (d.number ≡ pair.document) × IsWordOf d.text pair.word) (λ d e. (sym e.0, word_from_run d.text pair.word e.1)) documents (any_from_map in_lower_case (IsRunOfDocument pair) documents h)),
   (λ h. any_map in_lower_case (IsRunOfDocument pair) documents (any_weaker (λ d. (d.number ≡ pair.document) × IsWordOf d.text pair.word) (λ d. IsRunOfDocument pair (in_lower_case d)) (λ d e. (sym e.0, run_from_word d.text pair.word e.1)) documents h)),
 )
-
--- the pairs of a part, from those of the text in lower case
-pub run_from_divided : {documents lower : List Document} {pairs : List Pair} (sorted : List Pair) {own : List Pair} {part parts : ℕ} → lower ≡ map in_lower_case documents → AreRunsOf lower pairs → ((pair : Pair) → Contains sorted pair ↔ Contains pairs pair) → AreRising sorted → own ≡ filter (λ pair. part_of pair.word parts == part) sorted → IsRunOf documents part parts own
-run_from_divided {documents} {lower} {pairs} sorted {own} {part} {parts} is_lower runs same rising is =
-    subst (IsRunOf documents part parts) (sym is) (record {
-      rising = IsStrictlySortedBy-filter pair_cmp (λ pair. part_of pair.word parts == part) sorted rising;
-      exact = λ pair. (
-        (λ h.
-            let kept = Contains-from_filter (λ pair. part_of pair.word parts == part) sorted pair h in
-            ((pairs_of_lower documents pair).0 (subst (Any (IsRunOfDocument pair)) is_lower ((runs.exact pair).0 ((same pair).0 kept.0))), eqb-true (part_of pair.word parts) part kept.1)),
-        (λ h. Contains-filter (λ pair. part_of pair.word parts == part) sorted pair (eq-eqb (part_of pair.word parts) part h.1)
-            ((same pair).1 ((runs.exact pair).1 (subst (Any (IsRunOfDocument pair)) (sym is_lower) ((pairs_of_lower documents pair).1 h.0))))),
-      );
-    })
-
--- the pairs of each part
-pub runs_from_divided : {documents lower : List Document} {pairs : List Pair} (sorted : List Pair) (divided : List (Vec Pair Global)) {parts : ℕ} → lower ≡ map in_lower_case documents → AreRunsOf lower pairs → ((pair : Pair) → Contains sorted pair ↔ Contains pairs pair) → AreRising sorted → AreDivided sorted parts divided → AreRunPairs documents parts divided
-runs_from_divided sorted divided is_lower runs same rising are = record {
-  count = are.count;
-  each = λ part d low. run_from_divided sorted is_lower runs same rising (are.each part d low);
-}
-
--- words that compare alike are one, and so are pairs
-pub pairs_tell_apart : TellsApart pair_cmp
-pairs_tell_apart a b h = ap (λ (p : List ℕ × ℕ). let q : Pair = record { word = p.0; document = p.1 } in q) (exact_pairs (slice_cmp nat_cmp) nat_cmp exact_bytes exact_unsigned (a.word, a.document) (b.word, b.document) h)

@@ -1,5 +1,5 @@
 -- Longest runs of letters: two that overlap are one, and what one more run adds.
-use Rattle.std.proofs.Common.{◌≡◌, [], ◌∷◌, ◌++◌, ℕ, ◌+◌, ◌-◌, ◌<◌, ◌≤◌, true, false, List, length, get_or, inl, inr, ◌⊎◌, ⊎_elim, sym, ap, ◌∙◌, subst, arith}
+use Rattle.std.proofs.Common.{◌≡◌, ℕ, ◌+◌, ◌-◌, ◌<◌, ◌≤◌, true, false, List, length, get_or, inl, inr, ◌⊎◌, ⊎_elim, sym, ap, ◌∙◌, subst, arith}
 use Rattle.std.specs.Prelude.{◌↔◌, Contains, slice_range}
 use Rattle.std.proofs.lemmas.Bool.{cases_lt, false≢true}
 use Rattle.std.proofs.lemmas.Bool.Decides.{nat_tests}
@@ -7,7 +7,6 @@ use Rattle.std.proofs.lemmas.Str.{IsCharBoundary-after_ascii, IsCharBoundary-bef
 use Rattle.std.specs.Char.{is_ascii_alphabetic}
 use Rattle.std.specs.Str.{IsUtf8, IsCharBoundary}
 use Rattle.word_map.specs.Words.{letter_at, IsLongestRun}
-use Rattle.std.proofs.lemmas.List.Elements.{Contains-push, Contains-push_cases, Contains-append_left}
 use Rattle.word_map.specs.Tokens.{IsSpan, AddsRuns}
 use Rattle.word_map.specs.Texts.{Pair}
 
@@ -114,34 +113,29 @@ adds_none {old} {bytes} {document} {next} gap = record {
   );
 }
 
--- a run with the document
-abbrev the_pair : List ℕ → ℕ → ℕ → ℕ → Pair
-the_pair bytes start stop document = record { word = slice_range bytes start stop; document = document }
-
 -- one more run
-pub adds_one_more : {old new : List Pair} {bytes : List ℕ} {document start stop next : ℕ} → BeginsRun bytes start → start < length bytes → IsSpan bytes true start stop → IsSpan bytes false stop next → AddsRunsBefore old new bytes document start → AddsRunsBefore old (new ++ record { word = slice_range bytes start stop; document = document } ∷ []) bytes document next
-adds_one_more {old} {new} {bytes} {document} {start} {stop} {next} begins inside span gap adds = record { exact = λ pair. (forth pair, back pair) }
+pub adds_one_more : {old new newer : List Pair} {bytes : List ℕ} {document start stop next : ℕ} → BeginsRun bytes start → start < length bytes → IsSpan bytes true start stop → IsSpan bytes false stop next → AddsRunsBefore old new bytes document start → ((pair : Pair) → Contains newer pair ↔ (Contains new pair ⊎ ((pair.word ≡ slice_range bytes start stop) × (pair.document ≡ document)))) → AddsRunsBefore old newer bytes document next
+adds_one_more {old} {new} {newer} {bytes} {document} {start} {stop} {next} begins inside span gap adds more = record { exact = λ pair. (forth pair, back pair) }
   where
     run : IsLongestRun bytes start stop
     run = run_from_span begins inside span
 
-    forth : (pair : Pair) → Contains (new ++ (the_pair bytes start stop document) ∷ []) pair → Contains old pair ⊎ ((pair.document ≡ document) × IsRunBefore bytes next pair.word)
+    forth : (pair : Pair) → Contains newer pair → Contains old pair ⊎ ((pair.document ≡ document) × IsRunBefore bytes next pair.word)
     forth pair h =
         ⊎_elim
         (λ (was : Contains new pair). ⊎_elim (λ o. inl o) (λ e. inr (e.0, record { start = e.1.start; stop = e.1.stop; run = e.1.run; low = omega (arith, e.1.low, span.order, gap.order); is = e.1.is })) ((adds.exact pair).0 was))
-        (λ (same : (the_pair bytes start stop document) ≡ pair). inr (ap (λ p. p.document) (sym same), record { start = start; stop = stop; run = run; low = gap.order; is = ap (λ p. p.word) (sym same) }))
-        (Contains-push_cases new (the_pair bytes start stop document) pair h)
+        (λ (this : (pair.word ≡ slice_range bytes start stop) × (pair.document ≡ document)). inr (this.1, record { start = start; stop = stop; run = run; low = gap.order; is = this.0 }))
+        ((more pair).0 h)
 
-    back : (pair : Pair) → Contains old pair ⊎ ((pair.document ≡ document) × IsRunBefore bytes next pair.word) → Contains (new ++ (the_pair bytes start stop document) ∷ []) pair
+    back : (pair : Pair) → Contains old pair ⊎ ((pair.document ≡ document) × IsRunBefore bytes next pair.word) → Contains newer pair
     back pair h =
         ⊎_elim
-        (λ (o : Contains old pair). Contains-append_left new ((the_pair bytes start stop document) ∷ []) pair ((adds.exact pair).1 (inl o)))
+        (λ (o : Contains old pair). (more pair).1 (inl ((adds.exact pair).1 (inl o))))
         (λ (e : (pair.document ≡ document) × IsRunBefore bytes next pair.word).
         ⊎_elim
-        (λ (low : e.1.stop ≤ start). Contains-append_left new ((the_pair bytes start stop document) ∷ []) pair ((adds.exact pair).1 (inr (e.0, record { start = e.1.start; stop = e.1.stop; run = e.1.run; low = low; is = e.1.is }))))
+        (λ (low : e.1.stop ≤ start). (more pair).1 (inl ((adds.exact pair).1 (inr (e.0, record { start = e.1.start; stop = e.1.stop; run = e.1.run; low = low; is = e.1.is })))))
         (λ (same : (e.1.start ≡ start) × (e.1.stop ≡ stop)).
-        let word_is : slice_range bytes start stop ≡ pair.word = sym (e.1.is ∙ ap (λ n. slice_range bytes n e.1.stop) same.0 ∙ ap (λ n. slice_range bytes start n) same.1) in
-        subst (Contains (new ++ (the_pair bytes start stop document) ∷ [])) (same_pair {p = (the_pair bytes start stop document)} {q = pair} word_is (sym e.0)) (Contains-push new (the_pair bytes start stop document)))
+        (more pair).1 (inr (e.1.is ∙ ap (λ n. slice_range bytes n e.1.stop) same.0 ∙ ap (λ n. slice_range bytes start n) same.1, e.0)))
         (one_more_run run gap e.1.run e.1.low))
         h
 

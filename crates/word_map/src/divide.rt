@@ -1,14 +1,12 @@
-ghost use Rattle.std.specs.Prelude.{◌≡◌, ◌<◌, ◌∷◌, ◌++◌, [], IfOk, OnOk};
+ghost use Rattle.std.specs.Prelude.{◌≡◌, ◌<◌, [], IfOk};
 ghost use Rattle.word_map.specs.Divided.{AreDivided};
 
+use crate::entry::Entry;
 use crate::hash::part_of;
-use crate::posting::Posting;
-use crate::text::Text;
-use crate::word::Word;
 use std::alloc::{AllocError, Global};
 
-/// No pair for any part.
-fn no_pairs(alloc: Global, parts: usize) -> Result<Vec<Vec<Posting<Text>>>, AllocError>
+/// No entry for any part.
+fn no_entries(alloc: Global, parts: usize) -> Result<Vec<Vec<Entry>>, AllocError>
     ensures { IfOk result (λ divided. AreDivided [] parts divided.items) }
 {
     let mut divided = Vec::with_capacity(alloc, parts)?;
@@ -18,30 +16,19 @@ fn no_pairs(alloc: Global, parts: usize) -> Result<Vec<Vec<Posting<Text>>>, Allo
     Ok(divided)
 }
 
-/// The pair with a word of its own memory.
-pub fn owned(alloc: Global, pair: &Posting<Word<'_>>) -> Result<Posting<Text>, AllocError>
-    ensures { IfOk result (λ own. own ≡ pair.now) }
-{
-    Ok(Posting {
-        word: Text::new(String::from_str(alloc, pair.word.as_str())?),
-        document: pair.document,
-    })
-}
-
-/// The pairs by the parts of their words.
+/// The entries by the parts of their words.
 pub(crate) fn divide(
     alloc: Global,
-    pairs: &[Posting<Word<'_>>],
+    entries: Vec<Entry>,
     parts: usize,
-) -> Result<Vec<Vec<Posting<Text>>>, AllocError>
+) -> Result<Vec<Vec<Entry>>, AllocError>
     requires { 0 < parts }
-    ensures { IfOk result (λ divided. AreDivided pairs.now parts divided.items) }
+    ensures { IfOk result (λ divided. AreDivided entries.items parts divided.items) }
 {
-    let mut divided = no_pairs(alloc, parts)?;
-    for pair in pairs {
-        let part = part_of(pair.word.as_str(), parts);
-        let own = owned(alloc, pair)?;
-        divided[part].push(own)?;
+    let mut divided = no_entries(alloc, parts)?;
+    for entry in entries {
+        let part = part_of(entry.word(), parts);
+        divided[part].push(entry)?;
     }
     Ok(divided)
 }

@@ -8,17 +8,18 @@
 
 mod distinct;
 mod divide;
+mod entry;
 mod hash;
-mod posting;
 mod runs;
+mod table;
 mod text;
 mod tokens;
 mod word;
 
-pub use distinct::sort_distinct;
-pub use divide::owned;
+pub use entry::Entry;
 pub use hash::part_of;
-pub use posting::Posting;
 pub use runs::{MapResult, Run, map_split};
+pub use table::WordTable;
 pub use text::{Document, SplitText, Text};
 pub use word::Word;
+

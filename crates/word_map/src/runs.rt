@@ -1,12 +1,12 @@
 ghost use Rattle.std.specs.Prelude.{◌≡◌, ◌<◌, ◌≤◌, length, vec_len, IfOk};
 ghost use Rattle.std.specs.Arc.{arc_value};
 ghost use Rattle.word_map.specs.Runs.{IsRunOf, IsRunFor, AreRunsOfText};
-ghost use Rattle.word_map.specs.Divided.{AreRunPairs};
+ghost use Rattle.word_map.specs.Entries.{AreEntries, pairs_of_index};
+ghost use Rattle.word_map.specs.Divided.{AreEntriesOfParts, AreRunEntries};
 
-use crate::distinct::sort_distinct;
 use crate::divide::divide;
-use crate::posting::Posting;
-use crate::text::{Document, SplitText, Text};
+use crate::entry::Entry;
+use crate::text::{Document, SplitText};
 use crate::tokens::{all_in_lower_case, all_words};
 use node_ids::PartNo;
 use std::alloc::{AllocError, Global};
@@ -21,31 +21,38 @@ pub struct Run {
     text: Arc<SplitText>,
     part: PartNo,
     parts: usize,
-    pairs: Vec<Posting<Text>>,
+    entries: Vec<Entry>,
 }
 
 impl Model for Run {
     ghost use Rattle.std.specs.Arc.{arc_value};
     ghost use Rattle.word_map.specs.Runs.{RunView, IsRun};
+    ghost use Rattle.word_map.specs.Entries.{AreEntries, pairs_of_index};
 
     ghost Value = { RunView };
 
-    ghost view = { λ r. record { text = arc_value r.text; part = r.part; parts = r.parts; pairs = r.pairs.items } };
+    ghost view = { λ r. record {
+      text = arc_value r.text;
+      part = r.part;
+      parts = r.parts;
+      pairs = pairs_of_index r.entries.items;
+    } };
 
-    ghost invariant = { λ r. IsRun (arc_value r.text).documents r.part r.parts r.pairs.items };
+    ghost invariant = { λ r. IsRun (arc_value r.text).documents r.part r.parts (pairs_of_index r.entries.items)
+        × AreEntries r.entries.items };
 }
 
 impl Run {
-    fn new(text: Arc<SplitText>, part: PartNo, parts: usize, pairs: Vec<Posting<Text>>) -> Run
+    fn new(text: Arc<SplitText>, part: PartNo, parts: usize, entries: Vec<Entry>) -> Run
         requires in_range { part < parts }
-        requires exact { IsRunOf (arc_value text).documents part parts pairs.items }
+        requires exact { AreRunEntries (arc_value text).documents part parts entries.items }
         ensures { IsRunFor (arc_value text) part parts result }
     {
         Run {
             text,
             part,
             parts,
-            pairs,
+            entries,
         }
     }
 
@@ -71,12 +78,13 @@ impl Run {
         self.parts
     }
 
-    /// The pairs of the text for the part, rising, each once.
-    pub fn pairs(&self) -> &[Posting<Text>]
-        ensures value { result.now ≡ self.now.pairs }
+    /// The pairs of the text for the part: each word once, with the documents that have it.
+    pub fn entries(&self) -> &[Entry]
+        ensures value { pairs_of_index result.now ≡ self.now.pairs }
         ensures exact { IsRunOf self.now.text.documents self.now.part self.now.parts self.now.pairs }
+        ensures entries { AreEntries result.now }
     {
-        self.pairs.as_slice()
+        self.entries.as_slice()
     }
 }
 
@@ -130,33 +138,32 @@ pub fn map_split(alloc: Global, text: Arc<SplitText>, parts: usize) -> Result<Ma
     ensures text { IfOk result (λ made. made.text ≡ arc_value text) }
     ensures parts { IfOk result (λ made. made.parts ≡ parts) }
 {
-    let divided = divided_pairs(alloc, text.documents(), parts)?;
+    let divided = divided_entries(alloc, text.documents(), parts)?;
     let runs = all_runs(alloc, &text, divided)?;
     Ok(MapResult { text, runs })
 }
 
-/// The pairs of the documents for each part.
-fn divided_pairs(
+/// The entries of the documents for each part.
+fn divided_entries(
     alloc: Global,
     documents: &[Document],
     parts: usize,
-) -> Result<Vec<Vec<Posting<Text>>>, AllocError>
+) -> Result<Vec<Vec<Entry>>, AllocError>
     requires { 0 < parts }
-    ensures { IfOk result (λ divided. AreRunPairs documents.now parts divided.items) }
+    ensures { IfOk result (λ divided. AreEntriesOfParts documents.now parts divided.items) }
 {
     let lower = all_in_lower_case(alloc, documents)?;
-    let mut pairs = all_words(alloc, lower.as_slice())?;
-    sort_distinct(&mut pairs);
-    Ok(divide(alloc, pairs.as_slice(), parts)?)
+    let table = all_words(alloc, lower.as_slice())?;
+    Ok(divide(alloc, table.into_entries(alloc)?, parts)?)
 }
 
 /// A run of the text for each part.
 fn all_runs(
     alloc: Global,
     text: &Arc<SplitText>,
-    mut divided: Vec<Vec<Posting<Text>>>,
+    mut divided: Vec<Vec<Entry>>,
 ) -> Result<Vec<Arc<Run>>, AllocError>
-    requires pairs { AreRunPairs (arc_value text.now).documents (vec_len divided) divided.items }
+    requires entries { AreEntriesOfParts (arc_value text.now).documents (vec_len divided) divided.items }
     requires few { vec_len divided ≤ 64 }
     ensures count { IfOk result (λ runs. length runs.items ≡ vec_len divided) }
     ensures each { IfOk result (λ runs. AreRunsOfText (arc_value text.now) runs.items) }
@@ -164,9 +171,9 @@ fn all_runs(
     let parts = divided.len();
     let mut runs = Vec::with_capacity(alloc, parts)?;
     for part in 0..parts {
-        let pairs = mem::replace(&mut divided[part], Vec::new(alloc));
+        let entries = mem::replace(&mut divided[part], Vec::new(alloc));
         let text = Arc::try_clone(text)?;
-        let run = Run::new(text, PartNo::new(part as u8), parts, pairs);
+        let run = Run::new(text, PartNo::new(part as u8), parts, entries);
         runs.push(Arc::new(alloc, run)?)?;
     }
     Ok(runs)

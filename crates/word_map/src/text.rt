@@ -1,4 +1,5 @@
 ghost use Rattle.std.specs.Prelude.{◌≡◌, ◌↔◌, IsTrue, nat_eq, Some, string_bytes};
+ghost use Rattle.word_map.specs.Texts.{same_text};
 ghost use Rattle.std.specs.Ordering.{nat_cmp};
 ghost use Rattle.std.specs.Cmp.Lexicographic.{pointwise, slice_cmp, nat_list_eq_equiv, nat_list_cmp_total, texts_ties, texts_po};
 ghost use Rattle.std.specs.Cmp;
@@ -129,7 +130,8 @@ impl SplitText {
 
     /// Whether the other text has the same split, and the same documents in the same order.
     pub fn is_same(&self, other: &SplitText) -> bool
-        ensures { IsTrue result ↔ (self.now ≡ other.now) }
+        ensures same { IsTrue result ↔ (self.now ≡ other.now) }
+        ensures value { result ≡ same_text self.now other.now }
     {
         self.split == other.split && self.documents.as_slice() == other.documents.as_slice()
     }

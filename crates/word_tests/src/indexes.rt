@@ -1,10 +1,6 @@
-ghost use Rattle.std.specs.Prelude.{◌≡◌, All, IsTrue};
-ghost use Rattle.shuffle_reduce.specs.Merged.{AreSameTexts, PartView};
-ghost use Rattle.shuffle_reduce.specs.Gather.{values_of};
-
 use crate::texts::text;
 use node_ids::{DocNo, PartNo};
-use shuffle_reduce::{FinishError, Index, PartResult, finish, merge};
+use shuffle_reduce::{FinishError, Index, PartResult, are_of_part, are_ready, finish, merge};
 use std::alloc::{AllocError, Global};
 use std::process::Abort;
 use std::sync::Arc;
@@ -41,29 +37,13 @@ fn results_of(
     Ok(results)
 }
 
-// Whether each result is of these texts and of two parts.
-fn are_ready(results: &[PartResult], texts: &[Arc<SplitText>]) -> bool
-    ensures covers { IsTrue result → All (λ (one : PartView). AreSameTexts one.texts (values_of texts.now)) results.now }
-    ensures parts { IsTrue result → All (λ (one : PartView). one.parts ≡ 2) results.now }
-{
-    for one in results {
-        if !one.covers(texts) {
-            return false;
-        }
-        if one.parts() != 2 {
-            return false;
-        }
-    }
-    true
-}
-
 // What comes of the results, where they are ready.
 fn finish_ready(
     alloc: Global,
     texts: &[Arc<SplitText>],
     results: &[PartResult],
 ) -> Option<Result<Index, FinishError>> {
-    if !are_ready(results, texts) {
+    if !are_ready(2, texts, results) {
         return None;
     }
     Some(finish(alloc, 2, texts, results))
@@ -159,7 +139,7 @@ fn a_result_is_of_its_part(rt: HostRuntime) -> Result<(), Fail> {
     assert_eq!(rt; result.part(), PartNo::new(1));
     assert_eq!(rt; result.parts(), 2);
     assert_eq!(rt; result.texts().len(), 2);
-    assert_eq!(rt; result.pairs().len(), 0);
+    assert_eq!(rt; result.entries().len(), 0);
     Ok(())
 }
 
@@ -183,7 +163,8 @@ fn covers_its_texts_alone(rt: HostRuntime) -> Result<(), Fail> {
 fn no_run_gives_no_pair(rt: HostRuntime) -> Result<(), Fail> {
     let alloc = rt.alloc();
     let result = merge(alloc, 64, PartNo::new(63), &[])?;
+    assert!(rt; are_of_part(&[], PartNo::new(63), 64));
     assert!(rt; result.covers(&[]));
-    assert!(rt; result.pairs().is_empty());
+    assert!(rt; result.entries().is_empty());
     Ok(())
 }

@@ -4,14 +4,30 @@ use std::alloc::Global;
 use std::process::Abort;
 use std::sync::Arc;
 use std::test::Fail;
-use word_map::{Document, MapResult, Run, SplitText, Text, map_split, part_of};
+use word_map::{Document, Entry, MapResult, Run, SplitText, Text, map_split, part_of};
 
-// Tells whether the run has just these words with these documents, in this order.
-fn has_just(run: &Run, want: &[(&str, u32)]) -> bool {
-    run.pairs().len() == want.len()
-        && run.pairs().iter().zip(want).all(|(pair, (word, number))| {
-            pair.word.as_str() == *word && pair.document == DocNo::new(*number)
-        })
+// A word with the numbers of its documents.
+type Row = (&'static str, &'static [u32]);
+
+// Whether the entry has just this word with these documents, in this order.
+fn is_row(entry: &Entry, word: &str, numbers: &[u32]) -> bool {
+    entry.word() == word
+        && entry.documents().len() == numbers.len()
+        && entry
+            .documents()
+            .iter()
+            .zip(numbers)
+            .all(|(document, number)| *document == DocNo::new(*number))
+}
+
+// Whether the run has just these words with these documents, in this order.
+fn has_just(run: &Run, want: &[Row]) -> bool {
+    run.entries().len() == want.len()
+        && run
+            .entries()
+            .iter()
+            .zip(want)
+            .all(|(entry, (word, numbers))| is_row(entry, word, numbers))
 }
 
 fn mapped(alloc: Global, documents: &[&str]) -> Option<MapResult> {
@@ -19,7 +35,7 @@ fn mapped(alloc: Global, documents: &[&str]) -> Option<MapResult> {
 }
 
 // Whether the one part of the text has just these pairs.
-fn maps_to(rt: &impl Abort, alloc: Global, documents: &[&str], want: &[(&str, u32)]) -> bool {
+fn maps_to(rt: &impl Abort, alloc: Global, documents: &[&str], want: &[Row]) -> bool {
     match mapped(alloc, documents) {
         Some(made) => {
             assert!(rt; made.parts() == 1);
@@ -51,9 +67,9 @@ fn two_documents_in_two_parts(rt: HostRuntime) -> Result<(), Fail> {
     assert!(rt; made.text().is_same(&text));
     assert!(rt; made.parts() == 2);
     let first = made.run(PartNo::new(0));
-    assert!(rt; has_just(first, &[("cat", 0), ("cat", 1), ("dog", 1)]));
+    assert!(rt; has_just(first, &[("cat", &[0, 1]), ("dog", &[1])]));
     let second = made.run(PartNo::new(1));
-    assert!(rt; has_just(second, &[("the", 0), ("the", 1)]));
+    assert!(rt; has_just(second, &[("the", &[0, 1])]));
     assert!(rt; second.text().is_same(&text));
     assert_eq!(rt; second.part(), PartNo::new(1));
     assert_eq!(rt; second.parts(), 2);
@@ -63,10 +79,10 @@ fn two_documents_in_two_parts(rt: HostRuntime) -> Result<(), Fail> {
 #[test]
 fn words_are_longest_runs_of_letters(rt: HostRuntime) {
     let alloc = rt.alloc();
-    assert!(rt; maps_to(&rt, alloc, &["A-a b2B"], &[("a", 0), ("b", 0)]));
-    assert!(rt; maps_to(&rt, alloc, &["Q"], &[("q", 0)]));
+    assert!(rt; maps_to(&rt, alloc, &["A-a b2B"], &[("a", &[0]), ("b", &[0])]));
+    assert!(rt; maps_to(&rt, alloc, &["Q"], &[("q", &[0])]));
     assert!(rt; maps_to(&rt, alloc, &["4 , 2\t.@[`{"], &[]));
-    assert!(rt; maps_to(&rt, alloc, &["", "z\u{e9}Z"], &[("z", 1)]));
+    assert!(rt; maps_to(&rt, alloc, &["", "z\u{e9}Z"], &[("z", &[1])]));
     assert!(rt; maps_to(&rt, alloc, &[], &[]));
 }
 
@@ -88,7 +104,7 @@ fn many_documents_of_nothing(rt: HostRuntime) -> Result<(), Fail> {
     let made = map_split(rt.alloc(), text, 64)?;
     assert!(rt; made.parts() == 64);
     for part in 0..64 {
-        assert_eq!(rt; made.run(PartNo::new(part)).pairs().len(), 0, "part {part}");
+        assert_eq!(rt; made.run(PartNo::new(part)).entries().len(), 0, "part {part}");
     }
     Ok(())
 }

@@ -6,4 +6,5 @@ use Rattle.shuffle_reduce.proofs.covers.all_are_among.Given as goal
 
 -- each so far
 abbrev pub invariant-loop-text : goal.invariant-loop-text
-invariant-loop-text l = (text : SplitDocuments) → Contains (values_of (take l.text-index l.texts)) text → Contains (values_of l.others) text
+invariant-loop-text l = (text : SplitDocuments) → Contains (values_of (take l.text-index l.texts)) text →
+    Contains (values_of l.others) text

@@ -6,8 +6,8 @@ use Rattle.word_map.proofs.TextLemmas.{Decides-document_eq}
 use Rattle.word_map.proofs.text.SplitText.is_same.Goals as goal
 
 -- the splits are one, so the texts are one where the documents are
-pub returns-then-eq : goal.returns-then-eq
-returns-then-eq c =
+pub returns-then-eq-clause-same : goal.returns-then-eq-clause-same
+returns-then-eq-clause-same c =
     let mine = c.as_slice.ensures.value in
     let theirs = c.as_slice-then-eq.ensures.value in
     let split = eqb-true c.self.inside.split c.other.inside.split (sym c.if-eq.ensures) in

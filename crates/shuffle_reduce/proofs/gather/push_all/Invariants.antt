@@ -1,5 +1,0 @@
-use Rattle.std.proofs.Common.{◌≡◌, ◌++◌, take}
-use Rattle.shuffle_reduce.proofs.gather.push_all.Given as goal
-
-abbrev pub invariant-loop-pair : goal.invariant-loop-pair
-invariant-loop-pair l = l.all.items ≡ l.fn.all.items ++ take l.pair-index l.pairs

@@ -1,0 +1,42 @@
+ghost use Rattle.std.specs.Prelude.{◌≡◌};
+
+use crate::text::Text;
+use node_ids::DocNo;
+use std::marker::Model;
+
+/// A word with documents that have it.
+#[derive(Drop)]
+pub struct Entry {
+    word: Text,
+    documents: Vec<DocNo>,
+}
+
+impl Model for Entry {
+    ghost use Rattle.word_map.specs.Entries.{EntryView};
+
+    ghost Value = { EntryView };
+
+    ghost view = { λ e. record { word = e.word; documents = e.documents.items } };
+}
+
+impl Entry {
+    pub(crate) fn new(word: Text, documents: Vec<DocNo>) -> Entry
+        ensures { result ≡ record { word = word; documents = documents.items } }
+    {
+        Entry { word, documents }
+    }
+
+    /// The word.
+    pub fn word(&self) -> &str
+        ensures { result.now ≡ self.now.word }
+    {
+        self.word.as_str()
+    }
+
+    /// The documents that have the word.
+    pub fn documents(&self) -> &[DocNo]
+        ensures { result.now ≡ self.now.documents }
+    {
+        self.documents.as_slice()
+    }
+}
