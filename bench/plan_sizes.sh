@@ -4,10 +4,7 @@
 # same count and cost. It needs a C++ compiler and LEMON (Debian's liblemon-dev).
 set -euo pipefail
 cd "$(dirname "$0")/.."
-if [ ! -e /usr/include/lemon/network_simplex.h ]; then
-    echo "plan_sizes.sh: LEMON is missing (Debian's liblemon-dev)" >&2
-    exit 1
-fi
+bench/needs_lemon
 room=$(mktemp -d)
 trap 'rm -rf "$room"' EXIT
 g++ -std=c++17 -O2 -o "$room/plan_by_lemon" bench/plan_by_lemon.cc -llemon
