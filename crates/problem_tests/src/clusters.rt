@@ -24,7 +24,8 @@ pub fn tree(rt: &impl Abort, alloc: Global, rows: &[WorkerRow]) -> Option<RackTr
     Some(tree)
 }
 
-fn worker_lines(alloc: Global, rows: &[WorkerRow]) -> Option<Vec<WorkerLine>> {
+/// The lines of these workers.
+pub fn worker_lines(alloc: Global, rows: &[WorkerRow]) -> Option<Vec<WorkerLine>> {
     let mut lines = Vec::new(alloc);
     for (_, live, free) in rows {
         lines
@@ -45,7 +46,8 @@ fn holders(alloc: Global, row: &[u16]) -> Option<Vec<WorkerNo>> {
     Some(holders)
 }
 
-fn split_lines(alloc: Global, rows: &[SplitRow<'_>]) -> Option<Vec<SplitLine>> {
+/// The lines of these splits.
+pub fn split_lines(alloc: Global, rows: &[SplitRow<'_>]) -> Option<Vec<SplitLine>> {
     let mut lines = Vec::new(alloc);
     for (bytes, pending, row) in rows {
         let holders = holders(alloc, row)?;
@@ -60,7 +62,8 @@ fn split_lines(alloc: Global, rows: &[SplitRow<'_>]) -> Option<Vec<SplitLine>> {
     Some(lines)
 }
 
-fn pairs(rt: &impl Abort, alloc: Global, rows: &[(u16, u16)]) -> Option<PairSet> {
+/// The set of these pairs of a split and a worker.
+pub fn pairs(rt: &impl Abort, alloc: Global, rows: &[(u16, u16)]) -> Option<PairSet> {
     let mut pairs = PairSet::new(alloc).ok()?;
     for (split, worker) in rows {
         assert!(rt; *split < 1024 && *worker < 256);

@@ -12,6 +12,8 @@ mod distances;
 #[cfg(test)]
 mod numbers;
 #[cfg(test)]
+mod parts;
+#[cfg(test)]
 mod plans;
 #[cfg(test)]
 mod price_lists;
