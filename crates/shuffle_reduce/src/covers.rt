@@ -14,7 +14,7 @@ use std::marker::Model;
 use std::sync::Arc;
 use word_map::{SplitText, sort_distinct};
 
-/// A split's text, which compares by the split's number, and then by the documents one after another.
+// A split's text, which compares by the split's number, and then by the documents one after another.
 #[derive(Drop)]
 struct OrderedText<'a> {
     text: &'a SplitText,
@@ -77,7 +77,7 @@ impl Ord for OrderedText<'_> {
     }
 }
 
-/// References to the texts, one after another.
+// References to the texts, one after another.
 fn referred(alloc: Global, texts: &[Arc<SplitText>]) -> Result<Vec<OrderedText<'_>>, AllocError>
     ensures { IfOk result (λ all. all.items ≡ values_of texts.now) }
 {
@@ -88,7 +88,7 @@ fn referred(alloc: Global, texts: &[Arc<SplitText>]) -> Result<Vec<OrderedText<'
     Ok(all)
 }
 
-/// References to the texts, each text once, in their order.
+// References to the texts, each text once, in their order.
 fn in_order(alloc: Global, texts: &[Arc<SplitText>]) -> Result<Vec<OrderedText<'_>>, AllocError>
     ensures rising { IfOk result (λ all. IsStrictlySortedBy text_cmp all.items) }
     ensures same { IfOk result (λ all. AreSameTexts all.items (values_of texts.now)) }
@@ -98,7 +98,7 @@ fn in_order(alloc: Global, texts: &[Arc<SplitText>]) -> Result<Vec<OrderedText<'
     Ok(all)
 }
 
-/// Whether the lists have the same texts, found by bringing both into order.
+// Whether the lists have the same texts, found by bringing both into order.
 fn are_same_in_order(
     alloc: Global,
     texts: &[Arc<SplitText>],
@@ -111,7 +111,7 @@ fn are_same_in_order(
     Ok(first.as_slice() == second.as_slice())
 }
 
-/// Whether the text is one of the others.
+// Whether the text is one of the others.
 fn is_among(text: &SplitText, others: &[Arc<SplitText>]) -> bool
     ensures { IsTrue result ↔ Contains (values_of others.now) text.now }
 {
@@ -123,7 +123,7 @@ fn is_among(text: &SplitText, others: &[Arc<SplitText>]) -> bool
     false
 }
 
-/// Whether each of the texts is one of the others.
+// Whether each of the texts is one of the others.
 fn all_are_among(texts: &[Arc<SplitText>], others: &[Arc<SplitText>]) -> bool
     ensures { IsTrue result ↔ ((text : SplitDocuments)
         → Contains (values_of texts.now) text → Contains (values_of others.now) text) }
@@ -136,7 +136,7 @@ fn all_are_among(texts: &[Arc<SplitText>], others: &[Arc<SplitText>]) -> bool
     true
 }
 
-/// Whether the lists have the same texts, however often each stands.
+// Whether the lists have the same texts, however often each stands.
 pub(crate) fn are_same_texts(
     alloc: Global,
     texts: &[Arc<SplitText>],

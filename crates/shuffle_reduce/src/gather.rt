@@ -7,7 +7,7 @@ use std::alloc::{AllocError, Global};
 use std::sync::Arc;
 use word_map::{Posting, Run, SplitText, Text, Word, owned};
 
-/// The texts of the runs.
+// The texts of the runs.
 pub(crate) fn all_texts(alloc: Global, runs: &[Arc<Run>]) -> Result<Vec<Arc<SplitText>>, AllocError>
     ensures { IfOk result (λ texts. values_of texts.items ≡ texts_of runs.now) }
 {
@@ -18,7 +18,7 @@ pub(crate) fn all_texts(alloc: Global, runs: &[Arc<Run>]) -> Result<Vec<Arc<Spli
     Ok(texts)
 }
 
-/// Adds the pairs.
+// Adds the pairs.
 fn push_all<'a>(
     pairs: &'a [Posting<Text>],
     all: &mut Vec<Posting<Word<'a>>>,
@@ -34,7 +34,7 @@ fn push_all<'a>(
     Ok(())
 }
 
-/// Adds the pairs of the run.
+// Adds the pairs of the run.
 fn push_run<'a>(run: &'a Run, all: &mut Vec<Posting<Word<'a>>>) -> Result<(), AllocError>
     ensures pairs { OnOk result (all.new.items ≡ all.old.items ++ run.now.pairs) }
     ensures exact { IsRunOf run.now.text.documents run.now.part run.now.parts run.now.pairs }
@@ -42,7 +42,7 @@ fn push_run<'a>(run: &'a Run, all: &mut Vec<Posting<Word<'a>>>) -> Result<(), Al
     Ok(push_all(run.pairs(), all)?)
 }
 
-/// The pairs of the runs, one run after another.
+// The pairs of the runs, one run after another.
 pub(crate) fn gathered(
     alloc: Global,
     runs: &[Arc<Run>],
@@ -56,7 +56,7 @@ pub(crate) fn gathered(
     Ok(pairs)
 }
 
-/// The pairs of the results, one result after another.
+// The pairs of the results, one result after another.
 pub(crate) fn all_pairs(
     alloc: Global,
     results: &[PartResult],
@@ -70,7 +70,7 @@ pub(crate) fn all_pairs(
     Ok(pairs)
 }
 
-/// The pairs with words of their own memory.
+// The pairs with words of their own memory.
 pub(crate) fn all_owned(
     alloc: Global,
     pairs: &[Posting<Word<'_>>],

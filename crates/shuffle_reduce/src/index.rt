@@ -47,7 +47,7 @@ impl Entry {
     }
 }
 
-/// Where the pairs with the word of the first one end.
+// Where the pairs with the word of the first one end.
 fn word_end(pairs: &[Posting<Word<'_>>], start: usize) -> usize
     requires { start < length pairs.now }
     ensures above { start < result }
@@ -62,7 +62,7 @@ fn word_end(pairs: &[Posting<Word<'_>>], start: usize) -> usize
     stop
 }
 
-/// The entry of a word, with the documents of its pairs.
+// The entry of a word, with the documents of its pairs.
 fn make_entry(alloc: Global, word: &str, pairs: &[Posting<Word<'_>>]) -> Result<Entry, AllocError>
     requires { All (λ (pair : Pair). pair.word ≡ word.now) pairs.now }
     ensures word { IfOk result (λ made. made.word ≡ word.now) }
@@ -77,7 +77,7 @@ fn make_entry(alloc: Global, word: &str, pairs: &[Posting<Word<'_>>]) -> Result<
     Ok(Entry { word, documents })
 }
 
-/// The pairs by their words.
+// The pairs by their words.
 fn grouped(alloc: Global, pairs: &[Posting<Word<'_>>]) -> Result<Vec<Entry>, AllocError>
     requires { AreRising pairs.now }
     ensures words { IfOk result (λ entries. AllPairs WordIsBelow entries.items) }

@@ -104,7 +104,7 @@ pub fn merge(
     })
 }
 
-/// The pairs of the runs, each once, rising, with words of their own.
+// The pairs of the runs, each once, rising, with words of their own.
 fn merged_pairs(
     alloc: Global,
     runs: &[Arc<Run>],

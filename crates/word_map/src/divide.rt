@@ -7,7 +7,7 @@ use crate::text::Text;
 use crate::word::Word;
 use std::alloc::{AllocError, Global};
 
-/// No pair for any part.
+// No pair for any part.
 fn no_pairs(alloc: Global, parts: usize) -> Result<Vec<Vec<Posting<Text>>>, AllocError>
     ensures { IfOk result (λ divided. AreDivided [] parts divided.items) }
 {
@@ -28,7 +28,7 @@ pub fn owned(alloc: Global, pair: &Posting<Word<'_>>) -> Result<Posting<Text>, A
     })
 }
 
-/// The pairs by the parts of their words.
+// The pairs by the parts of their words.
 pub(crate) fn divide(
     alloc: Global,
     pairs: &[Posting<Word<'_>>],

@@ -135,7 +135,7 @@ pub fn map_split(alloc: Global, text: Arc<SplitText>, parts: usize) -> Result<Ma
     Ok(MapResult { text, runs })
 }
 
-/// The pairs of the documents for each part.
+// The pairs of the documents for each part.
 fn divided_pairs(
     alloc: Global,
     documents: &[Document],
@@ -150,7 +150,7 @@ fn divided_pairs(
     Ok(divide(alloc, pairs.as_slice(), parts)?)
 }
 
-/// A run of the text for each part.
+// A run of the text for each part.
 fn all_runs(
     alloc: Global,
     text: &Arc<SplitText>,
