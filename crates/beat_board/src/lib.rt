@@ -49,7 +49,8 @@
 //! ```
 #![tactic(auto)]
 
-pub mod board;pub mod tokens;
+pub mod board;
+pub mod tokens;
 mod view;
 
 pub use board::{Board, Missing, SeatError, Totals, Worn};

@@ -38,7 +38,8 @@
 #![tactic(auto)]
 
 pub mod lane;
-pub mod order;mod view;
+pub mod order;
+mod view;
 
 pub use lane::{CloseRefused, Full, Lane, Pass, Tally};
 pub use order::Order;

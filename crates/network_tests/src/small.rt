@@ -150,7 +150,7 @@ impl Small {
         least
     }
 
-    /// The cost of a start, where it may be made.
+    // The cost of a start, where it may be made.
     fn cost(&self, s: usize, w: usize) -> Option<u64>
         requires s { s < 4 }
         requires w { w < 4 }
@@ -164,8 +164,8 @@ impl Small {
         Some(split.bytes.wrapping_mul(steps))
     }
 
-    /// What a choice is worth that gives each split a worker's place, or 4 for none; none if it is not
-    /// admissible.
+    // What a choice is worth that gives each split a worker's place, or 4 for none; none if it is not
+    // admissible.
     fn value(&self, choice: [usize; 4]) -> Option<Value> {
         let mut value = Value::default();
         let mut left = [0; 4];

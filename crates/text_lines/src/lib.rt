@@ -12,6 +12,7 @@ pub mod names;
 pub mod number;
 pub mod streams;
 pub mod tables;
+
 pub use fault::{Fault, TextFault};
 pub use lines::{printable, split_line, words};
 pub use names::is_name;

@@ -15,7 +15,7 @@ pub fn split_line(text: &[u8]) -> (&[u8], Option<&[u8]>)
     }
 }
 
-/// Where the first line feed stands.
+// Where the first line feed stands.
 fn line_end(text: &[u8]) -> Option<usize>
     ensures { result ≡ position (λ b. b == 10) text.now }
 {

@@ -59,8 +59,8 @@ pub fn read_text<R: Read>(alloc: Global, reader: &mut R) -> Result<Vec<u8>, Read
     Err(ReadError::Read)
 }
 
-/// One read by way of `piece`, of no more than the text has room for. A read that was interrupted gives
-/// nothing.
+// One read by way of `piece`, of no more than the text has room for. A read that was interrupted gives
+// nothing.
 fn read_piece<R: Read>(
     reader: &mut R,
     piece: &mut [u8; PIECE],
@@ -103,7 +103,7 @@ pub fn write_text<W: Write>(writer: &mut W, text: &[u8]) -> Result<(), WriteErro
     Err(WriteError)
 }
 
-/// One write, and what it left of the text. A write that was interrupted leaves all.
+// One write, and what it left of the text. A write that was interrupted leaves all.
 fn write_piece<'a, W: Write>(writer: &mut W, rest: &'a [u8]) -> Result<&'a [u8], WriteError>
     ensures ok { IfOk result (λ left.
         Moves (W.contents writer.old) (W.contents writer.new) rest.entry.now left.now) }

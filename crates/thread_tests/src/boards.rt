@@ -49,7 +49,7 @@ fn both_beat<R: Threads + Sync>(
     )
 }
 
-/// Two threads beat for one worker, and the total is what they made together.
+// Two threads beat for one worker, and the total is what they made together.
 fn beat_together<R: Threads + Sync>(rt: &R, alloc: Global, times: u64) -> Option<u64>
     requires { times ≤ MAX_BEATS }
     ensures { IfSome result (λ total. total ≡ 2 * times) }
@@ -113,8 +113,8 @@ fn beat_and_look<R: Threads + Sync>(
     )
 }
 
-/// Two threads beat a thousand times each for one worker, and a third looks on. The seats come back one
-/// by one.
+// Two threads beat a thousand times each for one worker, and a third looks on. The seats come back one
+// by one.
 #[test]
 fn two_threads_beat_for_one_worker(rt: HostRuntime) -> Result<(), Fail> {
     let worker = WorkerNo::new(0);
@@ -212,7 +212,7 @@ fn tell<R: Threads + Wait + Sync>(
     .1
 }
 
-/// A thread that was told the answer of a beat sees at least that many beats.
+// A thread that was told the answer of a beat sees at least that many beats.
 #[test]
 fn a_look_sees_the_beat_that_it_was_told_of(rt: HostRuntime) -> Result<(), Fail> {
     let worker = WorkerNo::new(1);
@@ -225,7 +225,7 @@ fn a_look_sees_the_beat_that_it_was_told_of(rt: HostRuntime) -> Result<(), Fail>
     Ok(())
 }
 
-/// Whatever allocation is refused, there is a whole board or none; and a look after a beat sees it.
+// Whatever allocation is refused, there is a whole board or none; and a look after a beat sees it.
 #[test]
 fn a_refused_board_leaves_no_trace(rt: HostRuntime) -> Result<(), Fail> {
     let worker = WorkerNo::new(0);

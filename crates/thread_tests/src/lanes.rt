@@ -99,7 +99,7 @@ fn put_and_take<R: Threads + Wait + Sync>(
     (putter, taker, taken)
 }
 
-/// Hands all the orders to another thread, which takes them in their order.
+// Hands all the orders to another thread, which takes them in their order.
 fn hand_over<R: Threads + Wait + Sync>(
     rt: &R,
     alloc: Global,
@@ -136,7 +136,7 @@ fn attempt_of(order: &Order) -> usize {
     }
 }
 
-/// A lane of two places: the third order comes back, the first is taken, and the second is left.
+// A lane of two places: the third order comes back, the first is taken, and the second is left.
 #[test]
 fn the_third_order_comes_back(rt: HostRuntime) -> Result<(), Fail> {
     let alloc = rt.alloc();
@@ -181,7 +181,7 @@ fn another_thread_takes_all_in_order(rt: HostRuntime) -> Result<(), Fail> {
     Ok(())
 }
 
-/// Whatever allocation is refused, there is a whole lane or none, and a close that is refused gives all back.
+// Whatever allocation is refused, there is a whole lane or none, and a close that is refused gives all back.
 #[test]
 fn a_refused_close_gives_all_back(rt: HostRuntime) -> Result<(), Fail> {
     let alloc = rt.alloc();
