@@ -19,15 +19,20 @@ among : (xs ys : List SplitDocuments) → are_among xs ys ≡ true → (text : S
 among xs ys all text there =
     Contains-from_any (λ a b. (Decides-same_text a b).0) text ys
     (All-contains (λ t. list_any (same_text t) ys ≡ true) xs text
-        (AllPass-from_list_all (λ t. list_any (same_text t) ys) xs all) there)
+    (AllPass-from_list_all (λ t. list_any (same_text t) ys) xs all) there)
 
 are_among-all : (xs ys : List SplitDocuments) → ((text : SplitDocuments) → Contains xs text →
     Contains ys text) → are_among xs ys ≡ true
 are_among-all xs ys all =
     list_all-from_AllPass (λ t. list_any (same_text t) ys) xs (λ k d l.
     let place = all (get_or xs k d) (k, l, get_or_default xs k _ d l) in
-    list_any-from_Any (same_text (get_or xs k d)) ys (place.0, get_or xs k d, place.1, place.2,
-        (Decides-same_text (get_or xs k d) (get_or xs k d)).1 refl))
+    list_any-from_Any (same_text (get_or xs k d)) ys (
+      place.0,
+      get_or xs k d,
+      place.1,
+      place.2,
+      (Decides-same_text (get_or xs k d) (get_or xs k d)).1 refl,
+    ))
 
 both_true : (x y : Bool) → (x && y) ≡ true → (x ≡ true) × (y ≡ true)
 both_true true y h = (refl, h)
@@ -38,25 +43,35 @@ pub Decides-same_texts : (xs ys : List SplitDocuments) → Decides (same_texts x
 Decides-same_texts xs ys = (
   (λ h. let parts = both_true (are_among xs ys) (are_among ys xs) h in λ text.
       (among xs ys parts.0 text, among ys xs parts.1 text)),
-  (λ same. rw (are_among-all xs ys (λ text. (same text).0), are_among-all ys xs
-      (λ text. (same text).1)) refl),
+  (λ same. rw (
+    are_among-all xs ys (λ text. (same text).0),
+    are_among-all ys xs
+        (λ text. (same text).1),
+  ) refl),
 )
 
 -- lists that are one have the same texts
 pub same_from_equal : (xs ys : List SplitDocuments) → xs ≡ ys → AreSameTexts xs ys
-same_from_equal xs ys equal text = (subst (λ ts. Contains ts text) equal, subst (λ ts. Contains ts text)
-    (sym equal))
+same_from_equal xs ys equal text = (
+  subst (λ ts. Contains ts text) equal,
+  subst (λ ts. Contains ts text)
+      (sym equal),
+)
 
 -- the first list is the second's, and the answer says whether the second is the first's
 pub mutual_then : (xs ys : List SplitDocuments) (b : Bool) →
     ((text : SplitDocuments) → Contains xs text → Contains ys text) →
     (IsTrue b ↔ ((text : SplitDocuments) → Contains ys text → Contains xs text)) →
     IsTrue b ↔ AreSameTexts xs ys
-mutual_then xs ys b first second = ((λ accepted text. (first text, second.0 accepted text)),
-    (λ same. second.1 (λ text. (same text).1)))
+mutual_then xs ys b first second = (
+  (λ accepted text. (first text, second.0 accepted text)),
+  (λ same. second.1 (λ text. (same text).1)),
+)
 
 pub mutual_else : (xs ys : List SplitDocuments) (b : Bool) → b ≡ false →
     (IsTrue b ↔ ((text : SplitDocuments) → Contains xs text → Contains ys text)) →
     IsTrue b ↔ AreSameTexts xs ys
-mutual_else xs ys b refused first = ((λ accepted. absurd (false≢true (sym refused ∙ accepted))),
-    (λ same. first.1 (λ text. (same text).0)))
+mutual_else xs ys b refused first = (
+  (λ accepted. absurd (false≢true (sym refused ∙ accepted))),
+  (λ same. first.1 (λ text. (same text).0)),
+)

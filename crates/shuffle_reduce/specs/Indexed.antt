@@ -22,7 +22,8 @@ pub record IsIndexOfDocuments (documents : List Document) (entries : List EntryV
 
 -- the documents of the texts are these and no others
 abbrev pub AreDocumentsOf : List SplitDocuments → List Document → Type 0
-AreDocumentsOf texts documents = (document : Document) → Contains documents document ↔ Any (λ (text : SplitDocuments). Contains text.documents document) texts
+AreDocumentsOf texts documents = (document : Document) →
+    Contains documents document ↔ Any (λ (text : SplitDocuments). Contains text.documents document) texts
 
 -- how many of the results are of the part
 abbrev pub count_of : List PartView → ℕ → ℕ

@@ -4,7 +4,7 @@ ghost use Rattle.shuffle_reduce.specs.Indexed.{HasDouble, HasMissing, count_of};
 
 use crate::part::PartResult;
 
-// How many results are of the part.
+/// How many results are of the part.
 fn count_of(results: &[PartResult], part: usize) -> usize
     ensures value { result ≡ count_of results.now part }
     ensures bound { result ≤ length results.now }
@@ -19,7 +19,7 @@ fn count_of(results: &[PartResult], part: usize) -> usize
     count
 }
 
-// Whether a part stands twice.
+/// Whether a part stands twice.
 pub(crate) fn has_double(results: &[PartResult], parts: usize) -> bool
     requires some { 0 < parts }
     requires same { All (λ (one : PartView). one.parts ≡ parts) results.now }
@@ -33,7 +33,7 @@ pub(crate) fn has_double(results: &[PartResult], parts: usize) -> bool
     false
 }
 
-// Whether a part is not there.
+/// Whether a part is not there.
 pub(crate) fn has_missing(results: &[PartResult], parts: usize) -> bool
     ensures { IsTrue result ↔ HasMissing results.now parts }
 {

@@ -118,7 +118,8 @@ fn merged_entries(
 ) -> Result<Vec<Entry>, AllocError>
     requires { AreOfPart runs.now part parts }
     ensures pairs { IfOk result (λ entries. ArePairsOfRuns runs.now (pairs_of_index entries.items)) }
-    ensures exact { IfOk result (λ entries. IsPartOf (texts_of runs.now) part parts (pairs_of_index entries.items)) }
+    ensures exact { IfOk result (λ entries.
+        IsPartOf (texts_of runs.now) part parts (pairs_of_index entries.items)) }
     ensures entries { IfOk result (λ entries. AreEntries entries.items) }
 {
     let table = gathered_runs(alloc, runs)?;

@@ -25,11 +25,11 @@ divided_room {parts} divided room was empty = record {
   each = λ part d low.
       ⊎_elim
       (λ (before : part < length divided). ap (λ v. v.items)
-          (get_or_append_left divided (room ∷ []) d part before)
-          ∙ was.each part d (omega (arith, was.count)))
+      (get_or_append_left divided (room ∷ []) d part before)
+      ∙ was.each part d (omega (arith, was.count)))
       (λ after. let last : part ≡ length divided = omega (arith, was.count) in
       ap (λ n. (get_or (divided ++ room ∷ []) n d).items) last
-          ∙ ap (λ v. v.items) (get_or-append_seam divided room [] d) ∙ empty)
+      ∙ ap (λ v. v.items) (get_or-append_seam divided room [] d) ∙ empty)
       (cases_lt part (length divided));
 }
 
@@ -75,9 +75,9 @@ divided_more left entries parts divided {entry} {part} {was} now before own low 
       let k_is : part ≡ k = own ∙ same.1 in
       let in_range : part < length divided = omega (arith, before.count) in
       ap (λ n. (get_or (set divided part now) n d).items ++ own_entries k parts left) (sym k_is)
-          ∙ ap (λ v. v.items ++ own_entries k parts left) (get_or-set_same divided part now d in_range)
+      ∙ ap (λ v. v.items ++ own_entries k parts left) (get_or-set_same divided part now d in_range)
       ∙ ap (λ es. es ++ own_entries k parts left) now_is
-          ∙ append_assoc was.items (entry ∷ []) (own_entries k parts left)
+      ∙ append_assoc was.items (entry ∷ []) (own_entries k parts left)
       ∙ ap (λ es. was.items ++ es) (sym (own_first k parts entry left true same.0))
       ∙ ap (λ v. v.items ++ own_entries k parts (entry ∷ left)) (was_is ∙ ap (λ n. get_or divided n was) k_is)
       ∙ before.each k was below)
@@ -85,7 +85,7 @@ divided_more left entries parts divided {entry} {part} {was} now before own low 
       let k_not : k ≢ part = (λ e. other.1 (sym own ∙ sym e)) in
       ap (λ v. v.items ++ own_entries k parts left) (get_or-set_other divided part k now d k_not)
       ∙ ap (λ es. (get_or divided k d).items ++ es) (sym (own_first k parts entry left false other.0))
-          ∙ before.each k d below)
+      ∙ before.each k d below)
       (eqb_tells (part_of entry.word parts) k);
 }
 
@@ -96,7 +96,7 @@ pub pairs_of_own : (part parts : ℕ) (entries : List EntryView) (pair : Pair) �
 pairs_of_own part parts entries pair = (
   (λ h.
       let m = member_from_any (HasPair pair) (own_entries part parts entries)
-          (entries_of_pair (own_entries part parts entries) pair h) in
+      (entries_of_pair (own_entries part parts entries) pair h) in
       let kept = Contains-from_filter (λ (e : EntryView). part_of e.word parts == part) entries m.0 m.1 in (
         pair_in_entries entries pair (any_from_member (HasPair pair) entries m.0 kept.0 m.2),
         ap (λ w. part_of w parts) (sym m.2.0) ∙ eqb-true (part_of m.0.word parts) part kept.1,
@@ -105,7 +105,7 @@ pairs_of_own part parts entries pair = (
       let m = member_from_any (HasPair pair) entries (entries_of_pair entries pair h.0) in
       let passes = eq-eqb (part_of m.0.word parts) part (ap (λ w. part_of w parts) m.2.0 ∙ h.1) in
       pair_in_entries (own_entries part parts entries) pair
-          (any_from_member (HasPair pair) (own_entries part parts entries) m.0
+      (any_from_member (HasPair pair) (own_entries part parts entries) m.0
       (Contains-filter (λ (e : EntryView). part_of e.word parts == part) entries m.0 passes m.1) m.2)),
 )
 
@@ -127,8 +127,11 @@ pub entries_of_parts : {documents lower : List Document} (table entries : List E
     ((pair : Pair) → Contains (pairs_of_index entries) pair ↔ Contains (pairs_of_index table) pair) →
     AreDivided entries parts divided → AreEntriesOfParts documents parts divided
 entries_of_parts {documents} {lower} table entries divided {parts} is_lower runs are same division =
-    record { count = division.count; each = λ part d low. subst (AreRunEntries documents part parts)
-    (sym (division.each part d low)) (of_part part) }
+    record {
+      count = division.count;
+      each = λ part d low. subst (AreRunEntries documents part parts)
+          (sym (division.each part d low)) (of_part part);
+    }
   where
     of_part : (part : ℕ) → AreRunEntries documents part parts (own_entries part parts entries)
     of_part part = let own = own_are_entries part parts entries are in record {
@@ -137,15 +140,17 @@ entries_of_parts {documents} {lower} table entries divided {parts} is_lower runs
         rising = pairs_of_entries_rise (own_entries part parts entries) own.words own.documents;
         exact = λ pair. (
           (λ h.
-              let there = (pairs_of_own part parts entries pair).0 h in
-              ((pairs_of_lower documents pair).0 (subst (Any (IsRunOfDocument pair)) is_lower
-                  ((runs.exact pair).0 ((same pair).0 there.0))), there.1)),
+              let there = (pairs_of_own part parts entries pair).0 h in (
+                (pairs_of_lower documents pair).0 (subst (Any (IsRunOfDocument pair)) is_lower
+                    ((runs.exact pair).0 ((same pair).0 there.0))),
+                there.1,
+              )),
           (λ (h : IsPairOf documents pair × (part_of pair.word parts ≡ part)).
               (pairs_of_own part parts entries pair).1 (
-            (same pair).1 ((runs.exact pair).1 (subst (Any (IsRunOfDocument pair)) (sym is_lower)
-                ((pairs_of_lower documents pair).1 h.0))),
-            h.1,
-          )),
+                (same pair).1 ((runs.exact pair).1 (subst (Any (IsRunOfDocument pair)) (sym is_lower)
+                    ((pairs_of_lower documents pair).1 h.0))),
+                h.1,
+              )),
         );
       };
     }

@@ -22,16 +22,16 @@ HasPair pair entry = (entry.word ≡ pair.word) × Contains entry.documents pair
 pub own_from_pair : (e : EntryView) (p : Pair) → Contains (pairs_of_entry e) p → HasPair p e
 own_from_pair e p h =
     let m = member_from_any (λ (d : ℕ). pair_of e.word d ≡ p) e.documents
-        (any_from_map (pair_of e.word) (λ (q : Pair). q ≡ p) e.documents
-        (any_from_member (λ (q : Pair). q ≡ p) (pairs_of_entry e) p h refl)) in
+    (any_from_map (pair_of e.word) (λ (q : Pair). q ≡ p) e.documents
+    (any_from_member (λ (q : Pair). q ≡ p) (pairs_of_entry e) p h refl)) in
     (ap (λ (q : Pair). q.word) m.2, subst (Contains e.documents) (ap (λ (q : Pair). q.document) m.2) m.1)
 
 pub pair_of_own : (e : EntryView) (p : Pair) → HasPair p e → Contains (pairs_of_entry e) p
 pair_of_own e p h =
     let m = member_from_any (λ (q : Pair). q ≡ p) (pairs_of_entry e)
-        (any_map (pair_of e.word) (λ (q : Pair). q ≡ p) e.documents
-        (any_from_member (λ (d : ℕ). pair_of e.word d ≡ p) e.documents p.document h.1
-        (same_pair {p = pair_of e.word p.document} {q = p} h.0 refl))) in
+    (any_map (pair_of e.word) (λ (q : Pair). q ≡ p) e.documents
+    (any_from_member (λ (d : ℕ). pair_of e.word d ≡ p) e.documents p.document h.1
+    (same_pair {p = pair_of e.word p.document} {q = p} h.0 refl))) in
     subst (Contains (pairs_of_entry e)) m.2 m.1
 
 module _ {X : Type 0} where
@@ -57,9 +57,9 @@ pair_in_entries (e ∷ es) p any =
     let m = member_from_any (HasPair p) (e ∷ es) any in
     ⊎_elim
     (λ first. Contains-append_left (pairs_of_entry e) (pairs_of_index es) p
-        (pair_of_own e p (subst (HasPair p) (sym (only_one e m.0 first)) m.2)))
+    (pair_of_own e p (subst (HasPair p) (sym (only_one e m.0 first)) m.2)))
     (λ rest. Contains-append_right (pairs_of_entry e) (pairs_of_index es) p
-        (pair_in_entries es p (any_from_member (HasPair p) es m.0 rest m.2)))
+    (pair_in_entries es p (any_from_member (HasPair p) es m.0 rest m.2)))
     (Contains-append_cases (e ∷ []) es m.0 m.1)
 
 -- rising lists, each element of the first below each of the second, rise together
@@ -79,8 +79,11 @@ sorted_append R (x ∷ xs) ys rising rises below = (
 pairs_above : (w : List ℕ) (d : ℕ) (ds : List ℕ) → AllByRecursion (λ n. nat_cmp d n ≡ Less) ds →
     AllByRecursion (λ q. pair_cmp (pair_of w d) q ≡ Less) (map (pair_of w) ds)
 pairs_above w d [] above = tt
-pairs_above w d (n ∷ ds) above = (ap (λ o. ordering_then o (nat_cmp d n)) (tied_itself nat_list_cmp_total w)
-    ∙ above.0, pairs_above w d ds above.1)
+pairs_above w d (n ∷ ds) above = (
+  ap (λ o. ordering_then o (nat_cmp d n)) (tied_itself nat_list_cmp_total w)
+      ∙ above.0,
+  pairs_above w d ds above.1,
+)
 
 pairs_rise : (w : List ℕ) (ds : List ℕ) → IsStrictlySortedBy nat_cmp ds →
     IsStrictlySortedBy pair_cmp (map (pair_of w) ds)
@@ -98,15 +101,15 @@ pub pairs_of_entries_rise : (es : List EntryView) → AllPairs WordIsBelow es �
 pairs_of_entries_rise [] words documents = no_pairs_rise
 pairs_of_entries_rise (e ∷ es) words documents =
     let others : AllPairs WordIsBelow es = (λ i j d low inside. words (suc i) (suc j) d (omega arith)
-        (omega arith)) in
+    (omega arith)) in
     sorted_append pair_cmp (pairs_of_entry e) (pairs_of_index es)
     (pairs_rise e.word e.documents (documents 0 e (omega arith)))
     (pairs_of_entries_rise es others (λ k d low. documents (suc k) d (omega arith)))
     (λ p q h g.
     let m = member_from_any (HasPair q) es (entries_of_pair es q g) in
     let below : WordIsBelow e m.0 = All-contains (λ (f : EntryView). WordIsBelow e f) es m.0
-        (λ k d low. words 0 (suc k) d (omega arith) (omega arith)) m.1 in
+    (λ k d low. words 0 (suc k) d (omega arith) (omega arith)) m.1 in
     let less : slice_cmp nat_cmp p.word q.word ≡ Less =
-        subst (λ w. slice_cmp nat_cmp w q.word ≡ Less) (own_from_pair e p h).0
-        (subst (λ w. slice_cmp nat_cmp e.word w ≡ Less) m.2.0 below) in
+    subst (λ w. slice_cmp nat_cmp w q.word ≡ Less) (own_from_pair e p h).0
+    (subst (λ w. slice_cmp nat_cmp e.word w ≡ Less) m.2.0 below) in
     ap (λ o. ordering_then o (nat_cmp p.document q.document)) less)

@@ -30,7 +30,8 @@ module _ {text : List ℕ} {a b c d : ℕ} (one : IsLongestRun text a b) (other 
       both text d (one.letters d (omega arith) before) (other.none_after (omega (arith, one.within)))
 
 -- two longest runs that share a place are one
-pub same_run : {text : List ℕ} {a b c d : ℕ} → IsLongestRun text a b → IsLongestRun text c d → (place : ℕ) → a ≤ place → place < b → c ≤ place → place < d → (a ≡ c) × (b ≡ d)
+pub same_run : {text : List ℕ} {a b c d : ℕ} → IsLongestRun text a b → IsLongestRun text c d → (place : ℕ) →
+    a ≤ place → place < b → c ≤ place → place < d → (a ≡ c) × (b ≡ d)
 same_run {text} {a} {b} {c} {d} one other place p q r s =
     let no_later : a < c → ⊥ = λ h. starts_not_after one other (omega arith) (omega arith) h in
     let no_earlier : c < a → ⊥ = λ h. starts_not_after other one (omega arith) (omega arith) h in
@@ -46,10 +47,12 @@ pub record BeginsRun (text : List ℕ) (place : ℕ) : Type 0 where
   pub none_before : place < length text → (prior : ℕ) → prior + 1 ≡ place → letter_at text prior ≡ false
 
 -- what begins at such a place and goes on to where its letters end is a longest run
-pub run_from_span : {text : List ℕ} {start stop : ℕ} → BeginsRun text start → start < length text → IsSpan text true start stop → IsLongestRun text start stop
+pub run_from_span : {text : List ℕ} {start stop : ℕ} → BeginsRun text start → start < length text →
+    IsSpan text true start stop → IsLongestRun text start stop
 run_from_span {text} {start} {stop} begins inside span = record {
   nonempty = ⊎_elim (λ h. h) (λ h. let same : stop ≡ start = omega (arith, span.order) in
-      absurd (both text start (begins.letter inside) (ap (letter_at text) (sym same) ∙ span.ends (omega arith)))) (cases_lt start stop);
+      absurd (both text start (begins.letter inside) (ap (letter_at text) (sym same)
+      ∙ span.ends (omega arith)))) (cases_lt start stop);
   within = span.within;
   letters = span.same;
   none_before = begins.none_before inside;
@@ -57,14 +60,16 @@ run_from_span {text} {start} {stop} begins inside span = record {
 }
 
 -- after the bytes that are no letters a run begins
-pub begins_after : {text : List ℕ} {start stop next : ℕ} → IsLongestRun text start stop → IsSpan text false stop next → BeginsRun text next
+pub begins_after : {text : List ℕ} {start stop next : ℕ} → IsLongestRun text start stop →
+    IsSpan text false stop next → BeginsRun text next
 begins_after {text} {start} {stop} {next} run gap = record {
   within = gap.within;
   letter = gap.ends;
   none_before = λ inside prior is.
       ⊎_elim
       (λ (h : prior < stop). let same : stop ≡ next = omega (arith, gap.order) in
-      absurd (both text next (gap.ends inside) (subst (λ n. letter_at text n ≡ false) same (run.none_after (omega arith)))))
+      absurd (both text next (gap.ends inside) (subst (λ n. letter_at text n ≡ false) same
+      (run.none_after (omega arith)))))
       (λ h. gap.same prior h (omega arith))
       (cases_lt prior stop);
 }
@@ -77,13 +82,19 @@ begins_first {text} {next} gap = record {
 }
 
 -- up to the next run's start there is one more run
-pub one_more_run : {text : List ℕ} {start stop next c d : ℕ} → IsLongestRun text start stop → IsSpan text false stop next → IsLongestRun text c d → d ≤ next → (d ≤ start) ⊎ ((c ≡ start) × (d ≡ stop))
+pub one_more_run : {text : List ℕ} {start stop next c d : ℕ} → IsLongestRun text start stop →
+    IsSpan text false stop next → IsLongestRun text c d → d ≤ next →
+    (d ≤ start) ⊎ ((c ≡ start) × (d ≡ stop))
 one_more_run {text} {start} {stop} {next} {c} {d} run gap other low =
     ⊎_elim
     (λ (h : start < d).
-    let last : letter_at text (d - 1) ≡ true = other.letters (d - 1) (omega (arith, other.nonempty)) (omega (arith, other.nonempty)) in
-    let inside : d - 1 < stop = ⊎_elim (λ g. g) (λ g. absurd (both text (d - 1) last (gap.same (d - 1) g (omega (arith, other.nonempty))))) (cases_lt (d - 1) stop) in
-    let same = same_run other run (d - 1) (omega (arith, other.nonempty)) (omega (arith, other.nonempty)) (omega arith) inside in
+    let last : letter_at text (d - 1) ≡ true = other.letters (d - 1) (omega (arith, other.nonempty))
+    (omega (arith, other.nonempty)) in
+    let inside : d - 1 < stop = ⊎_elim (λ g. g) (λ g. absurd
+    (both text (d - 1) last (gap.same (d - 1) g (omega (arith, other.nonempty)))))
+    (cases_lt (d - 1) stop) in
+    let same = same_run other run (d - 1) (omega (arith, other.nonempty)) (omega (arith, other.nonempty))
+    (omega arith) inside in
     inr (same.0, same.1))
     (λ h. inl h)
     (cases_lt start d)
@@ -98,53 +109,112 @@ pub record IsRunBefore (bytes : List ℕ) (limit : ℕ) (word : List ℕ) : Type
 
 -- new has the pairs of old, and each run that ends by the limit, with the document
 pub record AddsRunsBefore (old new : List Pair) (bytes : List ℕ) (document limit : ℕ) : Type 0 where
-  pub exact : (pair : Pair) → Contains new pair ↔ (Contains old pair ⊎ ((pair.document ≡ document) × IsRunBefore bytes limit pair.word))
+  pub exact : (pair : Pair) → Contains new pair ↔ (Contains old pair ⊎
+      ((pair.document ≡ document) × IsRunBefore bytes limit pair.word))
 
 -- a pair is its parts
 pub same_pair : {p q : Pair} → p.word ≡ q.word → p.document ≡ q.document → p ≡ q
 same_pair w d = λ i. record { word = w i; document = d i }
 
 -- no run ends before the first one begins
-pub adds_none : {old : List Pair} {bytes : List ℕ} {document next : ℕ} → IsSpan bytes false 0 next → AddsRunsBefore old old bytes document next
+pub adds_none : {old : List Pair} {bytes : List ℕ} {document next : ℕ} → IsSpan bytes false 0 next →
+    AddsRunsBefore old old bytes document next
 adds_none {old} {bytes} {document} {next} gap = record {
   exact = λ pair. (
     (λ h. inl h),
-    ⊎_elim (λ h. h) (λ h. absurd (both bytes h.1.start (h.1.run.letters h.1.start (omega arith) h.1.run.nonempty) (gap.same h.1.start (omega arith) (omega (arith, h.1.low, h.1.run.nonempty))))),
+    ⊎_elim (λ h. h) (λ h. absurd (both bytes h.1.start (h.1.run.letters h.1.start
+        (omega arith) h.1.run.nonempty) (gap.same h.1.start (omega arith)
+        (omega (arith, h.1.low, h.1.run.nonempty))))),
   );
 }
 
 -- one more run
-pub adds_one_more : {old new newer : List Pair} {bytes : List ℕ} {document start stop next : ℕ} → BeginsRun bytes start → start < length bytes → IsSpan bytes true start stop → IsSpan bytes false stop next → AddsRunsBefore old new bytes document start → ((pair : Pair) → Contains newer pair ↔ (Contains new pair ⊎ ((pair.word ≡ slice_range bytes start stop) × (pair.document ≡ document)))) → AddsRunsBefore old newer bytes document next
+pub adds_one_more : {old new newer : List Pair} {bytes : List ℕ} {document start stop next : ℕ} →
+    BeginsRun bytes start → start < length bytes → IsSpan bytes true start stop →
+    IsSpan bytes false stop next → AddsRunsBefore old new bytes document start →
+    ((pair : Pair) → Contains newer pair ↔ (Contains new pair ⊎
+    ((pair.word ≡ slice_range bytes start stop) × (pair.document ≡ document)))) →
+    AddsRunsBefore old newer bytes document next
 adds_one_more {old} {new} {newer} {bytes} {document} {start} {stop} {next} begins inside span gap adds more = record { exact = λ pair. (forth pair, back pair) }
   where
     run : IsLongestRun bytes start stop
     run = run_from_span begins inside span
 
-    forth : (pair : Pair) → Contains newer pair → Contains old pair ⊎ ((pair.document ≡ document) × IsRunBefore bytes next pair.word)
+    forth : (pair : Pair) → Contains newer pair → Contains old pair ⊎
+        ((pair.document ≡ document) × IsRunBefore bytes next pair.word)
     forth pair h =
         ⊎_elim
-        (λ (was : Contains new pair). ⊎_elim (λ o. inl o) (λ e. inr (e.0, record { start = e.1.start; stop = e.1.stop; run = e.1.run; low = omega (arith, e.1.low, span.order, gap.order); is = e.1.is })) ((adds.exact pair).0 was))
-        (λ (this : (pair.word ≡ slice_range bytes start stop) × (pair.document ≡ document)). inr (this.1, record { start = start; stop = stop; run = run; low = gap.order; is = this.0 }))
+        (λ (was : Contains new pair). ⊎_elim (λ o. inl o)
+        (λ e. inr (
+          e.0,
+          record {
+            start = e.1.start;
+            stop = e.1.stop;
+            run = e.1.run;
+            low =
+                omega (arith, e.1.low, span.order, gap.order);
+            is = e.1.is;
+          },
+        )) ((adds.exact pair).0 was))
+        (λ (this : (pair.word ≡ slice_range bytes start stop) × (pair.document ≡ document)). inr
+        (this.1, record { start = start; stop = stop; run = run; low = gap.order; is = this.0 }))
         ((more pair).0 h)
 
-    back : (pair : Pair) → Contains old pair ⊎ ((pair.document ≡ document) × IsRunBefore bytes next pair.word) → Contains newer pair
+    back : (pair : Pair) → Contains old pair ⊎ ((pair.document ≡ document)
+        × IsRunBefore bytes next pair.word) → Contains newer pair
     back pair h =
         ⊎_elim
         (λ (o : Contains old pair). (more pair).1 (inl ((adds.exact pair).1 (inl o))))
         (λ (e : (pair.document ≡ document) × IsRunBefore bytes next pair.word).
         ⊎_elim
-        (λ (low : e.1.stop ≤ start). (more pair).1 (inl ((adds.exact pair).1 (inr (e.0, record { start = e.1.start; stop = e.1.stop; run = e.1.run; low = low; is = e.1.is })))))
+        (λ (low : e.1.stop ≤ start). (more pair).1 (inl
+        ((adds.exact pair).1 (inr (
+          e.0,
+          record {
+            start = e.1.start;
+            stop = e.1.stop;
+            run =
+                e.1.run;
+            low = low;
+            is = e.1.is;
+          },
+        )))))
         (λ (same : (e.1.start ≡ start) × (e.1.stop ≡ stop)).
-        (more pair).1 (inr (e.1.is ∙ ap (λ n. slice_range bytes n e.1.stop) same.0 ∙ ap (λ n. slice_range bytes start n) same.1, e.0)))
+        (more pair).1 (inr (
+          e.1.is ∙ ap (λ n. slice_range bytes n e.1.stop) same.0
+              ∙ ap (λ n. slice_range bytes start n) same.1,
+          e.0,
+        )))
         (one_more_run run gap e.1.run e.1.low))
         h
 
 -- at the end all runs are there
-pub adds_all : {old new : List Pair} {bytes : List ℕ} {document limit : ℕ} → length bytes ≤ limit → AddsRunsBefore old new bytes document limit → AddsRuns old new bytes document
+pub adds_all : {old new : List Pair} {bytes : List ℕ} {document limit : ℕ} → length bytes ≤ limit →
+    AddsRunsBefore old new bytes document limit → AddsRuns old new bytes document
 adds_all {old} {new} {bytes} {document} {limit} whole adds = record {
   exact = λ pair. (
-    (λ h. ⊎_elim (λ o. inl o) (λ e. inr (e.0, record { start = e.1.start; stop = e.1.stop; run = e.1.run; is = e.1.is })) ((adds.exact pair).0 h)),
-    (λ h. ⊎_elim (λ o. (adds.exact pair).1 (inl o)) (λ e. (adds.exact pair).1 (inr (e.0, record { start = e.1.start; stop = e.1.stop; run = e.1.run; low = omega (arith, e.1.run.within); is = e.1.is }))) h),
+    (λ h. ⊎_elim (λ o. inl o) (λ e. inr (
+      e.0,
+      record {
+        start = e.1.start;
+        stop = e.1.stop;
+        run =
+            e.1.run;
+        is = e.1.is;
+      },
+    )) ((adds.exact pair).0 h)),
+    (λ h. ⊎_elim (λ o. (adds.exact pair).1 (inl o)) (λ e. (adds.exact pair).1
+        (inr (
+          e.0,
+          record {
+            start = e.1.start;
+            stop = e.1.stop;
+            run = e.1.run;
+            low =
+                omega (arith, e.1.run.within);
+            is = e.1.is;
+          },
+        ))) h),
   );
 }
 
@@ -153,14 +223,19 @@ letter_is_ascii : (b : ℕ) → is_ascii_alphabetic b ≡ true → b < 128
 letter_is_ascii b = grind (arith, nat_tests)
 
 -- a run ends between characters
-pub boundary_after_run : {text : List ℕ} {start stop : ℕ} → IsUtf8 text → IsLongestRun text start stop → IsCharBoundary text stop
+pub boundary_after_run : {text : List ℕ} {start stop : ℕ} → IsUtf8 text → IsLongestRun text start stop →
+    IsCharBoundary text stop
 boundary_after_run {text} {start} {stop} utf8 run =
     let last : stop - 1 + 1 ≡ stop = omega (arith, run.nonempty) in
     let inside : stop - 1 < length text = omega (arith, run.nonempty, run.within) in
-    let letter : letter_at text (stop - 1) ≡ true = run.letters (stop - 1) (omega (arith, run.nonempty)) (omega (arith, run.nonempty)) in
-    subst (IsCharBoundary text) last (IsCharBoundary-after_ascii text (stop - 1) utf8 inside (letter_is_ascii (get_or text (stop - 1) 0) letter))
+    let letter : letter_at text (stop - 1) ≡ true = run.letters (stop - 1) (omega (arith, run.nonempty))
+    (omega (arith, run.nonempty)) in
+    subst (IsCharBoundary text) last (IsCharBoundary-after_ascii text (stop - 1) utf8 inside
+    (letter_is_ascii (get_or text (stop - 1) 0) letter))
 
 -- a run begins between characters
-pub boundary_before_run : {text : List ℕ} {start stop : ℕ} → IsLongestRun text start stop → IsCharBoundary text start
+pub boundary_before_run : {text : List ℕ} {start stop : ℕ} → IsLongestRun text start stop →
+    IsCharBoundary text start
 boundary_before_run {text} {start} {stop} run =
-    IsCharBoundary-before_ascii text start (omega (arith, run.nonempty, run.within)) (letter_is_ascii (get_or text start 0) (run.letters start (omega arith) run.nonempty))
+    IsCharBoundary-before_ascii text start (omega (arith, run.nonempty, run.within))
+    (letter_is_ascii (get_or text start 0) (run.letters start (omega arith) run.nonempty))

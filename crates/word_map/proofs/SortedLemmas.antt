@@ -40,8 +40,8 @@ words_rise words sorted apart = sorted_from_all_adjacent nat_list_cmp_total word
         (get_or words (k + 1) [])).1 (exact_bytes (get_or words k []) (get_or words (k + 1) []) is)))
     by k low Greater is =
         let back : slice_cmp nat_cmp (get_or words (k + 1) []) (get_or words k []) ≡ Less =
-            nat_list_cmp_total.antisymm (get_or words (k + 1) []) (get_or words k [])
-            ∙ ap ordering_reverse is in
+        nat_list_cmp_total.antisymm (get_or words (k + 1) []) (get_or words k [])
+        ∙ ap ordering_reverse is in
         absurd (false≢true (sym (sorted k [] (omega arith) low) ∙ ap is_lt back))
 
 -- the entries that were made so far of a table, of which some are left
@@ -59,9 +59,9 @@ entries_have_some : {S : Type 0} (m : HashMap (List ℕ) (Vec ℕ Global) S) →
 entries_have_some m is k d low =
     let e : List ℕ × Vec ℕ Global = get_or m.entries k d in
     let at : get (pointwise nat_eq) m e.0 ≡ Some e.1 = (found m is.unique e.0 e.1).1
-        (Contains-get_or m.entries k d low) in
+    (Contains-get_or m.entries k d low) in
     let documents : documents_of m e.0 ≡ e.1.items = ap
-        (λ o. option_map_or (λ (v : Vec ℕ Global). v.items) o []) at in
+    (λ o. option_map_or (λ (v : Vec ℕ Global). v.items) o []) at in
     subst (λ ds. 0 < length ds) documents (is.some e.0 (subst IsSome (sym at) refl))
 
 pub made_none : {S : Type 0} (m : HashMap (List ℕ) (Vec ℕ Global) S) → IsTable m →
@@ -123,11 +123,11 @@ made_more table left made word documents entry before is rises same = record {
         (pairs_of_index (views left)) pair → Contains (pairs_of_index (views table)) pair
     forth pair h = (before.same pair).0 (⊎_elim
         (λ (new : Contains (pairs_of_index (made ++ entry ∷ [])) pair). ⊎_elim
-            (λ old. inl old)
-            (λ own. inr (Contains-append_left (pairs_of_entry was) (pairs_of_index (views left)) pair
-                ((same_own entry was is same pair).0 own)))
-            (Contains-append_cases (pairs_of_index made) (pairs_of_entry entry) pair
-                (subst (λ ps. Contains ps pair) more new)))
+        (λ old. inl old)
+        (λ own. inr (Contains-append_left (pairs_of_entry was) (pairs_of_index (views left)) pair
+        ((same_own entry was is same pair).0 own)))
+        (Contains-append_cases (pairs_of_index made) (pairs_of_entry entry) pair
+        (subst (λ ps. Contains ps pair) more new)))
         (λ rest. inr (Contains-append_right (pairs_of_entry was) (pairs_of_index (views left)) pair rest))
         h)
 
@@ -135,13 +135,13 @@ made_more table left made word documents entry before is rises same = record {
         Contains (pairs_of_index (made ++ entry ∷ [])) pair ⊎ Contains (pairs_of_index (views left)) pair
     back pair h = ⊎_elim
         (λ old. inl (subst (λ ps. Contains ps pair) (sym more)
-            (Contains-append_left (pairs_of_index made) (pairs_of_entry entry) pair old)))
+        (Contains-append_left (pairs_of_index made) (pairs_of_entry entry) pair old)))
         (λ others. ⊎_elim
-            (λ own. inl (subst (λ ps. Contains ps pair) (sym more)
-                (Contains-append_right (pairs_of_index made) (pairs_of_entry entry) pair
-                ((same_own entry was is same pair).1 own))))
-            (λ rest. inr rest)
-            (Contains-append_cases (pairs_of_entry was) (pairs_of_index (views left)) pair others))
+        (λ own. inl (subst (λ ps. Contains ps pair) (sym more)
+        (Contains-append_right (pairs_of_index made) (pairs_of_entry entry) pair
+        ((same_own entry was is same pair).1 own))))
+        (λ rest. inr rest)
+        (Contains-append_cases (pairs_of_entry was) (pairs_of_index (views left)) pair others))
         ((before.same pair).1 h)
 
 -- when none is left
@@ -160,11 +160,11 @@ made_all table made sorted apart all = record { words = words; documents = all.d
     words i j d low inside =
         let long : length (map (λ (e : EntryView). e.word) made) ≡ length made = simp length-map in
         let less = Less-from_sorted (slice_cmp nat_cmp)
-            (map (λ (e : EntryView). e.word) made) i j d.word rise low (omega arith) in
+        (map (λ (e : EntryView). e.word) made) i j d.word rise low (omega arith) in
         subst (λ w. slice_cmp nat_cmp w (get_or made j d).word ≡ Less)
-            (get_or-map (λ (e : EntryView). e.word) made i d)
+        (get_or-map (λ (e : EntryView). e.word) made i d)
         (subst (λ w. slice_cmp nat_cmp (get_or (map (λ (e : EntryView). e.word) made) i d.word) w ≡ Less)
-            (get_or-map (λ (e : EntryView). e.word) made j d) less)
+        (get_or-map (λ (e : EntryView). e.word) made j d) less)
 
 pub pairs_of_made : (table : List (List ℕ × Vec ℕ Global)) (made : List EntryView) → AreMade table [] made →
     (pair : Pair) → Contains (pairs_of_index made) pair ↔ Contains (pairs_of_index (views table)) pair

@@ -35,29 +35,31 @@ module _ {S : Type 0} (m : HashMap (List ℕ) (Vec ℕ Global) S) (unique : IsUn
   pairs_of_table p = (
     (λ h.
         let e = member_from_any (λ (e : List ℕ × Vec ℕ Global). (e.0 ≡ p.word)
-            × Contains e.1.items p.document) m.entries
-          (any_from_map (λ (e : List ℕ × Vec ℕ Global). let v : EntryView =
-              record { word = e.0; documents = e.1.items } in v) (HasPair p) m.entries
-              (entries_of_pair (views m.entries) p h)) in
+        × Contains e.1.items p.document) m.entries
+        (any_from_map (λ (e : List ℕ × Vec ℕ Global). let v : EntryView =
+        record { word = e.0; documents = e.1.items } in v) (HasPair p) m.entries
+        (entries_of_pair (views m.entries) p h)) in
         let at : get (pointwise nat_eq) m p.word ≡ Some e.0.1 =
-            (found p.word e.0.1).1 (subst (λ w. Contains m.entries (w, e.0.1)) e.2.0 e.1) in
+        (found p.word e.0.1).1 (subst (λ w. Contains m.entries (w, e.0.1)) e.2.0 e.1) in
         subst (λ o. Contains (option_map_or (λ (d : Vec ℕ Global). d.items) o []) p.document) (sym at) e.2.1),
     (λ h. pair_in_entries (views m.entries) p
         (any_map (λ (e : List ℕ × Vec ℕ Global). let v : EntryView =
-            record { word = e.0; documents = e.1.items } in v) (HasPair p) m.entries
-            (from_found p (get (pointwise nat_eq) m p.word) refl h))),
+        record { word = e.0; documents = e.1.items } in v) (HasPair p) m.entries
+        (from_found p (get (pointwise nat_eq) m p.word) refl h))),
   )
 
 -- what a table has more than before, its entries' pairs have more
 pub adds_pairs : {S : Type 0} {m n : HashMap (List ℕ) (Vec ℕ Global) S} (Added : List ℕ → ℕ → Type 0) →
     IsTable m → IsTable n → ((w : List ℕ) (k : ℕ) → Has n w k ↔ (Has m w k ⊎ Added w k)) →
     Adds (views m.entries) (views n.entries) (λ pair. Added pair.word pair.document)
-adds_pairs {S} {m} {n} Added was is adds = record { exact = λ pair. (
-  (λ h. ⊎_elim (λ old. inl ((pairs_of_table m was.unique pair).1 old)) (λ new. inr new)
-      ((adds pair.word pair.document).0 ((pairs_of_table n is.unique pair).0 h))),
-  (λ h. (pairs_of_table n is.unique pair).1 ((adds pair.word pair.document).1
-      (⊎_elim (λ old. inl ((pairs_of_table m was.unique pair).0 old)) (λ new. inr new) h))),
-) }
+adds_pairs {S} {m} {n} Added was is adds = record {
+  exact = λ pair. (
+    (λ h. ⊎_elim (λ old. inl ((pairs_of_table m was.unique pair).1 old)) (λ new. inr new)
+        ((adds pair.word pair.document).0 ((pairs_of_table n is.unique pair).0 h))),
+    (λ h. (pairs_of_table n is.unique pair).1 ((adds pair.word pair.document).1
+        (⊎_elim (λ old. inl ((pairs_of_table m was.unique pair).0 old)) (λ new. inr new) h))),
+  );
+}
 
 -- one more entry's pairs
 pub adds_more : (entries : List EntryView) (i : ℕ) (entry : EntryView) {old new newer : List EntryView} →
@@ -67,38 +69,47 @@ pub adds_more : (entries : List EntryView) (i : ℕ) (entry : EntryView) {old ne
     (Contains (pairs_of_index (take (i + 1) entries)))
 adds_more entries i entry {old} {new} {newer} inside is before adds =
     let more : pairs_of_index (take (i + 1) entries) ≡ pairs_of_index
-        (take i entries) ++ pairs_of_entry entry = ap pairs_of_index
-        (take_more entries i entry inside ∙ ap (λ e. take i entries ++ e ∷ []) (sym is))
-        ∙ sym (flat_map_more pairs_of_entry [] (take i entries) entry) in
-    record { exact = λ pair. subst (λ ps. Contains (pairs_of_index newer) pair ↔
-        (Contains (pairs_of_index old) pair ⊎ Contains ps pair)) (sym more) (
-      (λ h. ⊎_elim
-          (λ was. ⊎_elim (λ o. inl o) (λ front. inr (Contains-append_left (pairs_of_index (take i entries))
-              (pairs_of_entry entry) pair front)) ((before.exact pair).0 was))
-          (λ this. inr (Contains-append_right (pairs_of_index (take i entries))
-              (pairs_of_entry entry) pair this))
-          ((adds.exact pair).0 h)),
-      (λ h. (adds.exact pair).1 (⊎_elim
-          (λ o. inl ((before.exact pair).1 (inl o)))
-          (λ added. ⊎_elim (λ front. inl ((before.exact pair).1 (inr front))) (λ this. inr this)
-              (Contains-append_cases (pairs_of_index (take i entries)) (pairs_of_entry entry) pair added))
-          h)),
-    ) }
+    (take i entries) ++ pairs_of_entry entry = ap pairs_of_index
+    (take_more entries i entry inside ∙ ap (λ e. take i entries ++ e ∷ []) (sym is))
+    ∙ sym (flat_map_more pairs_of_entry [] (take i entries) entry) in
+    record {
+      exact = λ pair. subst (λ ps. Contains (pairs_of_index newer) pair ↔
+          (Contains (pairs_of_index old) pair ⊎ Contains ps pair)) (sym more) (
+            (λ h. ⊎_elim
+                (λ was. ⊎_elim (λ o. inl o) (λ front. inr
+                (Contains-append_left (pairs_of_index (take i entries))
+                (pairs_of_entry entry) pair front)) ((before.exact pair).0 was))
+                (λ this. inr (Contains-append_right (pairs_of_index (take i entries))
+                (pairs_of_entry entry) pair this))
+                ((adds.exact pair).0 h)),
+            (λ h. (adds.exact pair).1 (⊎_elim
+                (λ o. inl ((before.exact pair).1 (inl o)))
+                (λ added. ⊎_elim (λ front. inl ((before.exact pair).1 (inr front))) (λ this. inr this)
+                (Contains-append_cases (pairs_of_index (take i entries)) (pairs_of_entry entry) pair added))
+                h)),
+          );
+    }
 
 pub adds_none : (old : List EntryView) → Adds old old (Contains [])
-adds_none old = record { exact = λ pair. ((λ h. inl h),
-    (λ h. ⊎_elim (λ o. o) (λ none. absurd (omega (arith, none.1))) h)) }
+adds_none old = record {
+  exact = λ pair. (
+    (λ h. inl h),
+    (λ h. ⊎_elim (λ o. o) (λ none. absurd (omega (arith, none.1))) h),
+  );
+}
 
 -- the pairs of an entry are its word with its documents
 pub adds_entry : (entry : EntryView) {old new : List EntryView} →
     Adds old new (λ pair. (pair.word ≡ entry.word) × Contains entry.documents pair.document) →
     Adds old new (Contains (pairs_of_entry entry))
-adds_entry entry {old} {new} adds = record { exact = λ pair. (
-  (λ h. ⊎_elim (λ o. inl o) (λ (own : (pair.word ≡ entry.word) × Contains entry.documents pair.document).
-      inr (pair_of_own entry pair (sym own.0, own.1))) ((adds.exact pair).0 h)),
-  (λ h. (adds.exact pair).1 (⊎_elim (λ o. inl o) (λ own. let is =
-      own_from_pair entry pair own in inr (sym is.0, is.1)) h)),
-) }
+adds_entry entry {old} {new} adds = record {
+  exact = λ pair. (
+    (λ h. ⊎_elim (λ o. inl o) (λ (own : (pair.word ≡ entry.word) × Contains entry.documents pair.document).
+        inr (pair_of_own entry pair (sym own.0, own.1))) ((adds.exact pair).0 h)),
+    (λ h. (adds.exact pair).1 (⊎_elim (λ o. inl o) (λ own. let is =
+        own_from_pair entry pair own in inr (sym is.0, is.1)) h)),
+  );
+}
 
 -- the documents of a word are more
 pub documents_more : {S : Type 0} (m n : HashMap (List ℕ) (Vec ℕ Global) S) (word : List ℕ)
@@ -112,26 +123,26 @@ documents_more m n word was is numbers at updates more w k = by (pointwise nat_e
     by true e =
         let same : word ≡ w = (bytes_eq-Decides word w).0 e in
         let new : documents_of n w ≡ was.items ++ numbers =
-            ap (λ o. option_map_or (λ (d : Vec ℕ Global). d.items) o [])
-            (updates.0 w ∙ ap (λ b. cond b (Some is) (get (pointwise nat_eq) m w)) e) ∙ more in
+        ap (λ o. option_map_or (λ (d : Vec ℕ Global). d.items) o [])
+        (updates.0 w ∙ ap (λ b. cond b (Some is) (get (pointwise nat_eq) m w)) e) ∙ more in
         let old : documents_of m w ≡ was.items = ap (λ o. option_map_or
-            (λ (d : Vec ℕ Global). d.items) o []) (ap (get (pointwise nat_eq) m) (sym same) ∙ at) in (
+        (λ (d : Vec ℕ Global). d.items) o []) (ap (get (pointwise nat_eq) m) (sym same) ∙ at) in (
           (λ h. ⊎_elim (λ o. inl (subst (λ ds. Contains ds k) (sym old) o)) (λ this. inr (sym same, this))
               (Contains-append_cases was.items numbers k (subst (λ ds. Contains ds k) new h))),
           (λ h. subst (λ ds. Contains ds k) (sym new) (⊎_elim
               (λ o. Contains-append_left was.items numbers k (subst (λ ds. Contains ds k) old o))
               (λ (this : (w ≡ word) × Contains numbers k).
-                  Contains-append_right was.items numbers k this.1) h)),
+              Contains-append_right was.items numbers k this.1) h)),
         )
     by false e =
         let kept : documents_of n w ≡ documents_of m w =
-            ap (λ o. option_map_or (λ (d : Vec ℕ Global). d.items) o [])
-            (updates.0 w ∙ ap (λ b. cond b (Some is) (get (pointwise nat_eq) m w)) e) in (
+        ap (λ o. option_map_or (λ (d : Vec ℕ Global). d.items) o [])
+        (updates.0 w ∙ ap (λ b. cond b (Some is) (get (pointwise nat_eq) m w)) e) in (
           (λ h. inl (subst (λ ds. Contains ds k) kept h)),
           (λ h. ⊎_elim
               (λ o. subst (λ ds. Contains ds k) (sym kept) o)
               (λ (this : (w ≡ word) × Contains numbers k). absurd
-                  (false≢true (sym e ∙ (bytes_eq-Decides word w).1 (sym this.0)))) h),
+              (false≢true (sym e ∙ (bytes_eq-Decides word w).1 (sym this.0)))) h),
         )
 
 pairs_of_permutation : (xs ys : List EntryView) → IsPermutation xs ys → (pair : Pair) →
@@ -139,14 +150,16 @@ pairs_of_permutation : (xs ys : List EntryView) → IsPermutation xs ys → (pai
 pairs_of_permutation xs ys moved pair h =
     let m = member_from_any (HasPair pair) xs (entries_of_pair xs pair h) in
     pair_in_entries ys pair (any_from_member (HasPair pair) ys m.0
-        (Contains-permutation xs ys m.0 moved m.1) m.2)
+    (Contains-permutation xs ys m.0 moved m.1) m.2)
 
 -- entries in another order have the same pairs
 pub pairs_of_reordered : (xs ys : List (List ℕ × Vec ℕ Global)) → IsPermutation xs ys → (pair : Pair) →
     Contains (pairs_of_index (views xs)) pair ↔ Contains (pairs_of_index (views ys)) pair
 pairs_of_reordered xs ys moved pair =
     let shown : IsPermutation (views xs) (views ys) = IsPermutation-map
-        (λ (e : List ℕ × Vec ℕ Global). let v : EntryView =
-        record { word = e.0; documents = e.1.items } in v) xs ys moved in
-    (pairs_of_permutation (views xs) (views ys) shown pair, pairs_of_permutation (views ys) (views xs)
-        (IsPermutation-sym (views xs) (views ys) shown) pair)
+    (λ (e : List ℕ × Vec ℕ Global). let v : EntryView =
+    record { word = e.0; documents = e.1.items } in v) xs ys moved in (
+      pairs_of_permutation (views xs) (views ys) shown pair,
+      pairs_of_permutation (views ys) (views xs)
+          (IsPermutation-sym (views xs) (views ys) shown) pair,
+    )

@@ -26,20 +26,26 @@ Decides-document_eq a b = (
       let number = (Decides-eqb a.number b.number).0 parts.0 in
       let text = (bytes_eq-Decides a.text b.text).0 parts.1 in
       λ i. record { number = number i; text = text i }),
-  (λ same. true_both (eqb a.number b.number) (pointwise eqb a.text b.text) ((Decides-eqb a.number b.number).1 (ap (λ d. d.number) same)) ((bytes_eq-Decides a.text b.text).1 (ap (λ d. d.text) same))),
+  (λ same. true_both (eqb a.number b.number) (pointwise eqb a.text b.text)
+      ((Decides-eqb a.number b.number).1 (ap (λ d. d.number) same))
+      ((bytes_eq-Decides a.text b.text).1 (ap (λ d. d.text) same))),
 )
 
 pub Decides-same_text : (a b : SplitDocuments) → Decides (same_text a b) (a ≡ b)
 Decides-same_text a b =
-    let documents = slice_eq-Decides Decides-document_eq a.documents b.documents (pointwise same_document a.documents b.documents) refl in (
+    let documents = slice_eq-Decides Decides-document_eq a.documents b.documents
+    (pointwise same_document a.documents b.documents) refl in (
       (λ h.
           let parts = both_true (eqb a.split b.split) (pointwise same_document a.documents b.documents) h in
           let split = (Decides-eqb a.split b.split).0 parts.0 in
           let text = documents.0 parts.1 in
           λ i. record { split = split i; documents = text i }),
-      (λ same. true_both (eqb a.split b.split) (pointwise same_document a.documents b.documents) ((Decides-eqb a.split b.split).1 (ap (λ t. t.split) same)) (documents.1 (ap (λ t. t.documents) same))),
+      (λ same. true_both (eqb a.split b.split) (pointwise same_document a.documents b.documents)
+          ((Decides-eqb a.split b.split).1 (ap (λ t. t.split) same))
+          (documents.1 (ap (λ t. t.documents) same))),
     )
 
 -- two tests that decide the same have the same answer
 pub same_answer : {P : Type 0} (answer test : Bool) → IsTrue answer ↔ P → Decides test P → answer ≡ test
-same_answer answer test exact decides = both_ways answer test (λ yes. decides.1 (exact.0 yes)) (λ yes. exact.1 (decides.0 yes))
+same_answer answer test exact decides = both_ways answer test (λ yes. decides.1 (exact.0 yes))
+    (λ yes. exact.1 (decides.0 yes))

@@ -2,8 +2,9 @@
 //!
 //! A word is a longest run of ASCII letters, in lower case, and its part is its hash modulo the number of
 //! parts. Upward the layer promises that a `Run` holds just the pairs of a word and a document that its
-//! text has for its part, rising, each once; the type keeps this, so whoever has a run has its pairs
-//! right. `map_split` makes a run for each part. It stands on the numbers of `node_ids`.
+//! text has for its part: its entries are the words, rising, each with its documents. The type keeps this,
+//! so whoever has a run has its pairs right. `map_split` makes a run for each part; a `WordTable` gathers
+//! entries of any runs. It stands on the numbers of `node_ids`, and on `indexmap`.
 #![tactic(auto)]
 
 mod distinct;
@@ -21,5 +22,3 @@ pub use hash::part_of;
 pub use runs::{MapResult, Run, map_split};
 pub use table::WordTable;
 pub use text::{Document, SplitText, Text};
-pub use word::Word;
-

@@ -38,8 +38,8 @@ impl Model for Run {
       pairs = pairs_of_index r.entries.items;
     } };
 
-    ghost invariant = { λ r. IsRun (arc_value r.text).documents r.part r.parts (pairs_of_index r.entries.items)
-        × AreEntries r.entries.items };
+    ghost invariant = { λ r. AreEntries r.entries.items
+        × IsRun (arc_value r.text).documents r.part r.parts (pairs_of_index r.entries.items) };
 }
 
 impl Run {

@@ -41,7 +41,8 @@ fn note<'a>(
     word: Word<'a>,
     document: DocNo,
 ) -> Result<(), AllocError>
-    ensures added { OnOk result ((w : List ℕ) (n : ℕ) → Has table.new w n ↔ (Has table.old w n ⊎ ((w ≡ word.entry) × (n ≡ document)))) }
+    ensures added { OnOk result ((w : List ℕ) (n : ℕ)
+        → Has table.new w n ↔ (Has table.old w n ⊎ ((w ≡ word.entry) × (n ≡ document)))) }
     ensures table { IsTable table.old → IsTable table.new }
 {
     match table.get_mut(&word) {
@@ -67,7 +68,8 @@ fn add_documents<'a>(
     numbers: &[DocNo],
 ) -> Result<(), AllocError>
     requires { 0 < length numbers.now }
-    ensures added { OnOk result ((w : List ℕ) (n : ℕ) → Has table.new w n ↔ (Has table.old w n ⊎ ((w ≡ word.entry) × Contains numbers.now n))) }
+    ensures added { OnOk result ((w : List ℕ) (n : ℕ)
+        → Has table.new w n ↔ (Has table.old w n ⊎ ((w ≡ word.entry) × Contains numbers.now n))) }
     ensures table { IsTable table.old → IsTable table.new }
 {
     match table.get_mut(&word) {
@@ -97,7 +99,8 @@ impl<'a> WordTable<'a> {
         word: Word<'a>,
         document: DocNo,
     ) -> Result<(), AllocError>
-        ensures { OnOk result (Adds self.old self.new (λ pair. (pair.word ≡ word.entry) × (pair.document ≡ document))) }
+        ensures { OnOk result
+            (Adds self.old self.new (λ pair. (pair.word ≡ word.entry) × (pair.document ≡ document))) }
     {
         note(alloc, &mut self.table, word, document)
     }
@@ -158,7 +161,8 @@ fn sorted_entries(
     requires table { IsTable table }
     ensures entries { IfOk result (λ entries. AreEntries entries.items) }
     ensures same { IfOk result (λ entries. (pair : Pair)
-        → Contains (pairs_of_index entries.items) pair ↔ Contains (pairs_of_index (views table.entry.entries)) pair) }
+        → Contains (pairs_of_index entries.items) pair
+        ↔ Contains (pairs_of_index (views table.entry.entries)) pair) }
 {
     let mut entries = Vec::with_capacity(alloc, table.len())?;
     for (word, documents) in table {

@@ -104,7 +104,11 @@ fn many_documents_of_nothing(rt: HostRuntime) -> Result<(), Fail> {
     let made = map_split(rt.alloc(), text, 64)?;
     assert!(rt; made.parts() == 64);
     for part in 0..64 {
-        assert_eq!(rt; made.run(PartNo::new(part)).entries().len(), 0, "part {part}");
+        assert_eq!(rt;
+            made.run(PartNo::new(part)).entries().len(),
+            0,
+            "part {part}"
+        );
     }
     Ok(())
 }

@@ -6,11 +6,11 @@ use Rattle.shuffle_reduce.proofs.covers.are_mutual.Goals as goal
 pub returns-then-all_are_among : goal.returns-then-all_are_among
 returns-then-all_are_among c =
     mutual_then (values_of c.args.texts.now)
-        (values_of c.args.others.now) c.all_are_among-then-all_are_among.result
+    (values_of c.args.others.now) c.all_are_among-then-all_are_among.result
     (c.all_are_among.ensures.0 c.if-all_are_among.true) c.all_are_among-then-all_are_among.ensures
 
 -- some text is not among the others
 pub returns-else-all_are_among : goal.returns-else-all_are_among
 returns-else-all_are_among c =
     mutual_else (values_of c.args.texts.now)
-        (values_of c.args.others.now) c.all_are_among.result c.if-all_are_among.false c.all_are_among.ensures
+    (values_of c.args.others.now) c.all_are_among.result c.if-all_are_among.false c.all_are_among.ensures

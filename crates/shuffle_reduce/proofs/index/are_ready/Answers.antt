@@ -11,11 +11,11 @@ loop-one-preserved c =
     record {
       covers = all_more (λ (one : PartView). AreSameTexts one.texts
           (values_of c.args.texts.now)) c.args.results.now c.loop-one.one-index c.loop-one-test.true
-              c.one-item.is c.loop-one.invariant.covers here.0;
+          c.one-item.is c.loop-one.invariant.covers here.0;
       same = all_more
           (λ (one : PartView).
           one.parts ≡ c.args.parts) c.args.results.now c.loop-one.one-index c.loop-one-test.true
-              c.one-item.is c.loop-one.invariant.same here.1;
+          c.one-item.is c.loop-one.invariant.same here.1;
     }
 
 -- a result is not ready, so not all are
@@ -25,9 +25,9 @@ returns-then-not-is_ready c = (
   (λ ready. c.if-not-is_ready.ensures.1 (
     all_at (λ (one : PartView). AreSameTexts one.texts
         (values_of c.args.texts.now)) c.args.results.now c.loop-one.one-index c.loop-one-test.true
-            c.one-item.is ready.covers,
+        c.one-item.is ready.covers,
     all_at (λ
         (one : PartView). one.parts ≡ c.args.parts) c.args.results.now c.loop-one.one-index
-            c.loop-one-test.true c.one-item.is ready.same,
+        c.loop-one-test.true c.one-item.is ready.same,
   )),
 )

@@ -10,8 +10,8 @@ pub loop-word-preserved : goal.loop-word-preserved
 loop-word-preserved c =
     let first = c.in-Some.ensures.steps in
     rw c.in_ok-push.ensures.items
-        (made_more c.args.table.entries c.next.new.self c.loop-word.entries.items c.in-Some.word
-            c.in-Some.documents c.in_ok-make_entry.field-0 (rw first at c.loop-word.invariant)
+    (made_more c.args.table.entries c.next.new.self c.loop-word.entries.items c.in-Some.word
+    c.in-Some.documents c.in_ok-make_entry.field-0 (rw first at c.loop-word.invariant)
     c.in_ok-make_entry.ensures.word c.in_ok-make_entry.ensures.rise c.in_ok-make_entry.ensures.same)
 
 -- none is left

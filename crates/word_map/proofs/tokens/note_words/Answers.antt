@@ -22,4 +22,5 @@ loop-start-preserved c =
 
 -- the end is reached, so all runs are there
 pub returns : goal.returns
-returns c = adds_all (rw c.as_bytes-bytes.ensures.value at c.loop-start-test.false) c.loop-start.invariant.adds
+returns c = adds_all (rw c.as_bytes-bytes.ensures.value at c.loop-start-test.false)
+    c.loop-start.invariant.adds

@@ -10,9 +10,9 @@ use Rattle.shuffle_reduce.proofs.part.PartResult.covers.Goals as goal
 pub returns-clause-same : goal.returns-clause-same
 returns-clause-same c =
     subst (λ ts. IsTrue c.are_same_texts.result ↔ AreSameTexts ts (values_of c.args.texts.now))
-        (ap values_of c.as_slice.ensures.value ∙ ap (λ v. v.texts) c.self.view_is) c.are_same_texts.ensures
+    (ap values_of c.as_slice.ensures.value ∙ ap (λ v. v.texts) c.self.view_is) c.are_same_texts.ensures
 
 pub returns-clause-value : goal.returns-clause-value
 returns-clause-value c =
     same_answer c.are_same_texts.result (same_texts c.args.self.now.texts (values_of c.args.texts.now))
-        (returns-clause-same c) (Decides-same_texts c.args.self.now.texts (values_of c.args.texts.now))
+    (returns-clause-same c) (Decides-same_texts c.args.self.now.texts (values_of c.args.texts.now))

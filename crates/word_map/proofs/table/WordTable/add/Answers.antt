@@ -13,7 +13,7 @@ loop-entry-init c = adds_none c.args.self.now
 pub loop-entry-preserved : goal.loop-entry-preserved
 loop-entry-preserved c =
     adds_more c.args.entries.now c.loop-entry.entry-index c.entry-item.result c.loop-entry-test.true
-        c.entry-item.is c.loop-entry.invariant c.in_ok-add_entry.ensures
+    c.entry-item.is c.loop-entry.invariant c.in_ok-add_entry.ensures
 
 pub returns : goal.returns
 returns c = subst (λ es. Adds c.args.self.now c.loop-entry.self (Contains (pairs_of_index es)))

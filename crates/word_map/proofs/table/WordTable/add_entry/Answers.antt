@@ -11,8 +11,8 @@ pub returns : goal.returns
 returns c =
     on_ok_weaker c.add_documents.result
     (λ adds. subst (λ v. Adds v (views c.add_documents.new.table.entries)
-        (Contains (pairs_of_entry c.args.entry.now))) c.self.view_is
+    (Contains (pairs_of_entry c.args.entry.now))) c.self.view_is
     (adds_entry c.args.entry.now (adds_pairs (λ (w : List ℕ) (k : ℕ). (w ≡ c.args.entry.now.word)
-        × Contains c.args.entry.now.documents k) c.self.invariant
-        (c.add_documents.ensures.table c.self.invariant) adds)))
+    × Contains c.args.entry.now.documents k) c.self.invariant
+    (c.add_documents.ensures.table c.self.invariant) adds)))
     (rw (c.new-word.ensures, c.word.ensures, c.documents.ensures) at c.add_documents.ensures.added)

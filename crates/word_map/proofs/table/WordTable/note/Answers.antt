@@ -10,7 +10,7 @@ pub returns : goal.returns
 returns c =
     on_ok_weaker c.note.result
     (λ adds. subst (λ v. Adds v (views c.note.new.table.entries)
-        (λ (pair : Pair). (pair.word ≡ c.args.word) × (pair.document ≡ c.args.document))) c.self.view_is
+    (λ (pair : Pair). (pair.word ≡ c.args.word) × (pair.document ≡ c.args.document))) c.self.view_is
     (adds_pairs (λ (w : List ℕ) (k : ℕ). (w ≡ c.args.word) × (k ≡ c.args.document)) c.self.invariant
-        (c.note.ensures.table c.self.invariant) adds))
+    (c.note.ensures.table c.self.invariant) adds))
     c.note.ensures.added
