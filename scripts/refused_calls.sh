@@ -87,7 +87,7 @@ sweep_test() { # TESTS NAME
     if [ "$wrong" = 0 ] && [ "$calls" != 0 ] && [ "$nth" -le 10000 ]; then passed=$((passed + 1)); else failed=$((failed + 1)); fi
 }
 
-sweep_test crates/flow_network/out/flow_network_tests tests::refused_arcs_leave_no_trace
+sweep_test crates/network_tests/out/network_tests_tests flows::refused_arcs_leave_no_trace
 sweep_test crates/word_tests/out/word_tests_tests indexes::a_refused_allocation_is_told
 sweep_test crates/thread_tests/out/thread_tests_tests boards::a_refused_board_leaves_no_trace
 sweep_test crates/thread_tests/out/thread_tests_tests lanes::a_refused_close_gives_all_back
