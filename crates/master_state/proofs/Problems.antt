@@ -73,8 +73,7 @@ small_problem setup s whole tidy = record {
   each_small = lines_keep IsSmall (AreHolders s.workers) IsSmall
       (λ split line bytes small held. record {
         bytes = omega (arith, bytes, small.bytes);
-        holders =
-            held.few;
+        holders = held.few;
       })
       setup.cluster.splits s.splits s.holders whole.small tidy.held;
 }
@@ -104,6 +103,8 @@ within_limits setup s whole tidy =
       bytes = All-weaker IsSmall _ (λ split h. h.bytes) (problem_of setup s).splits small.each_small;
       holders = All-weaker IsSmall _ (λ split h. h.holders) (problem_of setup s).splits small.each_small;
       known = All-weaker (IsHeldWell (length (problem_of setup s).workers)) _ (λ split h. h.known)
+          (problem_of setup s).splits (held_well setup s whole tidy);
+      distinct = All-weaker (IsHeldWell (length (problem_of setup s).workers)) _ (λ split h. h.once)
           (problem_of setup s).splits (held_well setup s whole tidy);
     }
 
