@@ -6,3 +6,4 @@ pub mod Numbers
 pub mod Parts
 pub mod PlanLines
 pub mod OneWave
+pub mod AllFit

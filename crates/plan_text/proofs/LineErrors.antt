@@ -1,5 +1,5 @@
 -- The faults of a line that says a statement are those of the statement.
-use Rattle.std.proofs.Common.{◌≡◌, ◌≤◌, true, false, sym, subst, ◌∙◌, arith}
+use Rattle.std.proofs.Common.{◌≡◌, ◌≤◌, true, false, true≢false, sym, subst, ◌∙◌, arith}
 use Rattle.std.specs.List.{All}
 use Rattle.text_lines.specs.Texts.{IsPrintable, Line}
 use Rattle.text_lines.specs.Faults.{number_of_fault}
@@ -14,9 +14,6 @@ use Rattle.plan_lines.proofs.Spelled.{says-unique}
 use Rattle.plan_text.specs.Draft.{IsLeastError}
 use Rattle.plan_text.specs.declared.draft.LineError.{LineError}
 use Rattle.plan_text.specs.declared.draft.LineError.TheVariants as error
-
-no_true : true ≡ false → ⊥
-no_true e = cc
 
 -- a fault of the statement is one of the line
 fault_of_line : (k : Known) (line : Line) (s : Statement) → IsSound k line → Says line s → (f : Fault) → Fails k s f → LineHas k line f
@@ -54,7 +51,7 @@ fault_of_statement k line s sound says NoPrice h = same_fault k line s h.1.0 say
 fault_of_statement k line s sound says TooLong h = absurd h
 fault_of_statement k line s sound says NoFeed h = absurd h
 fault_of_statement k line s sound says Unprintable h = absurd (h sound.0)
-fault_of_statement k line s sound says AfterEnd h = absurd (no_true (sym h ∙ sound.1))
+fault_of_statement k line s sound says AfterEnd h = absurd (true≢false (sym h ∙ sound.1))
 
 -- the least fault of the statement is the line's
 pub least_of_line : (k : Known) (line : Line) (s : Statement) → IsSound k line → Says line s
@@ -106,16 +103,16 @@ past_words k line unprintable Unprintable h = omega arith
 past_words k line unprintable AfterEnd h = omega arith
 
 past_end : (k : Known) (line : Line) → All IsPrintable line → k.is_ended ≡ true → (g : Fault) → LineHas k line g → 14 ≤ number_of_fault g
-past_end k line printable ended Shape h = absurd (no_true (sym ended ∙ h.0.1))
-past_end k line printable ended Misnamed h = absurd (no_true (sym ended ∙ h.0.1))
-past_end k line printable ended Unknown h = absurd (no_true (sym ended ∙ h.0.1))
-past_end k line printable ended Repeated h = absurd (no_true (sym ended ∙ h.0.1))
-past_end k line printable ended OutOfRange h = absurd (no_true (sym ended ∙ h.0.1))
-past_end k line printable ended PassesLimit h = absurd (no_true (sym ended ∙ h.0.1))
-past_end k line printable ended Misplaced h = absurd (no_true (sym ended ∙ h.0.1))
-past_end k line printable ended RepeatedHolder h = absurd (no_true (sym ended ∙ h.0.1))
-past_end k line printable ended SecondEntry h = absurd (no_true (sym ended ∙ h.0.1))
-past_end k line printable ended NoPrice h = absurd (no_true (sym ended ∙ h.0.1))
+past_end k line printable ended Shape h = absurd (true≢false (sym ended ∙ h.0.1))
+past_end k line printable ended Misnamed h = absurd (true≢false (sym ended ∙ h.0.1))
+past_end k line printable ended Unknown h = absurd (true≢false (sym ended ∙ h.0.1))
+past_end k line printable ended Repeated h = absurd (true≢false (sym ended ∙ h.0.1))
+past_end k line printable ended OutOfRange h = absurd (true≢false (sym ended ∙ h.0.1))
+past_end k line printable ended PassesLimit h = absurd (true≢false (sym ended ∙ h.0.1))
+past_end k line printable ended Misplaced h = absurd (true≢false (sym ended ∙ h.0.1))
+past_end k line printable ended RepeatedHolder h = absurd (true≢false (sym ended ∙ h.0.1))
+past_end k line printable ended SecondEntry h = absurd (true≢false (sym ended ∙ h.0.1))
+past_end k line printable ended NoPrice h = absurd (true≢false (sym ended ∙ h.0.1))
 past_end k line printable ended TooLong h = absurd h
 past_end k line printable ended NoFeed h = absurd h
 past_end k line printable ended Unprintable h = absurd (h printable)

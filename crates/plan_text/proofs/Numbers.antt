@@ -1,6 +1,6 @@
 -- Names and their numbers, and the pairs that are barred.
 use Rattle.std.proofs.Common.{ℕ, List, [], ◌∷◌, ◌++◌, ◌≡◌, ◌≢◌, ◌<◌, ◌+◌, ◌⊎◌, ◌∙◌, arith}
-use Rattle.std.proofs.Common.{Bool, true, false, inl, inr, length, take, sym, ap, refl, subst}
+use Rattle.std.proofs.Common.{Bool, true, false, true≢false, inl, inr, length, take, sym, ap, refl, subst}
 use Rattle.std.specs.Prelude.{◌↔◌, IsTrue, unwrap_or}
 use Rattle.std.specs.List.{Contains, position_or_len, slice_index_or}
 use Rattle.std.specs.Str.{bytes_eq}
@@ -14,9 +14,6 @@ use Rattle.text_lines.proofs.Keys.{found}
 use Rattle.text_lines.specs.Texts.{Word}
 use Rattle.plan_text.specs.Value.{IsBarred, number_in, stands_in}
 
-no_true : false ≡ true → ⊥
-no_true e = cc
-
 -- where a name stands first
 abbrev first : List Word → Word → ℕ
 first names name = position_or_len (bytes_eq name) names
@@ -25,7 +22,7 @@ first_within : (names : List Word) (name : Word) → Contains names name → fir
 first_within names name (k, lt, is) =
     let here : bytes_eq name (slice_index_or names k name) ≡ true = (bytes_eq-Decides name _).1 (sym is) in
     elim (cases_lt k (first names name)) [
-      | inl less ↦ absurd (no_true (sym (fails_before_first (bytes_eq name) names k name less) ∙ here))
+      | inl less ↦ absurd (true≢false (sym here ∙ fails_before_first (bytes_eq name) names k name less))
       | inr ge ↦ omega arith
     ]
 
@@ -58,8 +55,8 @@ numbers_differ names a b in_a in_b differ same =
 same_truth : {P : Type 0} (a b : Bool) → (IsTrue a ↔ P) → (IsTrue b ↔ P) → a ≡ b
 same_truth true true f g = refl
 same_truth false false f g = refl
-same_truth true false f g = absurd (no_true (g.1 (f.0 refl)))
-same_truth false true f g = absurd (no_true (f.1 (g.0 refl)))
+same_truth true false f g = absurd (true≢false (sym (g.1 (f.0 refl))))
+same_truth false true f g = absurd (true≢false (sym (f.1 (g.0 refl))))
 
 pub stands_by : (b : Bool) (names : List Word) (name : Word) → (IsTrue b ↔ Contains names name)
     → b ≡ stands_in names name

@@ -36,13 +36,16 @@ pub record IsReadingOf (text : List ℕ) (v : PlanText) : Type 0 where
   pub reads : Reads Checking text statements
   pub declares : MakesPlan (known_of Checking statements) (entries_of statements) v
 
--- the text to plan from has no fault, each of its lines without one after those before it, and its lines declare the
--- problem
+-- the text to plan from has no fault, and its lines declare the problem
 pub record IsProblemOf (text : List ℕ) (v : ProblemText) : Type 0 where
   pub statements : List Statement
   pub reads : Reads Planning text statements
-  pub fit : AreFitLines (known_at Planning 0 []) (take (length statements) (lines_of text)) statements
   pub declares : MakesProblem (known_of Planning statements) (entries_of statements) v
+
+-- a text without a fault: what holds of each of its lines after those before it, in place of no fault
+abbrev pub HasFitLines : Purpose → List ℕ → Type 0
+HasFitLines purpose text = (ss : List Statement) → Reads purpose text ss
+    → AreFitLines (known_at purpose 0 []) (take (length ss) (lines_of text)) ss
 
 -- the fault that is answered is the least of the text
 abbrev pub IsReadingError : Purpose → List ℕ → ReadingError → Type 0

@@ -6,7 +6,7 @@ ghost use Rattle.plan_lines.specs.Rows.{entries_in};
 ghost use Rattle.plan_text.specs.Draft.{IsAllRead};
 ghost use Rattle.plan_lines.specs.Entries.{entries_of};
 ghost use Rattle.plan_lines.specs.Known.{known_at};
-ghost use Rattle.plan_text.specs.Reading.{IsProblemOf, IsReadingError, IsReadingOf, error_at};
+ghost use Rattle.plan_text.specs.Reading.{HasFitLines, IsProblemOf, IsReadingError, IsReadingOf, error_at};
 
 use crate::built::{PlanText, ProblemText, build_plan_text, build_problem_text};
 use crate::draft::{Draft, LineError};
@@ -40,8 +40,10 @@ pub fn read_plan(alloc: Global, text: &[u8]) -> Result<PlanText<'_>, ReadingErro
 
 /// The problem that the lines of a text to plan from declare, or the text's least fault. The value
 /// borrows its names from the text.
+#[tactic(auto, using(crate::proofs::AllFit::all_fit))]
 pub fn read_problem(alloc: Global, text: &[u8]) -> Result<ProblemText<'_>, ReadingError>
     ensures ok { IfOk result (IsProblemOf text.entry.now) }
+    ensures fit { IfOk result (λ _. HasFitLines Purpose.Planning text.entry.now) }
     ensures splits { IfOk result (λ v. length v.splits ≡ length v.problem.splits) }
     ensures workers { IfOk result (λ v. length v.workers ≡ length v.problem.workers) }
     ensures err { IfErr result (IsReadingError Purpose.Planning text.entry.now) }
@@ -113,7 +115,8 @@ fn fault_in(line: u32, number: Fault) -> ReadingError
 
 // The least fault of what follows the last line feed.
 fn fault_of_rest(names: &KnownNames<'_>, rest: &[u8]) -> Option<Fault>
-    ensures { MatchOption result ((rest.now ≡ []) × (names.now.is_ended ≡ true)) (IsLeastOf (RestHas names.now rest.now)) }
+    ensures { MatchOption result ((rest.now ≡ []) × (names.now.is_ended ≡ true))
+        (IsLeastOf (RestHas names.now rest.now)) }
 {
     if !rest.is_empty() {
         Some(Fault::NoFeed)

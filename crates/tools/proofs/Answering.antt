@@ -13,9 +13,12 @@ pub answers_read : (text : List ℕ) (v : PlanText) (end : CheckEnd) (line : Lis
 answers_read text v end line read judges =
     let ss = read.statements in
     let made = read.declares in
-    let with_starts = subst (λ s. Judges end (claim v.problem s v.prices) v.splits v.workers line) made.starts judges in
-    let with_prices = subst (λ p. Judges end (claim v.problem (starts ss) p) v.splits v.workers line) made.prices with_starts in
-    let with_splits = subst (λ s. Judges end (claim_of v.problem ss) s v.workers line) made.splits with_prices in
+    let with_starts =
+    subst (λ s. Judges end (claim v.problem s v.prices) v.splits v.workers line) made.starts judges in
+    let with_prices = subst (λ p. Judges end (claim v.problem (starts ss) p) v.splits v.workers line)
+    made.prices with_starts in
+    let with_splits =
+    subst (λ s. Judges end (claim_of v.problem ss) s v.workers line) made.splits with_prices in
     record {
       statements = ss;
       wave = v.problem;

@@ -1,4 +1,5 @@
--- What is said of a plan of the problem that was read is said of the text, and a check of what is written certifies it.
+-- What is said of a plan of the problem that was read is said of the text, and a check of what is written
+-- certifies it.
 use Rattle.std.proofs.Common.{ℕ, zero, suc, List, [], ◌∷◌, ◌++◌, Option, Bool, ◌≡◌, ◌<◌, ◌≤◌, ◌^◌, ◌∙◌, length, slice_index, refl, sym, subst, ap, arith, true, false}
 use Rattle.std.specs.List.{All}
 use Rattle.std.proofs.lemmas.List.{append-nil}
@@ -11,7 +12,8 @@ use Rattle.price_certificate.specs.declared.Condition.TheVariants.{Allowed, Spli
 use Rattle.price_certificate.specs.PriceList.{PriceList}
 use Rattle.text_lines.specs.Texts.{Word}
 use Rattle.plan_lines.specs.Known.{splits}
-use Rattle.plan_text.specs.Reading.{IsProblemOf}
+use Rattle.plan_lines.specs.declared.purpose.Purpose.TheVariants.{Planning}
+use Rattle.plan_text.specs.Reading.{HasFitLines, IsProblemOf}
 use Rattle.plan_text.specs.Value as value
 use Rattle.plan_text.specs.Report.{certified_line, lines_of_plan, price_lines, start_lines, wave_line}
 use Rattle.plan_text.specs.declared.built.ProblemText.{ProblemText}
@@ -27,7 +29,8 @@ line_on c = certified_line (count_of c) (cost_of c)
 
 -- a text that declares a claim which its prices certify is certified
 certified_text : (text : List ℕ) (wave : Wave) (starts : List (Option ℕ)) (prices : PriceList)
-    → ReadsBack text wave starts prices → SaysCertified (claim wave starts prices) (line_on (claim wave starts prices))
+    → ReadsBack text wave starts prices
+    → SaysCertified (claim wave starts prices) (line_on (claim wave starts prices))
     → AnswersRead text Certified (line_on (claim wave starts prices))
 certified_text text wave starts prices back says =
     let ss = back.statements in
@@ -35,23 +38,34 @@ certified_text text wave starts prices back says =
     let with_prices : SaysCertified (claim wave starts (value.prices ss)) said =
     subst (λ (p : PriceList). SaysCertified (claim wave starts p) said) (sym back.same_prices) says in
     let with_starts : SaysCertified (claim wave (value.starts ss) (value.prices ss)) said =
-    subst (λ (q : List (Option ℕ)). SaysCertified (claim wave q (value.prices ss)) said) (sym back.same_starts) with_prices in
-    record { statements = ss; wave = wave; reads = back.reads; declared = back.declared; judges = with_starts }
+    subst (λ (q : List (Option ℕ)). SaysCertified (claim wave q (value.prices ss)) said)
+    (sym back.same_starts) with_prices in
+    record {
+      statements = ss;
+      wave = wave;
+      reads = back.reads;
+      declared = back.declared;
+      judges = with_starts;
+    }
 
-checks_again : (text : List ℕ) (v : ProblemText) (starts : List (Option ℕ)) (prices : PriceList) (with_prices : Bool)
-    (lines : List ℕ) → IsProblemOf text v → IsPlanFor v.splits v.workers starts prices
+checks_again : (text : List ℕ) (v : ProblemText) (starts : List (Option ℕ)) (prices : PriceList)
+    (with_prices : Bool)
+    (lines : List ℕ) → IsProblemOf text v → HasFitLines Planning text
+    → IsPlanFor v.splits v.workers starts prices
     → SaysPlanned with_prices (claim v.problem starts prices) v.splits v.workers lines
     → ChecksAgain text (claim v.problem starts prices) v.splits v.workers
-checks_again text v starts prices with_prices lines read sized says short =
+checks_again text v starts prices with_prices lines read fit sized says short =
     certified_text (with_plan text (lines_of_plan v.splits v.workers starts prices)) v.problem starts prices
-    (written_plan_reads_back text v starts prices read sized short)
+    (written_plan_reads_back text v starts prices read fit sized short)
     (record { certifies = says.certifies; best = says.best; said = refl })
 
 pub plans_read : (text : List ℕ) (v : ProblemText) (with_prices : Bool) (lines : List ℕ) → IsProblemOf text v
+    → HasFitLines Planning text
     → PlansProblem v.problem v.splits v.workers with_prices lines → PlansRead text with_prices lines
-plans_read text v with_prices lines read plans =
+plans_read text v with_prices lines read fit plans =
     let c = claim v.problem plans.starts plans.prices in
-    let again = checks_again text v plans.starts plans.prices with_prices lines read plans.sized plans.says in
+    let again =
+    checks_again text v plans.starts plans.prices with_prices lines read fit plans.sized plans.says in
     let splits_are = read.declares.splits in
     let workers_are = read.declares.workers in
     record {
@@ -84,14 +98,16 @@ plan_for_names ss ws c plan_workers as_splits as_workers sized certifies small =
   split_starts = sized.starts ∙ sym as_splits;
   split_prices = sized.split_prices ∙ sym as_splits;
   worker_prices = sized.worker_prices ∙ sym as_workers;
-  of_workers = λ s w started. subst (λ n. w < n) (sym as_workers) (live_known c.wave w (certifies (Allowed s w) started).0);
+  of_workers = λ s w started. subst (λ n. w < n) (sym as_workers)
+      (live_known c.wave w (certifies (Allowed s w) started).0);
   split_amounts = all_below (2 ^ 64) (reward c.wave) c.prices.splits small (λ s. certifies (SplitPrice s));
   worker_amounts = all_below (2 ^ 64) (reward c.wave) c.prices.workers small (λ w. certifies (WorkerPrice w));
 }
 
 -- the line and the starts of a plan whose parts are those of the claim
 pub front_of : (ss ws : List Word) (c : Claim) (count cost : ℕ) (starts : List (Option ℕ)) (lines : List ℕ)
-    → starts ≡ c.starts → count ≡ count_of c → cost ≡ cost_of c → lines ≡ wave_line count cost ++ start_lines ss ws starts
+    → starts ≡ c.starts → count ≡ count_of c → cost ≡ cost_of c
+    → lines ≡ wave_line count cost ++ start_lines ss ws starts
     → lines ≡ wave_line (count_of c) (cost_of c) ++ start_lines ss ws c.starts
 front_of ss ws c count cost starts lines as_starts as_count as_cost said =
     said ∙ ap (λ (q : List (Option ℕ)). wave_line count cost ++ start_lines ss ws q) as_starts
@@ -99,28 +115,34 @@ front_of ss ws c count cost starts lines as_starts as_count as_cost said =
     ∙ ap (λ (n : ℕ). wave_line (count_of c) n ++ start_lines ss ws c.starts) as_cost
 
 -- prices that were asked for follow
-pub with_asked : (asked : Bool) (ss ws : List Word) (prices made : PriceList) (front old new : List ℕ) → asked ≡ true
-    → old ≡ front → prices ≡ made → new ≡ old ++ price_lines ss ws prices → new ≡ front ++ asked_prices asked ss ws made
+pub with_asked : (asked : Bool) (ss ws : List Word) (prices made : PriceList) (front old new : List ℕ)
+    → asked ≡ true
+    → old ≡ front → prices ≡ made → new ≡ old ++ price_lines ss ws prices
+    → new ≡ front ++ asked_prices asked ss ws made
 with_asked true ss ws prices made front old new is_asked before as_made said =
-    said ∙ ap (λ (q : PriceList). old ++ price_lines ss ws q) as_made ∙ ap (λ (l : List ℕ). l ++ price_lines ss ws made) before
+    said ∙ ap (λ (q : PriceList). old ++ price_lines ss ws q) as_made
+    ∙ ap (λ (l : List ℕ). l ++ price_lines ss ws made) before
 with_asked false ss ws prices made front old new is_asked before as_made said = cc
 
 -- and others do not
-pub without_asked : (asked : Bool) (ss ws : List Word) (made : PriceList) (front old : List ℕ) → asked ≡ false → old ≡ front
+pub without_asked : (asked : Bool) (ss ws : List Word) (made : PriceList) (front old : List ℕ) → asked ≡ false
+    → old ≡ front
     → old ≡ front ++ asked_prices asked ss ws made
 without_asked false ss ws made front old is_not before = before ∙ sym (append-nil front)
 without_asked true ss ws made front old is_not before = cc
 
 -- the lines of its count, cost and starts, and then those of its prices if they are asked for
 pub plans_problem : (with_prices : Bool) (ss ws : List Word) (c : Claim) (plan_workers : ℕ) (lines : List ℕ)
-    → length ss ≡ length c.wave.splits → length ws ≡ length c.wave.workers → HasOneSize c plan_workers → Certifies c
+    → length ss ≡ length c.wave.splits → length ws ≡ length c.wave.workers → HasOneSize c plan_workers
+    → Certifies c
     → IsBest c.wave (pairs_of c.starts) → reward c.wave < 2 ^ 64
-    → lines ≡ (wave_line (count_of c) (cost_of c) ++ start_lines ss ws c.starts) ++ asked_prices with_prices ss ws c.prices
+    → lines ≡ (wave_line (count_of c) (cost_of c) ++ start_lines ss ws c.starts)
+    ++ asked_prices with_prices ss ws c.prices
     → PlansProblem c.wave ss ws with_prices lines
-plans_problem with_prices ss ws c plan_workers lines as_splits as_workers sized certifies best small said = record {
+plans_problem asked ss ws c n lines as_splits as_workers sized certifies best small said = record {
   starts = c.starts;
   prices = c.prices;
-  sized = plan_for_names ss ws c plan_workers as_splits as_workers sized certifies small;
+  sized = plan_for_names ss ws c n as_splits as_workers sized certifies small;
   says = record {
     certifies = certifies;
     best = best;

@@ -9,7 +9,8 @@ use Rattle.plan_text.specs.declared.reader.ReadingError.TheVariants as reading
 use Rattle.text_reading.specs.FaultLine.{fault_line}
 use Rattle.tools.specs.CheckAnswer.{IsFaulty, TellsFault}
 
-pub tells_least : (purpose : Purpose) (text : List ℕ) (error : ReadingError) (fault : TextFault) (line : List ℕ)
+pub tells_least : (purpose : Purpose) (text : List ℕ) (error : ReadingError) (fault : TextFault)
+    (line : List ℕ)
     → IsReadingError purpose text error → TellsFault error fault line → IsFaulty purpose text fault line
 tells_least purpose text (reading.Text least) fault line is told = record {
   least = subst (λ (f : TextFault). IsLeastFault purpose text f.line f.number) (sym told.0) is;

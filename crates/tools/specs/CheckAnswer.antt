@@ -27,7 +27,8 @@ pub record SaysCertified (c : Claim) (line : List ℕ) : Type 0 where
   pub said : line ≡ certified_line (length (pairs_of c.starts)) (total c.wave (pairs_of c.starts))
 
 -- this condition fails, no earlier one does, and the line names it with its split and worker
-pub record SaysRefused (condition : Condition) (c : Claim) (splits workers : List Word) (line : List ℕ) : Type 0 where
+pub record SaysRefused (condition : Condition) (c : Claim) (splits workers : List Word)
+    (line : List ℕ) : Type 0 where
   pub first : IsFirstFailure c condition
   pub said : line ≡ refused_line splits workers condition
 

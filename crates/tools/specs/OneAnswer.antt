@@ -1,4 +1,4 @@
--- A check answers each text in one way, with at most one end and one line; planning has at most one end for it.
+-- A check answers each text in one way, with at most one end and one line; planning ends in one way.
 use Rattle.std.proofs.Common.{ℕ, List, Bool, Ok, Err, ◌≡◌, ◌∙◌, refl, sym, ap, subst}
 use Rattle.price_certificate.specs.Certificate.{Claim}
 use Rattle.price_certificate.proofs.SameBars.{HaveSamePairs, barring, have_same_pairs-sym}
@@ -60,12 +60,14 @@ one_fault purpose text f g x y p q =
 
 -- at most one end of a check and one line answer a text
 pub one_check_answer : HasOneAnswer CheckAnswer (λ x y. x ≡ y)
-one_check_answer text (Ok a) (Ok b) x y g h = let one = one_answer_read text a b x y g h in (ap Ok one.0, one.1)
+one_check_answer text (Ok a) (Ok b) x y g h =
+    let one = one_answer_read text a b x y g h in (ap Ok one.0, one.1)
 one_check_answer text (Ok a) (Err f) x y g h =
     absurd (reads-faultless Checking text g.statements f.line f.number g.reads h.least)
 one_check_answer text (Err f) (Ok b) x y g h =
     absurd (reads-faultless Checking text h.statements f.line f.number h.reads g.least)
-one_check_answer text (Err f) (Err g) x y p q = let one = one_fault Checking text f g x y p q in (ap Err one.0, one.1)
+one_check_answer text (Err f) (Err g) x y p q =
+    let one = one_fault Checking text f g x y p q in (ap Err one.0, one.1)
 
 -- at most one end of planning answers a text
 pub one_plan_answer : (with_prices : Bool) → HasOneAnswer (λ text. PlanAnswer text with_prices) AnyLines

@@ -30,15 +30,16 @@ abbrev pub asked_prices : Bool → List Word → List Word → PriceList → Lis
 asked_prices true splits workers prices = price_lines splits workers prices
 asked_prices false splits workers prices = []
 
--- the prices certify the plan, which so is best in the problem; the lines have its count, its cost and its starts, and
--- the prices where they are asked for
-pub record SaysPlanned (with_prices : Bool) (c : Claim) (splits workers : List Word) (lines : List ℕ) : Type 0 where
+-- the prices certify the plan, which so is best in the problem; the lines have its count, its cost and its
+-- starts, and the prices where they are asked for
+pub record SaysPlanned (with_prices : Bool) (c : Claim) (splits workers : List Word)
+    (lines : List ℕ) : Type 0 where
   pub certifies : Certifies c
   pub best : IsBest c.wave (pairs_of c.starts)
   pub said : lines ≡ wave_line (count_of c) (cost_of c) ++ start_lines splits workers c.starts
       ++ asked_prices with_prices splits workers c.prices
 
--- starts and prices, put after the head of the text, are a text that a check certifies, where it is short enough
+-- starts and prices, put after the head of the text, are a text that a check certifies, if it is short enough
 abbrev pub ChecksAgain : List ℕ → Claim → List Word → List Word → Type 0
 ChecksAgain text c splits workers =
     length (with_plan text (lines_of_plan splits workers c.starts c.prices)) ≤ longest
@@ -66,7 +67,8 @@ abbrev pub AnyLines : List ℕ → List ℕ → Type 0
 AnyLines _ _ = ⊤
 
 -- the lines are on a plan of this problem, whose splits and workers have these names
-pub record PlansProblem (wave : Wave) (splits workers : List Word) (with_prices : Bool) (lines : List ℕ) : Type 0 where
+pub record PlansProblem (wave : Wave) (splits workers : List Word) (with_prices : Bool)
+    (lines : List ℕ) : Type 0 where
   pub starts : List (Option ℕ)
   pub prices : PriceList
   pub sized : IsPlanFor splits workers starts prices

@@ -59,7 +59,8 @@ pub trait Certifier {
         read: &PlanText<'_>,
     ) -> Result<Result<Certified, Condition>, AllocError>
         requires ready { ready self.now }
-        requires sized { HasOneSize (claim read.now.problem read.now.plan.starts read.now.prices) read.now.plan.workers }
+        requires sized { HasOneSize (claim read.now.problem read.now.plan.starts read.now.prices)
+            read.now.plan.workers }
         ensures { IfOk result (IsVerdict (claim read.now.problem read.now.plan.starts read.now.prices)) };
 }
 
@@ -136,7 +137,8 @@ fn judge(
     verdict: Result<Certified, Condition>,
 ) -> Result<(String, CheckEnd), AllocError>
     requires { IsVerdict (claim read.now.problem read.now.plan.starts read.now.prices) verdict }
-    ensures { IfOk result (λ given. Judges given.1 (claim read.now.problem read.now.plan.starts read.now.prices)
+    ensures { IfOk result (λ given. Judges given.1
+        (claim read.now.problem read.now.plan.starts read.now.prices)
         read.now.splits read.now.workers (string_bytes given.0)) }
 {
     match verdict {

@@ -33,7 +33,8 @@ pub enum Ending {
 impl Ending {
     ghost use Rattle.std.specs.Prelude.{◌≡◌};
     ghost use Rattle.std.specs.Option.{option_map};
-    ghost use Rattle.tools.specs.Ending.{ending_of_asking, ending_of_check, ending_of_plan, status_of, words_of};
+    ghost use Rattle.tools.specs.Ending.{ending_of_asking, ending_of_check, ending_of_plan};
+    ghost use Rattle.tools.specs.Ending.{status_of, words_of};
 
     pub fn of_check(end: Result<CheckEnd, ToolError>) -> Ending
         ensures { result ≡ ending_of_check end }

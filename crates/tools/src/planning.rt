@@ -24,7 +24,8 @@ pub fn plan<R: Read, W: Write>(
     writer: &mut W,
     options: PlanOptions,
 ) -> Result<PlanEnd, ToolError>
-    ensures { HasRun (λ text. PlanAnswer text options.prices) (R.remaining reader.old) (R.remaining reader.new)
+    ensures { HasRun (λ text. PlanAnswer text options.prices)
+        (R.remaining reader.old) (R.remaining reader.new)
         (W.contents writer.old) (W.contents writer.new) result }
 {
     run_command(&Planner(options), alloc, reader, writer)

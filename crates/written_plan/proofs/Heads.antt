@@ -196,7 +196,8 @@ end_word (w ∷ v ∷ ws) says = absurd says.filled.1
 end_line : (line : Line) → Says line End → line ≡ codes "end"
 end_line line says = line-one_word line (codes "end") (end_word (words_of line) says)
 
-at_end : (k : Known) (l : Line) (ls : List Line) (ss : List Statement) → IsBare k → AreNames k.splits k.workers
+at_end : (k : Known) (l : Line) (ls : List Line) (ss : List Statement) → IsBare k
+    → AreNames k.splits k.workers
     → IsFitLine k l End → AreFitLines (entered k End) ls ss → IsHeadAndEnd k (l ∷ ls) (End ∷ ss)
 at_end k l ls ss bare names first rest =
     let none = none_after (entered k End) ls ss refl rest in

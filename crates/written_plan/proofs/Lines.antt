@@ -1,4 +1,5 @@
--- The lines of a text that is put together from lines, and the words of a line that is put together from words.
+-- The lines of a text that is put together from lines, and the words of a line that is put together from
+-- words.
 use Rattle.std.proofs.Common.{ℕ, List, [], ◌∷◌, ◌++◌, ◌≡◌, ◌==◌, ◌≤◌, ◌<◌, ◌∙◌, false, refl, sym, ap, arith}
 use Rattle.std.specs.List.{All, join_with_byte}
 use Rattle.std.proofs.lemmas.Bool.Decides.{nat_tests}

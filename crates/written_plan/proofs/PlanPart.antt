@@ -1,4 +1,5 @@
--- The lines of a plan, with `plan` before and `end` after them: they fit, and what they leave in names and entries.
+-- The lines of a plan, with `plan` before and `end` after them: they fit, and what they leave in names and
+-- entries.
 use Rattle.std.proofs.Common.{ℕ, List, [], ◌∷◌, ◌++◌, ◌≡◌, ◌<◌, ◌^◌, ◌∙◌, ◌⊎◌, Option, inl, inr, true, false, codes, length, map, refl, sym, ap, subst}
 use Rattle.std.specs.List.{All, Contains, flat_map}
 use Rattle.std.proofs.lemmas.Grind.{flat_map-append}

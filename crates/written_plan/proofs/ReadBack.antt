@@ -86,13 +86,13 @@ joined-reads_back text ss wave starts prices lines h makes plan short =
     }
 
 pub written_plan_reads_back : WrittenPlanReadsBack
-written_plan_reads_back text v starts prices problem plan short =
+written_plan_reads_back text v starts prices problem fit plan short =
     let ss = problem.statements in
     let first = known_at Planning 0 [] in
     let ended : (names_after first ss).is_ended ≡ true =
     ap (λ k. k.is_ended) (known_after Planning ss) ∙ (last_line Planning text ss problem.reads).1 in
     let h : IsHeadAndEnd first (take (length ss) (lines_of text)) ss =
-    head_and_end first (take (length ss) (lines_of text)) ss bare-first names-none problem.fit ended in
+    head_and_end first (take (length ss) (lines_of text)) ss bare-first names-none (fit ss problem.reads) ended in
     let j = after_head h.head in
     let known : known_of Planning ss ≡ entered j End = ap (known_of Planning) h.whole ∙ known-before h.head in
     let splits : j.splits ≡ v.splits = sym (problem.declares.splits ∙ ap (λ k. k.splits) known) in

@@ -7,8 +7,8 @@ use Rattle.price_certificate.specs.PriceList.{PriceList}
 use Rattle.text_lines.specs.Texts.{Word}
 use Rattle.plan_lines.specs.Statements.{Statement}
 use Rattle.plan_lines.specs.Faults.{Reads, longest}
-use Rattle.plan_lines.specs.declared.purpose.Purpose.TheVariants.{Checking}
-use Rattle.plan_text.specs.Reading.{IsProblemOf}
+use Rattle.plan_lines.specs.declared.purpose.Purpose.TheVariants.{Checking, Planning}
+use Rattle.plan_text.specs.Reading.{HasFitLines, IsProblemOf}
 use Rattle.plan_text.specs.Report.{lines_of_plan}
 use Rattle.plan_text.specs.Value as value
 use Rattle.plan_text.specs.Value.{DeclaresWave}
@@ -26,8 +26,8 @@ head_of text = take (length text - length end_line) text
 abbrev pub with_plan : List ℕ → List ℕ → List ℕ
 with_plan text lines = head_of text ++ codes "plan" ++ (10 ∷ lines) ++ end_line
 
--- starts and prices for as many splits and workers as these; each start is of one of the workers, and each price can
--- be read
+-- starts and prices for as many splits and workers as these; each start is of one of the workers, and each
+-- price can be read
 pub record IsPlanFor (splits workers : List Word) (starts : List (Option ℕ)) (prices : PriceList) : Type 0 where
   pub split_starts : length starts ≡ length splits
   pub split_prices : length prices.splits ≡ length splits
@@ -44,10 +44,10 @@ pub record ReadsBack (text : List ℕ) (wave : Wave) (starts : List (Option ℕ)
   pub same_starts : value.starts statements ≡ starts
   pub same_prices : value.prices statements ≡ prices
 
--- a plan that was written for the problem of a text, put together with the head of that text, reads back as itself,
--- where the whole is no longer than a text may be
+-- a plan that was written for the problem of a text that was read, put together with the head of that text,
+-- reads back as itself, where the whole is no longer than a text may be
 abbrev pub WrittenPlanReadsBack : Type 0
 WrittenPlanReadsBack = (text : List ℕ) (v : ProblemText) (starts : List (Option ℕ)) (prices : PriceList)
-    → IsProblemOf text v → IsPlanFor v.splits v.workers starts prices
+    → IsProblemOf text v → HasFitLines Planning text → IsPlanFor v.splits v.workers starts prices
     → length (with_plan text (lines_of_plan v.splits v.workers starts prices)) ≤ longest
     → ReadsBack (with_plan text (lines_of_plan v.splits v.workers starts prices)) v.problem starts prices

@@ -1,12 +1,9 @@
-use Rattle.std.proofs.Common.{ℕ, List, [], ◌≡◌, ◌≢◌, ◌<◌, ◌∙◌, inl, inr, Bor, true, false, sym, ap, length, get_or, arith}
+use Rattle.std.proofs.Common.{ℕ, List, [], ◌≡◌, ◌≢◌, ◌<◌, ◌∙◌, inl, inr, Bor, false, true≢false, sym, ap, length, get_or, arith}
 use Rattle.std.specs.Str.{bytes_eq}
 use Rattle.std.proofs.lemmas.Bool.{cases_lt}
 use Rattle.std.proofs.lemmas.List.{get_or_default}
 use Rattle.std.proofs.lemmas.Slice.Eq.{bytes_eq-Decides}
 use Rattle.plan_lines.proofs.words.stands_before.Goals as goal
-
-no_true : true ≡ false → ⊥
-no_true e = cc
 
 abbrev nothing : Bor (List ℕ)
 nothing = record { ref_ptr = (0, 0); now = [] }
@@ -18,7 +15,7 @@ differ_at : (names : List (Bor (List ℕ))) (k i : ℕ) (d : Bor (List ℕ)) →
 differ_at names k i d k_in i_in apart same =
     let one = ap (λ r. r.now) (get_or_default names k d nothing k_in) in
     let other = ap (λ r. r.now) (get_or_default names i d nothing i_in) in
-    no_true (sym ((bytes_eq-Decides _ _).1 (sym one ∙ same ∙ other)) ∙ apart)
+    true≢false (sym ((bytes_eq-Decides _ _).1 (sym one ∙ same ∙ other)) ∙ apart)
 
 pub loop-k-preserved : goal.loop-k-preserved
 loop-k-preserved c k d lt =

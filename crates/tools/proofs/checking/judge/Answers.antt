@@ -14,7 +14,8 @@ returns-in_ok-certified-in-Ok c =
     let v = c.args.read.now in
     let made = claim v.problem v.plan.starts v.prices in
     let said = c.in-Ok.answer in
-    let is : IsCertified made said = subst (λ (r : Result Certified Condition). IsVerdict made r) c.in-Ok.is c.requires in
+    let is : IsCertified made said =
+    subst (λ (r : Result Certified Condition). IsVerdict made r) c.in-Ok.is c.requires in
     record {
       certifies = is.certifies;
       best = certified-best made is.certifies;

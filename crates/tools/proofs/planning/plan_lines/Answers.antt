@@ -21,7 +21,8 @@ returns c =
     (omega (arith, c.reward.ensures.reward, c.reward.ensures.limit))
     (elim c.if-options.branch [
       | then-options+in_ok-add_prices w ↦ rw w.lines-is
-          (with_asked c.args.options.prices v.splits v.workers w.prices.result.now best.prices _ _ _ w.if-options.true
+          (with_asked c.args.options.prices v.splits v.workers w.prices.result.now best.prices _ _ _
+          w.if-options.true
           front w.prices.ensures w.in_ok-add_prices.ensures)
       | else-options w ↦ rw w.lines-is
           (without_asked c.args.options.prices v.splits v.workers best.prices _ _ w.if-options.false front)

@@ -1,8 +1,5 @@
-use Rattle.std.proofs.Common.{◌∙◌, sym, true, false, ◌≡◌}
+use Rattle.std.proofs.Common.{◌∙◌, sym, true≢false}
 use Rattle.plan_lines.proofs.known.KnownNames.is_priced.Goals as goal
-
-no_true : true ≡ false → ⊥
-no_true e = cc
 
 pub returns-then-all_in : goal.returns-then-all_in
 returns-then-all_in c =
@@ -12,4 +9,4 @@ returns-then-all_in c =
 pub returns-else-all_in : goal.returns-else-all_in
 returns-else-all_in c =
     rw (← c.self.view_is, c.in-Checking.is)
-    (λ t. absurd (no_true (sym t ∙ c.if-all_in.false)), λ h. c.all_in.ensures.1 h.0)
+    (λ t. absurd (true≢false (sym t ∙ c.if-all_in.false)), λ h. c.all_in.ensures.1 h.0)

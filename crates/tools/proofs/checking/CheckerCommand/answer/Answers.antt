@@ -5,5 +5,6 @@ use Rattle.tools.proofs.checking.CheckerCommand.answer.Goals as goal
 
 pub returns-in_ok-line-in-Err : goal.returns-in_ok-line-in-Err
 returns-in_ok-line-in-Err g c =
-    tells_least Checking c.args.text.now c.in-Err.error c.in_ok-line-in-Err.fault (string_bytes c.in_ok-line-in-Err.line)
+    tells_least Checking c.args.text.now c.in-Err.error c.in_ok-line-in-Err.fault
+    (string_bytes c.in_ok-line-in-Err.line)
     c.in-Err.ensures.err c.in_ok-line-in-Err.ensures
