@@ -1,6 +1,6 @@
 -- Room for one more part, one more entry in its part, and what the entries of a part are.
 use Rattle.std.proofs.Common.{◌≡◌, ◌≢◌, ℕ, ◌+◌, ◌<◌, Bool, true, false, cond, List, [], ◌∷◌, ◌++◌, length, get_or, set, map, ⊎_elim, sym, ap, ◌∙◌, subst, arith, append-nil, append_assoc, Vec, eqb, eq-eqb}
-use Rattle.std.specs.Prelude.{◌↔◌, ◌==◌, Any, Contains, filter}
+use Rattle.std.specs.Prelude.{◌↔◌, ◌==◌, Any, Contains}
 use Rattle.std.specs.declared.alloc.Global.{Global}
 use Rattle.std.proofs.lemmas.Bool.{cases_lt, eqb-true}
 use Rattle.std.proofs.lemmas.Bool.Decides.{eqb_tells}
