@@ -64,6 +64,10 @@ for program in "$@"; do
     "$program" check < "$text" > /dev/full 2> "$room/err" || status=$?
     : > "$room/out"
     expect "an output that takes nothing" "$status" 4 nothing "mrjob: write fault"
+    status=0
+    "$program" --help > /dev/full 2> "$room/err" || status=$?
+    : > "$room/out"
+    expect "help to an output that takes nothing" "$status" 4 nothing "mrjob: write fault"
 done
 echo "$passed passed, $failed failed"
 [ "$failed" = 0 ] && [ "$passed" != 0 ]
