@@ -1,6 +1,7 @@
 -- arcs in a list, sums at a node, and depths along a way
 pub mod Arcs
 pub mod Sums
+pub mod Tables
 pub mod Ways
 -- each pending split sends one unit
 pub mod Pending
@@ -10,3 +11,4 @@ pub mod Certified
 -- units are handed on
 pub mod Units
 pub mod Places
+pub mod Handed

@@ -54,7 +54,7 @@ given_none [] flows = refl
 given_none (a ∷ arcs) [] = refl
 given_none (a ∷ arcs) (f ∷ flows) = let rest = given_none arcs flows in rw (le-ltb a.from 0 (omega arith)) (omega arith)
 
-part_more : (u n f : ℕ) → cond (ltb u (suc n)) f 0 ≡ cond (ltb u n) f 0 + cond (eqb u n) f 0
+pub part_more : (u n f : ℕ) → cond (ltb u (suc n)) f 0 ≡ cond (ltb u n) f 0 + cond (eqb u n) f 0
 part_more u n f = elim (cases_lt u n) [
   | inl l ↦ rw (lt-ltb u n l, lt-ltb u (suc n) (omega arith), ne_eqb u n (λ e. omega arith)) (omega arith)
   | inr past ↦ elim (cases_eq u n) [

@@ -3,7 +3,9 @@ pub mod Pending
 pub mod Ways
 pub mod Networks
 pub mod Building
+pub mod Tables
 -- what is read off its flows
 pub mod Prices
 pub mod Pricing
+pub mod Layers
 pub mod HandOn

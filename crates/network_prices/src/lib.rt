@@ -7,10 +7,12 @@
 //! (`split_prices`). Stands on the flows of `augmenting_paths` and on `price_certificate`.
 #![tactic(auto)]
 
-mod handing;
+mod decomposing;
 mod laws;
+mod reading;
 mod splits;
 
-pub use handing::hand_all;
+pub use decomposing::decompose_flow;
 pub use laws::prices_certify;
+pub use reading::read_plan;
 pub use splits::{pending_count, split_prices};

@@ -6,7 +6,7 @@ use node_ids::{SplitNo, WorkerNo};
 use std::alloc::Global;
 use std::process::Abort;
 use std::test::Fail;
-use wave_planner::{NetworkKind, Planned, build_direct, plan, plan_with};
+use wave_planner::{NetworkKind, Planned, plan, plan_with};
 use wave_problem::Problem;
 
 /// That the plan over a network is certified, with this count and cost.
@@ -134,6 +134,6 @@ fn one_host_by_racks(rt: HostRuntime) -> Result<(), Fail> {
 #[test]
 fn one_host_by_pairs(rt: HostRuntime) -> Result<(), Fail> {
     let problem = one_host(&rt, rt.alloc())?;
-    assert_eq!(rt; build_direct(rt.alloc(), &problem)?.arcs(), 66_626);
+    assert_eq!(rt; direct_network::build(rt.alloc(), &problem)?.arcs(), 66_626);
     assert_certified(&rt, rt.alloc(), &problem, NetworkKind::Direct, ONE_HOST)
 }

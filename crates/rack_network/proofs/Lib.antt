@@ -5,6 +5,6 @@ pub mod RackWays
 pub mod Adding
 pub mod Steps
 -- the plan is read off
-pub mod Ends
+pub mod Layers
 -- units are shipped
 pub mod Shipping

@@ -5,5 +5,4 @@ pub mod Racks
 pub mod Build
 -- its flow, and what is read off it
 pub mod Shipped
-pub mod Reading
 pub mod Pricing

@@ -30,8 +30,11 @@ cluster_node wave = length wave.splits
 abbrev pub rack_node : Wave → ℕ → ℕ
 rack_node wave r = length wave.splits + 1 + r
 
+abbrev pub first_worker : Wave → ℕ
+first_worker wave = length wave.splits + 1 + wave.tree.racks
+
 abbrev pub worker_node : Wave → ℕ → ℕ
-worker_node wave w = length wave.splits + 1 + wave.tree.racks + w
+worker_node wave w = first_worker wave + w
 
 abbrev pub unstarted_node : Wave → ℕ
 unstarted_node wave = length wave.splits + 1 + wave.tree.racks + length wave.workers

@@ -95,7 +95,7 @@ impl RackArc {
     }
 }
 
-/// The node so many levels above a worker.
+// The node so many levels above a worker.
 fn node_above(problem: &Problem, level: u8, worker: WorkerNo) -> RackNode
     requires level { level < LEVELS }
     requires worker { worker < length problem.now.workers }
@@ -111,7 +111,7 @@ fn node_above(problem: &Problem, level: u8, worker: WorkerNo) -> RackNode
     }
 }
 
-/// The free slots of the live workers of a rack.
+// The free slots of the live workers of a rack.
 fn slots_below(problem: &Problem, rack: RackNo) -> u64
     ensures sum { result ≡ slots_below problem.now (length problem.now.workers) rack }
     ensures limit { result ≤ 4096 }

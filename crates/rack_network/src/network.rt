@@ -35,7 +35,7 @@ pub fn build(alloc: Global, problem: &Problem) -> Result<Network<RackLayout>, Al
     Ok(network)
 }
 
-/// Adds the arcs that leave splits.
+// Adds the arcs that leave splits.
 fn add_splits(network: &mut Network<RackLayout>, problem: &Problem) -> Result<(), AllocError>
     requires { IsBuilt problem.now (at_split 0) (cluster_node problem.now) 0 network.old }
     ensures { OnOk result (IsBuilt problem.now (at_split (length problem.now.splits)) (cluster_node problem.now)
@@ -51,7 +51,7 @@ fn add_splits(network: &mut Network<RackLayout>, problem: &Problem) -> Result<()
     Ok(())
 }
 
-/// Adds the arcs that leave a pending split.
+// Adds the arcs that leave a pending split.
 fn add_split(
     network: &mut Network<RackLayout>,
     problem: &Problem,
@@ -72,7 +72,7 @@ fn add_split(
     Ok(())
 }
 
-/// Adds all of them but the one to `Unstarted`.
+// Adds all of them but the one to `Unstarted`.
 fn add_ways(
     network: &mut Network<RackLayout>,
     problem: &Problem,
@@ -92,7 +92,7 @@ fn add_ways(
     }
 }
 
-/// Whether a pair of the split is barred.
+// Whether a pair of the split is barred.
 fn has_bars(problem: &Problem, split: SplitNo) -> bool
     requires { split < length problem.now.splits }
     ensures { IsTrue result ↔ HasBars problem.now split }
@@ -105,7 +105,7 @@ fn has_bars(problem: &Problem, split: SplitNo) -> bool
     false
 }
 
-/// Adds the arcs from a split with barred pairs to workers.
+// Adds the arcs from a split with barred pairs to workers.
 fn add_pairs(
     network: &mut Network<RackLayout>,
     problem: &Problem,
@@ -129,7 +129,7 @@ fn add_pairs(
     Ok(())
 }
 
-/// Adds the arcs from a pending split without barred pairs to the nodes above its live holders.
+// Adds the arcs from a pending split without barred pairs to the nodes above its live holders.
 fn add_reaches(
     network: &mut Network<RackLayout>,
     problem: &Problem,
@@ -149,7 +149,7 @@ fn add_reaches(
     Ok(())
 }
 
-/// Adds those to the nodes of one level.
+// Adds those to the nodes of one level.
 fn add_level(
     network: &mut Network<RackLayout>,
     problem: &Problem,
@@ -178,7 +178,7 @@ fn add_level(
     Ok(())
 }
 
-/// Whether a holder lives and, where its own node is meant, has a free slot.
+// Whether a holder lives and, where its own node is meant, has a free slot.
 fn is_reached(problem: &Problem, level: u8, holder: WorkerNo) -> bool
     requires { holder < length problem.now.workers }
     ensures { IsTrue result ↔ (((worker_at problem.now holder).live ≡ true) × (level ≡ 0 → 0 < (worker_at problem.now holder).free)) }
@@ -186,7 +186,7 @@ fn is_reached(problem: &Problem, level: u8, holder: WorkerNo) -> bool
     problem.is_live(holder) && (level > 0 || problem.free(holder) > 0)
 }
 
-/// Whether an earlier live holder stands below the same node of a level.
+// Whether an earlier live holder stands below the same node of a level.
 fn is_met(problem: &Problem, holders: &[WorkerNo], i: usize, level: u8) -> bool
     requires known { All (λ h. h < length problem.now.workers) holders.now }
     requires i { i < length holders.now }
@@ -201,7 +201,7 @@ fn is_met(problem: &Problem, holders: &[WorkerNo], i: usize, level: u8) -> bool
     false
 }
 
-/// Whether two workers stand below one node of a level.
+// Whether two workers stand below one node of a level.
 fn is_below_one(problem: &Problem, level: u8, a: WorkerNo, b: WorkerNo) -> bool
     requires level { level < LEVELS }
     requires a { a < length problem.now.workers }
@@ -215,7 +215,7 @@ fn is_below_one(problem: &Problem, level: u8, a: WorkerNo, b: WorkerNo) -> bool
     }
 }
 
-/// Adds the arcs from `Cluster` to racks.
+// Adds the arcs from `Cluster` to racks.
 fn add_branches(network: &mut Network<RackLayout>, problem: &Problem) -> Result<(), AllocError>
     requires { IsBuilt problem.now (at_split (length problem.now.splits)) (cluster_node problem.now)
         (257 * length problem.now.splits) network.old }
@@ -229,7 +229,7 @@ fn add_branches(network: &mut Network<RackLayout>, problem: &Problem) -> Result<
     Ok(())
 }
 
-/// Adds the arcs from racks to workers.
+// Adds the arcs from racks to workers.
 fn add_feeds(network: &mut Network<RackLayout>, problem: &Problem) -> Result<(), AllocError>
     requires { IsBuilt problem.now (above_sink (length problem.now.splits) problem.now.tree.racks 0 0)
         (rack_node problem.now 0) (257 * length problem.now.splits + problem.now.tree.racks) network.old }
@@ -251,7 +251,7 @@ fn add_feeds(network: &mut Network<RackLayout>, problem: &Problem) -> Result<(),
     Ok(())
 }
 
-/// Adds the arcs from workers to the sink.
+// Adds the arcs from workers to the sink.
 fn add_slots(network: &mut Network<RackLayout>, problem: &Problem) -> Result<(), AllocError>
     requires { IsBuilt problem.now
         (above_sink (length problem.now.splits) problem.now.tree.racks (length problem.now.workers) 0)
@@ -271,7 +271,7 @@ fn add_slots(network: &mut Network<RackLayout>, problem: &Problem) -> Result<(),
     Ok(())
 }
 
-/// Adds one arc.
+// Adds one arc.
 fn add(
     network: &mut Network<RackLayout>,
     problem: &Problem,

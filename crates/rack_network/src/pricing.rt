@@ -32,7 +32,7 @@ pub fn prices_of(
     Ok(Prices::from_lists(splits, workers))
 }
 
-/// The price of a slot of each worker.
+// The price of a slot of each worker.
 fn slot_prices(alloc: Global, problem: &Problem, depths: &[u64]) -> Result<Vec<u64>, AllocError>
     requires nodes { length depths.now
         ≡ length problem.now.splits + problem.now.tree.racks + length problem.now.workers + 3 }

@@ -1,16 +1,11 @@
 //! Plans a wave.
-ghost use Rattle.std.specs.Prelude.{◌≡◌, map, length, IfOk};
+ghost use Rattle.std.specs.Prelude.{◌≡◌, length, IfOk};
 ghost use Rattle.wave_problem.specs.Assignment.{pairs_of, total, IsBest};
 ghost use Rattle.price_certificate.specs.Certificate.{claim, Certifies, HasOneSize};
-ghost use Rattle.wave_planner.specs.declared.layout.DirectNode.TheVariants.{Split};
-ghost use Rattle.network_prices.specs.Pending.{pending_splits};
 ghost use Rattle.wave_planner.specs.Planned.{WasCertified};
 
-use crate::{DirectNode, build_direct, plan_of, prices_of};
-use augmenting_paths::saturate;
 use certificate_checker::{Certified, certify};
 use flow_network::NetworkKind;
-use node_ids::SplitNo;
 use price_certificate::Prices;
 use std::alloc::{AllocError, Global};
 use std::marker::Model;
@@ -106,7 +101,7 @@ pub fn plan_with(alloc: Global, problem: &Problem, kind: NetworkKind) -> Result<
     }
 }
 
-/// A plan over a network of this kind, with prices that certify it.
+// A plan over a network of this kind, with prices that certify it.
 fn priced_plan_over(
     alloc: Global,
     problem: &Problem,
@@ -116,35 +111,7 @@ fn priced_plan_over(
     ensures certifies { IfOk result (λ pair. Certifies (claim problem.now pair.0.starts pair.1)) }
 {
     match kind {
-        NetworkKind::Direct => priced_plan(alloc, problem),
+        NetworkKind::Direct => direct_network::priced_plan(alloc, problem),
         NetworkKind::Racks => rack_network::priced_plan(alloc, problem),
     }
-}
-
-/// A plan over the direct network, with prices that certify it.
-fn priced_plan(alloc: Global, problem: &Problem) -> Result<(Plan, Prices), AllocError>
-    ensures sizes { IfOk result (λ pair. HasOneSize (claim problem.now pair.0.starts pair.1) pair.0.workers) }
-    ensures certifies { IfOk result (λ pair. Certifies (claim problem.now pair.0.starts pair.1)) }
-{
-    let mut network = build_direct(alloc, problem)?;
-    network.limits();
-    let sources = pending_nodes(alloc, problem)?;
-    let potentials = saturate(alloc, &mut network, &sources, DirectNode::Sink)?;
-    let plan = plan_of(alloc, problem, &network)?;
-    let prices = prices_of(alloc, problem, &plan, &potentials)?;
-    Ok((plan, prices))
-}
-
-/// The nodes of the pending splits, rising.
-fn pending_nodes(alloc: Global, problem: &Problem) -> Result<Vec<DirectNode>, AllocError>
-    ensures { IfOk result (λ nodes. nodes.items ≡ map Split (pending_splits problem.now)) }
-{
-    let mut nodes = Vec::new(alloc);
-    for i in 0..problem.splits() {
-        let split = SplitNo::new(i as u16);
-        if problem.is_pending(split) {
-            nodes.push(DirectNode::Split(split))?;
-        }
-    }
-    Ok(nodes)
 }

@@ -1,53 +1,53 @@
-use Rattle.std.proofs.Common.{◌≡◌, ℕ, List, length, subst, sym, ap, ◌∙◌, arith}
-use Rattle.std.proofs.lemmas.List.{with_items_is}
+use Rattle.std.proofs.Common.{◌≡◌, ◌+◌, ℕ, List, [], ◌∷◌, length, sym, ap, ◌∙◌, subst, arith}
 use Rattle.std.proofs.lemmas.Result.{IfOk-weaker}
+use Rattle.rack_tree.specs.Tree.{Tree}
 use Rattle.flow_network.specs.declared.arcs.FlowArc.{FlowArc}
+use Rattle.augmenting_paths.specs.Shipping.{IsShipment}
+use Rattle.network_prices.specs.Layers.{nodes_from, IsLayered}
+use Rattle.network_prices.specs.Pending.{pending_splits}
 use Rattle.network_prices.specs.Prices.{IsPlanOf}
-use Rattle.network_prices.specs.HandOn.{CanHandOn, IsHandedOn}
-use Rattle.rack_network.specs.declared.layout.RackLayout.{RackLayout}
-use Rattle.rack_network.specs.Racks.{rack_nodes, sink_node}
-use Rattle.rack_network.specs.Reading.{AreFirst, AreStartsTo}
-use Rattle.rack_network.proofs.RackWays.{wave_network}
-use Rattle.rack_network.proofs.Ends.{can_hand_on, plan_is}
+use Rattle.rack_network.specs.Racks.{first_worker, rack_node, cluster_node, rack_of, rack_nodes, sink_node}
+use Rattle.rack_network.proofs.Layers.{is_layered}
 use Rattle.rack_network.proofs.reading.plan_of.Goals as goal
 
-pub hand_all-requires : goal.hand_all-requires
-hand_all-requires c =
+pub read_plan-requires-clause-layers : goal.read_plan-requires-clause-layers
+read_plan-requires-clause-layers c =
     let wave = c.args.problem.now in
-    let arcs = c.args.network.now.arcs in
-    let flows = c.args.network.now.flows in
-    let first : AreFirst wave c.deref_mut.result.now = subst (AreFirst wave) (sym c.deref_mut.ensures.value) c.in_ok-places.ensures in
-    let can = can_hand_on wave arcs flows c.deref_mut.result.now c.requires.arcs (wave_network wave arcs c.requires.arcs).no_entry c.requires.shipped first in
-    let splits = ap (λ (l : RackLayout). l.splits) c.layout.ensures in
-    let racks = ap (λ (l : RackLayout). l.racks) c.layout.ensures in
-    let workers = ap (λ (l : RackLayout). l.workers) c.layout.ensures in
-    let sized = c.requires.layout in
-    let sink : sink_node wave ≡ c.index-sink.result = (let is = c.index-sink.ensures in let a = sized.splits in let b = sized.racks in let d = sized.workers in omega arith) in
-    subst (λ (n : ℕ). CanHandOn c.all_arcs.result.now c.all_flows.result.now n c.deref_mut.result.now) sink
-    (subst (λ (xs : List FlowArc). CanHandOn xs c.all_flows.result.now (sink_node wave) c.deref_mut.result.now) (sym c.all_arcs.ensures)
-    (subst (λ (fs : List ℕ). CanHandOn arcs fs (sink_node wave) c.deref_mut.result.now) (sym c.all_flows.ensures) can))
+    let tree = ap (λ (t : Tree). t.racks) c.tree.ensures.tree in
+    let count : first_worker wave ≡ c.splits.result + 1 + c.racks.result =
+    (let splits = c.splits.ensures.count in let racks = c.racks.ensures.count in omega arith) in
+    subst (λ (n : ℕ). IsLayered wave n c.all_arcs.result.now) count
+    (subst (λ (arcs : List FlowArc). IsLayered wave (first_worker wave) arcs) (sym c.all_arcs.ensures)
+    (is_layered wave c.args.network.now.arcs c.requires.arcs))
+
+pub read_plan-requires-clause-shipped : goal.read_plan-requires-clause-shipped
+read_plan-requires-clause-shipped c =
+    let wave = c.args.problem.now in
+    let tree = ap (λ (t : Tree). t.racks) c.tree.ensures.tree in
+    let count : sink_node wave ≡ c.splits.result + 1 + c.racks.result + length wave.workers + 1 =
+    (let splits = c.splits.ensures.count in let racks = c.racks.ensures.count in omega arith) in
+    subst (λ (n : ℕ). IsShipment c.all_arcs.result.now (pending_splits wave) n c.all_flows.result.now) count
+    (subst (λ (arcs : List FlowArc). IsShipment arcs (pending_splits wave) (sink_node wave) c.all_flows.result.now) (sym c.all_arcs.ensures)
+    (subst (λ (flows : List ℕ). IsShipment c.args.network.now.arcs (pending_splits wave) (sink_node wave) flows) (sym c.all_flows.ensures)
+    c.requires.shipped))
 
 pub returns-clause-read : goal.returns-clause-read
 returns-clause-read c =
     let wave = c.args.problem.now in
     let arcs = c.args.network.now.arcs in
     let flows = c.args.network.now.flows in
-    let first : AreFirst wave c.deref_mut.result.now = subst (AreFirst wave) (sym c.deref_mut.ensures.value) c.in_ok-places.ensures in
-    let splits = ap (λ (l : RackLayout). l.splits) c.layout.ensures in
-    let racks = ap (λ (l : RackLayout). l.racks) c.layout.ensures in
-    let workers = ap (λ (l : RackLayout). l.workers) c.layout.ensures in
-    let sized = c.requires.layout in
-    let sink : c.index-sink.result ≡ sink_node wave = (let is = c.index-sink.ensures in let a = sized.splits in let b = sized.racks in let d = sized.workers in omega arith) in
-    let state : IsHandedOn arcs flows (sink_node wave) c.deref_mut.result.now c.hand_all.new.places (length arcs) =
-    subst (λ (n : ℕ). IsHandedOn arcs flows n c.deref_mut.result.now c.hand_all.new.places (length arcs)) sink
-    (subst (λ (fs : List ℕ). IsHandedOn arcs fs c.index-sink.result c.deref_mut.result.now c.hand_all.new.places (length arcs)) c.all_flows.ensures
-    (subst (λ (xs : List FlowArc). IsHandedOn xs c.all_flows.result.now c.index-sink.result c.deref_mut.result.now c.hand_all.new.places (length xs)) c.all_arcs.ensures c.hand_all.ensures)) in
-    let size = c.hand_all.ensures.size in
-    let len = c.deref_mut.ensures.len in
-    let there : c.deref.result.now ≡ c.hand_all.new.places = c.deref.ensures.value ∙ with_items_is c.in_ok-places.places c.hand_all.new.places (size ∙ len) in
-    IfOk-weaker c.starts_of.result
-    (λ plan. AreStartsTo wave c.deref.result.now (length wave.splits) plan)
+    let above : ℕ → List ℕ = λ w. rack_node wave (rack_of wave w) ∷ cluster_node wave ∷ [] in
+    let tree = ap (λ (t : Tree). t.racks) c.tree.ensures.tree in
+    let first : ℕ = c.splits.result + 1 + c.racks.result in
+    let count : first ≡ first_worker wave =
+    (let splits = c.splits.ensures.count in let racks = c.racks.ensures.count in omega arith) in
+    IfOk-weaker c.read_plan.result
+    (λ plan. (above : ℕ → List ℕ)
+    → IsPlanOf wave (nodes_from wave first above) c.all_arcs.result.now c.all_flows.result.now plan.starts)
     (λ plan. IsPlanOf wave (rack_nodes wave) arcs flows plan.starts)
-    (λ plan read. plan_is wave arcs flows c.deref_mut.result.now c.requires.arcs (wave_network wave arcs c.requires.arcs).no_entry c.requires.shipped first c.hand_all.new.places plan state
-    (subst (λ (xs : List ℕ). AreStartsTo wave xs (length wave.splits) plan) there read))
-    c.starts_of.ensures
+    (λ plan read.
+    subst (λ (n : ℕ). IsPlanOf wave (nodes_from wave n above) arcs flows plan.starts) count
+    (subst (λ (fs : List ℕ). IsPlanOf wave (nodes_from wave first above) arcs fs plan.starts) c.all_flows.ensures
+    (subst (λ (xs : List FlowArc). IsPlanOf wave (nodes_from wave first above) xs c.all_flows.result.now plan.starts) c.all_arcs.ensures
+    (read above))))
+    c.read_plan.ensures.read

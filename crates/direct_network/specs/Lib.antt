@@ -1,0 +1,7 @@
+-- the network: its nodes and its arcs
+pub mod Layout
+pub mod Places
+pub mod Direct
+pub mod Build
+-- what is read off its flow
+pub mod Pricing

@@ -1,0 +1,133 @@
+//! Builds the direct network of a problem.
+ghost use Rattle.std.specs.Prelude.{◌≡◌, ℕ, ◌+◌, ◌*◌, ◌<◌, ◌≤◌, ◌^◌, ◌∷◌, ◌++◌, [], length, IfOk, OnOk, slice_index};
+ghost use Rattle.wave_problem.specs.Wave.{reward};
+ghost use Rattle.wave_problem.specs.declared.TheConstants.{MAX_SPLITS};
+ghost use Rattle.direct_network.specs.declared.arcs.TheConstants.{MAX_ARCS};
+ghost use Rattle.direct_network.specs.Direct.{arc_of, worker_node, IsDirect, IsSized, IsWanted};
+ghost use Rattle.direct_network.specs.Build.{IsBuilt};
+
+use crate::{DirectArc, DirectLayout};
+use flow_network::{NetError, Network};
+use node_ids::{SplitNo, WorkerNo};
+use std::alloc::{AllocError, Global};
+use wave_problem::{Near, Problem};
+
+/// The direct network of a problem, without flow: split by split the arcs to workers and to `Unstarted`, then
+/// those of the workers, then the last.
+pub fn build(alloc: Global, problem: &Problem) -> Result<Network<DirectLayout>, AllocError>
+    ensures layout { IfOk result (λ network. IsSized problem.now network.layout) }
+    ensures arcs { IfOk result (λ network. IsDirect problem.now network.arcs) }
+    ensures empty { IfOk result (λ network. (k : ℕ) → slice_index network.flows k ≡ 0) }
+    ensures limit { IfOk result (λ network. length network.arcs ≤ MAX_ARCS) }
+{
+    let layout = DirectLayout {
+        splits: problem.splits() as u16,
+        workers: problem.workers() as u16,
+    };
+    let mut network = Network::new(alloc, layout)?;
+    add_splits(&mut network, problem)?;
+    add_workers(&mut network, problem)?;
+    add(&mut network, problem, DirectArc::Rest, 0)?;
+    Ok(network)
+}
+
+// Adds the arcs that leave splits.
+fn add_splits(network: &mut Network<DirectLayout>, problem: &Problem) -> Result<(), AllocError>
+    requires { IsBuilt problem.now 0 0 0 network.old }
+    ensures { OnOk result
+        (IsBuilt problem.now (length problem.now.splits) 0 (257 * length problem.now.splits) network.new) }
+{
+    let worth = problem.reward();
+    for i in 0..problem.splits() {
+        add_split(network, problem, SplitNo::new(i as u16), worth)?;
+    }
+    Ok(())
+}
+
+// Adds the arcs that leave a split.
+fn add_split(
+    network: &mut Network<DirectLayout>,
+    problem: &Problem,
+    split: SplitNo,
+    worth: u64,
+) -> Result<(), AllocError>
+    requires split { split < length problem.now.splits }
+    requires few { split < MAX_SPLITS }
+    requires worth { worth ≡ reward problem.now }
+    requires small { worth < 2 ^ 39 }
+    requires built { IsBuilt problem.now split 0 (257 * split) network.old }
+    ensures built { OnOk result (IsBuilt problem.now (split + 1) 0 (257 * split + 257) network.new) }
+{
+    add_pairs(network, problem, split)?;
+    if problem.is_pending(split) {
+        add(network, problem, DirectArc::Wait(split), worth)?;
+    }
+    Ok(())
+}
+
+// Adds the arcs from a split to workers.
+fn add_pairs(
+    network: &mut Network<DirectLayout>,
+    problem: &Problem,
+    split: SplitNo,
+) -> Result<(), AllocError>
+    requires split { split < length problem.now.splits }
+    requires few { split < MAX_SPLITS }
+    requires built { IsBuilt problem.now split 0 (257 * split) network.old }
+    ensures built { OnOk result
+        (IsBuilt problem.now split (worker_node problem.now (length problem.now.workers)) (257 * split + 256) network.new) }
+{
+    let near = Near::new(problem, split);
+    for i in 0..problem.workers() {
+        let worker = WorkerNo::new(i as u16);
+        if near.admissible(worker) {
+            let cost = near.cost(worker).unwrap_or(0);
+            add(network, problem, DirectArc::Pair(split, worker), cost)?;
+        }
+    }
+    Ok(())
+}
+
+// Adds the arcs that leave workers.
+fn add_workers(network: &mut Network<DirectLayout>, problem: &Problem) -> Result<(), AllocError>
+    requires { IsBuilt problem.now (length problem.now.splits) 0 (257 * length problem.now.splits) network.old }
+    ensures { OnOk result (IsBuilt problem.now (worker_node problem.now (length problem.now.workers)) 0
+        (257 * length problem.now.splits + length problem.now.workers) network.new) }
+{
+    let _splits = problem.splits();
+    for i in 0..problem.workers() {
+        add(
+            network,
+            problem,
+            DirectArc::Slot(WorkerNo::new(i as u16)),
+            0,
+        )?;
+    }
+    Ok(())
+}
+
+// Adds one arc.
+fn add(
+    network: &mut Network<DirectLayout>,
+    problem: &Problem,
+    arc: DirectArc,
+    cost: u64,
+) -> Result<(), AllocError>
+    requires layout { IsSized problem.now network.old.layout }
+    requires wanted { IsWanted problem.now arc }
+    requires cost { cost ≡ (arc_of problem.now arc).cost }
+    requires small { cost < 2 ^ 39 }
+    requires room { length network.old.arcs < MAX_ARCS }
+    ensures layout { OnOk result (network.new.layout ≡ network.old.layout) }
+    ensures arcs { OnOk result (network.new.arcs ≡ network.old.arcs ++ arc_of problem.now arc ∷ []) }
+    ensures flows { OnOk result (network.new.flows ≡ network.old.flows ++ 0 ∷ []) }
+{
+    let capacity = arc.capacity(problem);
+    let start = arc.start();
+    let end = arc.end();
+    match network.add_arc(start, end, capacity, cost) {
+        Ok(_) => Ok(()),
+        Err(NetError::Memory) => Err(AllocError),
+        Err(NetError::ArcLimit) => unreachable!(),
+    }
+}

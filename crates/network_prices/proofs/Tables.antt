@@ -1,0 +1,271 @@
+-- The rows of a table are built arc by arc.
+use Rattle.std.proofs.Common.{◌≡◌, ℕ, zero, suc, ◌+◌, ◌<◌, ◌≤◌, cond, eqb, ltb, List, [], ◌∷◌, ◌++◌, length, get_or, refl, sym, ap, ◌∙◌, subst, ◌⊎◌, inl, inr, arith}
+use Rattle.std.proofs.lemmas.Bool.{cases_lt, cases_eq, eq-eqb, ne_eqb, le-ltb, lt-ltb}
+use Rattle.std.proofs.lemmas.List.{length-append}
+use Rattle.flow_network.specs.declared.arcs.FlowArc.{FlowArc}
+use Rattle.flow_network.specs.Flow.{Flow}
+use Rattle.flow_network.specs.Flows.{arc_at}
+use Rattle.flow_network.specs.Laws.{outroom}
+use Rattle.wave_problem.specs.Sums.{sum_below}
+use Rattle.network_prices.specs.Networks.{Stands}
+use Rattle.network_prices.specs.Building.{IsEmptyWithin, IsAdded}
+use Rattle.network_prices.specs.Tables.{IsBefore, AreRising, AreRows, AreRowsTo, IsBuiltTo}
+use Rattle.network_prices.proofs.Arcs.{at_old, at_new, stands_on, stands_new, each_push, add_empty, more_room}
+use Rattle.network_prices.proofs.Sums.{part_more}
+
+-- the place u, x is no later than v, y
+abbrev pub NoLater : ℕ → ℕ → ℕ → ℕ → Type 0
+NoLater u x v y = (u < v) ⊎ ((u ≡ v) × (x ≤ y))
+
+later : (a : FlowArc) (u x v y : ℕ) → NoLater u x v y → IsBefore a u x → IsBefore a v y
+later a u x v y (inl m) (inl l) = inl (omega arith)
+later a u x v y (inl m) (inr e) = let row = e.0 in inl (omega arith)
+later a u x v y (inr m) (inl l) = let same = m.0 in inl (omega arith)
+later a u x v y (inr m) (inr e) =
+    let same = m.0 in let more = m.1 in let row = e.0 in let less = e.1 in inr (omega arith, omega arith)
+
+before_past : (a b : FlowArc) (v y : ℕ) → IsBefore a b.from b.to → IsBefore b v y → IsBefore a v y
+before_past a b v y first (inl l) = later a b.from b.to v y (inl l) first
+before_past a b v y first (inr e) = let less = e.1 in later a b.from b.to v y (inr (e.0, omega arith)) first
+
+rising_push : (arcs : List FlowArc) (a : FlowArc) → AreRising arcs
+    → ((k : ℕ) → k < length arcs → IsBefore (arc_at arcs k) a.from a.to) → AreRising (arcs ++ a ∷ [])
+rising_push arcs a rising before j k less l =
+    let size = length-append arcs (a ∷ []) in
+    subst (λ (b : FlowArc). IsBefore b (arc_at (arcs ++ a ∷ []) k).from (arc_at (arcs ++ a ∷ []) k).to)
+    (sym (at_old arcs a j (omega arith)))
+    (elim (cases_lt k (length arcs)) [
+      | inl m ↦
+          subst (λ (b : FlowArc). IsBefore (arc_at arcs j) b.from b.to) (sym (at_old arcs a k m)) (rising j k less m)
+      | inr m ↦
+          (let last : length arcs ≡ k = omega arith in
+          let new : a ≡ arc_at (arcs ++ a ∷ []) k = sym (at_new arcs a) ∙ ap (arc_at (arcs ++ a ∷ [])) last in
+          subst (λ (b : FlowArc). IsBefore (arc_at arcs j) b.from b.to) new (before j (omega arith)))
+    ])
+
+module _ {D : Type 0} (wanted : D → Type 0) (arc : D → FlowArc) where
+  abbrev IsOf : FlowArc → Type 0
+  IsOf a = (d : D) × wanted d × (a ≡ arc d)
+
+  nothing : AreRowsTo wanted arc 0 0 []
+  nothing = record {
+    sound = λ k l. absurd (omega arith);
+    complete = λ d want before. absurd (elim before [ inl l ↦ omega arith | inr e ↦ (let l = e.1 in omega arith) ]);
+    rising = λ j k less l. absurd (omega arith);
+    before = λ k l. absurd (omega arith);
+  }
+
+  -- an arc of the table is the only one between two places
+  take : (u x v y : ℕ) (d : D) (arcs : List FlowArc) → wanted d → NoLater u x (arc d).from (arc d).to
+      → IsBefore (arc d) v y
+      → ((e : D) → wanted e → IsBefore (arc e) v y → IsBefore (arc e) u x ⊎ (arc e ≡ arc d))
+      → AreRowsTo wanted arc u x arcs → AreRowsTo wanted arc v y (arcs ++ arc d ∷ [])
+  take u x v y d arcs want past here between rows = record {
+    sound = each_push IsOf arcs (arc d) rows.sound (d, want, refl);
+    complete = λ e wish before. elim (between e wish before) [
+      | inl was ↦ stands_on arcs (arc d) (arc e) (rows.complete e wish was)
+      | inr same ↦ subst (Stands (arcs ++ arc d ∷ [])) (sym same) (stands_new arcs (arc d))
+    ];
+    rising = rising_push arcs (arc d) rows.rising first;
+    before = each_push (λ a. IsBefore a v y) arcs (arc d)
+        (λ k l. before_past (arc_at arcs k) (arc d) v y (first k l) here) here;
+  }
+    where
+      first : (k : ℕ) → k < length arcs → IsBefore (arc_at arcs k) (arc d).from (arc d).to
+      first k l = later (arc_at arcs k) u x (arc d).from (arc d).to past (rows.before k l)
+
+  -- there is none between them
+  pass : (u x v y : ℕ) (arcs : List FlowArc) → NoLater u x v y
+      → ((e : D) → wanted e → IsBefore (arc e) v y → IsBefore (arc e) u x)
+      → AreRowsTo wanted arc u x arcs → AreRowsTo wanted arc v y arcs
+  pass u x v y arcs past between rows = record {
+    sound = rows.sound;
+    complete = λ e wish before. rows.complete e wish (between e wish before);
+    rising = rows.rising;
+    before = λ k l. later (arc_at arcs k) u x v y past (rows.before k l);
+  }
+
+  -- all of them are there
+  pub all_rows : (u x : ℕ) (arcs : List FlowArc) → ((e : D) → wanted e → IsBefore (arc e) u x)
+      → AreRowsTo wanted arc u x arcs → AreRows wanted arc arcs
+  all_rows u x arcs all rows = record {
+    sound = rows.sound;
+    complete = λ e wish. rows.complete e wish (all e wish);
+    rising = rows.rising;
+  }
+
+  module _ {L : Type 0} (sized : L → Type 0) where
+    pub built_nothing : (network : Flow L) → sized network.layout → network.arcs ≡ [] → network.flows ≡ []
+        → IsBuiltTo wanted arc sized 0 0 0 network
+    built_nothing network fits arcs flows = record {
+      frame = record {
+        layout = fits;
+        arc_limit = (let e = ap (λ (z : List FlowArc). length z) arcs in omega arith);
+        empty = subst (λ (z : List ℕ). (k : ℕ) → get_or z k 0 ≡ 0) (sym flows) (λ k. refl);
+      };
+      rows = subst (AreRowsTo wanted arc 0 0) (sym arcs) nothing;
+    }
+
+    pub built_take : (u x v y limit next : ℕ) (d : D) (old new : Flow L) → limit < next → wanted d
+        → NoLater u x (arc d).from (arc d).to → IsBefore (arc d) v y
+        → ((e : D) → wanted e → IsBefore (arc e) v y → IsBefore (arc e) u x ⊎ (arc e ≡ arc d))
+        → IsBuiltTo wanted arc sized u x limit old → IsAdded (arc d) old new
+        → IsBuiltTo wanted arc sized v y next new
+    built_take u x v y limit next d old new less want past here between built added = record {
+      frame = add_empty sized limit next (arc d) old new less built.frame added;
+      rows = subst (AreRowsTo wanted arc v y) (sym added.1)
+          (take u x v y d old.arcs want past here between built.rows);
+    }
+
+    pub built_pass : (u x v y limit next : ℕ) (network : Flow L) → limit ≤ next → NoLater u x v y
+        → ((e : D) → wanted e → IsBefore (arc e) v y → IsBefore (arc e) u x)
+        → IsBuiltTo wanted arc sized u x limit network → IsBuiltTo wanted arc sized v y next network
+    built_pass u x v y limit next network less past between built = record {
+      frame = more_room sized limit next network less built.frame;
+      rows = pass u x v y network.arcs past between built.rows;
+    }
+
+-- arcs that rise have one place each
+pub one_place : (arcs : List FlowArc) (j k : ℕ) → AreRising arcs → j < length arcs → k < length arcs
+    → (arc_at arcs j).from ≡ (arc_at arcs k).from → (arc_at arcs j).to ≡ (arc_at arcs k).to → j ≡ k
+one_place arcs j k rising l m from to = elim (cases_eq j k) [
+  | inl e ↦ e
+  | inr n ↦ absurd (elim (cases_lt j k) [
+    | inl less ↦
+        elim (rising j k less m) [ inl before ↦ omega arith | inr row ↦ (let before = row.1 in omega arith) ]
+    | inr more ↦
+        (let less : k < j = elim (cases_lt k j) [ inl a ↦ a | inr b ↦ absurd (n (omega arith)) ] in
+        elim (rising k j less l) [ inl before ↦ omega arith | inr row ↦ (let before = row.1 in omega arith) ])
+  ])
+]
+
+-- where each arc leads to a later node, none leads to a start before it
+pub rising_ends : (arcs : List FlowArc) → AreRising arcs
+    → ((k : ℕ) → k < length arcs → (arc_at arcs k).from < (arc_at arcs k).to)
+    → (j k : ℕ) → j ≤ k → k < length arcs → (arc_at arcs j).from < (arc_at arcs k).to
+rising_ends arcs rising onward j k less l =
+    let here = onward k l in
+    elim (cases_eq j k) [
+      | inl e ↦ (let same = ap (λ (z : ℕ). (arc_at arcs z).from) e in omega arith)
+      | inr n ↦
+          elim (rising j k (omega arith) l) [ inl before ↦ omega arith | inr row ↦ (let same = row.0 in omega arith) ]
+    ]
+
+-- what the arcs from v carry that lead to x, and to nodes below m
+abbrev room_at : List FlowArc → ℕ → ℕ → ℕ
+room_at [] v x = 0
+room_at (a ∷ arcs) v x = cond (eqb a.from v) (cond (eqb a.to x) a.capacity 0) 0 + room_at arcs v x
+
+abbrev room_to : List FlowArc → ℕ → ℕ → ℕ
+room_to [] v m = 0
+room_to (a ∷ arcs) v m = cond (eqb a.from v) (cond (ltb a.to m) a.capacity 0) 0 + room_to arcs v m
+
+room_more : (arcs : List FlowArc) (v m : ℕ) → room_to arcs v (suc m) ≡ room_to arcs v m + room_at arcs v m
+room_more [] v m = refl
+room_more (a ∷ arcs) v m =
+    let rest = room_more arcs v m in
+    let part = part_more a.to m a.capacity in
+    elim (cases_eq a.from v) [
+      | inl e ↦ rw (eq-eqb a.from v e) (omega arith)
+      | inr n ↦ rw (ne_eqb a.from v n) (omega arith)
+    ]
+
+room_none : (arcs : List FlowArc) (v m : ℕ)
+    → ((k : ℕ) → k < length arcs → (arc_at arcs k).from ≡ v → m ≤ (arc_at arcs k).to) → room_to arcs v m ≡ 0
+room_none [] v m none = refl
+room_none (a ∷ arcs) v m none =
+    let rest = room_none arcs v m (λ k l e. none (suc k) (omega arith) e) in
+    elim (cases_eq a.from v) [
+      | inl e ↦ rw (eq-eqb a.from v e, le-ltb a.to m (none 0 (omega arith) e)) (omega arith)
+      | inr n ↦ rw (ne_eqb a.from v n) (omega arith)
+    ]
+
+room_all : (arcs : List FlowArc) (v m : ℕ)
+    → ((k : ℕ) → k < length arcs → (arc_at arcs k).from ≡ v → (arc_at arcs k).to < m)
+    → room_to arcs v m ≡ outroom arcs v
+room_all [] v m all = refl
+room_all (a ∷ arcs) v m all =
+    let rest = room_all arcs v m (λ k l e. all (suc k) (omega arith) e) in
+    elim (cases_eq a.from v) [
+      | inl e ↦ rw (eq-eqb a.from v e, lt-ltb a.to m (all 0 (omega arith) e)) (omega arith)
+      | inr n ↦ rw (ne_eqb a.from v n) (omega arith)
+    ]
+
+at_none : (arcs : List FlowArc) (v x : ℕ)
+    → ((k : ℕ) → k < length arcs → (arc_at arcs k).from ≡ v → (arc_at arcs k).to ≡ x → ⊥) → room_at arcs v x ≡ 0
+at_none [] v x none = refl
+at_none (a ∷ arcs) v x none =
+    let rest = at_none arcs v x (λ k l e f. none (suc k) (omega arith) e f) in
+    elim (cases_eq a.from v) [
+      | inl e ↦ rw (eq-eqb a.from v e, ne_eqb a.to x (λ f. none 0 (omega arith) e f)) (omega arith)
+      | inr n ↦ rw (ne_eqb a.from v n) (omega arith)
+    ]
+
+at_one : (arcs : List FlowArc) (v x j : ℕ) → j < length arcs → (arc_at arcs j).from ≡ v → (arc_at arcs j).to ≡ x
+    → ((k : ℕ) → k < length arcs → (arc_at arcs k).from ≡ v → (arc_at arcs k).to ≡ x → k ≡ j)
+    → room_at arcs v x ≡ (arc_at arcs j).capacity
+at_one [] v x j l from to only = absurd (omega arith)
+at_one (a ∷ arcs) v x zero l from to only =
+    let rest = at_none arcs v x
+    (λ k m e f. (let s : suc k ≡ 0 = only (suc k) (omega arith) e f in absurd (omega arith))) in
+    rw (eq-eqb a.from v from, eq-eqb a.to x to) (omega arith)
+at_one (a ∷ arcs) v x (suc j) l from to only =
+    let rest = at_one arcs v x j (omega arith) from to
+    (λ k m e f. (let s : suc k ≡ suc j = only (suc k) (omega arith) e f in omega arith)) in
+    elim (cases_eq a.from v) [
+      | inl e ↦
+          (let apart : a.to ≡ x → ⊥ = λ f. (let s : 0 ≡ suc j = only 0 (omega arith) e f in absurd (omega arith)) in
+          rw (eq-eqb a.from v e, ne_eqb a.to x apart) (omega arith))
+      | inr n ↦ rw (ne_eqb a.from v n) (omega arith)
+    ]
+
+-- an arc of just this room leads from v to x; or none does, and the room is nothing
+pub record IsRoom (arcs : List FlowArc) (v x room : ℕ) : Type 0 where
+  pub some : (k : ℕ) → k < length arcs → (arc_at arcs k).from ≡ v → (arc_at arcs k).to ≡ x → (arc_at arcs k).capacity ≡ room
+  pub none : (0 < room) → (k : ℕ) × (k < length arcs) × ((arc_at arcs k).from ≡ v) × ((arc_at arcs k).to ≡ x)
+
+place_or_not : (arcs : List FlowArc) (v x : ℕ) → ((k : ℕ) × (k < length arcs) × ((arc_at arcs k).from ≡ v) × ((arc_at arcs k).to ≡ x))
+    ⊎ ((k : ℕ) → k < length arcs → (arc_at arcs k).from ≡ v → (arc_at arcs k).to ≡ x → ⊥)
+place_or_not [] v x = inr (λ k l e f. absurd (omega arith))
+place_or_not (a ∷ arcs) v x = elim (place_or_not arcs v x) [
+  | inl found ↦ (let l = found.1 in inl (suc found.0, omega arith, found.2, found.3))
+  | inr none ↦ elim (cases_eq a.from v) [
+    | inr n ↦ inr (not_first (λ e f. n e) none)
+    | inl e ↦ elim (cases_eq a.to x) [
+      | inl f ↦ inl (0, omega arith, e, f)
+      | inr n ↦ inr (not_first (λ e f. n f) none)
+    ]
+  ]
+]
+  where
+    not_first : (a.from ≡ v → a.to ≡ x → ⊥) → ((k : ℕ) → k < length arcs → (arc_at arcs k).from ≡ v → (arc_at arcs k).to ≡ x → ⊥)
+        → (k : ℕ) → k < length (a ∷ arcs) → (arc_at (a ∷ arcs) k).from ≡ v → (arc_at (a ∷ arcs) k).to ≡ x → ⊥
+    not_first first none zero l e f = first e f
+    not_first first none (suc k) l e f = none k (omega arith) e f
+
+room_is : (arcs : List FlowArc) (v x room : ℕ) → AreRising arcs → IsRoom arcs v x room → room_at arcs v x ≡ room
+room_is arcs v x room rising is = elim (place_or_not arcs v x) [
+  | inl found ↦ at_one arcs v x found.0 found.1 found.2 found.3
+      (λ k l e f. one_place arcs k found.0 rising l found.1 (e ∙ sym found.2) (f ∙ sym found.3))
+      ∙ is.some found.0 found.1 found.2 found.3
+  | inr none ↦ (let zero_room = at_none arcs v x none in elim (cases_lt 0 room) [
+    | inl l ↦ (let there = is.none l in absurd (none there.0 there.1 there.2 there.3))
+    | inr n ↦ omega arith
+  ])
+]
+
+-- the arcs that leave v lead to nodes from base on: what they can carry together, end by end
+pub outroom-rows : (arcs : List FlowArc) (v base n : ℕ) (f : ℕ → ℕ) → AreRising arcs
+    → ((k : ℕ) → k < length arcs → (arc_at arcs k).from ≡ v → base ≤ (arc_at arcs k).to)
+    → ((k : ℕ) → k < length arcs → (arc_at arcs k).from ≡ v → (arc_at arcs k).to < base + n)
+    → ((i : ℕ) → i < n → IsRoom arcs v (base + i) (f i)) → outroom arcs v ≡ sum_below n f
+outroom-rows arcs v base n f rising low high each = sym (room_all arcs v (base + n) high) ∙ up n (omega arith)
+  where
+    up : (m : ℕ) → m ≤ n → room_to arcs v (base + m) ≡ sum_below m f
+    up zero l = let same : base + 0 ≡ base = omega arith in rw same (room_none arcs v base low)
+    up (suc m) l =
+        let before = up m (omega arith) in
+        let one = room_is arcs v (base + m) (f m) rising (each m (omega arith)) in
+        let more = room_more arcs v (base + m) in
+        let same : base + suc m ≡ suc (base + m) = omega arith in
+        rw same (omega arith)

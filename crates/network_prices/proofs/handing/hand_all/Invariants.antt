@@ -1,5 +1,0 @@
-use Rattle.network_prices.specs.HandOn.{CanHandOn, IsHandedOn}
-use Rattle.network_prices.proofs.handing.hand_all.Given as goal
-
-abbrev pub invariant-loop-k : goal.invariant-loop-k
-invariant-loop-k l = CanHandOn l.arcs l.flows l.sink l.initial.places × IsHandedOn l.arcs l.flows l.sink l.initial.places l.places l.k
