@@ -20,6 +20,8 @@ pub mod Waves
 pub mod Steps
 pub mod Histories
 pub mod Problems
+pub mod Keeping
+pub mod Loops
 pub mod Promises
 -- scripts, computed from the definitions alone
 mod Scripts
@@ -28,5 +30,4 @@ mod IndexRows
 mod BackupRows
 mod WaveRows
 mod DeathRows
-mod TidyRows
 mod LegalRows

@@ -44,7 +44,7 @@ pending_at [] n = refl
 pending_at (split ∷ splits) zero = refl
 pending_at (split ∷ splits) (suc n) = pending_at splits n
 
-pending_part : (count n : ℕ) → slice_index_or (replicate count part.Pending) n part.Pending ≡ part.Pending
+pub pending_part : (count n : ℕ) → slice_index_or (replicate count part.Pending) n part.Pending ≡ part.Pending
 pending_part zero n = refl
 pending_part (suc count) zero = refl
 pending_part (suc count) (suc n) = pending_part count n

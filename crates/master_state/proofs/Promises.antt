@@ -22,6 +22,7 @@ use Rattle.master_state.specs.Steps.{Step, Leads}
 use Rattle.master_state.specs.Laws.{EveryWaveIsBest, ResultsAsToldAreRight, PartsAsToldAreRight, SecondResultsAreOld, TheOtherGoesOn, GoesOnAlone}
 use Rattle.master_state.specs.Tidy.{IsTidy, IsToldAs}
 use Rattle.master_state.proofs.Lists.{at-map}
+use Rattle.master_state.proofs.Less.{without_first, without_second}
 use Rattle.master_state.proofs.Facts.{same_text, are_among-all}
 use Rattle.master_state.proofs.Places.{worker_in, told_split, told_part, one_split, one_part, runs_alone, found_split, found_part, done_by_none}
 use Rattle.master_state.proofs.Ending.{attempts-done_by}
@@ -129,15 +130,6 @@ second_results_are_old setup s split a b result other tidy first second =
     (λ k l. none_after setup s split a b k tidy first second)))) in
     rw none refl
 
--- of two attempts, the one that the test does not name goes on alone
-second_alone : (test : Attempt → Bool) (one other : Attempt) → test one ≡ true → test other ≡ false →
-    without_attempts test (Running one (Some other)) ≡ Running other None
-second_alone test one other lost kept = rw (lost, kept) refl
-
-first_alone : (test : Attempt → Bool) (one other : Attempt) → test one ≡ false → test other ≡ true →
-    without_attempts test (Running one (Some other)) ≡ Running one None
-first_alone test one other kept lost = rw (kept, lost) refl
-
 -- two attempts of a split have two numbers
 two_numbers : (setup : Setup) (s : State) (split : ℕ) (one other : Attempt) → IsTidy setup s →
     split_at s split ≡ Running one (Some other) → one.number ≢ other.number
@@ -166,13 +158,13 @@ the_other_goes_on setup s split one other tidy both =
     let apart = two_numbers setup s split one other tidy both in
     let elsewhere = tidy.apart split one other both in (
       goes_on s split (Running one (Some other)) one other both
-          (second_alone (is_numbered one.number) one other (eq-eqb one.number one.number refl)
+          (without_first (is_numbered one.number) one other (eq-eqb one.number one.number refl)
           (ne_eqb other.number one.number (λ e. apart (sym e))))
-          (second_alone (is_on one.worker) one other (eq-eqb one.worker one.worker refl)
+          (without_first (is_on one.worker) one other (eq-eqb one.worker one.worker refl)
           (ne_eqb other.worker one.worker (λ e. elsewhere (sym e)))),
       goes_on s split (Running one (Some other)) other one both
-          (first_alone (is_numbered other.number) one other (ne_eqb one.number other.number apart)
+          (without_second (is_numbered other.number) one other (ne_eqb one.number other.number apart)
           (eq-eqb other.number other.number refl))
-          (first_alone (is_on other.worker) one other (ne_eqb one.worker other.worker elsewhere)
+          (without_second (is_on other.worker) one other (ne_eqb one.worker other.worker elsewhere)
           (eq-eqb other.worker other.worker refl)),
     )

@@ -328,7 +328,7 @@ pub record AreStarts (setup : Setup) (s : State) (pairs : List (ℕ × ℕ)) : T
   pub room : length s.starts + length pairs ≤ setup.limits.attempts
 
 -- the first is one that may start, and the others are starts after it
-first_free : (setup : Setup) (s : State) (k v : ℕ) (pairs : List (ℕ × ℕ)) →
+pub first_free : (setup : Setup) (s : State) (k v : ℕ) (pairs : List (ℕ × ℕ)) →
     AreStarts setup s ((k, v) ∷ pairs) →
     has_free_slot (worker_at s.workers v) ≡ true
 first_free setup s k v pairs starts =
@@ -338,7 +338,7 @@ first_free setup s k v pairs starts =
     (lt-ltb (taken_slots s.workers v) (worker_at s.workers v).slots
     (omega (arith, starts.free v, sum_by-cons (λ pair. cond (pair.1 == v) 1 0) (k, v) pairs, one)))
 
-starts_after : (setup : Setup) (s : State) (k v : ℕ) (pairs : List (ℕ × ℕ)) →
+pub starts_after : (setup : Setup) (s : State) (k v : ℕ) (pairs : List (ℕ × ℕ)) →
     AreStarts setup s ((k, v) ∷ pairs) →
     AreStarts setup (split_started s k v) pairs
 starts_after setup s k v pairs starts =

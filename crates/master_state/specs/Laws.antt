@@ -1,5 +1,5 @@
 -- What holds of the machine, for whoever sees its calls alone. The functions of `laws` prove each.
-use Rattle.std.specs.Prelude.{ℕ, ◌≡◌, List, ◌∷◌, ◌++◌, Option, Some, None, true}
+use Rattle.std.specs.Prelude.{ℕ, ◌≡◌, List, [], ◌∷◌, ◌++◌, Option, Some, None, true}
 use Rattle.word_map.specs.Runs.{MapView}
 use Rattle.shuffle_reduce.specs.Merged.{PartView, AreSameTexts}
 use Rattle.master_state.specs.declared.answers.Why.TheVariants.{OldAttempt, WrongInput}
@@ -8,18 +8,35 @@ use Rattle.master_state.specs.declared.events.Event.TheVariants as events
 use Rattle.master_state.specs.declared.states.Attempt.{Attempt}
 use Rattle.master_state.specs.declared.states.Work.TheVariants as works
 use Rattle.master_state.specs.declared.states.SplitState.TheVariants.{Running}
-use Rattle.master_state.specs.States.{Setup, State, IsWhole, start_of}
+use Rattle.master_state.specs.States.{Setup, State, IsWhole, AreSmall, opening, start_of}
 use Rattle.master_state.specs.Tests.{runs, split_at}
-use Rattle.master_state.specs.Refusals.{MapDone, MapFailed, Withdraw, Die, PartDone, refusal, text_of}
+use Rattle.master_state.specs.Refusals.{Call, MapDone, MapFailed, Withdraw, Die, PartDone, refusal, text_of}
 use Rattle.master_state.specs.Changes.{after}
 use Rattle.master_state.specs.Steps.{Leads, IsLegal, IsWave}
 use Rattle.master_state.specs.Tidy.{IsTidy}
+use Rattle.master_state.specs.Jobs.{Job, IsAccepted, IsCommitted, IsKept}
+use Rattle.master_state.specs.declared.answers.Wave.{Wave}
 
 -- every state that a legal history leads to is tidy
 abbrev pub LegalStatesAreTidy : Type 0
 LegalStatesAreTidy =
     (setup : Setup) (history : List Event) (s : State) → IsWhole setup.cluster →
     IsLegal setup history s → IsTidy setup s
+
+-- what a master keeps, it keeps by every call that is accepted and by every wave, from the opening on
+abbrev pub CallsKeep : Type 0
+CallsKeep = (old new : Job) (call : Call) (place : ℕ) → IsKept old → IsAccepted old call place new →
+    IsKept new
+
+abbrev pub WavesKeep : Type 0
+WavesKeep =
+    (old new : Job) (plan : List (Option ℕ)) (wave : Wave) → IsKept old → IsCommitted old plan wave new →
+    IsKept new
+
+abbrev pub OpeningIsKept : Type 0
+OpeningIsKept =
+    (setup : Setup) → IsWhole setup.cluster → AreSmall setup.limits →
+    IsKept (record { setup = setup; history = []; state = opening setup; results = [] })
 
 -- what came before a wave leads to a state in which it is best, and from its change on the later events lead
 -- to the last state

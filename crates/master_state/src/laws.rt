@@ -1,16 +1,26 @@
 //! Laws of the machine, each proved once, of its definitions alone.
 ghost use Rattle.master_state.specs.Laws.{
+  CallsKeep,
   EveryWaveIsBest,
   LegalStatesAreTidy,
+  OpeningIsKept,
   PartsAsToldAreRight,
   ResultsAsToldAreRight,
   SecondResultsAreOld,
   TheOtherGoesOn,
+  WavesKeep,
 };
 
 /// A state that a legal history leads to keeps its tables in agreement.
 pub fn legal_states_are_tidy()
     ensures { LegalStatesAreTidy }
+{}
+
+/// What a master keeps holds from its opening on: every change that it accepts preserves it.
+pub fn masters_keep()
+    ensures opening { OpeningIsKept }
+    ensures calls { CallsKeep }
+    ensures waves { WavesKeep }
 {}
 
 /// Each wave of a legal history is best in the state that it changed.
