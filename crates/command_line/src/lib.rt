@@ -19,8 +19,8 @@ use crate::asked::{Ask, AskError, PlanOptions};
 use crate::commands::{all_commands, plan_command};
 use clap::ArgMatches;
 use clap::error::ErrorKind;
-use std::alloc::Global;
 use flow_network::NetworkKind;
+use std::alloc::Global;
 
 const UNKNOWN_NETWORK: &str = "\
 invalid value for '--network <NETWORK>'

@@ -78,16 +78,16 @@ done_reduce : (setup : Setup) (s : State) (r : ℕ) → refusal setup s ReduceSt
 done_reduce setup s r allowed =
     let none = (none_applies (reasons setup s ReduceStart) allowed).0 in
     let splits_and_parts =
-        (or_parts (not (list_all is_done s.splits) || not (list_any part_is_pending s.parts))
-        (not (list_any has_free_slot s.workers.each)) none).0 in
+    (or_parts (not (list_all is_done s.splits) || not (list_any part_is_pending s.parts))
+    (not (list_any has_free_slot s.workers.each)) none).0 in
     let some = not-false (list_any part_is_pending s.parts)
-        (or_parts (not (list_all is_done s.splits)) (not (list_any part_is_pending s.parts))
-        splits_and_parts).1 in
+    (or_parts (not (list_all is_done s.splits)) (not (list_any part_is_pending s.parts))
+    splits_and_parts).1 in
     let change : PartState → PartState = λ _. part.Running (next_on s (next_worker s)) in
     elim (cases_eq r (next_part s)) [
       | inl same ↦ rw same
-      (ap part_is_done (at-updated_same change s.parts (next_part s) part.Pending
-      (any_inside part_is_pending s.parts some))
+          (ap part_is_done (at-updated_same change s.parts (next_part s) part.Pending
+          (any_inside part_is_pending s.parts some))
           ∙ sym (pending_not_done (part_at s (next_part s))
           (any_found part_is_pending s.parts part.Pending some)))
       | inr other ↦ ap part_is_done (at-updated_other change s.parts (next_part s) r part.Pending other)
@@ -116,41 +116,43 @@ results_more setup s a result results tidy allowed kept =
     let start = told_part setup s a here tidy run in
     let covers = are_among result.texts setup.cluster.texts && are_among setup.cluster.texts result.texts in
     let parts = or_parts (not (result.part == here) || not (result.parts == setup.cluster.parts)) (not covers)
-        none.1.0 in
+    none.1.0 in
     let numbers = or_parts (not (result.part == here)) (not (result.parts == setup.cluster.parts)) parts.0 in
     let part_is : result.part ≡ here = eqb-true result.part here (not-false (result.part == here) numbers.0)
-        in
+    in
     let texts = and_parts (are_among result.texts setup.cluster.texts)
-        (are_among setup.cluster.texts result.texts) (not-false covers parts.1) in
+    (are_among setup.cluster.texts result.texts) (not-false covers parts.1) in
     record {
       each = All-push (IsResult setup) results result kept.each (record {
-        texts = λ text. (among result.texts setup.cluster.texts texts.0 text,
-        among setup.cluster.texts result.texts texts.1 text);
+        texts = λ text. (
+          among result.texts setup.cluster.texts texts.0 text,
+          among setup.cluster.texts result.texts texts.1 text,
+        );
         parts = eqb-true result.parts setup.cluster.parts (not-false (result.parts == setup.cluster.parts)
-        numbers.1);
+            numbers.1);
       });
       one_each = λ r. sum_by_push (λ (one : PartView). cond (one.part == r) 1 0) results result
           ∙ elim (cases_eq r here) [
-          | inl same ↦
-            let ends = part_ends a (part_at s here) run in
-            let old : count_of results r ≡ 0 = kept.one_each r
-            ∙ ap (λ b. let n : ℕ = cond b 1 0 in n) (ap (λ k. part_is_done (part_at s k)) same ∙ ends.0) in
-            let counted : ℕ = cond (result.part == r) 1 0 in
-            let one : counted ≡ 1 = ap (λ b. let n : ℕ = cond b 1 0 in n)
-            (eq-eqb result.part r (part_is ∙ sym same)) in
-            let new : part_is_done (part_at (after s (PartDone a result)) r) ≡ true =
+            | inl same ↦
+                let ends = part_ends a (part_at s here) run in
+                let old : count_of results r ≡ 0 = kept.one_each r
+                ∙ ap (λ b. let n : ℕ = cond b 1 0 in n) (ap (λ k. part_is_done (part_at s k)) same ∙ ends.0) in
+                let counted : ℕ = cond (result.part == r) 1 0 in
+                let one : counted ≡ 1 = ap (λ b. let n : ℕ = cond b 1 0 in n)
+                (eq-eqb result.part r (part_is ∙ sym same)) in
+                let new : part_is_done (part_at (after s (PartDone a result)) r) ≡ true =
                 ap part_is_done (at-map (part_done_by a) s.parts r part.Pending)
                 ∙ ap (λ k. part_is_done (part_done_by a (part_at s k))) same ∙ ends.1 in
-            rw new (omega (arith, old, one))
-          | inr other ↦
-            let counted : ℕ = cond (result.part == r) 1 0 in
-            let none_more : counted ≡ 0 = ap (λ b. let n : ℕ = cond b 1 0 in n)
-            (ne_eqb result.part r (λ e. other (sym e ∙ part_is))) in
-            let new : part_is_done (part_at (after s (PartDone a result)) r) ≡ part_is_done (part_at s r) =
+                rw new (omega (arith, old, one))
+            | inr other ↦
+                let counted : ℕ = cond (result.part == r) 1 0 in
+                let none_more : counted ≡ 0 = ap (λ b. let n : ℕ = cond b 1 0 in n)
+                (ne_eqb result.part r (λ e. other (sym e ∙ part_is))) in
+                let new : part_is_done (part_at (after s (PartDone a result)) r) ≡ part_is_done (part_at s r) =
                 ap part_is_done (at-map (part_done_by a) s.parts r part.Pending
                 ∙ part_done_by_none a (part_at s r) (part_runs_alone setup s a here _ r tidy start other)) in
-            rw new (omega (arith, kept.one_each r, none_more))
-        ];
+                rw new (omega (arith, kept.one_each r, none_more))
+          ];
     }
 
 -- the results after a call are those before, and the one that it adds
@@ -205,8 +207,10 @@ waves_keep old new plan wave kept committed =
       whole = rw next.setup kept.whole;
       small = rw next.setup kept.small;
       legal = rw (next.setup, next.history)
-          (Leads-more old.setup (opening old.setup) old.state new.state old.history event kept.legal (plan,
-          committed.change));
+          (Leads-more old.setup (opening old.setup) old.state new.state old.history event kept.legal (
+            plan,
+            committed.change,
+          ));
       tidy = rw next.setup (tidy_step old.setup old.state event new.state kept.tidy (plan, committed.change));
       results = rw (next.setup, next.results, committed.change.leads)
           (results_same old.setup old.state (after_wave old.state (pairs_of plan)) old.results

@@ -97,7 +97,7 @@ starts_read workers (x ∷ xs) (None ∷ os) before old differ same count new of
     let names = before ++ started_names workers xs os in
     let on = old ++ start_workers workers xs os in
     let none : Contains names x
-        → ⊥ = λ h. elim (Contains-append_cases before (started_names workers xs os) x h) [
+    → ⊥ = λ h. elim (Contains-append_cases before (started_names workers xs os) x h) [
       | inl earlier ↦ new-first before x xs new earlier
       | inr later ↦ new-gone before x xs new (started_are_splits workers xs os x later)
     ] in
