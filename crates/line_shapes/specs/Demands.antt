@@ -1,0 +1,48 @@
+-- What is asked of a word in its place.
+use Rattle.std.specs.Prelude.{ℕ, List, [], ◌≤◌, ◌<◌, Option, Some, None, length, slice_index_or}
+use Rattle.std.specs.Borrow.{Bor}
+use Rattle.text_lines.specs.Texts.{IsName, IsNumber, Word, number_of}
+use Rattle.line_shapes.specs.declared.keyword.Keyword.{Keyword}
+use Rattle.line_shapes.specs.declared.place.Place.{Place}
+use Rattle.line_shapes.specs.declared.place.Place.TheVariants.{New, Used, Number}
+use Rattle.line_shapes.specs.declared.demand.Demand.{Demand}
+use Rattle.line_shapes.specs.declared.demand.Demand.TheVariants.{Shape, Name, Range}
+use Rattle.line_shapes.specs.Places.{place_at}
+
+-- there is such a place; a number stands in a number's place, and no empty word in a name's
+abbrev pub HasShape : Option Place → Word → Type 0
+HasShape None w = ⊥
+HasShape (Some New) w = 0 < length w
+HasShape (Some (Used kind)) w = 0 < length w
+HasShape (Some (Number least most)) w = IsNumber w
+
+-- a name stands in a name's place
+abbrev pub IsNamedIn : Option Place → Word → Type 0
+IsNamedIn None w = Unit {0}
+IsNamedIn (Some New) w = IsName w
+IsNamedIn (Some (Used kind)) w = IsName w
+IsNamedIn (Some (Number least most)) w = Unit {0}
+
+abbrev pub IsWithin : ℕ → ℕ → Word → Type 0
+IsWithin least most w = IsNumber w × (least ≤ number_of w) × (number_of w ≤ most)
+
+-- a number is within its range
+abbrev pub IsWithinIn : Option Place → Word → Type 0
+IsWithinIn None w = Unit {0}
+IsWithinIn (Some New) w = Unit {0}
+IsWithinIn (Some (Used kind)) w = Unit {0}
+IsWithinIn (Some (Number least most)) w = IsWithin least most w
+
+abbrev pub Meets : Demand → Option Place → Word → Type 0
+Meets Shape place w = HasShape place w
+Meets Name place w = IsNamedIn place w
+Meets Range place w = IsWithinIn place w
+
+-- each word after the keyword meets the demand
+abbrev pub Meet : Demand → Keyword → List Word → Type 0
+Meet demand k ws = (i : ℕ) → i < length ws → Meets demand (place_at k i) (slice_index_or ws i [])
+
+-- the same of words behind references
+abbrev pub MeetIn : Demand → Keyword → List (Bor (List ℕ)) → Type 0
+MeetIn demand k ws = (i : ℕ) (d : Bor (List ℕ)) → i < length ws
+    → Meets demand (place_at k i) (slice_index_or ws i d).now

@@ -1,0 +1,4 @@
+pub mod Keywords
+pub mod Places
+pub mod Lines
+pub mod Demands

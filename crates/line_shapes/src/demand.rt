@@ -1,0 +1,94 @@
+ghost use Rattle.std.specs.Prelude.{◌≡◌, ◌↔◌, ◌≤◌, IsTrue};
+ghost use Rattle.text_lines.specs.Texts.{number_of};
+ghost use Rattle.line_shapes.specs.Demands.{HasShape, IsNamedIn, IsWithin, IsWithinIn, MeetIn, Meets};
+
+use crate::keyword::Keyword;
+use crate::place::Place;
+use text_lines::{Number, is_name};
+
+/// What is asked of each word in its place.
+#[derive(Clone, Copy, Debug, PartialEq, Eq)]
+pub enum Demand {
+    /// The place is one of the keyword's, and a number's word is a number.
+    Shape,
+    /// A name's word is a name.
+    Name,
+    /// A number is within its range.
+    Range,
+}
+
+/// Whether each word after the keyword meets the demand.
+pub fn meet(demand: Demand, keyword: Keyword, words: &[&str]) -> bool
+    ensures { IsTrue result ↔ MeetIn demand keyword words.now }
+{
+    for i in 0..words.len() {
+        if !meets(demand, keyword.place(i), words[i]) {
+            return false;
+        }
+    }
+    true
+}
+
+fn meets(demand: Demand, place: Option<Place>, word: &str) -> bool
+    ensures { IsTrue result ↔ Meets demand place word.now }
+{
+    match demand {
+        Demand::Shape => has_shape(place, word),
+        Demand::Name => is_named_in(place, word),
+        Demand::Range => is_within_in(place, word),
+    }
+}
+
+fn has_shape(place: Option<Place>, word: &str) -> bool
+    ensures { IsTrue result ↔ HasShape place word.now }
+{
+    match place {
+        None => false,
+        Some(Place::New) => !word.is_empty(),
+        Some(Place::Used(_)) => !word.is_empty(),
+        Some(Place::Number(_, _)) => Number::of(word).is_some(),
+    }
+}
+
+fn is_named_in(place: Option<Place>, word: &str) -> bool
+    ensures { IsTrue result ↔ IsNamedIn place word.now }
+{
+    match place {
+        None => true,
+        Some(Place::New) => is_name(word),
+        Some(Place::Used(_)) => is_name(word),
+        Some(Place::Number(_, _)) => true,
+    }
+}
+
+// A word that is no number is in no range; no line has one in a number's place.
+fn is_within_in(place: Option<Place>, word: &str) -> bool
+    ensures { IsTrue result ↔ IsWithinIn place word.now }
+{
+    match place {
+        None => true,
+        Some(Place::New) => true,
+        Some(Place::Used(_)) => true,
+        Some(Place::Number(least, most)) => is_within(word, least, most),
+    }
+}
+
+// Whether the word is a number of at least and at most so much.
+fn is_within(word: &str, least: u64, most: u64) -> bool
+    ensures { IsTrue result ↔ IsWithin least most word.now }
+{
+    match Number::of(word) {
+        Some(number) => is_between(number, least, most),
+        None => false,
+    }
+}
+
+fn is_between(number: Number<'_>, least: u64, most: u64) -> bool
+    ensures { IsTrue result ↔ ((least ≤ number_of number.entry.digits.now)
+        × (number_of number.entry.digits.now ≤ most)) }
+{
+    match number.value() {
+        Some(value) => least <= value && value <= most,
+        None => false,
+    }
+}

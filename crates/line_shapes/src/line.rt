@@ -1,0 +1,72 @@
+ghost use Rattle.std.specs.Prelude.{MatchOption, map};
+ghost use Rattle.line_shapes.specs.Lines.{Say, Statement, statement_of};
+
+use crate::apart::are_apart;
+use crate::demand::{Demand, meet};
+use crate::keyword::Keyword;
+use crate::place::Place;
+
+/// What a line says: its keyword, and the words after it.
+#[derive(Clone, Copy, Debug)]
+pub struct KeyedLine<'w, 't> {
+    pub keyword: Keyword,
+    pub words: &'w [&'t str],
+}
+
+/// The line that the words say, or None where they say none.
+pub fn said_by<'w, 't>(words: &'w [&'t str]) -> Option<KeyedLine<'w, 't>>
+    ensures { MatchOption result ((s : Statement) → Say (map (λ w. w.now) words.entry.now) s → ⊥)
+        (λ line. Say (map (λ w. w.now) words.entry.now) (statement_of line)) }
+{
+    let (first, rest) = words.split_first()?;
+    let keyword = Keyword::of(first)?;
+    if rest.len() >= keyword.places().len() && meet(Demand::Shape, keyword, rest) {
+        Some(KeyedLine {
+            keyword,
+            words: rest,
+        })
+    } else {
+        None
+    }
+}
+
+impl<'w, 't> KeyedLine<'w, 't> {
+    ghost use Rattle.std.specs.Prelude.{◌↔◌, ◌≡◌, ◌≤◌, IsTrue, length, map};
+    ghost use Rattle.line_shapes.specs.Lines.{HasTailApart, IsInRange, IsNamed, statement_of, tail_of};
+    ghost use Rattle.line_shapes.specs.Places.{places_of};
+
+    /// Whether the words in the places of names are names.
+    pub fn is_named(&self) -> bool
+        ensures { IsTrue result ↔ IsNamed (statement_of self.now) }
+    {
+        meet(Demand::Name, self.keyword, self.words)
+    }
+
+    /// Whether each number is within its range.
+    pub fn is_in_range(&self) -> bool
+        ensures { IsTrue result ↔ IsInRange (statement_of self.now) }
+    {
+        meet(Demand::Range, self.keyword, self.words)
+    }
+
+    /// Whether no name stands twice among those that may follow any number of times.
+    pub fn has_tail_apart(&self) -> bool
+        requires { length (places_of self.now.keyword) ≤ length self.now.words.now }
+        ensures { IsTrue result ↔ HasTailApart (statement_of self.now) }
+    {
+        match self.keyword.more() {
+            None => true,
+            Some(Place::Number(_, _)) => true,
+            Some(Place::New) => are_apart(self.tail()),
+            Some(Place::Used(_)) => are_apart(self.tail()),
+        }
+    }
+
+    // The words after the places.
+    fn tail(&self) -> &'w [&'t str]
+        requires { length (places_of self.now.keyword) ≤ length self.now.words.now }
+        ensures { map (λ w. w.now) result.now ≡ tail_of (statement_of self.now) }
+    {
+        &self.words[self.keyword.places().len()..]
+    }
+}
