@@ -1,18 +1,13 @@
 -- The direct network is a network of its wave, in which a way up is the worker's node alone.
-use Rattle.std.proofs.Common.{◌≡◌, ℕ, ◌+◌, ◌<◌, ◌≤◌, true, List, [], ◌∷◌, length, Option, Some, None, refl, sym, ap, ◌∙◌, subst, ◌⊎◌, inl, inr, arith, unwrap_or}
-use Rattle.std.proofs.lemmas.Bool.{cases_lt, cases_eq, false≢true}
-use Rattle.std.proofs.lemmas.List.{get_or_past}
+use Rattle.std.proofs.Common.{◌≡◌, ℕ, ◌+◌, ◌<◌, ◌≤◌, List, length, sym, ap, ◌∙◌, subst, ◌⊎◌, inl, inr, arith, unwrap_or}
 use Rattle.flow_network.specs.declared.arcs.FlowArc.{FlowArc}
 use Rattle.flow_network.specs.Flows.{arc_at}
 use Rattle.flow_network.specs.Laws.{outroom}
 use Rattle.wave_problem.specs.Wave.{Wave, IsAdmissible, split_at, worker_at, cost}
-use Rattle.wave_problem.specs.Assignment.{start_of}
 use Rattle.wave_problem.proofs.Bound.{live_known, pending_known}
-use Rattle.price_certificate.specs.PriceList.{PriceList}
 use Rattle.network_prices.specs.Pending.{IsUsable}
-use Rattle.network_prices.specs.Ways.{IsAmong, CameFrom}
+use Rattle.network_prices.specs.Ways.{IsAmong}
 use Rattle.network_prices.specs.Networks.{way_of, IsArcFrom, IsOffer, IsWaveNetwork}
-use Rattle.network_prices.specs.Prices.{end_of, IsPlanOf, ArePricesOf}
 use Rattle.network_prices.proofs.Arcs.{arc_standing}
 use Rattle.network_prices.proofs.Certified.{prices_certify}
 use Rattle.direct_network.specs.declared.arcs.DirectArc.{DirectArc}

@@ -1,13 +1,13 @@
 -- The rack network lies in layers.
-use Rattle.std.proofs.Common.{◌≡◌, ℕ, zero, suc, ◌<◌, ◌≤◌, true, List, length, refl, sym, ap, ◌∙◌, inl, inr, ◌⊎◌, arith}
+use Rattle.std.proofs.Common.{◌≡◌, ℕ, zero, suc, ◌<◌, List, length, sym, ap, ◌∙◌, inl, inr, ◌⊎◌, arith}
 use Rattle.flow_network.specs.declared.arcs.FlowArc.{FlowArc}
 use Rattle.flow_network.specs.Flows.{arc_at}
 use Rattle.wave_problem.specs.Wave.{Wave, split_at}
-use Rattle.wave_problem.proofs.Bound.{pending_known, live_known}
+use Rattle.wave_problem.proofs.Bound.{live_known}
 use Rattle.network_prices.specs.Layers.{HandsOn, IsWorkerNode, IsLayered}
 use Rattle.rack_network.specs.declared.arcs.RackArc.{RackArc}
 use Rattle.rack_network.specs.declared.arcs.RackArc.TheVariants.{Pair, Reach, Wait, Branch, Feed, Slot, Rest}
-use Rattle.rack_network.specs.Racks.{first_worker, worker_node, unstarted_node, sink_node, node_above, arc_of, IsWanted, IsRackNetwork}
+use Rattle.rack_network.specs.Racks.{first_worker, unstarted_node, sink_node, node_above, arc_of, IsWanted, IsRackNetwork}
 use Rattle.rack_network.proofs.Levels.{holder_live}
 use Rattle.rack_network.proofs.RackWays.{wave_network}
 
