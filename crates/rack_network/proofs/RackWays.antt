@@ -11,10 +11,10 @@ use Rattle.network_prices.specs.Pending.{IsUsable}
 use Rattle.network_prices.specs.Ways.{IsAmong, IsFed, IsWay}
 use Rattle.network_prices.specs.Networks.{way_of, IsArcFrom, IsOffer, IsWaveNetwork}
 use Rattle.network_prices.proofs.Arcs.{arc_standing}
-use Rattle.network_prices.proofs.Certified.{prices_certify}
+use Rattle.network_prices.proofs.Certified.{flow_costs_as_plan, prices_certify}
 use Rattle.rack_network.specs.declared.arcs.RackArc.{RackArc}
 use Rattle.rack_network.specs.declared.arcs.RackArc.TheVariants.{Pair, Reach, Wait, Branch, Feed, Slot, Rest}
-use Rattle.rack_network.specs.Racks.{worker_node, rack_node, cluster_node, unstarted_node, sink_node, rack_of, rack_nodes, node_above, HasBars, arc_of, IsWanted, IsRackNetwork, RackPricesCertify}
+use Rattle.rack_network.specs.Racks.{worker_node, rack_node, cluster_node, unstarted_node, sink_node, rack_of, rack_nodes, node_above, HasBars, arc_of, IsWanted, IsRackNetwork, RackFlowCostsAsPlan, RackPricesCertify}
 use Rattle.rack_network.proofs.Levels.{holder_live, holder_held, cost-le, cost_is, Meet, distance-le, distance_is}
 
 -- whether a split has a barred pair
@@ -302,10 +302,24 @@ module _ (wave : Wave) (arcs : List FlowArc) (network : IsRackNetwork wave arcs)
       slot zero h w free m e = subst (λ (x : ℕ). 0 < (worker_at wave x).free) (sym m) free
       slot (suc n) h w free m e = absurd (omega arith)
 
+  -- the splits' arcs alone have costs
+  is_free : (d : RackArc) → IsWanted wave d → (a : FlowArc) → a ≡ arc_of wave d → length wave.splits ≤ a.from → a.cost ≡ 0
+  is_free (Pair s w) want a e past =
+      absurd (let known = pending_known wave s want.0.pending in let from = ap (λ (a : FlowArc). a.from) e in omega arith)
+  is_free (Reach s level h) want a e past =
+      absurd (let known = pending_known wave s want.pending in let from = ap (λ (a : FlowArc). a.from) e in omega arith)
+  is_free (Wait s) want a e past =
+      absurd (let known = pending_known wave s want in let from = ap (λ (a : FlowArc). a.from) e in omega arith)
+  is_free (Branch r) want a e past = ap (λ (a : FlowArc). a.cost) e
+  is_free (Feed w) want a e past = ap (λ (a : FlowArc). a.cost) e
+  is_free (Slot w) want a e past = ap (λ (a : FlowArc). a.cost) e
+  is_free Rest want a e past = ap (λ (a : FlowArc). a.cost) e
+
   pub wave_network : IsWaveNetwork wave (rack_nodes wave) arcs
   wave_network = record {
     past_splits = omega arith;
     no_entry = λ k l. (let d = network.sound k l in no_split d.0 d.1 (arc_at arcs k) d.2);
+    free = λ k l past. (let d = network.sound k l in is_free d.0 d.1 (arc_at arcs k) d.2 past);
     ways = way_up;
     closed = λ w k known n l t. (let d = network.sound k l in n (usable_there w known d.0 d.1 (arc_at arcs k) d.2 t));
     known = λ w. omega arith;
@@ -329,3 +343,8 @@ module _ (wave : Wave) (arcs : List FlowArc) (network : IsRackNetwork wave arcs)
 pub rack_prices : RackPricesCertify
 rack_prices wave arcs flows h starts prices network shipped reduced at_sink plan priced =
     prices_certify wave (rack_nodes wave) arcs flows h starts prices (wave_network wave arcs network) shipped reduced at_sink plan priced
+
+-- and the flow costs what the plan does
+pub rack_costs : RackFlowCostsAsPlan
+rack_costs wave arcs flows h starts prices network shipped reduced at_sink plan priced =
+    flow_costs_as_plan wave (rack_nodes wave) arcs flows h starts prices (wave_network wave arcs network) shipped reduced at_sink plan priced

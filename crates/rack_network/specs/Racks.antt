@@ -11,7 +11,7 @@ use Rattle.flow_network.specs.Laws.{outroom}
 use Rattle.network_prices.specs.Pending.{IsUsable, pending_splits}
 use Rattle.network_prices.specs.Ways.{IsAmong}
 use Rattle.network_prices.specs.Networks.{WaveNodes, way_of, Stands}
-use Rattle.network_prices.specs.Prices.{IsShipped, IsPlanOf, ArePricesOf}
+use Rattle.network_prices.specs.Prices.{IsShipped, IsPlanOf, ArePricesOf, CostsAsMuch}
 use Rattle.rack_network.specs.declared.layout.RackLayout.{RackLayout}
 use Rattle.rack_network.specs.declared.arcs.RackArc.{RackArc}
 use Rattle.rack_network.specs.declared.arcs.RackArc.TheVariants.{Pair, Reach, Wait, Branch, Feed, Slot, Rest}
@@ -131,3 +131,12 @@ RackPricesCertify =
     → NoNegative arcs flows h → h (sink_node wave) ≡ 0
     → IsPlanOf wave (rack_nodes wave) arcs flows starts → ArePricesOf wave (rack_nodes wave) h starts prices
     → Certifies (claim wave starts prices)
+
+-- and the flow costs what the plan does
+abbrev pub RackFlowCostsAsPlan : Type 0
+RackFlowCostsAsPlan =
+    (wave : Wave) (arcs : List FlowArc) (flows : List ℕ) (h : ℕ → ℕ) (starts : List (Option ℕ)) (prices : PriceList)
+    → IsRackNetwork wave arcs → IsShipped wave (rack_nodes wave) arcs flows
+    → NoNegative arcs flows h → h (sink_node wave) ≡ 0
+    → IsPlanOf wave (rack_nodes wave) arcs flows starts → ArePricesOf wave (rack_nodes wave) h starts prices
+    → CostsAsMuch wave arcs flows starts
