@@ -1,23 +1,18 @@
 -- The direct network is a network of its wave, in which a way up is the worker's node alone.
-use Rattle.std.proofs.Common.{◌≡◌, ℕ, ◌+◌, ◌<◌, ◌≤◌, true, List, [], ◌∷◌, length, Option, Some, None, refl, sym, ap, ◌∙◌, subst, ◌⊎◌, inl, inr, arith, unwrap_or}
-use Rattle.std.proofs.lemmas.Bool.{cases_lt, cases_eq, false≢true}
-use Rattle.std.proofs.lemmas.List.{get_or_past}
+use Rattle.std.proofs.Common.{◌≡◌, ℕ, ◌+◌, ◌<◌, ◌≤◌, List, length, sym, ap, ◌∙◌, subst, ◌⊎◌, inl, inr, arith, unwrap_or}
 use Rattle.flow_network.specs.declared.arcs.FlowArc.{FlowArc}
 use Rattle.flow_network.specs.Flows.{arc_at}
 use Rattle.flow_network.specs.Laws.{outroom}
 use Rattle.wave_problem.specs.Wave.{Wave, IsAdmissible, split_at, worker_at, cost}
-use Rattle.wave_problem.specs.Assignment.{start_of}
 use Rattle.wave_problem.proofs.Bound.{live_known, pending_known}
-use Rattle.price_certificate.specs.PriceList.{PriceList}
 use Rattle.network_prices.specs.Pending.{IsUsable}
-use Rattle.network_prices.specs.Ways.{IsAmong, CameFrom}
+use Rattle.network_prices.specs.Ways.{IsAmong}
 use Rattle.network_prices.specs.Networks.{way_of, IsArcFrom, IsOffer, IsWaveNetwork}
-use Rattle.network_prices.specs.Prices.{end_of, IsPlanOf, ArePricesOf}
 use Rattle.network_prices.proofs.Arcs.{arc_standing}
-use Rattle.network_prices.proofs.Certified.{prices_certify}
+use Rattle.network_prices.proofs.Certified.{flow_costs_as_plan, prices_certify}
 use Rattle.direct_network.specs.declared.arcs.DirectArc.{DirectArc}
 use Rattle.direct_network.specs.declared.arcs.DirectArc.TheVariants.{Pair, Wait, Slot, Rest}
-use Rattle.direct_network.specs.Direct.{DirectPricesCertify, IsDirect, IsWanted, arc_of, direct_nodes, worker_node, unstarted_node, sink_node}
+use Rattle.direct_network.specs.Direct.{DirectFlowCostsAsPlan, DirectPricesCertify, IsDirect, IsWanted, arc_of, direct_nodes, worker_node, unstarted_node, sink_node}
 use Rattle.network_prices.specs.Layers.{HandsOn, IsWorkerNode, IsLayered}
 use Rattle.network_prices.proofs.Tables.{rising_ends, outroom-rows}
 use Rattle.direct_network.proofs.Ends.{enters_worker, enters_unstarted, past_splits}
@@ -88,10 +83,20 @@ module _ (wave : Wave) (arcs : List FlowArc) (direct : IsDirect wave arcs) where
       only : (k : ℕ) → k < length arcs → (arc_at arcs k).from ≡ worker_node wave w → (arc_at arcs k).capacity ≡ (worker_at wave w).free
       only k l from = let d = direct.sound k l in (is_slot d.0 d.1 (arc_at arcs k) d.2 from).1
 
+  -- the splits' arcs alone have costs
+  is_free : (d : DirectArc) → IsWanted wave d → (a : FlowArc) → a ≡ arc_of wave d → length wave.splits ≤ a.from → a.cost ≡ 0
+  is_free (Pair s w) want a e past =
+      absurd (let known = pending_known wave s want.pending in let from = ap (λ (b : FlowArc). b.from) e in omega arith)
+  is_free (Wait s) want a e past =
+      absurd (let known = pending_known wave s want in let from = ap (λ (b : FlowArc). b.from) e in omega arith)
+  is_free (Slot w) want a e past = ap (λ (b : FlowArc). b.cost) e
+  is_free Rest want a e past = ap (λ (b : FlowArc). b.cost) e
+
   pub wave_network : IsWaveNetwork wave (direct_nodes wave) arcs
   wave_network = record {
     past_splits = omega arith;
     no_entry = no_entry;
+    free = λ k l past. (let d = direct.sound k l in is_free d.0 d.1 (arc_at arcs k) d.2 past);
     ways = λ w u. (let known = live_known wave w u.0 in (
       record { no_source = omega arith; no_sink = λ e. omega arith },
       λ k l to. (let pair = pair_at k w l known to in
@@ -158,3 +163,7 @@ module _ (wave : Wave) (arcs : List FlowArc) (direct : IsDirect wave arcs) where
 
 pub direct_prices : DirectPricesCertify
 direct_prices wave arcs flows h starts prices direct = prices_certify wave (direct_nodes wave) arcs flows h starts prices (wave_network wave arcs direct)
+
+-- and the flow costs what the plan does
+pub direct_costs : DirectFlowCostsAsPlan
+direct_costs wave arcs flows h starts prices direct = flow_costs_as_plan wave (direct_nodes wave) arcs flows h starts prices (wave_network wave arcs direct)

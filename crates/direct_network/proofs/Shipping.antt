@@ -3,7 +3,7 @@ use Rattle.std.proofs.Common.{◌≡◌, ℕ, ◌+◌, ◌<◌, ◌≤◌, true,
 use Rattle.std.proofs.lemmas.Bool.{lt-ltb}
 use Rattle.flow_network.specs.declared.arcs.FlowArc.{FlowArc}
 use Rattle.flow_network.specs.Flows.{AreArcs}
-use Rattle.augmenting_paths.specs.Shipping.{CanShip, AreMembers, IsShipment}
+use Rattle.augmenting_paths.specs.Shipping.{CanShip, AreMembers, IsCheapest, IsShipment}
 use Rattle.wave_problem.specs.Wave.{Wave}
 use Rattle.network_prices.specs.Pending.{pending_splits}
 use Rattle.network_prices.proofs.Sources as any
@@ -33,3 +33,7 @@ module _ (wave : Wave) (s w : ℕ) (nodes : List DirectNode) (splits : s ≡ len
 
   pub all_shipped : (arcs : List FlowArc) (flows : List ℕ) → IsShipment arcs (map (place_of s w) nodes) (s + w + 1) flows → IsShipped wave (direct_nodes wave) arcs flows
   all_shipped = any.all_shipped wave Split (place_of s w) (is_node s w) (λ x. refl) known nodes are (direct_nodes wave) (s + w + 1) sink_is
+
+  pub all_cheapest : (arcs : List FlowArc) (flows : List ℕ) → IsCheapest arcs (map (place_of s w) nodes) (s + w + 1) flows
+      → IsCheapest arcs (pending_splits wave) (sink_node wave) flows
+  all_cheapest = any.all_cheapest wave Split (place_of s w) (is_node s w) (λ x. refl) known nodes are (direct_nodes wave) (s + w + 1) sink_is

@@ -6,7 +6,7 @@ use Rattle.flow_network.specs.Flows.{NoNegative}
 use Rattle.network_prices.specs.Pending.{pending_splits}
 use Rattle.network_prices.specs.Networks.{WaveNodes}
 use Rattle.network_prices.specs.Tables.{AreRows}
-use Rattle.network_prices.specs.Prices.{IsShipped, IsPlanOf, ArePricesOf}
+use Rattle.network_prices.specs.Prices.{IsShipped, IsPlanOf, ArePricesOf, CostsAsMuch}
 use Rattle.price_certificate.specs.PriceList.{PriceList}
 use Rattle.price_certificate.specs.Certificate.{claim, Certifies}
 use Rattle.direct_network.specs.declared.layout.DirectLayout.{DirectLayout}
@@ -67,3 +67,12 @@ DirectPricesCertify =
     → NoNegative arcs flows h → h (sink_node wave) ≡ 0
     → IsPlanOf wave (direct_nodes wave) arcs flows starts → ArePricesOf wave (direct_nodes wave) h starts prices
     → Certifies (claim wave starts prices)
+
+-- and the flow costs what the plan does
+abbrev pub DirectFlowCostsAsPlan : Type 0
+DirectFlowCostsAsPlan =
+    (wave : Wave) (arcs : List FlowArc) (flows : List ℕ) (h : ℕ → ℕ) (starts : List (Option ℕ)) (prices : PriceList)
+    → IsDirect wave arcs → IsShipped wave (direct_nodes wave) arcs flows
+    → NoNegative arcs flows h → h (sink_node wave) ≡ 0
+    → IsPlanOf wave (direct_nodes wave) arcs flows starts → ArePricesOf wave (direct_nodes wave) h starts prices
+    → CostsAsMuch wave arcs flows starts

@@ -1,6 +1,8 @@
 //! Plans a wave over the direct network.
 ghost use Rattle.std.specs.Prelude.{IfOk};
 ghost use Rattle.price_certificate.specs.Certificate.{claim, Certifies, HasOneSize};
+ghost use Rattle.network_prices.specs.Prices.{IsReadOff};
+ghost use Rattle.direct_network.specs.Direct.{direct_nodes, IsDirect};
 
 use crate::{DirectNode, build, pending_nodes, plan_of, prices_of};
 use augmenting_paths::saturate;
@@ -12,6 +14,8 @@ use wave_problem::{Plan, Problem};
 /// least cost among those. It takes one augmentation for each pending split.
 pub fn priced_plan(alloc: Global, problem: &Problem) -> Result<(Plan, Prices), AllocError>
     ensures sizes { IfOk result (λ pair. HasOneSize (claim problem.now pair.0.starts pair.1) pair.0.workers) }
+    ensures over { IfOk result (λ pair.
+        IsReadOff problem.now (direct_nodes problem.now) (IsDirect problem.now) pair.0.starts pair.1) }
     ensures certifies { IfOk result (λ pair. Certifies (claim problem.now pair.0.starts pair.1)) }
 {
     let mut network = build(alloc, problem)?;

@@ -1,21 +1,24 @@
 -- A plan and prices read off a network's flows meet every condition of the certificate.
-use Rattle.std.proofs.Common.{◌≡◌, ℕ, suc, ◌+◌, ◌<◌, ◌≤◌, true, cond, List, [], ◌∷◌, length, get_or, Option, Some, None, refl, ap, subst, inl, inr, ◌⊎◌, arith, unwrap_or}
+use Rattle.std.proofs.Common.{◌≡◌, ℕ, suc, ◌+◌, ◌*◌, ◌<◌, ◌≤◌, true, false, cond, List, [], ◌∷◌, ◌++◌, length, get_or, Option, Some, None, refl, sym, ap, ◌∙◌, subst, inl, inr, ◌⊎◌, arith, unwrap_or}
 use Rattle.std.specs.Prelude.{◌==◌, IsSome}
 use Rattle.std.proofs.lemmas.Bool.{cases_Bool, cases_eq, cases_lt}
+use Rattle.std.proofs.lemmas.List.{length-append}
 use Rattle.std.proofs.lemmas.List.Sums.{sum_by-cons}
+use Rattle.std.proofs.Math.Nat.{mul-suc}
 use Rattle.flow_network.specs.declared.arcs.FlowArc.{FlowArc}
 use Rattle.flow_network.specs.Flows.{arc_at, NoNegative, inflow, outflow}
 use Rattle.wave_problem.specs.Wave.{Wave, IsAdmissible, split_at, worker_at, live_holders, cost, reward}
-use Rattle.wave_problem.specs.Assignment.{start_of, pairs_from, pairs_of, load}
+use Rattle.wave_problem.specs.Assignment.{start_of, pairs_from, pairs_of, load, total}
 use Rattle.wave_problem.proofs.Bound.{pending_known, live_known}
 use Rattle.price_certificate.specs.PriceList.{PriceList}
 use Rattle.price_certificate.specs.declared.Condition.TheVariants.{Open, Allowed, Room, SplitPrice, WorkerPrice, Priced, Tight, Unstarted, Spare}
 use Rattle.price_certificate.specs.Certificate.{claim, Certifies, split_price, worker_price}
 use Rattle.network_prices.specs.Ways.{IsAmong, IsInner, CameFrom}
-use Rattle.network_prices.specs.Pending.{IsUsable}
+use Rattle.network_prices.specs.Pending.{IsUsable, pending_below, pending_splits}
 use Rattle.network_prices.specs.Networks.{WaveNodes, way_of, IsOffer, IsWaveNetwork}
-use Rattle.network_prices.specs.Prices.{IsShipped, end_of, IsPlanOf, ArePricesOf, PricesCertify}
-use Rattle.network_prices.proofs.Pending.{one_each, balanced, fed_by_others}
+use Rattle.network_prices.specs.Prices.{IsShipped, end_of, IsPlanOf, ArePricesOf, CostsAsMuch, FlowCostsAsPlan, PricesCertify}
+use Rattle.network_prices.proofs.Pending.{pending-more, pending-same, one_each, none_each, balanced, fed_by_others}
+use Rattle.network_prices.proofs.Costs.{spent_at, spent, spent_none, spent_more, spent_all, spent_nothing, spent_one}
 use Rattle.network_prices.proofs.Ways.{deepest-ge, CameBy, room_out, own_unit, came_down}
 use Rattle.network_prices.proofs.Sums.{outflow-le, outflow-ge, outflow-ge_two}
 
@@ -244,6 +247,117 @@ module _ (wave : Wave) (nodes : WaveNodes) (arcs : List FlowArc) (flows : List �
   certifies (Tight s w) = tight s w
   certifies (Unstarted s) = priced.unstarted s
   certifies (Spare w) = spare w
+
+  -- what a split costs that has no start, or this one
+  abbrev fee : ℕ → Option ℕ → ℕ
+  fee s None = reward wave
+  fee s (Some w) = price s w
+
+  -- the arc of a split's unit costs what its start does, or the reward
+  own_cost : (s : ℕ) → (split_at wave s).pending ≡ true → (o : Option ℕ) → start_of starts s ≡ o
+      → spent_at arcs flows s ≡ fee s o
+  own_cost s p None e =
+      let c = plan.came s p in
+      let at : CameFrom arcs flows c.0 s nodes.unstarted =
+      subst (λ (o : Option ℕ). CameFrom arcs flows c.0 s (end_of nodes o)) e c.1 in
+      waited c.0 at
+    where
+      waited : (path : List ℕ) → CameFrom arcs flows path s nodes.unstarted → spent_at arcs flows s ≡ reward wave
+      waited [] came =
+          let known = pending_known wave s p in let inner = network.rest_inner.no_source in absurd (omega arith)
+      waited (k ∷ path) came =
+          let w = network.waiting k came.0 came.2 in
+          let own = own_unit arcs flows h (length wave.splits) nodes.sink shipped.sizes shipped.within reduced even
+          network.no_entry s path (arc_at arcs k).from w.0 came.3 in
+          spent_one arcs flows s k shipped.sizes (own_one s p) came.0 own came.1 ∙ w.1
+  own_cost s p (Some w) e =
+      let own = worth s w e in let by = own.1 in let bound = own.2 in
+      let u = usable s w e in
+      let least = (network.sound s w own.0 (pending_known wave s p) u by.listed by.from_is by.on_way).1 in
+      let offer = network.complete s w (admissible s w e) in
+      let most = worth_of_offer s w offer.0 u offer.1 in
+      let less = no_cheaper s own.0 offer.0 p by.listed offer.1.listed by.from_is offer.1.from_is offer.1.one by.unit in
+      let deep = by.deep in
+      let same = priced.usable w u in
+      let one = spent_one arcs flows s own.0 shipped.sizes (own_one s p) by.listed by.from_is by.unit in
+      omega arith
+
+  abbrev with_start : ℕ → Option ℕ → List (ℕ × ℕ) → List (ℕ × ℕ)
+  with_start n None pairs = pairs
+  with_start n (Some w) pairs = (n, w) ∷ pairs
+
+  -- what the splits from n on cost, of which these are the starts
+  abbrev Costs : ℕ → List (ℕ × ℕ) → Type 0
+  Costs n pairs = spent (length wave.splits) arcs flows + reward wave * length pairs
+      + reward wave * length (pending_below wave n)
+      ≡ spent n arcs flows + total wave pairs + reward wave * length (pending_splits wave)
+
+  one_more : (n : ℕ) (x : Option ℕ) (pairs : List (ℕ × ℕ)) → n < length wave.splits → start_of starts n ≡ x
+      → Costs (suc n) pairs → Costs n (with_start n x pairs)
+  one_more n x pairs known here rest = elim (cases_Bool (split_at wave n).pending) [
+    | inl p ↦ waits_for x p (own_cost n p x here)
+    | inr idle ↦ subst (λ (o : Option ℕ). Costs n (with_start n o pairs)) (sym (plan.idle n idle) ∙ here) (closed idle)
+  ]
+    where
+      more : spent (suc n) arcs flows ≡ spent n arcs flows + spent_at arcs flows n
+      more = spent_more n arcs flows
+
+      rewards : (split_at wave n).pending ≡ true
+          → reward wave * length (pending_below wave (suc n)) ≡ reward wave * length (pending_below wave n) + reward wave
+      rewards p =
+          let size = length-append (pending_below wave n) (n ∷ []) in
+          let one : length (pending_below wave (suc n)) ≡ suc (length (pending_below wave n)) =
+          ap (λ (z : List ℕ). length z) (pending-more wave n p) ∙ (let e : length (pending_below wave n ++ n ∷ []) ≡ suc (length (pending_below wave n)) = omega arith in e) in
+          ap (λ (z : ℕ). reward wave * z) one ∙ mul-suc (reward wave) (length (pending_below wave n))
+
+      waits_for : (x : Option ℕ) → (split_at wave n).pending ≡ true → spent_at arcs flows n ≡ fee n x → Costs n (with_start n x pairs)
+      waits_for None p e = let again = rewards p in let was = rest in let step = more in omega arith
+      waits_for (Some w) p e =
+          let again = rewards p in let was = rest in let step = more in
+          let start = mul-suc (reward wave) (length pairs) in
+          let sum = sum_by-cons (λ (pair : ℕ × ℕ). unwrap_or (cost wave pair.0 pair.1) 0) (n, w) pairs in
+          omega arith
+
+      closed : (split_at wave n).pending ≡ false → Costs n pairs
+      closed idle =
+          let nothing = spent_nothing arcs flows n
+          (none_each wave nodes arcs flows network.past_splits network.no_entry shipped n known idle) in
+          let same = ap (λ (z : List ℕ). reward wave * length z) (pending-same wave n idle) in
+          let was = rest in let step = more in
+          omega arith
+
+  costs_from : (n : ℕ) (xs : List (Option ℕ)) → n + length xs ≡ length wave.splits
+      → ((i : ℕ) → i < length xs → start_of starts (n + i) ≡ start_of xs i) → Costs n (pairs_from n xs)
+  costs_from n [] all are =
+      let end : n ≡ length wave.splits = omega arith in
+      let spends = ap (λ (k : ℕ). spent k arcs flows) end in
+      let waits = ap (λ (k : ℕ). reward wave * length (pending_below wave k)) end in
+      omega arith
+  costs_from n (x ∷ xs) all are =
+      let next : n + 1 ≡ suc n = omega arith in
+      let rest = costs_from (n + 1) xs (omega arith)
+      (λ i l. ap (λ (k : ℕ). start_of starts k) (let k : n + 1 + i ≡ n + suc i = omega arith in k) ∙ are (suc i) (omega arith)) in
+      let here : start_of starts n ≡ x =
+      ap (λ (k : ℕ). start_of starts k) (let k : n ≡ n + 0 = omega arith in k) ∙ are 0 (omega arith) in
+      let one = one_more n x (pairs_from (n + 1) xs) (omega arith) here
+      (subst (λ (k : ℕ). Costs k (pairs_from (n + 1) xs)) next rest) in
+      front x one
+    where
+      front : (x : Option ℕ) → Costs n (with_start n x (pairs_from (n + 1) xs)) → Costs n (pairs_from n (x ∷ xs))
+      front None one = one
+      front (Some w) one = one
+
+  costs_as_much : CostsAsMuch wave arcs flows starts
+  costs_as_much =
+      let all = costs_from 0 starts (let size = plan.size in omega arith)
+      (λ i l. ap (λ (k : ℕ). start_of starts k) (let k : 0 + i ≡ i = omega arith in k)) in
+      let none = spent_none arcs flows in
+      let whole = spent_all (length wave.splits) arcs flows network.free in
+      omega arith
+
+pub flow_costs_as_plan : FlowCostsAsPlan
+flow_costs_as_plan wave nodes arcs flows h starts prices network shipped reduced at_sink plan priced =
+    costs_as_much wave nodes arcs flows h starts prices network shipped reduced at_sink plan priced
 
 pub prices_certify : PricesCertify
 prices_certify wave nodes arcs flows h starts prices network shipped reduced at_sink plan priced =

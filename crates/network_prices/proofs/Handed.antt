@@ -7,14 +7,14 @@ use Rattle.flow_network.specs.declared.arcs.FlowArc.{FlowArc}
 use Rattle.flow_network.specs.Flows.{arc_at, inflow, outflow}
 use Rattle.wave_problem.specs.Wave.{Wave, split_at}
 use Rattle.wave_problem.specs.Assignment.{start_of, pairs_from, load, Plan}
-use Rattle.wave_problem.proofs.Bound.{pending_known, live_known}
+use Rattle.wave_problem.proofs.Bound.{pending_known}
 use Rattle.network_prices.specs.Ways.{CameFrom, IsInner}
 use Rattle.network_prices.specs.Prices.{IsShipped, end_of, IsPlanOf}
 use Rattle.network_prices.specs.HandOn.{standing, Passes, CanHandOn, IsHandedOn}
 use Rattle.network_prices.proofs.Sums.{inflow_none}
 use Rattle.network_prices.proofs.Pending.{one_each, balanced}
 use Rattle.network_prices.proofs.Places.{standing_none, standing_some, standing_from, leaves}
-use Rattle.network_prices.specs.Layers.{nodes_from, HandsOn, IsWorkerNode, IsLayered, IsStart, AreStartsTo, AreFirst}
+use Rattle.network_prices.specs.Layers.{nodes_from, HandsOn, IsLayered, IsStart, AreStartsTo, AreFirst}
 
 take_whole : {X : Type 0} (xs : List X) → take (length xs) xs ≡ xs
 take_whole {X = X} [] = refl

@@ -118,7 +118,7 @@ module _ (wave : Wave) (nodes : WaveNodes) (arcs : List FlowArc) (flows : List �
       omega arith
 
   -- and none another
-  none_each : (s : ℕ) → s < length wave.splits → (split_at wave s).pending ≡ false → outflow arcs flows s ≡ 0
+  pub none_each : (s : ℕ) → s < length wave.splits → (split_at wave s).pending ≡ false → outflow arcs flows s ≡ 0
   none_each s known f =
       let none = inflow_none arcs flows s (λ i l e. (let inner = no_entry i l in omega arith)) in
       let zero_times = times_other wave (length wave.splits) s f in

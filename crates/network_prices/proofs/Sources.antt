@@ -4,7 +4,7 @@ use Rattle.std.proofs.lemmas.Bool.{cases_lt, cases_eq}
 use Rattle.std.proofs.lemmas.List.{length-map}
 use Rattle.flow_network.specs.declared.arcs.FlowArc.{FlowArc}
 use Rattle.flow_network.specs.Flows.{AreArcs}
-use Rattle.augmenting_paths.specs.Shipping.{CanShip, AreMembers, IsShipment}
+use Rattle.augmenting_paths.specs.Shipping.{CanShip, AreMembers, IsCheapest, IsShipment}
 use Rattle.wave_problem.specs.Wave.{Wave}
 use Rattle.network_prices.specs.Pending.{pending_splits}
 use Rattle.network_prices.specs.Networks.{WaveNodes, IsWaveNetwork}
@@ -77,3 +77,9 @@ module _ {N : Type 0} (wave : Wave) (split : ℕ → N) (place : N → ℕ) (mem
     all_shipped arcs flows shipped =
         subst (λ (t : ℕ). IsShipment arcs (pending_splits wave) t flows) at
         (subst (λ (z : List ℕ). IsShipment arcs z sink flows) sources_are shipped)
+
+    pub all_cheapest : (arcs : List FlowArc) (flows : List ℕ) → IsCheapest arcs (map place sources) sink flows
+        → IsCheapest arcs (pending_splits wave) nodes.sink flows
+    all_cheapest arcs flows cheapest =
+        subst (λ (t : ℕ). IsCheapest arcs (pending_splits wave) t flows) at
+        (subst (λ (z : List ℕ). IsCheapest arcs z sink flows) sources_are cheapest)

@@ -8,7 +8,7 @@ use Rattle.flow_network.specs.Flows.{arc_at}
 use Rattle.flow_network.specs.Laws.{outroom}
 use Rattle.wave_problem.specs.Sums.{sum_below}
 use Rattle.network_prices.specs.Networks.{Stands}
-use Rattle.network_prices.specs.Building.{IsEmptyWithin, IsAdded}
+use Rattle.network_prices.specs.Building.{IsAdded}
 use Rattle.network_prices.specs.Tables.{IsBefore, AreRising, AreRows, AreRowsTo, IsBuiltTo}
 use Rattle.network_prices.proofs.Arcs.{at_old, at_new, stands_on, stands_new, each_push, add_empty, more_room}
 use Rattle.network_prices.proofs.Sums.{part_more}

@@ -1,10 +1,11 @@
 -- What plan and prices are read off a least-cost flow of a network, and that they certify.
-use Rattle.std.specs.Prelude.{◌≡◌, ℕ, ◌+◌, ◌-◌, ◌<◌, true, false, List, length, Option, Some, None, unwrap_or}
+use Rattle.std.specs.Prelude.{◌≡◌, ℕ, ◌+◌, ◌-◌, ◌*◌, ◌<◌, true, false, List, length, Option, Some, None, unwrap_or}
 use Rattle.flow_network.specs.declared.arcs.FlowArc.{FlowArc}
 use Rattle.flow_network.specs.Flows.{outflow, NoNegative}
-use Rattle.augmenting_paths.specs.Shipping.{IsShipment}
+use Rattle.flow_network.specs.Laws.{flow_cost}
+use Rattle.augmenting_paths.specs.Shipping.{IsCheapest, IsShipment}
 use Rattle.wave_problem.specs.Wave.{Wave, split_at, cost, reward}
-use Rattle.wave_problem.specs.Assignment.{start_of, pairs_of, load}
+use Rattle.wave_problem.specs.Assignment.{start_of, pairs_of, load, total}
 use Rattle.price_certificate.specs.PriceList.{PriceList}
 use Rattle.price_certificate.specs.Certificate.{claim, Certifies, split_price, worker_price}
 use Rattle.network_prices.specs.Pending.{IsUsable, pending_splits}
@@ -53,3 +54,30 @@ PricesCertify =
     → NoNegative arcs flows h → h nodes.sink ≡ 0
     → IsPlanOf wave nodes arcs flows starts → ArePricesOf wave nodes h starts prices
     → Certifies (claim wave starts prices)
+
+-- A least-cost flow costs what its plan does: the byte-distance of the starts, and the reward for each pending split
+-- that does not start.
+abbrev pub CostsAsMuch : Wave → List FlowArc → List ℕ → List (Option ℕ) → Type 0
+CostsAsMuch wave arcs flows starts = flow_cost arcs flows + reward wave * length (pairs_of starts)
+    ≡ total wave (pairs_of starts) + reward wave * length (pending_splits wave)
+
+abbrev pub FlowCostsAsPlan : Type 0
+FlowCostsAsPlan =
+    (wave : Wave) (nodes : WaveNodes) (arcs : List FlowArc) (flows : List ℕ) (h : ℕ → ℕ)
+    (starts : List (Option ℕ)) (prices : PriceList)
+    → IsWaveNetwork wave nodes arcs → IsShipped wave nodes arcs flows
+    → NoNegative arcs flows h → h nodes.sink ≡ 0
+    → IsPlanOf wave nodes arcs flows starts → ArePricesOf wave nodes h starts prices
+    → CostsAsMuch wave arcs flows starts
+
+-- a plan and prices that are read off a least-cost flow of a network of this definition, which costs what the plan does
+pub record IsReadOff (wave : Wave) (nodes : WaveNodes) (network : List FlowArc → Type 0) (starts : List (Option ℕ))
+    (prices : PriceList) : Type 0 where
+  pub arcs : List FlowArc
+  pub flows : List ℕ
+  pub depths : ℕ → ℕ
+  pub over : network arcs
+  pub cheapest : IsCheapest arcs (pending_splits wave) nodes.sink flows
+  pub plan : IsPlanOf wave nodes arcs flows starts
+  pub priced : ArePricesOf wave nodes depths starts prices
+  pub cost : CostsAsMuch wave arcs flows starts

@@ -13,6 +13,6 @@ mod reading;
 mod splits;
 
 pub use decomposing::decompose_flow;
-pub use laws::prices_certify;
+pub use laws::{flow_costs_as_plan, prices_certify};
 pub use reading::read_plan;
 pub use splits::{pending_count, split_prices};

@@ -1,15 +1,16 @@
 -- The rack network lies in layers.
-use Rattle.std.proofs.Common.{◌≡◌, ℕ, zero, suc, ◌<◌, ◌≤◌, true, List, length, refl, sym, ap, ◌∙◌, inl, inr, ◌⊎◌, arith}
+use Rattle.std.proofs.Common.{◌≡◌, ℕ, zero, suc, ◌<◌, List, length, sym, ap, ◌∙◌, inl, inr, ◌⊎◌, arith}
 use Rattle.flow_network.specs.declared.arcs.FlowArc.{FlowArc}
 use Rattle.flow_network.specs.Flows.{arc_at}
 use Rattle.wave_problem.specs.Wave.{Wave, split_at}
-use Rattle.wave_problem.proofs.Bound.{pending_known, live_known}
+use Rattle.wave_problem.proofs.Bound.{live_known}
 use Rattle.network_prices.specs.Layers.{HandsOn, IsWorkerNode, IsLayered}
+use Rattle.network_prices.proofs.Tables.{rising_ends}
 use Rattle.rack_network.specs.declared.arcs.RackArc.{RackArc}
 use Rattle.rack_network.specs.declared.arcs.RackArc.TheVariants.{Pair, Reach, Wait, Branch, Feed, Slot, Rest}
-use Rattle.rack_network.specs.Racks.{first_worker, worker_node, unstarted_node, sink_node, node_above, arc_of, IsWanted, IsRackNetwork}
+use Rattle.rack_network.specs.Racks.{first_worker, unstarted_node, sink_node, node_above, arc_of, IsWanted, IsRackNetwork}
 use Rattle.rack_network.proofs.Levels.{holder_live}
-use Rattle.rack_network.proofs.RackWays.{wave_network}
+use Rattle.rack_network.proofs.RackWays.{is_onward, wave_network}
 
 module _ (wave : Wave) (arcs : List FlowArc) (network : IsRackNetwork wave arcs) where
   -- what each arc leaves, and what it enters
@@ -58,8 +59,9 @@ module _ (wave : Wave) (arcs : List FlowArc) (network : IsRackNetwork wave arcs)
   pub is_layered : IsLayered wave (first_worker wave) arcs
   is_layered = record {
     past_splits = omega arith;
-    onward = network.ordered;
+    onward = rising_ends arcs network.rows.rising
+        (λ k l. (let d = network.rows.sound k l in is_onward wave arcs network d.0 d.1 (arc_at arcs k) d.2));
     no_entry = (wave_network wave arcs network).no_entry;
-    leaves = λ k l. (let d = network.sound k l in leaving d.0 d.1 (arc_at arcs k) d.2);
-    enters = λ k l. (let d = network.sound k l in entering d.0 d.1 (arc_at arcs k) d.2);
+    leaves = λ k l. (let d = network.rows.sound k l in leaving d.0 d.1 (arc_at arcs k) d.2);
+    enters = λ k l. (let d = network.rows.sound k l in entering d.0 d.1 (arc_at arcs k) d.2);
   }

@@ -121,3 +121,12 @@ among_kept p (y ∷ ys) (suc i) l t = elim (cases_Bool (p y)) [
   | inl k ↦ rw k (inr (among_kept p ys i (omega arith) t))
   | inr f ↦ rw f (among_kept p ys i (omega arith) t)
 ]
+
+-- an element that is read with another default
+read_at : (xs : List ℕ) (i d e : ℕ) → i < length xs → get_or xs i d ≡ get_or xs i e
+read_at [] i d e l = absurd (omega arith)
+read_at (x ∷ xs) zero d e l = refl
+read_at (x ∷ xs) (suc i) d e l = read_at xs i d e (omega arith)
+
+pub read_zero : (xs : List ℕ) (i h : ℕ) → i < length xs → h ≡ get_or xs i h → get_or xs i 0 ≡ h
+read_zero xs i h l is = read_at xs i 0 h l ∙ sym is

@@ -2,8 +2,9 @@
 pub mod Levels
 pub mod RackWays
 -- the network is built
-pub mod Adding
-pub mod Steps
+pub mod Rows
+pub mod Counts
+pub mod Nearest
 -- the plan is read off
 pub mod Layers
 -- units are shipped

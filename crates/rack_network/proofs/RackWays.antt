@@ -1,20 +1,22 @@
 -- The rack network is a network of its wave.
-use Rattle.std.proofs.Common.{◌≡◌, ℕ, zero, suc, ◌*◌, ◌<◌, ◌≤◌, List, length, refl, sym, ap, ◌∙◌, subst, inl, inr, ◌⊎◌, arith, unwrap_or}
-use Rattle.std.proofs.lemmas.Bool.{cases_Bool, cases_eq, false≢true}
+use Rattle.std.proofs.Common.{◌≡◌, ℕ, zero, suc, ◌+◌, ◌*◌, ◌<◌, ◌≤◌, Bool, cond, eqb, List, length, refl, sym, ap, ◌∙◌, subst, inl, inr, ◌⊎◌, arith, unwrap_or}
+use Rattle.std.proofs.lemmas.Bool.{cases_Bool, cases_eq, eq-eqb, ne_eqb, false≢true}
 use Rattle.std.proofs.Math.Nat.{mul-le-mul_left}
 use Rattle.node_ids.specs.Sets.{HasPair, has_number, place_of_pair}
 use Rattle.flow_network.specs.declared.arcs.FlowArc.{FlowArc}
 use Rattle.flow_network.specs.Flows.{arc_at}
+use Rattle.flow_network.specs.Laws.{outroom}
 use Rattle.wave_problem.specs.Wave.{Wave, IsAdmissible, split_at, worker_at, cost, reward}
 use Rattle.wave_problem.proofs.Bound.{pending_known, live_known}
 use Rattle.network_prices.specs.Pending.{IsUsable}
 use Rattle.network_prices.specs.Ways.{IsAmong, IsFed, IsWay}
 use Rattle.network_prices.specs.Networks.{way_of, IsArcFrom, IsOffer, IsWaveNetwork}
 use Rattle.network_prices.proofs.Arcs.{arc_standing}
-use Rattle.network_prices.proofs.Certified.{prices_certify}
+use Rattle.network_prices.proofs.Tables.{outroom-rows}
+use Rattle.network_prices.proofs.Certified.{flow_costs_as_plan, prices_certify}
 use Rattle.rack_network.specs.declared.arcs.RackArc.{RackArc}
 use Rattle.rack_network.specs.declared.arcs.RackArc.TheVariants.{Pair, Reach, Wait, Branch, Feed, Slot, Rest}
-use Rattle.rack_network.specs.Racks.{worker_node, rack_node, cluster_node, unstarted_node, sink_node, rack_of, rack_nodes, node_above, HasBars, arc_of, IsWanted, IsRackNetwork, RackPricesCertify}
+use Rattle.rack_network.specs.Racks.{first_worker, worker_node, rack_node, cluster_node, unstarted_node, sink_node, slots_of, slots_below, rack_of, rack_nodes, node_above, HasBars, arc_of, IsWanted, IsRackNetwork, RackFlowCostsAsPlan, RackPricesCertify}
 use Rattle.rack_network.proofs.Levels.{holder_live, holder_held, cost-le, cost_is, Meet, distance-le, distance_is}
 
 -- whether a split has a barred pair
@@ -213,7 +215,120 @@ module _ (wave : Wave) (arcs : List FlowArc) (network : IsRackNetwork wave arcs)
 
   -- each arc that the network wants, by its number
   the_arc : (d : RackArc) → IsWanted wave d → (k : ℕ) × IsArcFrom arcs k (arc_of wave d).from (arc_of wave d).to (arc_of wave d).capacity (arc_of wave d).cost
-  the_arc d wanted = arc_standing arcs (arc_of wave d) (network.complete d wanted)
+  the_arc d wanted = arc_standing arcs (arc_of wave d) (network.rows.complete d wanted)
+
+  -- a worker is left by its one arc
+  worker_room : (w : ℕ) → w < length wave.workers → outroom arcs (worker_node wave w) ≡ (worker_at wave w).free
+  worker_room w known =
+      let f = the_arc (Slot w) known in
+      let slot = f.1 in
+      let all : outroom arcs (worker_node wave w) ≡ 0 + (worker_at wave w).free =
+      outroom-rows arcs (worker_node wave w) (sink_node wave) 1 (λ i. (worker_at wave w).free) network.rows.rising
+      (λ k l from. (let to = (own k l from).0 in omega arith)) (λ k l from. (let to = (own k l from).0 in omega arith))
+      (λ i l. record {
+        some = λ k m from to. (own k m from).1;
+        none = λ room. (f.0, slot.listed, slot.from_is, (let to = slot.to_is in omega arith));
+      }) in
+      omega arith
+    where
+      is_slot : (d : RackArc) → IsWanted wave d → (a : FlowArc) → a ≡ arc_of wave d → a.from ≡ worker_node wave w
+          → (a.to ≡ sink_node wave) × (a.capacity ≡ (worker_at wave w).free)
+      is_slot (Pair s v) d a e from = absurd (let source = pending_known wave s d.0.pending in let is = ap (λ (a : FlowArc). a.from) e in omega arith)
+      is_slot (Reach s level h) d a e from = absurd (let source = pending_known wave s d.pending in let is = ap (λ (a : FlowArc). a.from) e in omega arith)
+      is_slot (Wait s) d a e from = absurd (let source = pending_known wave s d in let is = ap (λ (a : FlowArc). a.from) e in omega arith)
+      is_slot (Branch r) d a e from = absurd (let is = ap (λ (a : FlowArc). a.from) e in omega arith)
+      is_slot (Feed v) d a e from =
+          absurd (let rack = network.racks_known v (live_known wave v d.0) in let is = ap (λ (a : FlowArc). a.from) e in omega arith)
+      is_slot (Slot v) d a e from =
+          let is = ap (λ (a : FlowArc). a.from) e in
+          let same : v ≡ w = omega arith in
+          (ap (λ (a : FlowArc). a.to) e, ap (λ (a : FlowArc). a.capacity) e ∙ ap (λ (x : ℕ). (worker_at wave x).free) same)
+      is_slot Rest d a e from = absurd (let is = ap (λ (a : FlowArc). a.from) e in omega arith)
+
+      own : (k : ℕ) → k < length arcs → (arc_at arcs k).from ≡ worker_node wave w
+          → ((arc_at arcs k).to ≡ sink_node wave) × ((arc_at arcs k).capacity ≡ (worker_at wave w).free)
+      own k l from = let d = network.rows.sound k l in is_slot d.0 d.1 (arc_at arcs k) d.2 from
+
+  live_slots : (w : ℕ) → IsUsable wave w → slots_of wave w ≡ (worker_at wave w).free
+  live_slots w u = ap (λ (b : Bool). cond b (worker_at wave w).free 0) u.0
+
+  some_slots : (w : ℕ) → 0 < slots_of wave w → IsUsable wave w
+  some_slots w l = elim (cases_Bool (worker_at wave w).live) [
+    | inl live ↦ (let is : slots_of wave w ≡ (worker_at wave w).free = ap (λ (b : Bool). cond b (worker_at wave w).free 0) live in (live, omega arith))
+    | inr dead ↦ absurd (let is : slots_of wave w ≡ 0 = ap (λ (b : Bool). cond b (worker_at wave w).free 0) dead in omega arith)
+  ]
+
+  -- a rack is left by the arcs to its usable workers
+  rack_room : (r : ℕ) → r < wave.tree.racks → outroom arcs (rack_node wave r) ≡ slots_below wave (length wave.workers) r
+  rack_room r known =
+      outroom-rows arcs (rack_node wave r) (first_worker wave) (length wave.workers) (λ w. cond (eqb (rack_of wave w) r) (slots_of wave w) 0)
+      network.rows.rising
+      (λ k l from. (let o = own k l from in let to = o.3 in omega arith))
+      (λ k l from. (let o = own k l from in let to = o.3 in let worker = live_known wave o.0 o.1.0 in omega arith))
+      (λ i l. record {
+        some = λ k m from to.
+            (let o = own k m from in
+            let at = o.3 in
+            let same : o.0 ≡ i = omega arith in
+            let rack : rack_of wave i ≡ r = sym (ap (rack_of wave) same) ∙ o.2 in
+            let usable = subst (IsUsable wave) same o.1 in
+            o.4 ∙ ap (λ (x : ℕ). (worker_at wave x).free) same ∙ sym (live_slots i usable) ∙ sym (on_rack i rack));
+        none = λ room. elim (cases_eq (rack_of wave i) r) [
+          | inl rack ↦
+              (let is = on_rack i rack in
+              let f = the_arc (Feed i) (some_slots i (omega arith)) in
+              let feed = f.1 in
+              (f.0, feed.listed, feed.from_is ∙ ap (rack_node wave) rack, feed.to_is))
+          | inr other ↦ absurd (let is = off_rack i other in omega arith)
+        ];
+      })
+    where
+      on_rack : (i : ℕ) → rack_of wave i ≡ r → cond (eqb (rack_of wave i) r) (slots_of wave i) 0 ≡ slots_of wave i
+      on_rack i e = ap (λ (b : Bool). cond b (slots_of wave i) 0) (eq-eqb (rack_of wave i) r e)
+
+      off_rack : (i : ℕ) → (rack_of wave i ≡ r → ⊥) → cond (eqb (rack_of wave i) r) (slots_of wave i) 0 ≡ 0
+      off_rack i n = ap (λ (b : Bool). cond b (slots_of wave i) 0) (ne_eqb (rack_of wave i) r n)
+
+      is_feed : (d : RackArc) → IsWanted wave d → (a : FlowArc) → a ≡ arc_of wave d → a.from ≡ rack_node wave r
+          → (w : ℕ) × IsUsable wave w × (rack_of wave w ≡ r) × (a.to ≡ worker_node wave w) × (a.capacity ≡ (worker_at wave w).free)
+      is_feed (Pair s v) d a e from = absurd (let source = pending_known wave s d.0.pending in let is = ap (λ (a : FlowArc). a.from) e in omega arith)
+      is_feed (Reach s level h) d a e from = absurd (let source = pending_known wave s d.pending in let is = ap (λ (a : FlowArc). a.from) e in omega arith)
+      is_feed (Wait s) d a e from = absurd (let source = pending_known wave s d in let is = ap (λ (a : FlowArc). a.from) e in omega arith)
+      is_feed (Branch q) d a e from = absurd (let is = ap (λ (a : FlowArc). a.from) e in omega arith)
+      is_feed (Feed v) d a e from = (
+        v,
+        d,
+        (let is = ap (λ (a : FlowArc). a.from) e in omega arith),
+        ap (λ (a : FlowArc). a.to) e,
+        ap (λ (a : FlowArc). a.capacity) e,
+      )
+      is_feed (Slot v) d a e from = absurd (let is = ap (λ (a : FlowArc). a.from) e in omega arith)
+      is_feed Rest d a e from = absurd (let is = ap (λ (a : FlowArc). a.from) e in omega arith)
+
+      own : (k : ℕ) → k < length arcs → (arc_at arcs k).from ≡ rack_node wave r
+          → (w : ℕ) × IsUsable wave w × (rack_of wave w ≡ r) × ((arc_at arcs k).to ≡ worker_node wave w) × ((arc_at arcs k).capacity ≡ (worker_at wave w).free)
+      own k l from = let d = network.rows.sound k l in is_feed d.0 d.1 (arc_at arcs k) d.2 from
+
+  -- each arc leads to a later node
+  pub is_onward : (d : RackArc) → IsWanted wave d → (a : FlowArc) → a ≡ arc_of wave d → a.from < a.to
+  is_onward (Pair s v) d a e =
+      let source = pending_known wave s d.0.pending in
+      let from = ap (λ (a : FlowArc). a.from) e in let to = ap (λ (a : FlowArc). a.to) e in omega arith
+  is_onward (Reach s level h) d a e =
+      let source = pending_known wave s d.pending in
+      let past = no_split (Reach s level h) d a e in
+      let from = ap (λ (a : FlowArc). a.from) e in omega arith
+  is_onward (Wait s) d a e =
+      let source = pending_known wave s d in
+      let from = ap (λ (a : FlowArc). a.from) e in let to = ap (λ (a : FlowArc). a.to) e in omega arith
+  is_onward (Branch r) d a e = let from = ap (λ (a : FlowArc). a.from) e in let to = ap (λ (a : FlowArc). a.to) e in omega arith
+  is_onward (Feed v) d a e =
+      let rack = network.racks_known v (live_known wave v d.0) in
+      let from = ap (λ (a : FlowArc). a.from) e in let to = ap (λ (a : FlowArc). a.to) e in omega arith
+  is_onward (Slot v) d a e =
+      let worker : v < length wave.workers = d in
+      let from = ap (λ (a : FlowArc). a.from) e in let to = ap (λ (a : FlowArc). a.to) e in omega arith
+  is_onward Rest d a e = let from = ap (λ (a : FlowArc). a.from) e in let to = ap (λ (a : FlowArc). a.to) e in omega arith
 
   fed_worker : (w : ℕ) → IsUsable wave w → IsFed arcs (length wave.splits) (rack_node wave (rack_of wave w)) (worker_node wave w)
   fed_worker w u =
@@ -225,9 +340,9 @@ module _ (wave : Wave) (arcs : List FlowArc) (network : IsRackNetwork wave arcs)
         from_is = arc.from_is;
         to_is = arc.to_is;
         without_cost = arc.cost_is;
-        whole = arc.capacity_is ∙ sym (network.worker_room w known);
+        whole = arc.capacity_is ∙ sym (worker_room w known);
         inner = omega arith;
-        entered = λ k l t. (let d = network.sound k l in to_worker w known d.0 d.1 (arc_at arcs k) d.2 t);
+        entered = λ k l t. (let d = network.rows.sound k l in to_worker w known d.0 d.1 (arc_at arcs k) d.2 t);
       }
 
   fed_rack : (r : ℕ) → r < wave.tree.racks → IsFed arcs (length wave.splits) (cluster_node wave) (rack_node wave r)
@@ -239,9 +354,9 @@ module _ (wave : Wave) (arcs : List FlowArc) (network : IsRackNetwork wave arcs)
         from_is = arc.from_is;
         to_is = arc.to_is;
         without_cost = arc.cost_is;
-        whole = arc.capacity_is ∙ sym (network.rack_room r known);
+        whole = arc.capacity_is ∙ sym (rack_room r known);
         inner = omega arith;
-        entered = λ k l t. (let d = network.sound k l in to_rack r known d.0 d.1 (arc_at arcs k) d.2 t);
+        entered = λ k l t. (let d = network.rows.sound k l in to_rack r known d.0 d.1 (arc_at arcs k) d.2 t);
       }
 
   way_up : (w : ℕ) → IsUsable wave w → IsWay arcs (length wave.splits) (sink_node wave) (way_of (rack_nodes wave) w)
@@ -255,7 +370,7 @@ module _ (wave : Wave) (arcs : List FlowArc) (network : IsRackNetwork wave arcs)
           fed_rack (rack_of wave w) rack,
           (
             record { no_source = omega arith; no_sink = λ e. omega arith },
-            λ k l t. (let d = network.sound k l in to_cluster d.0 d.1 (arc_at arcs k) d.2 t),
+            λ k l t. (let d = network.rows.sound k l in to_cluster d.0 d.1 (arc_at arcs k) d.2 t),
           ),
         ),
       )
@@ -302,22 +417,36 @@ module _ (wave : Wave) (arcs : List FlowArc) (network : IsRackNetwork wave arcs)
       slot zero h w free m e = subst (λ (x : ℕ). 0 < (worker_at wave x).free) (sym m) free
       slot (suc n) h w free m e = absurd (omega arith)
 
+  -- the splits' arcs alone have costs
+  is_free : (d : RackArc) → IsWanted wave d → (a : FlowArc) → a ≡ arc_of wave d → length wave.splits ≤ a.from → a.cost ≡ 0
+  is_free (Pair s w) want a e past =
+      absurd (let known = pending_known wave s want.0.pending in let from = ap (λ (a : FlowArc). a.from) e in omega arith)
+  is_free (Reach s level h) want a e past =
+      absurd (let known = pending_known wave s want.pending in let from = ap (λ (a : FlowArc). a.from) e in omega arith)
+  is_free (Wait s) want a e past =
+      absurd (let known = pending_known wave s want in let from = ap (λ (a : FlowArc). a.from) e in omega arith)
+  is_free (Branch r) want a e past = ap (λ (a : FlowArc). a.cost) e
+  is_free (Feed w) want a e past = ap (λ (a : FlowArc). a.cost) e
+  is_free (Slot w) want a e past = ap (λ (a : FlowArc). a.cost) e
+  is_free Rest want a e past = ap (λ (a : FlowArc). a.cost) e
+
   pub wave_network : IsWaveNetwork wave (rack_nodes wave) arcs
   wave_network = record {
     past_splits = omega arith;
-    no_entry = λ k l. (let d = network.sound k l in no_split d.0 d.1 (arc_at arcs k) d.2);
+    no_entry = λ k l. (let d = network.rows.sound k l in no_split d.0 d.1 (arc_at arcs k) d.2);
+    free = λ k l past. (let d = network.rows.sound k l in is_free d.0 d.1 (arc_at arcs k) d.2 past);
     ways = way_up;
-    closed = λ w k known n l t. (let d = network.sound k l in n (usable_there w known d.0 d.1 (arc_at arcs k) d.2 t));
+    closed = λ w k known n l t. (let d = network.rows.sound k l in n (usable_there w known d.0 d.1 (arc_at arcs k) d.2 t));
     known = λ w. omega arith;
-    sound = λ s w k known u l f among. (let d = network.sound k l in is_sound s w known u d.0 d.1 (arc_at arcs k) d.2 f among);
+    sound = λ s w k known u l f among. (let d = network.rows.sound k l in is_sound s w known u d.0 d.1 (arc_at arcs k) d.2 f among);
     complete = is_complete;
     wait = λ s p. the_arc (Wait s) p;
-    waiting = λ k l t. (let d = network.sound k l in to_unstarted d.0 d.1 (arc_at arcs k) d.2 t);
+    waiting = λ k l t. (let d = network.rows.sound k l in to_unstarted d.0 d.1 (arc_at arcs k) d.2 t);
     rest = (let f = the_arc Rest tt in (f.0, (arc_of wave Rest).capacity, f.1, omega arith));
     apart = apart_from;
     rest_inner = record { no_source = omega arith; no_sink = λ e. omega arith };
     slot = λ w u. the_arc (Slot w) (live_known wave w u.0);
-    slots = λ w u. network.worker_room w (live_known wave w u.0);
+    slots = λ w u. worker_room w (live_known wave w u.0);
   }
     where
       apart_from : (w : ℕ) → IsUsable wave w → IsAmong (unstarted_node wave) (way_of (rack_nodes wave) w) → ⊥
@@ -329,3 +458,8 @@ module _ (wave : Wave) (arcs : List FlowArc) (network : IsRackNetwork wave arcs)
 pub rack_prices : RackPricesCertify
 rack_prices wave arcs flows h starts prices network shipped reduced at_sink plan priced =
     prices_certify wave (rack_nodes wave) arcs flows h starts prices (wave_network wave arcs network) shipped reduced at_sink plan priced
+
+-- and the flow costs what the plan does
+pub rack_costs : RackFlowCostsAsPlan
+rack_costs wave arcs flows h starts prices network shipped reduced at_sink plan priced =
+    flow_costs_as_plan wave (rack_nodes wave) arcs flows h starts prices (wave_network wave arcs network) shipped reduced at_sink plan priced

@@ -3,7 +3,7 @@ use Rattle.std.proofs.Common.{◌≡◌, ℕ, ◌+◌, ◌<◌, ◌≤◌, true,
 use Rattle.std.proofs.lemmas.Bool.{lt-ltb}
 use Rattle.flow_network.specs.declared.arcs.FlowArc.{FlowArc}
 use Rattle.flow_network.specs.Flows.{AreArcs}
-use Rattle.augmenting_paths.specs.Shipping.{CanShip, AreMembers, IsShipment}
+use Rattle.augmenting_paths.specs.Shipping.{CanShip, AreMembers, IsCheapest, IsShipment}
 use Rattle.wave_problem.specs.Wave.{Wave}
 use Rattle.network_prices.specs.Pending.{pending_splits}
 use Rattle.network_prices.specs.Prices.{IsShipped}
@@ -33,3 +33,7 @@ module _ (wave : Wave) (s r w : ℕ) (nodes : List RackNode) (splits : s ≡ len
 
   pub all_shipped : (arcs : List FlowArc) (flows : List ℕ) → IsShipment arcs (map (place_of s r w) nodes) (s + 1 + r + w + 1) flows → IsShipped wave (rack_nodes wave) arcs flows
   all_shipped = any.all_shipped wave Split (place_of s r w) (is_node s r w) (λ x. refl) known nodes are (rack_nodes wave) (s + 1 + r + w + 1) sink_is
+
+  pub all_cheapest : (arcs : List FlowArc) (flows : List ℕ) → IsCheapest arcs (map (place_of s r w) nodes) (s + 1 + r + w + 1) flows
+      → IsCheapest arcs (pending_splits wave) (sink_node wave) flows
+  all_cheapest = any.all_cheapest wave Split (place_of s r w) (is_node s r w) (λ x. refl) known nodes are (rack_nodes wave) (s + 1 + r + w + 1) sink_is

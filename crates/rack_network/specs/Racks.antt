@@ -1,17 +1,17 @@
 -- The rack network of a wave: its nodes by their places, and its arcs.
-use Rattle.std.specs.Prelude.{ℕ, ◌≡◌, ◌+◌, ◌*◌, ◌<◌, ◌≤◌, ◌==◌, true, cond, List, [], ◌∷◌, length, unwrap_or, slice_index, Option}
+use Rattle.std.specs.Prelude.{ℕ, ◌≡◌, ◌+◌, ◌*◌, ◌<◌, ◌==◌, true, cond, List, [], ◌∷◌, length, unwrap_or, slice_index, Option}
 use Rattle.node_ids.specs.Sets.{HasPair}
 use Rattle.wave_problem.specs.Wave.{Wave, IsAdmissible, split_at, worker_at, live_holders, cost, reward}
 use Rattle.wave_problem.specs.Sums.{sum_below}
 use Rattle.price_certificate.specs.PriceList.{PriceList}
 use Rattle.price_certificate.specs.Certificate.{claim, Certifies}
 use Rattle.flow_network.specs.declared.arcs.FlowArc.{FlowArc}
-use Rattle.flow_network.specs.Flows.{arc_at, NoNegative}
-use Rattle.flow_network.specs.Laws.{outroom}
+use Rattle.flow_network.specs.Flows.{NoNegative}
 use Rattle.network_prices.specs.Pending.{IsUsable, pending_splits}
 use Rattle.network_prices.specs.Ways.{IsAmong}
-use Rattle.network_prices.specs.Networks.{WaveNodes, way_of, Stands}
-use Rattle.network_prices.specs.Prices.{IsShipped, IsPlanOf, ArePricesOf}
+use Rattle.network_prices.specs.Networks.{WaveNodes, way_of}
+use Rattle.network_prices.specs.Tables.{AreRows}
+use Rattle.network_prices.specs.Prices.{IsShipped, IsPlanOf, ArePricesOf, CostsAsMuch}
 use Rattle.rack_network.specs.declared.layout.RackLayout.{RackLayout}
 use Rattle.rack_network.specs.declared.arcs.RackArc.{RackArc}
 use Rattle.rack_network.specs.declared.arcs.RackArc.TheVariants.{Pair, Reach, Wait, Branch, Feed, Slot, Rest}
@@ -104,23 +104,11 @@ IsWanted wave (Feed w) = IsUsable wave w
 IsWanted wave (Slot w) = w < length wave.workers
 IsWanted wave Rest = Unit {0}
 
--- what the arcs that lead to a node can carry together
-abbrev pub inroom : List FlowArc → ℕ → ℕ
-inroom [] v = 0
-inroom (a ∷ arcs) v = cond (a.to == v) a.capacity 0 + inroom arcs v
-
--- The arcs of the rack network of a wave: each of them, and no others, in an order in which each leads past the
--- starts of those before it. What leaves a rack or a worker, and what comes to the node of the splits that are not
--- started, can carry just what the one arc on its other side can.
+-- The arcs of the rack network of a wave: each of them once, and no others, by rising start and then by rising end;
+-- and each worker stands in one of the racks.
 pub record IsRackNetwork (wave : Wave) (arcs : List FlowArc) : Type 0 where
-  pub sound : (k : ℕ) → k < length arcs → (d : RackArc) × IsWanted wave d × (arc_at arcs k ≡ arc_of wave d)
-  pub complete : (d : RackArc) → IsWanted wave d → Stands arcs (arc_of wave d)
-  pub ordered : (j k : ℕ) → j ≤ k → k < length arcs → (arc_at arcs j).from < (arc_at arcs k).to
+  pub rows : AreRows (IsWanted wave) (arc_of wave) arcs
   pub racks_known : (w : ℕ) → w < length wave.workers → rack_of wave w < wave.tree.racks
-  pub worker_room : (w : ℕ) → w < length wave.workers → outroom arcs (worker_node wave w) ≡ (worker_at wave w).free
-  pub rack_room : (r : ℕ) → r < wave.tree.racks
-      → outroom arcs (rack_node wave r) ≡ slots_below wave (length wave.workers) r
-  pub waiting_room : inroom arcs (unstarted_node wave) ≡ length (pending_splits wave)
 
 -- read off a flow and potentials under which no residual arc has a negative reduced cost, the prices certify
 -- the plan
@@ -131,3 +119,12 @@ RackPricesCertify =
     → NoNegative arcs flows h → h (sink_node wave) ≡ 0
     → IsPlanOf wave (rack_nodes wave) arcs flows starts → ArePricesOf wave (rack_nodes wave) h starts prices
     → Certifies (claim wave starts prices)
+
+-- and the flow costs what the plan does
+abbrev pub RackFlowCostsAsPlan : Type 0
+RackFlowCostsAsPlan =
+    (wave : Wave) (arcs : List FlowArc) (flows : List ℕ) (h : ℕ → ℕ) (starts : List (Option ℕ)) (prices : PriceList)
+    → IsRackNetwork wave arcs → IsShipped wave (rack_nodes wave) arcs flows
+    → NoNegative arcs flows h → h (sink_node wave) ≡ 0
+    → IsPlanOf wave (rack_nodes wave) arcs flows starts → ArePricesOf wave (rack_nodes wave) h starts prices
+    → CostsAsMuch wave arcs flows starts

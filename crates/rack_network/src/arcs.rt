@@ -111,6 +111,23 @@ fn node_above(problem: &Problem, level: u8, worker: WorkerNo) -> RackNode
     }
 }
 
+// The place of that node.
+pub fn place_above(problem: &Problem, level: u8, worker: WorkerNo) -> usize
+    requires level { level < LEVELS }
+    requires worker { worker < length problem.now.workers }
+    ensures place { result ≡ node_above problem.now level worker }
+    ensures limit { result < 4096 }
+{
+    let cluster = problem.splits();
+    let racks = cluster + 1;
+    let tree = problem.tree();
+    match level {
+        0 => racks + tree.racks() + worker.index(),
+        1 => racks + tree.rack_of(worker).index(),
+        _ => cluster,
+    }
+}
+
 // The free slots of the live workers of a rack.
 fn slots_below(problem: &Problem, rack: RackNo) -> u64
     ensures sum { result ≡ slots_below problem.now (length problem.now.workers) rack }

@@ -1,19 +1,21 @@
 //! Builds the rack network of a problem.
-ghost use Rattle.std.specs.Prelude.{◌≡◌, ℕ, ◌+◌, ◌*◌, ◌<◌, ◌≤◌, ◌^◌, ◌∷◌, ◌++◌, ◌↔◌, [], true, length, All, IfOk, IsTrue, OnOk, slice_index};
+ghost use Rattle.std.specs.Prelude.{◌≡◌, ℕ, ◌+◌, ◌-◌, ◌*◌, ◌<◌, ◌≤◌, ◌^◌, ◌∷◌, ◌++◌, ◌↔◌, [], true, length, All, IfOk, IfSome, IsTrue, OnOk, Some, slice_index};
 ghost use Rattle.wave_problem.specs.Wave.{reward, split_at, worker_at};
 ghost use Rattle.wave_problem.specs.declared.TheConstants.{MAX_HOLDERS, MAX_SPLITS};
 ghost use Rattle.rack_network.specs.declared.arcs.TheConstants.{LEVELS, MAX_ARCS};
-ghost use Rattle.rack_network.specs.Racks.{arc_of, cluster_node, node_above, rack_node, worker_node, unstarted_node, HasBars, IsRackNetwork, IsSized, IsWanted};
-ghost use Rattle.rack_network.specs.Build.{above_sink, at_pair, at_reach, at_split, at_wait, IsBuilt, IsMet};
+ghost use Rattle.network_prices.specs.Pending.{IsUsable};
+ghost use Rattle.rack_network.specs.Racks.{arc_of, cluster_node, node_above, rack_node, rack_of, worker_node, unstarted_node, HasBars, IsRackNetwork, IsSized, IsWanted};
+ghost use Rattle.rack_network.specs.Build.{in_racks, level_end, level_start, AreRacksKnown, IsBuilt, IsNearer, IsNext, IsReached};
 
+use crate::arcs::place_above;
 use crate::{LEVELS, RackArc, RackLayout};
 use flow_network::{NetError, Network};
 use node_ids::{RackNo, SplitNo, WorkerNo};
 use std::alloc::{AllocError, Global};
 use wave_problem::{Near, Problem};
 
-/// The rack network of a problem, without flow: split by split the arcs to workers, racks and `Cluster`
-/// and to `Unstarted`, then those of `Cluster`, of the racks and of the workers, then the last. Where
+/// The rack network of a problem, without flow, row by row: of each split the arcs to `Cluster`, to racks, to
+/// workers and to `Unstarted`, then those of `Cluster`, of the racks and of the workers, then the last. Where
 /// live holders of a split stand below one node, one arc leads from the split to it.
 pub fn build(alloc: Global, problem: &Problem) -> Result<Network<RackLayout>, AllocError>
     ensures layout { IfOk result (λ network. IsSized problem.now network.layout) }
@@ -27,19 +29,31 @@ pub fn build(alloc: Global, problem: &Problem) -> Result<Network<RackLayout>, Al
         workers: problem.workers() as u16,
     };
     let mut network = Network::new(alloc, layout)?;
+    know_racks(problem);
     add_splits(&mut network, problem)?;
     add_branches(&mut network, problem)?;
-    add_feeds(&mut network, problem)?;
+    add_racks(&mut network, problem)?;
     add_slots(&mut network, problem)?;
     add(&mut network, problem, RackArc::Rest, 0)?;
     Ok(network)
 }
 
-// Adds the arcs that leave splits.
+// That each worker stands in one of the racks, which the tree says of one worker at a time.
+fn know_racks(problem: &Problem)
+    ensures { AreRacksKnown problem.now }
+{
+    let tree = problem.tree();
+    for i in 0..problem.workers() {
+        let _rack = tree.rack_of(WorkerNo::new(i as u16));
+    }
+}
+
+// Adds the rows of the splits.
 fn add_splits(network: &mut Network<RackLayout>, problem: &Problem) -> Result<(), AllocError>
-    requires { IsBuilt problem.now (at_split 0) (cluster_node problem.now) 0 network.old }
-    ensures { OnOk result (IsBuilt problem.now (at_split (length problem.now.splits)) (cluster_node problem.now)
-        (257 * length problem.now.splits) network.new) }
+    requires racks { AreRacksKnown problem.now }
+    requires built { IsBuilt problem.now 0 0 0 network.old }
+    ensures built { OnOk result (IsBuilt problem.now (cluster_node problem.now) 0 (257 * length problem.now.splits)
+        network.new) }
 {
     let worth = problem.reward();
     for i in 0..problem.splits() {
@@ -51,7 +65,7 @@ fn add_splits(network: &mut Network<RackLayout>, problem: &Problem) -> Result<()
     Ok(())
 }
 
-// Adds the arcs that leave a pending split.
+// Adds the row of a pending split.
 fn add_split(
     network: &mut Network<RackLayout>,
     problem: &Problem,
@@ -63,9 +77,9 @@ fn add_split(
     requires pending { (split_at problem.now split).pending ≡ true }
     requires worth { worth ≡ reward problem.now }
     requires small { worth < 2 ^ 39 }
-    requires built { IsBuilt problem.now (at_split split) (cluster_node problem.now) (257 * split) network.old }
-    ensures built { OnOk result (IsBuilt problem.now (at_split (split + 1)) (cluster_node problem.now)
-        (257 * split + 257) network.new) }
+    requires racks { AreRacksKnown problem.now }
+    requires built { IsBuilt problem.now split 0 (257 * split) network.old }
+    ensures built { OnOk result (IsBuilt problem.now (split + 1) 0 (257 * split + 257) network.new) }
 {
     add_ways(network, problem, split)?;
     add(network, problem, RackArc::Wait(split), worth)?;
@@ -81,9 +95,10 @@ fn add_ways(
     requires split { split < length problem.now.splits }
     requires few { split < MAX_SPLITS }
     requires pending { (split_at problem.now split).pending ≡ true }
-    requires built { IsBuilt problem.now (at_split split) (cluster_node problem.now) (257 * split) network.old }
-    ensures built { OnOk result (IsBuilt problem.now (at_wait problem.now split) (cluster_node problem.now)
-        (257 * split + 256) network.new) }
+    requires racks { AreRacksKnown problem.now }
+    requires built { IsBuilt problem.now split 0 (257 * split) network.old }
+    ensures built { OnOk result (IsBuilt problem.now split (unstarted_node problem.now) (257 * split + 256)
+        network.new) }
 {
     if has_bars(problem, split) {
         add_pairs(network, problem, split)
@@ -114,9 +129,10 @@ fn add_pairs(
     requires split { split < length problem.now.splits }
     requires few { split < MAX_SPLITS }
     requires bars { HasBars problem.now split }
-    requires built { IsBuilt problem.now (at_pair split 0) (cluster_node problem.now) (257 * split) network.old }
-    ensures built { OnOk result (IsBuilt problem.now (at_wait problem.now split) (cluster_node problem.now)
-        (257 * split + 256) network.new) }
+    requires racks { AreRacksKnown problem.now }
+    requires built { IsBuilt problem.now split 0 (257 * split) network.old }
+    ensures built { OnOk result (IsBuilt problem.now split (unstarted_node problem.now) (257 * split + 256)
+        network.new) }
 {
     let near = Near::new(problem, split);
     for i in 0..problem.workers() {
@@ -139,88 +155,118 @@ fn add_reaches(
     requires few { split < MAX_SPLITS }
     requires pending { (split_at problem.now split).pending ≡ true }
     requires no_bars { HasBars problem.now split → ⊥ }
-    requires built { IsBuilt problem.now (at_reach split 0 0) (cluster_node problem.now) (257 * split) network.old }
-    ensures built { OnOk result (IsBuilt problem.now (at_wait problem.now split) (cluster_node problem.now)
-        (257 * split + 256) network.new) }
+    requires racks { AreRacksKnown problem.now }
+    requires built { IsBuilt problem.now split 0 (257 * split) network.old }
+    ensures built { OnOk result (IsBuilt problem.now split (unstarted_node problem.now) (257 * split + 256)
+        network.new) }
 {
-    for level in 0..LEVELS {
-        add_level(network, problem, split, level)?;
-    }
-    Ok(())
+    let cluster = problem.splits();
+    let racks = cluster + 1;
+    let workers = racks + problem.tree().racks();
+    add_level(network, problem, split, 2, cluster)?;
+    add_level(network, problem, split, 1, racks)?;
+    add_level(network, problem, split, 0, workers)
 }
 
-// Adds those to the nodes of one level.
+// Adds those to the nodes of one level, the first of which is told, each once, by rising node.
 fn add_level(
     network: &mut Network<RackLayout>,
     problem: &Problem,
     split: SplitNo,
     level: u8,
+    first: usize,
 ) -> Result<(), AllocError>
     requires split { split < length problem.now.splits }
     requires few { split < MAX_SPLITS }
     requires level { level < LEVELS }
+    requires first { first ≡ level_start problem.now level }
     requires pending { (split_at problem.now split).pending ≡ true }
     requires no_bars { HasBars problem.now split → ⊥ }
-    requires built { IsBuilt problem.now (at_reach split level 0) (cluster_node problem.now) (257 * split + 8 * level)
+    requires racks { AreRacksKnown problem.now }
+    requires built { IsBuilt problem.now split (level_start problem.now level) (257 * split + 8 * (2 - level))
         network.old }
-    ensures built { OnOk result (IsBuilt problem.now (at_reach split (level + 1) 0) (cluster_node problem.now)
-        (257 * split + 8 * level + 8) network.new) }
+    ensures built { OnOk result (IsBuilt problem.now split (level_end problem.now level)
+        (257 * split + 8 * (2 - level) + 8) network.new) }
 {
     let holders = problem.holders(split);
     let cost = problem.bytes(split) * (2 * u64::from(level));
-    for i in 0..holders.len() {
-        let holder = holders[i];
-        let _rack = problem.tree().rack_of(holder);
-        if is_reached(problem, level, holder) && !is_met(problem, holders, i, level) {
-            add(network, problem, RackArc::Reach(split, level, holder), cost)?;
-        }
+    let mut place = first;
+    while let Some(holder) = next_reached(problem, holders, level, place) {
+        add(network, problem, RackArc::Reach(split, level, holder), cost)?;
+        place = place_above(problem, level, holder) + 1;
     }
     Ok(())
+}
+
+// The first of the nodes of a level from a place on that stand above a live holder, by such a holder.
+fn next_reached(
+    problem: &Problem,
+    holders: &[WorkerNo],
+    level: u8,
+    place: usize,
+) -> Option<WorkerNo>
+    requires known { All (λ h. h < length problem.now.workers) holders.now }
+    requires level { level < LEVELS }
+    ensures { IsNext problem.now holders.now level place (length holders.now) result }
+{
+    let mut next = None;
+    for i in 0..holders.len() {
+        next = nearer_of(problem, level, place, next, holders[i]);
+    }
+    next
+}
+
+// The holder where it is reached and the node above it is no earlier than the place, and earlier than that
+// above the next one so far; else that one.
+fn nearer_of(
+    problem: &Problem,
+    level: u8,
+    place: usize,
+    next: Option<WorkerNo>,
+    holder: WorkerNo,
+) -> Option<WorkerNo>
+    requires level { level < LEVELS }
+    requires holder { holder < length problem.now.workers }
+    requires next { IfSome next (λ h. h < length problem.now.workers) }
+    ensures known { IfSome result (λ h. h < length problem.now.workers) }
+    ensures taken { IsReached problem.now level holder → IsNearer problem.now level place holder next
+        → result ≡ Some holder }
+    ensures kept { (IsReached problem.now level holder → IsNearer problem.now level place holder next → ⊥)
+        → result ≡ next }
+{
+    if !is_reached(problem, level, holder) {
+        return next;
+    }
+    let node = place_above(problem, level, holder);
+    if node < place {
+        return next;
+    }
+    match next {
+        None => Some(holder),
+        Some(known) => {
+            if node < place_above(problem, level, known) {
+                Some(holder)
+            } else {
+                Some(known)
+            }
+        }
+    }
 }
 
 // Whether a holder lives and, where its own node is meant, has a free slot.
 fn is_reached(problem: &Problem, level: u8, holder: WorkerNo) -> bool
     requires { holder < length problem.now.workers }
-    ensures { IsTrue result ↔ (((worker_at problem.now holder).live ≡ true) × (level ≡ 0 → 0 < (worker_at problem.now holder).free)) }
+    ensures { IsTrue result ↔ IsReached problem.now level holder }
 {
     problem.is_live(holder) && (level > 0 || problem.free(holder) > 0)
 }
 
-// Whether an earlier live holder stands below the same node of a level.
-fn is_met(problem: &Problem, holders: &[WorkerNo], i: usize, level: u8) -> bool
-    requires known { All (λ h. h < length problem.now.workers) holders.now }
-    requires i { i < length holders.now }
-    requires level { level < LEVELS }
-    ensures { IsTrue result ↔ IsMet problem.now holders.now level i i }
-{
-    for j in 0..i {
-        if problem.is_live(holders[j]) && is_below_one(problem, level, holders[j], holders[i]) {
-            return true;
-        }
-    }
-    false
-}
-
-// Whether two workers stand below one node of a level.
-fn is_below_one(problem: &Problem, level: u8, a: WorkerNo, b: WorkerNo) -> bool
-    requires level { level < LEVELS }
-    requires a { a < length problem.now.workers }
-    requires b { b < length problem.now.workers }
-    ensures { IsTrue result ↔ (node_above problem.now level a ≡ node_above problem.now level b) }
-{
-    match level {
-        0 => a == b,
-        1 => problem.tree().rack_of(a) == problem.tree().rack_of(b),
-        _ => true,
-    }
-}
-
-// Adds the arcs from `Cluster` to racks.
+// Adds the row of `Cluster`.
 fn add_branches(network: &mut Network<RackLayout>, problem: &Problem) -> Result<(), AllocError>
-    requires { IsBuilt problem.now (at_split (length problem.now.splits)) (cluster_node problem.now)
-        (257 * length problem.now.splits) network.old }
-    ensures { OnOk result (IsBuilt problem.now (above_sink (length problem.now.splits) problem.now.tree.racks 0 0)
-        (rack_node problem.now 0) (257 * length problem.now.splits + problem.now.tree.racks) network.new) }
+    requires racks { AreRacksKnown problem.now }
+    requires built { IsBuilt problem.now (cluster_node problem.now) 0 (257 * length problem.now.splits) network.old }
+    ensures built { OnOk result (IsBuilt problem.now (rack_node problem.now 0) 0
+        (257 * length problem.now.splits + problem.now.tree.racks) network.new) }
 {
     let _splits = problem.splits();
     for i in 0..problem.tree().racks() {
@@ -229,38 +275,58 @@ fn add_branches(network: &mut Network<RackLayout>, problem: &Problem) -> Result<
     Ok(())
 }
 
-// Adds the arcs from racks to workers.
-fn add_feeds(network: &mut Network<RackLayout>, problem: &Problem) -> Result<(), AllocError>
-    requires { IsBuilt problem.now (above_sink (length problem.now.splits) problem.now.tree.racks 0 0)
-        (rack_node problem.now 0) (257 * length problem.now.splits + problem.now.tree.racks) network.old }
-    ensures { OnOk result (IsBuilt problem.now
-        (above_sink (length problem.now.splits) problem.now.tree.racks (length problem.now.workers) 0)
-        (worker_node problem.now 0)
+// Adds the rows of the racks.
+fn add_racks(network: &mut Network<RackLayout>, problem: &Problem) -> Result<(), AllocError>
+    requires racks { AreRacksKnown problem.now }
+    requires built { IsBuilt problem.now (rack_node problem.now 0) 0
+        (257 * length problem.now.splits + problem.now.tree.racks) network.old }
+    ensures built { OnOk result (IsBuilt problem.now (worker_node problem.now 0) 0
         (257 * length problem.now.splits + problem.now.tree.racks + length problem.now.workers) network.new) }
 {
+    for i in 0..problem.tree().racks() {
+        add_feeds(network, problem, RackNo::new(i as u16))?;
+    }
+    Ok(())
+}
+
+// Adds the row of a rack.
+fn add_feeds(
+    network: &mut Network<RackLayout>,
+    problem: &Problem,
+    rack: RackNo,
+) -> Result<(), AllocError>
+    requires rack { rack < problem.now.tree.racks }
+    requires racks { AreRacksKnown problem.now }
+    requires built { IsBuilt problem.now (rack_node problem.now rack) 0
+        (257 * length problem.now.splits + problem.now.tree.racks + in_racks problem.now rack) network.old }
+    ensures built { OnOk result (IsBuilt problem.now (rack_node problem.now (rack + 1)) 0
+        (257 * length problem.now.splits + problem.now.tree.racks + in_racks problem.now (rack + 1)) network.new) }
+{
     let _splits = problem.splits();
-    let tree = problem.tree();
-    let _racks = tree.racks();
+    let _racks = problem.tree().racks();
     for i in 0..problem.workers() {
         let worker = WorkerNo::new(i as u16);
-        let _rack = tree.rack_of(worker);
-        if problem.is_live(worker) && problem.free(worker) > 0 {
+        if takes_from(problem, rack, worker) {
             add(network, problem, RackArc::Feed(worker), 0)?;
         }
     }
     Ok(())
 }
 
-// Adds the arcs from workers to the sink.
+// Whether a worker of the rack can take a split.
+fn takes_from(problem: &Problem, rack: RackNo, worker: WorkerNo) -> bool
+    requires { worker < length problem.now.workers }
+    ensures { IsTrue result ↔ (IsUsable problem.now worker × (rack_of problem.now worker ≡ rack)) }
+{
+    problem.tree().rack_of(worker) == rack && problem.is_live(worker) && problem.free(worker) > 0
+}
+
+// Adds the rows of the workers.
 fn add_slots(network: &mut Network<RackLayout>, problem: &Problem) -> Result<(), AllocError>
-    requires { IsBuilt problem.now
-        (above_sink (length problem.now.splits) problem.now.tree.racks (length problem.now.workers) 0)
-        (worker_node problem.now 0)
+    requires racks { AreRacksKnown problem.now }
+    requires built { IsBuilt problem.now (worker_node problem.now 0) 0
         (257 * length problem.now.splits + problem.now.tree.racks + length problem.now.workers) network.old }
-    ensures { OnOk result (IsBuilt problem.now
-        (above_sink (length problem.now.splits) problem.now.tree.racks (length problem.now.workers)
-        (length problem.now.workers))
-        (unstarted_node problem.now)
+    ensures built { OnOk result (IsBuilt problem.now (worker_node problem.now (length problem.now.workers)) 0
         (257 * length problem.now.splits + problem.now.tree.racks + 2 * length problem.now.workers) network.new) }
 {
     let _splits = problem.splits();

@@ -1,10 +1,16 @@
 -- A plan with prices, as a caller sees it.
+use Rattle.std.specs.Prelude.{ℕ, List, Option}
 use Rattle.wave_problem.specs.Wave.{Wave}
 use Rattle.wave_problem.specs.Assignment.{Plan}
 use Rattle.price_certificate.specs.PriceList.{PriceList}
 use Rattle.price_certificate.specs.Certificate.{claim, HasOneSize}
 use Rattle.certificate_checker.specs.declared.Certified.{Certified}
 use Rattle.certificate_checker.specs.Verdict.{IsCertified}
+use Rattle.flow_network.specs.declared.kinds.NetworkKind.{NetworkKind}
+use Rattle.flow_network.specs.declared.kinds.NetworkKind.TheVariants.{Direct, Racks}
+use Rattle.network_prices.specs.Prices.{IsReadOff}
+use Rattle.direct_network.specs.Direct.{direct_nodes, IsDirect}
+use Rattle.rack_network.specs.Racks.{rack_nodes, IsRackNetwork}
 
 pub record Planned : Type 0 where
   pub plan : Plan
@@ -20,3 +26,8 @@ pub record IsPlanFor (wave : Wave) (planned : Planned) : Type 0 where
 pub record WasCertified (planned : Planned) : Type 0 where
   pub wave : Wave
   pub plan_for : IsPlanFor wave planned
+
+-- starts and prices that were read off a least-cost flow of the network of this kind
+abbrev pub IsMadeOver : NetworkKind → Wave → List (Option ℕ) → PriceList → Type 0
+IsMadeOver Direct wave starts prices = IsReadOff wave (direct_nodes wave) (IsDirect wave) starts prices
+IsMadeOver Racks wave starts prices = IsReadOff wave (rack_nodes wave) (IsRackNetwork wave) starts prices

@@ -2,7 +2,8 @@
 ghost use Rattle.std.specs.Prelude.{◌≡◌, length, IfOk};
 ghost use Rattle.wave_problem.specs.Assignment.{pairs_of, total, IsBest};
 ghost use Rattle.price_certificate.specs.Certificate.{claim, Certifies, HasOneSize};
-ghost use Rattle.wave_planner.specs.Planned.{WasCertified};
+ghost use Rattle.flow_network.specs.declared.kinds.NetworkKind.{NetworkKind};
+ghost use Rattle.wave_planner.specs.Planned.{IsMadeOver, WasCertified};
 
 use certificate_checker::{Certified, certify};
 use flow_network::NetworkKind;
@@ -67,6 +68,8 @@ pub enum PlanError {
 /// A plan that starts as many splits as any admissible assignment, at the least cost among those, with
 /// prices that certify it. It is made over the network with racks.
 pub fn plan(alloc: Global, problem: &Problem) -> Result<Planned, PlanError>
+    ensures over { IfOk result (λ planned.
+        IsMadeOver NetworkKind.Racks problem.now planned.plan.starts planned.prices) }
     ensures sizes { IfOk result (λ planned.
         HasOneSize (claim problem.now planned.plan.starts planned.prices) planned.plan.workers) }
     ensures certifies { IfOk result (λ planned. Certifies (claim problem.now planned.plan.starts planned.prices)) }
@@ -80,6 +83,7 @@ pub fn plan(alloc: Global, problem: &Problem) -> Result<Planned, PlanError>
 
 /// The same over a network of this kind. It takes one augmentation for each pending split.
 pub fn plan_with(alloc: Global, problem: &Problem, kind: NetworkKind) -> Result<Planned, PlanError>
+    ensures over { IfOk result (λ planned. IsMadeOver kind problem.now planned.plan.starts planned.prices) }
     ensures sizes { IfOk result (λ planned.
         HasOneSize (claim problem.now planned.plan.starts planned.prices) planned.plan.workers) }
     ensures certifies { IfOk result (λ planned. Certifies (claim problem.now planned.plan.starts planned.prices)) }
@@ -107,6 +111,7 @@ fn priced_plan_over(
     problem: &Problem,
     kind: NetworkKind,
 ) -> Result<(Plan, Prices), AllocError>
+    ensures over { IfOk result (λ pair. IsMadeOver kind problem.now pair.0.starts pair.1) }
     ensures sizes { IfOk result (λ pair. HasOneSize (claim problem.now pair.0.starts pair.1) pair.0.workers) }
     ensures certifies { IfOk result (λ pair. Certifies (claim problem.now pair.0.starts pair.1)) }
 {

@@ -1,10 +1,12 @@
+use Rattle.augmenting_paths.specs.Shipping.{IsCheapest}
+use Rattle.network_prices.specs.Pending.{pending_splits}
 use Rattle.std.proofs.Common.{◌≡◌, ℕ, List, sym, ap, ◌∙◌, subst, get_or, arith}
 use Rattle.flow_network.specs.declared.arcs.FlowArc.{FlowArc}
 use Rattle.flow_network.specs.Flows.{NoNegative}
 use Rattle.network_prices.specs.Prices.{IsShipped}
-use Rattle.direct_network.specs.Direct.{IsDirect, direct_nodes}
-use Rattle.direct_network.proofs.DirectWays.{direct_prices}
-use Rattle.direct_network.proofs.Shipping.{all_members, few, ways, all_shipped, sink_is}
+use Rattle.direct_network.specs.Direct.{IsDirect, direct_nodes, sink_node}
+use Rattle.direct_network.proofs.DirectWays.{direct_prices, direct_costs}
+use Rattle.direct_network.proofs.Shipping.{all_members, few, ways, all_shipped, all_cheapest, sink_is}
 use Rattle.direct_network.proofs.planning.priced_plan.Goals as goal
 
 pub saturate-requires-clause-members : goal.saturate-requires-clause-members
@@ -44,3 +46,30 @@ returns-clause-certifies c =
     (subst (λ (z : List FlowArc). NoNegative z c.saturate.new.network.flows (λ v. get_or c.in_ok-potentials.potentials v 0)) (sym same) c.in_ok-potentials.ensures.shipped.reduced)
     (ap (λ (z : ℕ). get_or c.in_ok-potentials.potentials z 0) (sym sink) ∙ c.in_ok-potentials.ensures.shipped.at_sink)
     c.in_ok-plan.ensures.read c.in_ok-prices.ensures
+
+pub returns-clause-over : goal.returns-clause-over
+returns-clause-over c =
+    let same : c.saturate.new.network.arcs ≡ c.in_ok-network.network.arcs = c.saturate.ensures.arcs in
+    let sink = sink_is c.args.problem.now _ _ c.deref.result.now c.in_ok-network.ensures.layout.splits c.in_ok-network.ensures.layout.workers (c.deref.ensures.value ∙ c.in_ok-sources.ensures) in
+    let arcs = c.saturate.new.network.arcs in
+    let flows = c.saturate.new.network.flows in
+    record {
+      arcs = arcs;
+      flows = flows;
+      depths = λ v. get_or c.in_ok-potentials.potentials v 0;
+      over = subst (IsDirect c.args.problem.now) (sym same) c.in_ok-network.ensures.arcs;
+      cheapest = subst (λ (z : List FlowArc). IsCheapest z (pending_splits c.args.problem.now) (sink_node c.args.problem.now) flows) (sym same)
+          (all_cheapest c.args.problem.now _ _ c.deref.result.now c.in_ok-network.ensures.layout.splits c.in_ok-network.ensures.layout.workers
+          (c.deref.ensures.value ∙ c.in_ok-sources.ensures) c.in_ok-network.network.arcs flows c.in_ok-potentials.ensures.cheapest);
+      plan = c.in_ok-plan.ensures.read;
+      priced = c.in_ok-prices.ensures;
+      cost =
+          direct_costs c.args.problem.now c.saturate.new.network.arcs c.saturate.new.network.flows (λ v. get_or c.in_ok-potentials.potentials v 0) c.in_ok-plan.plan.starts c.in_ok-prices.prices
+          (subst (IsDirect c.args.problem.now) (sym same) c.in_ok-network.ensures.arcs)
+          (subst (λ (z : List FlowArc). IsShipped c.args.problem.now (direct_nodes c.args.problem.now) z c.saturate.new.network.flows) (sym same)
+          (all_shipped c.args.problem.now _ _ c.deref.result.now c.in_ok-network.ensures.layout.splits c.in_ok-network.ensures.layout.workers (c.deref.ensures.value ∙ c.in_ok-sources.ensures)
+          c.in_ok-network.network.arcs c.saturate.new.network.flows c.in_ok-potentials.ensures.cheapest.shipment))
+          (subst (λ (z : List FlowArc). NoNegative z c.saturate.new.network.flows (λ v. get_or c.in_ok-potentials.potentials v 0)) (sym same) c.in_ok-potentials.ensures.shipped.reduced)
+          (ap (λ (z : ℕ). get_or c.in_ok-potentials.potentials z 0) (sym sink) ∙ c.in_ok-potentials.ensures.shipped.at_sink)
+          c.in_ok-plan.ensures.read c.in_ok-prices.ensures;
+    }

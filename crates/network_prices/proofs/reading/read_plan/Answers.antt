@@ -1,7 +1,6 @@
-use Rattle.std.proofs.Common.{◌≡◌, ℕ, ◌+◌, List, [], length, subst, sym, ap, ◌∙◌, arith}
+use Rattle.std.proofs.Common.{◌≡◌, ℕ, ◌+◌, List, [], length, subst, sym, ◌∙◌}
 use Rattle.std.proofs.lemmas.List.{with_items_is}
 use Rattle.std.proofs.lemmas.Result.{IfOk-weaker}
-use Rattle.flow_network.specs.declared.arcs.FlowArc.{FlowArc}
 use Rattle.network_prices.specs.Prices.{IsPlanOf}
 use Rattle.network_prices.specs.HandOn.{CanHandOn, IsHandedOn}
 use Rattle.network_prices.specs.Layers.{nodes_from, AreFirst, AreStartsTo}

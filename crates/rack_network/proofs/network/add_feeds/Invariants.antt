@@ -1,7 +1,7 @@
 use Rattle.std.proofs.Common.{◌+◌, ◌*◌, length}
-use Rattle.rack_network.specs.Racks.{worker_node}
-use Rattle.rack_network.specs.Build.{above_sink, IsBuilt}
+use Rattle.rack_network.specs.Racks.{rack_node, worker_node}
+use Rattle.rack_network.specs.Build.{in_rack, in_racks, IsBuilt}
 use Rattle.rack_network.proofs.network.add_feeds.Given as goal
 
 abbrev pub invariant-loop-i : goal.invariant-loop-i
-invariant-loop-i l = IsBuilt l.problem (above_sink (length l.problem.splits) l.problem.tree.racks l.i 0) (worker_node l.problem 0) (257 * length l.problem.splits + l.problem.tree.racks + l.i) l.network
+invariant-loop-i l = IsBuilt l.problem (rack_node l.problem l.rack) (worker_node l.problem l.i) (257 * length l.problem.splits + l.problem.tree.racks + in_racks l.problem l.rack + in_rack l.problem l.rack l.i) l.network

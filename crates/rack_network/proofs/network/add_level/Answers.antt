@@ -1,57 +1,96 @@
-use Rattle.std.proofs.Common.{◌≡◌, ℕ, ◌+◌, ◌*◌, ◌<◌, List, length, get_or, sym, ap, ◌∙◌, inl, inr, arith, subst}
-use Rattle.std.proofs.lemmas.Bool.{false≢true}
-use Rattle.rack_tree.specs.Tree.{Tree}
+use Rattle.std.proofs.Common.{ℕ, ◌≡◌, ◌+◌, ◌-◌, ◌*◌, List, length, sym, ap, subst, Some, None, arith}
 use Rattle.wave_problem.specs.Wave.{split_at}
-use Rattle.wave_problem.proofs.Bound.{live_known}
-use Rattle.rack_network.specs.Racks.{rack_of}
-use Rattle.rack_network.specs.Build.{IsMet}
-use Rattle.rack_network.proofs.Levels.{holder_live}
-use Rattle.rack_network.proofs.Steps.{holder_at, live_reach, reach_step, reach_skip, level_end}
+use Rattle.rack_network.specs.Racks.{node_above}
+use Rattle.rack_network.specs.Build.{passed, IsBuilt, IsNext}
+use Rattle.rack_network.proofs.Counts.{passed-le}
+use Rattle.rack_network.proofs.Nearest.{next_reach, next_past, next_least, next_none, next_passed}
+use Rattle.rack_network.proofs.Rows.{level_opens, reach_at, reach_step, reach_end, raise}
 use Rattle.rack_network.proofs.network.add_level.Goals as goal
-use Rattle.rack_network.proofs.network.add_level.Goals.{then-is_reached+then-not-is_met+in_ok-add, else-is_reached, else-is_reached-via-then-is_reached+else-not-is_met, else-is_reached-via-else-is_reached}
+
+pub loop-holder-init : goal.loop-holder-init
+loop-holder-init c =
+    let wave = c.args.problem.now in
+    let limit : ℕ = 257 * c.args.split + 8 * (2 - c.args.level) in
+    let first = c.requires.first in
+    let opens = level_opens wave c.requires.racks c.args.level c.requires.level in (
+      omega arith,
+      omega arith,
+      raise wave c.requires.racks c.args.split c.args.first limit (limit + passed wave c.args.level c.args.first (split_at wave c.args.split).holders)
+          c.args.network.now (omega arith)
+          (subst (λ (x : ℕ). IsBuilt wave c.args.split x limit c.args.network.now) (sym first) c.requires.built),
+    )
 
 pub add-requires-clause-wanted : goal.add-requires-clause-wanted
 add-requires-clause-wanted c =
-    let reached = c.is_reached.ensures.0 c.if-is_reached.true in
-    live_reach c.args.problem.now c.args.split c.args.level c.loop-i.i c.index-holders-i.result
-    (holder_at c.holders-holders.result.now (split_at c.args.problem.now c.args.split).holders c.loop-i.i c.index-holders-i.result c.holders-holders.ensures.holders c.loop-i-test.true c.index-holders-i.is)
-    (let size = ap (λ (z : List ℕ). length z) c.holders-holders.ensures.holders in omega arith)
-    c.requires.pending c.requires.no_bars (omega arith) reached.0 reached.1
+    let wave = c.args.problem.now in
+    let next : IsNext wave (split_at wave c.args.split).holders c.args.level c.loop-holder.place (length (split_at wave c.args.split).holders) (Some c.in-Some.holder) =
+    subst (λ (hs : List ℕ). IsNext wave hs c.args.level c.loop-holder.place (length hs) (Some c.in-Some.holder)) c.holders-holders.ensures.holders c.in-Some.ensures in
+    next_reach wave c.args.split c.args.level c.loop-holder.place c.requires.pending c.requires.no_bars c.requires.level c.in-Some.holder next
 
-pub loop-i-preserved : goal.loop-i-preserved
-loop-i-preserved c =
+pub add-requires-clause-room : goal.add-requires-clause-room
+add-requires-clause-room c =
+    let wave = c.args.problem.now in
+    let limit = c.loop-holder.invariant.2.frame.arc_limit in
+    let few = c.requires.few in
+    let size = ap (λ (z : List ℕ). length z) c.holders-holders.ensures.holders in
+    let holders = c.holders-holders.ensures.limit in
+    let most = passed-le wave c.args.level c.loop-holder.place (split_at wave c.args.split).holders in
+    omega arith
+
+pub loop-holder-smaller : goal.loop-holder-smaller
+loop-holder-smaller c =
+    let wave = c.args.problem.now in
+    let next : IsNext wave (split_at wave c.args.split).holders c.args.level c.loop-holder.place (length (split_at wave c.args.split).holders) (Some c.in-Some.holder) =
+    subst (λ (hs : List ℕ). IsNext wave hs c.args.level c.loop-holder.place (length hs) (Some c.in-Some.holder)) c.holders-holders.ensures.holders c.in-Some.ensures in
+    let past = next_past wave c.args.split c.args.level c.loop-holder.place c.requires.pending c.requires.no_bars c.requires.level c.in-Some.holder next in
+    let reach = next_reach wave c.args.split c.args.level c.loop-holder.place c.requires.pending c.requires.no_bars c.requires.level c.in-Some.holder next in
+    let up = (reach_at wave c.requires.racks c.args.split c.args.level c.in-Some.holder reach).1 in
+    let place = c.place_above-place.ensures.place in
+    omega arith
+
+pub loop-holder-preserved : goal.loop-holder-preserved
+loop-holder-preserved c =
     let wave = c.args.problem.now in
     let s : ℕ = c.args.split in
-    let h : ℕ = c.index-holders-i.result in
-    let limit : ℕ = 257 * s + 8 * c.args.level + c.loop-i.i in
-    let next : ℕ = 257 * s + 8 * c.args.level + (c.loop-i.i + 1) in
-    let at : h ≡ get_or (split_at wave s).holders c.loop-i.i 0 =
-    holder_at c.holders-holders.result.now (split_at wave s).holders c.loop-i.i h c.holders-holders.ensures.holders c.loop-i-test.true c.index-holders-i.is in
-    let size = ap (λ (z : List ℕ). length z) c.holders-holders.ensures.holders in
-    let listed : c.loop-i.i < length (split_at wave s).holders = omega arith in
-    let same_rack = ap (λ (t : Tree). get_or t.rack_of h 0) c.tree.ensures.tree in
-    let same_count = ap (λ (t : Tree). t.racks) c.tree.ensures.tree in
-    let rack : rack_of wave h < wave.tree.racks = (let is = c.rack_of-rack.ensures.rack in let known = c.rack_of-rack.ensures.known in omega arith) in
-    elim c.if-is_reached.branch [
-      | then-is_reached+then-not-is_met+in_ok-add w ↦ rw w.network-is
-          (let reached = c.is_reached.ensures.0 w.if-is_reached.true in
-          reach_step wave s c.args.level c.loop-i.i h at limit next c.loop-i.network w.add.new.network (omega arith) c.requires.split (live_known wave h reached.0) rack
-          (live_reach wave s c.args.level c.loop-i.i h at listed c.requires.pending c.requires.no_bars (omega arith) reached.0 reached.1)
-          c.loop-i.invariant (w.in_ok-add.ensures.layout, w.in_ok-add.ensures.arcs, w.in_ok-add.ensures.flows))
-      | else-is_reached w ↦ rw w.network-is
-          (reach_skip wave s c.args.level c.loop-i.i h at limit next c.loop-i.network (omega arith) listed
-          (elim w.else-is_reached.branch [
-            | else-is_reached-via-then-is_reached+else-not-is_met w' ↦ inr (subst (λ (z : List ℕ). IsMet wave z c.args.level c.loop-i.i c.loop-i.i) c.holders-holders.ensures.holders (w'.is_met.ensures.0 w'.if-not-is_met.false))
-            | else-is_reached-via-else-is_reached w' ↦ inl (λ reach. false≢true (sym w'.if-is_reached.false ∙ c.is_reached.ensures.1 (holder_live wave s h reach.holder, reach.has_slot)))
-          ])
-          c.loop-i.invariant)
-    ]
+    let level : ℕ = c.args.level in
+    let h : ℕ = c.in-Some.holder in
+    let place : ℕ = c.loop-holder.place in
+    let next : IsNext wave (split_at wave s).holders level place (length (split_at wave s).holders) (Some h) =
+    subst (λ (hs : List ℕ). IsNext wave hs level place (length hs) (Some h)) c.holders-holders.ensures.holders c.in-Some.ensures in
+    let past = next_past wave s level place c.requires.pending c.requires.no_bars c.requires.level h next in
+    let reach = next_reach wave s level place c.requires.pending c.requires.no_bars c.requires.level h next in
+    let least = next_least wave s level place c.requires.pending c.requires.no_bars c.requires.level h next in
+    let more = next_passed wave s level place c.requires.pending c.requires.no_bars c.requires.level h next in
+    let up = (reach_at wave c.requires.racks s level h reach).1 in
+    let from = c.loop-holder.invariant.0 in
+    let limit : ℕ = 257 * s + 8 * (2 - level) in
+    let at : node_above wave level h + 1 ≡ c.place_above-place.result + 1 = ap (λ (x : ℕ). x + 1) (sym c.place_above-place.ensures.place) in
+    let now : IsBuilt wave s (node_above wave level h + 1) (limit + passed wave level (node_above wave level h + 1) (split_at wave s).holders) c.add.new.network =
+    reach_step wave c.requires.racks s c.requires.split c.requires.no_bars level place c.requires.level from h
+    (limit + passed wave level place (split_at wave s).holders) (limit + passed wave level (node_above wave level h + 1) (split_at wave s).holders)
+    c.loop-holder.network c.add.new.network (omega arith) reach past least c.loop-holder.invariant.2
+    (c.in_ok-add.ensures.layout, c.in_ok-add.ensures.arcs, c.in_ok-add.ensures.flows) in
+    let node = c.place_above-place.ensures.place in (
+      omega arith,
+      omega arith,
+      subst (λ (x : ℕ). IsBuilt wave s x (limit + passed wave level x (split_at wave s).holders) c.add.new.network) at now,
+    )
 
 pub returns : goal.returns
 returns c =
+    let wave = c.args.problem.now in
+    let s : ℕ = c.args.split in
+    let level : ℕ = c.args.level in
+    let place : ℕ = c.loop-holder.place in
+    let limit : ℕ = 257 * s + 8 * (2 - level) in
+    let next : IsNext wave (split_at wave s).holders level place (length (split_at wave s).holders) None =
+    subst (λ (hs : List ℕ). IsNext wave hs level place (length hs) None) c.holders-holders.ensures.holders c.in_default.ensures in
+    let none = next_none wave s level place c.requires.pending c.requires.no_bars c.requires.level next in
+    let most = passed-le wave level place (split_at wave s).holders in
     let size = ap (λ (z : List ℕ). length z) c.holders-holders.ensures.holders in
-    let few = c.holders-holders.ensures.limit in
+    let holders = c.holders-holders.ensures.limit in
     record {
-      built = level_end c.args.problem.now c.args.split c.args.level c.loop-i.i (257 * c.args.split + 8 * c.args.level + c.loop-i.i) (257 * c.args.split + 8 * c.args.level + 8) c.loop-i.network
-          (omega arith) (omega arith) c.loop-i.invariant;
+      built = reach_end wave c.requires.racks s c.requires.split c.requires.no_bars level place c.requires.level c.loop-holder.invariant.0
+          (limit + passed wave level place (split_at wave s).holders) (limit + 8) c.loop-holder.network (omega arith) c.loop-holder.invariant.1 none
+          c.loop-holder.invariant.2;
     }

@@ -1,7 +1,12 @@
-use Rattle.std.proofs.Common.{◌+◌, ◌*◌}
-use Rattle.rack_network.specs.Racks.{cluster_node}
-use Rattle.rack_network.specs.Build.{at_reach, IsBuilt}
+use Rattle.std.proofs.Common.{◌-◌, ◌+◌, ◌*◌, ◌≤◌}
+use Rattle.wave_problem.specs.Wave.{split_at}
+use Rattle.rack_network.specs.Build.{level_end, level_start, passed, IsBuilt}
 use Rattle.rack_network.proofs.network.add_level.Given as goal
 
-abbrev pub invariant-loop-i : goal.invariant-loop-i
-invariant-loop-i l = IsBuilt l.problem (at_reach l.split l.level l.i) (cluster_node l.problem) (257 * l.split + 8 * l.level + l.i) l.network
+abbrev pub invariant-loop-holder : goal.invariant-loop-holder
+invariant-loop-holder l = (level_start l.problem l.level ≤ l.place) × (l.place ≤ level_end l.problem l.level)
+    × IsBuilt l.problem l.split l.place
+    (257 * l.split + 8 * (2 - l.level) + passed l.problem l.level l.place (split_at l.problem l.split).holders) l.network
+
+abbrev pub decreases-loop-holder : goal.decreases-loop-holder
+decreases-loop-holder l = level_end l.problem l.level - l.place

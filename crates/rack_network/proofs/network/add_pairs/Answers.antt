@@ -1,9 +1,18 @@
-use Rattle.std.proofs.Common.{ℕ, ◌+◌, ◌*◌, sym, ◌∙◌, arith, subst}
+use Rattle.std.proofs.Common.{ℕ, ◌≡◌, ◌+◌, ◌*◌, length, sym, ◌∙◌, arith, subst}
 use Rattle.std.proofs.lemmas.Bool.{false≢true}
 use Rattle.wave_problem.specs.Wave.{IsAdmissible}
-use Rattle.rack_network.proofs.Steps.{pair_step, pair_skip, pairs_end}
+use Rattle.rack_network.specs.Racks.{worker_node, unstarted_node}
+use Rattle.rack_network.specs.Build.{IsBuilt}
+use Rattle.rack_network.proofs.Rows.{to_pairs, pair_step, pair_skip, raise}
 use Rattle.rack_network.proofs.network.add_pairs.Goals as goal
 use Rattle.rack_network.proofs.network.add_pairs.Goals.{then-admissible+in_ok-add, else-admissible}
+
+pub add-requires-clause-room : goal.add-requires-clause-room
+add-requires-clause-room c =
+    let limit = c.loop-i.invariant.frame.arc_limit in
+    let few = c.requires.few in
+    let workers = c.workers-i-end.ensures.limit in
+    omega arith
 
 pub loop-i-preserved : goal.loop-i-preserved
 loop-i-preserved c =
@@ -12,23 +21,33 @@ loop-i-preserved c =
     let next : ℕ = 257 * s + (c.loop-i.i + 1) in
     elim c.if-admissible.branch [
       | then-admissible+in_ok-add w ↦ rw w.network-is
-          (pair_step c.args.problem.now s c.loop-i.i c.new-worker.result limit next c.loop-i.network w.add.new.network
-          (omega arith) (omega arith) c.requires.split (omega arith) c.requires.bars
+          (pair_step c.args.problem.now c.requires.racks s c.requires.split c.requires.bars c.loop-i.i c.new-worker.result limit next c.loop-i.network w.add.new.network
+          (omega arith) (omega arith) (omega arith)
           (subst (λ z. IsAdmissible z s c.new-worker.result) c.new-near.ensures.wave
           (subst (λ z. IsAdmissible c.new-near.result.wave z c.new-worker.result) c.new-near.ensures.split (c.admissible.ensures.0 w.if-admissible.true)))
           c.loop-i.invariant (w.in_ok-add.ensures.layout, w.in_ok-add.ensures.arcs, w.in_ok-add.ensures.flows))
       | else-admissible w ↦ rw w.network-is
-          (pair_skip c.args.problem.now s c.loop-i.i c.new-worker.result limit next c.loop-i.network
-          (omega arith) (omega arith)
+          (pair_skip c.args.problem.now c.requires.racks s c.requires.split c.requires.bars c.loop-i.i c.new-worker.result limit next c.loop-i.network
+          (omega arith) (omega arith) (omega arith)
           (λ may. false≢true (sym w.if-admissible.false ∙ c.admissible.ensures.1
           (subst (λ z. IsAdmissible c.new-near.result.wave z c.new-worker.result) (sym c.new-near.ensures.split)
           (subst (λ z. IsAdmissible z s c.new-worker.result) (sym c.new-near.ensures.wave) may))))
           c.loop-i.invariant)
     ]
 
+pub loop-i-init : goal.loop-i-init
+loop-i-init c =
+    to_pairs c.args.problem.now c.requires.racks c.args.split c.requires.split c.requires.bars (257 * c.args.split) (257 * c.args.split + 0)
+    c.args.network.now (omega arith) c.requires.built
+
 pub returns : goal.returns
-returns c = record {
-  built =
-      pairs_end c.args.problem.now c.args.split c.loop-i.i (257 * c.args.split + c.loop-i.i) (257 * c.args.split + 256) c.loop-i.network (omega arith)
-      (let few = c.workers-i-end.ensures.limit in omega arith) c.requires.bars c.loop-i.invariant;
-}
+returns c =
+    let wave = c.args.problem.now in
+    let s : ℕ = c.args.split in
+    let workers = c.workers-i-end.ensures.limit in
+    let count = c.workers-i-end.ensures.count in
+    let end : c.loop-i.i ≡ length wave.workers = omega arith in
+    record {
+      built = raise wave c.requires.racks s (unstarted_node wave) (257 * s + length wave.workers) (257 * s + 256) c.loop-i.network (omega arith)
+          (subst (λ (i : ℕ). IsBuilt wave s (worker_node wave i) (257 * s + i) c.loop-i.network) end c.loop-i.invariant);
+    }

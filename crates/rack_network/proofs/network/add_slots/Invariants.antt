@@ -1,7 +1,7 @@
 use Rattle.std.proofs.Common.{◌+◌, ◌*◌, length}
 use Rattle.rack_network.specs.Racks.{worker_node}
-use Rattle.rack_network.specs.Build.{above_sink, IsBuilt}
+use Rattle.rack_network.specs.Build.{IsBuilt}
 use Rattle.rack_network.proofs.network.add_slots.Given as goal
 
 abbrev pub invariant-loop-i : goal.invariant-loop-i
-invariant-loop-i l = IsBuilt l.problem (above_sink (length l.problem.splits) l.problem.tree.racks (length l.problem.workers) l.i) (worker_node l.problem l.i) (257 * length l.problem.splits + l.problem.tree.racks + length l.problem.workers + l.i) l.network
+invariant-loop-i l = IsBuilt l.problem (worker_node l.problem l.i) 0 (257 * length l.problem.splits + l.problem.tree.racks + length l.problem.workers + l.i) l.network
