@@ -1,0 +1,4 @@
+pub mod Keeping
+pub mod Whole
+pub mod Opening
+pub mod Accepting

@@ -1,0 +1,223 @@
+ghost use Rattle.std.specs.Prelude.{◌≡◌, ◌<◌, [], length, IfOk, Some, slice_get};
+ghost use Rattle.master_state.specs.States.{AreSmall, opening, start_of};
+ghost use Rattle.master_state.specs.Refusals.{Call, IsKnown, is_full, refusal};
+ghost use Rattle.master_state.specs.Jobs.{AreResults, Answers, IsKept};
+
+use crate::cluster::Cluster;
+use crate::entries::{SplitEntry, pending_entries, shown};
+use crate::holders::{add_holder, drop_holder, first_holders};
+use crate::log::record_event;
+use block_map::BlockMap;
+use master_state::{Answer, Event, Limits, PartState, SplitState, Start, Why};
+use node_ids::{AttemptNo, PartNo, SplitNo, SplitSet, WorkerNo};
+use shuffle_reduce::PartResult;
+use std::alloc::{AllocError, Global};
+use std::marker::Model;
+use worker_table::WorkerTable;
+
+/// The master of a job: its present state, and the history that led there.
+#[derive(Drop)]
+pub struct Master {
+    cluster: Cluster,
+    limits: Limits,
+    workers: WorkerTable,
+    holders: BlockMap,
+    splits: Vec<SplitEntry>,
+    parts: Vec<PartState>,
+    results: Vec<PartResult>,
+    starts: Vec<Start>,
+    sweeps: Vec<[u64; 256]>,
+    history: Vec<Event>,
+}
+
+impl Model for Master {
+    ghost use Rattle.master_state.specs.Jobs.{Job};
+
+    ghost Value = { Job };
+
+    ghost use Rattle.master_core.specs.Inside.{job_of, IsMaster};
+
+    ghost view = { job_of };
+
+    ghost invariant = { IsMaster };
+}
+
+impl Master {
+    /// The master of a job of which nothing has happened, with room for all that the limits allow.
+    pub fn new(alloc: Global, cluster: Cluster, limits: Limits) -> Result<Master, AllocError>
+        requires { AreSmall limits }
+        ensures setup { IfOk result (λ m. m.setup ≡ record { cluster = cluster; limits = limits }) }
+        ensures history { IfOk result (λ m. m.history ≡ []) }
+        ensures state { IfOk result (λ m. m.state ≡ opening m.setup) }
+        ensures results { IfOk result (λ m. m.results ≡ []) }
+    {
+        let workers = WorkerTable::new(alloc, cluster.slots(), cluster.silence())?;
+        let holders = first_holders(alloc, &cluster)?;
+        let splits = pending_entries(alloc, cluster.splits())?;
+        let parts = vec![in alloc; PartState::Pending; cluster.parts()]?;
+        let results = Vec::with_capacity(alloc, cluster.parts())?;
+        let starts = Vec::with_capacity(alloc, limits.attempts as usize)?;
+        let sweeps = Vec::with_capacity(alloc, limits.sweeps as usize)?;
+        let history = Vec::with_capacity(alloc, limits.events as usize)?;
+        Ok(Master {
+            cluster,
+            limits,
+            workers,
+            holders,
+            splits,
+            parts,
+            results,
+            starts,
+            sweeps,
+            history,
+        })
+    }
+
+    /// The cluster that the master was given.
+    pub fn cluster(&self) -> &Cluster
+        ensures { result.now ≡ self.now.setup.cluster }
+    {
+        &self.cluster
+    }
+
+    /// The rooms that the master was given.
+    pub fn limits(&self) -> Limits
+        ensures { result ≡ self.now.setup.limits }
+    {
+        self.limits
+    }
+
+    /// Every accepted event, the first one first. What every master keeps is told beside it.
+    pub fn history(&self) -> &[Event]
+        ensures value { result.now ≡ self.now.history }
+        ensures kept { IsKept self.now }
+    {
+        &self.history
+    }
+
+    /// What an attempt was started for, and where, if it was.
+    pub fn start(&self, attempt: AttemptNo) -> Option<Start>
+        ensures { result ≡ start_of self.now.state attempt }
+    {
+        if attempt.index() == 0 {
+            return None;
+        }
+        self.starts.get(attempt.index() - 1).copied()
+    }
+
+    /// What has become of a split.
+    pub fn state(&self, split: SplitNo) -> SplitState
+        requires { split < length self.now.setup.cluster.splits }
+        ensures { slice_get self.now.state.splits split ≡ Some result }
+    {
+        shown(&self.splits[split.index()])
+    }
+
+    /// What has become of a part.
+    pub fn part_state(&self, part: PartNo) -> PartState
+        requires { part < self.now.setup.cluster.parts }
+        ensures { slice_get self.now.state.parts part ≡ Some result }
+    {
+        self.parts[part.index()]
+    }
+
+    /// The results of the parts that are done, in the order in which they were accepted.
+    pub fn results(&self) -> &[PartResult]
+        ensures value { result.now ≡ self.now.results }
+        ensures exact { AreResults self.now.setup self.now.state self.now.results }
+    {
+        &self.results
+    }
+
+    /// Makes a live worker the last holder of a split.
+    pub fn add(&mut self, split: SplitNo, worker: WorkerNo) -> Answer
+        requires split { split < length self.old.setup.cluster.splits }
+        requires worker { worker < length self.old.setup.cluster.slots }
+        ensures { Answers self.old (Call.Add split worker) result self.new }
+    {
+        if let Some(why) = self.why_not_add(split, worker) {
+            return Answer::Ignored(why);
+        }
+        add_holder(&mut self.holders, split, worker);
+        Answer::Accepted(record_event(&mut self.history, Event::Add(split, worker)))
+    }
+
+    fn why_not_add(&self, split: SplitNo, worker: WorkerNo) -> Option<Why>
+        requires split { split < length self.now.setup.cluster.splits }
+        requires worker { worker < length self.now.setup.cluster.slots }
+        ensures { result ≡ refusal self.now.setup self.now.state (Call.Add split worker) }
+    {
+        if !self.workers.live(worker) {
+            Some(Why::DeadWorker)
+        } else if self.holders.holds(split, worker) {
+            Some(Why::AlreadyHolds)
+        } else if self.holders.is_full(split) {
+            Some(Why::EightHolders)
+        } else if self.has_no_place() {
+            Some(Why::HistoryFull)
+        } else {
+            None
+        }
+    }
+
+    /// Takes a replica of a split away from a worker. Attempts go on.
+    pub fn lose(&mut self, split: SplitNo, worker: WorkerNo) -> Answer
+        requires split { split < length self.old.setup.cluster.splits }
+        requires worker { worker < length self.old.setup.cluster.slots }
+        ensures { Answers self.old (Call.Lose split worker) result self.new }
+    {
+        if let Some(why) = self.why_not_lose(split, worker) {
+            return Answer::Ignored(why);
+        }
+        drop_holder(&mut self.holders, split, worker);
+        Answer::Accepted(record_event(&mut self.history, Event::Lose(split, worker)))
+    }
+
+    fn why_not_lose(&self, split: SplitNo, worker: WorkerNo) -> Option<Why>
+        requires { split < length self.now.setup.cluster.splits }
+        ensures { result ≡ refusal self.now.setup self.now.state (Call.Lose split worker) }
+    {
+        if !self.holders.holds(split, worker) {
+            Some(Why::NotHolder)
+        } else if self.has_no_place() {
+            Some(Why::HistoryFull)
+        } else {
+            None
+        }
+    }
+
+    /// Makes a dead worker live again, as a holder of each split of the set.
+    pub fn join(&mut self, worker: WorkerNo, set: &SplitSet) -> Answer
+        requires { IsKnown self.old.setup (Call.Join worker set.now) }
+        ensures { Answers self.old (Call.Join worker set.now) result self.new }
+    {
+        if let Some(why) = self.why_not_join(worker, set) {
+            return Answer::Ignored(why);
+        }
+        self.workers.join(worker);
+        self.holders.add_to_all(worker, set);
+        Answer::Accepted(record_event(&mut self.history, Event::Join(worker, *set)))
+    }
+
+    fn why_not_join(&self, worker: WorkerNo, set: &SplitSet) -> Option<Why>
+        requires { worker < length self.now.setup.cluster.slots }
+        ensures { result ≡ refusal self.now.setup self.now.state (Call.Join worker set.now) }
+    {
+        if self.workers.live(worker) {
+            Some(Why::LiveWorker)
+        } else if self.holders.is_any_full(set) {
+            Some(Why::EightHolders)
+        } else if self.has_no_place() {
+            Some(Why::HistoryFull)
+        } else {
+            None
+        }
+    }
+
+    // Whether the history has no place left.
+    fn has_no_place(&self) -> bool
+        ensures { result ≡ is_full self.now.setup self.now.state }
+    {
+        self.history.len() >= self.limits.events as usize
+    }
+}
