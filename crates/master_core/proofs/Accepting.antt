@@ -7,7 +7,7 @@ use Rattle.master_state.specs.declared.answers.Why.{Why}
 use Rattle.master_state.specs.declared.events.Event.{Event}
 use Rattle.master_state.specs.States.{Setup, State}
 use Rattle.master_state.specs.Refusals.{Call, IsKnown, refusal, is_full}
-use Rattle.master_state.specs.Changes.{after}
+use Rattle.master_state.specs.Changes.{after, counted}
 use Rattle.master_state.specs.Tidy.{IsTidy}
 use Rattle.master_state.specs.Jobs.{Job, IsAccepted, event_of, added_by}
 use Rattle.master_state.proofs.Reasons.{room_left}
@@ -84,3 +84,9 @@ accepted_at m new j call place is accepted =
 pub one_more : (history next : List Event) (event : Event) → next ≡ history ++ event ∷ [] →
     length next ≡ length history + 1
 one_more history next event is = ap length is ∙ length-append history (event ∷ [])
+
+-- the tables after a change make the state after the call
+pub counted_from : (changed now : State) (events : ℕ) → changed ≡ now → events ≡ now.events + 1 →
+    record now { events = events } ≡ counted changed
+counted_from changed now events is more =
+    ap (λ (n : ℕ). record now { events = n }) more ∙ ap counted (sym is)

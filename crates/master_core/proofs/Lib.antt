@@ -1,4 +1,5 @@
 pub mod Keeping
 pub mod Whole
+pub mod Showing
 pub mod Opening
 pub mod Accepting

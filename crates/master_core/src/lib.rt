@@ -7,6 +7,7 @@
 #![tactic(auto)]
 
 pub mod cluster;
+mod deaths;
 mod entries;
 mod holders;
 mod log;

@@ -4,6 +4,7 @@ ghost use Rattle.master_state.specs.Refusals.{Call, IsKnown, is_full, refusal};
 ghost use Rattle.master_state.specs.Jobs.{AreResults, Answers, IsKept};
 
 use crate::cluster::Cluster;
+use crate::deaths::bury;
 use crate::entries::{SplitEntry, pending_entries, shown};
 use crate::holders::{add_holder, drop_holder, first_holders};
 use crate::log::record_event;
@@ -207,6 +208,37 @@ impl Master {
             Some(Why::LiveWorker)
         } else if self.holders.is_any_full(set) {
             Some(Why::EightHolders)
+        } else if self.has_no_place() {
+            Some(Why::HistoryFull)
+        } else {
+            None
+        }
+    }
+
+    /// Marks a live worker dead.
+    pub fn die(&mut self, worker: WorkerNo) -> Answer
+        requires { worker < length self.old.setup.cluster.slots }
+        ensures { Answers self.old (Call.Die worker) result self.new }
+    {
+        if let Some(why) = self.why_not_die(worker) {
+            return Answer::Ignored(why);
+        }
+        bury(
+            &mut self.workers,
+            &mut self.holders,
+            &mut self.splits,
+            &mut self.parts,
+            worker,
+        );
+        Answer::Accepted(record_event(&mut self.history, Event::Die(worker)))
+    }
+
+    fn why_not_die(&self, worker: WorkerNo) -> Option<Why>
+        requires { worker < length self.now.setup.cluster.slots }
+        ensures { result ≡ refusal self.now.setup self.now.state (Call.Die worker) }
+    {
+        if !self.workers.live(worker) {
+            Some(Why::DeadWorker)
         } else if self.has_no_place() {
             Some(Why::HistoryFull)
         } else {
