@@ -1,8 +1,9 @@
 -- What changes of entries show, and which results they keep.
-use Rattle.std.proofs.Common.{◌≡◌, ℕ, ◌&&◌, List, [], ◌∷◌, map, cond, Bool, true, false, not, Option, Some, None, refl, ap, ◌∙◌, sym}
+use Rattle.std.proofs.Common.{◌≡◌, ℕ, zero, suc, ◌&&◌, List, [], ◌∷◌, map, get_or, cond, Bool, true, false, not, Option, Some, None, refl, ap, ◌∙◌, sym}
 use Rattle.std.specs.Prelude.{filter, slice_get}
 use Rattle.std.specs.Option.{option_map}
 use Rattle.std.proofs.lemmas.Option.{slice_get-map, same_Some}
+use Rattle.node_ids.specs.Updates.{updated}
 use Rattle.word_map.specs.Runs.{MapView}
 use Rattle.worker_table.specs.Workers.{Workers, with_death}
 use Rattle.block_map.specs.Holdings.{without_worker}
@@ -12,10 +13,10 @@ use Rattle.master_state.specs.declared.states.SplitState.TheVariants as states
 use Rattle.master_state.specs.declared.states.PartState.{PartState}
 use Rattle.master_state.specs.States.{Setup, State}
 use Rattle.master_state.specs.Tests.{is_on, running, all_parts_done}
-use Rattle.master_state.specs.Changes.{after_death, died, part_without}
+use Rattle.master_state.specs.Changes.{after_death, died, part_without, without_attempts}
 use Rattle.master_core.specs.declared.entries.SplitEntry.{SplitEntry}
 use Rattle.master_core.specs.declared.entries.SplitEntry.TheVariants.{Pending, Running, Done}
-use Rattle.master_core.specs.Entries.{shown_as, entry_of, entry_after_death}
+use Rattle.master_core.specs.Entries.{shown_as, entry_of, entry_after_death, entry_without}
 use Rattle.master_core.specs.Inside.{AreOfSplits}
 
 shown-running : (attempts : List Attempt) → shown_as (entry_of (running attempts)) ≡ running attempts
@@ -87,3 +88,50 @@ pub died_is : (s : State) (w : ℕ) (stays : Bool) (workers : Workers) (holders 
     died s w ≡ record s { workers = workers; holders = holders; splits = splits; parts = parts }
 died_is s w stays workers holders splits parts dead dropped same lost ended =
     rw (dead, dropped, lost, ended, same) refl
+
+-- so with the end of an attempt
+shown-without : (test : Attempt → Bool) (entry : SplitEntry) →
+    shown_as (entry_without test entry) ≡ without_attempts test (shown_as entry)
+shown-without test Pending = refl
+shown-without test (Running one None) = shown-running (filter (λ a. not (test a)) (one ∷ []))
+shown-without test (Running one (Some other)) = shown-running (filter (λ a. not (test a)) (one ∷ other ∷ []))
+shown-without test (Done attempt result) = refl
+
+pub shown-ended : (test : Attempt → Bool) (entries : List SplitEntry) (k : ℕ) →
+    map shown_as (updated (entry_without test) entries k)
+    ≡ updated (without_attempts test) (map shown_as entries) k
+shown-ended test [] k = refl
+shown-ended test (entry ∷ entries) zero =
+    ap (λ state. state ∷ map shown_as entries) (shown-without test entry)
+shown-ended test (entry ∷ entries) (suc k) = ap (λ rest. shown_as entry ∷ rest) (shown-ended test entries k)
+
+pub end_makes_none : (test : Attempt → Bool) → MakesNone (entry_without test)
+end_makes_none test Pending attempt result e = e
+end_makes_none test (Running one None) attempt result e = absurd (never_done _ attempt result e)
+end_makes_none test (Running one (Some other)) attempt result e = absurd (never_done _ attempt result e)
+end_makes_none test (Done one made) attempt result e = e
+
+done_before : (change : SplitEntry → SplitEntry) → MakesNone change → (entries : List SplitEntry) (k split : ℕ)
+    (attempt : Attempt) (result : MapView) →
+    slice_get (updated change entries k) split ≡ Some (Done attempt result) →
+    slice_get entries split ≡ Some (Done attempt result)
+done_before change none [] k split attempt result e = e
+done_before change none (entry ∷ entries) zero zero attempt result e =
+    ap Some (none entry attempt result (same_Some _ _ e))
+done_before change none (entry ∷ entries) zero (suc split) attempt result e = e
+done_before change none (entry ∷ entries) (suc k) zero attempt result e = e
+done_before change none (entry ∷ entries) (suc k) (suc split) attempt result e =
+    done_before change none entries k split attempt result e
+
+pub made_updated : (setup : Setup) (change : SplitEntry → SplitEntry) (entries : List SplitEntry) (k : ℕ) →
+    MakesNone change → AreOfSplits setup entries → AreOfSplits setup (updated change entries k)
+made_updated setup change entries k none made split attempt result found =
+    made split attempt result (done_before change none entries k split attempt result found)
+
+pub updated-kept : {X : Type 0} (change : X → X) (xs : List X) (n : ℕ) (x : X) → x ≡ get_or xs n x →
+    x ≡ change x → updated change xs n ≡ xs
+updated-kept change [] n x at same = refl
+updated-kept change (y ∷ ys) zero x at same =
+    let kept : change y ≡ y = cc in
+    ap (λ z. z ∷ ys) kept
+updated-kept change (y ∷ ys) (suc n) x at same = ap (λ rest. y ∷ rest) (updated-kept change ys n x at same)

@@ -1,5 +1,6 @@
 -- What has become of a split, as callers see it.
 use Rattle.std.specs.Prelude.{ℕ, ◌&&◌, Bool, not, if◌then◌else◌}
+use Rattle.master_state.specs.declared.states.Attempt.{Attempt}
 use Rattle.master_state.specs.declared.states.SplitState.{SplitState}
 use Rattle.master_state.specs.declared.states.SplitState.TheVariants as states
 use Rattle.master_state.specs.Tests.{is_on}
@@ -25,3 +26,9 @@ entry_after_death stays w (Running attempt other) =
     entry_of (without_attempts (is_on w) (states.Running attempt other))
 entry_after_death stays w (Done attempt result) =
     if is_on w attempt && not stays then Pending else Done attempt result
+
+-- an entry without the attempts that the test names
+abbrev pub entry_without : (Attempt → Bool) → SplitEntry → SplitEntry
+entry_without test Pending = Pending
+entry_without test (Running attempt other) = entry_of (without_attempts test (states.Running attempt other))
+entry_without test (Done attempt result) = Done attempt result

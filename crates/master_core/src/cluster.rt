@@ -69,11 +69,14 @@ impl Cluster {
         silence: u32,
     ) -> Result<Cluster, ClusterError>
         requires workers { length tree.rack_of ≡ length slots.now }
-        requires texts { map (λ text. text.split) (values_of texts.items) ≡ range_with_len 0 (length splits.items) }
+        requires texts { map (λ text. text.split) (values_of texts.items)
+            ≡ range_with_len 0 (length splits.items) }
         requires parts { 1 ≤ parts }
         requires silence { 1 ≤ silence }
-        ensures ok { IfOk result (λ c. c ≡ cluster_from tree slots.now splits.items texts.items parts silence) }
-        ensures limit { (result ≡ Err ClusterError.Limit) ↔ (AreFewAndSmall slots.now splits.items parts → ⊥) }
+        ensures ok { IfOk result (λ c.
+            c ≡ cluster_from tree slots.now splits.items texts.items parts silence) }
+        ensures limit { (result ≡ Err ClusterError.Limit)
+            ↔ (AreFewAndSmall slots.now splits.items parts → ⊥) }
         ensures holder { (result ≡ Err ClusterError.Holder)
             ↔ (AreFewAndSmall slots.now splits.items parts
             × (AreHeldWell (length slots.now) splits.items → ⊥)) }

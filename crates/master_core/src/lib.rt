@@ -12,6 +12,7 @@ mod entries;
 mod holders;
 mod log;
 pub mod master;
+mod running;
 
 pub use cluster::{Cluster, ClusterError};
 pub use master::Master;

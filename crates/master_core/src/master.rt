@@ -1,13 +1,15 @@
-ghost use Rattle.std.specs.Prelude.{◌≡◌, ◌<◌, [], length, IfOk, Some, slice_get};
+ghost use Rattle.std.specs.Prelude.{◌≡◌, ◌<◌, [], length, not, is_some, IfOk, IfSome, Some, slice_get};
 ghost use Rattle.master_state.specs.States.{AreSmall, opening, start_of};
-ghost use Rattle.master_state.specs.Refusals.{Call, IsKnown, is_full, refusal};
+ghost use Rattle.master_state.specs.Refusals.{Call, IsKnown, is_full, no_split_runs, refusal};
 ghost use Rattle.master_state.specs.Jobs.{AreResults, Answers, IsKept};
+ghost use Rattle.master_core.specs.Places.{RunsSplit};
 
 use crate::cluster::Cluster;
 use crate::deaths::bury;
 use crate::entries::{SplitEntry, pending_entries, shown};
 use crate::holders::{add_holder, drop_holder, first_holders};
 use crate::log::record_event;
+use crate::running::{RunningSplit, end_attempt, runs, split_of};
 use block_map::BlockMap;
 use master_state::{Answer, Event, Limits, PartState, SplitState, Start, Why};
 use node_ids::{AttemptNo, PartNo, SplitNo, SplitSet, WorkerNo};
@@ -241,6 +243,40 @@ impl Master {
             Some(Why::DeadWorker)
         } else if self.has_no_place() {
             Some(Why::HistoryFull)
+        } else {
+            None
+        }
+    }
+
+    /// Ends a map attempt that failed, and bars its pair.
+    pub fn map_failed(&mut self, attempt: AttemptNo) -> Answer
+        ensures { Answers self.old (Call.MapFailed attempt) result self.new }
+    {
+        let Some(found) = self.running_split(attempt) else {
+            return Answer::Ignored(Why::OldAttempt);
+        };
+        if self.has_no_place() {
+            return Answer::Ignored(Why::HistoryFull);
+        }
+        end_attempt(&mut self.splits, found.split, attempt);
+        self.workers.give_slot(found.worker);
+        self.workers.bar(found.split, found.worker);
+        Answer::Accepted(record_event(&mut self.history, Event::MapFailed(attempt)))
+    }
+
+    // The split that runs the attempt, if one does.
+    fn running_split(&self, attempt: AttemptNo) -> Option<RunningSplit>
+        ensures found { is_some result ≡ not (no_split_runs self.now.state attempt) }
+        ensures place { IfSome result (λ run. RunsSplit self.now.state attempt run.split run.worker) }
+    {
+        let splits = &self.splits;
+        let start = self.start(attempt)?;
+        let split = split_of(start.work)?;
+        if runs(&splits[split.index()], attempt) {
+            Some(RunningSplit {
+                split,
+                worker: start.worker,
+            })
         } else {
             None
         }

@@ -1,0 +1,59 @@
+-- A master after the failure or the withdrawal of an attempt.
+use Rattle.std.proofs.Common.{◌≡◌, ℕ, ◌+◌, ◌<◌, List, [], ◌∷◌, ◌++◌, map, false, refl, ap, ◌∙◌, sym, arith, length}
+use Rattle.std.proofs.lemmas.List.{append-nil}
+use Rattle.node_ids.specs.Updates.{updated}
+use Rattle.worker_table.specs.Workers.{Workers, with_slot_given, with_bar}
+use Rattle.master_state.specs.declared.answers.Why.TheVariants.{OldAttempt, HistoryFull}
+use Rattle.master_state.specs.declared.states.SplitState.{SplitState}
+use Rattle.master_state.specs.States.{State}
+use Rattle.master_state.specs.Tests.{is_numbered}
+use Rattle.master_state.specs.Refusals.{MapFailed, no_split_runs, is_full}
+use Rattle.master_state.specs.Changes.{with_map_failed, without_attempts}
+use Rattle.master_state.specs.Jobs.{IsAccepted, event_of}
+use Rattle.master_state.proofs.Problems.{length-each}
+use Rattle.master_core.specs.declared.master.Master.TheInside.{Inside}
+use Rattle.master_core.specs.Entries.{shown_as, entry_without}
+use Rattle.master_core.specs.Inside.{setup_of, state_of, job_of, IsMaster}
+use Rattle.master_core.specs.Places.{RunsSplit}
+use Rattle.master_core.proofs.Accepting.{accepted, counted_from, one_more}
+use Rattle.master_core.proofs.Showing.{shown-ended}
+use Rattle.master_core.proofs.Ended.{failed_is, split_takes, no_reason}
+
+tables_are : (s : State) (workers now : Workers) (splits shown : List SplitState) → workers ≡ now →
+    splits ≡ shown → record s { workers = workers; splits = splits } ≡ record s { workers = now; splits = shown }
+tables_are s workers now splits shown same_workers same_splits = rw (same_workers, same_splits) refl
+
+-- what a split runs, runs on one of at most 256 workers
+pub few_workers : (m : Inside) (a split w : ℕ) → IsMaster m → RunsSplit (state_of m) a split w → w < 256
+few_workers m a split w was run =
+    let known = (split_takes (setup_of m) (state_of m) a split w was.kept.tidy run).known in
+    omega (
+      arith,
+      known,
+      length-each (setup_of m) (state_of m) was.kept.whole was.kept.tidy,
+      was.kept.whole.tree.workers,
+    )
+
+pub failed_accepted : (old new : Inside) (a split w place : ℕ) → IsMaster old → RunsSplit (state_of old) a split w →
+    no_split_runs (state_of old) a ≡ false → is_full (setup_of old) (state_of old) ≡ false →
+    setup_of new ≡ setup_of old → new.workers ≡ with_bar (with_slot_given old.workers w) split w →
+    new.splits.items ≡ updated (entry_without (is_numbered a)) old.splits.items split →
+    state_of new ≡ record (state_of old) {
+      workers = new.workers;
+      splits = map shown_as new.splits.items;
+      events = length new.history.items;
+    } → new.history.items ≡ old.history.items ++ event_of (state_of old) (MapFailed a) ∷ [] →
+    new.results.items ≡ old.results.items → place ≡ length old.history.items + 1 →
+    IsAccepted (job_of old) (MapFailed a) place (job_of new)
+failed_accepted old new a split w place was run runs free setup workers splits same history results place_is =
+    let s = state_of old in
+    let shown : updated (without_attempts (is_numbered a)) s.splits split ≡ map shown_as new.splits.items =
+    sym (ap (map shown_as) splits ∙ shown-ended (is_numbered a) old.splits.items split) in
+    let changed = failed_is (setup_of old) s a split w was.kept.tidy run
+    ∙ tables_are s _ new.workers _ (map shown_as new.splits.items) (sym workers) shown in
+    let leads = same ∙ counted_from (with_map_failed s a)
+    (record s { workers = new.workers; splits = map shown_as new.splits.items }) (length new.history.items)
+    changed (one_more old.history.items new.history.items (event_of s (MapFailed a)) history) in
+    accepted old new (MapFailed a) place tt
+    (no_reason (no_split_runs s a) (is_full (setup_of old) s) OldAttempt HistoryFull runs free) setup history leads
+    (results ∙ sym (append-nil old.results.items)) place_is
