@@ -5,19 +5,20 @@ use Rattle.node_ids.specs.Updates.{updated}
 use Rattle.worker_table.specs.Workers.{Workers, with_slot_given, with_bar}
 use Rattle.master_state.specs.declared.answers.Why.TheVariants.{OldAttempt, HistoryFull}
 use Rattle.master_state.specs.declared.states.SplitState.{SplitState}
+use Rattle.master_state.specs.declared.states.PartState.{PartState}
 use Rattle.master_state.specs.States.{State}
 use Rattle.master_state.specs.Tests.{is_numbered}
-use Rattle.master_state.specs.Refusals.{MapFailed, no_split_runs, is_full}
-use Rattle.master_state.specs.Changes.{with_map_failed, without_attempts}
+use Rattle.master_state.specs.Refusals.{MapFailed, PartFailed, no_split_runs, no_part_runs, is_full}
+use Rattle.master_state.specs.Changes.{with_map_failed, without_attempt, without_attempts, part_without}
 use Rattle.master_state.specs.Jobs.{IsAccepted, event_of}
 use Rattle.master_state.proofs.Problems.{length-each}
 use Rattle.master_core.specs.declared.master.Master.TheInside.{Inside}
 use Rattle.master_core.specs.Entries.{shown_as, entry_without}
 use Rattle.master_core.specs.Inside.{setup_of, state_of, job_of, IsMaster}
-use Rattle.master_core.specs.Places.{RunsSplit}
+use Rattle.master_core.specs.Places.{RunsSplit, RunsPart}
 use Rattle.master_core.proofs.Accepting.{accepted, counted_from, one_more}
 use Rattle.master_core.proofs.Showing.{shown-ended}
-use Rattle.master_core.proofs.Ended.{failed_is, split_takes, no_reason}
+use Rattle.master_core.proofs.Ended.{failed_is, part_ended_is, split_takes, no_reason}
 
 tables_are : (s : State) (workers now : Workers) (splits shown : List SplitState) → workers ≡ now →
     splits ≡ shown → record s { workers = workers; splits = splits } ≡ record s { workers = now; splits = shown }
@@ -56,4 +57,30 @@ failed_accepted old new a split w place was run runs free setup workers splits s
     changed (one_more old.history.items new.history.items (event_of s (MapFailed a)) history) in
     accepted old new (MapFailed a) place tt
     (no_reason (no_split_runs s a) (is_full (setup_of old) s) OldAttempt HistoryFull runs free) setup history leads
+    (results ∙ sym (append-nil old.results.items)) place_is
+
+parts_are : (s : State) (workers now : Workers) (parts shown : List PartState) → workers ≡ now →
+    parts ≡ shown → record s { workers = workers; parts = parts } ≡ record s { workers = now; parts = shown }
+parts_are s workers now parts shown same_workers same_parts = rw (same_workers, same_parts) refl
+
+pub part_failed_accepted : (old new : Inside) (a r w place : ℕ) → IsMaster old → RunsPart (state_of old) a r w →
+    no_part_runs (state_of old) a ≡ false → is_full (setup_of old) (state_of old) ≡ false →
+    setup_of new ≡ setup_of old → new.workers ≡ with_slot_given old.workers w →
+    new.parts.items ≡ updated (part_without (is_numbered a)) old.parts.items r →
+    state_of new ≡ record (state_of old) {
+      workers = new.workers;
+      parts = new.parts.items;
+      events = length new.history.items;
+    } → new.history.items ≡ old.history.items ++ event_of (state_of old) (PartFailed a) ∷ [] →
+    new.results.items ≡ old.results.items → place ≡ length old.history.items + 1 →
+    IsAccepted (job_of old) (PartFailed a) place (job_of new)
+part_failed_accepted old new a r w place was run runs free setup workers parts same history results place_is =
+    let s = state_of old in
+    let changed = part_ended_is (setup_of old) s a r w was.kept.tidy run
+    ∙ parts_are s _ new.workers _ new.parts.items (sym workers) (sym parts) in
+    let leads = same ∙ counted_from (without_attempt s a)
+    (record s { workers = new.workers; parts = new.parts.items }) (length new.history.items)
+    changed (one_more old.history.items new.history.items (event_of s (PartFailed a)) history) in
+    accepted old new (PartFailed a) place tt
+    (no_reason (no_part_runs s a) (is_full (setup_of old) s) OldAttempt HistoryFull runs free) setup history leads
     (results ∙ sym (append-nil old.results.items)) place_is

@@ -5,6 +5,8 @@ use Rattle.std.proofs.lemmas.List.{length-map}
 use Rattle.master_state.specs.declared.states.Work.{Work}
 use Rattle.master_state.specs.declared.states.Work.TheVariants as works
 use Rattle.master_state.specs.declared.states.SplitState.TheVariants as states
+use Rattle.master_state.specs.declared.states.PartState.{PartState}
+use Rattle.master_state.specs.declared.states.PartState.TheVariants as part
 use Rattle.master_state.specs.States.{Setup, State, start_of}
 use Rattle.master_state.specs.Tests.{runs, part_runs, split_at, part_at}
 use Rattle.master_state.specs.Refusals.{no_split_runs, no_part_runs}
@@ -116,3 +118,17 @@ pub part_in_list : (m : Inside) (j : Job) (a r w : ℕ) → IsMaster m → job_o
 part_in_list m j a r w was is start =
     subst (λ (i : Job). r < length i.state.parts) (sym is)
     (part_known j.setup j.state a r w (tidy_at m j was is) start)
+
+element_at : (parts : List PartState) (k : ℕ) (state : PartState) → k < length parts → state ≡ get_or parts k state →
+    state ≡ slice_index_or parts k part.Pending
+element_at [] k state inside at = absurd (omega (arith, inside))
+element_at (first ∷ parts) zero state inside at = at
+element_at (first ∷ parts) (suc k) state inside at = element_at parts k state (omega (arith, inside)) at
+
+pub part_run : (m : Inside) (j : Job) (a r i w : ℕ) (state : PartState) (b : Bool) → IsMaster m → job_of m ≡ j →
+    start_of j.state a ≡ Some (record { work = works.Part r; worker = w }) → i ≡ r →
+    state ≡ get_or m.parts.items i state → b ≡ part_runs a state → b ≡ part_runs a (part_at j.state r)
+part_run m j a r i w state b was is start place at answer =
+    let here : state ≡ get_or m.parts.items r state = rw place at at in
+    answer ∙ ap (part_runs a) (element_at m.parts.items r state (part_in_list m j a r w was is start) here)
+    ∙ ap (λ (l : Job). part_runs a (part_at l.state r)) is

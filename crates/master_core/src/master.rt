@@ -1,15 +1,17 @@
 ghost use Rattle.std.specs.Prelude.{◌≡◌, ◌<◌, [], length, not, is_some, IfOk, IfSome, Some, slice_get};
 ghost use Rattle.master_state.specs.States.{AreSmall, opening, start_of};
-ghost use Rattle.master_state.specs.Refusals.{Call, IsKnown, is_full, no_split_runs, refusal};
+ghost use Rattle.master_state.specs.Refusals.{Call, IsKnown, is_full, no_part_runs, no_split_runs, refusal};
 ghost use Rattle.master_state.specs.Jobs.{AreResults, Answers, IsKept};
-ghost use Rattle.master_core.specs.Places.{RunsSplit};
+ghost use Rattle.master_core.specs.Places.{RunsPart, RunsSplit};
 
 use crate::cluster::Cluster;
 use crate::deaths::bury;
 use crate::entries::{SplitEntry, pending_entries, shown};
 use crate::holders::{add_holder, drop_holder, first_holders};
 use crate::log::record_event;
-use crate::running::{RunningSplit, end_attempt, runs, split_of};
+use crate::running::{
+    RunningPart, RunningSplit, end_attempt, end_part_attempt, part_of, part_runs, runs, split_of,
+};
 use block_map::BlockMap;
 use master_state::{Answer, Event, Limits, PartState, SplitState, Start, Why};
 use node_ids::{AttemptNo, PartNo, SplitNo, SplitSet, WorkerNo};
@@ -264,6 +266,21 @@ impl Master {
         Answer::Accepted(record_event(&mut self.history, Event::MapFailed(attempt)))
     }
 
+    /// Ends a reduce attempt that failed. Nothing is barred.
+    pub fn part_failed(&mut self, attempt: AttemptNo) -> Answer
+        ensures { Answers self.old (Call.PartFailed attempt) result self.new }
+    {
+        let Some(found) = self.running_part(attempt) else {
+            return Answer::Ignored(Why::OldAttempt);
+        };
+        if self.has_no_place() {
+            return Answer::Ignored(Why::HistoryFull);
+        }
+        end_part_attempt(&mut self.parts, found.part, attempt);
+        self.workers.give_slot(found.worker);
+        Answer::Accepted(record_event(&mut self.history, Event::PartFailed(attempt)))
+    }
+
     // The split that runs the attempt, if one does.
     fn running_split(&self, attempt: AttemptNo) -> Option<RunningSplit>
         ensures found { is_some result ≡ not (no_split_runs self.now.state attempt) }
@@ -275,6 +292,24 @@ impl Master {
         if runs(&splits[split.index()], attempt) {
             Some(RunningSplit {
                 split,
+                worker: start.worker,
+            })
+        } else {
+            None
+        }
+    }
+
+    // The part that runs the attempt, if one does.
+    fn running_part(&self, attempt: AttemptNo) -> Option<RunningPart>
+        ensures found { is_some result ≡ not (no_part_runs self.now.state attempt) }
+        ensures place { IfSome result (λ run. RunsPart self.now.state attempt run.part run.worker) }
+    {
+        let parts = &self.parts;
+        let start = self.start(attempt)?;
+        let part = part_of(start.work)?;
+        if part_runs(parts[part.index()], attempt) {
+            Some(RunningPart {
+                part,
                 worker: start.worker,
             })
         } else {

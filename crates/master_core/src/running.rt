@@ -2,19 +2,26 @@ ghost use Rattle.std.specs.Prelude.{◌≡◌, ◌<◌, length};
 ghost use Rattle.std.specs.Option.{option_map_or};
 ghost use Rattle.node_ids.specs.Updates.{updated};
 ghost use Rattle.master_state.specs.declared.states.SplitState.TheVariants as states;
-ghost use Rattle.master_state.specs.Tests.{is_numbered, runs};
-ghost use Rattle.master_state.specs.Changes.{without_attempts};
+ghost use Rattle.master_state.specs.Tests.{is_numbered, part_runs, runs};
+ghost use Rattle.master_state.specs.Changes.{part_without, without_attempts};
 ghost use Rattle.master_core.specs.Entries.{entry_of, entry_without, shown_as};
-ghost use Rattle.master_core.specs.Places.{split_of};
+ghost use Rattle.master_core.specs.Places.{part_of, split_of};
 
 use crate::entries::SplitEntry;
-use master_state::{Attempt, Work};
-use node_ids::{AttemptNo, SplitNo, WorkerNo};
+use master_state::{Attempt, PartState, Work};
+use node_ids::{AttemptNo, PartNo, SplitNo, WorkerNo};
 
 /// A split that runs an attempt, and the worker of the attempt.
 #[derive(Clone, Copy)]
 pub struct RunningSplit {
     pub split: SplitNo,
+    pub worker: WorkerNo,
+}
+
+/// A part that runs an attempt, and the worker of the attempt.
+#[derive(Clone, Copy)]
+pub struct RunningPart {
+    pub part: PartNo,
     pub worker: WorkerNo,
 }
 
@@ -28,6 +35,16 @@ pub fn split_of(work: Work) -> Option<SplitNo>
     }
 }
 
+/// The part for which an attempt was started, if for one.
+pub fn part_of(work: Work) -> Option<PartNo>
+    ensures { result ≡ part_of work }
+{
+    match work {
+        Work::Split(_split) => None,
+        Work::Part(part) => Some(part),
+    }
+}
+
 /// Whether the split runs the attempt.
 pub fn runs(entry: &SplitEntry, attempt: AttemptNo) -> bool
     ensures { result ≡ runs attempt (shown_as entry.now) }
@@ -37,6 +54,17 @@ pub fn runs(entry: &SplitEntry, attempt: AttemptNo) -> bool
         SplitEntry::Running(one, None) => one.number == attempt,
         SplitEntry::Running(one, Some(other)) => one.number == attempt || other.number == attempt,
         SplitEntry::Done(_, _) => false,
+    }
+}
+
+/// Whether the part runs the attempt.
+pub fn part_runs(part: PartState, attempt: AttemptNo) -> bool
+    ensures { result ≡ part_runs attempt part }
+{
+    match part {
+        PartState::Pending => false,
+        PartState::Running(one) => one.number == attempt,
+        PartState::Done => false,
     }
 }
 
@@ -87,5 +115,30 @@ fn without_number(attempt: Attempt, other: Option<Attempt>, number: AttemptNo) -
                 SplitEntry::Pending
             }
         }
+    }
+}
+
+/// The part runs the attempt no more.
+pub fn end_part_attempt(parts: &mut Vec<PartState>, part: PartNo, attempt: AttemptNo)
+    requires { part < length parts.old.items }
+    ensures { parts.new.items ≡ updated (part_without (is_numbered attempt)) parts.old.items part }
+{
+    let place = part.index();
+    parts[place] = part_without_number(parts[place], attempt);
+}
+
+fn part_without_number(part: PartState, number: AttemptNo) -> PartState
+    ensures { result ≡ part_without (is_numbered number) part }
+{
+    match part {
+        PartState::Pending => PartState::Pending,
+        PartState::Running(attempt) => {
+            if attempt.number == number {
+                PartState::Pending
+            } else {
+                PartState::Running(attempt)
+            }
+        }
+        PartState::Done => PartState::Done,
     }
 }
