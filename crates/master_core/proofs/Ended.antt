@@ -87,19 +87,9 @@ part_ended_is setup s a r w tidy run =
     rw (on, places.0, places.1) refl
 
 -- the answers of a call with two reasons
-pub first_reason : (x y : Bool) (p q : Why) → x ≡ true → first_of ((x, p) ∷ (y, q) ∷ []) ≡ Some p
-first_reason x y p q e = rw e refl
-
-pub second_reason : (x y : Bool) (p q : Why) → x ≡ false → y ≡ true → first_of ((x, p) ∷ (y, q) ∷ []) ≡ Some q
-second_reason x y p q e f = rw (e, f) refl
-
 pub no_reason : (x y : Bool) (p q : Why) → x ≡ false → y ≡ false → first_of ((x, p) ∷ (y, q) ∷ []) ≡ None
 no_reason x y p q e f = rw (e, f) refl
 
 pub is_false : (b : Bool) → true ≡ not b → b ≡ false
 is_false true e = cc
 is_false false e = refl
-
-pub is_true : (b : Bool) → false ≡ not b → b ≡ true
-is_true true e = refl
-is_true false e = cc

@@ -266,6 +266,43 @@ impl Master {
         Answer::Accepted(record_event(&mut self.history, Event::MapFailed(attempt)))
     }
 
+    /// Ends an attempt of a split or a part. Nothing is barred.
+    pub fn withdraw(&mut self, attempt: AttemptNo) -> Answer
+        ensures { Answers self.old (Call.Withdraw attempt) result self.new }
+    {
+        if let Some(found) = self.running_split(attempt) {
+            return self.withdraw_split(attempt, found);
+        }
+        if let Some(found) = self.running_part(attempt) {
+            return self.withdraw_part(attempt, found);
+        }
+        Answer::Ignored(Why::OldAttempt)
+    }
+
+    fn withdraw_split(&mut self, attempt: AttemptNo, found: RunningSplit) -> Answer
+        requires { RunsSplit self.old.state attempt found.split found.worker }
+        ensures { Answers self.old (Call.Withdraw attempt) result self.new }
+    {
+        if self.has_no_place() {
+            return Answer::Ignored(Why::HistoryFull);
+        }
+        end_attempt(&mut self.splits, found.split, attempt);
+        self.workers.give_slot(found.worker);
+        Answer::Accepted(record_event(&mut self.history, Event::Withdraw(attempt)))
+    }
+
+    fn withdraw_part(&mut self, attempt: AttemptNo, found: RunningPart) -> Answer
+        requires { RunsPart self.old.state attempt found.part found.worker }
+        ensures { Answers self.old (Call.Withdraw attempt) result self.new }
+    {
+        if self.has_no_place() {
+            return Answer::Ignored(Why::HistoryFull);
+        }
+        end_part_attempt(&mut self.parts, found.part, attempt);
+        self.workers.give_slot(found.worker);
+        Answer::Accepted(record_event(&mut self.history, Event::Withdraw(attempt)))
+    }
+
     /// Ends a reduce attempt that failed. Nothing is barred.
     pub fn part_failed(&mut self, attempt: AttemptNo) -> Answer
         ensures { Answers self.old (Call.PartFailed attempt) result self.new }
