@@ -48,7 +48,8 @@ accepted old new call place known allowed setup history leads results place_is =
 }
 
 pub master_after : (old new : Inside) (call : Call) (place : ℕ) → IsMaster old →
-    IsAccepted (job_of old) call place (job_of new) → HasRoom new → AreOfSplits (setup_of new) new.splits.items →
+    IsAccepted (job_of old) call place (job_of new) → HasRoom new →
+    AreOfSplits (setup_of new) new.splits.items →
     IsMaster new
 master_after old new call place was accepted room made = record {
   kept = calls_keep (job_of old) (job_of new) call place was.kept accepted;

@@ -24,7 +24,11 @@ use Rattle.master_state.proofs.Places.{no_split_is, no_part_is}
 use Rattle.master_state.specs.Tests.{runs}
 
 tables_are : (s : State) (workers now : Workers) (splits shown : List SplitState) → workers ≡ now →
-    splits ≡ shown → record s { workers = workers; splits = splits } ≡ record s { workers = now; splits = shown }
+    splits ≡ shown → record s { workers = workers; splits = splits } ≡ record s {
+      workers = now;
+      splits =
+          shown;
+    }
 tables_are s workers now splits shown same_workers same_splits = rw (same_workers, same_splits) refl
 
 -- what a split runs, runs on one of at most 256 workers
@@ -38,7 +42,8 @@ few_workers m a split w was run =
       was.kept.whole.tree.workers,
     )
 
-pub failed_accepted : (old new : Inside) (a split w place : ℕ) → IsMaster old → RunsSplit (state_of old) a split w →
+pub failed_accepted : (old new : Inside) (a split w place : ℕ) → IsMaster old →
+    RunsSplit (state_of old) a split w →
     no_split_runs (state_of old) a ≡ false → is_full (setup_of old) (state_of old) ≡ false →
     setup_of new ≡ setup_of old → new.workers ≡ with_bar (with_slot_given old.workers w) split w →
     new.splits.items ≡ updated (entry_without (is_numbered a)) old.splits.items split →
@@ -59,14 +64,16 @@ failed_accepted old new a split w place was run runs free setup workers splits s
     (record s { workers = new.workers; splits = map shown_as new.splits.items }) (length new.history.items)
     changed (one_more old.history.items new.history.items (event_of s (MapFailed a)) history) in
     accepted old new (MapFailed a) place tt
-    (no_reason (no_split_runs s a) (is_full (setup_of old) s) OldAttempt HistoryFull runs free) setup history leads
+    (no_reason (no_split_runs s a) (is_full (setup_of old) s) OldAttempt HistoryFull runs free) setup
+    history leads
     (results ∙ sym (append-nil old.results.items)) place_is
 
 parts_are : (s : State) (workers now : Workers) (parts shown : List PartState) → workers ≡ now →
     parts ≡ shown → record s { workers = workers; parts = parts } ≡ record s { workers = now; parts = shown }
 parts_are s workers now parts shown same_workers same_parts = rw (same_workers, same_parts) refl
 
-pub part_failed_accepted : (old new : Inside) (a r w place : ℕ) → IsMaster old → RunsPart (state_of old) a r w →
+pub part_failed_accepted : (old new : Inside) (a r w place : ℕ) → IsMaster old →
+    RunsPart (state_of old) a r w →
     no_part_runs (state_of old) a ≡ false → is_full (setup_of old) (state_of old) ≡ false →
     setup_of new ≡ setup_of old → new.workers ≡ with_slot_given old.workers w →
     new.parts.items ≡ updated (part_without (is_numbered a)) old.parts.items r →
@@ -85,7 +92,8 @@ part_failed_accepted old new a r w place was run runs free setup workers parts s
     (record s { workers = new.workers; parts = new.parts.items }) (length new.history.items)
     changed (one_more old.history.items new.history.items (event_of s (PartFailed a)) history) in
     accepted old new (PartFailed a) place tt
-    (no_reason (no_part_runs s a) (is_full (setup_of old) s) OldAttempt HistoryFull runs free) setup history leads
+    (no_reason (no_part_runs s a) (is_full (setup_of old) s) OldAttempt HistoryFull runs free) setup
+    history leads
     (results ∙ sym (append-nil old.results.items)) place_is
 
 both_false : (x y : Bool) → x ≡ false → (x && y) ≡ false
@@ -108,7 +116,8 @@ part_runs_it setup s a r w tidy run =
     second_false (no_split_runs s a) (no_part_runs s a)
     (no_part_is setup s a r w tidy run.start ∙ ap not run.runs)
 
-pub split_withdrawn : (old new : Inside) (a split w place : ℕ) → IsMaster old → RunsSplit (state_of old) a split w →
+pub split_withdrawn : (old new : Inside) (a split w place : ℕ) → IsMaster old →
+    RunsSplit (state_of old) a split w →
     is_full (setup_of old) (state_of old) ≡ false →
     setup_of new ≡ setup_of old → new.workers ≡ with_slot_given old.workers w →
     new.splits.items ≡ updated (entry_without (is_numbered a)) old.splits.items split →

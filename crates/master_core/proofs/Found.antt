@@ -105,7 +105,8 @@ split_in_list m j a k w was is start =
     (split_known j.setup j.state a k w (tidy_at m j was is) start) in
     omega (arith, here, length-map m.splits.items shown_as)
 
-pub split_run : (m : Inside) (j : Job) (a k i w : ℕ) (entry : SplitEntry) (b : Bool) → IsMaster m → job_of m ≡ j →
+pub split_run : (m : Inside) (j : Job) (a k i w : ℕ) (entry : SplitEntry) (b : Bool) → IsMaster m →
+    job_of m ≡ j →
     start_of j.state a ≡ Some (record { work = works.Split k; worker = w }) → i ≡ k →
     entry ≡ get_or m.splits.items i entry → b ≡ runs a (shown_as entry) → b ≡ runs a (split_at j.state k)
 split_run m j a k i w entry b was is start place at answer =
@@ -119,13 +120,15 @@ part_in_list m j a r w was is start =
     subst (λ (i : Job). r < length i.state.parts) (sym is)
     (part_known j.setup j.state a r w (tidy_at m j was is) start)
 
-element_at : (parts : List PartState) (k : ℕ) (state : PartState) → k < length parts → state ≡ get_or parts k state →
+element_at : (parts : List PartState) (k : ℕ) (state : PartState) → k < length parts →
+    state ≡ get_or parts k state →
     state ≡ slice_index_or parts k part.Pending
 element_at [] k state inside at = absurd (omega (arith, inside))
 element_at (first ∷ parts) zero state inside at = at
 element_at (first ∷ parts) (suc k) state inside at = element_at parts k state (omega (arith, inside)) at
 
-pub part_run : (m : Inside) (j : Job) (a r i w : ℕ) (state : PartState) (b : Bool) → IsMaster m → job_of m ≡ j →
+pub part_run : (m : Inside) (j : Job) (a r i w : ℕ) (state : PartState) (b : Bool) → IsMaster m →
+    job_of m ≡ j →
     start_of j.state a ≡ Some (record { work = works.Part r; worker = w }) → i ≡ r →
     state ≡ get_or m.parts.items i state → b ≡ part_runs a state → b ≡ part_runs a (part_at j.state r)
 part_run m j a r i w state b was is start place at answer =

@@ -126,7 +126,8 @@ results_more setup s a result results tidy allowed kept =
             | inl same ↦
                 let ends = part_ends a (part_at s here) run in
                 let old : count_of results r ≡ 0 = kept.one_each r
-                ∙ ap (λ b. let n : ℕ = cond b 1 0 in n) (ap (λ k. part_is_done (part_at s k)) same ∙ ends.0) in
+                ∙ ap (λ b. let n : ℕ = cond b 1 0 in n) (ap (λ k. part_is_done (part_at s k)) same
+                ∙ ends.0) in
                 let counted : ℕ = cond (result.part == r) 1 0 in
                 let one : counted ≡ 1 = ap (λ b. let n : ℕ = cond b 1 0 in n)
                 (eq-eqb result.part r (part_is ∙ sym same)) in
@@ -138,7 +139,8 @@ results_more setup s a result results tidy allowed kept =
                 let counted : ℕ = cond (result.part == r) 1 0 in
                 let none_more : counted ≡ 0 = ap (λ b. let n : ℕ = cond b 1 0 in n)
                 (ne_eqb result.part r (λ e. other (sym e ∙ part_is))) in
-                let new : part_is_done (part_at (after s (PartDone a result)) r) ≡ part_is_done (part_at s r) =
+                let new : part_is_done (part_at (after s (PartDone a result)) r) ≡ part_is_done (part_at s
+                r) =
                 ap part_is_done (at-map (part_done_by a) s.parts r part.Pending
                 ∙ part_done_by_none a (part_at s r) (part_runs_alone setup s a here _ r tidy start other)) in
                 rw new (omega (arith, kept.one_each r, none_more))
@@ -177,7 +179,8 @@ results_after setup s (PartFailed a) results tidy allowed kept =
 results_after setup s (Backup split w) results tidy allowed kept =
     results_same setup s (after s (Backup split w)) results (λ r. refl) kept
 
-pub calls_keep : (old new : Job) (call : Call) (place : ℕ) → IsKept old → IsAccepted old call place new → IsKept new
+pub calls_keep : (old new : Job) (call : Call) (place : ℕ) → IsKept old → IsAccepted old call place new →
+    IsKept new
 calls_keep old new call place kept accepted =
     let next = accepted.next in
     record {

@@ -19,7 +19,8 @@ use Rattle.master_core.specs.Entries.{shown_as}
 use Rattle.master_core.specs.Inside.{AreOfSplits}
 use Rattle.master_core.proofs.Keeping.{opening_is_kept}
 
-all_pending : (splits : List Split) → map shown_as (map (λ _. Pending) splits) ≡ map (λ _. states.Pending) splits
+all_pending : (splits : List Split) →
+    map shown_as (map (λ _. Pending) splits) ≡ map (λ _. states.Pending) splits
 all_pending [] = refl
 all_pending (split ∷ splits) = ap (λ rest. states.Pending ∷ rest) (all_pending splits)
 
@@ -54,7 +55,8 @@ none_done (split ∷ splits) (suc k) attempt result is = none_done splits k atte
 pub made_opening : (setup : Setup) (splits : List Split) → AreOfSplits setup (map (λ _. Pending) splits)
 made_opening setup splits k attempt result is = absurd (none_done splits k attempt result is)
 
-pub made_from : (setup : Setup) (entries : List SplitEntry) → entries ≡ map (λ _. Pending) setup.cluster.splits →
+pub made_from : (setup : Setup) (entries : List SplitEntry) →
+    entries ≡ map (λ _. Pending) setup.cluster.splits →
     AreOfSplits setup entries
 made_from setup entries is = rw is (made_opening setup setup.cluster.splits)
 

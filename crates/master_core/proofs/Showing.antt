@@ -33,7 +33,8 @@ shown-death : (stays : Bool) (w : ℕ) (entry : SplitEntry) →
     shown_as (entry_after_death stays w entry) ≡ after_death stays w (shown_as entry)
 shown-death stays w Pending = refl
 shown-death stays w (Running one None) = shown-running (filter (λ a. not (is_on w a)) (one ∷ []))
-shown-death stays w (Running one (Some other)) = shown-running (filter (λ a. not (is_on w a)) (one ∷ other ∷ []))
+shown-death stays w (Running one (Some other)) = shown-running (filter (λ a. not (is_on w a)) (one ∷ other
+    ∷ []))
 shown-death stays w (Done attempt result) = shown-done (is_on w attempt && not stays) attempt result
 
 pub shown-deaths : (stays : Bool) (w : ℕ) (entries : List SplitEntry) →
@@ -43,7 +44,8 @@ shown-deaths stays w (entry ∷ entries) =
     rw (shown-death stays w entry, shown-deaths stays w entries) refl
 
 -- no entry of a split that is not done keeps a result
-never_done : (state : SplitState) (attempt : Attempt) (result : MapView) → entry_of state ≡ Done attempt result → ⊥
+never_done : (state : SplitState) (attempt : Attempt) (result : MapView) →
+    entry_of state ≡ Done attempt result → ⊥
 never_done states.Pending attempt result e = cc
 never_done (states.Running one other) attempt result e = cc
 never_done (states.Done one) attempt result e = cc
@@ -78,7 +80,8 @@ pub made_mapped : (setup : Setup) (change : SplitEntry → SplitEntry) (entries 
     MakesNone change → AreOfSplits setup entries → AreOfSplits setup (map change entries)
 made_mapped setup change entries none made split attempt result found =
     made split attempt result
-    (some_done change none (slice_get entries split) attempt result (sym (slice_get-map change entries split) ∙ found))
+    (some_done change none (slice_get entries split) attempt result (sym (slice_get-map change entries
+    split) ∙ found))
 
 -- the tables after a death make the state after it
 pub died_is : (s : State) (w : ℕ) (stays : Bool) (workers : Workers) (holders : List (List ℕ))
@@ -111,7 +114,8 @@ end_makes_none test (Running one None) attempt result e = absurd (never_done _ a
 end_makes_none test (Running one (Some other)) attempt result e = absurd (never_done _ attempt result e)
 end_makes_none test (Done one made) attempt result e = e
 
-done_before : (change : SplitEntry → SplitEntry) → MakesNone change → (entries : List SplitEntry) (k split : ℕ)
+done_before : (change : SplitEntry → SplitEntry) → MakesNone change →
+    (entries : List SplitEntry) (k split : ℕ)
     (attempt : Attempt) (result : MapView) →
     slice_get (updated change entries k) split ≡ Some (Done attempt result) →
     slice_get entries split ≡ Some (Done attempt result)

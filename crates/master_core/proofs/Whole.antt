@@ -12,13 +12,15 @@ use Rattle.master_state.specs.States.{IsWhole}
 use Rattle.master_core.specs.Clusters.{AreFewAndSmall, cluster_from}
 
 pub whole_from : (racks : Tree) (slots copied : List ℕ) (splits : List Split)
-    (texts : List (Arc SplitDocuments Global)) (parts silence : ℕ) → copied ≡ slots → tree.IsWithinLimits racks →
+    (texts : List (Arc SplitDocuments Global)) (parts silence : ℕ) → copied ≡ slots →
+    tree.IsWithinLimits racks →
     length racks.rack_of ≡ length slots →
     map (λ text. text.split) (values_of texts) ≡ range_with_len 0 (length splits) → 1 ≤ parts → 1 ≤ silence →
     AreFewAndSmall slots splits parts → AreHeldWell (length slots) splits →
     IsWhole (cluster_from racks copied splits texts parts silence)
 whole_from racks slots copied splits texts parts silence same within workers of some heard few held =
-    subst (λ (given : List ℕ). IsWhole (cluster_from racks given splits texts parts silence)) (sym same) (record {
+    subst (λ (given : List ℕ). IsWhole (cluster_from racks given splits texts parts silence)) (sym same)
+    (record {
       tree = within;
       racks = workers;
       slots = few.few_slots;

@@ -54,7 +54,8 @@ pub record IsOfSplit (setup : Setup) (split : ℕ) (result : MapView) : Type 0 w
 -- so is the kept result of each done split
 abbrev pub AreOfSplits : Setup → List SplitEntry → Type 0
 AreOfSplits setup entries =
-    (split : ℕ) (attempt : Attempt) (result : MapView) → slice_get entries split ≡ Some (Done attempt result) →
+    (split : ℕ) (attempt : Attempt) (result : MapView) →
+    slice_get entries split ≡ Some (Done attempt result) →
     IsOfSplit setup split result
 
 -- what every master keeps

@@ -17,7 +17,8 @@ returns-then-not-are_held_well-clause-holder c = (
 
 pub invariant_of-result : goal.invariant_of-result
 invariant_of-result c =
-    whole_from c.args.tree c.args.slots.now c.in-Ok.slots.items c.args.splits.items c.args.texts.items c.args.parts
+    whole_from c.args.tree c.args.slots.now c.in-Ok.slots.items c.args.splits.items c.args.texts.items
+    c.args.parts
     c.args.silence (c.in-Ok.ensures.items_if_clones_equal (λ _ _ e. e))
     (subst (λ (t : Tree). tree.IsWithinLimits t) c.tree.view_is c.tree.invariant)
     c.requires.workers c.requires.texts c.requires.parts c.requires.silence

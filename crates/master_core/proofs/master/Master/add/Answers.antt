@@ -38,7 +38,11 @@ pub invariant_of-self : goal.invariant_of-self
 invariant_of-self c =
     let old = c.self.inside in
     let call : Call = Add c.args.split c.args.worker in
-    let new : Inside = record old { holders = c.add_holder.new.holders; history = c.record_event.new.history } in
+    let new : Inside = record old {
+      holders = c.add_holder.new.holders;
+      history =
+          c.record_event.new.history;
+    } in
     let allowed : refusal (setup_of old) (state_of old) call ≡ None =
     refusal_of old c.args.self.now call _ c.self.view_is c.why_not_add.ensures ∙ c.in_default.is in
     let more = one_more old.history.items new.history.items (events.Add c.args.split c.args.worker)

@@ -16,7 +16,8 @@ use Rattle.master_core.proofs.master.Master.map_failed.Goals as goal
 pub give_slot-requires-clause-taken : goal.give_slot-requires-clause-taken
 give_slot-requires-clause-taken c =
     let old = c.self.inside in
-    let run = subst (λ (i : Job). RunsSplit i.state c.args.attempt c.in-Some.found.split c.in-Some.found.worker)
+    let run = subst (λ (i : Job). RunsSplit i.state c.args.attempt c.in-Some.found.split
+    c.in-Some.found.worker)
     (sym c.self.view_is) c.in-Some.ensures.place in
     (split_takes (setup_of old) (state_of old) c.args.attempt c.in-Some.found.split c.in-Some.found.worker
     c.self.invariant.kept.tidy run).taken
@@ -54,7 +55,8 @@ invariant_of-self c =
       sweeps = c.self.invariant.room.sweeps;
       results = c.self.invariant.room.results;
     })
-    (rw c.end_attempt.ensures (made_updated (setup_of old) (entry_without (is_numbered a)) old.splits.items split
+    (rw c.end_attempt.ensures (made_updated (setup_of old) (entry_without (is_numbered a)) old.splits.items
+    split
     (end_makes_none (is_numbered a)) c.self.invariant.made))
 
 pub returns : goal.returns

@@ -14,7 +14,8 @@ returns-clause-state c =
     opening_is setup c.in_ok-workers.workers c.in_ok-holders.holders c.in_ok-splits.splits.items
     c.in_ok-parts.parts.items c.in_ok-starts.starts.items c.in_ok-sweeps.sweeps.items
     (length c.in_ok-history.history.items)
-    (c.in_ok-workers.ensures ∙ ap (λ (slots : List ℕ). opening_workers slots c.silence.result) c.slots.ensures.value
+    (c.in_ok-workers.ensures
+    ∙ ap (λ (slots : List ℕ). opening_workers slots c.silence.result) c.slots.ensures.value
     ∙ ap (opening_workers c.args.cluster.slots) c.silence.ensures.count)
     c.in_ok-holders.ensures
     (c.in_ok-splits.ensures ∙ ap (map (λ (split : Split). Pending)) c.splits.ensures.value)

@@ -14,7 +14,8 @@ give_slot-requires c =
     let old = c.self.inside in
     let run = subst (λ (i : Job). RunsPart i.state c.args.attempt c.in-Some.found.part c.in-Some.found.worker)
     (sym c.self.view_is) c.in-Some.ensures.place in
-    let takes = part_takes (setup_of old) (state_of old) c.args.attempt c.in-Some.found.part c.in-Some.found.worker
+    let takes = part_takes (setup_of old) (state_of old) c.args.attempt c.in-Some.found.part
+    c.in-Some.found.worker
     c.self.invariant.kept.tidy run in
     record { known = takes.known; taken = takes.taken }
 

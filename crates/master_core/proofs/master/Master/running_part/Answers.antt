@@ -18,13 +18,15 @@ returns-in_err-part-clause-found c =
     let tidy = tidy_at c.self.inside j c.self.invariant c.self.view_is in
     let start = sym c.start.ensures ∙ c.in_ok-start.was in
     ap is_some c.from_residual-in_err-part.ensures
-    ∙ part_missing j.setup j.state c.args.attempt c.in_ok-start.start.worker c.in_ok-start.start.work tidy start
+    ∙ part_missing j.setup j.state c.args.attempt c.in_ok-start.start.worker c.in_ok-start.start.work tidy
+    start
     (sym c.part_of.ensures ∙ c.in_err-part.was)
 
 pub index-requires-2 : goal.index-requires-2
 index-requires-2 c =
     let j = c.args.self.now in
-    let told = part_told c.in_ok-start.start.work c.in_ok-part.part (sym c.part_of.ensures ∙ c.in_ok-part.was) in
+    let told = part_told c.in_ok-start.start.work c.in_ok-part.part (sym c.part_of.ensures
+    ∙ c.in_ok-part.was) in
     let start = start_with j.state c.args.attempt c.in_ok-start.start.worker c.in_ok-start.start.work
     (works.Part c.in_ok-part.part) (sym c.start.ensures ∙ c.in_ok-start.was) told in
     let known = part_in_list c.self.inside j c.args.attempt c.in_ok-part.part c.in_ok-start.start.worker
@@ -34,7 +36,8 @@ index-requires-2 c =
 pub returns-then-part_runs-clause-place : goal.returns-then-part_runs-clause-place
 returns-then-part_runs-clause-place c =
     let j = c.args.self.now in
-    let told = part_told c.in_ok-start.start.work c.in_ok-part.part (sym c.part_of.ensures ∙ c.in_ok-part.was) in
+    let told = part_told c.in_ok-start.start.work c.in_ok-part.part (sym c.part_of.ensures
+    ∙ c.in_ok-part.was) in
     let start = start_with j.state c.args.attempt c.in_ok-start.start.worker c.in_ok-start.start.work
     (works.Part c.in_ok-part.part) (sym c.start.ensures ∙ c.in_ok-start.was) told in
     record {
@@ -48,7 +51,8 @@ pub returns-then-part_runs-clause-found : goal.returns-then-part_runs-clause-fou
 returns-then-part_runs-clause-found c =
     let j = c.args.self.now in
     let tidy = tidy_at c.self.inside j c.self.invariant c.self.view_is in
-    let told = part_told c.in_ok-start.start.work c.in_ok-part.part (sym c.part_of.ensures ∙ c.in_ok-part.was) in
+    let told = part_told c.in_ok-start.start.work c.in_ok-part.part (sym c.part_of.ensures
+    ∙ c.in_ok-part.was) in
     let start = start_with j.state c.args.attempt c.in_ok-start.start.worker c.in_ok-start.start.work
     (works.Part c.in_ok-part.part) (sym c.start.ensures ∙ c.in_ok-start.was) told in
     part_found j.setup j.state c.args.attempt c.in_ok-part.part c.in_ok-start.start.worker true tidy start
@@ -60,7 +64,8 @@ pub returns-else-part_runs-clause-found : goal.returns-else-part_runs-clause-fou
 returns-else-part_runs-clause-found c =
     let j = c.args.self.now in
     let tidy = tidy_at c.self.inside j c.self.invariant c.self.view_is in
-    let told = part_told c.in_ok-start.start.work c.in_ok-part.part (sym c.part_of.ensures ∙ c.in_ok-part.was) in
+    let told = part_told c.in_ok-start.start.work c.in_ok-part.part (sym c.part_of.ensures
+    ∙ c.in_ok-part.was) in
     let start = start_with j.state c.args.attempt c.in_ok-start.start.worker c.in_ok-start.start.work
     (works.Part c.in_ok-part.part) (sym c.start.ensures ∙ c.in_ok-start.was) told in
     part_found j.setup j.state c.args.attempt c.in_ok-part.part c.in_ok-start.start.worker false tidy start

@@ -18,13 +18,15 @@ returns-in_err-split-clause-found c =
     let tidy = tidy_at c.self.inside j c.self.invariant c.self.view_is in
     let start = sym c.start.ensures ∙ c.in_ok-start.was in
     ap is_some c.from_residual-in_err-split.ensures
-    ∙ split_missing j.setup j.state c.args.attempt c.in_ok-start.start.worker c.in_ok-start.start.work tidy start
+    ∙ split_missing j.setup j.state c.args.attempt c.in_ok-start.start.worker c.in_ok-start.start.work tidy
+    start
     (sym c.split_of.ensures ∙ c.in_err-split.was)
 
 pub index-requires-2 : goal.index-requires-2
 index-requires-2 c =
     let j = c.args.self.now in
-    let told = split_told c.in_ok-start.start.work c.in_ok-split.split (sym c.split_of.ensures ∙ c.in_ok-split.was) in
+    let told = split_told c.in_ok-start.start.work c.in_ok-split.split (sym c.split_of.ensures
+    ∙ c.in_ok-split.was) in
     let start = start_with j.state c.args.attempt c.in_ok-start.start.worker c.in_ok-start.start.work
     (works.Split c.in_ok-split.split) (sym c.start.ensures ∙ c.in_ok-start.was) told in
     let known = split_in_list c.self.inside j c.args.attempt c.in_ok-split.split c.in_ok-start.start.worker
@@ -34,7 +36,8 @@ index-requires-2 c =
 pub returns-then-runs-clause-place : goal.returns-then-runs-clause-place
 returns-then-runs-clause-place c =
     let j = c.args.self.now in
-    let told = split_told c.in_ok-start.start.work c.in_ok-split.split (sym c.split_of.ensures ∙ c.in_ok-split.was) in
+    let told = split_told c.in_ok-start.start.work c.in_ok-split.split (sym c.split_of.ensures
+    ∙ c.in_ok-split.was) in
     let start = start_with j.state c.args.attempt c.in_ok-start.start.worker c.in_ok-start.start.work
     (works.Split c.in_ok-split.split) (sym c.start.ensures ∙ c.in_ok-start.was) told in
     record {
@@ -48,7 +51,8 @@ pub returns-then-runs-clause-found : goal.returns-then-runs-clause-found
 returns-then-runs-clause-found c =
     let j = c.args.self.now in
     let tidy = tidy_at c.self.inside j c.self.invariant c.self.view_is in
-    let told = split_told c.in_ok-start.start.work c.in_ok-split.split (sym c.split_of.ensures ∙ c.in_ok-split.was) in
+    let told = split_told c.in_ok-start.start.work c.in_ok-split.split (sym c.split_of.ensures
+    ∙ c.in_ok-split.was) in
     let start = start_with j.state c.args.attempt c.in_ok-start.start.worker c.in_ok-start.start.work
     (works.Split c.in_ok-split.split) (sym c.start.ensures ∙ c.in_ok-start.was) told in
     split_found j.setup j.state c.args.attempt c.in_ok-split.split c.in_ok-start.start.worker true tidy start
@@ -60,7 +64,8 @@ pub returns-else-runs-clause-found : goal.returns-else-runs-clause-found
 returns-else-runs-clause-found c =
     let j = c.args.self.now in
     let tidy = tidy_at c.self.inside j c.self.invariant c.self.view_is in
-    let told = split_told c.in_ok-start.start.work c.in_ok-split.split (sym c.split_of.ensures ∙ c.in_ok-split.was) in
+    let told = split_told c.in_ok-start.start.work c.in_ok-split.split (sym c.split_of.ensures
+    ∙ c.in_ok-split.was) in
     let start = start_with j.state c.args.attempt c.in_ok-start.start.worker c.in_ok-start.start.work
     (works.Split c.in_ok-split.split) (sym c.start.ensures ∙ c.in_ok-start.was) told in
     split_found j.setup j.state c.args.attempt c.in_ok-split.split c.in_ok-start.start.worker false tidy start

@@ -17,7 +17,8 @@ give_slot-requires c =
     let old = c.self.inside in
     let run = subst (λ (i : Job). RunsSplit i.state c.args.attempt c.args.found.split c.args.found.worker)
     (sym c.self.view_is) c.requires in
-    let takes = split_takes (setup_of old) (state_of old) c.args.attempt c.args.found.split c.args.found.worker
+    let takes = split_takes (setup_of old) (state_of old) c.args.attempt c.args.found.split
+    c.args.found.worker
     c.self.invariant.kept.tidy run in
     record { known = takes.known; taken = takes.taken }
 
@@ -46,7 +47,8 @@ invariant_of-self c =
       sweeps = c.self.invariant.room.sweeps;
       results = c.self.invariant.room.results;
     })
-    (rw c.end_attempt.ensures (made_updated (setup_of old) (entry_without (is_numbered a)) old.splits.items split
+    (rw c.end_attempt.ensures (made_updated (setup_of old) (entry_without (is_numbered a)) old.splits.items
+    split
     (end_makes_none (is_numbered a)) c.self.invariant.made))
 
 pub returns : goal.returns
