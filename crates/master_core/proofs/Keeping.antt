@@ -1,0 +1,214 @@
+-- A master keeps its promises by every call that is accepted.
+use Rattle.std.proofs.Common.{◌≡◌, ℕ, zero, suc, ◌==◌, ◌&&◌, ◌||◌, List, [], ◌∷◌, ◌++◌, length, map, cond, Bool, true, false, not, None, refl, sym, ap, ◌∙◌, arith, inl, inr}
+use Rattle.std.specs.Prelude.{fold, filter, replicate, slice_index_or}
+use Rattle.std.specs.List.{list_any, list_all, range_with_len}
+use Rattle.std.proofs.lemmas.Bool.{false≢true, eqb-true, eq-eqb, ne_eqb, cases_eq, not-false, and_parts, or_parts}
+use Rattle.std.proofs.lemmas.List.{append-nil}
+use Rattle.std.proofs.lemmas.List.Elements.{All-nil, All-push}
+use Rattle.std.proofs.lemmas.List.Sums.{sum_by_push}
+use Rattle.shuffle_reduce.specs.Merged.{PartView}
+use Rattle.shuffle_reduce.specs.Indexed.{count_of}
+use Rattle.worker_table.specs.Workers.{has_free_slot, is_silent, swept}
+use Rattle.master_state.specs.declared.states.Attempt.{Attempt}
+use Rattle.master_state.specs.declared.states.PartState.{PartState}
+use Rattle.master_state.specs.declared.states.PartState.TheVariants as part
+use Rattle.master_state.specs.States.{Setup, State, IsWhole, AreSmall, opening}
+use Rattle.master_state.specs.Tests.{is_numbered, is_on, is_done, part_runs, part_at, part_running, part_is_done, part_is_pending, next_part, next_worker, next_on}
+use Rattle.master_state.specs.Refusals.{Call, MapDone, MapFailed, Withdraw, Die, Join, Add, Lose, Sweep, ReduceStart, PartDone, PartFailed, Backup, refusal, reasons, are_among}
+use Rattle.master_state.specs.Changes.{after, died, part_without, part_done_by}
+use Rattle.master_state.specs.Tidy.{IsTidy}
+use Rattle.master_state.specs.Jobs.{Job, IsAccepted, IsKept, AreResults, IsResult, added_by}
+use Rattle.master_state.proofs.Lists.{at-map, at-updated_other, at-updated_same, any_inside, any_found}
+use Rattle.master_state.proofs.Facts.{among}
+use Rattle.master_state.proofs.Reasons.{none_applies}
+use Rattle.master_state.proofs.Places.{found_part, told_part, part_runs_alone, part_done_by_none}
+use Rattle.master_state.proofs.Opening.{tidy_opening}
+use Rattle.master_state.proofs.Sweeping.{heard_state}
+use Rattle.master_state.proofs.Steps.{legal-accepted}
+use Rattle.master_state.proofs.Histories.{tidy_change}
+
+-- where the same parts are done, the results are theirs still
+results_same : (setup : Setup) (old new : State) (results : List PartView) →
+    ((r : ℕ) → part_is_done (part_at new r) ≡ part_is_done (part_at old r)) → AreResults setup old results →
+    AreResults setup new (results ++ [])
+results_same setup old new results same kept = record {
+  each = rw (append-nil results) kept.each;
+  one_each = λ r. rw (append-nil results, same r) (kept.one_each r);
+}
+
+done_or_pending : (b : Bool) (a : Attempt) → part_is_done (cond b part.Pending (part.Running a)) ≡ false
+done_or_pending true a = refl
+done_or_pending false a = refl
+
+-- the end of an attempt, a death and a start leave the done parts as they are
+done_without : (test : Attempt → Bool) (state : PartState) →
+    part_is_done (part_without test state) ≡ part_is_done state
+done_without test part.Pending = refl
+done_without test (part.Running a) = done_or_pending (test a) a
+done_without test part.Done = refl
+
+all_done_without : (test : Attempt → Bool) (s : State) (r : ℕ) →
+    part_is_done (slice_index_or (map (part_without test) s.parts) r part.Pending) ≡ part_is_done
+    (part_at s r)
+all_done_without test s r =
+    ap part_is_done (at-map (part_without test) s.parts r part.Pending) ∙ done_without test (part_at s r)
+
+done_all_died : (s : State) (workers : List ℕ) (r : ℕ) →
+    part_is_done (part_at (fold died s workers) r) ≡ part_is_done (part_at s r)
+done_all_died s [] r = refl
+done_all_died s (w ∷ workers) r = done_all_died (died s w) workers r ∙ all_done_without (is_on w) s r
+
+pending_not_done : (state : PartState) → part_is_pending state ≡ true → part_is_done state ≡ false
+pending_not_done part.Pending e = refl
+pending_not_done (part.Running a) e = absurd (false≢true e)
+pending_not_done part.Done e = absurd (false≢true e)
+
+done_reduce : (setup : Setup) (s : State) (r : ℕ) → refusal setup s ReduceStart ≡ None →
+    part_is_done (part_at (after s ReduceStart) r) ≡ part_is_done (part_at s r)
+done_reduce setup s r allowed =
+    let none = (none_applies (reasons setup s ReduceStart) allowed).0 in
+    let splits_and_parts =
+    (or_parts (not (list_all is_done s.splits) || not (list_any part_is_pending s.parts))
+    (not (list_any has_free_slot s.workers.each)) none).0 in
+    let some = not-false (list_any part_is_pending s.parts)
+    (or_parts (not (list_all is_done s.splits)) (not (list_any part_is_pending s.parts))
+    splits_and_parts).1 in
+    let change : PartState → PartState = λ _. part.Running (next_on s (next_worker s)) in
+    elim (cases_eq r (next_part s)) [
+      | inl same ↦ rw same
+          (ap part_is_done (at-updated_same change s.parts (next_part s) part.Pending
+          (any_inside part_is_pending s.parts some))
+          ∙ sym (pending_not_done (part_at s (next_part s))
+          (any_found part_is_pending s.parts part.Pending some)))
+      | inr other ↦ ap part_is_done (at-updated_other change s.parts (next_part s) r part.Pending other)
+    ]
+
+ended : (b : Bool) (a : Attempt) → (b || false) ≡ true →
+    part_is_done (cond b part.Done (part.Running a)) ≡ true
+ended true a e = refl
+ended false a e = absurd (false≢true e)
+
+-- a part's result is one more, of the part that it was handed in for
+part_ends : (a : ℕ) (state : PartState) → part_runs a state ≡ true →
+    (part_is_done state ≡ false) × (part_is_done (part_done_by a state) ≡ true)
+part_ends a part.Pending run = absurd (false≢true run)
+part_ends a (part.Running attempt) run = (refl, ended (is_numbered a attempt) attempt run)
+part_ends a part.Done run = absurd (false≢true run)
+
+results_more : (setup : Setup) (s : State) (a : ℕ) (result : PartView) (results : List PartView) →
+    IsTidy setup s →
+    refusal setup s (PartDone a result) ≡ None → AreResults setup s results →
+    AreResults setup (after s (PartDone a result)) (results ++ result ∷ [])
+results_more setup s a result results tidy allowed kept =
+    let none = none_applies (reasons setup s (PartDone a result)) allowed in
+    let here = part_running s a in
+    let run = found_part s a none.0 in
+    let start = told_part setup s a here tidy run in
+    let covers = are_among result.texts setup.cluster.texts && are_among setup.cluster.texts result.texts in
+    let parts = or_parts (not (result.part == here) || not (result.parts == setup.cluster.parts)) (not covers)
+    none.1.0 in
+    let numbers = or_parts (not (result.part == here)) (not (result.parts == setup.cluster.parts)) parts.0 in
+    let part_is : result.part ≡ here = eqb-true result.part here (not-false (result.part == here) numbers.0)
+    in
+    let texts = and_parts (are_among result.texts setup.cluster.texts)
+    (are_among setup.cluster.texts result.texts) (not-false covers parts.1) in
+    record {
+      each = All-push (IsResult setup) results result kept.each (record {
+        texts = λ text. (
+          among result.texts setup.cluster.texts texts.0 text,
+          among setup.cluster.texts result.texts texts.1 text,
+        );
+        parts = eqb-true result.parts setup.cluster.parts (not-false (result.parts == setup.cluster.parts)
+            numbers.1);
+      });
+      one_each = λ r. sum_by_push (λ (one : PartView). cond (one.part == r) 1 0) results result
+          ∙ elim (cases_eq r here) [
+            | inl same ↦
+                let ends = part_ends a (part_at s here) run in
+                let old : count_of results r ≡ 0 = kept.one_each r
+                ∙ ap (λ b. let n : ℕ = cond b 1 0 in n) (ap (λ k. part_is_done (part_at s k)) same
+                ∙ ends.0) in
+                let counted : ℕ = cond (result.part == r) 1 0 in
+                let one : counted ≡ 1 = ap (λ b. let n : ℕ = cond b 1 0 in n)
+                (eq-eqb result.part r (part_is ∙ sym same)) in
+                let new : part_is_done (part_at (after s (PartDone a result)) r) ≡ true =
+                ap part_is_done (at-map (part_done_by a) s.parts r part.Pending)
+                ∙ ap (λ k. part_is_done (part_done_by a (part_at s k))) same ∙ ends.1 in
+                rw new (omega (arith, old, one))
+            | inr other ↦
+                let counted : ℕ = cond (result.part == r) 1 0 in
+                let none_more : counted ≡ 0 = ap (λ b. let n : ℕ = cond b 1 0 in n)
+                (ne_eqb result.part r (λ e. other (sym e ∙ part_is))) in
+                let new : part_is_done (part_at (after s (PartDone a result)) r) ≡ part_is_done (part_at s
+                r) =
+                ap part_is_done (at-map (part_done_by a) s.parts r part.Pending
+                ∙ part_done_by_none a (part_at s r) (part_runs_alone setup s a here _ r tidy start other)) in
+                rw new (omega (arith, kept.one_each r, none_more))
+          ];
+    }
+
+-- the results after a call are those before, and the one that it adds
+results_after : (setup : Setup) (s : State) (call : Call) (results : List PartView) → IsTidy setup s →
+    refusal setup s call ≡ None → AreResults setup s results →
+    AreResults setup (after s call) (results ++ added_by call)
+results_after setup s (MapDone a result) results tidy allowed kept =
+    results_same setup s (after s (MapDone a result)) results (λ r. refl) kept
+results_after setup s (MapFailed a) results tidy allowed kept =
+    results_same setup s (after s (MapFailed a)) results (all_done_without (is_numbered a) s) kept
+results_after setup s (Withdraw a) results tidy allowed kept =
+    results_same setup s (after s (Withdraw a)) results (all_done_without (is_numbered a) s) kept
+results_after setup s (Die w) results tidy allowed kept = results_same setup s (after s (Die w)) results
+    (all_done_without (is_on w) s) kept
+results_after setup s (Join w set) results tidy allowed kept = results_same setup s (after s (Join w set))
+    results (λ r. refl) kept
+results_after setup s (Add split w) results tidy allowed kept = results_same setup s (after s (Add split w))
+    results (λ r. refl) kept
+results_after setup s (Lose split w) results tidy allowed kept = results_same setup s (after s (Lose split w))
+    results (λ r. refl) kept
+results_after setup s (Sweep counts) results tidy allowed kept =
+    results_same setup s (after s (Sweep counts)) results
+    (done_all_died (heard_state s counts)
+    (filter (is_silent (swept s.workers counts)) (range_with_len 0 (length (swept s.workers counts).each))))
+    kept
+results_after setup s ReduceStart results tidy allowed kept =
+    results_same setup s (after s ReduceStart) results (λ r. done_reduce setup s r allowed) kept
+results_after setup s (PartDone a result) results tidy allowed kept =
+    results_more setup s a result results tidy allowed kept
+results_after setup s (PartFailed a) results tidy allowed kept =
+    results_same setup s (after s (PartFailed a)) results (all_done_without (is_numbered a) s) kept
+results_after setup s (Backup split w) results tidy allowed kept =
+    results_same setup s (after s (Backup split w)) results (λ r. refl) kept
+
+pub calls_keep : (old new : Job) (call : Call) (place : ℕ) → IsKept old → IsAccepted old call place new →
+    IsKept new
+calls_keep old new call place kept accepted =
+    let next = accepted.next in
+    record {
+      whole = rw next.setup kept.whole;
+      small = rw next.setup kept.small;
+      legal = legal-accepted old new call place kept.legal accepted;
+      tidy = rw next.setup (tidy_change old.setup old.state call new.state kept.tidy accepted.change);
+      results = rw (next.setup, next.results, accepted.change.leads)
+          (results_after old.setup old.state call old.results kept.tidy accepted.change.allowed kept.results);
+    }
+
+pending_part : (count r : ℕ) → slice_index_or (replicate count part.Pending) r part.Pending ≡ part.Pending
+pending_part zero r = refl
+pending_part (suc count) zero = refl
+pending_part (suc count) (suc r) = pending_part count r
+
+-- and a job of which nothing has happened keeps them
+pub opening_is_kept : (setup : Setup) → IsWhole setup.cluster → AreSmall setup.limits →
+    IsKept (record { setup = setup; history = []; state = opening setup; results = [] })
+opening_is_kept setup whole small = record {
+  whole = whole;
+  small = small;
+  legal = refl;
+  tidy = tidy_opening setup whole;
+  results = record {
+    each = All-nil (IsResult setup);
+    one_each =
+        λ r. sym (ap (λ state. let n : ℕ = cond (part_is_done state) 1 0 in n)
+        (pending_part setup.cluster.parts r));
+  };
+}

@@ -1,0 +1,8 @@
+pub mod Keeping
+pub mod Whole
+pub mod Showing
+pub mod Ended
+pub mod Found
+pub mod Failing
+pub mod Opening
+pub mod Accepting

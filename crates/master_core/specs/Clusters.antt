@@ -1,0 +1,28 @@
+-- The parts of a cluster, and the limits that are tested of them.
+use Rattle.std.specs.Prelude.{ℕ, ◌≤◌, List, All}
+use Rattle.std.specs.declared.alloc.Global.{Global}
+use Rattle.std.specs.declared.sync.Arc.{Arc}
+use Rattle.rack_tree.specs.Tree.{Tree}
+use Rattle.wave_problem.specs.declared.TheConstants.{MAX_SLOTS}
+use Rattle.wave_problem.specs.Wave.{Split, AreSmallSplits}
+use Rattle.word_map.specs.Texts.{SplitDocuments}
+use Rattle.shuffle_reduce.specs.Gather.{values_of}
+use Rattle.master_state.specs.States.{Cluster}
+use Rattle.master_core.specs.declared.cluster.TheConstants.{MAX_PARTS}
+
+-- the cluster of these parts
+abbrev pub cluster_from : Tree → List ℕ → List Split → List (Arc SplitDocuments Global) → ℕ → ℕ → Cluster
+cluster_from tree slots splits texts parts silence = record {
+  tree = tree;
+  slots = slots;
+  splits = splits;
+  texts = values_of texts;
+  parts = parts;
+  silence = silence;
+}
+
+-- each worker has few slots, the splits are few and small, and the parts are few
+pub record AreFewAndSmall (slots : List ℕ) (splits : List Split) (parts : ℕ) : Type 0 where
+  pub few_slots : All (λ n. n ≤ MAX_SLOTS) slots
+  pub small_splits : AreSmallSplits splits
+  pub few_parts : parts ≤ MAX_PARTS

@@ -1,0 +1,4 @@
+pub mod Clusters
+pub mod Entries
+pub mod Inside
+pub mod Places

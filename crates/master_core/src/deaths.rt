@@ -1,0 +1,138 @@
+ghost use Rattle.std.specs.Prelude.{◌≡◌, ◌<◌, length, map, if◌then◌else◌, Some, None, Option};
+ghost use Rattle.std.specs.List.{list_all};
+ghost use Rattle.std.specs.Option.{option_map_or};
+ghost use Rattle.master_state.specs.declared.states.SplitState.TheVariants as states;
+ghost use Rattle.master_state.specs.States.{Setup, State};
+ghost use Rattle.master_state.specs.Tests.{is_on, part_is_done};
+ghost use Rattle.master_state.specs.Changes.{died, part_without, without_attempts};
+ghost use Rattle.master_core.specs.Entries.{entry_after_death, entry_of, shown_as};
+ghost use Rattle.master_core.specs.Inside.{AreOfSplits};
+
+use crate::entries::SplitEntry;
+use block_map::BlockMap;
+use master_state::{Attempt, PartState};
+use node_ids::WorkerNo;
+use worker_table::WorkerTable;
+
+/// A worker of the table dies: it holds nothing then, and what it ran, and had made, is pending.
+pub fn bury(
+    workers: &mut WorkerTable,
+    holders: &mut BlockMap,
+    splits: &mut Vec<SplitEntry>,
+    parts: &mut Vec<PartState>,
+    worker: WorkerNo,
+)
+    requires { worker < length workers.old.each }
+    ensures died { (s : State) → s.workers ≡ workers.old → s.holders ≡ holders.old
+        → s.splits ≡ map shown_as splits.old.items → s.parts ≡ parts.old.items
+        → died s worker ≡ record s {
+          workers = workers.new;
+          holders = holders.new;
+          splits = map shown_as splits.new.items;
+          parts = parts.new.items;
+        } }
+    ensures made { (setup : Setup) → AreOfSplits setup splits.old.items → AreOfSplits setup splits.new.items }
+{
+    let stays = are_all_done(parts);
+    workers.die(worker);
+    holders.drop_worker(worker);
+    lose_entries(splits, stays, worker);
+    lose_parts(parts, worker);
+}
+
+fn are_all_done(parts: &Vec<PartState>) -> bool
+    ensures { result ≡ list_all part_is_done parts.now.items }
+{
+    parts.iter().all(|part| is_done(part))
+}
+
+fn is_done(part: &PartState) -> bool
+    ensures { result ≡ part_is_done part.now }
+{
+    matches!(part, PartState::Done)
+}
+
+fn lose_entries(entries: &mut Vec<SplitEntry>, stays: bool, worker: WorkerNo)
+    ensures { entries.new.items ≡ map (entry_after_death stays worker) entries.old.items }
+{
+    for entry in entries.iter_mut() {
+        lose_entry(entry, stays, worker);
+    }
+}
+
+fn lose_entry(entry: &mut SplitEntry, stays: bool, worker: WorkerNo)
+    ensures { entry.new ≡ entry_after_death stays worker entry.old }
+{
+    if let Some(next) = changed_entry(entry, stays, worker) {
+        *entry = next;
+    }
+}
+
+// What the entry becomes, where it does not stay.
+fn changed_entry(entry: &SplitEntry, stays: bool, worker: WorkerNo) -> Option<SplitEntry>
+    ensures { option_map_or (λ next. next) result entry.now ≡ entry_after_death stays worker entry.now }
+{
+    match entry {
+        SplitEntry::Pending => None,
+        SplitEntry::Running(attempt, other) => Some(off_worker(*attempt, *other, worker)),
+        SplitEntry::Done(attempt, _) => {
+            if attempt.worker == worker && !stays {
+                Some(SplitEntry::Pending)
+            } else {
+                None
+            }
+        }
+    }
+}
+
+// What a split still runs, of an attempt and perhaps another, without those on the worker.
+fn off_worker(attempt: Attempt, other: Option<Attempt>, worker: WorkerNo) -> SplitEntry
+    ensures { result ≡ entry_of (without_attempts (is_on worker) (states.Running attempt other)) }
+{
+    let first_stays = attempt.worker != worker;
+    match other {
+        Some(second) => {
+            let second_stays = second.worker != worker;
+            if first_stays && second_stays {
+                SplitEntry::Running(attempt, Some(second))
+            } else if first_stays {
+                SplitEntry::Running(attempt, None)
+            } else if second_stays {
+                SplitEntry::Running(second, None)
+            } else {
+                SplitEntry::Pending
+            }
+        }
+        None => {
+            if first_stays {
+                SplitEntry::Running(attempt, None)
+            } else {
+                SplitEntry::Pending
+            }
+        }
+    }
+}
+
+fn lose_parts(parts: &mut Vec<PartState>, worker: WorkerNo)
+    ensures { parts.new.items ≡ map (part_without (is_on worker)) parts.old.items }
+{
+    for part in parts.iter_mut() {
+        *part = part_off_worker(*part, worker);
+    }
+}
+
+fn part_off_worker(part: PartState, worker: WorkerNo) -> PartState
+    ensures { result ≡ part_without (is_on worker) part }
+{
+    match part {
+        PartState::Pending => PartState::Pending,
+        PartState::Running(attempt) => {
+            if attempt.worker == worker {
+                PartState::Pending
+            } else {
+                PartState::Running(attempt)
+            }
+        }
+        PartState::Done => PartState::Done,
+    }
+}
