@@ -111,7 +111,7 @@ fn node_above(problem: &Problem, level: u8, worker: WorkerNo) -> RackNode
     }
 }
 
-// The place of that node.
+/// The place of the node at a level above a worker: 0 its own, 1 its rack's, 2 the cluster's.
 pub fn place_above(problem: &Problem, level: u8, worker: WorkerNo) -> usize
     requires level { level < LEVELS }
     requires worker { worker < length problem.now.workers }

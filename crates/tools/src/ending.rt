@@ -36,6 +36,7 @@ impl Ending {
     ghost use Rattle.tools.specs.Ending.{ending_of_asking, ending_of_check, ending_of_plan};
     ghost use Rattle.tools.specs.Ending.{status_of, words_of};
 
+    /// The end of a program whose check ended so.
     pub fn of_check(end: Result<CheckEnd, ToolError>) -> Ending
         ensures { result ≡ ending_of_check end }
     {
@@ -46,6 +47,7 @@ impl Ending {
         }
     }
 
+    /// The end of a program whose planning ended so.
     pub fn of_plan(end: Result<PlanEnd, ToolError>) -> Ending
         ensures { result ≡ ending_of_plan end }
     {
