@@ -13,7 +13,7 @@ use Rattle.master_state.specs.Jobs.{Job, IsAccepted, event_of, added_by}
 use Rattle.master_state.proofs.Reasons.{room_left}
 use Rattle.master_core.specs.declared.master.Master.TheInside.{Inside}
 use Rattle.master_core.specs.Inside.{setup_of, state_of, job_of, IsMaster, HasRoom, AreOfSplits}
-use Rattle.master_core.proofs.Keeping.{calls_keep}
+use Rattle.master_state.proofs.Keeping.{calls_keep}
 
 -- a worker of the cluster stands in the table, and a split in the lists of holders
 pub in_table : (setup : Setup) (s : State) (w : ℕ) → IsTidy setup s → w < length setup.cluster.slots →

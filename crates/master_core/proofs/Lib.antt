@@ -1,4 +1,3 @@
-pub mod Keeping
 pub mod Whole
 pub mod Showing
 pub mod Ended

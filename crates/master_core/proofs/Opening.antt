@@ -17,7 +17,7 @@ use Rattle.master_core.specs.declared.entries.SplitEntry.{SplitEntry}
 use Rattle.master_core.specs.declared.entries.SplitEntry.TheVariants.{Pending, Done}
 use Rattle.master_core.specs.Entries.{shown_as}
 use Rattle.master_core.specs.Inside.{AreOfSplits}
-use Rattle.master_core.proofs.Keeping.{opening_is_kept}
+use Rattle.master_state.proofs.Keeping.{opening_is_kept}
 
 all_pending : (splits : List Split) →
     map shown_as (map (λ _. Pending) splits) ≡ map (λ _. states.Pending) splits
