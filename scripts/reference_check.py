@@ -10,9 +10,9 @@ import sys
 
 NAME = re.compile(rb"[A-Za-z][A-Za-z0-9._-]{0,31}")
 NUMBER = re.compile(rb"0|[1-9][0-9]*")
-LONGEST_TEXT = 16_777_216
+MAX_TEXT_BYTES = 16_777_216
 MOST = {"rack": 32, "worker": 256, "split": 1024}
-MOST_HOLDERS = 8
+MAX_HOLDERS = 8
 # The places after a keyword: a name, a number, or any count of names.
 SHAPES = {
     b"problem": "9",
@@ -123,7 +123,7 @@ def faults(given, keyword, words):
     if keyword in GREATEST and numbers[0] > GREATEST[keyword]:
         found.add(5)
     if keyword == b"split":
-        if len(names) - 1 > MOST_HOLDERS:
+        if len(names) - 1 > MAX_HOLDERS:
             found.add(6)
         if len(set(names[1:])) < len(names) - 1:
             found.add(8)
@@ -162,7 +162,7 @@ def enter(given, keyword, words):
 
 def read(text, has_plan=True):
     """What a text declares; raises its least fault, by line and then by number."""
-    if len(text) > LONGEST_TEXT:
+    if len(text) > MAX_TEXT_BYTES:
         raise Fault(0, 11)
     *lines, rest = text.split(b"\n")
     given = Given(has_plan)

@@ -14,9 +14,9 @@ use rayon::prelude::*;
 use std::alloc::{AllocError, Global};
 use std::marker::Model;
 use std::thread::Threads;
-use wave_problem::{MAX_SPLITS, Near, Plan, Problem};
+use wave_problem::{MAX_SPLITS, Plan, Problem, SplitCosts};
 
-// How many splits a thread takes at the least: fewer are not worth the start of a thread.
+// How many splits a thread takes at the least: fewer are not sum the start of a thread.
 const SPLITS_PER_THREAD: usize = 128;
 
 // A problem, a plan and prices of one size, with what would be counted again at each place.
@@ -203,16 +203,16 @@ impl<'a> Checker<'a> {
         self.worker_price(worker) <= self.reward()
     }
 
-    fn is_priced(&self, near: &Near<'_>, worker: WorkerNo) -> bool
-        requires split { near.now.split < length self.now.wave.splits }
+    fn is_priced(&self, costs: &SplitCosts<'_>, worker: WorkerNo) -> bool
+        requires split { costs.now.split < length self.now.wave.splits }
         requires worker { worker < length self.now.wave.workers }
-        requires wave { near.now.wave ≡ self.now.wave }
+        requires wave { costs.now.wave ≡ self.now.wave }
         requires split_prices { AllHold self.now 4 }
         requires worker_prices { AllHold self.now 5 }
-        ensures { IsTrue result ↔ Holds self.now (Condition.Priced near.now.split worker) }
+        ensures { IsTrue result ↔ Holds self.now (Condition.Priced costs.now.split worker) }
     {
-        let worth = self.price(near.split(), worker) + near.cost(worker).unwrap_or(0);
-        worth >= self.reward() || !near.admissible(worker)
+        let sum = self.price(costs.split(), worker) + costs.cost(worker).unwrap_or(0);
+        sum >= self.reward() || !costs.admissible(worker)
     }
 
     fn is_tight(&self, split: SplitNo, worker: WorkerNo) -> bool
@@ -379,13 +379,13 @@ impl<'a> Checker<'a> {
         requires worker_prices { AllHold self.now 5 }
         ensures { IsFirstUnderpriced self.now split result }
     {
-        let near = Near::new(self.problem, split);
-        if !near.is_open() {
+        let costs = SplitCosts::new(self.problem, split);
+        if !costs.is_open() {
             return None;
         }
         for i in 0..self.workers() {
             let worker = WorkerNo::new(i as u16);
-            if !self.is_priced(&near, worker) {
+            if !self.is_priced(&costs, worker) {
                 return Some(worker);
             }
         }

@@ -10,7 +10,7 @@ use crate::{DirectArc, DirectLayout};
 use flow_network::{NetError, Network};
 use node_ids::{SplitNo, WorkerNo};
 use std::alloc::{AllocError, Global};
-use wave_problem::{Near, Problem};
+use wave_problem::{Problem, SplitCosts};
 
 /// The direct network of a problem, without flow: split by split the arcs to workers and to `Unstarted`, then
 /// those of the workers, then the last.
@@ -77,11 +77,11 @@ fn add_pairs(
     ensures built { OnOk result
         (IsBuilt problem.now split (worker_node problem.now (length problem.now.workers)) (257 * split + 256) network.new) }
 {
-    let near = Near::new(problem, split);
+    let costs = SplitCosts::new(problem, split);
     for i in 0..problem.workers() {
         let worker = WorkerNo::new(i as u16);
-        if near.admissible(worker) {
-            let cost = near.cost(worker).unwrap_or(0);
+        if costs.admissible(worker) {
+            let cost = costs.cost(worker).unwrap_or(0);
             add(network, problem, DirectArc::Pair(split, worker), cost)?;
         }
     }

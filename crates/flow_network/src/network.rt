@@ -19,7 +19,7 @@ pub enum NetError {
     ArcLimit,
 }
 
-const ARC_LIMIT: usize = 1_048_576;
+const MAX_ARCS: usize = 1_048_576;
 
 /// A network of at most 4,096 nodes, those of the layout, with arcs and a flow of whole units.
 #[derive(Drop)]
@@ -220,7 +220,7 @@ impl<L: Layout> Network<L> {
         ensures err { OnErr result (self.new ≡ self.old) }
         ensures limit { IfErr result (λ e. (e ≡ NetError.ArcLimit) ↔ (length self.old.arcs ≡ 1048576)) }
     {
-        if self.arcs.len() >= ARC_LIMIT {
+        if self.arcs.len() >= MAX_ARCS {
             return Err(NetError::ArcLimit);
         }
         let number = self.arcs.len();

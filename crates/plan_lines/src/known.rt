@@ -9,13 +9,13 @@ use std::alloc::{AllocError, Global};
 use std::marker::Model;
 use text_lines::{Fault, NameTable, PairTable, is_name};
 
-const MOST_RACKS: usize = 32;
+const MAX_RACKS: usize = 32;
 
-const MOST_WORKERS: usize = 256;
+const MAX_WORKERS: usize = 256;
 
-const MOST_SPLITS: usize = 1024;
+const MAX_SPLITS: usize = 1024;
 
-const MOST_HOLDERS: usize = 8;
+const MAX_HOLDERS: usize = 8;
 
 /// What the lines so far declare: the names of each kind, numbered from 0 in their order.
 pub struct KnownNames<'t> {
@@ -264,10 +264,10 @@ impl<'t> KnownNames<'t> {
         ensures { IsTrue result ↔ IsPastLimit self.now (statement_of line.now) }
     {
         match line {
-            Line::Rack { .. } => self.racks.len() >= MOST_RACKS,
-            Line::Worker { .. } => self.workers.len() >= MOST_WORKERS,
-            Line::Split { holders, .. } => self.splits.len() >= MOST_SPLITS
-                || holders.len() > MOST_HOLDERS,
+            Line::Rack { .. } => self.racks.len() >= MAX_RACKS,
+            Line::Worker { .. } => self.workers.len() >= MAX_WORKERS,
+            Line::Split { holders, .. } => self.splits.len() >= MAX_SPLITS
+                || holders.len() > MAX_HOLDERS,
             _ => false,
         }
     }

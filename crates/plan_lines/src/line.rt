@@ -5,9 +5,9 @@ use crate::keyword::Keyword;
 use crate::words::{are_apart, are_names, is_at_most};
 use text_lines::{Number, is_name};
 
-const MOST_SLOTS: u64 = 16;
+const MAX_SLOTS: u64 = 16;
 
-const MOST_BLOCK_BYTES: u64 = 67_108_864;
+const MAX_BLOCK_BYTES: u64 = 67_108_864;
 
 /// What a line says. A number keeps its word.
 #[derive(Clone, Copy, Debug)]
@@ -117,8 +117,8 @@ impl<'w, 't> Line<'w, 't> {
     {
         match self {
             Line::Problem { version } => version.value() != Some(1),
-            Line::Worker { slots, .. } => !is_at_most(*slots, MOST_SLOTS),
-            Line::Split { bytes, .. } => !is_at_most(*bytes, MOST_BLOCK_BYTES),
+            Line::Worker { slots, .. } => !is_at_most(*slots, MAX_SLOTS),
+            Line::Split { bytes, .. } => !is_at_most(*bytes, MAX_BLOCK_BYTES),
             Line::Price { amount, .. } => amount.value().is_none(),
             _ => false,
         }

@@ -14,7 +14,7 @@ use plan_lines::{KnownNames, Purpose};
 use std::alloc::Global;
 use text_lines::{Fault, TextFault, split_line};
 
-const LONGEST: usize = 16_777_216;
+const MAX_TEXT_BYTES: usize = 16_777_216;
 
 /// Why a text has no value.
 #[derive(Clone, Copy, Debug, PartialEq, Eq)]
@@ -60,7 +60,7 @@ fn read_draft(alloc: Global, purpose: Purpose, text: &[u8]) -> Result<Draft<'_>,
     ensures ok { IfOk result (λ draft. IsAllRead purpose text.entry.now draft.names (entries_in draft.rows)) }
     ensures err { IfErr result (IsReadingError purpose text.entry.now) }
 {
-    if text.len() > LONGEST {
+    if text.len() > MAX_TEXT_BYTES {
         return Err(ReadingError::Text(TextFault {
             line: 0,
             number: Fault::TooLong,

@@ -3,7 +3,7 @@ use node_ids::{SplitNo, WorkerNo};
 use std::alloc::Global;
 use std::process::Abort;
 use std::test::Fail;
-use wave_problem::{MAX_BYTES, Near, Problem, ProblemError};
+use wave_problem::{MAX_BYTES, Problem, ProblemError, SplitCosts};
 
 // Workers 0 and 1 in one rack and 2 in another, the last one dead, with so many slots each.
 fn three_workers(free: u8) -> [WorkerRow; 3] {
@@ -67,13 +67,13 @@ fn costs_of(
     let split = SplitNo::new(split);
     let worker = WorkerNo::new(worker);
     assert!(rt; split.index() < problem.splits() && worker.index() < problem.workers());
-    let near = Near::new(problem, split);
+    let costs = SplitCosts::new(problem, split);
     [
         (
             problem.cost(split, worker),
             problem.admissible(split, worker),
         ),
-        (near.cost(worker), near.admissible(worker)),
+        (costs.cost(worker), costs.admissible(worker)),
     ]
 }
 
@@ -104,8 +104,8 @@ fn splits(rt: HostRuntime) -> Result<(), Fail> {
     assert_eq!(rt; problem.bytes(split), 20);
     assert!(rt; problem.is_pending(split) && problem.has_live_holder(split));
     assert_eq!(rt; problem.holders(split), [WorkerNo::new(0)].as_slice());
-    let held_by_the_dead = Near::new(&problem, SplitNo::new(2));
-    assert!(rt; Near::new(&problem, split).is_open() && !held_by_the_dead.is_open());
+    let held_by_the_dead = SplitCosts::new(&problem, SplitNo::new(2));
+    assert!(rt; SplitCosts::new(&problem, split).is_open() && !held_by_the_dead.is_open());
     Ok(())
 }
 

@@ -12,7 +12,7 @@ use crate::{LEVELS, RackArc, RackLayout};
 use flow_network::{NetError, Network};
 use node_ids::{RackNo, SplitNo, WorkerNo};
 use std::alloc::{AllocError, Global};
-use wave_problem::{Near, Problem};
+use wave_problem::{Problem, SplitCosts};
 
 /// The rack network of a problem, without flow, row by row: of each split the arcs to `Cluster`, to racks, to
 /// workers and to `Unstarted`, then those of `Cluster`, of the racks and of the workers, then the last. Where
@@ -134,11 +134,11 @@ fn add_pairs(
     ensures built { OnOk result (IsBuilt problem.now split (unstarted_node problem.now) (257 * split + 256)
         network.new) }
 {
-    let near = Near::new(problem, split);
+    let costs = SplitCosts::new(problem, split);
     for i in 0..problem.workers() {
         let worker = WorkerNo::new(i as u16);
-        if near.admissible(worker) {
-            let cost = near.cost(worker).unwrap_or(0);
+        if costs.admissible(worker) {
+            let cost = costs.cost(worker).unwrap_or(0);
             add(network, problem, RackArc::Pair(split, worker), cost)?;
         }
     }

@@ -17,5 +17,5 @@ pub use fault::{Fault, TextFault};
 pub use lines::{printable, split_line, words};
 pub use names::is_name;
 pub use number::Number;
-pub use streams::{MOST_BYTES, MOST_READS, ReadError, WriteError, read_text, write_text};
+pub use streams::{MAX_READ_BYTES, MAX_READS, ReadError, WriteError, read_text, write_text};
 pub use tables::{NameTable, PairTable};

@@ -2,7 +2,7 @@ ghost use Rattle.std.specs.Prelude.{◌↔◌, IsTrue};
 ghost use Rattle.text_lines.specs.Texts.{IsName, IsNameByte};
 
 /// The most bytes of a name.
-pub const LONGEST_NAME: usize = 32;
+pub const MAX_NAME_BYTES: usize = 32;
 
 /// Whether the word is a name: 1 to 32 letters, digits, `-`, `_` and `.`, the first a letter.
 pub fn is_name(word: &str) -> bool
@@ -12,7 +12,7 @@ pub fn is_name(word: &str) -> bool
     match bytes.first() {
         Some(first) => {
             first.is_ascii_alphabetic()
-                && bytes.len() <= LONGEST_NAME
+                && bytes.len() <= MAX_NAME_BYTES
                 && bytes.iter().all(|byte| is_name_byte(*byte))
         }
         None => false,

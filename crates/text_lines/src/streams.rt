@@ -7,10 +7,10 @@ use std::io::{ErrorKind, Read, Write};
 use thiserror::Error;
 
 /// The most bytes that are read: one more than the longest text has.
-pub const MOST_BYTES: usize = 16_777_217;
+pub const MAX_READ_BYTES: usize = 16_777_217;
 
 /// The most calls that are made of a reader, two for each byte.
-pub const MOST_READS: u32 = 33_554_434;
+pub const MAX_READS: u32 = 33_554_434;
 
 // The most bytes of one read.
 const PIECE: usize = 4096;
@@ -21,7 +21,7 @@ pub enum ReadError {
     /// The text had no room in memory.
     #[error("no memory")]
     Memory,
-    /// The reader failed, or gave no end within `MOST_READS` calls.
+    /// The reader failed, or gave no end within `MAX_READS` calls.
     #[error("read fault")]
     Read,
 }
@@ -37,18 +37,18 @@ enum Progress {
     End,
 }
 
-/// All that the reader has, or its first `MOST_BYTES`: no byte past those is asked for. A read that
+/// All that the reader has, or its first `MAX_READ_BYTES`: no byte past those is asked for. A read that
 /// was interrupted is made again.
 pub fn read_text<R: Read>(alloc: Global, reader: &mut R) -> Result<Vec<u8>, ReadError>
     ensures read { IfOk result (λ text.
-        IfSome (R.remaining reader.old) (λ input. text.items ≡ take MOST_BYTES input)) }
-    ensures bound { IfOk result (λ text. vec_len text ≤ MOST_BYTES) }
-    ensures unread { ConsumesAtMost (R.remaining reader.old) (R.remaining reader.new) MOST_BYTES }
+        IfSome (R.remaining reader.old) (λ input. text.items ≡ take MAX_READ_BYTES input)) }
+    ensures bound { IfOk result (λ text. vec_len text ≤ MAX_READ_BYTES) }
+    ensures unread { ConsumesAtMost (R.remaining reader.old) (R.remaining reader.new) MAX_READ_BYTES }
 {
     let mut text = Vec::new(alloc);
     let mut piece = [0u8; PIECE];
-    for _ in 0..MOST_READS {
-        if text.len() >= MOST_BYTES {
+    for _ in 0..MAX_READS {
+        if text.len() >= MAX_READ_BYTES {
             return Ok(text);
         }
         match read_piece(reader, &mut piece, &mut text)? {
@@ -66,15 +66,15 @@ fn read_piece<R: Read>(
     piece: &mut [u8; PIECE],
     text: &mut Vec<u8>,
 ) -> Result<Progress, ReadError>
-    requires { vec_len text.old < MOST_BYTES }
-    ensures bound { vec_len text.new ≤ MOST_BYTES }
+    requires { vec_len text.old < MAX_READ_BYTES }
+    ensures bound { vec_len text.new ≤ MAX_READ_BYTES }
     ensures ok { OnOk result
         (Reads (R.remaining reader.old) (R.remaining reader.new) text.old.items text.new.items) }
     ensures end { result ≡ Ok Progress.End → IsAtEnd (R.remaining reader.new) }
     ensures err { OnErr result
-        (ConsumesAtMost (R.remaining reader.old) (R.remaining reader.new) (MOST_BYTES - vec_len text.old)) }
+        (ConsumesAtMost (R.remaining reader.old) (R.remaining reader.new) (MAX_READ_BYTES - vec_len text.old)) }
 {
-    let room = PIECE.min(MOST_BYTES - text.len());
+    let room = PIECE.min(MAX_READ_BYTES - text.len());
     match reader.read(&mut piece[..room]) {
         Ok(0) => Ok(Progress::End),
         Ok(count) => {

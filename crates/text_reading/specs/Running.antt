@@ -4,7 +4,7 @@ use Rattle.std.specs.declared.result.Result.{Result}
 use Rattle.std.specs.Io.KnownBytes.{Appends, Keeps}
 use Rattle.text_lines.specs.Streams.{AppendsFront, ConsumesAtMost}
 use Rattle.text_lines.specs.declared.fault.TextFault.{TextFault}
-use Rattle.text_lines.specs.declared.streams.TheConstants.{MOST_BYTES}
+use Rattle.text_lines.specs.declared.streams.TheConstants.{MAX_READ_BYTES}
 use Rattle.text_reading.specs.declared.tool_error.ToolError.{ToolError}
 use Rattle.text_reading.specs.declared.tool_error.ToolError.TheVariants.{Memory, Read, Text, Write}
 
@@ -34,12 +34,12 @@ pub record IsSomeAnswer {End : Type 0} (Answers : Result End TextFault → List 
 pub record HasRun {End : Type 0} (Answers : List ℕ → Result End TextFault → List ℕ → Type 0)
     (unread left old new : Option (List ℕ)) (result : Result End ToolError) : Type 0 where
   pub answered : (end : Result End TextFault) → result ≡ outcome end
-      → IfSome unread (λ input. Wrote old new (Answers (take MOST_BYTES input) end))
+      → IfSome unread (λ input. Wrote old new (Answers (take MAX_READ_BYTES input) end))
   pub memory : result ≡ Err Memory → Keeps old new
   pub read : result ≡ Err Read → Keeps old new
   pub write : result ≡ Err Write
-      → IfSome unread (λ input. WroteFront old new (IsSomeAnswer (Answers (take MOST_BYTES input))))
-  pub few : ConsumesAtMost unread left MOST_BYTES
+      → IfSome unread (λ input. WroteFront old new (IsSomeAnswer (Answers (take MAX_READ_BYTES input))))
+  pub few : ConsumesAtMost unread left MAX_READ_BYTES
 
 -- each text has one end, and answers that are alike
 abbrev pub HasOneAnswer : {End : Type 0} → (List ℕ → Result End TextFault → List ℕ → Type 0)
@@ -51,5 +51,5 @@ HasOneAnswer {End} Answers Alike = (text : List ℕ) (a b : Result End TextFault
 abbrev pub WroteItsAnswer : {End : Type 0} → (List ℕ → Result End TextFault → List ℕ → Type 0)
     → (List ℕ → List ℕ → Type 0) → Option (List ℕ) → Option (List ℕ) → Option (List ℕ) → Result End ToolError → Type 0
 WroteItsAnswer {End} Answers Alike unread old new result = (end : Result End TextFault) → result ≡ outcome end
-    → IfSome unread (λ input. (other : Result End TextFault) (line : List ℕ) → Answers (take MOST_BYTES input) other line
+    → IfSome unread (λ input. (other : Result End TextFault) (line : List ℕ) → Answers (take MAX_READ_BYTES input) other line
     → (end ≡ other) × Wrote old new (λ written. Alike written line))

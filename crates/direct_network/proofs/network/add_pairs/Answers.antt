@@ -21,15 +21,15 @@ loop-i-preserved c =
       | then-admissible+in_ok-add w ↦ rw w.network-is
           (pair_step c.args.problem.now s c.loop-i.i c.new-worker.result limit next c.loop-i.network w.add.new.network
           (omega arith) (omega arith) c.requires.split (omega arith)
-          (subst (λ z. IsAdmissible z s c.new-worker.result) c.new-near.ensures.wave
-          (subst (λ z. IsAdmissible c.new-near.result.wave z c.new-worker.result) c.new-near.ensures.split (c.admissible.ensures.0 w.if-admissible.true)))
+          (subst (λ z. IsAdmissible z s c.new-worker.result) c.new-costs.ensures.wave
+          (subst (λ z. IsAdmissible c.new-costs.result.wave z c.new-worker.result) c.new-costs.ensures.split (c.admissible.ensures.0 w.if-admissible.true)))
           c.loop-i.invariant (w.in_ok-add.ensures.layout, w.in_ok-add.ensures.arcs, w.in_ok-add.ensures.flows))
       | else-admissible w ↦ rw w.network-is
           (pair_skip c.args.problem.now s c.loop-i.i c.new-worker.result limit next c.loop-i.network
           (omega arith) (omega arith) c.requires.split (omega arith)
           (λ may. false≢true (sym w.if-admissible.false ∙ c.admissible.ensures.1
-          (subst (λ z. IsAdmissible c.new-near.result.wave z c.new-worker.result) (sym c.new-near.ensures.split)
-          (subst (λ z. IsAdmissible z s c.new-worker.result) (sym c.new-near.ensures.wave) may))))
+          (subst (λ z. IsAdmissible c.new-costs.result.wave z c.new-worker.result) (sym c.new-costs.ensures.split)
+          (subst (λ z. IsAdmissible z s c.new-worker.result) (sym c.new-costs.ensures.wave) may))))
           c.loop-i.invariant)
     ]
 

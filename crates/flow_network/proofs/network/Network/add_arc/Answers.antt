@@ -18,7 +18,7 @@ invariant_of-self-in-Ok g c =
     let all : c.push.new.self.items ≡ c.self.inside.arcs.items ++ a ∷ [] = rw c.if-is_err.ensures.negation at c.push.ensures.items in
     let none : c.push-2.new.self.items ≡ c.self.inside.flows.items ++ 0 ∷ [] = rw c.if-is_err-2.ensures.negation at c.push-2.ensures.items in
     let long : length c.list_arc.new.leaving ≡ length c.self.inside.leaving.items = ap length same ∙ length-with_arc _ _ _ _ in
-    let room : length c.self.inside.arcs.items < 1048576 = omega (arith, c.if-len-ge-ARC_LIMIT.false, c.len.ensures) in
+    let room : length c.self.inside.arcs.items < 1048576 = omega (arith, c.if-len-ge-MAX_ARCS.false, c.len.ensures) in
     rw (with_items_is c.self.inside.leaving c.list_arc.new.leaving (omega arith)) (rw (same, all, none)
     (flow_with_arc _ _ _ _ a c.self.invariant
     (record {

@@ -1,8 +1,8 @@
 use Rattle.std.specs.Prelude.{◌≡◌, ◌<◌, ◌≤◌, ◌↔◌, length, IsTrue}
-use Rattle.wave_problem.specs.Near.{Shows, SplitOf}
+use Rattle.wave_problem.specs.SplitCosts.{Shows, SplitOf}
 use Rattle.wave_problem.specs.Wave.{live_holders, split_at, IsOpen}
 use Rattle.wave_problem.specs.declared.TheConstants.{MAX_BYTES}
-use Rattle.wave_problem.specs.declared.near.Near.TheInside.{Inside}
+use Rattle.wave_problem.specs.declared.split_costs.SplitCosts.TheInside.{Inside}
 
 -- which split of which wave it is
 abbrev pub split_of : Inside → SplitOf

@@ -5,7 +5,7 @@ use Rattle.node_ids.specs.Sets.{has_number}
 use Rattle.rack_tree.specs.Tree.{Tree}
 use Rattle.rack_tree.specs.declared.TheConstants.{MAX_RACKS}
 use Rattle.wave_problem.specs.Wave.{Wave}
-use Rattle.wave_problem.specs.declared.near.LiveHolders.{LiveHolders}
+use Rattle.wave_problem.specs.declared.split_costs.LiveHolders.{LiveHolders}
 
 -- a split of a wave
 pub record SplitOf : Type 0 where

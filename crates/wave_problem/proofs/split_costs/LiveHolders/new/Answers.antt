@@ -2,7 +2,7 @@ use Rattle.std.proofs.Common.{arith, false, refl}
 use Rattle.std.proofs.lemmas.Bool.{false_from_ne_true, false≢true}
 use Rattle.std.proofs.lemmas.List.{get_or-replicate}
 use Rattle.node_ids.specs.Sets.{has_number}
-use Rattle.wave_problem.proofs.near.LiveHolders.new.Goals as goal
+use Rattle.wave_problem.proofs.split_costs.LiveHolders.new.Goals as goal
 
 pub returns : goal.returns
 returns c tree = record {

@@ -1,9 +1,9 @@
 use Rattle.std.proofs.Common.{◌≡◌, ◌*◌, ap, refl, sym, ◌∙◌, Some, ℕ, slice_index}
 use Rattle.std.specs.Option.{option_map}
 use Rattle.rack_tree.specs.Tree.{Tree}
-use Rattle.wave_problem.specs.Near.{SplitOf}
+use Rattle.wave_problem.specs.SplitCosts.{SplitOf}
 use Rattle.wave_problem.specs.Wave.{cost, least_distance, live_holders, split_at}
-use Rattle.wave_problem.proofs.near.Near.cost.Goals as goal
+use Rattle.wave_problem.proofs.split_costs.SplitCosts.cost.Goals as goal
 
 pub returns-in-Some-clause-cost : goal.returns-in-Some-clause-cost
 returns-in-Some-clause-cost c =

@@ -1,6 +1,6 @@
 use Rattle.std.proofs.Common.{◌<◌, arith, length, length-append, length-set, refl, true, ◌∷◌, [], sym, ◌∙◌}
 use Rattle.wave_problem.proofs.Gathered.{marked_more, put_more}
-use Rattle.wave_problem.proofs.near.LiveHolders.add.Goals as goal
+use Rattle.wave_problem.proofs.split_costs.LiveHolders.add.Goals as goal
 
 pub returns : goal.returns
 returns c tree live here shown =

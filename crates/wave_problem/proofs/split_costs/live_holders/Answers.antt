@@ -1,4 +1,4 @@
-use Rattle.wave_problem.proofs.near.live_holders.Goals as goal
+use Rattle.wave_problem.proofs.split_costs.live_holders.Goals as goal
 
 pub loop-holder-init : goal.loop-holder-init
 loop-holder-init c = c.new-live.ensures c.args.problem.now.tree

@@ -2,7 +2,7 @@ ghost use Rattle.std.specs.Prelude.{◌≡◌, ℕ, List, [], ◌∷◌, ◌++�
 ghost use Rattle.rack_tree.specs.Tree.{distance, Tree};
 ghost use Rattle.rack_tree.specs.declared.TheConstants.{MAX_RACKS, MAX_WORKERS};
 ghost use Rattle.wave_problem.specs.declared.TheConstants.{MAX_BYTES};
-ghost use Rattle.wave_problem.specs.Near.{Shows};
+ghost use Rattle.wave_problem.specs.SplitCosts.{Shows};
 ghost use Rattle.wave_problem.specs.Sums.{least};
 ghost use Rattle.wave_problem.specs.Wave.{cost, live_among, IsAdmissible, IsOpen};
 
@@ -64,7 +64,7 @@ impl LiveHolders {
 /// A split of a problem with its live holders gathered, for passes over all workers: where `Problem`
 /// looks at each holder for each worker, this tells a cost by two tests.
 #[derive(Drop)]
-pub struct Near<'a> {
+pub struct SplitCosts<'a> {
     problem: &'a Problem,
     split: SplitNo,
     bytes: u64,
@@ -72,27 +72,27 @@ pub struct Near<'a> {
     holders: LiveHolders,
 }
 
-impl<'a> Model for Near<'a> {
-    ghost use Rattle.wave_problem.specs.Near.{SplitOf};
+impl<'a> Model for SplitCosts<'a> {
+    ghost use Rattle.wave_problem.specs.SplitCosts.{SplitOf};
 
     ghost Value = { SplitOf };
 
-    ghost use Rattle.wave_problem.specs.NearView.{split_of, IsGathered};
+    ghost use Rattle.wave_problem.specs.SplitCostsView.{split_of, IsGathered};
 
     ghost view = { split_of };
 
     ghost invariant = { IsGathered };
 }
 
-impl<'a> Near<'a> {
+impl<'a> SplitCosts<'a> {
     /// The split of the problem, after one look at each of its holders.
-    pub fn new(problem: &'a Problem, split: SplitNo) -> Near<'a>
+    pub fn new(problem: &'a Problem, split: SplitNo) -> SplitCosts<'a>
         requires { split < length problem.now.splits }
         ensures wave { result.wave ≡ problem.now }
         ensures split { result.split ≡ split }
     {
         let holders = live_holders(problem, problem.holders(split));
-        Near {
+        SplitCosts {
             problem,
             split,
             bytes: problem.bytes(split),

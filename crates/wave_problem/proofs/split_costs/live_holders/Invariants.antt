@@ -1,7 +1,7 @@
 use Rattle.std.proofs.Common.{take}
-use Rattle.wave_problem.specs.Near.{Shows}
+use Rattle.wave_problem.specs.SplitCosts.{Shows}
 use Rattle.wave_problem.specs.Wave.{live_among}
-use Rattle.wave_problem.proofs.near.live_holders.Given as goal
+use Rattle.wave_problem.proofs.split_costs.live_holders.Given as goal
 
 abbrev pub invariant-loop-holder : goal.invariant-loop-holder
 invariant-loop-holder l =

@@ -1,6 +1,6 @@
 use Rattle.std.proofs.Common.{ap, sym, ◌∙◌, Some, false, get_or, ℕ}
 use Rattle.wave_problem.proofs.Gathered.{least_near, steps_elsewhere, steps_here, steps_in_rack}
-use Rattle.wave_problem.proofs.near.LiveHolders.least_distance.Goals as goal
+use Rattle.wave_problem.proofs.split_costs.LiveHolders.least_distance.Goals as goal
 
 pub returns-then-has-clause-least : goal.returns-then-has-clause-least
 returns-then-has-clause-least c tree live here shown =
