@@ -1,0 +1,113 @@
+-- The lines of a report.
+use Rattle.std.specs.Prelude.{ℕ, List, [], ◌∷◌, ◌++◌, Bool, not, if◌then◌else◌, codes, count_by, length, slice_index_or}
+use Rattle.std.specs.Fmt.{decimal}
+use Rattle.std.specs.List.{flat_map, range_with_len}
+use Rattle.node_ids.specs.Sets.{has_number}
+use Rattle.text_lines.specs.Texts.{Word}
+use Rattle.word_map.specs.Entries.{EntryView}
+use Rattle.block_map.specs.declared.CopyOrder.{CopyOrder}
+use Rattle.master_state.specs.declared.answers.Answer.{Answer}
+use Rattle.master_state.specs.declared.answers.Answer.TheVariants as answer
+use Rattle.master_state.specs.declared.answers.Why.{Why}
+use Rattle.master_state.specs.declared.answers.Why.TheVariants as why
+use Rattle.master_state.specs.declared.states.SplitState.{SplitState}
+use Rattle.master_state.specs.declared.states.SplitState.TheVariants.{Pending}
+use Rattle.master_state.specs.Tests.{is_done}
+
+-- the name of a number, and the numbers of some names, from 0 on
+abbrev pub name_of : List Word → ℕ → Word
+name_of names number = slice_index_or names number []
+
+abbrev pub numbers_of : List Word → List ℕ
+numbers_of names = range_with_len 0 (length names)
+
+-- a line for each of these numbers of which the test is true
+abbrev pub lines_of_those : (ℕ → Bool) → (ℕ → List ℕ) → List ℕ → List ℕ
+lines_of_those test line numbers = flat_map (λ n. if test n then line n else []) numbers
+
+-- ---- answers
+
+-- the number by which a reason is told
+abbrev pub number_of : Why → ℕ
+number_of why.OldAttempt = 1
+number_of why.DeadWorker = 2
+number_of why.LiveWorker = 3
+number_of why.AlreadyHolds = 4
+number_of why.NotHolder = 5
+number_of why.EightHolders = 6
+number_of why.NotReady = 7
+number_of why.WrongInput = 8
+number_of why.HistoryFull = 9
+number_of why.Memory = 10
+number_of why.StrangeHand = 11
+number_of why.NoBackup = 12
+number_of why.Barred = 13
+
+abbrev pub accepted_line : ℕ → List ℕ
+accepted_line place = codes "accepted " ++ decimal place ++ 10 ∷ []
+
+abbrev pub ignored_line : Why → List ℕ
+ignored_line why = codes "ignored " ++ decimal (number_of why) ++ 10 ∷ []
+
+abbrev pub answer_line : Answer → List ℕ
+answer_line (answer.Accepted place) = accepted_line place
+answer_line (answer.Ignored why) = ignored_line why
+
+-- ---- what follows the line of an accepted call; workers, splits and documents stand by their names
+
+abbrev pub wave_line : ℕ → ℕ → List ℕ
+wave_line count cost = codes "wave " ++ decimal count ++ codes " " ++ decimal cost ++ 10 ∷ []
+
+-- an attempt of a split, on a worker
+abbrev pub started_line : List Word → List Word → ℕ → ℕ → ℕ → List ℕ
+started_line splits workers attempt split w =
+    codes "start " ++ decimal attempt ++ codes " " ++ name_of splits split ++ codes " " ++ name_of workers w ++ 10 ∷ []
+
+abbrev pub backup_line : List Word → List Word → ℕ → ℕ → ℕ → List ℕ
+backup_line splits workers attempt split w =
+    codes "backup " ++ decimal attempt ++ codes " " ++ name_of splits split ++ codes " " ++ name_of workers w ++ 10 ∷ []
+
+-- an attempt of a part, on a worker
+abbrev pub reduce_line : List Word → ℕ → ℕ → ℕ → List ℕ
+reduce_line workers attempt part w =
+    codes "reduce " ++ decimal attempt ++ codes " " ++ decimal part ++ codes " " ++ name_of workers w ++ 10 ∷ []
+
+abbrev pub dead_line : List Word → ℕ → List ℕ
+dead_line workers w = codes "dead " ++ name_of workers w ++ 10 ∷ []
+
+-- those who are in the set, by number
+abbrev pub dead_lines : List Word → List ℕ → List ℕ
+dead_lines workers dead = lines_of_those (has_number dead) (dead_line workers) (numbers_of workers)
+
+-- ---- copy orders
+
+abbrev pub copy_line : List Word → List Word → CopyOrder → List ℕ
+copy_line splits workers order =
+    codes "copy " ++ name_of splits order.split ++ codes " " ++ name_of workers order.from ++ codes " "
+    ++ name_of workers order.to ++ 10 ∷ []
+
+abbrev pub copy_lines : List Word → List Word → List CopyOrder → List ℕ
+copy_lines splits workers orders =
+    codes "copies " ++ decimal (length orders) ++ 10 ∷ [] ++ flat_map (copy_line splits workers) orders
+
+-- ---- the end: the index, or the splits that are not done
+
+-- a word, then its documents
+abbrev pub found_line : List Word → EntryView → List ℕ
+found_line documents entry =
+    codes "word " ++ entry.word ++ flat_map (λ d. 32 ∷ name_of documents d) entry.documents ++ 10 ∷ []
+
+abbrev pub index_lines : List Word → List EntryView → List ℕ
+index_lines documents entries =
+    codes "index " ++ decimal (length entries) ++ 10 ∷ [] ++ flat_map (found_line documents) entries
+
+abbrev pub is_open : List SplitState → ℕ → Bool
+is_open states split = not (is_done (slice_index_or states split Pending))
+
+abbrev pub open_line : List Word → ℕ → List ℕ
+open_line splits split = codes "open " ++ name_of splits split ++ 10 ∷ []
+
+abbrev pub stuck_lines : List Word → List SplitState → List ℕ
+stuck_lines splits states =
+    codes "stuck " ++ decimal (count_by (λ state. not (is_done state)) states) ++ 10 ∷ []
+    ++ lines_of_those (is_open states) (open_line splits) (numbers_of splits)

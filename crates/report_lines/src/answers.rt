@@ -1,0 +1,187 @@
+ghost use Rattle.std.specs.Prelude.{◌≡◌, ◌≤◌, ◌++◌, OnOk, [], if◌then◌else◌, length, string_bytes};
+ghost use Rattle.rack_tree.specs.declared.TheConstants.{MAX_WORKERS};
+ghost use Rattle.report_lines.specs.Lines.{
+  accepted_line,
+  answer_line,
+  backup_line,
+  copy_line,
+  copy_lines,
+  dead_line,
+  dead_lines,
+  ignored_line,
+  name_of,
+  number_of,
+  reduce_line,
+  started_line,
+  wave_line,
+};
+
+use block_map::CopyOrder;
+use master_state::{Answer, Why};
+use node_ids::{AttemptNo, PartNo, SplitNo, WorkerNo, WorkerSet};
+use std::alloc::AllocError;
+use text_lines::NameTable;
+
+/// The line of an answer.
+pub fn add_answer(lines: &mut String, answer: Answer) -> Result<(), AllocError>
+    ensures { OnOk result (string_bytes lines.new ≡ string_bytes lines.old ++ answer_line answer) }
+{
+    match answer {
+        Answer::Accepted(place) => add_accepted(lines, place),
+        Answer::Ignored(why) => add_ignored(lines, why),
+    }
+}
+
+/// The line of an event that was accepted at this place.
+pub fn add_accepted(lines: &mut String, place: u32) -> Result<(), AllocError>
+    ensures { OnOk result (string_bytes lines.new ≡ string_bytes lines.old ++ accepted_line place) }
+{
+    write!(lines, "accepted {place}\n")
+}
+
+/// The line of a call that was ignored.
+pub fn add_ignored(lines: &mut String, why: Why) -> Result<(), AllocError>
+    ensures { OnOk result (string_bytes lines.new ≡ string_bytes lines.old ++ ignored_line why) }
+{
+    let number = number_of(why);
+    write!(lines, "ignored {number}\n")
+}
+
+fn number_of(why: Why) -> u8
+    ensures { result ≡ number_of why }
+{
+    why as u8
+}
+
+/// The line of a wave: how many splits it starts, at which byte-distance.
+pub fn add_wave(lines: &mut String, count: u32, cost: u64) -> Result<(), AllocError>
+    ensures { OnOk result (string_bytes lines.new ≡ string_bytes lines.old ++ wave_line count cost) }
+{
+    write!(lines, "wave {count} {cost}\n")
+}
+
+/// The line of an attempt that a wave started.
+pub fn add_start(
+    lines: &mut String,
+    splits: &NameTable<'_>,
+    workers: &NameTable<'_>,
+    attempt: AttemptNo,
+    split: SplitNo,
+    worker: WorkerNo,
+) -> Result<(), AllocError>
+    ensures { OnOk result (string_bytes lines.new
+        ≡ string_bytes lines.old ++ started_line splits.now workers.now attempt split worker) }
+{
+    let attempt = attempt.index();
+    let split = name_at(splits, split.index());
+    let worker = name_at(workers, worker.index());
+    write!(lines, "start {attempt} {split} {worker}\n")
+}
+
+/// The line of a backup that was started.
+pub fn add_backup(
+    lines: &mut String,
+    splits: &NameTable<'_>,
+    workers: &NameTable<'_>,
+    attempt: AttemptNo,
+    split: SplitNo,
+    worker: WorkerNo,
+) -> Result<(), AllocError>
+    ensures { OnOk result (string_bytes lines.new
+        ≡ string_bytes lines.old ++ backup_line splits.now workers.now attempt split worker) }
+{
+    let attempt = attempt.index();
+    let split = name_at(splits, split.index());
+    let worker = name_at(workers, worker.index());
+    write!(lines, "backup {attempt} {split} {worker}\n")
+}
+
+/// The line of a part that was started.
+pub fn add_reduce(
+    lines: &mut String,
+    workers: &NameTable<'_>,
+    attempt: AttemptNo,
+    part: PartNo,
+    worker: WorkerNo,
+) -> Result<(), AllocError>
+    ensures { OnOk result (string_bytes lines.new
+        ≡ string_bytes lines.old ++ reduce_line workers.now attempt part worker) }
+{
+    let attempt = attempt.index();
+    let part = part.index();
+    let worker = name_at(workers, worker.index());
+    write!(lines, "reduce {attempt} {part} {worker}\n")
+}
+
+/// A line for each worker of the set, by number.
+pub fn add_dead(
+    lines: &mut String,
+    workers: &NameTable<'_>,
+    dead: &WorkerSet,
+) -> Result<(), AllocError>
+    requires { length workers.now ≤ MAX_WORKERS }
+    ensures { OnOk result (string_bytes lines.new ≡ string_bytes lines.old ++ dead_lines workers.now dead.now) }
+{
+    for number in 0..workers.len() {
+        let is_dead = dead.has(WorkerNo::new(number as u16));
+        add_death(lines, workers, number, is_dead)?;
+    }
+    Ok(())
+}
+
+// A line for a worker that died.
+fn add_death(
+    lines: &mut String,
+    workers: &NameTable<'_>,
+    number: usize,
+    is_dead: bool,
+) -> Result<(), AllocError>
+    ensures { OnOk result (string_bytes lines.new
+        ≡ string_bytes lines.old ++ (if is_dead then dead_line workers.now number else [])) }
+{
+    if !is_dead {
+        return Ok(());
+    }
+    let worker = name_at(workers, number);
+    write!(lines, "dead {worker}\n")
+}
+
+/// How many copies are ordered, and which.
+pub fn add_copies(
+    lines: &mut String,
+    splits: &NameTable<'_>,
+    workers: &NameTable<'_>,
+    orders: &[CopyOrder],
+) -> Result<(), AllocError>
+    ensures { OnOk result (string_bytes lines.new
+        ≡ string_bytes lines.old ++ copy_lines splits.now workers.now orders.now) }
+{
+    let count = orders.len();
+    write!(lines, "copies {count}\n")?;
+    for order in orders {
+        add_copy(lines, splits, workers, *order)?;
+    }
+    Ok(())
+}
+
+fn add_copy(
+    lines: &mut String,
+    splits: &NameTable<'_>,
+    workers: &NameTable<'_>,
+    order: CopyOrder,
+) -> Result<(), AllocError>
+    ensures { OnOk result (string_bytes lines.new
+        ≡ string_bytes lines.old ++ copy_line splits.now workers.now order) }
+{
+    let split = name_at(splits, order.split.index());
+    let from = name_at(workers, order.from.index());
+    let to = name_at(workers, order.to.index());
+    write!(lines, "copy {split} {from} {to}\n")
+}
+
+/// The name of a number, empty where the table has no such number.
+pub(crate) fn name_at<'t>(names: &NameTable<'t>, number: usize) -> &'t str
+    ensures { result.now ≡ name_of names.now number }
+{
+    names.name(number).unwrap_or("")
+}
