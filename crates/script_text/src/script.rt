@@ -1,0 +1,42 @@
+use node_ids::{AttemptNo, SplitNo, WorkerNo};
+use text_lines::NameTable;
+
+/// A command of a script: one call of the master.
+#[derive(Drop)]
+pub enum Command {
+    /// The best wave that can start now.
+    Wave,
+    /// The attempt hands in its result, of a split or of a part.
+    Done(AttemptNo),
+    Fail(AttemptNo),
+    Withdraw(AttemptNo),
+    Backup(SplitNo, WorkerNo),
+    Die(WorkerNo),
+    /// The worker lives again, and holds these splits.
+    Join(WorkerNo, Vec<SplitNo>),
+    Add(SplitNo, WorkerNo),
+    Lose(SplitNo, WorkerNo),
+    /// A count of beats for each worker, by number.
+    Sweep(Vec<u64>),
+    /// The next part starts.
+    Reduce,
+    /// The copies that bring splits nearer to the target. No event.
+    Copies,
+}
+
+/// The names of a job, each by its number.
+#[derive(Drop)]
+pub struct Names<'t> {
+    pub workers: NameTable<'t>,
+    pub splits: NameTable<'t>,
+    pub documents: NameTable<'t>,
+}
+
+/// What is played on a new master: the commands, the names of what they speak of, and how many replicas of
+/// a split copies are ordered for.
+#[derive(Drop)]
+pub struct Script<'t> {
+    pub names: Names<'t>,
+    pub target: usize,
+    pub commands: Vec<Command>,
+}
