@@ -131,5 +131,11 @@ pub fn one_host(rt: &impl Abort, alloc: Global) -> Result<Problem, Fail> {
         held_by: [true, false, false, false],
         barred_on: [false; 4],
     };
-    problem(rt, alloc, (1, &[0, 0]), &workers, &vec![in alloc; split; 1024]?)
+    problem(
+        rt,
+        alloc,
+        (1, &[0, 0]),
+        &workers,
+        &vec![in alloc; split; 1024]?,
+    )
 }

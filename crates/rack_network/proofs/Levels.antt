@@ -123,8 +123,13 @@ distance_is tree h w near =
           let other : distance tree h w ≡ steps_by false rack centre =
           distance_by tree h w ∙ ap (λ (b : Bool). steps_by b rack centre) (ne_eqb h w n) in
           elim (cases_eq (get_or tree.rack_of h 0) (get_or tree.rack_of w 0)) [
-            | inl e ↦ (1, omega arith, e, other ∙ ap (λ (b : Bool). steps_by false b centre)
-                (eq-eqb (get_or tree.rack_of h 0) (get_or tree.rack_of w 0) e))
+            | inl e ↦ (
+              1,
+              omega arith,
+              e,
+              other ∙ ap (λ (b : Bool). steps_by false b centre)
+                  (eq-eqb (get_or tree.rack_of h 0) (get_or tree.rack_of w 0) e),
+            )
             | inr m ↦
                 let far : distance tree h w ≡ steps_by false false centre = other
                 ∙ ap (λ (b : Bool). steps_by false b centre)
