@@ -1,5 +1,6 @@
 ghost use Rattle.std.specs.Prelude.{◌≡◌, ℕ, ◌+◌, ◌*◌, ◌<◌, ◌≤◌, ◌↔◌, length, slice_index, slice_index_or, unwrap_or, IsTrue, OnOk, Err, IfErr, IfOk, IfSome, None};
-ghost use Rattle.rack_tree.specs.declared.TheConstants.{MAX_WORKERS};
+ghost use Rattle.rack_tree.specs.Tree.{IsWithinReach};
+ghost use Rattle.rack_tree.specs.declared.TheConstants.{MAX_DISTANCE, MAX_WORKERS};
 ghost use Rattle.wave_problem.specs.declared.TheConstants.{MAX_BYTES, MAX_SPLITS};
 ghost use Rattle.wave_problem.specs.Wave.{cost, reward, worker_at};
 ghost use Rattle.wave_problem.specs.Assignment.{load, pairs_of, start_of, total};
@@ -45,9 +46,11 @@ impl<'a> Model for Checker<'a> {
 impl<'a> Checker<'a> {
     pub(crate) fn new(problem: &'a Problem, plan: &'a Plan, prices: &'a Prices) -> Checker<'a>
         requires { HasOneSize (claim problem.now plan.now.starts prices.now) plan.now.workers }
-        ensures { result ≡ claim problem.now plan.now.starts prices.now }
+        ensures value { result ≡ claim problem.now plan.now.starts prices.now }
+        ensures near { IsWithinReach result.wave.tree }
     {
         let workers = problem.workers();
+        let _reach = problem.tree().reach();
         Checker {
             problem,
             plan,
@@ -98,7 +101,7 @@ impl<'a> Checker<'a> {
 
     fn reward(&self) -> u64
         ensures reward { result ≡ reward self.now.wave }
-        ensures limit { result ≤ 1 + 4 * MAX_SPLITS * MAX_BYTES }
+        ensures limit { result ≤ 1 + MAX_DISTANCE * MAX_SPLITS * MAX_BYTES }
     {
         self.reward
     }
@@ -124,7 +127,7 @@ impl<'a> Checker<'a> {
         requires split_prices { AllHold self.now 4 }
         requires worker_prices { AllHold self.now 5 }
         ensures sum { result ≡ split_price self.now.prices split + worker_price self.now.prices worker }
-        ensures limit { result ≤ 2 * (1 + 4 * MAX_SPLITS * MAX_BYTES) }
+        ensures limit { result ≤ 2 * (1 + MAX_DISTANCE * MAX_SPLITS * MAX_BYTES) }
     {
         let _reward = self.reward();
         self.split_price(split) + self.worker_price(worker)
@@ -134,7 +137,7 @@ impl<'a> Checker<'a> {
         requires split { split < length self.now.wave.splits }
         requires worker { worker < length self.now.wave.workers }
         ensures cost { result ≡ unwrap_or (cost self.now.wave split worker) 0 }
-        ensures limit { result ≤ 4 * MAX_BYTES }
+        ensures limit { result ≤ MAX_DISTANCE * MAX_BYTES }
     {
         self.problem.cost(split, worker).unwrap_or(0)
     }

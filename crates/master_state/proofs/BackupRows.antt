@@ -17,7 +17,7 @@ one = record { split = 0; documents = record { number = 0; text = 111 ∷ 110 �
 abbrev pub job : Setup
 job = record {
   cluster = record {
-    tree = record { racks = 1; rack_of = 0 ∷ 0 ∷ [] };
+    tree = record { centres = 1; centre_of = 0 ∷ []; rack_of = 0 ∷ 0 ∷ [] };
     slots = 1 ∷ 1 ∷ [];
     splits = record { bytes = 5; pending = true; holders = 0 ∷ [] } ∷ [];
     texts = one ∷ [];

@@ -16,7 +16,7 @@ text split = record { split = split; documents = [] }
 abbrev pub job : Setup
 job = record {
   cluster = record {
-    tree = record { racks = 1; rack_of = 0 ∷ 0 ∷ 0 ∷ [] };
+    tree = record { centres = 1; centre_of = 0 ∷ []; rack_of = 0 ∷ 0 ∷ 0 ∷ [] };
     slots = 2 ∷ 2 ∷ 2 ∷ [];
     splits = record { bytes = 1; pending = true; holders = 0 ∷ 1 ∷ [] }
         ∷ record { bytes = 1; pending = true; holders = 2 ∷ 0 ∷ [] }
@@ -88,7 +88,7 @@ replica_answers = refl
 abbrev pub eight : Setup
 eight = record {
   cluster = record {
-    tree = record { racks = 1; rack_of = replicate 9 0 };
+    tree = record { centres = 1; centre_of = 0 ∷ []; rack_of = replicate 9 0 };
     slots = replicate 9 1;
     splits = record { bytes = 1; pending = true; holders = 0 ∷ 1 ∷ 2 ∷ 3 ∷ 4 ∷ 5 ∷ 6 ∷ 7 ∷ [] } ∷ [];
     texts = text 0 ∷ [];

@@ -16,7 +16,7 @@ use Rattle.master_state.proofs.Scripts.{Move, Ask, Start, played, answers}
 abbrev pub job : List ℕ → List ℕ → List Split → List SplitDocuments → Setup
 job racks slots splits texts = record {
   cluster = record {
-    tree = record { racks = 1; rack_of = racks };
+    tree = record { centres = 1; centre_of = 0 ∷ []; rack_of = racks };
     slots = slots;
     splits = splits;
     texts = texts;

@@ -3,6 +3,7 @@ use Rattle.std.proofs.Common.{◌≡◌, ℕ, zero, suc, ◌==◌, ◌<◌, ◌�
 use Rattle.std.specs.Prelude.{is_some, unwrap_or}
 use Rattle.std.proofs.lemmas.Bool.{false≢true}
 use Rattle.std.proofs.lemmas.List.Elements.{All-cons, All-nil}
+use Rattle.rack_tree.proofs.Distances.{within_reach}
 use Rattle.wave_problem.specs.Wave.{Split, IsSmall, IsHeldWell}
 use Rattle.price_certificate.specs.Certificate.{Claim, Certifies, MayTake, claim, priced_at}
 use Rattle.price_certificate.specs.declared.Condition.TheVariants.{Open, Allowed, Room, SplitPrice, WorkerPrice, Priced, Tight, Unstarted, Spare}
@@ -30,8 +31,10 @@ held = record {
 pub whole : IsWhole job.cluster
 whole = record {
   tree = record {
+    centres = omega arith;
     racks = omega arith;
     workers = omega arith;
+    centres_known = All-cons (λ centre. centre < 1) 0 [] (omega arith) (All-nil _);
     known = All-cons (λ rack. rack < 1) 0 []
         (omega arith) (All-nil _);
   };
@@ -84,7 +87,7 @@ legal = (
   (
     Some 0 ∷ [],
     record {
-      best = certified-best asked certified;
+      best = certified-best asked (within_reach asked.wave.tree whole.tree.centres_known) certified;
       room = refl;
       first_is = refl;
       count_is =

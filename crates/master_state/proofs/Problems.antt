@@ -3,6 +3,7 @@ use Rattle.std.proofs.Common.{◌≡◌, ℕ, suc, ◌<◌, ◌≤◌, List, [],
 use Rattle.std.specs.Prelude.{Option}
 use Rattle.std.proofs.lemmas.List.{length-map}
 use Rattle.std.proofs.lemmas.List.Elements.{All-nil, All-cons, All-map, All-weaker}
+use Rattle.rack_tree.proofs.Distances.{within_reach}
 use Rattle.wave_problem.specs.declared.TheConstants.{MAX_SLOTS}
 use Rattle.wave_problem.specs.declared.lines.WorkerLine.{WorkerLine}
 use Rattle.wave_problem.specs.Wave.{Split, IsSmall, AreSmall, IsHeldWell, AreHeldWell, IsWithinLimits}
@@ -96,6 +97,7 @@ pub within_limits : (setup : Setup) (s : State) → IsWhole setup.cluster → Is
 within_limits setup s whole tidy =
     let small = small_problem setup s whole tidy in
     record {
+      near = within_reach setup.cluster.tree whole.tree.centres_known;
       few_splits = small.few_splits;
       few_workers = omega (arith, length-workers setup s tidy, whole.racks, whole.tree.workers);
       one_line_each = length-workers setup s tidy ∙ sym whole.racks;

@@ -15,7 +15,7 @@ use Rattle.master_state.proofs.Scripts.{Move, Ask, Start, played, answers}
 abbrev pub job_with : Limits → Setup
 job_with limits = record {
   cluster = record {
-    tree = record { racks = 1; rack_of = 0 ∷ [] };
+    tree = record { centres = 1; centre_of = 0 ∷ []; rack_of = 0 ∷ [] };
     slots = 1 ∷ [];
     splits = record { bytes = 5; pending = true; holders = 0 ∷ [] } ∷ [];
     texts = record { split = 0; documents = [] } ∷ [];
@@ -79,7 +79,7 @@ events_are = refl
 abbrev pub small : Setup
 small = record {
   cluster = record {
-    tree = record { racks = 1; rack_of = 0 ∷ 0 ∷ [] };
+    tree = record { centres = 1; centre_of = 0 ∷ []; rack_of = 0 ∷ 0 ∷ [] };
     slots = 1 ∷ 1 ∷ [];
     splits = record { bytes = 10; pending = true; holders = 0 ∷ [] } ∷ record {
       bytes = 20;

@@ -21,7 +21,7 @@ text split = record { split = split; documents = [] }
 abbrev job : Setup
 job = record {
   cluster = record {
-    tree = record { racks = 1; rack_of = 0 ∷ 0 ∷ [] };
+    tree = record { centres = 1; centre_of = 0 ∷ []; rack_of = 0 ∷ 0 ∷ [] };
     slots = 1 ∷ 1 ∷ [];
     splits = record { bytes = 10; pending = true; holders = 0 ∷ [] } ∷ record {
       bytes = 10;
@@ -106,7 +106,7 @@ committed_twice prices open_split = absurd (false≢true (open_split refl).0)
 abbrev racks : Setup
 racks = record {
   cluster = record {
-    tree = record { racks = 2; rack_of = 0 ∷ 0 ∷ 1 ∷ [] };
+    tree = record { centres = 1; centre_of = 0 ∷ 0 ∷ []; rack_of = 0 ∷ 0 ∷ 1 ∷ [] };
     slots = 1 ∷ 1 ∷ 1 ∷ [];
     splits = record { bytes = 5; pending = true; holders = 0 ∷ [] } ∷ [];
     texts = text 0 ∷ [];

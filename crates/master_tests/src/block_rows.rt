@@ -62,7 +62,10 @@ fn a_copy_goes_to_the_other_rack(rt: HostRuntime) -> Result<(), Fail> {
     let alloc = rt.alloc();
     let (a, c, s) = (WorkerNo::new(0), WorkerNo::new(2), SplitNo::new(0));
     let mut tree = RackTree::new(alloc);
-    let (near, far) = (tree.add_rack()?, tree.add_rack()?);
+    let centre = tree.add_centre()?;
+    let near = tree.add_rack(centre)?;
+    assert!(rt; tree.centres() == 1);
+    let far = tree.add_rack(centre)?;
     for rack in [near, near, far] {
         assert!(rt; rack.index() < tree.racks());
         tree.add_worker(rack)?;

@@ -91,13 +91,20 @@ fn rows(rt: HostRuntime) -> Result<(), Fail> {
     // the largest stays, the next goes to the other worker of the rack
     let units_part = pair().with_worker(1, 1).with_split(10, 0, NONE);
     let units_part = units_part.with_split(20, 0, NONE).with_split(30, 0, NONE);
-    let rows: [(Small, u64, &[Option<u16>]); 7] = [
+    let other_centre = other_rack.in_centres(2, [0, 1, 0]);
+    // the larger split stays in the centre; the other way it would be 46
+    let near_and_far = other_rack.with_worker(2, 1).in_centres(2, [0, 0, 1]);
+    let near_and_far = near_and_far.with_split(7, 0, NONE).with_split(1, 0, NONE);
+    let rows: [(Small, u64, &[Option<u16>]); 10] = [
         (nearest_is_not_cheapest, 20, &[Some(1), Some(0)]),
         (count_comes_first, 2000, &[Some(1), Some(0)]),
         (empty, 0, &[]),
         (not_held, 0, &[None]),
         (other_rack.with_split(7, 0, NONE), 28, &[Some(1)]),
         (other_rack.with_split(0, 0, NONE), 0, &[Some(1)]),
+        (other_centre.with_split(7, 0, NONE), 42, &[Some(1)]),
+        (other_centre.with_split(7, 0, 1), 0, &[None]),
+        (near_and_far, 34, &[Some(1), Some(2)]),
         (units_part, 80, &[Some(2), Some(1), Some(0)]),
     ];
     for (small, cost, starts) in rows {

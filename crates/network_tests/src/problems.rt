@@ -1,22 +1,35 @@
 //! Problems made of their descriptions.
 use crate::small::{Small, Split, Worker};
-use node_ids::{PairSet, RackNo, SplitNo, WorkerNo};
+use node_ids::{CentreNo, PairSet, RackNo, SplitNo, WorkerNo};
 use rack_tree::RackTree;
 use std::alloc::Global;
 use std::process::Abort;
 use std::test::Fail;
 use wave_problem::{MAX_BYTES, Problem, SplitLine, WorkerLine};
 
-fn empty_racks(alloc: Global, racks: u16) -> Result<RackTree, Fail> {
+/// How many data centres there are, and the centre of each rack.
+type Centres<'r> = (u8, &'r [u8]);
+
+fn empty_racks(rt: &impl Abort, alloc: Global, centres: Centres<'_>) -> Result<RackTree, Fail> {
     let mut tree = RackTree::new(alloc);
-    for _ in 0..racks {
-        tree.add_rack()?;
+    for _ in 0..centres.0 {
+        tree.add_centre()?;
+    }
+    for centre in centres.1 {
+        let centre = CentreNo::new(*centre);
+        assert!(rt; centre.index() < tree.centres());
+        tree.add_rack(centre)?;
     }
     Ok(tree)
 }
 
-fn tree(rt: &impl Abort, alloc: Global, racks: u16, workers: &[Worker]) -> Result<RackTree, Fail> {
-    let mut tree = empty_racks(alloc, racks)?;
+fn tree(
+    rt: &impl Abort,
+    alloc: Global,
+    centres: Centres<'_>,
+    workers: &[Worker],
+) -> Result<RackTree, Fail> {
+    let mut tree = empty_racks(rt, alloc, centres)?;
     for worker in workers {
         let rack = RackNo::new(worker.rack);
         assert!(rt; rack.index() < tree.racks());
@@ -70,15 +83,15 @@ fn barred_pairs(alloc: Global, splits: &[Split]) -> Result<PairSet, Fail> {
     Ok(barred)
 }
 
-/// The problem of so many racks, these workers and splits.
+/// The problem of these data centres with their racks, these workers and splits.
 fn problem(
     rt: &impl Abort,
     alloc: Global,
-    racks: u16,
+    centres: Centres<'_>,
     workers: &[Worker],
     splits: &[Split],
 ) -> Result<Problem, Fail> {
-    let tree = tree(rt, alloc, racks, workers)?;
+    let tree = tree(rt, alloc, centres, workers)?;
     let workers = worker_lines(alloc, workers)?;
     assert!(rt; workers.len() == tree.workers());
     let splits_of = split_lines(alloc, splits)?;
@@ -93,8 +106,10 @@ fn problem(
 
 /// A small problem.
 pub fn of(rt: &impl Abort, alloc: Global, small: &Small) -> Result<Problem, Fail> {
+    let centres = (small.centres.max(1), small.centre_of.as_slice());
     let workers = &small.worker[..small.workers.min(4)];
-    problem(rt, alloc, 3, workers, &small.split[..small.splits.min(4)])
+    let splits = &small.split[..small.splits.min(4)];
+    problem(rt, alloc, centres, workers, splits)
 }
 
 /// A worker without slots holds 1,024 splits of full size; 64 workers of 16 slots stand in another rack.
@@ -116,5 +131,11 @@ pub fn one_host(rt: &impl Abort, alloc: Global) -> Result<Problem, Fail> {
         held_by: [true, false, false, false],
         barred_on: [false; 4],
     };
-    problem(rt, alloc, 2, &workers, &vec![in alloc; split; 1024]?)
+    problem(
+        rt,
+        alloc,
+        (1, &[0, 0]),
+        &workers,
+        &vec![in alloc; split; 1024]?,
+    )
 }

@@ -20,11 +20,13 @@ pub struct Split {
     pub barred_on: [bool; 4],
 }
 
-/// A problem with at most four splits and workers in at most three racks.
+/// A problem with at most four splits and workers, in three racks of so many data centres, at least one.
 #[derive(Clone, Copy, Debug, Default)]
 pub struct Small {
     pub splits: usize,
     pub workers: usize,
+    pub centres: u8,
+    pub centre_of: [u8; 3],
     pub split: [Split; 4],
     pub worker: [Worker; 4],
 }
@@ -77,8 +79,12 @@ impl Small {
         let mut small = Small {
             splits: random.below(5) as usize,
             workers: random.below(5) as usize,
+            centres: random.one_of(&[1, 2, 3]),
             ..Small::default()
         };
+        for rack in 0..3usize {
+            small.centre_of[rack] = random.below(u64::from(small.centres)) as u8;
+        }
         for i in 0..4usize {
             if i < small.workers {
                 small.worker[i] = random_worker(random);
@@ -87,6 +93,14 @@ impl Small {
                 small.split[i] = random_split(random, small.workers);
             }
         }
+        small
+    }
+
+    /// The same with its racks in these of so many data centres.
+    pub fn in_centres(&self, centres: u8, centre_of: [u8; 3]) -> Small {
+        let mut small = *self;
+        small.centres = centres;
+        small.centre_of = centre_of;
         small
     }
 
@@ -125,13 +139,20 @@ impl Small {
         requires a { a < 4 }
         requires b { b < 4 }
     {
+        let (rack, other) = (self.worker[a].rack, self.worker[b].rack);
         if a == b {
             0
-        } else if self.worker[a].rack == self.worker[b].rack {
+        } else if rack == other {
             2
-        } else {
+        } else if self.centre_at(rack) == self.centre_at(other) {
             4
+        } else {
+            6
         }
+    }
+
+    fn centre_at(&self, rack: u16) -> Option<u8> {
+        self.centre_of.get(usize::from(rack)).copied()
     }
 
     fn least_distance(&self, s: usize, w: usize) -> Option<u64>

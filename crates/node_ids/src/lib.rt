@@ -1,5 +1,5 @@
-//! The numbers by which splits, workers, racks, parts, attempts and documents go, fixed sets of
-//! them, and the law of a numbering of a network's nodes.
+//! The numbers by which splits, workers, racks, data centres, parts, attempts and documents go, fixed
+//! sets of them, and the law of a numbering of a network's nodes.
 //!
 //! A number is `Copy`, compares as its number does and is seen by contracts as that number. It does
 //! not know how many of its kind there are: a call that takes one asks that it is below the size of
@@ -14,5 +14,5 @@ pub mod sets;
 
 pub use layout::Layout;
 pub use numbered::Numbered;
-pub use numbers::{AttemptNo, DocNo, PartNo, RackNo, SplitNo, WorkerNo};
+pub use numbers::{AttemptNo, CentreNo, DocNo, PartNo, RackNo, SplitNo, WorkerNo};
 pub use sets::{PairSet, SplitSet, WorkerSet};

@@ -101,6 +101,39 @@ impl RackNo {
     }
 }
 
+/// The number of a data centre, from 0.
+#[derive(Clone, Copy, Debug, Default, PartialEq, Eq, PartialOrd, Ord, Hash)]
+pub struct CentreNo {
+    number: u8,
+}
+
+impl Model for CentreNo {
+    ghost use Rattle.std.specs.Prelude.{ℕ};
+
+    ghost Value = { ℕ };
+
+    ghost view = { λ n. n.number };
+
+    ghost inverse = { λ n. record { number = n } };
+}
+
+impl CentreNo {
+    /// A data centre with this number.
+    pub fn new(number: u8) -> Self
+        ensures { result ≡ number }
+    {
+        CentreNo { number }
+    }
+
+    /// The number, as an index.
+    pub fn index(self) -> usize
+        ensures value { result ≡ self }
+        ensures bound { result < 2 ^ 8 }
+    {
+        self.number as usize
+    }
+}
+
 /// The number of a part of the words, from 0.
 #[derive(Clone, Copy, Debug, Default, PartialEq, Eq, PartialOrd, Ord, Hash)]
 pub struct PartNo {

@@ -24,7 +24,8 @@ fn split(alloc: Global, bytes: u64, holder: WorkerNo) -> Option<SplitLine> {
 // Two workers in one rack, and two splits that both lie on the first worker.
 fn problem(alloc: Global) -> Option<Problem> {
     let mut tree = RackTree::new(alloc);
-    let rack = tree.add_rack().ok()?;
+    let centre = tree.add_centre().ok()?;
+    let rack = tree.add_rack(centre).ok()?;
     let a = tree.add_worker(rack).ok()?;
     tree.add_worker(rack).ok()?;
     let mut workers = Vec::new(alloc);

@@ -1,5 +1,5 @@
 -- The value that the lines of a problem and a plan declare, over whole lists and by names.
-use Rattle.std.specs.Prelude.{ℕ, List, [], ◌≡◌, ◌<◌, ◌↔◌, Bool, not, Option, length, map, slice_index_or, unwrap_or}
+use Rattle.std.specs.Prelude.{ℕ, List, [], ◌≡◌, ◌<◌, ◌↔◌, Bool, not, Option, length, map, replicate, slice_index_or, unwrap_or}
 use Rattle.std.specs.List.{Contains, list_any, position}
 use Rattle.std.specs.Option.{option_map}
 use Rattle.std.specs.Str.{bytes_eq}
@@ -30,8 +30,13 @@ beside d names values name = option_map (λ i. slice_index_or values i d) (posit
 abbrev pub rack_number : List Word → WorkerEntry → ℕ
 rack_number names entry = number_in names entry.rack
 
+-- all racks stand in one centre, which has no name
 abbrev pub tree_of : List Word → List WorkerEntry → Tree
-tree_of racks entries = record { racks = length racks; rack_of = map (rack_number racks) entries }
+tree_of racks entries = record {
+  centres = 1;
+  centre_of = replicate (length racks) 0;
+  rack_of = map (rack_number racks) entries;
+}
 
 -- a worker lives where no line says that it is dead
 abbrev pub worker_line : List Word → WorkerEntry → WorkerLine

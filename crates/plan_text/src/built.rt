@@ -1,7 +1,7 @@
-ghost use Rattle.std.specs.Prelude.{◌≡◌, ◌+◌, ◌<◌, ◌≤◌, ◌↔◌, ◌⊎◌, ◌∷◌, ◌++◌, ℕ, List, [], length, map};
+ghost use Rattle.std.specs.Prelude.{◌≡◌, ◌+◌, ◌<◌, ◌≤◌, ◌↔◌, ◌⊎◌, ◌∷◌, ◌++◌, ℕ, List, [], length, map, replicate};
 ghost use Rattle.std.specs.Prelude.{All, Contains, IfOk, OnOk, slice_index_or};
 ghost use Rattle.node_ids.specs.Sets.{HasPair};
-ghost use Rattle.rack_tree.specs.declared.TheConstants.{MAX_RACKS, MAX_WORKERS};
+ghost use Rattle.rack_tree.specs.declared.TheConstants.{MAX_CENTRES, MAX_RACKS, MAX_WORKERS};
 ghost use Rattle.wave_problem.specs.declared.TheConstants.{MAX_SLOTS, MAX_SPLITS};
 ghost use Rattle.price_certificate.specs.Certificate.{HasOneSize, claim};
 ghost use Rattle.plan_lines.specs.Tidy.{IsTidy, IsTidySplit, IsTidyWorker};
@@ -10,7 +10,7 @@ ghost use Rattle.plan_text.specs.Reading.{MakesPlan, MakesProblem};
 ghost use Rattle.plan_text.specs.Value.{IsBarred, MakesWave, number_in, split_line, tree_of, worker_line};
 ghost use Rattle.plan_text.specs.Value.{price_of_name, prices_in, start_of_name, starts_in};
 
-use node_ids::{PairSet, RackNo, SplitNo, WorkerNo};
+use node_ids::{CentreNo, PairSet, RackNo, SplitNo, WorkerNo};
 use plan_lines::rows::{SplitRow, WorkerRow};
 use plan_lines::{KnownNames, Rows};
 use price_certificate::Prices;
@@ -166,24 +166,38 @@ fn build_tree(
     Ok(tree)
 }
 
+/// So many racks in one data centre, which has no name.
 fn tree_with_racks(alloc: Global, count: usize) -> RackTree
     requires { count ≤ MAX_RACKS }
-    ensures racks { result.racks ≡ count }
+    ensures centres { result.centres ≡ 1 }
+    ensures racks { result.centre_of ≡ replicate count 0 }
     ensures workers { result.rack_of ≡ [] }
 {
     let mut tree = RackTree::new(alloc);
+    add_centre(&mut tree);
     for _ in 0..count {
         add_rack(&mut tree);
     }
     tree
 }
 
-fn add_rack(tree: &mut RackTree)
-    requires { tree.old.racks < MAX_RACKS }
-    ensures racks { tree.new.racks ≡ tree.old.racks + 1 }
-    ensures workers { tree.new.rack_of ≡ tree.old.rack_of }
+fn add_centre(tree: &mut RackTree)
+    requires { tree.old.centres < MAX_CENTRES }
+    ensures { tree.new ≡ record tree.old { centres = tree.old.centres + 1 } }
 {
-    match tree.add_rack() {
+    match tree.add_centre() {
+        Ok(_) => {}
+        Err(_) => unreachable!(),
+    }
+}
+
+/// Adds a rack to the first centre.
+fn add_rack(tree: &mut RackTree)
+    requires centre { 0 < tree.old.centres }
+    requires room { length tree.old.centre_of < MAX_RACKS }
+    ensures { tree.new ≡ record tree.old { centre_of = tree.old.centre_of ++ 0 ∷ [] } }
+{
+    match tree.add_rack(CentreNo::new(0)) {
         Ok(_) => {}
         Err(_) => unreachable!(),
     }
@@ -194,11 +208,12 @@ fn add_worker(
     racks: &NameTable<'_>,
     row: &WorkerRow<'_>,
 ) -> Result<(), AllocError>
-    requires same { tree.old.racks ≡ length racks.now }
+    requires same { length tree.old.centre_of ≡ length racks.now }
     requires few { length racks.now ≤ MAX_RACKS }
     requires room { length tree.old.rack_of < MAX_WORKERS }
     requires known { Contains racks.now row.now.rack.now }
-    ensures racks { OnOk result (tree.new.racks ≡ tree.old.racks) }
+    ensures centres { OnOk result (tree.new.centres ≡ tree.old.centres) }
+    ensures racks { OnOk result (tree.new.centre_of ≡ tree.old.centre_of) }
     ensures workers { OnOk result
         (tree.new.rack_of ≡ tree.old.rack_of ++ number_in racks.now row.now.rack.now ∷ []) }
 {

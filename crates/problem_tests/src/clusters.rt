@@ -1,27 +1,51 @@
 //! Problems made from rows.
-use node_ids::{PairSet, RackNo, SplitNo, WorkerNo};
+use node_ids::{CentreNo, PairSet, RackNo, SplitNo, WorkerNo};
 use rack_tree::RackTree;
 use std::alloc::Global;
 use std::process::Abort;
 use wave_problem::{Problem, ProblemError, SplitLine, WorkerLine};
 
-/// A worker: its rack, 0 or 1, whether it lives, and its free slots.
+/// How many data centres there are, and the centre of each rack.
+pub type Centres<'r> = (u8, &'r [u8]);
+
+/// A worker: its rack, whether it lives, and its free slots.
 pub type WorkerRow = (u16, bool, u8);
 
 /// A split: its bytes, whether it is pending, and its holders.
 pub type SplitRow<'r> = (u64, bool, &'r [u16]);
 
-/// The tree of two racks and these workers.
-pub fn tree(rt: &impl Abort, alloc: Global, rows: &[WorkerRow]) -> Option<RackTree> {
+fn empty_racks(rt: &impl Abort, alloc: Global, centres: Centres<'_>) -> Option<RackTree> {
     let mut tree = RackTree::new(alloc);
-    tree.add_rack().ok()?;
-    tree.add_rack().ok()?;
+    for _ in 0..centres.0 {
+        tree.add_centre().ok()?;
+    }
+    for centre in centres.1 {
+        let centre = CentreNo::new(*centre);
+        assert!(rt; centre.index() < tree.centres());
+        tree.add_rack(centre).ok()?;
+    }
+    Some(tree)
+}
+
+/// The tree of these data centres, racks and workers.
+pub fn tree_in(
+    rt: &impl Abort,
+    alloc: Global,
+    centres: Centres<'_>,
+    rows: &[WorkerRow],
+) -> Option<RackTree> {
+    let mut tree = empty_racks(rt, alloc, centres)?;
     for (rack, _, _) in rows {
         let rack = RackNo::new(*rack);
         assert!(rt; rack.index() < tree.racks());
         tree.add_worker(rack).ok()?;
     }
     Some(tree)
+}
+
+/// The tree of two racks in one data centre and these workers.
+pub fn tree(rt: &impl Abort, alloc: Global, rows: &[WorkerRow]) -> Option<RackTree> {
+    tree_in(rt, alloc, (1, &[0, 0]), rows)
 }
 
 /// The lines of these workers.
@@ -72,8 +96,8 @@ pub fn pairs(rt: &impl Abort, alloc: Global, rows: &[(u16, u16)]) -> Option<Pair
     Some(pairs)
 }
 
-/// What comes of a problem of these rows, in which these pairs of a split and a worker are barred; None
-/// where there is no memory for the rows.
+/// What comes of a problem of these rows, in which these pairs of a split and a worker are barred, in two
+/// racks of one data centre; None where there is no memory for the rows.
 pub fn made(
     rt: &impl Abort,
     alloc: Global,
@@ -81,7 +105,19 @@ pub fn made(
     splits: &[SplitRow<'_>],
     barred: &[(u16, u16)],
 ) -> Option<Result<Problem, ProblemError>> {
-    let tree = tree(rt, alloc, workers)?;
+    made_in(rt, alloc, (1, &[0, 0]), workers, splits, barred)
+}
+
+/// The same in the racks of these data centres.
+pub fn made_in(
+    rt: &impl Abort,
+    alloc: Global,
+    centres: Centres<'_>,
+    workers: &[WorkerRow],
+    splits: &[SplitRow<'_>],
+    barred: &[(u16, u16)],
+) -> Option<Result<Problem, ProblemError>> {
+    let tree = tree_in(rt, alloc, centres, workers)?;
     let workers = worker_lines(alloc, workers)?;
     let splits = split_lines(alloc, splits)?;
     let barred = pairs(rt, alloc, barred)?;

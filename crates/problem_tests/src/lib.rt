@@ -6,6 +6,8 @@
 #![tactic(auto)]
 
 #[cfg(test)]
+mod centres;
+#[cfg(test)]
 mod clusters;
 #[cfg(test)]
 mod distances;

@@ -1,9 +1,11 @@
 -- What a start costs, by the level at which its worker meets a live holder.
-use Rattle.std.proofs.Common.{◌≡◌, ℕ, zero, suc, ◌*◌, ◌<◌, ◌≤◌, Bool, true, min, List, [], ◌∷◌, length, get_or, map, filter, fold, Option, Some, refl, sym, ap, ◌∙◌, inl, inr, ◌⊎◌, arith, unwrap_or}
+use Rattle.std.proofs.Common.{◌≡◌, ℕ, zero, suc, ◌*◌, ◌<◌, ◌≤◌, Bool, true, false, subst, min, List, [], ◌∷◌, length, get_or, map, filter, fold, Option, Some, refl, sym, ap, ◌∙◌, inl, inr, ◌⊎◌, arith, unwrap_or}
+use Rattle.std.specs.Prelude.{◌==◌}
 use Rattle.std.specs.Option.{option_map}
 use Rattle.std.proofs.lemmas.Bool.{cases_Bool, cases_eq, cases_lt, eq-eqb, ne_eqb}
 use Rattle.std.proofs.Math.Nat.{mul-le-mul_left}
-use Rattle.rack_tree.specs.Tree.{Tree, distance}
+use Rattle.rack_tree.specs.Tree.{Tree, centre_at, distance}
+use Rattle.rack_tree.proofs.Distances.{distance_by, steps_by}
 use Rattle.wave_problem.specs.Sums.{least}
 use Rattle.wave_problem.specs.Wave.{Wave, split_at, worker_at, worker_in, live_holders, least_distance, cost}
 use Rattle.network_prices.specs.Ways.{IsAmong}
@@ -88,22 +90,53 @@ Meet tree zero h w = h ≡ w
 Meet tree (suc zero) h w = get_or tree.rack_of h 0 ≡ get_or tree.rack_of w 0
 Meet tree (suc (suc level)) h w = Unit {0}
 
-pub distance-le : (tree : Tree) (level h w : ℕ) → Meet tree level h w → distance tree h w ≤ 2 * level
-distance-le tree zero h w m =
-    let r : get_or tree.rack_of h 0 ≡ get_or tree.rack_of w 0 = ap (λ (x : ℕ). get_or tree.rack_of x 0) m in
-    rw (eq-eqb (get_or tree.rack_of h 0) (get_or tree.rack_of w 0) r, eq-eqb (get_or tree.rack_of w 0) (get_or tree.rack_of h 0) (sym r), eq-eqb h w m, eq-eqb w h (sym m)) (omega arith)
-distance-le tree (suc zero) h w m =
-    rw (eq-eqb (get_or tree.rack_of h 0) (get_or tree.rack_of w 0) m, eq-eqb (get_or tree.rack_of w 0) (get_or tree.rack_of h 0) (sym m)) (omega arith)
-distance-le tree (suc (suc level)) h w m = omega arith
+-- workers of one rack are no further apart than 2, and others of a centre 4
+within_two : (same centre : Bool) → steps_by same true centre ≤ 2
+within_two true centre = omega arith
+within_two false centre = omega arith
 
-pub distance_is : (tree : Tree) (h w : ℕ) → (level : ℕ) × (level < 3) × Meet tree level h w × (distance tree h w ≡ 2 * level)
-distance_is tree h w = elim (cases_eq (get_or tree.rack_of h 0) (get_or tree.rack_of w 0)) [
-  | inr n ↦ (2, omega arith, tt, rw (ne_eqb (get_or tree.rack_of h 0) (get_or tree.rack_of w 0) n, ne_eqb (get_or tree.rack_of w 0) (get_or tree.rack_of h 0) (λ q. n (sym q))) refl)
-  | inl e ↦ elim (cases_eq h w) [
-    | inl s ↦ (0, omega arith, s, rw (eq-eqb (get_or tree.rack_of h 0) (get_or tree.rack_of w 0) e, eq-eqb (get_or tree.rack_of w 0) (get_or tree.rack_of h 0) (sym e), eq-eqb h w s, eq-eqb w h (sym s)) refl)
-    | inr n ↦ (1, omega arith, e, rw (eq-eqb (get_or tree.rack_of h 0) (get_or tree.rack_of w 0) e, eq-eqb (get_or tree.rack_of w 0) (get_or tree.rack_of h 0) (sym e), ne_eqb h w n, ne_eqb w h (λ q. n (sym q))) refl)
-  ]
-]
+just_four : (centre : Bool) → steps_by false false centre ≤ 4 → steps_by false false centre ≡ 4
+just_four true near = refl
+just_four false near = absurd (omega (arith, near))
+
+pub distance-le : (tree : Tree) (level h w : ℕ) → distance tree h w ≤ 4 → Meet tree level h w → distance tree h w ≤ 2 * level
+distance-le tree zero h w near m =
+    let rack : Bool = get_or tree.rack_of h 0 == get_or tree.rack_of w 0 in
+    let none : distance tree h w ≡ 0 = distance_by tree h w
+    ∙ ap (λ (b : Bool). steps_by b rack (centre_at tree h == centre_at tree w)) (eq-eqb h w m) in
+    omega (arith, none)
+distance-le tree (suc zero) h w near m =
+    let two : distance tree h w ≡ steps_by (h == w) true (centre_at tree h == centre_at tree w) = distance_by tree h w
+    ∙ ap (λ (b : Bool). steps_by (h == w) b (centre_at tree h == centre_at tree w))
+    (eq-eqb (get_or tree.rack_of h 0) (get_or tree.rack_of w 0) m) in
+    omega (arith, two, within_two (h == w) (centre_at tree h == centre_at tree w))
+distance-le tree (suc (suc level)) h w near m = omega (arith, near)
+
+pub distance_is : (tree : Tree) (h w : ℕ) → distance tree h w ≤ 4
+    → (level : ℕ) × (level < 3) × Meet tree level h w × (distance tree h w ≡ 2 * level)
+distance_is tree h w near =
+    let centre : Bool = centre_at tree h == centre_at tree w in
+    let rack : Bool = get_or tree.rack_of h 0 == get_or tree.rack_of w 0 in
+    elim (cases_eq h w) [
+      | inl s ↦ (0, omega arith, s, distance_by tree h w ∙ ap (λ (b : Bool). steps_by b rack centre) (eq-eqb h w s))
+      | inr n ↦
+          let other : distance tree h w ≡ steps_by false rack centre =
+          distance_by tree h w ∙ ap (λ (b : Bool). steps_by b rack centre) (ne_eqb h w n) in
+          elim (cases_eq (get_or tree.rack_of h 0) (get_or tree.rack_of w 0)) [
+            | inl e ↦ (
+              1,
+              omega arith,
+              e,
+              other ∙ ap (λ (b : Bool). steps_by false b centre)
+                  (eq-eqb (get_or tree.rack_of h 0) (get_or tree.rack_of w 0) e),
+            )
+            | inr m ↦
+                let far : distance tree h w ≡ steps_by false false centre = other
+                ∙ ap (λ (b : Bool). steps_by false b centre)
+                (ne_eqb (get_or tree.rack_of h 0) (get_or tree.rack_of w 0) m) in
+                (2, omega arith, tt, far ∙ just_four centre (subst (λ (d : ℕ). d ≤ 4) far near))
+          ]
+    ]
 
 -- a live holder stands in the list of the holders, and each that stands there and lives is one
 pub holder_place : (p : ℕ → Bool) (xs : List ℕ) (h : ℕ) → IsAmong h (filter p xs) → (j : ℕ) × (j < length xs) × (get_or xs j 0 ≡ h)

@@ -3,7 +3,7 @@ use Rattle.std.proofs.Common.{◌≡◌, ℕ, ◌+◌, ◌<◌, ◌≤◌, true,
 use Rattle.std.proofs.lemmas.Bool.{cases_Bool, cases_lt, cases_eq, false≢true}
 use Rattle.wave_problem.specs.Wave.{Wave, split_at, worker_at, worker_in, live_holders}
 use Rattle.network_prices.specs.Ways.{IsAmong}
-use Rattle.rack_network.specs.Racks.{node_above, HasBars, IsReach}
+use Rattle.rack_network.specs.Racks.{node_above, GoesDirect, IsReach}
 use Rattle.rack_network.specs.Build.{passed, IsNearer, IsNext, IsReached}
 use Rattle.rack_network.proofs.Counts.{passed-more}
 use Rattle.rack_network.proofs.Levels.{among_kept, holder_live, holder_place}
@@ -104,7 +104,7 @@ module _ (wave : Wave) (holders : List ℕ) (level place n : ℕ) where
   ]
 
 -- the same for the holders of a split, and what it says of the nodes that the split reaches
-module _ (wave : Wave) (s level place : ℕ) (pending : (split_at wave s).pending ≡ true) (no_bars : HasBars wave s → ⊥) (few : level < 3) where
+module _ (wave : Wave) (s level place : ℕ) (pending : (split_at wave s).pending ≡ true) (not_direct : GoesDirect wave s → ⊥) (few : level < 3) where
   abbrev Next : Option ℕ → Type 0
   Next next = IsNext wave (split_at wave s).holders level place (length (split_at wave s).holders) next
 
@@ -113,7 +113,7 @@ module _ (wave : Wave) (s level place : ℕ) (pending : (split_at wave s).pendin
       let f = next.found h refl in
       record {
         pending = pending;
-        no_bars = no_bars;
+        not_direct = not_direct;
         levels = few;
         holder = subst (λ (z : ℕ). IsAmong z (live_holders wave s)) f.2
             (among_kept (λ g. (worker_in wave.workers g).live) (split_at wave s).holders f.0 f.1

@@ -1,11 +1,12 @@
 -- The rack network is a network of its wave.
 use Rattle.std.proofs.Common.{◌≡◌, ℕ, zero, suc, ◌+◌, ◌*◌, ◌<◌, ◌≤◌, Bool, cond, eqb, List, length, refl, sym, ap, ◌∙◌, subst, inl, inr, ◌⊎◌, arith, unwrap_or}
-use Rattle.std.proofs.lemmas.Bool.{cases_Bool, cases_eq, eq-eqb, ne_eqb, false≢true}
+use Rattle.std.proofs.lemmas.Bool.{cases_Bool, cases_eq, cases_lt, eq-eqb, ne_eqb, false≢true}
 use Rattle.std.proofs.Math.Nat.{mul-le-mul_left}
 use Rattle.node_ids.specs.Sets.{HasPair, has_number, place_of_pair}
 use Rattle.flow_network.specs.declared.arcs.FlowArc.{FlowArc}
 use Rattle.flow_network.specs.Flows.{arc_at}
 use Rattle.flow_network.specs.Laws.{outroom}
+use Rattle.rack_tree.specs.Tree.{distance, reach}
 use Rattle.wave_problem.specs.Wave.{Wave, IsAdmissible, split_at, worker_at, cost, reward}
 use Rattle.wave_problem.proofs.Bound.{pending_known, live_known}
 use Rattle.network_prices.specs.Pending.{IsUsable}
@@ -16,7 +17,7 @@ use Rattle.network_prices.proofs.Tables.{outroom-rows}
 use Rattle.network_prices.proofs.Certified.{flow_costs_as_plan, prices_certify}
 use Rattle.rack_network.specs.declared.arcs.RackArc.{RackArc}
 use Rattle.rack_network.specs.declared.arcs.RackArc.TheVariants.{Pair, Reach, Wait, Branch, Feed, Slot, Rest}
-use Rattle.rack_network.specs.Racks.{first_worker, worker_node, rack_node, cluster_node, unstarted_node, sink_node, slots_of, slots_below, rack_of, rack_nodes, node_above, HasBars, arc_of, IsWanted, IsRackNetwork, RackFlowCostsAsPlan, RackPricesCertify}
+use Rattle.rack_network.specs.Racks.{first_worker, worker_node, rack_node, cluster_node, unstarted_node, sink_node, slots_of, slots_below, rack_of, rack_nodes, node_above, GoesDirect, HasBars, arc_of, IsWanted, IsRackNetwork, RackFlowCostsAsPlan, RackPricesCertify}
 use Rattle.rack_network.proofs.Levels.{holder_live, holder_held, cost-le, cost_is, Meet, distance-le, distance_is}
 
 -- whether a split has a barred pair
@@ -39,7 +40,23 @@ bars_or_not wave s = elim (bars_below wave s (length wave.workers) (omega arith)
   | inr none ↦ inr (λ b. none b.0 b.1 b.2)
 ]
 
+direct_or_not : (wave : Wave) (s : ℕ) → GoesDirect wave s ⊎ (GoesDirect wave s → ⊥)
+direct_or_not wave s = elim (cases_lt 4 (reach wave.tree)) [
+  | inl far ↦ inl (inr far)
+  | inr near ↦ elim (bars_or_not wave s) [
+    | inl bars ↦ inl (inl bars)
+    | inr none ↦ inr (λ direct. elim direct [ inl bars ↦ none bars | inr far ↦ omega arith ])
+  ]
+]
+
 module _ (wave : Wave) (arcs : List FlowArc) (network : IsRackNetwork wave arcs) where
+  -- where a split does not go direct, no two workers are further apart than two racks
+  near_four : (s : ℕ) → (GoesDirect wave s → ⊥) → (h w : ℕ) → distance wave.tree h w ≤ 4
+  near_four s not_direct h w = elim (cases_lt 4 (reach wave.tree)) [
+    | inl far ↦ absurd (not_direct (inr far))
+    | inr less ↦ (let near = network.near.most h w in omega arith)
+  ]
+
   -- where the node above a worker at a level lies
   abbrev LevelAt : ℕ → ℕ → Type 0
   LevelAt zero v = (worker_node wave 0 ≤ v) × (v < unstarted_node wave)
@@ -74,7 +91,7 @@ module _ (wave : Wave) (arcs : List FlowArc) (network : IsRackNetwork wave arcs)
       own (suc (suc n)) at e = absurd (omega arith)
   own_level level v w l k at (inr (inl e)) = own level at e
     where
-      known : rack_of wave w < wave.tree.racks
+      known : rack_of wave w < length wave.tree.centre_of
       known = network.racks_known w k
 
       own : (level : ℕ) → LevelAt level v → v ≡ rack_node wave (rack_of wave w) → v ≡ node_above wave level w
@@ -104,7 +121,7 @@ module _ (wave : Wave) (arcs : List FlowArc) (network : IsRackNetwork wave arcs)
   to_worker w k (Wait s) d a e t = absurd (let to = ap (λ (a : FlowArc). a.to) e in omega arith)
   to_worker w k Rest d a e t = absurd (let to = ap (λ (a : FlowArc). a.to) e in omega arith)
 
-  to_rack : (r : ℕ) → r < wave.tree.racks → (d : RackArc) → IsWanted wave d → (a : FlowArc) → a ≡ arc_of wave d → a.to ≡ rack_node wave r
+  to_rack : (r : ℕ) → r < length wave.tree.centre_of → (d : RackArc) → IsWanted wave d → (a : FlowArc) → a ≡ arc_of wave d → a.to ≡ rack_node wave r
       → (a.from < length wave.splits) ⊎ ((a.from ≡ cluster_node wave) × (a.cost ≡ 0))
   to_rack r k (Pair s v) d a e t = inl (let known = pending_known wave s d.0.pending in let f = ap (λ (a : FlowArc). a.from) e in omega arith)
   to_rack r k (Reach s level h) d a e t = inl (let known = pending_known wave s d.pending in let f = ap (λ (a : FlowArc). a.from) e in omega arith)
@@ -187,7 +204,7 @@ module _ (wave : Wave) (arcs : List FlowArc) (network : IsRackNetwork wave arcs)
       let to = ap (λ (a : FlowArc). a.to) e in
       let there : IsAmong (node_above wave level h) (way_of (rack_nodes wave) w) = subst (λ (x : ℕ). IsAmong x (way_of (rack_nodes wave) w)) to among in
       let on = own_level level (node_above wave level h) w d.levels (live_known wave w u.0) (level_at level h d.levels (live_known wave h (holder_live wave t h d.holder))) there in
-      let near = distance-le wave.tree level h w (meet_at level h w d.levels on) in
+      let near = distance-le wave.tree level h w (near_four t d.not_direct h w) (meet_at level h w d.levels on) in
       let low = cost-le wave t w h d.holder in
       let scaled = mul-le-mul_left (split_at wave t).bytes near in
       let split : t ≡ s = sym (ap (λ (a : FlowArc). a.from) e) ∙ f in
@@ -198,7 +215,7 @@ module _ (wave : Wave) (arcs : List FlowArc) (network : IsRackNetwork wave arcs)
         held = holder_held wave t h d.holder;
         live = u.0;
         has_slot = u.1;
-        not_barred = λ b. d.no_bars (w, live_known wave w u.0, b);
+        not_barred = λ b. d.not_direct (inl (w, live_known wave w u.0, b));
       } in
       (subst (λ (x : ℕ). IsAdmissible wave x w) split admissible, omega (arith, c, same, low, scaled))
   is_sound s w k u (Branch r) d a e f among = absurd (let from = ap (λ (a : FlowArc). a.from) e in omega arith)
@@ -259,7 +276,7 @@ module _ (wave : Wave) (arcs : List FlowArc) (network : IsRackNetwork wave arcs)
   ]
 
   -- a rack is left by the arcs to its usable workers
-  rack_room : (r : ℕ) → r < wave.tree.racks → outroom arcs (rack_node wave r) ≡ slots_below wave (length wave.workers) r
+  rack_room : (r : ℕ) → r < length wave.tree.centre_of → outroom arcs (rack_node wave r) ≡ slots_below wave (length wave.workers) r
   rack_room r known =
       outroom-rows arcs (rack_node wave r) (first_worker wave) (length wave.workers) (λ w. cond (eqb (rack_of wave w) r) (slots_of wave w) 0)
       network.rows.rising
@@ -345,7 +362,7 @@ module _ (wave : Wave) (arcs : List FlowArc) (network : IsRackNetwork wave arcs)
         entered = λ k l t. (let d = network.rows.sound k l in to_worker w known d.0 d.1 (arc_at arcs k) d.2 t);
       }
 
-  fed_rack : (r : ℕ) → r < wave.tree.racks → IsFed arcs (length wave.splits) (cluster_node wave) (rack_node wave r)
+  fed_rack : (r : ℕ) → r < length wave.tree.centre_of → IsFed arcs (length wave.splits) (cluster_node wave) (rack_node wave r)
   fed_rack r known =
       let f = the_arc (Branch r) known in let arc = f.1 in
       record {
@@ -382,7 +399,7 @@ module _ (wave : Wave) (arcs : List FlowArc) (network : IsRackNetwork wave arcs)
   among_at (suc (suc (suc n))) w l = absurd (omega arith)
 
   is_complete : (s w : ℕ) → IsAdmissible wave s w → (k : ℕ) × IsOffer arcs s (way_of (rack_nodes wave) w) (unwrap_or (cost wave s w) 0) k
-  is_complete s w a = elim (bars_or_not wave s) [
+  is_complete s w a = elim (direct_or_not wave s) [
     | inl b ↦
         (let f = the_arc (Pair s w) (a, b) in let arc = f.1 in (
           f.0,
@@ -397,10 +414,10 @@ module _ (wave : Wave) (arcs : List FlowArc) (network : IsRackNetwork wave arcs)
     | inr n ↦
         (let near = cost_is wave s w a.held in
         let h = near.0 in
-        let meet = distance_is wave.tree h w in
+        let meet = distance_is wave.tree h w (near_four s n h w) in
         let level = meet.0 in
         let above = same_above level h w meet.1 meet.2 in
-        let f = the_arc (Reach s level h) (record { pending = a.pending; no_bars = n; levels = meet.1; holder = near.1; has_slot = slot level h w a.has_slot meet.2 }) in
+        let f = the_arc (Reach s level h) (record { pending = a.pending; not_direct = n; levels = meet.1; holder = near.1; has_slot = slot level h w a.has_slot meet.2 }) in
         let arc = f.1 in (
           f.0,
           record {

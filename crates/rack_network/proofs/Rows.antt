@@ -12,7 +12,7 @@ use Rattle.network_prices.proofs.Tables.{built_nothing, built_take, built_pass, 
 use Rattle.rack_network.specs.declared.layout.RackLayout.{RackLayout}
 use Rattle.rack_network.specs.declared.arcs.RackArc.{RackArc}
 use Rattle.rack_network.specs.declared.arcs.RackArc.TheVariants.{Pair, Reach, Wait, Branch, Feed, Slot, Rest}
-use Rattle.rack_network.specs.Racks.{cluster_node, rack_node, worker_node, unstarted_node, rack_of, node_above, HasBars, IsReach, arc_of, IsSized, IsWanted}
+use Rattle.rack_network.specs.Racks.{cluster_node, rack_node, worker_node, unstarted_node, rack_of, node_above, GoesDirect, IsReach, arc_of, IsSized, IsWanted}
 use Rattle.rack_network.specs.Build.{IsBuilt, AreRacksKnown, level_start, level_end}
 use Rattle.rack_network.proofs.Levels.{holder_live}
 
@@ -95,10 +95,10 @@ module _ (wave : Wave) (racks : AreRacksKnown wave) where
   at_reach : (s level h x : ℕ) (e : RackArc) → e ≡ Reach s level h → node_above wave level h < x → IsBefore (arc_of wave e) s x
   at_reach s level h x e is l = subst (λ (d : RackArc). IsBefore (arc_of wave d) s x) (sym is) (inr (refl, l))
 
-  -- the row of a split with barred pairs
-  module _ (s : ℕ) (split : s < length wave.splits) (bars : HasBars wave s) where
+  -- the row of a split that goes direct
+  module _ (s : ℕ) (split : s < length wave.splits) (direct : GoesDirect wave s) where
     no_reach : (level h : ℕ) (e : RackArc) → IsWanted wave e → e ≡ Reach s level h → ⊥
-    no_reach level h e want is = (let reach : IsReach wave s level h = subst (IsWanted wave) is want in reach.no_bars bars)
+    no_reach level h e want is = (let reach : IsReach wave s level h = subst (IsWanted wave) is want in reach.not_direct direct)
 
     pub to_pairs : (limit next : ℕ) (network : Flow RackLayout) → limit ≤ next → Built s 0 limit network
         → Built s (worker_node wave 0) next network
@@ -122,7 +122,7 @@ module _ (wave : Wave) (racks : AreRacksKnown wave) where
         → Built s (worker_node wave (i + 1)) next new
     pair_step i w limit next old new same less worker may built added =
         built_take (IsWanted wave) (arc_of wave) (IsSized wave) s (worker_node wave i) s (worker_node wave (i + 1)) limit next
-        (Pair s w) old new less (may, bars) (inr (refl, omega arith)) (inr (refl, omega arith))
+        (Pair s w) old new less (may, direct) (inr (refl, omega arith)) (inr (refl, omega arith))
         (λ e want before. elim (in_row s (worker_node wave (i + 1)) split e before) [
           | inl first ↦ inl (none_left (arc_of wave e) s (worker_node wave i) first)
           | inr own ↦ elim own [
@@ -160,10 +160,10 @@ module _ (wave : Wave) (racks : AreRacksKnown wave) where
         ])
         built
 
-  -- the row of a split without any
-  module _ (s : ℕ) (split : s < length wave.splits) (no_bars : HasBars wave s → ⊥) where
+  -- the row of another
+  module _ (s : ℕ) (split : s < length wave.splits) (not_direct : GoesDirect wave s → ⊥) where
     no_pair : (w : ℕ) (e : RackArc) → IsWanted wave e → e ≡ Pair s w → ⊥
-    no_pair w e want is = (let pairs : IsWanted wave (Pair s w) = subst (IsWanted wave) is want in no_bars pairs.1)
+    no_pair w e want is = (let pairs : IsWanted wave (Pair s w) = subst (IsWanted wave) is want in not_direct pairs.1)
 
     pub to_reaches : (limit next : ℕ) (network : Flow RackLayout) → limit ≤ next → Built s 0 limit network
         → Built s (level_start wave 2) next network
@@ -341,7 +341,7 @@ module _ (wave : Wave) (racks : AreRacksKnown wave) where
       ])
       built
 
-  pub branch_step : (j r limit next : ℕ) (old new : Flow RackLayout) → r ≡ j → limit < next → r < wave.tree.racks
+  pub branch_step : (j r limit next : ℕ) (old new : Flow RackLayout) → r ≡ j → limit < next → r < length wave.tree.centre_of
       → Built (cluster_node wave) (rack_node wave j) limit old → IsAdded (arc_of wave (Branch r)) old new
       → Built (cluster_node wave) (rack_node wave (j + 1)) next new
   branch_step j r limit next old new same less known built added =
@@ -357,13 +357,13 @@ module _ (wave : Wave) (racks : AreRacksKnown wave) where
       built added
 
   pub branches_end : (limit next : ℕ) (network : Flow RackLayout) → limit ≤ next
-      → Built (cluster_node wave) (rack_node wave wave.tree.racks) limit network → Built (rack_node wave 0) 0 next network
+      → Built (cluster_node wave) (rack_node wave (length wave.tree.centre_of)) limit network → Built (rack_node wave 0) 0 next network
   branches_end limit next network less built =
-      built_pass (IsWanted wave) (arc_of wave) (IsSized wave) (cluster_node wave) (rack_node wave wave.tree.racks) (rack_node wave 0) 0 limit next network less
+      built_pass (IsWanted wave) (arc_of wave) (IsSized wave) (cluster_node wave) (rack_node wave (length wave.tree.centre_of)) (rack_node wave 0) 0 limit next network less
       (inl (omega arith)) before built
     where
       before : (e : RackArc) → IsWanted wave e → IsBefore (arc_of wave e) (rack_node wave 0) 0
-          → IsBefore (arc_of wave e) (cluster_node wave) (rack_node wave wave.tree.racks)
+          → IsBefore (arc_of wave e) (cluster_node wave) (rack_node wave (length wave.tree.centre_of))
       before e want (inr b) = absurd (let column = b.1 in omega arith)
       before (Pair q w) want (inl b) = let known = pending_known wave q want.0.pending in inl (omega arith)
       before (Reach q level h) want (inl b) = let known = pending_known wave q want.pending in inl (omega arith)
@@ -374,7 +374,7 @@ module _ (wave : Wave) (racks : AreRacksKnown wave) where
       before Rest want (inl b) = absurd (omega arith)
 
   -- the row of a rack
-  in_rack : (r x : ℕ) → r < wave.tree.racks → (e : RackArc) → IsWanted wave e → IsBefore (arc_of wave e) (rack_node wave r) x
+  in_rack : (r x : ℕ) → r < length wave.tree.centre_of → (e : RackArc) → IsWanted wave e → IsBefore (arc_of wave e) (rack_node wave r) x
       → IsBefore (arc_of wave e) (rack_node wave r) 0 ⊎ ((w : ℕ) × (e ≡ Feed w) × (rack_of wave w ≡ r) × (worker_node wave w < x))
   in_rack r x l (Pair q w) want b = let known = pending_known wave q want.0.pending in inl (inl (omega arith))
   in_rack r x l (Reach q level h) want b = let known = pending_known wave q want.pending in inl (inl (omega arith))
@@ -387,7 +387,7 @@ module _ (wave : Wave) (racks : AreRacksKnown wave) where
   in_rack r x l Rest want (inl b) = absurd (omega arith)
   in_rack r x l Rest want (inr b) = absurd (let row = b.0 in omega arith)
 
-  pub to_feeds : (r limit next : ℕ) (network : Flow RackLayout) → r < wave.tree.racks → limit ≤ next
+  pub to_feeds : (r limit next : ℕ) (network : Flow RackLayout) → r < length wave.tree.centre_of → limit ≤ next
       → Built (rack_node wave r) 0 limit network → Built (rack_node wave r) (worker_node wave 0) next network
   to_feeds r limit next network known less built =
       built_pass (IsWanted wave) (arc_of wave) (IsSized wave) (rack_node wave r) 0 (rack_node wave r) (worker_node wave 0) limit next network less
@@ -402,7 +402,7 @@ module _ (wave : Wave) (racks : AreRacksKnown wave) where
   at_feed r w x e is rack l =
       subst (λ (d : RackArc). IsBefore (arc_of wave d) (rack_node wave r) x) (sym is) (inr (omega arith, l))
 
-  pub feed_step : (r i w limit next : ℕ) (old new : Flow RackLayout) → r < wave.tree.racks → w ≡ i → limit < next → w < length wave.workers
+  pub feed_step : (r i w limit next : ℕ) (old new : Flow RackLayout) → r < length wave.tree.centre_of → w ≡ i → limit < next → w < length wave.workers
       → IsUsable wave w → rack_of wave w ≡ r → Built (rack_node wave r) (worker_node wave i) limit old
       → IsAdded (arc_of wave (Feed w)) old new → Built (rack_node wave r) (worker_node wave (i + 1)) next new
   feed_step r i w limit next old new known same less worker usable rack built added =
@@ -417,7 +417,7 @@ module _ (wave : Wave) (racks : AreRacksKnown wave) where
       ])
       built added
 
-  pub feed_skip : (r i w limit next : ℕ) (network : Flow RackLayout) → r < wave.tree.racks → w ≡ i → limit ≤ next
+  pub feed_skip : (r i w limit next : ℕ) (network : Flow RackLayout) → r < length wave.tree.centre_of → w ≡ i → limit ≤ next
       → (IsUsable wave w → rack_of wave w ≡ r → ⊥) → Built (rack_node wave r) (worker_node wave i) limit network
       → Built (rack_node wave r) (worker_node wave (i + 1)) next network
   feed_skip r i w limit next network known same less never built =
@@ -435,7 +435,7 @@ module _ (wave : Wave) (racks : AreRacksKnown wave) where
       ])
       built
 
-  pub feeds_end : (r limit next : ℕ) (network : Flow RackLayout) → r < wave.tree.racks → limit ≤ next
+  pub feeds_end : (r limit next : ℕ) (network : Flow RackLayout) → r < length wave.tree.centre_of → limit ≤ next
       → Built (rack_node wave r) (worker_node wave (length wave.workers)) limit network → Built (rack_node wave (r + 1)) 0 next network
   feeds_end r limit next network known less built =
       built_pass (IsWanted wave) (arc_of wave) (IsSized wave) (rack_node wave r) (worker_node wave (length wave.workers)) (rack_node wave (r + 1)) 0

@@ -14,7 +14,7 @@ use Rattle.rack_network.specs.Layout.{place_of, is_node}
 use Rattle.rack_network.specs.Racks.{IsRackNetwork, rack_nodes, sink_node}
 use Rattle.rack_network.proofs.RackWays.{wave_network}
 
-module _ (wave : Wave) (s r w : ℕ) (nodes : List RackNode) (splits : s ≡ length wave.splits) (racks : r ≡ wave.tree.racks) (workers : w ≡ length wave.workers) (are : nodes ≡ map Split (pending_splits wave)) where
+module _ (wave : Wave) (s r w : ℕ) (nodes : List RackNode) (splits : s ≡ length wave.splits) (racks : r ≡ length wave.tree.centre_of) (workers : w ≡ length wave.workers) (are : nodes ≡ map Split (pending_splits wave)) where
   known : (x : ℕ) → x < length wave.splits → is_node s r w (Split x) ≡ true
   known x l = lt-ltb x s (omega arith)
 

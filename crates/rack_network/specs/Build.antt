@@ -13,7 +13,7 @@ IsBuilt wave u x limit network = IsBuiltTo (IsWanted wave) (arc_of wave) (IsSize
 
 -- each worker stands in one of the racks
 abbrev pub AreRacksKnown : Wave → Type 0
-AreRacksKnown wave = (w : ℕ) → w < length wave.workers → rack_of wave w < wave.tree.racks
+AreRacksKnown wave = (w : ℕ) → w < length wave.workers → rack_of wave w < length wave.tree.centre_of
 
 -- where the nodes of a level begin, and where they end
 abbrev pub level_start : Wave → ℕ → ℕ

@@ -1,6 +1,7 @@
 -- The rack network of a wave: its nodes by their places, and its arcs.
-use Rattle.std.specs.Prelude.{ℕ, ◌≡◌, ◌+◌, ◌*◌, ◌<◌, ◌==◌, true, cond, List, [], ◌∷◌, length, unwrap_or, slice_index, Option}
+use Rattle.std.specs.Prelude.{ℕ, ◌≡◌, ◌+◌, ◌*◌, ◌<◌, ◌==◌, true, cond, List, [], ◌∷◌, length, unwrap_or, slice_index, Option, ◌⊎◌}
 use Rattle.node_ids.specs.Sets.{HasPair}
+use Rattle.rack_tree.specs.Tree.{reach, IsWithinReach}
 use Rattle.wave_problem.specs.Wave.{Wave, IsAdmissible, split_at, worker_at, live_holders, cost, reward}
 use Rattle.wave_problem.specs.Sums.{sum_below}
 use Rattle.price_certificate.specs.PriceList.{PriceList}
@@ -19,7 +20,7 @@ use Rattle.rack_network.specs.declared.arcs.RackArc.TheVariants.{Pair, Reach, Wa
 -- a layout of the wave's size
 pub record IsSized (wave : Wave) (layout : RackLayout) : Type 0 where
   pub splits : layout.splits ≡ length wave.splits
-  pub racks : layout.racks ≡ wave.tree.racks
+  pub racks : layout.racks ≡ length wave.tree.centre_of
   pub workers : layout.workers ≡ length wave.workers
 
 -- the nodes: a split has its own number; then the cluster, the racks, the workers, the node of the splits that are
@@ -31,16 +32,16 @@ abbrev pub rack_node : Wave → ℕ → ℕ
 rack_node wave r = length wave.splits + 1 + r
 
 abbrev pub first_worker : Wave → ℕ
-first_worker wave = length wave.splits + 1 + wave.tree.racks
+first_worker wave = length wave.splits + 1 + length wave.tree.centre_of
 
 abbrev pub worker_node : Wave → ℕ → ℕ
 worker_node wave w = first_worker wave + w
 
 abbrev pub unstarted_node : Wave → ℕ
-unstarted_node wave = length wave.splits + 1 + wave.tree.racks + length wave.workers
+unstarted_node wave = length wave.splits + 1 + length wave.tree.centre_of + length wave.workers
 
 abbrev pub sink_node : Wave → ℕ
-sink_node wave = length wave.splits + 1 + wave.tree.racks + length wave.workers + 1
+sink_node wave = length wave.splits + 1 + length wave.tree.centre_of + length wave.workers + 1
 
 abbrev pub rack_of : Wave → ℕ → ℕ
 rack_of wave w = slice_index wave.tree.rack_of w
@@ -69,6 +70,10 @@ slots_below wave n r = sum_below n (λ w. cond (rack_of wave w == r) (slots_of w
 abbrev pub HasBars : Wave → ℕ → Type 0
 HasBars wave s = (w : ℕ) × (w < length wave.workers) × HasPair wave.barred s w
 
+-- the arcs of a split lead to workers alone: it has a barred pair, or the tree reaches past the cluster's racks
+abbrev pub GoesDirect : Wave → ℕ → Type 0
+GoesDirect wave s = HasBars wave s ⊎ (4 < reach wave.tree)
+
 -- an arc of the network
 abbrev pub arc_of : Wave → RackArc → FlowArc
 arc_of wave (Pair s w) =
@@ -85,30 +90,31 @@ arc_of wave (Slot w) =
 arc_of wave Rest =
     record { from = unstarted_node wave; to = sink_node wave; capacity = length (pending_splits wave); cost = 0 }
 
--- a split without barred pairs reaches the nodes above each live holder, and the holder's own where it has a free
+-- a split that does not go direct reaches the nodes above each live holder, and the holder's own where it has a free
 -- slot
 pub record IsReach (wave : Wave) (s level h : ℕ) : Type 0 where
   pub pending : (split_at wave s).pending ≡ true
-  pub no_bars : HasBars wave s → ⊥
+  pub not_direct : GoesDirect wave s → ⊥
   pub levels : level < 3
   pub holder : IsAmong h (live_holders wave s)
   pub has_slot : level ≡ 0 → 0 < (worker_at wave h).free
 
 -- whether the wave has it
 abbrev pub IsWanted : Wave → RackArc → Type 0
-IsWanted wave (Pair s w) = IsAdmissible wave s w × HasBars wave s
+IsWanted wave (Pair s w) = IsAdmissible wave s w × GoesDirect wave s
 IsWanted wave (Reach s level h) = IsReach wave s level h
 IsWanted wave (Wait s) = (split_at wave s).pending ≡ true
-IsWanted wave (Branch r) = r < wave.tree.racks
+IsWanted wave (Branch r) = r < length wave.tree.centre_of
 IsWanted wave (Feed w) = IsUsable wave w
 IsWanted wave (Slot w) = w < length wave.workers
 IsWanted wave Rest = Unit {0}
 
 -- The arcs of the rack network of a wave: each of them once, and no others, by rising start and then by rising end;
--- and each worker stands in one of the racks.
+-- and each worker stands in one of the racks, and no two are further apart than the tree reaches.
 pub record IsRackNetwork (wave : Wave) (arcs : List FlowArc) : Type 0 where
   pub rows : AreRows (IsWanted wave) (arc_of wave) arcs
-  pub racks_known : (w : ℕ) → w < length wave.workers → rack_of wave w < wave.tree.racks
+  pub near : IsWithinReach wave.tree
+  pub racks_known : (w : ℕ) → w < length wave.workers → rack_of wave w < length wave.tree.centre_of
 
 -- read off a flow and potentials under which no residual arc has a negative reduced cost, the prices certify
 -- the plan

@@ -21,9 +21,10 @@ pub const LEVELS: u8 = 3;
 /// An arc of the rack network.
 #[derive(Clone, Copy, Debug, PartialEq, Eq)]
 pub enum RackArc {
-    /// From a split with barred pairs to a worker on which it may start: one unit, at the cost of the start.
+    /// From a split that goes direct, for its barred pairs or as the tree has several data centres, to a worker
+    /// on which it may start: one unit, at the cost of the start.
     Pair(SplitNo, WorkerNo),
-    /// From a split without barred pairs to the node so many levels above a live holder: one unit, at the
+    /// From a split that does not go direct to the node so many levels above a live holder: one unit, at the
     /// cost of a start on a worker that is no nearer.
     Reach(SplitNo, u8, WorkerNo),
     /// From a pending split to `Unstarted`: one unit, at the cost of the reward.
@@ -42,9 +43,9 @@ impl RackArc {
     /// The node that the arc leaves in the network of a problem.
     pub fn start(&self, problem: &Problem) -> RackNode
         requires { IsWanted problem.now self.now }
-        ensures place { place_of (length problem.now.splits) problem.now.tree.racks (length problem.now.workers) result
+        ensures place { place_of (length problem.now.splits) (length problem.now.tree.centre_of) (length problem.now.workers) result
             ≡ (arc_of problem.now self.now).from }
-        ensures member { is_node (length problem.now.splits) problem.now.tree.racks (length problem.now.workers) result
+        ensures member { is_node (length problem.now.splits) (length problem.now.tree.centre_of) (length problem.now.workers) result
             ≡ true }
     {
         match *self {
@@ -61,9 +62,9 @@ impl RackArc {
     /// The node to which the arc leads in the network of a problem.
     pub fn end(&self, problem: &Problem) -> RackNode
         requires { IsWanted problem.now self.now }
-        ensures place { place_of (length problem.now.splits) problem.now.tree.racks (length problem.now.workers) result
+        ensures place { place_of (length problem.now.splits) (length problem.now.tree.centre_of) (length problem.now.workers) result
             ≡ (arc_of problem.now self.now).to }
-        ensures member { is_node (length problem.now.splits) problem.now.tree.racks (length problem.now.workers) result
+        ensures member { is_node (length problem.now.splits) (length problem.now.tree.centre_of) (length problem.now.workers) result
             ≡ true }
     {
         match *self {
@@ -99,9 +100,9 @@ impl RackArc {
 fn node_above(problem: &Problem, level: u8, worker: WorkerNo) -> RackNode
     requires level { level < LEVELS }
     requires worker { worker < length problem.now.workers }
-    ensures place { place_of (length problem.now.splits) problem.now.tree.racks (length problem.now.workers) result
+    ensures place { place_of (length problem.now.splits) (length problem.now.tree.centre_of) (length problem.now.workers) result
         ≡ node_above problem.now level worker }
-    ensures member { is_node (length problem.now.splits) problem.now.tree.racks (length problem.now.workers) result
+    ensures member { is_node (length problem.now.splits) (length problem.now.tree.centre_of) (length problem.now.workers) result
         ≡ true }
 {
     match level {

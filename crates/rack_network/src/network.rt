@@ -4,7 +4,7 @@ ghost use Rattle.wave_problem.specs.Wave.{reward, split_at, worker_at};
 ghost use Rattle.wave_problem.specs.declared.TheConstants.{MAX_HOLDERS, MAX_SPLITS};
 ghost use Rattle.rack_network.specs.declared.arcs.TheConstants.{LEVELS, MAX_ARCS};
 ghost use Rattle.network_prices.specs.Pending.{IsUsable};
-ghost use Rattle.rack_network.specs.Racks.{arc_of, cluster_node, node_above, rack_node, rack_of, worker_node, unstarted_node, HasBars, IsRackNetwork, IsSized, IsWanted};
+ghost use Rattle.rack_network.specs.Racks.{arc_of, cluster_node, node_above, rack_node, rack_of, worker_node, unstarted_node, GoesDirect, HasBars, IsRackNetwork, IsSized, IsWanted};
 ghost use Rattle.rack_network.specs.Build.{in_racks, level_end, level_start, AreRacksKnown, IsBuilt, IsNearer, IsNext, IsReached};
 
 use crate::arcs::place_above;
@@ -30,6 +30,7 @@ pub fn build(alloc: Global, problem: &Problem) -> Result<Network<RackLayout>, Al
     };
     let mut network = Network::new(alloc, layout)?;
     know_racks(problem);
+    let _reach = problem.tree().reach();
     add_splits(&mut network, problem)?;
     add_branches(&mut network, problem)?;
     add_racks(&mut network, problem)?;
@@ -100,11 +101,19 @@ fn add_ways(
     ensures built { OnOk result (IsBuilt problem.now split (unstarted_node problem.now) (257 * split + 256)
         network.new) }
 {
-    if has_bars(problem, split) {
+    if goes_direct(problem, split) {
         add_pairs(network, problem, split)
     } else {
         add_reaches(network, problem, split)
     }
+}
+
+// Whether the arcs of the split lead to workers alone.
+fn goes_direct(problem: &Problem, split: SplitNo) -> bool
+    requires { split < length problem.now.splits }
+    ensures { IsTrue result ↔ GoesDirect problem.now split }
+{
+    problem.tree().reach() > 4 || has_bars(problem, split)
 }
 
 // Whether a pair of the split is barred.
@@ -120,7 +129,7 @@ fn has_bars(problem: &Problem, split: SplitNo) -> bool
     false
 }
 
-// Adds the arcs from a split with barred pairs to workers.
+// Adds the arcs from a split that goes direct to workers.
 fn add_pairs(
     network: &mut Network<RackLayout>,
     problem: &Problem,
@@ -128,7 +137,7 @@ fn add_pairs(
 ) -> Result<(), AllocError>
     requires split { split < length problem.now.splits }
     requires few { split < MAX_SPLITS }
-    requires bars { HasBars problem.now split }
+    requires direct { GoesDirect problem.now split }
     requires racks { AreRacksKnown problem.now }
     requires built { IsBuilt problem.now split 0 (257 * split) network.old }
     ensures built { OnOk result (IsBuilt problem.now split (unstarted_node problem.now) (257 * split + 256)
@@ -145,7 +154,7 @@ fn add_pairs(
     Ok(())
 }
 
-// Adds the arcs from a pending split without barred pairs to the nodes above its live holders.
+// Adds the arcs from a pending split that does not go direct to the nodes above its live holders.
 fn add_reaches(
     network: &mut Network<RackLayout>,
     problem: &Problem,
@@ -154,7 +163,7 @@ fn add_reaches(
     requires split { split < length problem.now.splits }
     requires few { split < MAX_SPLITS }
     requires pending { (split_at problem.now split).pending ≡ true }
-    requires no_bars { HasBars problem.now split → ⊥ }
+    requires not_direct { GoesDirect problem.now split → ⊥ }
     requires racks { AreRacksKnown problem.now }
     requires built { IsBuilt problem.now split 0 (257 * split) network.old }
     ensures built { OnOk result (IsBuilt problem.now split (unstarted_node problem.now) (257 * split + 256)
@@ -181,7 +190,7 @@ fn add_level(
     requires level { level < LEVELS }
     requires first { first ≡ level_start problem.now level }
     requires pending { (split_at problem.now split).pending ≡ true }
-    requires no_bars { HasBars problem.now split → ⊥ }
+    requires not_direct { GoesDirect problem.now split → ⊥ }
     requires racks { AreRacksKnown problem.now }
     requires built { IsBuilt problem.now split (level_start problem.now level) (257 * split + 8 * (2 - level))
         network.old }
@@ -266,7 +275,7 @@ fn add_branches(network: &mut Network<RackLayout>, problem: &Problem) -> Result<
     requires racks { AreRacksKnown problem.now }
     requires built { IsBuilt problem.now (cluster_node problem.now) 0 (257 * length problem.now.splits) network.old }
     ensures built { OnOk result (IsBuilt problem.now (rack_node problem.now 0) 0
-        (257 * length problem.now.splits + problem.now.tree.racks) network.new) }
+        (257 * length problem.now.splits + length problem.now.tree.centre_of) network.new) }
 {
     let _splits = problem.splits();
     for i in 0..problem.tree().racks() {
@@ -279,9 +288,9 @@ fn add_branches(network: &mut Network<RackLayout>, problem: &Problem) -> Result<
 fn add_racks(network: &mut Network<RackLayout>, problem: &Problem) -> Result<(), AllocError>
     requires racks { AreRacksKnown problem.now }
     requires built { IsBuilt problem.now (rack_node problem.now 0) 0
-        (257 * length problem.now.splits + problem.now.tree.racks) network.old }
+        (257 * length problem.now.splits + length problem.now.tree.centre_of) network.old }
     ensures built { OnOk result (IsBuilt problem.now (worker_node problem.now 0) 0
-        (257 * length problem.now.splits + problem.now.tree.racks + length problem.now.workers) network.new) }
+        (257 * length problem.now.splits + length problem.now.tree.centre_of + length problem.now.workers) network.new) }
 {
     for i in 0..problem.tree().racks() {
         add_feeds(network, problem, RackNo::new(i as u16))?;
@@ -295,12 +304,12 @@ fn add_feeds(
     problem: &Problem,
     rack: RackNo,
 ) -> Result<(), AllocError>
-    requires rack { rack < problem.now.tree.racks }
+    requires rack { rack < length problem.now.tree.centre_of }
     requires racks { AreRacksKnown problem.now }
     requires built { IsBuilt problem.now (rack_node problem.now rack) 0
-        (257 * length problem.now.splits + problem.now.tree.racks + in_racks problem.now rack) network.old }
+        (257 * length problem.now.splits + length problem.now.tree.centre_of + in_racks problem.now rack) network.old }
     ensures built { OnOk result (IsBuilt problem.now (rack_node problem.now (rack + 1)) 0
-        (257 * length problem.now.splits + problem.now.tree.racks + in_racks problem.now (rack + 1)) network.new) }
+        (257 * length problem.now.splits + length problem.now.tree.centre_of + in_racks problem.now (rack + 1)) network.new) }
 {
     let _splits = problem.splits();
     let _racks = problem.tree().racks();
@@ -325,9 +334,9 @@ fn takes_from(problem: &Problem, rack: RackNo, worker: WorkerNo) -> bool
 fn add_slots(network: &mut Network<RackLayout>, problem: &Problem) -> Result<(), AllocError>
     requires racks { AreRacksKnown problem.now }
     requires built { IsBuilt problem.now (worker_node problem.now 0) 0
-        (257 * length problem.now.splits + problem.now.tree.racks + length problem.now.workers) network.old }
+        (257 * length problem.now.splits + length problem.now.tree.centre_of + length problem.now.workers) network.old }
     ensures built { OnOk result (IsBuilt problem.now (worker_node problem.now (length problem.now.workers)) 0
-        (257 * length problem.now.splits + problem.now.tree.racks + 2 * length problem.now.workers) network.new) }
+        (257 * length problem.now.splits + length problem.now.tree.centre_of + 2 * length problem.now.workers) network.new) }
 {
     let _splits = problem.splits();
     let _racks = problem.tree().racks();

@@ -23,7 +23,7 @@ pub fn prices_of(
     requires starts { length plan.now.starts ≡ length problem.now.splits }
     requires workers { plan.now.workers ≡ length problem.now.workers }
     requires nodes { length potentials.now
-        ≡ length problem.now.splits + problem.now.tree.racks + length problem.now.workers + 3 }
+        ≡ length problem.now.splits + length problem.now.tree.centre_of + length problem.now.workers + 3 }
     ensures { IfOk result (λ prices.
         ArePricesOf problem.now (rack_nodes problem.now) (slice_index potentials.now) plan.now.starts prices) }
 {
@@ -35,7 +35,7 @@ pub fn prices_of(
 // The price of a slot of each worker.
 fn slot_prices(alloc: Global, problem: &Problem, depths: &[u64]) -> Result<Vec<u64>, AllocError>
     requires nodes { length depths.now
-        ≡ length problem.now.splits + problem.now.tree.racks + length problem.now.workers + 3 }
+        ≡ length problem.now.splits + length problem.now.tree.centre_of + length problem.now.workers + 3 }
     ensures size { IfOk result (λ prices. length prices.items ≡ length problem.now.workers) }
     ensures each { IfOk result (λ prices. (w : ℕ) → w < length problem.now.workers
         → IsSlotPrice problem.now (slice_index depths.now) w (slice_index prices.items w)) }
@@ -50,7 +50,7 @@ fn slot_prices(alloc: Global, problem: &Problem, depths: &[u64]) -> Result<Vec<u
 fn slot_price(problem: &Problem, depths: &[u64], worker: WorkerNo) -> u64
     requires worker { worker < length problem.now.workers }
     requires nodes { length depths.now
-        ≡ length problem.now.splits + problem.now.tree.racks + length problem.now.workers + 3 }
+        ≡ length problem.now.splits + length problem.now.tree.centre_of + length problem.now.workers + 3 }
     ensures { IsSlotPrice problem.now (slice_index depths.now) worker result }
 {
     if !problem.is_live(worker) || problem.free(worker) == 0 {

@@ -3,7 +3,7 @@ use Rattle.std.proofs.Common.{ℕ, List, ◌≡◌, ◌+◌, ◌<◌, ◌≤◌,
 use Rattle.std.specs.List.{slice_index_or}
 use Rattle.std.proofs.lemmas.Bool.{cases_lt}
 use Rattle.std.proofs.lemmas.List.{get_or_default}
-use Rattle.rack_tree.specs.Tree.{Tree}
+use Rattle.rack_tree.specs.Tree.{Tree, IsWithinReach}
 use Rattle.wave_problem.specs.declared.lines.WorkerLine.{WorkerLine}
 use Rattle.wave_problem.specs.Wave.{AreHeldWell, AreSmall, IsHeldWell, IsWithinLimits, Split, wave_from}
 
@@ -35,10 +35,11 @@ pub moved_held : (n m : ℕ) (ss ts : List Split) → n ≡ m → ss ≡ ts → 
 moved_held n m ss ts e f h = subst (λ v. AreHeldWell v ts) e (subst (AreHeldWell n) f h)
 
 pub within : (tree : Tree) (workers : List WorkerLine) (splits entries : List Split) (barred : List ℕ)
-    → length workers ≡ length tree.rack_of → length tree.rack_of ≤ 256 → entries ≡ splits
+    → IsWithinReach tree → length workers ≡ length tree.rack_of → length tree.rack_of ≤ 256 → entries ≡ splits
     → AreSmall workers splits → AreHeldWell (length workers) splits
     → IsWithinLimits (wave_from tree workers entries barred)
-within tree workers splits entries barred one few same small held = rw same (record {
+within tree workers splits entries barred near one few same small held = rw same (record {
+  near = near;
   few_splits = small.few_splits;
   few_workers = omega arith;
   one_line_each = one;

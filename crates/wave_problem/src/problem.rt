@@ -1,7 +1,7 @@
 ghost use Rattle.std.specs.Prelude.{◌≡◌, ◌≢◌, ℕ, List, [], ◌∷◌, ◌++◌, ◌+◌, ◌*◌, ◌<◌, ◌≤◌, ◌↔◌, length, map, sum_by, All, AllPairs, IsTrue, OnOk, IfOk, IfSome, Err};
 ghost use Rattle.node_ids.specs.Sets.{HasPair};
 ghost use Rattle.rack_tree.specs.Tree.{distance};
-ghost use Rattle.rack_tree.specs.declared.TheConstants.{MAX_WORKERS};
+ghost use Rattle.rack_tree.specs.declared.TheConstants.{MAX_DISTANCE, MAX_WORKERS};
 ghost use Rattle.wave_problem.specs.declared.TheConstants.{MAX_SPLITS, MAX_HOLDERS, MAX_SLOTS, MAX_BYTES};
 ghost use Rattle.wave_problem.specs.Sums.{least};
 ghost use Rattle.wave_problem.specs.Wave.{cost, live_among, live_holders, reward, split_at, wave_from, worker_at, worker_in, AreHeldWell, AreSmall, IsAdmissible, IsWithinLimits};
@@ -252,7 +252,7 @@ impl Problem {
         requires split { split < length self.now.splits }
         requires worker { worker < length self.now.workers }
         ensures cost { result ≡ cost self.now split worker }
-        ensures limit { IfSome result (λ c. c ≤ 4 * MAX_BYTES) }
+        ensures limit { IfSome result (λ c. c ≤ MAX_DISTANCE * MAX_BYTES) }
     {
         let line = &self.splits[split.index()];
         match least_distance(&self.tree, &self.workers, line.holders.as_slice(), worker) {
@@ -277,9 +277,9 @@ impl Problem {
     /// What one start more is worth, in byte-distance: more than any admissible assignment costs.
     pub fn reward(&self) -> u64
         ensures reward { result ≡ reward self.now }
-        ensures limit { result ≤ 1 + 4 * MAX_SPLITS * MAX_BYTES }
+        ensures limit { result ≤ 1 + MAX_DISTANCE * MAX_SPLITS * MAX_BYTES }
     {
-        1 + 4 * total_bytes(&self.splits)
+        1 + u64::from(self.tree.reach()) * total_bytes(&self.splits)
     }
 }
 
@@ -293,7 +293,7 @@ fn least_distance(
     requires holders { All (λ h. h < length workers.now) holders.now }
     requires to { to < length workers.now }
     ensures least { result ≡ least (map (λ h. distance tree.now h to) (live_among workers.now holders.now)) }
-    ensures limit { IfSome result (λ steps. steps ≤ 4) }
+    ensures limit { IfSome result (λ steps. steps ≤ MAX_DISTANCE) }
 {
     let mut nearest = None;
     for holder in holders {

@@ -1,21 +1,22 @@
 ghost use Rattle.std.specs.Prelude.{◌≡◌, ℕ, List, [], ◌∷◌, ◌++◌, ◌*◌, ◌<◌, ◌≤◌, ◌↔◌, length, map, true, All, IsTrue, IfSome, slice_index};
-ghost use Rattle.rack_tree.specs.Tree.{distance, Tree};
-ghost use Rattle.rack_tree.specs.declared.TheConstants.{MAX_RACKS, MAX_WORKERS};
+ghost use Rattle.rack_tree.specs.Tree.{centre_at, distance, Tree};
+ghost use Rattle.rack_tree.specs.declared.TheConstants.{MAX_CENTRES, MAX_DISTANCE, MAX_RACKS, MAX_WORKERS};
 ghost use Rattle.wave_problem.specs.declared.TheConstants.{MAX_BYTES};
 ghost use Rattle.wave_problem.specs.SplitCosts.{Shows};
 ghost use Rattle.wave_problem.specs.Sums.{least};
 ghost use Rattle.wave_problem.specs.Wave.{cost, live_among, IsAdmissible, IsOpen};
 
 use crate::problem::Problem;
-use node_ids::{RackNo, SplitNo, WorkerNo, WorkerSet};
-use rack_tree::MAX_RACKS;
+use node_ids::{CentreNo, RackNo, SplitNo, WorkerNo, WorkerSet};
+use rack_tree::{MAX_CENTRES, MAX_RACKS};
 use std::marker::Model;
 
-// The live holders of a split, and the racks in which one stands.
+// The live holders of a split, and the racks and the data centres in which one stands.
 #[derive(Clone, Copy)]
 struct LiveHolders {
     workers: WorkerSet,
     racks: [bool; MAX_RACKS],
+    centres: [bool; MAX_CENTRES],
     is_some: bool,
 }
 
@@ -26,28 +27,33 @@ impl LiveHolders {
         LiveHolders {
             workers: WorkerSet::new(),
             racks: [false; MAX_RACKS],
+            centres: [false; MAX_CENTRES],
             is_some: false,
         }
     }
 
-    fn add(&mut self, worker: WorkerNo, rack: RackNo)
+    fn add(&mut self, worker: WorkerNo, rack: RackNo, centre: CentreNo)
         requires worker { worker < MAX_WORKERS }
         requires rack { rack < MAX_RACKS }
+        requires centre { centre < MAX_CENTRES }
         ensures { (tree : Tree) (live : List ℕ) → slice_index tree.rack_of worker ≡ rack
-            → Shows tree live self.old → Shows tree (live ++ worker ∷ []) self.new }
+            → centre_at tree worker ≡ centre → Shows tree live self.old → Shows tree (live ++ worker ∷ []) self.new }
     {
         self.workers.put(worker);
         self.racks[rack.index()] = true;
+        self.centres[centre.index()] = true;
         self.is_some = true;
     }
 
-    // The least distance from a worker of the rack to one of these.
-    fn least_distance(&self, worker: WorkerNo, rack: RackNo) -> Option<u8>
+    // The least distance from a worker of the rack, which stands in the centre, to one of these.
+    fn least_distance(&self, worker: WorkerNo, rack: RackNo, centre: CentreNo) -> Option<u8>
         requires worker { worker < MAX_WORKERS }
         requires rack { rack < MAX_RACKS }
+        requires centre { centre < MAX_CENTRES }
         ensures least { (tree : Tree) (live : List ℕ) → slice_index tree.rack_of worker ≡ rack
-            → Shows tree live self.now → result ≡ least (map (λ h. distance tree h worker) live) }
-        ensures limit { IfSome result (λ steps. steps ≤ 4) }
+            → centre_at tree worker ≡ centre → Shows tree live self.now
+            → result ≡ least (map (λ h. distance tree h worker) live) }
+        ensures limit { IfSome result (λ steps. steps ≤ MAX_DISTANCE) }
     {
         if !self.is_some {
             None
@@ -55,14 +61,16 @@ impl LiveHolders {
             Some(0)
         } else if self.racks[rack.index()] {
             Some(2)
-        } else {
+        } else if self.centres[centre.index()] {
             Some(4)
+        } else {
+            Some(6)
         }
     }
 }
 
 /// A split of a problem with its live holders gathered, for passes over all workers: where `Problem`
-/// looks at each holder for each worker, this tells a cost by two tests.
+/// looks at each holder for each worker, this tells a cost by three tests.
 #[derive(Drop)]
 pub struct SplitCosts<'a> {
     problem: &'a Problem,
@@ -119,10 +127,14 @@ impl<'a> SplitCosts<'a> {
     pub fn cost(&self, worker: WorkerNo) -> Option<u64>
         requires { worker < length self.now.wave.workers }
         ensures cost { result ≡ cost self.now.wave self.now.split worker }
-        ensures limit { IfSome result (λ c. c ≤ 4 * MAX_BYTES) }
+        ensures limit { IfSome result (λ c. c ≤ MAX_DISTANCE * MAX_BYTES) }
     {
-        let rack = self.problem.tree().rack_of(worker);
-        match self.holders.least_distance(worker, rack) {
+        let tree = self.problem.tree();
+        let rack = tree.rack_of(worker);
+        match self
+            .holders
+            .least_distance(worker, rack, tree.centre_of(rack))
+        {
             Some(steps) => Some(self.bytes * u64::from(steps)),
             None => None,
         }
@@ -149,7 +161,8 @@ fn live_holders(problem: &Problem, holders: &[WorkerNo]) -> LiveHolders
     let mut live = LiveHolders::new();
     for holder in holders {
         if problem.is_live(*holder) {
-            live.add(*holder, tree.rack_of(*holder));
+            let rack = tree.rack_of(*holder);
+            live.add(*holder, rack, tree.centre_of(rack));
         }
     }
     live

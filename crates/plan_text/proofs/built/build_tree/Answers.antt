@@ -24,8 +24,9 @@ loop-row-preserved c =
     let racks = c.args.racks.now in
     let rows = c.args.rows.now in
     let i = c.loop-row.row-index in (
-      c.in_ok-add_worker.ensures.racks ∙ c.loop-row.invariant.0,
+      c.in_ok-add_worker.ensures.centres ∙ c.loop-row.invariant.0,
+      c.in_ok-add_worker.ensures.racks ∙ c.loop-row.invariant.1,
       c.in_ok-add_worker.ensures.workers
-          ∙ ap (λ l. l ++ number_in racks (slice_index_or rows i no_row).rack.now ∷ []) c.loop-row.invariant.1
+          ∙ ap (λ l. l ++ number_in racks (slice_index_or rows i no_row).rack.now ∷ []) c.loop-row.invariant.2
           ∙ sym (mapped_more (rack_number racks) entry_of_worker rows i no_row c.loop-row-test.true),
     )

@@ -13,7 +13,7 @@ loop-i-init c =
 pub loop-i-preserved : goal.loop-i-preserved
 loop-i-preserved c =
     let s : ℕ = length c.args.problem.now.splits in
-    let same = ap (λ (t : Tree). t.racks) c.tree.ensures.tree in
+    let same = ap (λ (t : Tree). length t.centre_of) c.tree.ensures.tree in
     branch_step c.args.problem.now c.requires.racks c.loop-i.i c.new.result (257 * s + c.loop-i.i) (257 * s + (c.loop-i.i + 1)) c.loop-i.network c.add.new.network
     (omega arith) (omega arith) (omega arith) c.loop-i.invariant (c.in_ok-add.ensures.layout, c.in_ok-add.ensures.arcs, c.in_ok-add.ensures.flows)
 
@@ -21,9 +21,9 @@ pub returns : goal.returns
 returns c =
     let wave = c.args.problem.now in
     let s : ℕ = length wave.splits in
-    let tree = ap (λ (t : Tree). t.racks) c.tree.ensures.tree in
-    let end : c.loop-i.i ≡ wave.tree.racks = omega arith in
+    let tree = ap (λ (t : Tree). length t.centre_of) c.tree.ensures.tree in
+    let end : c.loop-i.i ≡ length wave.tree.centre_of = omega arith in
     record {
-      built = branches_end wave c.requires.racks (257 * s + wave.tree.racks) (257 * s + wave.tree.racks) c.loop-i.network (omega arith)
+      built = branches_end wave c.requires.racks (257 * s + length wave.tree.centre_of) (257 * s + length wave.tree.centre_of) c.loop-i.network (omega arith)
           (subst (λ (i : ℕ). IsBuilt wave (cluster_node wave) (rack_node wave i) (257 * s + i) c.loop-i.network) end c.loop-i.invariant);
     }

@@ -15,7 +15,7 @@ add-requires-clause-room c =
     let splits = c.splits-splits.ensures.limit in
     let racks = c.racks-racks.ensures.limit in
     let count_racks = c.racks-racks.ensures.count in
-    let tree = ap (λ (t : Tree). t.racks) c.tree.ensures.tree in
+    let tree = ap (λ (t : Tree). length t.centre_of) c.tree.ensures.tree in
     let workers = c.workers-i-end.ensures.limit in
     let count = c.workers-i-end.ensures.count in
     let up = rack-mono wave c.args.rack c.loop-i.i (length wave.workers) (omega arith) in
@@ -26,7 +26,7 @@ add-requires-clause-room c =
 pub loop-i-init : goal.loop-i-init
 loop-i-init c =
     let wave = c.args.problem.now in
-    let limit : ℕ = 257 * length wave.splits + wave.tree.racks + in_racks wave c.args.rack in
+    let limit : ℕ = 257 * length wave.splits + length wave.tree.centre_of + in_racks wave c.args.rack in
     to_feeds wave c.requires.racks c.args.rack limit (limit + in_rack wave c.args.rack 0) c.args.network.now c.requires.rack (omega arith) c.requires.built
 
 pub loop-i-preserved : goal.loop-i-preserved
@@ -35,7 +35,7 @@ loop-i-preserved c =
     let r : ℕ = c.args.rack in
     let worker : ℕ = c.new-worker.result in
     let same : worker ≡ c.loop-i.i = omega arith in
-    let limit : ℕ = 257 * length wave.splits + wave.tree.racks + in_racks wave r in
+    let limit : ℕ = 257 * length wave.splits + length wave.tree.centre_of + in_racks wave r in
     let next : c.loop-i.i + 1 ≡ suc c.loop-i.i = omega arith in
     let count : in_rack wave r (c.loop-i.i + 1) ≡ in_rack wave r (suc c.loop-i.i) = ap (in_rack wave r) next in
     elim c.if-takes_from.branch [
@@ -56,13 +56,13 @@ pub returns : goal.returns
 returns c =
     let wave = c.args.problem.now in
     let r : ℕ = c.args.rack in
-    let limit : ℕ = 257 * length wave.splits + wave.tree.racks + in_racks wave r in
+    let limit : ℕ = 257 * length wave.splits + length wave.tree.centre_of + in_racks wave r in
     let count = c.workers-i-end.ensures.count in
     let end : c.loop-i.i ≡ length wave.workers = omega arith in
     let next : r + 1 ≡ suc r = omega arith in
     let whole : in_racks wave (r + 1) ≡ in_racks wave r + in_rack wave r (length wave.workers) = ap (in_racks wave) next ∙ racks_more wave r in
     record {
       built = feeds_end wave c.requires.racks r (limit + in_rack wave r (length wave.workers))
-          (257 * length wave.splits + wave.tree.racks + in_racks wave (r + 1)) c.loop-i.network c.requires.rack (omega arith)
+          (257 * length wave.splits + length wave.tree.centre_of + in_racks wave (r + 1)) c.loop-i.network c.requires.rack (omega arith)
           (subst (λ (i : ℕ). IsBuilt wave (rack_node wave r) (worker_node wave i) (limit + in_rack wave r i) c.loop-i.network) end c.loop-i.invariant);
     }

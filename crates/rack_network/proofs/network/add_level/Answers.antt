@@ -25,7 +25,7 @@ add-requires-clause-wanted c =
     let wave = c.args.problem.now in
     let next : IsNext wave (split_at wave c.args.split).holders c.args.level c.loop-holder.place (length (split_at wave c.args.split).holders) (Some c.in-Some.holder) =
     subst (λ (hs : List ℕ). IsNext wave hs c.args.level c.loop-holder.place (length hs) (Some c.in-Some.holder)) c.holders-holders.ensures.holders c.in-Some.ensures in
-    next_reach wave c.args.split c.args.level c.loop-holder.place c.requires.pending c.requires.no_bars c.requires.level c.in-Some.holder next
+    next_reach wave c.args.split c.args.level c.loop-holder.place c.requires.pending c.requires.not_direct c.requires.level c.in-Some.holder next
 
 pub add-requires-clause-room : goal.add-requires-clause-room
 add-requires-clause-room c =
@@ -42,8 +42,8 @@ loop-holder-smaller c =
     let wave = c.args.problem.now in
     let next : IsNext wave (split_at wave c.args.split).holders c.args.level c.loop-holder.place (length (split_at wave c.args.split).holders) (Some c.in-Some.holder) =
     subst (λ (hs : List ℕ). IsNext wave hs c.args.level c.loop-holder.place (length hs) (Some c.in-Some.holder)) c.holders-holders.ensures.holders c.in-Some.ensures in
-    let past = next_past wave c.args.split c.args.level c.loop-holder.place c.requires.pending c.requires.no_bars c.requires.level c.in-Some.holder next in
-    let reach = next_reach wave c.args.split c.args.level c.loop-holder.place c.requires.pending c.requires.no_bars c.requires.level c.in-Some.holder next in
+    let past = next_past wave c.args.split c.args.level c.loop-holder.place c.requires.pending c.requires.not_direct c.requires.level c.in-Some.holder next in
+    let reach = next_reach wave c.args.split c.args.level c.loop-holder.place c.requires.pending c.requires.not_direct c.requires.level c.in-Some.holder next in
     let up = (reach_at wave c.requires.racks c.args.split c.args.level c.in-Some.holder reach).1 in
     let place = c.place_above-place.ensures.place in
     omega arith
@@ -57,16 +57,16 @@ loop-holder-preserved c =
     let place : ℕ = c.loop-holder.place in
     let next : IsNext wave (split_at wave s).holders level place (length (split_at wave s).holders) (Some h) =
     subst (λ (hs : List ℕ). IsNext wave hs level place (length hs) (Some h)) c.holders-holders.ensures.holders c.in-Some.ensures in
-    let past = next_past wave s level place c.requires.pending c.requires.no_bars c.requires.level h next in
-    let reach = next_reach wave s level place c.requires.pending c.requires.no_bars c.requires.level h next in
-    let least = next_least wave s level place c.requires.pending c.requires.no_bars c.requires.level h next in
-    let more = next_passed wave s level place c.requires.pending c.requires.no_bars c.requires.level h next in
+    let past = next_past wave s level place c.requires.pending c.requires.not_direct c.requires.level h next in
+    let reach = next_reach wave s level place c.requires.pending c.requires.not_direct c.requires.level h next in
+    let least = next_least wave s level place c.requires.pending c.requires.not_direct c.requires.level h next in
+    let more = next_passed wave s level place c.requires.pending c.requires.not_direct c.requires.level h next in
     let up = (reach_at wave c.requires.racks s level h reach).1 in
     let from = c.loop-holder.invariant.0 in
     let limit : ℕ = 257 * s + 8 * (2 - level) in
     let at : node_above wave level h + 1 ≡ c.place_above-place.result + 1 = ap (λ (x : ℕ). x + 1) (sym c.place_above-place.ensures.place) in
     let now : IsBuilt wave s (node_above wave level h + 1) (limit + passed wave level (node_above wave level h + 1) (split_at wave s).holders) c.add.new.network =
-    reach_step wave c.requires.racks s c.requires.split c.requires.no_bars level place c.requires.level from h
+    reach_step wave c.requires.racks s c.requires.split c.requires.not_direct level place c.requires.level from h
     (limit + passed wave level place (split_at wave s).holders) (limit + passed wave level (node_above wave level h + 1) (split_at wave s).holders)
     c.loop-holder.network c.add.new.network (omega arith) reach past least c.loop-holder.invariant.2
     (c.in_ok-add.ensures.layout, c.in_ok-add.ensures.arcs, c.in_ok-add.ensures.flows) in
@@ -85,12 +85,12 @@ returns c =
     let limit : ℕ = 257 * s + 8 * (2 - level) in
     let next : IsNext wave (split_at wave s).holders level place (length (split_at wave s).holders) None =
     subst (λ (hs : List ℕ). IsNext wave hs level place (length hs) None) c.holders-holders.ensures.holders c.in_default.ensures in
-    let none = next_none wave s level place c.requires.pending c.requires.no_bars c.requires.level next in
+    let none = next_none wave s level place c.requires.pending c.requires.not_direct c.requires.level next in
     let most = passed-le wave level place (split_at wave s).holders in
     let size = ap (λ (z : List ℕ). length z) c.holders-holders.ensures.holders in
     let holders = c.holders-holders.ensures.limit in
     record {
-      built = reach_end wave c.requires.racks s c.requires.split c.requires.no_bars level place c.requires.level c.loop-holder.invariant.0
+      built = reach_end wave c.requires.racks s c.requires.split c.requires.not_direct level place c.requires.level c.loop-holder.invariant.0
           (limit + passed wave level place (split_at wave s).holders) (limit + 8) c.loop-holder.network (omega arith) c.loop-holder.invariant.1 none
           c.loop-holder.invariant.2;
     }

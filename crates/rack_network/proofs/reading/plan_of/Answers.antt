@@ -13,7 +13,7 @@ use Rattle.rack_network.proofs.reading.plan_of.Goals as goal
 pub read_plan-requires-clause-layers : goal.read_plan-requires-clause-layers
 read_plan-requires-clause-layers c =
     let wave = c.args.problem.now in
-    let tree = ap (λ (t : Tree). t.racks) c.tree.ensures.tree in
+    let tree = ap (λ (t : Tree). length t.centre_of) c.tree.ensures.tree in
     let count : first_worker wave ≡ c.splits.result + 1 + c.racks.result =
     (let splits = c.splits.ensures.count in let racks = c.racks.ensures.count in omega arith) in
     subst (λ (n : ℕ). IsLayered wave n c.all_arcs.result.now) count
@@ -23,7 +23,7 @@ read_plan-requires-clause-layers c =
 pub read_plan-requires-clause-shipped : goal.read_plan-requires-clause-shipped
 read_plan-requires-clause-shipped c =
     let wave = c.args.problem.now in
-    let tree = ap (λ (t : Tree). t.racks) c.tree.ensures.tree in
+    let tree = ap (λ (t : Tree). length t.centre_of) c.tree.ensures.tree in
     let count : sink_node wave ≡ c.splits.result + 1 + c.racks.result + length wave.workers + 1 =
     (let splits = c.splits.ensures.count in let racks = c.racks.ensures.count in omega arith) in
     subst (λ (n : ℕ). IsShipment c.all_arcs.result.now (pending_splits wave) n c.all_flows.result.now) count
@@ -37,7 +37,7 @@ returns-clause-read c =
     let arcs = c.args.network.now.arcs in
     let flows = c.args.network.now.flows in
     let above : ℕ → List ℕ = λ w. rack_node wave (rack_of wave w) ∷ cluster_node wave ∷ [] in
-    let tree = ap (λ (t : Tree). t.racks) c.tree.ensures.tree in
+    let tree = ap (λ (t : Tree). length t.centre_of) c.tree.ensures.tree in
     let first : ℕ = c.splits.result + 1 + c.racks.result in
     let count : first ≡ first_worker wave =
     (let splits = c.splits.ensures.count in let racks = c.racks.ensures.count in omega arith) in

@@ -1,5 +1,6 @@
 use Rattle.std.proofs.Common.{◌∙◌, ℕ, ap, subst}
 use Rattle.std.specs.declared.result.Result.{Result}
+use Rattle.rack_tree.specs.Tree.{IsWithinReach}
 use Rattle.price_certificate.specs.Certificate.{claim}
 use Rattle.price_certificate.specs.declared.Condition.{Condition}
 use Rattle.price_certificate.proofs.Duality.{certified-best}
@@ -18,7 +19,7 @@ returns-in_ok-certified-in-Ok c =
     subst (λ (r : Result Certified Condition). IsVerdict made r) c.in-Ok.is c.requires in
     record {
       certifies = is.certifies;
-      best = certified-best made is.certifies;
+      best = certified-best made (subst IsWithinReach c.tree-reach.ensures.tree c.reach-reach.ensures.most) is.certifies;
       said = c.in_ok-certified-in-Ok.ensures ∙ ap (λ (n : ℕ). certified_line n said.cost) is.count
           ∙ ap (λ (n : ℕ). certified_line (count_of made) n) is.cost;
     }

@@ -8,4 +8,4 @@ abbrev pub invariant-loop-holder : goal.invariant-loop-holder
 invariant-loop-holder l =
     (l.nearest ≡ least (map (λ h. distance l.tree h l.to)
     (live_among l.workers (take l.holder-index l.holders))))
-    × IfSome l.nearest (λ steps. steps ≤ 4)
+    × IfSome l.nearest (λ steps. steps ≤ 6)

@@ -6,8 +6,10 @@ use Rattle.wave_problem.proofs.split_costs.LiveHolders.new.Goals as goal
 
 pub returns : goal.returns
 returns c tree = record {
-  places = refl;
+  rack_places = refl;
+  centre_places = refl;
   workers = λ w. false_from_ne_true (has_number c.new.result w) (c.new.ensures.members w);
   racks = λ r below. get_or-replicate 32 r false false below;
+  centres = λ r below. get_or-replicate 8 r false false below;
   some = (λ e. absurd (false≢true e), λ h. absurd (omega arith));
 }

@@ -1,0 +1,97 @@
+//! Problems of one data centre and of several, with a plan of each and prices that certify it.
+use crate::clusters::{Centres, SplitRow, WorkerRow, made_in};
+use certificate_checker::{Certified, certify};
+use node_ids::{SplitNo, WorkerNo};
+use price_certificate::{Prices, are_of_one_size};
+use std::alloc::Global;
+use std::process::Abort;
+use std::test::Fail;
+use wave_problem::{MAX_SPLITS, Plan, Problem};
+
+// A problem, its reward, and a plan with prices that certify it, which starts so many splits at this cost.
+#[derive(Clone, Copy)]
+struct Row<'r> {
+    centres: Centres<'r>,
+    workers: &'r [WorkerRow],
+    splits: &'r [SplitRow<'r>],
+    reward: u64,
+    starts: &'r [Option<u16>],
+    split_prices: &'r [u64],
+    worker_prices: &'r [u64],
+    certified: (usize, u64),
+}
+
+fn problem(rt: &impl Abort, alloc: Global, row: Row<'_>) -> Option<Problem> {
+    made_in(rt, alloc, row.centres, row.workers, row.splits, &[])?.ok()
+}
+
+fn plan(rt: &impl Abort, alloc: Global, row: Row<'_>) -> Option<Plan> {
+    assert!(rt; row.splits.len() <= MAX_SPLITS);
+    let mut plan = Plan::new(alloc, row.splits.len(), row.workers.len()).ok()?;
+    for (split, start) in row.starts.iter().enumerate() {
+        if let Some(worker) = start {
+            assert!(rt; split < plan.splits() && usize::from(*worker) < plan.workers());
+            plan.set(SplitNo::new(split as u16), Some(WorkerNo::new(*worker)));
+        }
+    }
+    Some(plan)
+}
+
+fn assert_certified(rt: &impl Abort, alloc: Global, row: Row<'_>) -> Result<(), Fail> {
+    let problem = problem(rt, alloc, row).ok_or("no problem")?;
+    assert_eq!(rt; problem.reward(), row.reward);
+    let plan = plan(rt, alloc, row).ok_or("no plan")?;
+    let splits = row.split_prices.to_vec(alloc)?;
+    let prices = Prices::from_lists(splits, row.worker_prices.to_vec(alloc)?);
+    assert!(rt; are_of_one_size(&problem, &plan, &prices));
+    let want = Certified {
+        count: row.certified.0,
+        cost: row.certified.1,
+    };
+    assert_eq!(rt;
+        certify(&problem, &plan, &prices),
+        Ok(want),
+        "reward {}",
+        row.reward
+    );
+    Ok(())
+}
+
+#[test]
+fn rows(rt: HostRuntime) -> Result<(), Fail> {
+    let far: &[WorkerRow] = &[(0, true, 0), (1, true, 1)];
+    let near_and_far: &[WorkerRow] = &[(0, true, 0), (1, true, 1), (2, true, 1)];
+    let one: &[SplitRow<'_>] = &[(7, true, &[0])];
+    let two: &[SplitRow<'_>] = &[(7, true, &[0]), (1, true, &[0])];
+    let other_centre = Row {
+        centres: (2, &[0, 1]),
+        workers: far,
+        splits: one,
+        reward: 43,
+        starts: &[Some(1)],
+        split_prices: &[1],
+        worker_prices: &[0, 0],
+        certified: (1, 42),
+    };
+    let other_rack = Row {
+        centres: (1, &[0, 0]),
+        reward: 29,
+        certified: (1, 28),
+        ..other_centre
+    };
+    // the larger split stays in the centre; the other way it would be 46
+    let both = Row {
+        centres: (2, &[0, 0, 1]),
+        workers: near_and_far,
+        splits: two,
+        reward: 49,
+        starts: &[Some(1), Some(2)],
+        split_prices: &[19, 43],
+        worker_prices: &[0, 2, 0],
+        certified: (2, 34),
+    };
+    for row in [other_centre, other_rack, both] {
+        assert_certified(&rt, rt.alloc(), row)?;
+    }
+    Ok(())
+}
