@@ -1,0 +1,227 @@
+-- How a search begins and ends, and the path that its arrivals lead back over.
+use Rattle.std.proofs.Common.{◌≡◌, ℕ, zero, suc, ◌+◌, ◌<◌, ◌≤◌, Bool, true, false, List, [], ◌∷◌, ◌++◌, length, get_or, set, Contains, replicate, refl, sym, ap, ◌∙◌, subst, inl, inr, ◌⊎◌, arith, get_or-set_same, get_or-set_other, length-set}
+use Rattle.std.proofs.lemmas.Bool.{cases_eq, cases_lt, cases_Bool, false≢true}
+use Rattle.std.proofs.lemmas.List.{length-replicate}
+use Rattle.std.specs.Prelude.{slice_index}
+use Rattle.flow_network.specs.declared.arcs.ArcNo.{ArcNo}
+use Rattle.flow_network.specs.Flows.{tail_of, head_of, IsPath, Lacks, IsDistinct}
+use Rattle.flow_network.proofs.Least.{IsPath-append}
+use Rattle.guest_search.specs.declared.arrival.Arrival.{Arrival}
+use Rattle.shortest_paths.specs.Labels.{is_settled}
+use Rattle.guest_search.specs.Lowering.{IsStep, AreSteps}
+use Rattle.guest_search.specs.ToSink.{far, AreTraced, IsSearched, IsTrace}
+use Rattle.guest_search.specs.Searching.{Problem, Tables, distance_at, arrival_at, rc, AreReached, IsSearching, trace_of, trace_to}
+use Rattle.guest_search.proofs.Lowering.{steps_cost}
+use Rattle.shortest_paths.proofs.Settling.{looks_none}
+use Rattle.shortest_paths.proofs.Waiting.{nothing_in, in_front, first_in}
+
+-- the heads of a path were reached over at most n arcs
+pub HeadsWithin : List Arrival → Problem → ℕ → List ArcNo → Type 0
+HeadsWithin arrivals p n [] = Unit {0}
+HeadsWithin arrivals p n (a ∷ path) = ((arrival_at arrivals (head_of p.arcs a)).arcs ≤ n) × HeadsWithin arrivals p n path
+
+Lacks-push : (b a : ArcNo) (path : List ArcNo) → Lacks b path → (b ≡ a → ⊥) → Lacks b (path ++ a ∷ [])
+Lacks-push b a [] m n = (n, tt)
+Lacks-push b a (c ∷ path) m n = (m.0, Lacks-push b a path m.1 n)
+
+HeadsWithin-push : (arrivals : List Arrival) (p : Problem) (n m : ℕ) (path : List ArcNo) (a : ArcNo) → n ≤ m → HeadsWithin arrivals p n path
+    → (arrival_at arrivals (head_of p.arcs a)).arcs ≤ m → HeadsWithin arrivals p m (path ++ a ∷ [])
+unfolding HeadsWithin
+HeadsWithin-push arrivals p n m [] a e w last = (last, tt)
+HeadsWithin-push arrivals p n m (b ∷ path) a e w last = ((let old = w.0 in omega arith), HeadsWithin-push arrivals p n m path a e w.1 last)
+
+distinct-push : (arrivals : List Arrival) (p : Problem) (n : ℕ) (path : List ArcNo) (a : ArcNo) → n < (arrival_at arrivals (head_of p.arcs a)).arcs
+    → HeadsWithin arrivals p n path → IsDistinct path → IsDistinct (path ++ a ∷ [])
+unfolding HeadsWithin
+distinct-push arrivals p n [] a m w d = (tt, tt)
+distinct-push arrivals p n (b ∷ path) a m w d = (
+  Lacks-push b a path d.0 (λ same. absurd (let old = w.0 in let at = ap (λ c. (arrival_at arrivals (head_of p.arcs c)).arcs) same in omega arith)),
+  distinct-push arrivals p n path a m w.1 d.1,
+)
+
+AreSteps-push : (p : Problem) (d : ℕ → ℕ) (path : List ArcNo) (a : ArcNo) → AreSteps p.arcs (slice_index p.depths) d path → IsStep p.arcs (slice_index p.depths) d a
+    → AreSteps p.arcs (slice_index p.depths) d (path ++ a ∷ [])
+AreSteps-push p d [] a m n = (n, tt)
+AreSteps-push p d (c ∷ path) a m n = (m.0, AreSteps-push p d path a m.1 n)
+
+module _ (p : Problem) (nodes level : ℕ) (distances : List ℕ) (arrivals : List Arrival) (settled : List Bool) (t : AreReached p nodes level distances arrivals settled) where
+  -- one arc back from a node that is not the start
+  pub one_back : (v : ℕ) → distance_at distances v < far → (v ≡ p.start → ⊥)
+      → (trace_to arrivals v ≡ trace_to arrivals (arrival_at arrivals v).before ++ (arrival_at arrivals v).arc ∷ [])
+      × ((arrival_at arrivals (arrival_at arrivals v).before).arcs < (arrival_at arrivals v).arcs)
+      × (distance_at distances (arrival_at arrivals v).before < far)
+  one_back v near n = elim (t.sound v near) [
+    | inl e ↦ absurd (n e)
+    | inr r ↦ (let u : ℕ = (arrival_at arrivals v).before in
+        let more : (arrival_at arrivals v).arcs ≡ suc (arrival_at arrivals u).arcs = (let m = r.more in omega arith) in
+        let low = t.low u r.before_settled in let top = t.level_in in
+        (ap (trace_of arrivals v) more, omega arith, omega arith))
+  ]
+
+  pub path_back : (n v : ℕ) → distance_at distances v < far → (arrival_at arrivals v).arcs ≡ n
+      → IsPath p.arcs p.flows (trace_of arrivals v n) p.start v × AreSteps p.arcs (slice_index p.depths) (distance_at distances) (trace_of arrivals v n)
+      × IsDistinct (trace_of arrivals v n) × HeadsWithin arrivals p n (trace_of arrivals v n)
+  unfolding HeadsWithin
+  path_back zero v near e = elim (t.sound v near) [
+    | inl same ↦ (sym same, tt, tt, tt)
+    | inr r ↦ absurd (let more = r.more in omega arith)
+  ]
+  path_back (suc n) v near e = elim (t.sound v near) [
+    | inl same ↦ absurd (let zero_there = t.begun.1 in let at = ap (λ w. (arrival_at arrivals w).arcs) same in omega arith)
+    | inr r ↦
+        (let u : ℕ = (arrival_at arrivals v).before in
+        let a : ArcNo = (arrival_at arrivals v).arc in
+        let more = r.more in
+        let low = t.low u r.before_settled in
+        let top = t.level_in in
+        let rest = path_back n u (omega arith) (omega arith) in
+        let at_head : (arrival_at arrivals (head_of p.arcs a)).arcs ≡ suc n = ap (λ w. (arrival_at arrivals w).arcs) r.comes ∙ e in
+        let farther : IsStep p.arcs (slice_index p.depths) (distance_at distances) a =
+        ap (distance_at distances) r.comes ∙ r.distance ∙ ap (λ w. distance_at distances w + rc p a) (sym r.leaves) in (
+          IsPath-append p.arcs p.flows (trace_of arrivals u n) (a ∷ []) p.start u v rest.0 (r.residual, r.leaves, r.comes),
+          AreSteps-push p (distance_at distances) (trace_of arrivals u n) a rest.1 farther,
+          distinct-push arrivals p n (trace_of arrivals u n) a (omega arith) rest.3 rest.2,
+          HeadsWithin-push arrivals p n (suc n) (trace_of arrivals u n) a (omega arith) rest.3 (omega arith),
+        ))
+  ]
+
+  pub traced : AreTraced p.arcs p.flows (slice_index p.depths) p.start (distance_at distances)
+  traced v near =
+      let b = path_back (arrival_at arrivals v).arcs v near refl in
+      let cost = steps_cost p.arcs p.flows (slice_index p.depths) (distance_at distances) (trace_to arrivals v) p.start v b.0 b.1 in
+      let zero_there = t.begun.0 in
+      (trace_to arrivals v, b.0, omega arith)
+
+  pub trace_is : distance_at distances p.sink < far → IsTrace p.arcs p.flows (slice_index p.depths) p.start p.sink (distance_at distances) (trace_to arrivals p.sink)
+  trace_is near =
+      let b = path_back (arrival_at arrivals p.sink).arcs p.sink near refl in
+      record { leads = b.0; distinct = b.2; steps = b.1 }
+
+-- the sink is reached at the level
+pub ends_at_sink : (p : Problem) (nodes level count : ℕ) (rest : List ArcNo) (t : Tables) → IsSearching p nodes level count (p.sink ∷ []) rest t
+    → IsSearched p.arcs p.flows (slice_index p.depths) p.start p.sink (distance_at t.distances)
+    × (distance_at t.distances p.sink ≡ level) × (level < far)
+ends_at_sink p nodes level count rest t s =
+    let here = (s.waiting.next p.sink (first_in p.sink [])).1 in
+    let top = s.reached.level_in in
+    let in_time : (u : ℕ) → distance_at t.distances u < level → is_settled t.settled u ≡ true = λ u near. elim (cases_Bool (is_settled t.settled u)) [
+      | inl m ↦ m
+      | inr f ↦ absurd (elim (s.waiting.waiting u f (omega arith)) [
+        | inl n ↦ (let q = (s.waiting.next u n).1 in omega arith)
+        | inr h ↦ (let q = (s.waiting.queued (distance_at t.distances u) u h).0 in omega arith)
+      ])
+    ] in (
+      record {
+        begun = s.reached.begun.0;
+        traced = traced p nodes level t.distances t.arrivals t.settled s.reached;
+        covered = λ a r near. elim (s.covered.covered a r (in_time (tail_of p.arcs a) (omega arith))) [
+          | inl done ↦ inl done
+          | inr more ↦ elim more [
+            | inl held ↦ absurd (let q = (s.covered.of_rest a held).2 in omega arith)
+            | inr cursor ↦ absurd (let q = (s.covered.on_stack (tail_of p.arcs a) cursor.0).1 in omega arith)
+          ]
+        ];
+      },
+      here,
+      top,
+    )
+
+-- nothing is left, so that the sink has no path
+pub ends_with_none : (p : Problem) (nodes level count : ℕ) (t : Tables) → IsSearching p nodes level count [] [] t → t.stack ≡ [] → t.queue ≡ []
+    → IsSearched p.arcs p.flows (slice_index p.depths) p.start p.sink (distance_at t.distances) × (far ≤ distance_at t.distances p.sink)
+ends_with_none p nodes level count t s empty none =
+    let in_time : (u : ℕ) → distance_at t.distances u < far → is_settled t.settled u ≡ true = λ u near. elim (cases_Bool (is_settled t.settled u)) [
+      | inl m ↦ m
+      | inr f ↦ absurd (elim (s.waiting.waiting u f near) [
+        | inl n ↦ nothing_in u n
+        | inr h ↦ nothing_in (distance_at t.distances u, u) (subst (λ q. Contains q (distance_at t.distances u, u)) none h)
+      ])
+    ] in
+    let all : (u : ℕ) → distance_at t.distances u < far ⊎ (far ≤ distance_at t.distances u) = λ u. cases_lt (distance_at t.distances u) far in (
+      record {
+        begun = s.reached.begun.0;
+        traced = traced p nodes level t.distances t.arrivals t.settled s.reached;
+        covered = λ a r near. elim (all (tail_of p.arcs a)) [
+          | inr past ↦ absurd (let most = s.reached.within p.sink in omega arith)
+          | inl l ↦ elim (s.covered.covered a r (in_time (tail_of p.arcs a) l)) [
+            | inl done ↦ inl done
+            | inr more ↦ elim more [
+              | inl i ↦ absurd i
+              | inr cursor ↦ absurd (nothing_in (tail_of p.arcs a) (rw empty at cursor.0))
+            ]
+          ]
+        ];
+      },
+      elim (all p.sink) [
+        | inr past ↦ past
+        | inl l ↦ absurd (false≢true (sym s.sink_left ∙ in_time p.sink l))
+      ],
+    )
+
+-- only the start is reached
+pub begins : (p : Problem) (nodes : ℕ) (arrivals : List Arrival) (left left_standing : List ℕ) → p.start < nodes → length arrivals ≡ nodes
+    → (arrival_at arrivals p.start).arcs ≡ 0 → length left ≡ nodes → length left_standing ≡ nodes
+    → IsSearching p nodes 0 0 (p.start ∷ []) [] (record {
+      distances = set (replicate nodes far) p.start 0;
+      arrivals = arrivals;
+      settled = replicate nodes false;
+      left = left;
+      left_standing = left_standing;
+      stack = [];
+      queue = [];
+    })
+begins p nodes arrivals left left_standing inside size first size_left size_standing =
+    let all : List ℕ = replicate nodes far in
+    let d : List ℕ = set all p.start 0 in
+    let held : length all ≡ nodes = length-replicate {A = ℕ} nodes far in
+    let at_start : distance_at d p.start ≡ 0 = get_or-set_same all p.start 0 far (omega arith) in
+    let else_far : (w : ℕ) → (w ≡ p.start → ⊥) → distance_at d w ≡ far = λ w n. get_or-set_other all p.start w 0 far n ∙ all_far nodes w in
+    let is_start : (w : ℕ) → distance_at d w < far → w ≡ p.start = λ w near. elim (cases_eq w p.start) [
+      | inl e ↦ e
+      | inr n ↦ absurd (let away = else_far w n in omega arith)
+    ] in
+    record {
+      left_size = size_left;
+      left_standing_size = size_standing;
+      reached = record {
+        size = length-set all p.start 0 ∙ held;
+        arrivals_size = size;
+        settled_size = length-replicate {A = Bool} nodes false;
+        level_in = omega arith;
+        within = λ w. elim (cases_eq w p.start) [
+          | inl e ↦ rw (e, at_start) (omega arith)
+          | inr n ↦ (let away = else_far w n in omega arith)
+        ];
+        begun = (at_start, first);
+        sound = λ w near. inl (is_start w near);
+        low = λ u m. absurd (false≢true (sym (all_fresh nodes u) ∙ m));
+        bounded = λ w near. (let e = is_start w near in rw (e, first, at_start) (omega arith, omega arith));
+        sooner = λ u m. absurd (false≢true (sym (all_fresh nodes u) ∙ m));
+      };
+      waiting = record {
+        next = λ w o. elim (in_front p.start w [] o) [
+          | inl e ↦ rw (← e) (all_fresh nodes p.start, at_start)
+          | inr n ↦ absurd (nothing_in w n)
+        ];
+        waiting = λ w f near. (let e = is_start w near in inl (rw e (first_in p.start [])));
+        queued = λ c w o. absurd (nothing_in (c, w) o);
+      };
+      covered = record {
+        on_stack = λ w o. absurd (nothing_in w o);
+        cursors = λ w o. absurd (nothing_in w o);
+        of_rest = λ a i. absurd i;
+        covered = λ a r m. absurd (false≢true (sym (all_fresh nodes (tail_of p.arcs a)) ∙ m));
+      };
+      looks = (let none = looks_none nodes 0 (λ u. get_or left u 0 + get_or left_standing u 0) in omega arith);
+      sink_left = all_fresh nodes p.sink;
+    }
+  where
+    all_far : (n w : ℕ) → get_or (replicate {A = ℕ} n far) w far ≡ far
+    all_far zero w = (let z : far ≡ far = refl in z)
+    all_far (suc n) zero = (let z : far ≡ far = refl in z)
+    all_far (suc n) (suc w) = all_far n w
+
+    all_fresh : (n w : ℕ) → is_settled (replicate n false) w ≡ false
+    all_fresh zero w = refl
+    all_fresh (suc n) zero = refl
+    all_fresh (suc n) (suc w) = all_fresh n w

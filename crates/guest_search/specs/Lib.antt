@@ -1,0 +1,5 @@
+pub mod Lowering
+pub mod ToSink
+pub mod Guests
+pub mod Searching
+pub mod Search
