@@ -2,5 +2,9 @@
 pub mod Lowering
 pub mod ToSink
 -- the search: its moves, its ends
+pub mod Listing
 pub mod Searching
 pub mod SearchEnds
+pub mod Finds
+-- the lists of each node's arcs
+pub mod Ways

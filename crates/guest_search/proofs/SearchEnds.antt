@@ -1,18 +1,18 @@
 -- How a search begins and ends, and the path that its arrivals lead back over.
-use Rattle.std.proofs.Common.{◌≡◌, ℕ, zero, suc, ◌+◌, ◌<◌, ◌≤◌, Bool, true, false, List, [], ◌∷◌, ◌++◌, length, get_or, set, Contains, replicate, refl, sym, ap, ◌∙◌, subst, inl, inr, ◌⊎◌, arith, get_or-set_same, get_or-set_other, length-set}
+use Rattle.std.proofs.Common.{◌≡◌, ℕ, zero, suc, ◌+◌, ◌<◌, ◌≤◌, Bool, true, false, cond, List, [], ◌∷◌, ◌++◌, length, get_or, set, Contains, refl, sym, ap, ◌∙◌, subst, inl, inr, ◌⊎◌, arith, get_or-set_same, get_or-set_other, length-set}
 use Rattle.std.proofs.lemmas.Bool.{cases_eq, cases_lt, cases_Bool, false≢true}
-use Rattle.std.proofs.lemmas.List.{length-replicate}
+use Rattle.std.proofs.lemmas.List.{get_or_past}
 use Rattle.std.specs.Prelude.{slice_index}
 use Rattle.flow_network.specs.declared.arcs.ArcNo.{ArcNo}
 use Rattle.flow_network.specs.Flows.{tail_of, head_of, IsPath, Lacks, IsDistinct}
+use Rattle.flow_network.specs.Leaving.{marked_sum}
 use Rattle.flow_network.proofs.Least.{IsPath-append}
 use Rattle.guest_search.specs.declared.arrival.Arrival.{Arrival}
 use Rattle.shortest_paths.specs.Labels.{is_settled}
 use Rattle.guest_search.specs.Lowering.{IsStep, AreSteps}
 use Rattle.guest_search.specs.ToSink.{far, AreTraced, IsSearched, IsTrace}
-use Rattle.guest_search.specs.Searching.{Problem, Tables, distance_at, arrival_at, rc, AreReached, IsSearching, trace_of, trace_to}
+use Rattle.guest_search.specs.Searching.{Problem, Tables, distance_at, no_arrival, arrival_at, rc, AreReached, AreListed, IsSearching, IsAtRest, IsLeft, LeadsBack, trace_of, trace_to}
 use Rattle.guest_search.proofs.Lowering.{steps_cost}
-use Rattle.shortest_paths.proofs.Settling.{looks_none}
 use Rattle.shortest_paths.proofs.Waiting.{nothing_in, in_front, first_in}
 
 -- the heads of a path were reached over at most n arcs
@@ -158,70 +158,115 @@ ends_with_none p nodes level count t s empty none =
       ],
     )
 
--- only the start is reached
-pub begins : (p : Problem) (nodes : ℕ) (arrivals : List Arrival) (left left_standing : List ℕ) → p.start < nodes → length arrivals ≡ nodes
-    → (arrival_at arrivals p.start).arcs ≡ 0 → length left ≡ nodes → length left_standing ≡ nodes
-    → IsSearching p nodes 0 0 (p.start ∷ []) [] (record {
-      distances = set (replicate nodes far) p.start 0;
-      arrivals = arrivals;
-      settled = replicate nodes false;
-      left = left;
-      left_standing = left_standing;
-      stack = [];
-      queue = [];
-    })
-begins p nodes arrivals left left_standing inside size first size_left size_standing =
-    let all : List ℕ = replicate nodes far in
-    let d : List ℕ = set all p.start 0 in
-    let held : length all ≡ nodes = length-replicate {A = ℕ} nodes far in
-    let at_start : distance_at d p.start ≡ 0 = get_or-set_same all p.start 0 far (omega arith) in
-    let else_far : (w : ℕ) → (w ≡ p.start → ⊥) → distance_at d w ≡ far = λ w n. get_or-set_other all p.start w 0 far n ∙ all_far nodes w in
-    let is_start : (w : ℕ) → distance_at d w < far → w ≡ p.start = λ w near. elim (cases_eq w p.start) [
-      | inl e ↦ e
-      | inr n ↦ absurd (let away = else_far w n in omega arith)
-    ] in
-    record {
-      left_size = size_left;
-      left_standing_size = size_standing;
-      reached = record {
-        size = length-set all p.start 0 ∙ held;
-        arrivals_size = size;
-        settled_size = length-replicate {A = Bool} nodes false;
-        level_in = omega arith;
-        within = λ w. elim (cases_eq w p.start) [
-          | inl e ↦ rw (e, at_start) (omega arith)
-          | inr n ↦ (let away = else_far w n in omega arith)
-        ];
-        begun = (at_start, first);
-        sound = λ w near. inl (is_start w near);
-        low = λ u m. absurd (false≢true (sym (all_fresh nodes u) ∙ m));
-        bounded = λ w near. (let e = is_start w near in rw (e, first, at_start) (omega arith, omega arith));
-        sooner = λ u m. absurd (false≢true (sym (all_fresh nodes u) ∙ m));
-      };
-      waiting = record {
-        next = λ w o. elim (in_front p.start w [] o) [
-          | inl e ↦ rw (← e) (all_fresh nodes p.start, at_start)
-          | inr n ↦ absurd (nothing_in w n)
-        ];
-        waiting = λ w f near. (let e = is_start w near in inl (rw e (first_in p.start [])));
-        queued = λ c w o. absurd (nothing_in (c, w) o);
-      };
-      covered = record {
-        on_stack = λ w o. absurd (nothing_in w o);
-        cursors = λ w o. absurd (nothing_in w o);
-        of_rest = λ a i. absurd i;
-        covered = λ a r m. absurd (false≢true (sym (all_fresh nodes (tail_of p.arcs a)) ∙ m));
-      };
-      looks = (let none = looks_none nodes 0 (λ u. get_or left u 0 + get_or left_standing u 0) in omega arith);
-      sink_left = all_fresh nodes p.sink;
-    }
-  where
-    all_far : (n w : ℕ) → get_or (replicate {A = ℕ} n far) w far ≡ far
-    all_far zero w = (let z : far ≡ far = refl in z)
-    all_far (suc n) zero = (let z : far ≡ far = refl in z)
-    all_far (suc n) (suc w) = all_far n w
+-- nothing is summed where nothing is marked
+unmarked_sum : (marks : List Bool) (i : ℕ) (f : ℕ → ℕ) → ((v : ℕ) → get_or marks v false ≡ false)
+    → marked_sum marks i f ≡ 0
+unmarked_sum [] i f none = refl
+unmarked_sum (b ∷ marks) i f none =
+    let rest = unmarked_sum marks (suc i) f (λ v. none (suc v)) in
+    rw (ap (λ x. cond x (f i) 0 + marked_sum marks (suc i) f) (none 0)) (omega arith)
 
-    all_fresh : (n w : ℕ) → is_settled (replicate n false) w ≡ false
-    all_fresh zero w = refl
-    all_fresh (suc n) zero = refl
-    all_fresh (suc n) (suc w) = all_fresh n w
+pub rest_listed : (nodes : ℕ) (t : Tables) → IsAtRest nodes t → AreListed t.distances t.reached
+rest_listed nodes t rest = record {
+  inside = λ v o. absurd (nothing_in v (rw rest.none_listed at o));
+  all = λ v near. absurd (let away = rest.unreached v in omega arith);
+}
+
+-- only the start is reached
+module _ (p : Problem) (nodes count : ℕ) (t : Tables) (rest : IsAtRest nodes t) (a : Arrival) (reached : List ℕ)
+    (inside : p.start < nodes) (none : count ≡ 0) (first : a.arcs ≡ 0)
+    (listed : AreListed (set t.distances p.start 0) reached) where
+  at_start : distance_at (set t.distances p.start 0) p.start ≡ 0
+  at_start = let size = rest.size in get_or-set_same t.distances p.start 0 far (omega arith)
+
+  else_far : (w : ℕ) → (w ≡ p.start → ⊥) → distance_at (set t.distances p.start 0) w ≡ far
+  else_far w n = get_or-set_other t.distances p.start w 0 far n ∙ rest.unreached w
+
+  is_start : (w : ℕ) → distance_at (set t.distances p.start 0) w < far → w ≡ p.start
+  is_start w near = elim (cases_eq w p.start) [ inl e ↦ e | inr n ↦ absurd (let away = else_far w n in omega arith) ]
+
+  no_arcs : (arrival_at (set t.arrivals p.start a) p.start).arcs ≡ 0
+  no_arcs =
+      let size = rest.arrivals_size in
+      ap (λ (q : Arrival). q.arcs) (get_or-set_same t.arrivals p.start a no_arrival (omega arith)) ∙ first
+
+  fresh : (u : ℕ) → is_settled t.settled u ≡ true → ⊥
+  fresh u m = false≢true (sym (rest.unsettled u) ∙ m)
+
+  pub begins : IsSearching p nodes 0 count (p.start ∷ []) [] (record t {
+    distances = set t.distances p.start 0;
+    arrivals = set t.arrivals p.start a;
+    reached = reached;
+  })
+  begins = record {
+    left_size = rest.left_size;
+    left_standing_size = rest.left_standing_size;
+    listed = listed;
+    reached = record {
+      size = length-set t.distances p.start 0 ∙ rest.size;
+      arrivals_size = length-set t.arrivals p.start a ∙ rest.arrivals_size;
+      settled_size = rest.settled_size;
+      level_in = omega arith;
+      within = λ w. elim (cases_eq w p.start) [
+        | inl e ↦ rw e (let here = at_start in omega arith)
+        | inr n ↦ (let away = else_far w n in omega arith)
+      ];
+      begun = (at_start, no_arcs);
+      sound = λ w near. inl (is_start w near);
+      low = λ u m. absurd (fresh u m);
+      bounded = λ w near. (let e = is_start w near in let here = at_start in let zero_arcs = no_arcs in
+          rw e (omega arith, omega arith));
+      sooner = λ u m. absurd (fresh u m);
+    };
+    waiting = record {
+      next = λ w o. elim (in_front p.start w [] o) [
+        | inl e ↦ rw (← e) (rest.unsettled p.start, at_start)
+        | inr n ↦ absurd (nothing_in w n)
+      ];
+      waiting = λ w f near. inl (rw (is_start w near) (first_in p.start []));
+      queued = λ c w o. absurd (nothing_in (c, w) (rw rest.none_queued at o));
+    };
+    covered = record {
+      on_stack = λ w o. absurd (nothing_in w (rw rest.none_stacked at o));
+      cursors = λ w o. absurd (nothing_in w (rw rest.none_stacked at o));
+      of_rest = λ b i. absurd i;
+      covered = λ b r m. absurd (fresh (tail_of p.arcs b) m);
+    };
+    looks = (let sum = unmarked_sum t.settled 0 (λ u. get_or t.left u 0 + get_or t.left_standing u 0) rest.unsettled in
+        omega arith);
+    sink_left = rest.unsettled p.sink;
+  }
+
+-- after a search the nodes that were reached are listed
+pub is_left : (p : Problem) (nodes level count : ℕ) (entering : List ℕ) (rest : List ArcNo) (t : Tables)
+    → IsSearching p nodes level count entering rest t → IsLeft nodes t
+is_left p nodes level count entering rest t s = record {
+  size = s.reached.size;
+  arrivals_size = s.reached.arrivals_size;
+  settled_size = s.reached.settled_size;
+  left_size = s.left_size;
+  left_standing_size = s.left_standing_size;
+  within = s.reached.within;
+  listed = s.listed;
+  marked = λ v m. (let low = s.reached.low v m in let top = s.reached.level_in in omega arith);
+}
+
+pub leads_back : (p : Problem) (nodes level : ℕ) (t : Tables) → AreReached p nodes level t.distances t.arrivals t.settled
+    → (n v : ℕ) → distance_at t.distances v < far → (arrival_at t.arrivals v).arcs ≡ n → LeadsBack t.arrivals v n
+leads_back p nodes level t r zero v near e = tt
+leads_back p nodes level t r (suc n) v near e =
+    let size = r.size in
+    let size_arrivals = r.arrivals_size in
+    let inside : v < length t.arrivals = elim (cases_lt v (length t.distances)) [
+      | inl l ↦ omega arith
+      | inr past ↦ absurd (let away = get_or_past t.distances v far past in omega arith)
+    ] in
+    elim (r.sound v near) [
+      | inl same ↦ absurd (let none = r.begun.1 in let at = ap (λ w. (arrival_at t.arrivals w).arcs) same in omega arith)
+      | inr back ↦ (
+        inside,
+        leads_back p nodes level t r n (arrival_at t.arrivals v).before
+            (let low = r.low (arrival_at t.arrivals v).before back.before_settled in let top = r.level_in in omega arith)
+            (let more = back.more in omega arith),
+      )
+    ]

@@ -91,13 +91,13 @@ module _ (p : Problem) (nodes level : ℕ) (distances : List ℕ) (arrivals : Li
         begun = (at_other p.start not_start ∙ t.begun.0, ap (λ (q : Arrival). q.arcs) (arrival_other p.start not_start) ∙ t.begun.1);
         sound = λ w near. elim (cases_eq w v) [
           | inl e ↦ inr (rw (e, arrival_new) (record {
-              residual = residual;
-              leaves = refl;
-              comes = comes;
-              before_settled = from;
-              distance = at_new ∙ is ∙ ap (λ d. d + rc p a) (sym (at_other (tail_of p.arcs a) away));
-              more = ap (λ (q : Arrival). q.arcs + 1) (sym (arrival_other (tail_of p.arcs a) away));
-            }))
+            residual = residual;
+            leaves = refl;
+            comes = comes;
+            before_settled = from;
+            distance = at_new ∙ is ∙ ap (λ d. d + rc p a) (sym (at_other (tail_of p.arcs a) away));
+            more = ap (λ (q : Arrival). q.arcs + 1) (sym (arrival_other (tail_of p.arcs a) away));
+          }))
           | inr n ↦ (let same = at_other w n in elim (t.sound w (omega arith)) [
             | inl e ↦ inl e
             | inr r ↦ inr (rw (arrival_other w n) (still w (arrival_at arrivals w) n r))
@@ -436,13 +436,13 @@ module _ (settled : List Bool) (v : ℕ) (inside : v < length settled) (fresh : 
         sound = λ w near. elim (t.sound w near) [
           | inl e ↦ inl e
           | inr r ↦ inr (record {
-              residual = r.residual;
-              leaves = r.leaves;
-              comes = r.comes;
-              before_settled = settled_also (arrival_at arrivals w).before r.before_settled;
-              distance = r.distance;
-              more = r.more;
-            })
+            residual = r.residual;
+            leaves = r.leaves;
+            comes = r.comes;
+            before_settled = settled_also (arrival_at arrivals w).before r.before_settled;
+            distance = r.distance;
+            more = r.more;
+          })
         ];
         low = λ u s. elim (settled_was u s) [
           | inl e ↦ (let same = ap (distance_at distances) e in omega arith)
@@ -536,17 +536,19 @@ module _ (p : Problem) (nodes level count : ℕ) (v : ℕ) (rest : List ArcNo) (
           covered = λ b r q. elim (cases_eq (tail_of p.arcs b) v) [
             | inl e ↦ elim (in_split b (exits_at p.guests v) (inner_ways p.guests v)
                 (rw e at (guests.complete b r (rw e no_source)))) [
-              | inl exit ↦ inr (inl (in_left b (exits_at p.guests v) rest exit))
-              | inr held ↦ inr (inr (rw e (Contains-push t.stack v), rw (e, now, now_standing, take-length (inner_at p.guests v), take-length (standing_at p.guests v)) held))
-            ]
+                  | inl exit ↦ inr (inl (in_left b (exits_at p.guests v) rest exit))
+                  | inr held ↦ inr (inr (rw e (Contains-push t.stack v), rw (e, now, now_standing, take-length (inner_at p.guests v), take-length (standing_at p.guests v)) held))
+                ]
             | inr d ↦ elim (settled_was t.settled v in_marks fresh (tail_of p.arcs b) q) [
               | inl e ↦ absurd (d e)
               | inr was ↦ elim (c.covered b r was) [
                 | inl done ↦ inl done
                 | inr more ↦ elim more [
                   | inl held ↦ inr (inl (in_right b (exits_at p.guests v) rest held))
-                  | inr cursor ↦ inr (inr (Contains-append_left t.stack (v ∷ []) (tail_of p.arcs b) cursor.0,
-                      rw (other (tail_of p.arcs b) d, other_standing (tail_of p.arcs b) d) cursor.1))
+                  | inr cursor ↦ inr (inr (
+                    Contains-append_left t.stack (v ∷ []) (tail_of p.arcs b) cursor.0,
+                    rw (other (tail_of p.arcs b) d, other_standing (tail_of p.arcs b) d) cursor.1,
+                  ))
                 ]
               ]
             ]
@@ -561,10 +563,10 @@ module _ (p : Problem) (nodes level count : ℕ) (v : ℕ) (rest : List ArcNo) (
       length-map_reverse (k ∷ ks) = ap suc (length-map_reverse ks)
 
   pub scanned : rest ≡ [] → IsSearching p nodes level count [] (leaving_of p.arcs v) (record t {
-        settled = set t.settled v true;
-        left = set t.left v 0;
-        left_standing = set t.left_standing v 0;
-      })
+    settled = set t.settled v true;
+    left = set t.left v 0;
+    left_standing = set t.left_standing v 0;
+  })
   scanned empty =
       let c = s.covered in
       let size = s.left_size in
@@ -747,11 +749,11 @@ module _ (p : Problem) (nodes level count : ℕ) (entering : List ℕ) (a : ArcN
         reached_by p nodes level t.distances t.arrivals t.settled s.reached a (level + rc p a) (head_of p.arcs a) inside residual refl from.1 (still_fresh shorter) (omega arith) shorter are none
 
     covered_now : (queue : List (ℕ × ℕ)) (reached : List ℕ) → AreCovered p level rest (record t {
-          distances = set t.distances (head_of p.arcs a) (level + rc p a);
-          arrivals = set t.arrivals (head_of p.arcs a) next_arrival;
-          queue = queue;
-          reached = reached;
-        })
+      distances = set t.distances (head_of p.arcs a) (level + rc p a);
+      arrivals = set t.arrivals (head_of p.arcs a) next_arrival;
+      queue = queue;
+      reached = reached;
+    })
     covered_now queue reached =
         let from = s.covered.of_rest a (inl refl) in
         let here = from.2 in
@@ -973,9 +975,10 @@ inner_turns p nodes level count t stack u left a s guests e read some at =
     let is = read ∙ get_or_default t.left u left 0 (omega arith) in
     let moved = inner_moves p nodes level count [] [] t s guests u on inside (left - 1) (omega arith) in
     let own = in_right _ (exits_at p.guests u) (inner_ways p.guests u)
-    (in_left _ (inner_at p.guests u) (map Reverse (standing_at p.guests u)) (in_at (inner_at p.guests u) (left - 1) (Forward 0) (omega arith))) in
-    (subst (λ b. IsSearching p nodes level count [] (b ∷ []) (record t { left = set t.left u (left - 1) })) (sym same) moved,
-      ap (tail_of p.arcs) same ∙ (guests.own u (get_or (inner_at p.guests u) (left - 1) (Forward 0)) own).1)
+    (in_left _ (inner_at p.guests u) (map Reverse (standing_at p.guests u)) (in_at (inner_at p.guests u) (left - 1) (Forward 0) (omega arith))) in (
+      subst (λ b. IsSearching p nodes level count [] (b ∷ []) (record t { left = set t.left u (left - 1) })) (sym same) moved,
+      ap (tail_of p.arcs) same ∙ (guests.own u (get_or (inner_at p.guests u) (left - 1) (Forward 0)) own).1,
+    )
 
 pub standing_turns : (p : Problem) (nodes level count : ℕ) (t : Tables) (stack : List ℕ) (u left k : ℕ) → IsSearching p nodes level count [] [] t
     → AreGuests p.arcs p.flows p.sink p.guests → t.stack ≡ stack ++ u ∷ [] → left ≡ get_or t.left_standing u left → 0 < left
@@ -989,9 +992,10 @@ standing_turns p nodes level count t stack u left k s guests e read some at =
     let is = read ∙ get_or_default t.left_standing u left 0 (omega arith) in
     let moved = standing_moves p nodes level count [] [] t s guests u on inside (left - 1) (omega arith) in
     let own = in_right _ (exits_at p.guests u) (inner_ways p.guests u)
-    (in_right _ (inner_at p.guests u) (map Reverse (standing_at p.guests u)) (map_at (standing_at p.guests u) (left - 1) (omega arith))) in
-    (subst (λ n. IsSearching p nodes level count [] (Reverse n ∷ []) (record t { left_standing = set t.left_standing u (left - 1) })) (sym at) moved,
-      ap (λ n. tail_of p.arcs (Reverse n)) at ∙ (guests.own u (Reverse (get_or (standing_at p.guests u) (left - 1) 0)) own).1)
+    (in_right _ (inner_at p.guests u) (map Reverse (standing_at p.guests u)) (map_at (standing_at p.guests u) (left - 1) (omega arith))) in (
+      subst (λ n. IsSearching p nodes level count [] (Reverse n ∷ []) (record t { left_standing = set t.left_standing u (left - 1) })) (sym at) moved,
+      ap (λ n. tail_of p.arcs (Reverse n)) at ∙ (guests.own u (Reverse (get_or (standing_at p.guests u) (left - 1) 0)) own).1,
+    )
 
 pub top_inside : (p : Problem) (nodes level count : ℕ) (t : Tables) (stack : List ℕ) (u : ℕ) → IsSearching p nodes level count [] [] t → t.stack ≡ stack ++ u ∷ [] → u < nodes
 top_inside p nodes level count t stack u s e = stack_inside p nodes level count [] [] t u s (rw e (Contains-push stack u))

@@ -111,6 +111,35 @@ pub record IsSearching (p : Problem) (nodes level count : ℕ) (entering : List 
   pub looks : AreFewLooks p count rest t
   pub sink_left : is_settled t.settled p.sink ≡ false
 
+-- no node is reached, and nothing waits
+pub record IsAtRest (nodes : ℕ) (t : Tables) : Type 0 where
+  pub size : length t.distances ≡ nodes
+  pub arrivals_size : length t.arrivals ≡ nodes
+  pub settled_size : length t.settled ≡ nodes
+  pub left_size : length t.left ≡ nodes
+  pub left_standing_size : length t.left_standing ≡ nodes
+  pub unreached : (v : ℕ) → distance_at t.distances v ≡ far
+  pub unsettled : (v : ℕ) → is_settled t.settled v ≡ false
+  pub none_listed : t.reached ≡ []
+  pub none_stacked : t.stack ≡ []
+  pub none_queued : t.queue ≡ []
+
+-- what is forgotten after a search: the nodes that were reached are listed, and the settled ones are among them
+pub record IsLeft (nodes : ℕ) (t : Tables) : Type 0 where
+  pub size : length t.distances ≡ nodes
+  pub arrivals_size : length t.arrivals ≡ nodes
+  pub settled_size : length t.settled ≡ nodes
+  pub left_size : length t.left ≡ nodes
+  pub left_standing_size : length t.left_standing ≡ nodes
+  pub within : (v : ℕ) → distance_at t.distances v ≤ far
+  pub listed : AreListed t.distances t.reached
+  pub marked : (v : ℕ) → is_settled t.settled v ≡ true → distance_at t.distances v < far
+
+-- one may go back so many arcs within the table
+abbrev pub LeadsBack : List Arrival → ℕ → ℕ → Type 0
+LeadsBack arrivals v zero = Unit {0}
+LeadsBack arrivals v (suc n) = (v < length arrivals) × LeadsBack arrivals (arrival_at arrivals v).before n
+
 -- the arcs that lead back from a node, so many
 abbrev pub trace_of : List Arrival → ℕ → ℕ → List ArcNo
 trace_of arrivals v zero = []

@@ -7,8 +7,10 @@
 #![tactic(auto)]
 
 mod arrival;
+mod found;
 mod guests;
 pub mod laws;
 mod search;
 
+pub use found::{Buffers, Found};
 pub use guests::Guests;

@@ -2,8 +2,10 @@
 ghost use Rattle.std.specs.Prelude.{◌≡◌, ℕ, ◌+◌, ◌*◌, ◌<◌, ◌≤◌, ◌^◌, List, [], ◌∷◌, ◌++◌, true, false, length, slice_index, slice_set, Option, Some, None, OnOk, IfOk, IfSome};
 ghost use Rattle.flow_network.specs.Flows.{tail_of, head_of, arc_index};
 ghost use Rattle.guest_search.specs.Guests.{GuestLists, AreSized, source_at, inner_at, standing_at};
+ghost use Rattle.guest_search.specs.Lowering.{lowered};
+ghost use Rattle.guest_search.specs.ToSink.{far};
 ghost use Rattle.shortest_paths.specs.Paths.{IsPriced};
-ghost use Rattle.guest_search.specs.Searching.{AreListed, arrival_at};
+ghost use Rattle.guest_search.specs.Searching.{AreListed, IsAtRest, IsLeft, LeadsBack, distance_at, arrival_at, trace_to};
 ghost use Rattle.flow_network.specs.declared.arcs.ArcNo.{ArcNo};
 ghost use Rattle.guest_search.specs.Search.{tables, option_list, MaySearch, Searches, ComesTo, Ends, IsBetween, Stands, Spends, Falls};
 
@@ -12,7 +14,7 @@ use crate::guests::Guests;
 use flow_network::{ArcNo, Meter};
 use node_ids::Layout;
 use shortest_paths::{Potentials, Queue, leaving, reduced};
-use std::alloc::AllocError;
+use std::alloc::{AllocError, Global};
 
 /// The tables of the searches. Between two searches no node is reached.
 #[derive(Drop)]
@@ -28,19 +30,35 @@ pub struct Search {
 }
 
 impl Search {
+    /// Tables for so many nodes.
+    pub fn new(alloc: Global, nodes: usize) -> Result<Search, AllocError>
+        ensures { IfOk result (λ s. IsAtRest nodes (tables s)) }
+    {
+        let arrival = Arrival {
+            arc: ArcNo::Forward(0),
+            before: 0,
+            arcs: 0,
+        };
+        Ok(Search {
+            distances: vec![in alloc; u64::MAX; nodes]?,
+            arrivals: vec![in alloc; arrival; nodes]?,
+            reached: Vec::new(alloc),
+            settled: vec![in alloc; false; nodes]?,
+            left: vec![in alloc; 0; nodes]?,
+            left_standing: vec![in alloc; 0; nodes]?,
+            stack: Vec::new(alloc),
+            queue: Queue::new(alloc),
+        })
+    }
+
     /// Takes a path to a node that is shorter than what is known.
-    fn reach(
-        &mut self,
-        node: usize,
-        distance: u64,
-        arrival: Arrival,
-    ) -> Result<(), AllocError>
+    fn reach(&mut self, node: usize, distance: u64, arrival: Arrival) -> Result<(), AllocError>
         requires distances { node < length self.old.distances.items }
         requires arrivals { node < length self.old.arrivals.items }
         ensures tables { OnOk result (tables self.new ≡ record (tables self.old) {
-            distances = slice_set self.old.distances.items node distance;
-            arrivals = slice_set self.old.arrivals.items node arrival;
-            reached = self.new.reached.items;
+          distances = slice_set self.old.distances.items node distance;
+          arrivals = slice_set self.old.arrivals.items node arrival;
+          reached = self.new.reached.items;
         }) }
         ensures listed { OnOk result (AreListed self.old.distances.items self.old.reached.items
             → AreListed (slice_set self.old.distances.items node distance) self.new.reached.items) }
@@ -112,10 +130,10 @@ impl Search {
         requires left { length self.old.left.items ≡ length self.old.settled.items }
         requires left_standing { length self.old.left_standing.items ≡ length self.old.settled.items }
         ensures { OnOk result (tables self.new ≡ record (tables self.old) {
-            settled = slice_set self.old.settled.items node true;
-            left = slice_set self.old.left.items node (length (inner_at guests.now node));
-            left_standing = slice_set self.old.left_standing.items node (length (standing_at guests.now node));
-            stack = self.old.stack.items ++ node ∷ [];
+          settled = slice_set self.old.settled.items node true;
+          left = slice_set self.old.left.items node (length (inner_at guests.now node));
+          left_standing = slice_set self.old.left_standing.items node (length (standing_at guests.now node));
+          stack = self.old.stack.items ++ node ∷ [];
         }) }
     {
         self.stack.push(node)?;
@@ -475,5 +493,86 @@ impl Search {
             }
         }
         Ok(None)
+    }
+
+    /// Searches from the start, over tables at rest; the sink's distance, if a path leads to it.
+    pub fn run<L: Layout>(
+        &mut self,
+        meter: &mut Meter<L>,
+        potentials: &Potentials,
+        guests: &Guests,
+        start: usize,
+        sink: usize,
+    ) -> Result<Option<u64>, AllocError>
+        requires may { MaySearch (L.node_count meter.old.network.layout) meter.old.network.arcs
+            meter.old.network.flows potentials.now guests.now sink }
+        requires count { meter.old.count ≡ 0 }
+        requires start { start < length potentials.now }
+        requires rest { IsAtRest (length potentials.now) (tables self.old) }
+        ensures ends { IfOk result (λ found.
+            Ends found meter.old potentials.now guests.now start sink meter.new.count self.new) }
+        ensures network { meter.new.network ≡ meter.old.network }
+        ensures steps { meter.new.count ≤ 2 * length meter.old.network.arcs }
+    {
+        let arrival = Arrival {
+            arc: ArcNo::Forward(0),
+            before: start,
+            arcs: 0,
+        };
+        self.reach(start, 0, arrival)?;
+        if self.settle(meter, potentials, guests, start, 0, sink)? {
+            return Ok(Some(0));
+        }
+        let found = self.empty_queue(meter, potentials, guests, sink)?;
+        Ok(found)
+    }
+
+    /// Lowers each potential by what the node's distance lacks of the total, and forgets the distances.
+    pub fn forget(&mut self, potentials: &mut Potentials, total: u64)
+        requires left { IsLeft (length potentials.old) (tables self.old) }
+        requires low { (v : ℕ) → slice_index potentials.old v + total ≤ 2 ^ 52 }
+        ensures rest { IsAtRest (length potentials.old) (tables self.new) }
+        ensures lowered { (v : ℕ) → slice_index potentials.new v
+            ≡ lowered (slice_index potentials.old) (distance_at self.old.distances.items) total v }
+        ensures size { length potentials.new ≡ length potentials.old }
+    {
+        self.stack.clear();
+        self.queue.clear();
+        'nodes: while let Some(node) = self.reached.pop() {
+            potentials.lower(node, total.saturating_sub(self.distances[node]));
+            self.clear(node);
+        }
+    }
+
+    /// Forgets the distance of a node.
+    fn clear(&mut self, node: usize)
+        requires node { node < length self.old.distances.items }
+        requires settled { node < length self.old.settled.items }
+        ensures { tables self.new ≡ record (tables self.old) {
+          distances = slice_set self.old.distances.items node far;
+          settled = slice_set self.old.settled.items node false;
+        } }
+    {
+        self.distances[node] = u64::MAX;
+        self.settled[node] = false;
+    }
+
+    /// The path that the arrivals lead back over from a node.
+    pub fn trace(&self, alloc: Global, node: usize) -> Result<Vec<ArcNo>, AllocError>
+        requires inside { node < length self.now.arrivals.items }
+        requires back { LeadsBack self.now.arrivals.items node (arrival_at self.now.arrivals.items node).arcs }
+        ensures { IfOk result (λ p. p.items ≡ trace_to self.now.arrivals.items node) }
+    {
+        let mut path = Vec::new(alloc);
+        let mut here = node;
+        let mut left = self.arrivals[node].arcs;
+        'back: while left > 0 {
+            let last = self.arrivals[here];
+            path.push(last.arc)?;
+            here = last.before;
+            left -= 1;
+        }
+        path.reverse();
+        Ok(path)
     }
 }

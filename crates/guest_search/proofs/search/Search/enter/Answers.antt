@@ -19,6 +19,3 @@ stand-requires-clause-no_source g c = sym c.is_source.ensures ∙ c.if-is_source
 
 pub stand-requires-clause-stands : goal.stand-requires-clause-stands
 stand-requires-clause-stands g c = (c.requires.stands.0, ([], c.requires.stands.1))
-
-pub returns-in_ok-found-2-clause-goes : goal.returns-in_ok-found-2-clause-goes
-returns-in_ok-found-2-clause-goes g c = λ start s. c.in_ok-found-2.ensures.goes start [] s

@@ -35,7 +35,7 @@ turns-smaller g c =
     let most = c.turn.ensures.steps in
     let falls = c.in_ok-turn.ensures.falls in
     let less : 4 * (2 * length c.args.meter.now.network.arcs - c.turn.new.meter.count) + 2 * length c.turn.new.self.queue + length c.turn.new.self.stack.items
-        < 4 * (2 * length c.args.meter.now.network.arcs - c.turns.meter.count) + 2 * length c.turns.self.queue + length c.turns.self.stack.items = omega arith in
+    < 4 * (2 * length c.args.meter.now.network.arcs - c.turns.meter.count) + 2 * length c.turns.self.queue + length c.turns.self.stack.items = omega arith in
     less
 
 pub turns-preserved : goal.turns-preserved

@@ -58,7 +58,6 @@ returns-in_ok-found-in-Some-clause-goes g c = λ start s.
     let goes = rw network at c.in_ok-found-in-Some.ensures.goes in
     goes start after
 
-
 pub returns-in_ok-found-in-Some-clause-falls : goal.returns-in_ok-found-in-Some-clause-falls
 returns-in_ok-found-in-Some-clause-falls g c =
     let n = ap (λ (m : Counted g.row.L.Denot). m.count) c.look.ensures.counted in

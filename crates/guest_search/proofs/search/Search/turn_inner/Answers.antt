@@ -17,9 +17,11 @@ step-requires-clause-stands g c =
     let inside = top_inside _ _ _ _ _ _ _ c.requires.stands.1 c.requires.top.1 in
     let size = c.requires.stands.1.left_size in
     let is = c.index-left.ensures ∙ get_or_default c.args.self.now.left.items c.args.node c.index-left.result.now 0 (omega arith) in
-    let some = c.requires.left in
-    (c.requires.stands.0, rw c.inner.ensures (inner_turns _ _ _ _ _ c.requires.top.0 c.args.node c.index-left.result.now _ c.requires.stands.1 c.requires.may.guests c.requires.top.1
-    c.index-left.ensures (omega arith) refl).0)
+    let some = c.requires.left in (
+      c.requires.stands.0,
+      rw c.inner.ensures (inner_turns _ _ _ _ _ c.requires.top.0 c.args.node c.index-left.result.now _ c.requires.stands.1 c.requires.may.guests c.requires.top.1
+          c.index-left.ensures (omega arith) refl).0,
+    )
 
 pub step-requires-clause-leaves : goal.step-requires-clause-leaves
 step-requires-clause-leaves g c =
