@@ -1,9 +1,8 @@
 -- What a search that ended leaves for its callers.
-use Rattle.std.proofs.Common.{◌≡◌, ℕ, ◌<◌, ◌≤◌, List, [], ◌∷◌, length, Option, Some, None, sym, subst, refl, arith}
+use Rattle.std.proofs.Common.{◌≡◌, ℕ, ◌<◌, List, [], ◌∷◌, length, Option, Some, None, sym, subst, refl, arith}
 use Rattle.std.proofs.lemmas.Bool.{false≢true}
 use Rattle.std.specs.Prelude.{slice_index, IsSome}
 use Rattle.flow_network.specs.Flow.{Counted}
-use Rattle.flow_network.specs.declared.arcs.ArcNo.{ArcNo}
 use Rattle.guest_search.specs.declared.search.Search.{Search}
 use Rattle.guest_search.specs.Finding.{IsTotal, IsFound}
 use Rattle.guest_search.specs.Guests.{GuestLists}
@@ -23,7 +22,8 @@ pub record Finds {L : Type 0} (m : Counted L) (depths : List ℕ) (start sink : 
   pub size : length s.distances.items ≡ length depths
   pub kept : IsFound (tables s) sink found
 
-pub finds : {L : Type 0} (m : Counted L) (depths : List ℕ) (g : GuestLists) (start sink count : ℕ) (s : Search)
+pub finds : {L : Type 0} (m : Counted L) (depths : List ℕ) (g : GuestLists) (start sink count : ℕ)
+    (s : Search)
     (found : Option ℕ) → sink < length depths → Ends found m depths g start sink count s
     → Finds m depths start sink s found
 finds m depths g start sink count s (Some total) inside e =
@@ -41,7 +41,8 @@ finds m depths g start sink count s (Some total) inside e =
       size = size;
       kept = record {
         left = subst (λ n. IsLeft n (tables s)) (sym size)
-            (is_left (problem m depths g start sink) (length depths) total count (sink ∷ []) e.0 (tables s) r);
+            (is_left (problem m depths g start sink) (length depths) total count (sink ∷ []) e.0
+            (tables s) r);
         sink_in = omega arith;
         back = λ _. leads_back (problem m depths g start sink) (length depths) total (tables s) r.reached
             _ sink near refl;
@@ -49,7 +50,8 @@ finds m depths g start sink count s (Some total) inside e =
     }
 finds m depths g start sink count s None inside e =
     let r = e.1.0 in
-    let end = ends_with_none (problem m depths g start sink) (length depths) e.0 count (tables s) r e.1.1.0 e.1.1.1 in
+    let end = ends_with_none (problem m depths g start sink) (length depths) e.0 count
+    (tables s) r e.1.1.0 e.1.1.1 in
     let size = r.reached.size in
     record {
       total = end.1;
@@ -65,7 +67,8 @@ finds m depths g start sink count s None inside e =
     }
 
 -- the end of a search depends on the network alone
-pub ends_over : {L : Type 0} (m m' : Counted L) (depths : List ℕ) (g : GuestLists) (start sink count : ℕ) (s : Search)
+pub ends_over : {L : Type 0} (m m' : Counted L) (depths : List ℕ) (g : GuestLists) (start sink count : ℕ)
+    (s : Search)
     (found : Option ℕ) → m.network ≡ m'.network → Ends found m depths g start sink count s
     → Ends found m' depths g start sink count s
 ends_over m m' depths g start sink count s (Some total) e t = (t.0, rw (← e) t.1)

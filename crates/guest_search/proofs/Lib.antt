@@ -3,6 +3,10 @@ pub mod Lowering
 pub mod ToSink
 -- the search: its moves, its ends
 pub mod Listing
+pub mod Arriving
+pub mod Sums
+pub mod Cursors
+pub mod Settled
 pub mod Searching
 pub mod SearchEnds
 pub mod Finds

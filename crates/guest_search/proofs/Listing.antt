@@ -1,9 +1,7 @@
 -- The nodes that a search reached, as a list.
-use Rattle.std.proofs.Common.{◌≡◌, ℕ, zero, suc, ◌+◌, ◌-◌, ◌<◌, ◌≤◌, Bool, true, false, List, [], ◌∷◌, ◌++◌, length, get_or, set, Contains, sym, refl, ap, ◌∙◌, inl, inr, arith, get_or-set_same, get_or-set_other, length-set}
+use Rattle.std.proofs.Common.{◌≡◌, ℕ, zero, suc, ◌+◌, ◌-◌, ◌<◌, ◌≤◌, false, List, [], ◌∷◌, ◌++◌, length, get_or, set, sym, refl, ap, ◌∙◌, inl, inr, arith, get_or-set_same, get_or-set_other, length-set}
 use Rattle.std.proofs.lemmas.Bool.{cases_eq, cases_lt, cases_Bool, false≢true}
-use Rattle.std.proofs.lemmas.List.{get_or_past}
 use Rattle.std.proofs.lemmas.List.Elements.{Contains-append_left, Contains-push, Contains-push_cases}
-use Rattle.flow_network.specs.declared.arcs.ArcNo.{ArcNo}
 use Rattle.guest_search.specs.declared.arrival.Arrival.{Arrival}
 use Rattle.guest_search.specs.Searching.{Tables, distance_at, arrival_at, AreListed, IsAtRest, IsLeft, LeadsBack, trace_of}
 use Rattle.guest_search.specs.ToSink.{far}
@@ -31,12 +29,14 @@ reached_first distances listed v x inside t = record {
   ]);
   all = λ w l. elim (cases_eq w v) [
     | inl e ↦ rw e (Contains-push listed v)
-    | inr n ↦ Contains-append_left listed (v ∷ []) w (t.all w (rw (get_or-set_other distances v w x far n) at l))
+    | inr n ↦ Contains-append_left listed (v ∷ []) w
+        (t.all w (rw (get_or-set_other distances v w x far n) at l))
   ];
 }
 
 -- the last node of the list is forgotten
-module _ (nodes : ℕ) (t : Tables) (left : IsLeft nodes t) (rest : List ℕ) (v : ℕ) (last : t.reached ≡ rest ++ v ∷ []) where
+module _ (nodes : ℕ) (t : Tables) (left : IsLeft nodes t) (rest : List ℕ) (v : ℕ)
+    (last : t.reached ≡ rest ++ v ∷ []) where
   pub last_inside : v < nodes
   last_inside =
       let l = left.listed.inside v (rw last (Contains-push rest v)) in let size = left.size in omega arith
@@ -50,7 +50,8 @@ module _ (nodes : ℕ) (t : Tables) (left : IsLeft nodes t) (rest : List ℕ) (v
       let inside = last_inside in
       let size = left.size in
       let size_settled = left.settled_size in
-      let here : distance_at (set t.distances v far) v ≡ far = get_or-set_same t.distances v far far (omega arith) in
+      let here : distance_at (set t.distances v far) v ≡ far = get_or-set_same t.distances v far far
+      (omega arith) in
       let unset : get_or (set t.settled v false) v false ≡ false =
       get_or-set_same t.settled v false false (omega arith) in
       record {
@@ -87,7 +88,8 @@ module _ (nodes : ℕ) (t : Tables) (left : IsLeft nodes t) (rest : List ℕ) (v
 pub rests : (nodes : ℕ) (t : Tables) → IsLeft nodes t → t.reached ≡ [] → t.stack ≡ [] → t.queue ≡ []
     → IsAtRest nodes t
 rests nodes t left none stack queue =
-    let away : (v : ℕ) → distance_at t.distances v ≡ far = λ v. elim (cases_lt (distance_at t.distances v) far) [
+    let away : (v : ℕ) → distance_at t.distances v ≡ far = λ v.
+    elim (cases_lt (distance_at t.distances v) far) [
       | inl near ↦ absurd (nothing_in v (rw none at (left.listed.all v near)))
       | inr past ↦ (let most = left.within v in omega arith)
     ] in
@@ -116,12 +118,15 @@ back_one arrivals v zero l b = absurd (omega arith)
 back_one arrivals v (suc n) l b = let e : suc n - 1 ≡ n = omega arith in rw e (b.0, b.1, refl)
 
 -- the depth of a node is lowered as it is forgotten
-pub lowers_one : (depths distances : List ℕ) (v total : ℕ) → v < length depths → v < length distances → total ≤ far
+pub lowers_one : (depths distances : List ℕ) (v total : ℕ) → v < length depths → v < length distances
+    → total ≤ far
     → (w : ℕ) → get_or (set depths v (get_or depths v 0 + (total - distance_at distances v))) w 0
     + (total - distance_at (set distances v far) w) ≡ get_or depths w 0 + (total - distance_at distances w)
 lowers_one depths distances v total inside inside_too most w = elim (cases_eq w v) [
-  | inl e ↦ (let depth = get_or-set_same depths v (get_or depths v 0 + (total - distance_at distances v)) 0 inside in
+  | inl e ↦ (let depth = get_or-set_same depths v (get_or depths v 0 + (total - distance_at distances v)) 0
+      inside in
       let away = get_or-set_same distances v far far inside_too in rw e (omega arith))
-  | inr n ↦ (let depth = get_or-set_other depths v w (get_or depths v 0 + (total - distance_at distances v)) 0 n in
+  | inr n ↦ (let depth = get_or-set_other depths v w (get_or depths v 0 + (total - distance_at distances v)) 0
+      n in
       let same = get_or-set_other distances v w far far n in omega arith)
 ]

@@ -8,7 +8,8 @@ use Rattle.flow_network.specs.Flows.{arc_at, tail_of, head_of, IsResidual, IsPat
 use Rattle.guest_search.specs.Lowering.{lowered, IsCovered, AreTight, AreSteps, LoweringLaw, TightLaw, PushLaw, LiftLaw}
 
 -- the end of a covered arc lacks no less of the total than its start does, but for the arc's cost
-lacks : (arcs : List FlowArc) (flows : List ℕ) (h d : ℕ → ℕ) (total : ℕ) → IsCovered arcs flows h d total → (a : ArcNo) → IsResidual arcs flows a
+lacks : (arcs : List FlowArc) (flows : List ℕ) (h d : ℕ → ℕ) (total : ℕ) → IsCovered arcs flows h d total
+    → (a : ArcNo) → IsResidual arcs flows a
     → total - d (tail_of arcs a) ≤ (total - d (head_of arcs a)) + reduced_cost arcs h a
 lacks arcs flows h d total covered a r = elim (cases_lt (d (tail_of arcs a)) total) [
   | inr far ↦ omega arith
@@ -37,12 +38,14 @@ tight_law arcs flows h d total (Reverse k) none r step within =
 
 pub push_law : PushLaw
 push_law arcs flows h [] tight none = none
-push_law arcs flows h ((Forward i) ∷ path) tight none = push_law arcs (shifted flows (Forward i)) h path tight.1 (λ k l.
+push_law arcs flows h ((Forward i) ∷ path) tight none = push_law arcs (shifted flows (Forward i)) h path
+    tight.1 (λ k l.
     elim (cases_eq k i) [
       | inl s ↦ ((λ _. rw s (let e = tight.0 in omega arith)), (λ _. rw s (let e = tight.0 in omega arith)))
       | inr s ↦ rw (get_or-set_other flows i k (get_or flows i 0 + 1) 0 s) (none k l)
     ])
-push_law arcs flows h ((Reverse i) ∷ path) tight none = push_law arcs (shifted flows (Reverse i)) h path tight.1 (λ k l.
+push_law arcs flows h ((Reverse i) ∷ path) tight none = push_law arcs (shifted flows (Reverse i)) h path
+    tight.1 (λ k l.
     elim (cases_eq k i) [
       | inl s ↦ ((λ _. rw s (let e = tight.0 in omega arith)), (λ _. rw s (let e = tight.0 in omega arith)))
       | inr s ↦ rw (get_or-set_other flows i k (get_or flows i 0 - 1) 0 s) (none k l)
@@ -60,7 +63,8 @@ lift_law arcs flows h h' s none same closed unused own k l =
     ]
 
 -- each step of a path to a node within the total is tight once the depths are lowered
-pub steps_tight : (arcs : List FlowArc) (flows : List ℕ) (h d : ℕ → ℕ) (total : ℕ) (path : List ArcNo) (u v : ℕ)
+pub steps_tight : (arcs : List FlowArc) (flows : List ℕ) (h d : ℕ
+    → ℕ) (total : ℕ) (path : List ArcNo) (u v : ℕ)
     → NoNegative arcs flows h → IsPath arcs flows path u v → AreSteps arcs h d path → d v ≤ total
     → AreTight arcs (lowered h d total) path × (d u ≤ d v)
 steps_tight arcs flows h d total [] u v none p steps within = (tt, rw p (omega arith))

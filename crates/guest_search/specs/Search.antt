@@ -21,14 +21,23 @@ tables s = record {
 }
 
 abbrev pub problem : {L : Type 0} → Counted L → List ℕ → GuestLists → ℕ → ℕ → Problem
-problem m depths g start sink = record { arcs = m.network.arcs; flows = m.network.flows; depths = depths; guests = g; start = start; sink = sink }
+problem m depths g start sink = record {
+  arcs = m.network.arcs;
+  flows = m.network.flows;
+  depths =
+      depths;
+  guests = g;
+  start = start;
+  sink = sink;
+}
 
 abbrev pub option_list : Option ℕ → List ℕ
 option_list None = []
 option_list (Some v) = v ∷ []
 
 -- what a search asks of the network, of its potentials and of the lists
-pub record MaySearch (nodes : ℕ) (arcs : List FlowArc) (flows : List ℕ) (depths : List ℕ) (g : GuestLists) (sink : ℕ) : Type 0 where
+pub record MaySearch (nodes : ℕ) (arcs : List FlowArc) (flows : List ℕ) (depths : List ℕ) (g : GuestLists)
+    (sink : ℕ) : Type 0 where
   pub priced : IsPriced nodes arcs flows depths
   pub sized : AreSized (length depths) g
   pub guests : AreGuests arcs flows sink g
@@ -36,15 +45,18 @@ pub record MaySearch (nodes : ℕ) (arcs : List FlowArc) (flows : List ℕ) (dep
 
 -- where a move comes to: the sink is entered next, or the search goes on
 abbrev pub Comes : Bool → Problem → ℕ → ℕ → ℕ → List ArcNo → Tables → Type 0
-Comes true p nodes level count rest t = (others : List ArcNo) × IsSearching p nodes level count (p.sink ∷ []) others t
+Comes true p nodes level count rest t = (others : List ArcNo) × IsSearching p nodes level count
+    (p.sink ∷ []) others t
 Comes false p nodes level count rest t = IsSearching p nodes level count [] rest t
 
 -- a search between two nodes of a network that is looked at, of potentials and of lists
-abbrev pub Searches : {L : Type 0} → Counted L → List ℕ → GuestLists → ℕ → ℕ → ℕ → ℕ → List ℕ → List ArcNo → Search → Type 0
+abbrev pub Searches : {L : Type 0} → Counted L → List ℕ → GuestLists → ℕ → ℕ → ℕ → ℕ → List ℕ → List ArcNo
+    → Search → Type 0
 Searches m depths g start sink level count entering rest s =
     IsSearching (problem m depths g start sink) (length depths) level count entering rest (tables s)
 
-abbrev pub ComesTo : {L : Type 0} → Bool → Counted L → List ℕ → GuestLists → ℕ → ℕ → ℕ → ℕ → List ArcNo → Search → Type 0
+abbrev pub ComesTo : {L : Type 0} → Bool → Counted L → List ℕ → GuestLists → ℕ → ℕ → ℕ → ℕ → List ArcNo
+    → Search → Type 0
 ComesTo found m depths g start sink level count rest s =
     Comes found (problem m depths g start sink) (length depths) level count rest (tables s)
 
@@ -68,7 +80,8 @@ Stands m depths g sink level entering t = (start : ℕ) × ((rest : List ArcNo)
 -- Each look pays for the entry and the node that it may bring: so the search ends.
 abbrev pub Spends : ℕ → ℕ → Tables → ℕ → Tables → Type 0
 Spends extra count t count' t' =
-    2 * length t'.queue + length t'.stack + 4 * count ≤ 2 * length t.queue + length t.stack + 4 * count' + extra
+    2 * length t'.queue + length t'.stack + 4 * count
+    ≤ 2 * length t.queue + length t.stack + 4 * count' + extra
 
 -- and where it brings both, some of the pay is left
 abbrev pub Falls : ℕ → Tables → ℕ → Tables → Type 0

@@ -1,5 +1,5 @@
--- What a search from one node to another keeps. A settled node stands on the stack while the cursors leave some of its
--- arcs; a node that was reached and is not settled is entered next, or waits in the queue.
+-- What a search from one node to another keeps. A settled node stands on the stack while the cursors leave
+-- some of its arcs; a node that was reached and is not settled is entered next, or waits in the queue.
 use Rattle.std.specs.Prelude.{◌≡◌, ℕ, ◌+◌, ◌*◌, ◌^◌, ◌<◌, ◌≤◌, Bool, true, false, List, [], ◌∷◌, ◌++◌, zero, suc, length, Contains, slice_index, slice_index_or, ◌⊎◌}
 use Rattle.flow_network.specs.declared.arcs.FlowArc.{FlowArc}
 use Rattle.flow_network.specs.declared.arcs.ArcNo.{ArcNo}
@@ -44,7 +44,8 @@ abbrev pub rc : Problem → ArcNo → ℕ
 rc p a = reduced_cost p.arcs (slice_index p.depths) a
 
 -- the node was reached from a settled one
-pub record IsArrival (p : Problem) (distances : List ℕ) (arrivals : List Arrival) (settled : List Bool) (v : ℕ) (last : Arrival) : Type 0 where
+pub record IsArrival (p : Problem) (distances : List ℕ) (arrivals : List Arrival) (settled : List Bool)
+    (v : ℕ) (last : Arrival) : Type 0 where
   pub residual : IsResidual p.arcs p.flows last.arc
   pub leaves : tail_of p.arcs last.arc ≡ last.before
   pub comes : head_of p.arcs last.arc ≡ v
@@ -57,22 +58,28 @@ abbrev pub settled_number : List Bool → ℕ
 settled_number settled = marked_sum settled 0 (λ _. 1)
 
 -- distances with their reasons
-pub record AreReached (p : Problem) (nodes level : ℕ) (distances : List ℕ) (arrivals : List Arrival) (settled : List Bool) : Type 0 where
+pub record AreReached (p : Problem) (nodes level : ℕ) (distances : List ℕ) (arrivals : List Arrival)
+    (settled : List Bool) : Type 0 where
   pub size : length distances ≡ nodes
   pub arrivals_size : length arrivals ≡ nodes
   pub settled_size : length settled ≡ nodes
   pub level_in : level < far
   pub within : (v : ℕ) → distance_at distances v ≤ far
   pub begun : (distance_at distances p.start ≡ 0) × ((arrival_at arrivals p.start).arcs ≡ 0)
-  pub sound : (v : ℕ) → distance_at distances v < far → (v ≡ p.start) ⊎ IsArrival p distances arrivals settled v (arrival_at arrivals v)
+  pub sound : (v : ℕ) → distance_at distances v < far
+      → (v ≡ p.start) ⊎ IsArrival p distances arrivals settled v (arrival_at arrivals v)
   pub low : (u : ℕ) → is_settled settled u ≡ true → distance_at distances u ≤ level
-  pub bounded : (v : ℕ) → distance_at distances v < far → ((arrival_at arrivals v).arcs ≤ settled_number settled)
-      × (distance_at distances v + slice_index p.depths p.start ≤ slice_index p.depths v + (arrival_at arrivals v).arcs * 2 ^ 39)
+  pub bounded : (v : ℕ) → distance_at distances v < far
+      → ((arrival_at arrivals v).arcs ≤ settled_number settled)
+      × (distance_at distances v + slice_index p.depths p.start
+      ≤ slice_index p.depths v + (arrival_at arrivals v).arcs * 2 ^ 39)
   pub sooner : (u : ℕ) → is_settled settled u ≡ true → (arrival_at arrivals u).arcs < settled_number settled
 
 -- what was reached and is not settled; the nodes of entering are settled next
-pub record AreWaiting (level : ℕ) (distances : List ℕ) (settled : List Bool) (entering : List ℕ) (queue : List (ℕ × ℕ)) : Type 0 where
-  pub next : (v : ℕ) → Contains entering v → (is_settled settled v ≡ false) × (distance_at distances v ≡ level)
+pub record AreWaiting (level : ℕ) (distances : List ℕ) (settled : List Bool) (entering : List ℕ)
+    (queue : List (ℕ × ℕ)) : Type 0 where
+  pub next : (v : ℕ) → Contains entering v
+      → (is_settled settled v ≡ false) × (distance_at distances v ≡ level)
   pub waiting : (v : ℕ) → is_settled settled v ≡ false → distance_at distances v < far
       → Contains entering v ⊎ Contains queue (distance_at distances v, v)
   pub queued : (c v : ℕ) → Contains queue (c, v) → (level ≤ c) × (distance_at distances v ≤ c) × (c < far)
@@ -82,17 +89,21 @@ pub record AreListed (distances : List ℕ) (listed : List ℕ) : Type 0 where
   pub inside : (v : ℕ) → Contains listed v → v < length distances
   pub all : (v : ℕ) → distance_at distances v < far → Contains listed v
 
--- Each residual arc that leaves a settled node was looked at, or is still to be: as one of rest, or by a cursor.
+-- Each residual arc that leaves a settled node was looked at, or is still to be: as one of rest, or by a
+-- cursor.
 pub record AreCovered (p : Problem) (level : ℕ) (rest : List ArcNo) (t : Tables) : Type 0 where
-  pub on_stack : (u : ℕ) → Contains t.stack u → (is_settled t.settled u ≡ true) × (distance_at t.distances u ≡ level)
+  pub on_stack : (u : ℕ) → Contains t.stack u
+      → (is_settled t.settled u ≡ true) × (distance_at t.distances u ≡ level)
   pub cursors : (u : ℕ) → Contains t.stack u → (slice_index t.left u ≤ length (inner_at p.guests u))
       × (slice_index t.left_standing u ≤ length (standing_at p.guests u))
-  pub of_rest : (a : ArcNo) → IsIn a rest → (arc_index a < length p.arcs) × (is_settled t.settled (tail_of p.arcs a) ≡ true)
+  pub of_rest : (a : ArcNo) → IsIn a rest
+      → (arc_index a < length p.arcs) × (is_settled t.settled (tail_of p.arcs a) ≡ true)
       × (distance_at t.distances (tail_of p.arcs a) ≡ level)
   pub covered : (a : ArcNo) → IsResidual p.arcs p.flows a → is_settled t.settled (tail_of p.arcs a) ≡ true
       → (distance_at t.distances (head_of p.arcs a) ≤ distance_at t.distances (tail_of p.arcs a) + rc p a)
       ⊎ (IsIn a rest ⊎ (Contains t.stack (tail_of p.arcs a)
-      × IsIn a (first_ways p.guests (tail_of p.arcs a) (slice_index t.left (tail_of p.arcs a)) (slice_index t.left_standing (tail_of p.arcs a)))))
+      × IsIn a (first_ways p.guests (tail_of p.arcs a) (slice_index t.left (tail_of p.arcs a))
+      (slice_index t.left_standing (tail_of p.arcs a)))))
 
 -- Looks that were made, and those still to be made, are no more than the arcs that leave settled nodes.
 abbrev pub AreFewLooks : Problem → ℕ → List ArcNo → Tables → Type 0
@@ -101,7 +112,8 @@ AreFewLooks p count rest t =
     ≤ marked_sum t.settled 0 (λ u. length (leaving_of p.arcs u))
 
 -- in the middle of a search, after count looks
-pub record IsSearching (p : Problem) (nodes level count : ℕ) (entering : List ℕ) (rest : List ArcNo) (t : Tables) : Type 0 where
+pub record IsSearching (p : Problem) (nodes level count : ℕ) (entering : List ℕ) (rest : List ArcNo)
+    (t : Tables) : Type 0 where
   pub left_size : length t.left ≡ nodes
   pub left_standing_size : length t.left_standing ≡ nodes
   pub reached : AreReached p nodes level t.distances t.arrivals t.settled
@@ -143,7 +155,8 @@ LeadsBack arrivals v (suc n) = (v < length arrivals) × LeadsBack arrivals (arri
 -- the arcs that lead back from a node, so many
 abbrev pub trace_of : List Arrival → ℕ → ℕ → List ArcNo
 trace_of arrivals v zero = []
-trace_of arrivals v (suc n) = trace_of arrivals (arrival_at arrivals v).before n ++ (arrival_at arrivals v).arc ∷ []
+trace_of arrivals v (suc n) = trace_of arrivals (arrival_at arrivals v).before n ++
+    (arrival_at arrivals v).arc ∷ []
 
 abbrev pub trace_to : List Arrival → ℕ → List ArcNo
 trace_to arrivals v = trace_of arrivals v (arrival_at arrivals v).arcs

@@ -13,7 +13,8 @@ LeadsToSource arcs is_source (Forward k) = ⊥
 LeadsToSource arcs is_source (Reverse k) = slice_index_or is_source (arc_at arcs k).from false ≡ true
 
 -- of some residual arcs one that leads to the sink, if there is one, and all others but those back to sources
-pub record AreWays (arcs : List FlowArc) (is_source : List Bool) (sink : ℕ) (all : List ArcNo) (exit : Option ℕ)
+pub record AreWays (arcs : List FlowArc) (is_source : List Bool) (sink : ℕ) (all : List ArcNo)
+    (exit : Option ℕ)
     (inner : List ArcNo) : Type 0 where
   pub own : (a : ArcNo) → IsIn a (exit_arcs exit ++ inner) → IsIn a all
   pub each : (a : ArcNo) → IsIn a all → IsIn a (exit_arcs exit ++ inner) ⊎ LeadsToSource arcs is_source a

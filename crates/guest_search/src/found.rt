@@ -47,7 +47,12 @@ impl Model for Found {
 
     ghost Value = { Finding };
 
-    ghost view = { λ f. record { distances = f.search.distances.items; total = f.total; path = trace_to f.search.arrivals.items f.sink } };
+    ghost view = { λ f. record {
+      distances = f.search.distances.items;
+      total = f.total;
+      path =
+          trace_to f.search.arrivals.items f.sink;
+    } };
 
     ghost invariant = { λ f. IsFound (tables f.search) f.sink f.total };
 }
@@ -61,9 +66,9 @@ impl Buffers {
         Ok(Buffers { search })
     }
 
-    /// Searches for a least path from the start to the sink, looking at each arc at most once in each direction
-    /// (Dijkstra's search over reduced costs, of which those that are 0 are followed depth first). Only memory can
-    /// fail.
+    /// Searches for a least path from the start to the sink, looking at each arc at most once in each
+    /// direction (Dijkstra's search over reduced costs, of which those that are 0 are followed depth first).
+    /// Only memory can fail.
     pub fn search<L: Layout>(
         self,
         meter: &mut Meter<L>,
@@ -82,7 +87,8 @@ impl Buffers {
         ensures total { IfOk result (λ f. IsTotal f.total (distance_at f.distances sink)) }
         ensures searched { IfOk result (λ f. IsSearched meter.old.network.arcs meter.old.network.flows
             (slice_index potentials.now) start sink (distance_at f.distances)) }
-        ensures path { IfOk result (λ f. IsSome f.total → IsTrace meter.old.network.arcs meter.old.network.flows
+        ensures path { IfOk result (λ f. IsSome f.total
+            → IsTrace meter.old.network.arcs meter.old.network.flows
             (slice_index potentials.now) start sink (distance_at f.distances) f.path) }
         ensures network { meter.new.network ≡ meter.old.network }
         ensures steps { meter.new.count ≤ 2 * length meter.old.network.arcs }

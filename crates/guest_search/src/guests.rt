@@ -56,7 +56,8 @@ impl Standing {
 }
 
 /// For each node that is no source the residual arcs that leave it and end at no source, an arc to the sink
-/// among them apart, and the arcs of the sources whose units stand at it. A source's own arcs are the network's.
+/// among them apart, and the arcs of the sources whose units stand at it. A source's own arcs are the
+/// network's.
 #[derive(Drop)]
 pub struct Guests {
     is_source: Vec<bool>,
@@ -70,7 +71,13 @@ impl Model for Guests {
 
     ghost Value = { GuestLists };
 
-    ghost view = { λ g. record { is_source = g.is_source.items; exits = g.exits.items; inner = g.inner.items; standing = g.standing.items } };
+    ghost view = { λ g. record {
+      is_source = g.is_source.items;
+      exits = g.exits.items;
+      inner =
+          g.inner.items;
+      standing = g.standing.items;
+    } };
 }
 
 impl Guests {
@@ -150,8 +157,8 @@ struct Ways {
 }
 
 impl Ways {
-    /// One arc more: it is the exit where it is the first to the sink, and it is left out where it leads back to a
-    /// source.
+    /// One arc more: it is the exit where it is the first to the sink, and it is left out where it leads
+    /// back to a source.
     fn put(
         &mut self,
         arcs: &[FlowArc],

@@ -91,7 +91,8 @@ impl Search {
         requires arrivals { length self.old.arrivals.items ≡ length potentials.now }
         ensures searching { IfOk result (λ found. (g : GuestLists) (start sink : ℕ) (rest : List ArcNo)
             → Searches meter.old potentials.now g start sink level meter.old.count [] (arc ∷ rest) self.old
-            → Searches meter.old potentials.now g start sink level meter.new.count (option_list found) rest self.new) }
+            → Searches meter.old potentials.now g start sink level meter.new.count (option_list found) rest
+            self.new) }
         ensures head { IfOk result (λ found. IfSome found (λ v. v ≡ head_of meter.old.network.arcs arc)) }
         ensures counted { meter.new ≡ record meter.old { count = meter.old.count + 1 } }
         ensures stack { OnOk result (self.new.stack.items ≡ self.old.stack.items) }
@@ -157,13 +158,17 @@ impl Search {
             meter.old.network.flows potentials.now guests.now sink }
         requires node { node < length potentials.now }
         requires no_source { source_at guests.now node ≡ false }
-        requires stands { Stands meter.old potentials.now guests.now sink level (node ∷ []) (tables self.old) }
+        requires stands { Stands meter.old potentials.now guests.now sink level (node ∷ [])
+            (tables self.old) }
         ensures goes { IfOk result (λ found. (start : ℕ) (rest : List ArcNo)
-            → Searches meter.old potentials.now guests.now start sink level meter.old.count (node ∷ []) rest self.old
-            → ComesTo found meter.old potentials.now guests.now start sink level meter.new.count rest self.new) }
+            → Searches meter.old potentials.now guests.now start sink level meter.old.count
+            (node ∷ []) rest self.old
+            → ComesTo found meter.old potentials.now guests.now start sink level meter.new.count rest
+            self.new) }
         ensures network { meter.new.network ≡ meter.old.network }
         ensures steps { meter.new.count ≤ 2 * length meter.old.network.arcs }
-        ensures spends { OnOk result (Spends 1 meter.old.count (tables self.old) meter.new.count (tables self.new)) }
+        ensures spends { OnOk result (Spends 1 meter.old.count (tables self.old) meter.new.count
+            (tables self.new)) }
         ensures counted { meter.old.count ≤ meter.new.count }
     {
         if node == sink {
@@ -179,8 +184,8 @@ impl Search {
         }
     }
 
-    /// Looks at an arc that leads to no source, and settles its end where that costs nothing; whether the sink is
-    /// entered next.
+    /// Looks at an arc that leads to no source, and settles its end where that costs nothing; whether the
+    /// sink is entered next.
     fn pass<L: Layout>(
         &mut self,
         meter: &mut Meter<L>,
@@ -195,13 +200,18 @@ impl Search {
             meter.old.network.flows potentials.now guests.now sink }
         requires leaves { tail_of meter.old.network.arcs arc ≡ node }
         requires no_source { source_at guests.now (head_of meter.old.network.arcs arc) ≡ false }
-        requires stands { (start : ℕ) × ((rest : List ArcNo) × Searches meter.old potentials.now guests.now start sink level meter.old.count [] (arc ∷ rest) self.old) }
+        requires stands { (start : ℕ)
+            × ((rest : List ArcNo) × Searches meter.old potentials.now guests.now start sink level
+            meter.old.count [] (arc ∷ rest) self.old) }
         ensures goes { IfOk result (λ found. (start : ℕ) (rest : List ArcNo)
-            → Searches meter.old potentials.now guests.now start sink level meter.old.count [] (arc ∷ rest) self.old
-            → ComesTo found meter.old potentials.now guests.now start sink level meter.new.count rest self.new) }
+            → Searches meter.old potentials.now guests.now start sink level meter.old.count []
+            (arc ∷ rest) self.old
+            → ComesTo found meter.old potentials.now guests.now start sink level meter.new.count rest
+            self.new) }
         ensures network { meter.new.network ≡ meter.old.network }
         ensures steps { meter.new.count ≤ 2 * length meter.old.network.arcs }
-        ensures spends { OnOk result (Spends 0 meter.old.count (tables self.old) meter.new.count (tables self.new)) }
+        ensures spends { OnOk result (Spends 0 meter.old.count (tables self.old) meter.new.count
+            (tables self.new)) }
         ensures counted { meter.old.count ≤ meter.new.count }
         ensures looked { OnOk result (meter.old.count < meter.new.count) }
     {
@@ -229,14 +239,17 @@ impl Search {
         requires node { node < length potentials.now }
         requires source { source_at guests.now node ≡ true }
         requires not_sink { node ≡ sink → ⊥ }
-        requires stands { (start : ℕ) × Searches meter.old potentials.now guests.now start sink level meter.old.count (node ∷ []) [] self.old }
+        requires stands { (start : ℕ) × Searches meter.old potentials.now guests.now start sink level
+            meter.old.count (node ∷ []) [] self.old }
         ensures goes { IfOk result (λ found. (start : ℕ)
-            → Searches meter.old potentials.now guests.now start sink level meter.old.count (node ∷ []) [] self.old
+            → Searches meter.old potentials.now guests.now start sink level meter.old.count
+            (node ∷ []) [] self.old
             → ComesTo found meter.old potentials.now guests.now start sink level meter.new.count [] self.new) }
         ensures network { meter.new.network ≡ meter.old.network }
         ensures steps { meter.new.count ≤ 2 * length meter.old.network.arcs }
         ensures counted { meter.old.count ≤ meter.new.count }
-        ensures spends { OnOk result (Spends 0 meter.old.count (tables self.old) meter.new.count (tables self.new)) }
+        ensures spends { OnOk result (Spends 0 meter.old.count (tables self.old) meter.new.count
+            (tables self.new)) }
     {
         self.settled[node] = true;
         self.left[node] = 0;
@@ -249,8 +262,8 @@ impl Search {
         Ok(false)
     }
 
-    /// Settles the node that is entered: a source looks over its arcs, another stands on the stack; whether the sink
-    /// is entered next.
+    /// Settles the node that is entered: a source looks over its arcs, another stands on the stack; whether
+    /// the sink is entered next.
     fn enter<L: Layout>(
         &mut self,
         meter: &mut Meter<L>,
@@ -264,13 +277,16 @@ impl Search {
             meter.old.network.flows potentials.now guests.now sink }
         requires node { node < length potentials.now }
         requires stands { (start : ℕ)
-            × Searches meter.old potentials.now guests.now start sink level meter.old.count (node ∷ []) [] self.old }
+            × Searches meter.old potentials.now guests.now start sink level meter.old.count
+            (node ∷ []) [] self.old }
         ensures goes { IfOk result (λ found. (start : ℕ)
-            → Searches meter.old potentials.now guests.now start sink level meter.old.count (node ∷ []) [] self.old
+            → Searches meter.old potentials.now guests.now start sink level meter.old.count
+            (node ∷ []) [] self.old
             → ComesTo found meter.old potentials.now guests.now start sink level meter.new.count [] self.new) }
         ensures network { meter.new.network ≡ meter.old.network }
         ensures steps { meter.new.count ≤ 2 * length meter.old.network.arcs }
-        ensures spends { OnOk result (Spends 1 meter.old.count (tables self.old) meter.new.count (tables self.new)) }
+        ensures spends { OnOk result (Spends 1 meter.old.count (tables self.old) meter.new.count
+            (tables self.new)) }
     {
         if guests.is_source(node) {
             let found = self.scan(meter, potentials, guests, node, level, sink)?;
@@ -280,8 +296,8 @@ impl Search {
         Ok(found)
     }
 
-    /// Looks at an arc that leaves a node on the stack, and settles its end where that costs nothing; whether the
-    /// sink is entered next.
+    /// Looks at an arc that leaves a node on the stack, and settles its end where that costs nothing;
+    /// whether the sink is entered next.
     fn step<L: Layout>(
         &mut self,
         meter: &mut Meter<L>,
@@ -295,13 +311,16 @@ impl Search {
         requires may { MaySearch (L.node_count meter.old.network.layout) meter.old.network.arcs
             meter.old.network.flows potentials.now guests.now sink }
         requires leaves { tail_of meter.old.network.arcs arc ≡ node }
-        requires stands { (start : ℕ) × Searches meter.old potentials.now guests.now start sink level meter.old.count [] (arc ∷ []) self.old }
+        requires stands { (start : ℕ) × Searches meter.old potentials.now guests.now start sink level
+            meter.old.count [] (arc ∷ []) self.old }
         ensures goes { IfOk result (λ found. (start : ℕ)
-            → Searches meter.old potentials.now guests.now start sink level meter.old.count [] (arc ∷ []) self.old
+            → Searches meter.old potentials.now guests.now start sink level meter.old.count []
+            (arc ∷ []) self.old
             → ComesTo found meter.old potentials.now guests.now start sink level meter.new.count [] self.new) }
         ensures network { meter.new.network ≡ meter.old.network }
         ensures steps { meter.new.count ≤ 2 * length meter.old.network.arcs }
-        ensures falls { OnOk result (Falls meter.old.count (tables self.old) meter.new.count (tables self.new)) }
+        ensures falls { OnOk result (Falls meter.old.count (tables self.old) meter.new.count
+            (tables self.new)) }
     {
         match self.look(meter, potentials, node, level, arc)? {
             Some(to) => {
@@ -327,13 +346,15 @@ impl Search {
         requires top { (stack : List ℕ) × (self.old.stack.items ≡ stack ++ node ∷ []) }
         requires left { 0 < slice_index self.old.left.items node }
         requires few { slice_index self.old.left.items node ≤ length (inner_at guests.now node) }
-        requires stands { (start : ℕ) × Searches meter.old potentials.now guests.now start sink level meter.old.count [] [] self.old }
+        requires stands { (start : ℕ) × Searches meter.old potentials.now guests.now start sink level
+            meter.old.count [] [] self.old }
         ensures goes { IfOk result (λ found. (start : ℕ)
             → Searches meter.old potentials.now guests.now start sink level meter.old.count [] [] self.old
             → ComesTo found meter.old potentials.now guests.now start sink level meter.new.count [] self.new) }
         ensures network { meter.new.network ≡ meter.old.network }
         ensures steps { meter.new.count ≤ 2 * length meter.old.network.arcs }
-        ensures falls { OnOk result (Falls meter.old.count (tables self.old) meter.new.count (tables self.new)) }
+        ensures falls { OnOk result (Falls meter.old.count (tables self.old) meter.new.count
+            (tables self.new)) }
     {
         let left = self.left[node];
         let arc = guests.inner(node)[left - 1];
@@ -342,7 +363,8 @@ impl Search {
         Ok(found)
     }
 
-    /// Looks back over the arc of the next guest of the node on top of the stack; whether the sink is entered next.
+    /// Looks back over the arc of the next guest of the node on top of the stack; whether the sink is
+    /// entered next.
     fn turn_standing<L: Layout>(
         &mut self,
         meter: &mut Meter<L>,
@@ -357,13 +379,15 @@ impl Search {
         requires top { (stack : List ℕ) × (self.old.stack.items ≡ stack ++ node ∷ []) }
         requires left { 0 < slice_index self.old.left_standing.items node }
         requires few { slice_index self.old.left_standing.items node ≤ length (standing_at guests.now node) }
-        requires stands { (start : ℕ) × Searches meter.old potentials.now guests.now start sink level meter.old.count [] [] self.old }
+        requires stands { (start : ℕ) × Searches meter.old potentials.now guests.now start sink level
+            meter.old.count [] [] self.old }
         ensures goes { IfOk result (λ found. (start : ℕ)
             → Searches meter.old potentials.now guests.now start sink level meter.old.count [] [] self.old
             → ComesTo found meter.old potentials.now guests.now start sink level meter.new.count [] self.new) }
         ensures network { meter.new.network ≡ meter.old.network }
         ensures steps { meter.new.count ≤ 2 * length meter.old.network.arcs }
-        ensures falls { OnOk result (Falls meter.old.count (tables self.old) meter.new.count (tables self.new)) }
+        ensures falls { OnOk result (Falls meter.old.count (tables self.old) meter.new.count
+            (tables self.new)) }
     {
         let left = self.left_standing[node];
         let arc = ArcNo::Reverse(guests.standing(node)[left - 1]);
@@ -388,13 +412,15 @@ impl Search {
         requires top { (stack : List ℕ) × (self.old.stack.items ≡ stack ++ node ∷ []) }
         requires node { node < length self.old.left.items }
         requires node_standing { node < length self.old.left_standing.items }
-        requires stands { (start : ℕ) × Searches meter.old potentials.now guests.now start sink level meter.old.count [] [] self.old }
+        requires stands { (start : ℕ) × Searches meter.old potentials.now guests.now start sink level
+            meter.old.count [] [] self.old }
         ensures goes { IfOk result (λ found. (start : ℕ)
             → Searches meter.old potentials.now guests.now start sink level meter.old.count [] [] self.old
             → ComesTo found meter.old potentials.now guests.now start sink level meter.new.count [] self.new) }
         ensures network { meter.new.network ≡ meter.old.network }
         ensures steps { meter.new.count ≤ 2 * length meter.old.network.arcs }
-        ensures falls { OnOk result (Falls meter.old.count (tables self.old) meter.new.count (tables self.new)) }
+        ensures falls { OnOk result (Falls meter.old.count (tables self.old) meter.new.count
+            (tables self.new)) }
     {
         if self.left[node] > 0 {
             let found = self.turn_inner(meter, potentials, guests, node, level, sink)?;
@@ -408,7 +434,8 @@ impl Search {
         Ok(false)
     }
 
-    /// Goes on along arcs of reduced cost 0 from the nodes on the stack, depth first; whether the sink is entered next.
+    /// Goes on along arcs of reduced cost 0 from the nodes on the stack, depth first; whether the sink is
+    /// entered next.
     fn follow<L: Layout>(
         &mut self,
         meter: &mut Meter<L>,
@@ -419,13 +446,15 @@ impl Search {
     ) -> Result<bool, AllocError>
         requires may { MaySearch (L.node_count meter.old.network.layout) meter.old.network.arcs
             meter.old.network.flows potentials.now guests.now sink }
-        requires stands { (start : ℕ) × Searches meter.old potentials.now guests.now start sink level meter.old.count [] [] self.old }
+        requires stands { (start : ℕ) × Searches meter.old potentials.now guests.now start sink level
+            meter.old.count [] [] self.old }
         ensures goes { IfOk result (λ found. (start : ℕ)
             → Searches meter.old potentials.now guests.now start sink level meter.old.count [] [] self.old
             → ComesTo found meter.old potentials.now guests.now start sink level meter.new.count [] self.new) }
         ensures network { meter.new.network ≡ meter.old.network }
         ensures steps { meter.new.count ≤ 2 * length meter.old.network.arcs }
-        ensures spends { OnOk result (Spends 0 meter.old.count (tables self.old) meter.new.count (tables self.new)) }
+        ensures spends { OnOk result (Spends 0 meter.old.count (tables self.old) meter.new.count
+            (tables self.new)) }
         ensures empty { IfOk result (λ found. found ≡ false → self.new.stack.items ≡ []) }
     {
         'turns: while let Some(top) = self.stack.last() {
@@ -437,7 +466,8 @@ impl Search {
         Ok(false)
     }
 
-    /// Settles a node, and those to which arcs of reduced cost 0 lead from it; whether the sink is entered next.
+    /// Settles a node, and those to which arcs of reduced cost 0 lead from it; whether the sink is entered
+    /// next.
     fn settle<L: Layout>(
         &mut self,
         meter: &mut Meter<L>,
@@ -451,13 +481,16 @@ impl Search {
             meter.old.network.flows potentials.now guests.now sink }
         requires node { node < length potentials.now }
         requires stands { (start : ℕ)
-            × Searches meter.old potentials.now guests.now start sink level meter.old.count (node ∷ []) [] self.old }
+            × Searches meter.old potentials.now guests.now start sink level meter.old.count
+            (node ∷ []) [] self.old }
         ensures goes { IfOk result (λ found. (start : ℕ)
-            → Searches meter.old potentials.now guests.now start sink level meter.old.count (node ∷ []) [] self.old
+            → Searches meter.old potentials.now guests.now start sink level meter.old.count
+            (node ∷ []) [] self.old
             → ComesTo found meter.old potentials.now guests.now start sink level meter.new.count [] self.new) }
         ensures network { meter.new.network ≡ meter.old.network }
         ensures steps { meter.new.count ≤ 2 * length meter.old.network.arcs }
-        ensures spends { OnOk result (Spends 1 meter.old.count (tables self.old) meter.new.count (tables self.new)) }
+        ensures spends { OnOk result (Spends 1 meter.old.count (tables self.old) meter.new.count
+            (tables self.new)) }
         ensures empty { IfOk result (λ found. found ≡ false → self.new.stack.items ≡ []) }
     {
         if self.enter(meter, potentials, guests, node, level, sink)? {

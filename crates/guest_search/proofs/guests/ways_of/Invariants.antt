@@ -5,4 +5,5 @@ use Rattle.guest_search.proofs.guests.ways_of.Given as goal
 
 abbrev pub invariant-loop-arc : goal.invariant-loop-arc
 invariant-loop-arc g l =
-    AreWays l.network.arcs l.is_source l.sink (take l.arc-index (leaving_of l.network.arcs l.node)) l.ways.exit l.ways.inner.items
+    AreWays l.network.arcs l.is_source l.sink (take l.arc-index (leaving_of l.network.arcs l.node))
+    l.ways.exit l.ways.inner.items

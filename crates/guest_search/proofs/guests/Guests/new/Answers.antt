@@ -4,8 +4,10 @@ use Rattle.guest_search.proofs.guests.Guests.new.Goals as goal
 
 pub loop-node-preserved : goal.loop-node-preserved
 loop-node-preserved g c =
-    listed_more c.args.network.now.arcs c.args.sink c.loop-node.node c.args.is_source.items c.loop-node.exits.items
-    c.push.new.self.items c.loop-node.inner.items c.push-in-loop-node.new.self.items c.loop-node.standing.items
+    listed_more c.args.network.now.arcs c.args.sink c.loop-node.node c.args.is_source.items
+    c.loop-node.exits.items
+    c.push.new.self.items c.loop-node.inner.items c.push-in-loop-node.new.self.items
+    c.loop-node.standing.items
     c.push-in-loop-node-2.new.self.items c.in_ok-ways.ways.exit c.in_ok-ways.ways.inner.items
     c.in_ok-push.ensures.items c.in_ok-push-2.ensures.items
     (rw c.new.ensures.items at c.in_ok-push-3.ensures.items)

@@ -1,4 +1,3 @@
-use Rattle.guest_search.specs.Guests.{GuestLists}
 use Rattle.guest_search.specs.Ways.{AreListed}
 use Rattle.guest_search.proofs.guests.Guests.new.Given as goal
 

@@ -4,7 +4,8 @@ use Rattle.guest_search.proofs.guests.Ways.put.Goals as goal
 
 pub returns-then-arcs-k : goal.returns-then-arcs-k
 returns-then-arcs-k c = λ all t. rw c.in-Forward.is
-    (ways_exit _ _ _ all c.in-Forward.k _ _ (none_of _ _ c.is_none.ensures c.if-is_none.true) t c.if-arcs-k.true)
+    (ways_exit _ _ _ all c.in-Forward.k _ _ (none_of _ _ c.is_none.ensures c.if-is_none.true) t
+    c.if-arcs-k.true)
 
 pub returns-then-is_source-arcs : goal.returns-then-is_source-arcs
 returns-then-is_source-arcs c = λ all t.

@@ -1,5 +1,5 @@
 use Rattle.std.proofs.Common.{◌≡◌, ℕ, ◌+◌, ◌-◌, ◌*◌, [], length}
-use Rattle.guest_search.specs.Search.{Searches, tables}
+use Rattle.guest_search.specs.Search.{Searches}
 use Rattle.guest_search.proofs.search.Search.empty_queue.Given as goal
 
 abbrev pub invariant-nodes : goal.invariant-nodes
@@ -13,4 +13,5 @@ invariant-nodes g l = record {
 
 abbrev pub decreases-nodes : goal.decreases-nodes
 decreases-nodes g l =
-    4 * (2 * length l.fn.meter.network.arcs - l.meter.count) + 2 * length l.self.queue + length l.self.stack.items
+    4 * (2 * length l.fn.meter.network.arcs - l.meter.count) + 2 * length l.self.queue + length
+    l.self.stack.items

@@ -16,17 +16,22 @@ pub look-requires-clause-listed : goal.look-requires-clause-listed
 look-requires-clause-listed g c = (may_look _ _ _ _ _ _ _ _ c.requires.stands.1.1 c.requires.may.priced).3
 
 pub look-requires-clause-few : goal.look-requires-clause-few
-look-requires-clause-few g c = subst (λ v. (arrival_at c.args.self.now.arrivals.items v).arcs ≤ 4096) c.requires.leaves (may_look _ _ _ _ _ _ _ _ c.requires.stands.1.1 c.requires.may.priced).2
+look-requires-clause-few g c = subst (λ v. (arrival_at c.args.self.now.arrivals.items v).arcs ≤ 4096)
+    c.requires.leaves (may_look _ _ _ _ _ _ _ _ c.requires.stands.1.1 c.requires.may.priced).2
 
 pub stand-requires-clause-node : goal.stand-requires-clause-node
 stand-requires-clause-node g c =
-    let at : c.in-Some.to ≡ head_of c.args.meter.now.network.arcs c.args.arc = (rw c.in-Some.is at c.in_ok-to.ensures.head) in
-    let are = subst (λ n. AreArcs n c.args.meter.now.network.arcs) (sym c.requires.may.priced.size) c.requires.may.priced.network.arcs_in in
-    rw at (head_in (length c.args.potentials.now) c.args.meter.now.network.arcs c.args.arc are (may_look _ _ _ _ _ _ _ _ c.requires.stands.1.1 c.requires.may.priced).3)
+    let at : c.in-Some.to ≡ head_of c.args.meter.now.network.arcs c.args.arc =
+    (rw c.in-Some.is at c.in_ok-to.ensures.head) in
+    let are = subst (λ n. AreArcs n c.args.meter.now.network.arcs) (sym c.requires.may.priced.size)
+    c.requires.may.priced.network.arcs_in in
+    rw at (head_in (length c.args.potentials.now) c.args.meter.now.network.arcs c.args.arc are
+    (may_look _ _ _ _ _ _ _ _ c.requires.stands.1.1 c.requires.may.priced).3)
 
 pub stand-requires-clause-no_source : goal.stand-requires-clause-no_source
 stand-requires-clause-no_source g c =
-    let at : c.in-Some.to ≡ head_of c.args.meter.now.network.arcs c.args.arc = (rw c.in-Some.is at c.in_ok-to.ensures.head) in
+    let at : c.in-Some.to ≡ head_of c.args.meter.now.network.arcs c.args.arc =
+    (rw c.in-Some.is at c.in_ok-to.ensures.head) in
     ap (source_at c.args.guests.now) at ∙ c.requires.no_source
 
 pub stand-requires-clause-stands : goal.stand-requires-clause-stands

@@ -1,4 +1,4 @@
-use Rattle.std.proofs.Common.{◌≡◌, refl, arith}
+use Rattle.std.proofs.Common.{refl}
 use Rattle.guest_search.specs.Search.{problem}
 use Rattle.guest_search.proofs.Finds.{ends_over}
 use Rattle.guest_search.proofs.SearchEnds.{rest_listed, begins}
@@ -9,7 +9,8 @@ settle-requires-clause-stands g c =
     let listed = c.in_ok-reach.ensures.listed (rest_listed _ _ c.requires.rest) in (
       c.args.start,
       rw c.in_ok-reach.ensures.tables
-          (begins (problem c.args.meter.now c.args.potentials.now c.args.guests.now c.args.start c.args.sink) _ _ _
+          (begins (problem c.args.meter.now c.args.potentials.now c.args.guests.now c.args.start c.args.sink)
+          _ _ _
           c.requires.rest _ _ c.requires.start c.requires.count refl listed),
     )
 
@@ -32,7 +33,8 @@ empty_queue-requires-clause-stands g c =
           0,
           rw c.settle.ensures.network
               (goes c.args.start (rw c.in_ok-reach.ensures.tables
-              (begins (problem c.args.meter.now c.args.potentials.now c.args.guests.now c.args.start c.args.sink) _ _ _
+              (begins (problem c.args.meter.now c.args.potentials.now c.args.guests.now c.args.start
+              c.args.sink) _ _ _
               c.requires.rest _ _ c.requires.start c.requires.count refl listed))),
         ),
       ),
@@ -43,7 +45,8 @@ returns-clause-ends g c =
     let listed = c.in_ok-reach.ensures.listed (rest_listed _ _ c.requires.rest) in
     let goes = rw c.if-branch.false at c.in_ok-settle.ensures.goes in
     ends_over c.settle.new.meter c.args.meter.now _ _ _ _ _ _ c.in_ok-found.found c.settle.ensures.network
-        (c.in_ok-found.ensures.ends c.args.start 0 (rw c.settle.ensures.network
-        (goes c.args.start (rw c.in_ok-reach.ensures.tables
-        (begins (problem c.args.meter.now c.args.potentials.now c.args.guests.now c.args.start c.args.sink) _ _ _
-        c.requires.rest _ _ c.requires.start c.requires.count refl listed)))))
+    (c.in_ok-found.ensures.ends c.args.start 0 (rw c.settle.ensures.network
+    (goes c.args.start (rw c.in_ok-reach.ensures.tables
+    (begins (problem c.args.meter.now c.args.potentials.now c.args.guests.now c.args.start c.args.sink) _
+    _ _
+    c.requires.rest _ _ c.requires.start c.requires.count refl listed)))))

@@ -1,4 +1,3 @@
-use Rattle.std.proofs.Common.{arith}
 use Rattle.guest_search.proofs.search.Search.settle.Goals as goal
 
 pub follow-requires-clause-stands : goal.follow-requires-clause-stands

@@ -1,4 +1,4 @@
-use Rattle.std.proofs.Common.{◌≡◌, ℕ, ◌≤◌, List, [], length, ap, ◌∙◌, sym, subst, arith}
+use Rattle.std.proofs.Common.{◌≡◌, ℕ, ◌≤◌, List, length, ap, sym, subst, arith}
 use Rattle.flow_network.specs.Flow.{Counted}
 use Rattle.flow_network.specs.Flows.{head_of, AreArcs}
 use Rattle.guest_search.specs.Searching.{arrival_at}
@@ -15,13 +15,17 @@ pub look-requires-clause-listed : goal.look-requires-clause-listed
 look-requires-clause-listed g c = (may_look _ _ _ _ _ _ _ _ c.requires.stands.1 c.requires.may.priced).3
 
 pub look-requires-clause-few : goal.look-requires-clause-few
-look-requires-clause-few g c = subst (λ v. (arrival_at c.args.self.now.arrivals.items v).arcs ≤ 4096) c.requires.leaves (may_look _ _ _ _ _ _ _ _ c.requires.stands.1 c.requires.may.priced).2
+look-requires-clause-few g c = subst (λ v. (arrival_at c.args.self.now.arrivals.items v).arcs ≤ 4096)
+    c.requires.leaves (may_look _ _ _ _ _ _ _ _ c.requires.stands.1 c.requires.may.priced).2
 
 pub enter-requires-clause-node : goal.enter-requires-clause-node
 enter-requires-clause-node g c =
-    let at : c.in-Some.to ≡ head_of c.args.meter.now.network.arcs c.args.arc = (rw c.in-Some.is at c.in_ok-to.ensures.head) in
-    let are = subst (λ n. AreArcs n c.args.meter.now.network.arcs) (sym c.requires.may.priced.size) c.requires.may.priced.network.arcs_in in
-    rw at (head_in (length c.args.potentials.now) c.args.meter.now.network.arcs c.args.arc are (may_look _ _ _ _ _ _ _ _ c.requires.stands.1 c.requires.may.priced).3)
+    let at : c.in-Some.to ≡ head_of c.args.meter.now.network.arcs c.args.arc =
+    (rw c.in-Some.is at c.in_ok-to.ensures.head) in
+    let are = subst (λ n. AreArcs n c.args.meter.now.network.arcs) (sym c.requires.may.priced.size)
+    c.requires.may.priced.network.arcs_in in
+    rw at (head_in (length c.args.potentials.now) c.args.meter.now.network.arcs c.args.arc are
+    (may_look _ _ _ _ _ _ _ _ c.requires.stands.1 c.requires.may.priced).3)
 
 pub enter-requires-clause-stands : goal.enter-requires-clause-stands
 enter-requires-clause-stands g c =

@@ -5,7 +5,8 @@ use Rattle.guest_search.proofs.search.Search.turn.Goals as goal
 
 pub turn_inner-requires-clause-left : goal.turn_inner-requires-clause-left
 turn_inner-requires-clause-left g c =
-    let is = c.index.ensures ∙ get_or_default c.args.self.now.left.items c.args.node c.index.result.now 0 c.requires.node in
+    let is = c.index.ensures ∙ get_or_default c.args.self.now.left.items c.args.node c.index.result.now 0
+    c.requires.node in
     omega arith
 
 pub turn_inner-requires-clause-few : goal.turn_inner-requires-clause-few
@@ -13,7 +14,8 @@ turn_inner-requires-clause-few g c = (top_cursors _ _ _ _ _ _ _ c.requires.stand
 
 pub turn_standing-requires-clause-left : goal.turn_standing-requires-clause-left
 turn_standing-requires-clause-left g c =
-    let is = c.index-2.ensures ∙ get_or_default c.args.self.now.left_standing.items c.args.node c.index-2.result.now 0 c.requires.node_standing in
+    let is = c.index-2.ensures ∙ get_or_default c.args.self.now.left_standing.items c.args.node
+    c.index-2.result.now 0 c.requires.node_standing in
     omega arith
 
 pub turn_standing-requires-clause-few : goal.turn_standing-requires-clause-few
@@ -25,6 +27,9 @@ returns-clause-steps g c = let few = few_so_far _ _ _ _ _ _ _ c.requires.stands.
 pub returns-clause-goes : goal.returns-clause-goes
 returns-clause-goes g c = λ start s.
     let p = c.pop.ensures in
-    let one = c.index.ensures ∙ get_or_default c.args.self.now.left.items c.args.node c.index.result.now 0 c.requires.node in
-    let two = c.index-2.ensures ∙ get_or_default c.args.self.now.left_standing.items c.args.node c.index-2.result.now 0 c.requires.node_standing in
-    popped_by _ _ _ _ _ c.requires.top.0 c.pop.new.self.items c.args.node c.pop.result c.requires.top.1 p.items (omega arith) (omega arith) s
+    let one = c.index.ensures ∙ get_or_default c.args.self.now.left.items c.args.node c.index.result.now 0
+    c.requires.node in
+    let two = c.index-2.ensures ∙ get_or_default c.args.self.now.left_standing.items c.args.node
+    c.index-2.result.now 0 c.requires.node_standing in
+    popped_by _ _ _ _ _ c.requires.top.0 c.pop.new.self.items c.args.node c.pop.result c.requires.top.1
+    p.items (omega arith) (omega arith) s
