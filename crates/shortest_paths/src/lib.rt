@@ -17,6 +17,8 @@ mod queue;
 mod reached;
 
 pub use least::{distances, distances_by, distances_to};
+pub use nearest_first::{leaving, reduced};
 pub use potentials::Potentials;
 pub use pricing::has_no_negative;
+pub use queue::Queue;
 pub use reached::{Buffers, Distances};

@@ -47,6 +47,7 @@ impl Queue {
         ensures taken { IfSome result (λ p. IsPermutation self.old (p ∷ self.new)) }
         ensures nearest { IfSome result (λ p. All (λ q. p.0 ≤ q.0) self.old) }
         ensures empty { IfNone result (self.old ≡ []) }
+        ensures still_empty { IfNone result (self.new ≡ []) }
     {
         let Reverse(nearest) = self.heap.pop()?;
         Some(nearest)
