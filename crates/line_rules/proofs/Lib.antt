@@ -1,0 +1,4 @@
+pub mod Keyed
+pub mod Kept
+pub mod Counted
+pub mod Fits
