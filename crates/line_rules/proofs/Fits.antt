@@ -9,25 +9,9 @@ use Rattle.line_shapes.specs.declared.keyword.Keyword.{Keyword}
 use Rattle.line_shapes.specs.declared.keyword.Keyword.TheVariants.{Problem, Rack, Worker, Split, Barred, Dead}
 use Rattle.line_shapes.specs.declared.keyword.Keyword.TheVariants.{Busy, Plan, Start, Price, End}
 use Rattle.line_rules.specs.Entering.{entering_of}
-use Rattle.line_rules.specs.Faults.{IsFirst, IsFit, Meets}
+use Rattle.line_rules.specs.Faults.{Fails, IsFirst, IsFit}
 use Rattle.line_rules.specs.Known.{Known}
 use Rattle.line_rules.specs.declared.entering.Entering.TheVariants.{Nothing}
-
-pub fit_meets : (k : Known) (s : Statement) → IsFit k s → (f : Fault) → Meets k s f
-fit_meets k s fit Shape = tt
-fit_meets k s fit Misnamed = fit.named
-fit_meets k s fit Unknown = fit.known
-fit_meets k s fit Repeated = fit.new
-fit_meets k s fit OutOfRange = fit.in_range
-fit_meets k s fit PassesLimit = fit.within_limit
-fit_meets k s fit Misplaced = tt
-fit_meets k s fit RepeatedHolder = fit.tail_apart
-fit_meets k s fit SecondEntry = fit.once
-fit_meets k s fit NoPrice = fit.priced
-fit_meets k s fit TooLong = tt
-fit_meets k s fit NoFeed = tt
-fit_meets k s fit Unprintable = tt
-fit_meets k s fit AfterEnd = tt
 
 first_of_fit : (k : Known) (word : Keyword) (words : List Word)
     → let s : Statement = record { keyword = word; words = words } in
@@ -46,3 +30,19 @@ first_of_fit k End words fit enters = absurd (enters refl)
 
 pub fit_first : (k : Known) (s : Statement) → IsFit k s → entering_of s.keyword ≢ Nothing → IsFirst k.rows s
 fit_first k s fit enters = first_of_fit k s.keyword s.words fit enters
+
+pub fit_faultless : (k : Known) (s : Statement) → IsFit k s → (f : Fault) → Fails k s f → ⊥
+fit_faultless k s fit Misplaced h = h fit.may_stand
+fit_faultless k s fit Shape h = h.1 tt
+fit_faultless k s fit Misnamed h = h.1 fit.named
+fit_faultless k s fit Unknown h = h.1 fit.known
+fit_faultless k s fit Repeated h = h.1 fit.new
+fit_faultless k s fit OutOfRange h = h.1 fit.in_range
+fit_faultless k s fit PassesLimit h = h.1 fit.within_limit
+fit_faultless k s fit RepeatedHolder h = h.1 fit.tail_apart
+fit_faultless k s fit SecondEntry h = h.1 fit.once
+fit_faultless k s fit NoPrice h = h.1 fit.priced
+fit_faultless k s fit TooLong h = h.1 tt
+fit_faultless k s fit NoFeed h = h.1 tt
+fit_faultless k s fit Unprintable h = h.1 tt
+fit_faultless k s fit AfterEnd h = h.1 tt

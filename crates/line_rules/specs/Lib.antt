@@ -5,3 +5,4 @@ pub mod Rows
 pub mod Counts
 pub mod Faults
 pub mod Texts
+pub mod Reading
