@@ -1,8 +1,8 @@
 -- Lines that say statements, each without a fault after those before it.
-use Rattle.std.proofs.Common.{List, [], ◌∷◌, ◌++◌, ◌≡◌, ◌+◌, ◌∙◌, length, suc, refl, sym, ap, arith, inl, append-nil, append_assoc, length-append}
+use Rattle.std.proofs.Common.{List, [], ◌∷◌, ◌++◌, ◌≡◌, ◌∙◌, sym, ap}
+use Rattle.std.proofs.Common.{append-nil, append_assoc}
 use Rattle.text_lines.specs.Texts.{Line}
 use Rattle.line_shapes.specs.Lines.{Statement}
-use Rattle.line_rules.specs.Texts.{Declare}
 use Rattle.line_rules.specs.Known.{Known, entered, known_at}
 use Rattle.line_rules.specs.declared.purpose.Purpose.{Purpose}
 use Rattle.line_rules.proofs.Steps.{known_at-step}
@@ -26,7 +26,8 @@ pub known_after : (purpose : Purpose) (ss : List Statement)
     → names_after (known_at purpose []) ss ≡ known_at purpose ss
 known_after purpose ss = names_from purpose [] ss
 
-pub fit-step : (k : Known) (ls : List Line) (ss : List Statement) (line : Line) (s : Statement) → AreFitLines k ls ss
+pub fit-step : (k : Known) (ls : List Line) (ss : List Statement) (line : Line) (s : Statement)
+    → AreFitLines k ls ss
     → IsFitLine (names_after k ss) line s → AreFitLines k (ls ++ line ∷ []) (ss ++ s ∷ [])
 fit-step k [] [] line s fits one = (one, tt)
 fit-step k [] (t ∷ ts) line s fits one = absurd fits

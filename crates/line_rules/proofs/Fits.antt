@@ -2,8 +2,10 @@
 use Rattle.std.proofs.Common.{List, ◌≢◌, refl}
 use Rattle.text_lines.specs.Texts.{Word}
 use Rattle.text_lines.specs.declared.fault.Fault.{Fault}
-use Rattle.text_lines.specs.declared.fault.Fault.TheVariants.{Shape, Misnamed, Unknown, Repeated, OutOfRange, PassesLimit, Misplaced}
-use Rattle.text_lines.specs.declared.fault.Fault.TheVariants.{RepeatedHolder, SecondEntry, NoPrice, TooLong, NoFeed, Unprintable, AfterEnd}
+use Rattle.text_lines.specs.declared.fault.Fault.TheVariants.{Shape, Misnamed, Unknown, Repeated}
+use Rattle.text_lines.specs.declared.fault.Fault.TheVariants.{OutOfRange, PassesLimit, Misplaced}
+use Rattle.text_lines.specs.declared.fault.Fault.TheVariants.{RepeatedHolder, SecondEntry, NoPrice, TooLong}
+use Rattle.text_lines.specs.declared.fault.Fault.TheVariants.{NoFeed, Unprintable, AfterEnd}
 use Rattle.line_shapes.specs.Lines.{Statement}
 use Rattle.line_shapes.specs.declared.keyword.Keyword.{Keyword}
 use Rattle.line_shapes.specs.declared.keyword.Keyword.TheVariants.{Problem, Rack, Worker, Split, Barred, Dead}

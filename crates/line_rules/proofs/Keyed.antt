@@ -1,5 +1,7 @@
 -- Keys that are the same, and rows under their keys.
-use Rattle.std.proofs.Common.{ℕ, List, [], ◌∷◌, ◌++◌, ◌≡◌, ◌<◌, ◌≤◌, ◌∙◌, ◌&&◌, Bool, true, false, Bor, Option, Some, None, length, map, sym, ap, ap₂, refl, subst, arith, slice_get, zero, suc}
+use Rattle.std.proofs.Common.{ℕ, List, [], ◌∷◌, ◌++◌, ◌≡◌, ◌<◌, ◌≤◌, ◌∙◌, ◌&&◌, Bool, true, false, Bor}
+use Rattle.std.proofs.Common.{Option, Some, None, length, map, sym, ap, ap₂, refl, subst, arith, slice_get}
+use Rattle.std.proofs.Common.{zero, suc}
 use Rattle.std.specs.Prelude.{◌↔◌, Contains, IsTrue}
 use Rattle.std.specs.Bool.{Decides}
 use Rattle.std.specs.Global.{Vec}
@@ -48,7 +50,8 @@ Entry = TextKey × Vec (Bor (List ℕ))
 abbrev IsKeyed : Entry → Type 0
 IsKeyed e = key_of (statement_of_entry e) ≡ key_in e.0
 
-pub keys_shown : (es : List Entry) → AreKeyed es → map key_in (of_map.keys_of es) ≡ keys_of (map statement_of_entry es)
+pub keys_shown : (es : List Entry) → AreKeyed es
+    → map key_in (of_map.keys_of es) ≡ keys_of (map statement_of_entry es)
 keys_shown [] keyed = refl
 keys_shown (e ∷ es) keyed =
     ap₂ (λ (k : Key) (ks : List Key). k ∷ ks) (sym (All-head IsKeyed e es keyed))
@@ -76,7 +79,8 @@ absent key es rows o keyed shown lacks is =
 module _ (es new : List Entry) (e : Entry) (grown : new ≡ es ++ e ∷ []) where
   pub keyed_more : AreKeyed es → IsKeyed e → AreKeyed new
   keyed_more keyed last =
-      subst AreKeyed (sym grown) (All-append IsKeyed es (e ∷ []) keyed (All-cons IsKeyed e [] last (All-nil IsKeyed)))
+      subst AreKeyed (sym grown) (All-append IsKeyed es (e ∷ []) keyed (All-cons IsKeyed e [] last
+      (All-nil IsKeyed)))
 
   pub rows_more : (rows : List Statement) → map statement_of_entry es ≡ rows
       → map statement_of_entry new ≡ rows ++ statement_of_entry e ∷ []
@@ -86,11 +90,13 @@ module _ (es new : List Entry) (e : Entry) (grown : new ≡ es ++ e ∷ []) wher
 
 -- the row at a place stands under the key there
 pub key_at : (es : List Entry) (i : ℕ) (e : Entry) → AreKeyed es → slice_get es i ≡ Some e
-    → (i < length (map statement_of_entry es)) × IsKeyAt (keys_of (map statement_of_entry es)) i e.0.0 e.0.1.now
+    → (i < length (map statement_of_entry es))
+    × IsKeyAt (keys_of (map statement_of_entry es)) i e.0.0 e.0.1.now
 key_at [] i e keyed is = absurd (let bad : None ≡ Some e = is in cc)
 key_at (x ∷ es) zero e keyed is =
     let here : x ≡ e = search is in
-    let key : key_of (statement_of_entry e) ≡ key_in e.0 = subst IsKeyed here (All-head IsKeyed x es keyed) in (
+    let key : key_of (statement_of_entry e)
+    ≡ key_in e.0 = subst IsKeyed here (All-head IsKeyed x es keyed) in (
       omega arith,
       λ d. (
         ap (λ x. (key_of (statement_of_entry x)).0) here ∙ ap (λ k. k.0) key,

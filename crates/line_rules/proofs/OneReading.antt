@@ -10,8 +10,10 @@ use Rattle.line_shapes.specs.declared.keyword.Keyword.TheVariants.{Problem, Rack
 use Rattle.line_shapes.specs.declared.keyword.Keyword.TheVariants.{Busy, Plan, Start, Price, End}
 use Rattle.text_lines.specs.Faults.{number_of_fault}
 use Rattle.text_lines.specs.declared.fault.Fault.{Fault}
-use Rattle.text_lines.specs.declared.fault.Fault.TheVariants.{Shape, Misnamed, Unknown, Repeated, OutOfRange, PassesLimit, Misplaced}
-use Rattle.text_lines.specs.declared.fault.Fault.TheVariants.{RepeatedHolder, SecondEntry, NoPrice, TooLong, NoFeed, Unprintable, AfterEnd}
+use Rattle.text_lines.specs.declared.fault.Fault.TheVariants.{Shape, Misnamed, Unknown, Repeated}
+use Rattle.text_lines.specs.declared.fault.Fault.TheVariants.{OutOfRange, PassesLimit, Misplaced}
+use Rattle.text_lines.specs.declared.fault.Fault.TheVariants.{RepeatedHolder, SecondEntry, NoPrice, TooLong}
+use Rattle.text_lines.specs.declared.fault.Fault.TheVariants.{NoFeed, Unprintable, AfterEnd}
 use Rattle.line_shapes.specs.Lines.{Says, Statement}
 use Rattle.line_rules.specs.Texts.{Declare, IsLeastAt, IsLeastFault, Reads, longest}
 use Rattle.line_rules.specs.declared.purpose.Purpose.{Purpose}

@@ -1,11 +1,16 @@
 -- Line by line: what is known of a text whose first lines have been read without a fault.
-use Rattle.std.proofs.Common.{ℕ, List, [], ◌∷◌, ◌≡◌, ◌++◌, ◌+◌, ◌≤◌, ◌<◌, inl, inr, true, false, length, take, drop, refl, sym, ap, subst, ◌∙◌, arith, length-drop, length-append, add-one, suc, get_or, ◌==◌, drop_of_length-le}
+use Rattle.std.proofs.Common.{ℕ, List, [], ◌∷◌, ◌≡◌, ◌++◌, ◌+◌, ◌≤◌, ◌<◌, inl, inr, length}
+use Rattle.std.proofs.Common.{take, drop, refl, sym, ap, subst, ◌∙◌, arith, length-drop, length-append}
+use Rattle.std.proofs.Common.{add-one, suc, get_or, ◌==◌, drop_of_length-le}
 use Rattle.std.proofs.Math.Seq.{drop-cons, take-suc}
 use Rattle.std.proofs.lemmas.Bool.{cases_lt, cases_eq}
 use Rattle.std.proofs.lemmas.List.Splits.{length-slice_split}
 use Rattle.text_lines.specs.Texts.{Line, lines_of}
 use Rattle.text_lines.specs.declared.fault.Fault.{Fault}
-use Rattle.text_lines.specs.declared.fault.Fault.TheVariants.{Shape, Misnamed, Unknown, Repeated, OutOfRange, PassesLimit, Misplaced, RepeatedHolder, SecondEntry, NoPrice, TooLong, NoFeed, Unprintable, AfterEnd}
+use Rattle.text_lines.specs.declared.fault.Fault.TheVariants.{Shape, Misnamed, Unknown, Repeated}
+use Rattle.text_lines.specs.declared.fault.Fault.TheVariants.{OutOfRange, PassesLimit, Misplaced}
+use Rattle.text_lines.specs.declared.fault.Fault.TheVariants.{RepeatedHolder, SecondEntry, NoPrice, TooLong}
+use Rattle.text_lines.specs.declared.fault.Fault.TheVariants.{NoFeed, Unprintable, AfterEnd}
 use Rattle.line_shapes.specs.Lines.{Statement}
 use Rattle.line_rules.specs.Texts.{Declare}
 use Rattle.line_rules.specs.Known.{Known, entered, known_at}
@@ -49,7 +54,8 @@ read_none purpose text k known = record {
 inside_from_cut : {X : Type 0} (n : ℕ) (xs ys : List X) (x : X) → drop n xs ≡ x ∷ ys → n < length xs
 inside_from_cut n xs ys x e = omega (arith, ap length e, length-drop n xs)
 
-take_one : {X : Type 0} (n : ℕ) (xs ys : List X) (x : X) → drop n xs ≡ x ∷ ys → take (n + 1) xs ≡ take n xs ++ x ∷ []
+take_one : {X : Type 0} (n : ℕ) (xs ys : List X) (x : X) → drop n xs ≡ x ∷ ys
+    → take (n + 1) xs ≡ take n xs ++ x ∷ []
 take_one n xs ys x e =
     let inside = inside_from_cut n xs ys x e in
     let cut = drop-cons xs n x inside in
@@ -66,11 +72,13 @@ drop_one n xs ys x e =
 -- ---- the line that is left first
 
 -- it has its line feed where others are left after it
-feed_follows : (k : Known) (line : Line) (ls : List Line) (g : Fault) → 0 < length ls → FirstHas k (line ∷ ls) g → LineHas k line g
+feed_follows : (k : Known) (line : Line) (ls : List Line) (g : Fault) → 0 < length ls
+    → FirstHas k (line ∷ ls) g → LineHas k line g
 feed_follows k line [] g h has = absurd (omega arith)
 feed_follows k line (next ∷ more) g h has = has
 
-first_of_more : (k : Known) (line : Line) (ls : List Line) (g : Fault) → 0 < length ls → LineHas k line g → FirstHas k (line ∷ ls) g
+first_of_more : (k : Known) (line : Line) (ls : List Line) (g : Fault) → 0 < length ls → LineHas k line g
+    → FirstHas k (line ∷ ls) g
 first_of_more k line [] g h has = absurd (omega arith)
 first_of_more k line (next ∷ more) g h has = has
 
@@ -82,17 +90,22 @@ first_has : (purpose : Purpose) (text : List ℕ) (left : List Line) (n : ℕ) (
     → IsReadTo purpose text left n k → (g : Fault) → Applies purpose text n g → FirstHas k left g
 first_has purpose text left n k read g applies =
     let same : applies.0 ≡ read.before = declare-unique _ _ _ applies.1 read.says in
-    rw (read.known, read.rest) (subst (λ b. FirstHas (known_at purpose b) (drop n (lines_of text)) g) same applies.2)
+    rw (read.known, read.rest) (subst (λ b. FirstHas (known_at purpose b) (drop n
+    (lines_of text)) g) same applies.2)
 
-line_has : (purpose : Purpose) (text : List ℕ) (left : List Line) (line : Line) (after : List Line) (n : ℕ) (k : Known)
-    → IsReadTo purpose text left n k → left ≡ line ∷ after → 0 < length after → (g : Fault) → Applies purpose text n g
+line_has : (purpose : Purpose) (text : List ℕ) (left : List Line) (line : Line) (after : List Line)
+    (n : ℕ) (k : Known)
+    → IsReadTo purpose text left n k → left ≡ line ∷ after → 0 < length after → (g : Fault)
+    → Applies purpose text n g
     → LineHas k line g
 line_has purpose text left line after n k read split more g applies =
-    feed_follows k line after g more (subst (λ ls. FirstHas k ls g) split (first_has purpose text left n k read g applies))
+    feed_follows k line after g more (subst (λ ls. FirstHas k ls g) split
+    (first_has purpose text left n k read g applies))
 
 -- ---- one line more
 
-more_faultless : (purpose : Purpose) (text : List ℕ) (left : List Line) (line : Line) (after : List Line) (n : ℕ) (k new : Known)
+more_faultless : (purpose : Purpose) (text : List ℕ) (left : List Line) (line : Line) (after : List Line)
+    (n : ℕ) (k new : Known)
     → IsReadTo purpose text left n k → left ≡ line ∷ after → 0 < length after
     → Takes k line new → (j : ℕ) (g : Fault) → j < n + 1 → Applies purpose text j g → ⊥
 more_faultless purpose text left line after n k new read split more takes j g lt applies =
@@ -100,8 +113,10 @@ more_faultless purpose text left line after n k new read split more takes j g lt
       | inl less ↦ read.faultless j g less applies
       | inr ge ↦
           let at : j ≡ n = omega arith in
-          line_faultless k line takes.statement (takes.printable, takes.not_ended) takes.says takes.enters.fit g
-          (line_has purpose text left line after n k read split more g (subst (λ i. Applies purpose text i g) at applies))
+          line_faultless k line takes.statement
+          (takes.printable, takes.not_ended) takes.says takes.enters.fit g
+          (line_has purpose text left line after n k read split more g (subst
+          (λ i. Applies purpose text i g) at applies))
     ]
 
 -- a line that is taken fits after the lines before it
@@ -114,7 +129,8 @@ taken_fits k new line takes = record {
   fit = takes.enters.fit;
 }
 
-pub read_more : (purpose : Purpose) (text : List ℕ) (left : List Line) (line : Line) (after : List Line) (n : ℕ) (k new : Known)
+pub read_more : (purpose : Purpose) (text : List ℕ) (left : List Line) (line : Line) (after : List Line)
+    (n : ℕ) (k new : Known)
     → IsReadTo purpose text left n k → left ≡ line ∷ after → 0 < length after
     → Takes k line new → IsReadTo purpose text after (n + 1) new
 read_more purpose text left line after n k new read split more takes =
@@ -130,7 +146,8 @@ read_more purpose text left line after n k new read split more takes =
           (fit-step (known_at purpose []) _ read.before line s read.fit
           (subst (λ names. IsFitLine names line s) (sym here) (taken_fits k new line takes)));
       rest = sym (drop_one n (lines_of text) after line cut);
-      known = takes.enters.known ∙ ap (λ old. entered old s) read.known ∙ sym (known_at-step purpose read.before s);
+      known = takes.enters.known ∙ ap (λ old. entered old s) read.known
+          ∙ sym (known_at-step purpose read.before s);
       faultless = more_faultless purpose text left line after n k new read split more takes;
     }
 
@@ -138,26 +155,33 @@ read_more purpose text left line after n k new read split more takes =
 
 -- the least fault of the line that is left first is the text's
 least_first : (purpose : Purpose) (text : List ℕ) (left : List Line) (n : ℕ) (k : Known) (f : Fault)
-    → length text ≤ longest → IsReadTo purpose text left n k → IsLeastOf (FirstHas k left) f → IsLeastAt purpose text n f
+    → length text ≤ longest → IsReadTo purpose text left n k → IsLeastOf (FirstHas k left) f
+    → IsLeastAt purpose text n f
 least_first purpose text left n k f short read least = record {
   short = short;
   applies = (
     read.before,
     read.says,
-    subst (λ q. FirstHas q (drop n (lines_of text)) f) read.known (subst (λ ls. FirstHas k ls f) read.rest least.applies),
+    subst (λ q. FirstHas q (drop n (lines_of text)) f) read.known (subst
+        (λ ls. FirstHas k ls f) read.rest least.applies),
   );
   least = λ j g h. elim (cases_lt n j) [
     | inl later ↦ inl later
     | inr ge ↦ elim (cases_eq j n) [
-      | inl at ↦ inr
-          (sym at, least.least g (first_has purpose text left n k read g (subst (λ i. Applies purpose text i g) at h)))
+      | inl at ↦ inr (
+        sym at,
+        least.least g (first_has purpose text left n k read g (subst
+            (λ i. Applies purpose text i g) at h)),
+      )
       | inr apart ↦ absurd (read.faultless j g (omega arith) h)
     ]
   ];
 }
 
-pub least_at : (purpose : Purpose) (text : List ℕ) (left : List Line) (line : Line) (after : List Line) (n : ℕ) (k : Known)
-    (f : Fault) → length text ≤ longest → IsReadTo purpose text left n k → left ≡ line ∷ after → 0 < length after
+pub least_at : (purpose : Purpose) (text : List ℕ) (left : List Line) (line : Line) (after : List Line)
+    (n : ℕ) (k : Known)
+    (f : Fault) → length text ≤ longest → IsReadTo purpose text left n k → left ≡ line ∷ after
+    → 0 < length after
     → IsLeastOf (LineHas k line) f → IsLeastAt purpose text n f
 least_at purpose text left line after n k f short read split more least =
     least_first purpose text left n k f short read (record {
@@ -166,7 +190,8 @@ least_at purpose text left line after n k f short read split more least =
     })
 
 pub least_at_rest : (purpose : Purpose) (text : List ℕ) (left : List Line) (line : Line) (n : ℕ) (k : Known)
-    (f : Fault) → length text ≤ longest → IsReadTo purpose text left n k → left ≡ line ∷ [] → IsLeastOf (RestHas k line) f
+    (f : Fault) → length text ≤ longest → IsReadTo purpose text left n k → left ≡ line ∷ []
+    → IsLeastOf (RestHas k line) f
     → IsLeastAt purpose text n f
 least_at_rest purpose text left line n k f short read split least =
     least_first purpose text left n k f short read (record {
@@ -199,9 +224,11 @@ least_fault purpose text n NoFeed h = (n, refl, h)
 least_fault purpose text n Unprintable h = (n, refl, h)
 least_fault purpose text n AfterEnd h = (n, refl, h)
 
-pub error_of_text : (purpose : Purpose) (text : List ℕ) (left : List Line) (line : Line) (after : List Line) (n : ℕ) (k : Known)
+pub error_of_text : (purpose : Purpose) (text : List ℕ) (left : List Line) (line : Line)
+    (after : List Line) (n : ℕ) (k : Known)
     (err : LineError) → length text ≤ longest → IsReadTo purpose text left n k → left ≡ line ∷ after
-    → 0 < length after → IsLeastError (LineHas k line) err → IsReadingError purpose text (error_at (n + 1) err)
+    → 0 < length after → IsLeastError (LineHas k line) err
+    → IsReadingError purpose text (error_at (n + 1) err)
 error_of_text purpose text left line after n k (error.Fault f) short read split more least =
     least_fault purpose text n f (least_at purpose text left line after n k f short read split more least)
 error_of_text purpose text left line after n k error.Memory short read split more least = tt
@@ -238,7 +265,8 @@ all_faultless purpose text n k read ended i f applies =
             (first_has purpose text ([] ∷ []) n k read f (subst (λ j. Applies purpose text j f) at applies))
         | inr apart ↦
             let total = lines_read purpose text n k read in
-            let gone : drop i (lines_of text) ≡ [] = drop_of_length-le (lines_of text) {i = i} (omega arith) in
+            let gone : drop i (lines_of text)
+            ≡ [] = drop_of_length-le (lines_of text) {i = i} (omega arith) in
             subst (λ ls. FirstHas (known_at purpose applies.0) ls f) gone applies.2
       ]
     ]
@@ -256,7 +284,8 @@ all_read purpose text n k short read ended = record {
   known = read.known;
 }
 
-pub reads_all : (purpose : Purpose) (text : List ℕ) (left : List Line) (n : ℕ) (k : Known) → length text ≤ longest
+pub reads_all : (purpose : Purpose) (text : List ℕ) (left : List Line) (n : ℕ) (k : Known)
+    → length text ≤ longest
     → IsReadTo purpose text left n k → left ≡ [] ∷ [] → k.section ≡ Ended → IsAllRead purpose text k
 reads_all purpose text left n k short read empty ended =
     all_read purpose text n k short (subst (λ ls. IsReadTo purpose text ls n k) empty read) ended

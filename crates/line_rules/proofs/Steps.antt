@@ -25,7 +25,8 @@ known_at-step purpose before s =
     ∙ ap (λ last. flat_map entered_of before ++ last) (append-nil (entered_of s)) in
     λ i. record { purpose = purpose; section = section i; rows = rows i }
 
-pub declare-step : (ls : List Line) (before : List Statement) (l : Line) (s : Statement) → Declare ls before → Says l s
+pub declare-step : (ls : List Line) (before : List Statement) (l : Line) (s : Statement)
+    → Declare ls before → Says l s
     → Declare (ls ++ l ∷ []) (before ++ s ∷ [])
 declare-step [] [] l s d says = inl (says, tt)
 declare-step [] (t ∷ ts) l s d says = absurd d

@@ -5,8 +5,10 @@ use Rattle.std.specs.Borrow.{Bor}
 use Rattle.text_lines.specs.Texts.{Word}
 use Rattle.text_lines.specs.Faults.{number_of_fault}
 use Rattle.text_lines.specs.declared.fault.Fault.{Fault}
-use Rattle.text_lines.specs.declared.fault.Fault.TheVariants.{Shape, Misnamed, Unknown, Repeated, OutOfRange, PassesLimit, Misplaced}
-use Rattle.text_lines.specs.declared.fault.Fault.TheVariants.{RepeatedHolder, SecondEntry, NoPrice, TooLong, NoFeed, Unprintable, AfterEnd}
+use Rattle.text_lines.specs.declared.fault.Fault.TheVariants.{Shape, Misnamed, Unknown, Repeated}
+use Rattle.text_lines.specs.declared.fault.Fault.TheVariants.{OutOfRange, PassesLimit, Misplaced}
+use Rattle.text_lines.specs.declared.fault.Fault.TheVariants.{RepeatedHolder, SecondEntry, NoPrice, TooLong}
+use Rattle.text_lines.specs.declared.fault.Fault.TheVariants.{NoFeed, Unprintable, AfterEnd}
 use Rattle.line_shapes.specs.Lines.{HasTailApart, IsInRange, IsNamed, Statement, tail_of}
 use Rattle.line_shapes.specs.Places.{place_at}
 use Rattle.line_shapes.specs.declared.keyword.Keyword.{Keyword}
@@ -48,7 +50,8 @@ KeepsTo rule.Free rows place w = IsFreeIn rows place w
 
 -- each word after the keyword keeps to the rule in its place
 abbrev pub Keep : Rule → List Statement → Statement → Type 0
-Keep r rows s = (i : ℕ) → i < length s.words → KeepsTo r rows (place_at s.keyword i) (slice_index_or s.words i [])
+Keep r rows s = (i : ℕ) → i < length s.words
+    → KeepsTo r rows (place_at s.keyword i) (slice_index_or s.words i [])
 
 -- no line before was entered by the same words
 abbrev pub IsFirst : List Statement → Statement → Type 0
@@ -83,7 +86,8 @@ IsFew (Some most) n = n ≤ most
 
 -- the same of words behind references
 abbrev pub KeepIn : Rule → List Statement → Keyword → List (Bor (List ℕ)) → Type 0
-KeepIn r rows k ws = (i : ℕ) (d : Bor (List ℕ)) → i < length ws → KeepsTo r rows (place_at k i) (slice_index_or ws i d).now
+KeepIn r rows k ws = (i : ℕ) (d : Bor (List ℕ)) → i < length ws
+    → KeepsTo r rows (place_at k i) (slice_index_or ws i d).now
 
 -- there may be one line more of its keyword, and no more words follow than may
 pub record IsWithinLimit (rows : List Statement) (s : Statement) : Type 0 where

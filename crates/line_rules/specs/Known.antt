@@ -58,7 +58,8 @@ IsDeclared rows Priced name = HasRow rows keyword.Split name ⊎ HasRow rows key
 
 -- the one name space
 abbrev pub IsTaken : List Statement → Word → Type 0
-IsTaken rows name = HasRow rows keyword.Rack name ⊎ (HasRow rows keyword.Worker name ⊎ HasRow rows keyword.Split name)
+IsTaken rows name = HasRow rows keyword.Rack name ⊎ (HasRow rows keyword.Worker name
+    ⊎ HasRow rows keyword.Split name)
 
 abbrev pub is_of : Keyword → Statement → Bool
 is_of k s = bytes_eq (text_of k) (text_of s.keyword)

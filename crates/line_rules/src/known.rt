@@ -42,7 +42,8 @@ impl<'t> KnownLines<'t> {
     ghost use Rattle.line_shapes.specs.Places.{places_of};
     ghost use Rattle.line_shapes.specs.declared.keyword.Keyword.{Keyword};
     ghost use Rattle.line_rules.specs.Entering.{most_of};
-    ghost use Rattle.line_rules.specs.Faults.{Fails, HasRoom, IsFit, IsLeastOf, IsNew, IsPriced, IsPricedBefore};
+    ghost use Rattle.line_rules.specs.Faults.{Fails, HasRoom, IsFit, IsLeastOf, IsNew, IsPriced};
+    ghost use Rattle.line_rules.specs.Faults.{IsPricedBefore};
     ghost use Rattle.line_rules.specs.Faults.{IsWithinLimit, MayStand};
     ghost use Rattle.line_rules.specs.Known.{entered, known_at, rows_of};
 

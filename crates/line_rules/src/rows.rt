@@ -1,4 +1,5 @@
-ghost use Rattle.std.specs.Prelude.{◌≡◌, ◌++◌, ◌∷◌, ◌↔◌, ◌≤◌, ◌<◌, IsTrue, MatchOption, OnErr, OnOk, Contains, length, map};
+ghost use Rattle.std.specs.Prelude.{◌≡◌, ◌++◌, ◌∷◌, ◌↔◌, ◌≤◌, ◌<◌, IsTrue, MatchOption, OnErr, OnOk};
+ghost use Rattle.std.specs.Prelude.{Contains, length, map};
 
 use crate::entering::{Entering, entering_of};
 use indexmap::IndexMap;
@@ -101,7 +102,8 @@ impl<'t> Rows<'t> {
         second: &'t str,
         rest: &[&'t str],
     ) -> Result<(), AllocError>
-        requires keyed { key_of (made_of keyword first.now second.now rest.now) ≡ (keyword, first.now, second.now) }
+        requires keyed { key_of (made_of keyword first.now second.now rest.now)
+            ≡ (keyword, first.now, second.now) }
         requires new { Contains (keys_of self.old) (keyword, first.now, second.now) → ⊥ }
         ensures ok { OnOk result (self.new ≡ self.old ++ made_of keyword first.now second.now rest.now ∷ []) }
         ensures err { OnErr result (self.new ≡ self.old) }

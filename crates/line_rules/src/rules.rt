@@ -1,7 +1,9 @@
 ghost use Rattle.std.specs.Prelude.{◌≡◌, ◌↔◌, ◌<◌, IsTrue, Contains, length, map, slice_index_or, [], All};
 ghost use Rattle.line_shapes.specs.Lines.{statement_of, tail_of};
-ghost use Rattle.line_rules.specs.Entering.{Key, entering_of as entering, first_of, most_more_of as most_words, second_of};
-ghost use Rattle.line_rules.specs.Faults.{HasItsPrice, IsDeclaredIn, IsFew, IsFirst, IsFirstOfBody, IsFirstOfHead, IsFreeIn, Keep, KeepIn, KeepsTo};
+ghost use Rattle.line_rules.specs.Entering.{Key, entering_of as entering, first_of};
+ghost use Rattle.line_rules.specs.Entering.{most_more_of as most_words, second_of};
+ghost use Rattle.line_rules.specs.Faults.{HasItsPrice, IsDeclaredIn, IsFew, IsFirst, IsFirstOfBody};
+ghost use Rattle.line_rules.specs.Faults.{IsFirstOfHead, IsFreeIn, Keep, KeepIn, KeepsTo};
 ghost use Rattle.line_rules.specs.Known.{HasRow, IsDeclared, IsTaken, keys_of};
 
 use crate::entering::{Entering, entering_of, is_priced, most_more_of};

@@ -8,6 +8,7 @@ returns c =
     let line = c.args.line.now in (
       λ t. of_words (λ i w. KeepsTo c.args.rule c.args.rows.now (place_at line.keyword i) w) line.words.now
           (c.keep_words.ensures.0 t),
-      λ h. c.keep_words.ensures.1 (in_words (λ i w. KeepsTo c.args.rule c.args.rows.now (place_at line.keyword i) w)
+      λ h. c.keep_words.ensures.1 (in_words (λ i w. KeepsTo c.args.rule c.args.rows.now
+          (place_at line.keyword i) w)
           line.words.now h),
     )

@@ -7,5 +7,6 @@ use Rattle.line_rules.proofs.rows.Rows.key.Goals as goal
 pub returns-in-Some : goal.returns-in-Some
 returns-in-Some c =
     let key = c.in-Some.key.now in
-    subst (λ rows. (c.args.row < length rows) × IsKeyAt (keys_of rows) c.args.row key.0 key.1.now) c.self.view_is
+    subst (λ rows. (c.args.row < length rows)
+    × IsKeyAt (keys_of rows) c.args.row key.0 key.1.now) c.self.view_is
     (key_at _ c.args.row _ c.self.invariant (sym c.in-Some.ensures.entry))
