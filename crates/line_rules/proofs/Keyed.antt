@@ -21,7 +21,7 @@ use Rattle.line_shapes.specs.declared.keyword.Keyword.TheVariants.{Busy, Plan, S
 use Rattle.line_shapes.specs.contracts.keyword.Keyword.{the_type}
 use Rattle.line_rules.specs.Entering.{Key, entering_of, key_of}
 use Rattle.line_rules.specs.Known.{keys_of}
-use Rattle.line_rules.specs.Rows.{AreKeyed, IsKeyAt, TextKey, front_of, key_in, statement_of_entry}
+use Rattle.line_rules.specs.Rows.{AreKeyed, IsKeyAt, IsRowAt, TextKey, front_of, key_in, statement_of_entry}
 use denote.Enum.Bare.{sameb, same_true, true_same}
 
 -- ---- keys
@@ -105,6 +105,19 @@ key_at (x ∷ es) zero e keyed is =
     )
 key_at (x ∷ es) (suc i) e keyed is =
     let rest = key_at es i e (All-tail IsKeyed x es keyed) is in
+    let lt : i < length (map statement_of_entry es) = rest.0 in
+    (omega arith, rest.1)
+
+-- the row at a place is what the entry there says
+pub row_at : (es : List Entry) (i : ℕ) (e : Entry) (s : Statement) → slice_get es i ≡ Some e
+    → statement_of_entry e ≡ s
+    → (i < length (map statement_of_entry es)) × IsRowAt (map statement_of_entry es) i s
+row_at [] i e s is said = absurd (let bad : None ≡ Some e = is in cc)
+row_at (x ∷ es) zero e s is said =
+    let here : x ≡ e = search is in
+    (omega arith, λ d. ap statement_of_entry here ∙ said)
+row_at (x ∷ es) (suc i) e s is said =
+    let rest = row_at es i e s is said in
     let lt : i < length (map statement_of_entry es) = rest.0 in
     (omega arith, rest.1)
 

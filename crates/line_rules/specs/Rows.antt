@@ -39,3 +39,7 @@ AreKeyed es = All (λ e. key_of (statement_of_entry e) ≡ key_in e.0) es
 -- the key at a place is of this keyword and first word
 abbrev pub IsKeyAt : List Key → ℕ → Keyword → Word → Type 0
 IsKeyAt keys i k first = (d : Key) → ((slice_index_or keys i d).0 ≡ k) × ((slice_index_or keys i d).1 ≡ first)
+
+-- the row at a place is this line
+abbrev pub IsRowAt : List Statement → ℕ → Statement → Type 0
+IsRowAt rows i s = (d : Statement) → slice_index_or rows i d ≡ s

@@ -22,6 +22,6 @@ pub use entering::Entering;
 pub use known::KnownLines;
 pub use purpose::Purpose;
 pub use reading::{ReadingError, read_lines};
-pub use rows::Rows;
+pub use rows::{Row, Rows};
 pub use rule::Rule;
 pub use section::Section;

@@ -14,6 +14,17 @@ pub struct Rows<'t> {
     entries: IndexMap<(Keyword, &'t str, &'t str), Vec<&'t str>>,
 }
 
+/// A line that was entered.
+#[derive(Clone, Copy, Debug)]
+pub struct Row<'r, 't> {
+    pub keyword: Keyword,
+    /// The words by which it was entered; what is absent is empty.
+    pub first: &'t str,
+    pub second: &'t str,
+    /// The words after them.
+    pub rest: &'r [&'t str],
+}
+
 impl<'t> Model for Rows<'t> {
     ghost use Rattle.std.specs.Prelude.{List, map};
     ghost use Rattle.line_shapes.specs.Lines.{Statement};
@@ -32,7 +43,7 @@ impl<'t> Rows<'t> {
     ghost use Rattle.line_shapes.specs.Places.{places_of};
     ghost use Rattle.line_rules.specs.Entering.{entered_of, entering_of as entering, key_of};
     ghost use Rattle.line_rules.specs.Known.{keys_of};
-    ghost use Rattle.line_rules.specs.Rows.{IsKeyAt, made_of};
+    ghost use Rattle.line_rules.specs.Rows.{IsKeyAt, IsRowAt, made_of};
     ghost use Rattle.line_rules.specs.declared.entering.Entering.TheVariants.{Nothing};
 
     /// No lines. Nothing is allocated.
@@ -73,6 +84,23 @@ impl<'t> Rows<'t> {
     {
         match self.entries.get_index(row) {
             Some((key, _)) => Some((key.0, key.1)),
+            None => None,
+        }
+    }
+
+    /// A row, counted from 0.
+    pub fn row(&self, row: usize) -> Option<Row<'_, 't>>
+        ensures { MatchOption result (length self.now ≤ row)
+            (λ r. (row < length self.now)
+            × IsRowAt self.now row (made_of r.keyword r.first.now r.second.now r.rest.now)) }
+    {
+        match self.entries.get_index(row) {
+            Some((key, rest)) => Some(Row {
+                keyword: key.0,
+                first: key.1,
+                second: key.2,
+                rest,
+            }),
             None => None,
         }
     }
