@@ -1,0 +1,9 @@
+pub mod Keyed
+pub mod Kept
+pub mod Counted
+pub mod Fits
+pub mod Steps
+pub mod OneReading
+pub mod LineErrors
+pub mod FitLines
+pub mod ReadTo

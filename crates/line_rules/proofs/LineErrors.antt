@@ -1,0 +1,149 @@
+-- The faults of a line that says a statement are those of the statement.
+use Rattle.std.proofs.Common.{◌≡◌, ◌≤◌, subst, arith}
+use Rattle.std.specs.List.{All}
+use Rattle.text_lines.specs.Texts.{IsPrintable, Line}
+use Rattle.text_lines.specs.Faults.{number_of_fault}
+use Rattle.text_lines.specs.declared.fault.Fault.{Fault}
+use Rattle.text_lines.specs.declared.fault.Fault.TheVariants.{Shape, Misnamed, Unknown, Repeated}
+use Rattle.text_lines.specs.declared.fault.Fault.TheVariants.{OutOfRange, PassesLimit, Misplaced}
+use Rattle.text_lines.specs.declared.fault.Fault.TheVariants.{RepeatedHolder, SecondEntry, NoPrice, TooLong}
+use Rattle.text_lines.specs.declared.fault.Fault.TheVariants.{NoFeed, Unprintable, AfterEnd}
+use Rattle.line_shapes.specs.Lines.{Says, SaysNothing, Statement}
+use Rattle.line_rules.specs.Known.{Known}
+use Rattle.line_rules.specs.Faults.{Fails, IsFit, IsLeastOf}
+use Rattle.line_rules.specs.Texts.{IsSound, LineHas}
+use Rattle.line_rules.proofs.Fits.{fit_faultless}
+use Rattle.line_rules.proofs.OneReading.{says-unique}
+use Rattle.line_rules.specs.Reading.{IsLeastError}
+use Rattle.line_rules.specs.declared.section.Section.TheVariants.{Ended}
+use Rattle.line_rules.specs.declared.reading.LineError.{LineError}
+use Rattle.line_rules.specs.declared.reading.LineError.TheVariants as error
+
+-- a fault of the statement is one of the line
+fault_of_line : (k : Known) (line : Line) (s : Statement) → IsSound k line → Says line s → (f : Fault)
+    → Fails k s f → LineHas k line f
+fault_of_line k line s sound says Shape h = absurd (h.1 tt)
+fault_of_line k line s sound says Misnamed h = (sound, (s, says, h))
+fault_of_line k line s sound says Unknown h = (sound, (s, says, h))
+fault_of_line k line s sound says Repeated h = (sound, (s, says, h))
+fault_of_line k line s sound says OutOfRange h = (sound, (s, says, h))
+fault_of_line k line s sound says PassesLimit h = (sound, (s, says, h))
+fault_of_line k line s sound says Misplaced h = (sound, (s, says, h))
+fault_of_line k line s sound says RepeatedHolder h = (sound, (s, says, h))
+fault_of_line k line s sound says SecondEntry h = (sound, (s, says, h))
+fault_of_line k line s sound says NoPrice h = (sound, (s, says, h))
+fault_of_line k line s sound says TooLong h = absurd (h.1 tt)
+fault_of_line k line s sound says NoFeed h = absurd (h.1 tt)
+fault_of_line k line s sound says Unprintable h = absurd (h.1 tt)
+fault_of_line k line s sound says AfterEnd h = absurd (h.1 tt)
+
+-- a statement that the line says is the one that it says
+same_fault : (k : Known) (line : Line) (s t : Statement) → Says line s → Says line t → (f : Fault)
+    → Fails k t f → Fails k s f
+same_fault k line s t one other f h = subst (λ u. Fails k u f) (says-unique line t s other one) h
+
+-- a fault of the line is one of the statement
+fault_of_statement : (k : Known) (line : Line) (s : Statement) → IsSound k line → Says line s
+    → (f : Fault) → LineHas k line f → Fails k s f
+fault_of_statement k line s sound says Shape h = absurd (h.1 s says)
+fault_of_statement k line s sound says Misnamed h = same_fault k line s h.1.0 says h.1.1 Misnamed h.1.2
+fault_of_statement k line s sound says Unknown h = same_fault k line s h.1.0 says h.1.1 Unknown h.1.2
+fault_of_statement k line s sound says Repeated h = same_fault k line s h.1.0 says h.1.1 Repeated h.1.2
+fault_of_statement k line s sound says OutOfRange h = same_fault k line s h.1.0 says h.1.1 OutOfRange h.1.2
+fault_of_statement k line s sound says PassesLimit h = same_fault k line s h.1.0 says h.1.1 PassesLimit h.1.2
+fault_of_statement k line s sound says Misplaced h = same_fault k line s h.1.0 says h.1.1 Misplaced h.1.2
+fault_of_statement k line s sound says RepeatedHolder h =
+    same_fault k line s h.1.0 says h.1.1 RepeatedHolder h.1.2
+fault_of_statement k line s sound says SecondEntry h = same_fault k line s h.1.0 says h.1.1 SecondEntry h.1.2
+fault_of_statement k line s sound says NoPrice h = same_fault k line s h.1.0 says h.1.1 NoPrice h.1.2
+fault_of_statement k line s sound says TooLong h = absurd h
+fault_of_statement k line s sound says NoFeed h = absurd h
+fault_of_statement k line s sound says Unprintable h = absurd (h sound.0)
+fault_of_statement k line s sound says AfterEnd h = absurd (sound.1 h)
+
+-- the least fault of the statement is the line's
+pub least_of_line : (k : Known) (line : Line) (s : Statement) → IsSound k line → Says line s
+    → (f : Fault) → IsLeastOf (Fails k s) f → IsLeastOf (LineHas k line) f
+least_of_line k line s sound says f least = record {
+  applies = fault_of_line k line s sound says f least.applies;
+  least = λ g h. least.least g (fault_of_statement k line s sound says g h);
+}
+
+-- a sound line that says a fit statement has no fault
+pub line_faultless : (k : Known) (line : Line) (s : Statement) → IsSound k line → Says line s → IsFit k s
+    → (f : Fault) → LineHas k line f → ⊥
+line_faultless k line s sound says fit f h = fit_faultless k s fit f
+    (fault_of_statement k line s sound says f h)
+
+lowest : (g : Fault) → 1 ≤ number_of_fault g
+lowest Shape = omega arith
+lowest Misnamed = omega arith
+lowest Unknown = omega arith
+lowest Repeated = omega arith
+lowest OutOfRange = omega arith
+lowest PassesLimit = omega arith
+lowest Misplaced = omega arith
+lowest RepeatedHolder = omega arith
+lowest SecondEntry = omega arith
+lowest NoPrice = omega arith
+lowest TooLong = omega arith
+lowest NoFeed = omega arith
+lowest Unprintable = omega arith
+lowest AfterEnd = omega arith
+
+-- a line that says nothing has the lowest fault of all
+pub nothing_least : (k : Known) (line : Line) → IsSound k line → SaysNothing line
+    → IsLeastOf (LineHas k line) Shape
+nothing_least k line sound nothing = record { applies = (sound, nothing); least = λ g h. lowest g }
+
+past_words : (k : Known) (line : Line) → (All IsPrintable line → ⊥) → (g : Fault) → LineHas k line g
+    → 13 ≤ number_of_fault g
+past_words k line unprintable Shape h = absurd (unprintable h.0.0)
+past_words k line unprintable Misnamed h = absurd (unprintable h.0.0)
+past_words k line unprintable Unknown h = absurd (unprintable h.0.0)
+past_words k line unprintable Repeated h = absurd (unprintable h.0.0)
+past_words k line unprintable OutOfRange h = absurd (unprintable h.0.0)
+past_words k line unprintable PassesLimit h = absurd (unprintable h.0.0)
+past_words k line unprintable Misplaced h = absurd (unprintable h.0.0)
+past_words k line unprintable RepeatedHolder h = absurd (unprintable h.0.0)
+past_words k line unprintable SecondEntry h = absurd (unprintable h.0.0)
+past_words k line unprintable NoPrice h = absurd (unprintable h.0.0)
+past_words k line unprintable TooLong h = absurd h
+past_words k line unprintable NoFeed h = absurd h
+past_words k line unprintable Unprintable h = omega arith
+past_words k line unprintable AfterEnd h = omega arith
+
+past_end : (k : Known) (line : Line) → All IsPrintable line → k.section ≡ Ended → (g : Fault)
+    → LineHas k line g → 14 ≤ number_of_fault g
+past_end k line printable ended Shape h = absurd (h.0.1 ended)
+past_end k line printable ended Misnamed h = absurd (h.0.1 ended)
+past_end k line printable ended Unknown h = absurd (h.0.1 ended)
+past_end k line printable ended Repeated h = absurd (h.0.1 ended)
+past_end k line printable ended OutOfRange h = absurd (h.0.1 ended)
+past_end k line printable ended PassesLimit h = absurd (h.0.1 ended)
+past_end k line printable ended Misplaced h = absurd (h.0.1 ended)
+past_end k line printable ended RepeatedHolder h = absurd (h.0.1 ended)
+past_end k line printable ended SecondEntry h = absurd (h.0.1 ended)
+past_end k line printable ended NoPrice h = absurd (h.0.1 ended)
+past_end k line printable ended TooLong h = absurd h
+past_end k line printable ended NoFeed h = absurd h
+past_end k line printable ended Unprintable h = absurd (h printable)
+past_end k line printable ended AfterEnd h = omega arith
+
+-- an unprintable line has no fault below the thirteenth
+pub unprintable_least : (k : Known) (line : Line) → (All IsPrintable line → ⊥)
+    → IsLeastOf (LineHas k line) Unprintable
+unprintable_least k line unprintable =
+    record { applies = unprintable; least = λ g h. past_words k line unprintable g h }
+
+-- a line after the end has no fault but its own, where it is printable
+pub after_end_least : (k : Known) (line : Line) → All IsPrintable line → k.section ≡ Ended
+    → IsLeastOf (LineHas k line) AfterEnd
+after_end_least k line printable ended =
+    record { applies = ended; least = λ g h. past_end k line printable ended g h }
+
+-- the least error of what the line says is the line's
+pub error_of_line : (k : Known) (line : Line) (s : Statement) → IsSound k line → Says line s
+    → (e : LineError) → IsLeastError (Fails k s) e → IsLeastError (LineHas k line) e
+error_of_line k line s sound says (error.Fault f) h = least_of_line k line s sound says f h
+error_of_line k line s sound says error.Memory h = tt

@@ -1,0 +1,152 @@
+-- The faults of a line that says a statement, in view of the lines before it.
+use Rattle.std.specs.Prelude.{ℕ, List, [], ◌≡◌, ◌≤◌, ◌<◌, Option, Some, None, length, slice_index_or, true}
+use Rattle.std.specs.List.{All, Contains}
+use Rattle.std.specs.Borrow.{Bor}
+use Rattle.text_lines.specs.Texts.{Word}
+use Rattle.text_lines.specs.Faults.{number_of_fault}
+use Rattle.text_lines.specs.declared.fault.Fault.{Fault}
+use Rattle.text_lines.specs.declared.fault.Fault.TheVariants.{Shape, Misnamed, Unknown, Repeated}
+use Rattle.text_lines.specs.declared.fault.Fault.TheVariants.{OutOfRange, PassesLimit, Misplaced}
+use Rattle.text_lines.specs.declared.fault.Fault.TheVariants.{RepeatedHolder, SecondEntry, NoPrice, TooLong}
+use Rattle.text_lines.specs.declared.fault.Fault.TheVariants.{NoFeed, Unprintable, AfterEnd}
+use Rattle.line_shapes.specs.Lines.{HasTailApart, IsInRange, IsNamed, Statement, tail_of}
+use Rattle.line_shapes.specs.Places.{place_at}
+use Rattle.line_shapes.specs.declared.keyword.Keyword.{Keyword}
+use Rattle.line_shapes.specs.declared.keyword.Keyword.TheVariants as keyword
+use Rattle.line_shapes.specs.declared.place.Place.{Place}
+use Rattle.line_shapes.specs.declared.place.Place.TheVariants.{New, Used, Number}
+use Rattle.line_rules.specs.declared.purpose.Purpose.{Purpose}
+use Rattle.line_rules.specs.declared.purpose.Purpose.TheVariants.{Checking, Planning}
+use Rattle.line_rules.specs.declared.rule.Rule.{Rule}
+use Rattle.line_rules.specs.declared.rule.Rule.TheVariants as rule
+use Rattle.line_rules.specs.declared.section.Section.{Section}
+use Rattle.line_rules.specs.declared.section.Section.TheVariants.{First, Head, Body, Ended}
+use Rattle.line_rules.specs.Entering.{Key, is_priced, key_of, most_more_of, most_of}
+use Rattle.line_rules.specs.Known.{HasRow, IsDeclared, IsTaken, Known, keys_of, rows_of}
+use Rattle.line_rules.specs.Sections.{section_after, section_of}
+
+-- ---- what a line must meet, each its own fault where it does not
+
+abbrev pub MayStand : Known → Statement → Type 0
+MayStand k s = section_of k.purpose s.keyword ≡ Some k.section
+
+-- a name that is used is declared, of its kind
+abbrev pub IsDeclaredIn : List Statement → Option Place → Word → Type 0
+IsDeclaredIn rows None w = Unit {0}
+IsDeclaredIn rows (Some New) w = Unit {0}
+IsDeclaredIn rows (Some (Used kind)) w = IsDeclared rows kind w
+IsDeclaredIn rows (Some (Number least most)) w = Unit {0}
+
+-- a name that is declared is not taken
+abbrev pub IsFreeIn : List Statement → Option Place → Word → Type 0
+IsFreeIn rows None w = Unit {0}
+IsFreeIn rows (Some New) w = IsTaken rows w → ⊥
+IsFreeIn rows (Some (Used kind)) w = Unit {0}
+IsFreeIn rows (Some (Number least most)) w = Unit {0}
+
+abbrev pub KeepsTo : Rule → List Statement → Option Place → Word → Type 0
+KeepsTo rule.Declared rows place w = IsDeclaredIn rows place w
+KeepsTo rule.Free rows place w = IsFreeIn rows place w
+
+-- each word after the keyword keeps to the rule in its place
+abbrev pub Keep : Rule → List Statement → Statement → Type 0
+Keep r rows s = (i : ℕ) → i < length s.words
+    → KeepsTo r rows (place_at s.keyword i) (slice_index_or s.words i [])
+
+-- no line before was entered by the same words
+abbrev pub IsFirst : List Statement → Statement → Type 0
+IsFirst rows s = Contains (keys_of rows) (key_of s) → ⊥
+
+-- what the head declares is declared once
+abbrev pub IsFirstOfHead : Section → List Statement → Statement → Type 0
+IsFirstOfHead First rows s = Unit {0}
+IsFirstOfHead Head rows s = IsFirst rows s
+IsFirstOfHead Body rows s = Unit {0}
+IsFirstOfHead Ended rows s = Unit {0}
+
+-- what the body states is stated once
+abbrev pub IsFirstOfBody : Section → List Statement → Statement → Type 0
+IsFirstOfBody First rows s = Unit {0}
+IsFirstOfBody Head rows s = Unit {0}
+IsFirstOfBody Body rows s = IsFirst rows s
+IsFirstOfBody Ended rows s = Unit {0}
+
+-- what the line declares is declared for the first time
+pub record IsNew (rows : List Statement) (s : Statement) : Type 0 where
+  pub names : Keep rule.Free rows s
+  pub first : IsFirstOfHead (section_after s.keyword) rows s
+
+abbrev pub HasRoom : Option ℕ → ℕ → Type 0
+HasRoom None n = Unit {0}
+HasRoom (Some most) n = n < most
+
+abbrev pub IsFew : Option ℕ → ℕ → Type 0
+IsFew None n = Unit {0}
+IsFew (Some most) n = n ≤ most
+
+-- the same of words behind references
+abbrev pub KeepIn : Rule → List Statement → Keyword → List (Bor (List ℕ)) → Type 0
+KeepIn r rows k ws = (i : ℕ) (d : Bor (List ℕ)) → i < length ws
+    → KeepsTo r rows (place_at k i) (slice_index_or ws i d).now
+
+-- there may be one line more of its keyword, and no more words follow than may
+pub record IsWithinLimit (rows : List Statement) (s : Statement) : Type 0 where
+  pub room : HasRoom (most_of s.keyword) (length (rows_of s.keyword rows))
+  pub few : IsFew (most_more_of s.keyword) (length (tail_of s))
+
+-- a split or a worker has a price
+abbrev pub HasItsPrice : List Statement → Key → Type 0
+HasItsPrice rows key = is_priced key.0 ≡ true → HasRow rows keyword.Price key.1
+
+-- each of them, where there is a plan to check
+abbrev pub IsPriced : Purpose → List Statement → Type 0
+IsPriced Checking rows = All (HasItsPrice rows) (keys_of rows)
+IsPriced Planning rows = Unit {0}
+
+-- at the end nothing lacks its price
+abbrev pub IsPricedBefore : Section → Known → Type 0
+IsPricedBefore First k = Unit {0}
+IsPricedBefore Head k = Unit {0}
+IsPricedBefore Body k = Unit {0}
+IsPricedBefore Ended k = IsPriced k.purpose k.rows
+
+-- ---- the faults
+
+-- what keeps a line that may stand where it does from this fault
+abbrev pub Meets : Known → Statement → Fault → Type 0
+Meets k s Misnamed = IsNamed s
+Meets k s Unknown = Keep rule.Declared k.rows s
+Meets k s Repeated = IsNew k.rows s
+Meets k s OutOfRange = IsInRange s
+Meets k s PassesLimit = IsWithinLimit k.rows s
+Meets k s RepeatedHolder = HasTailApart s
+Meets k s SecondEntry = IsFirstOfBody (section_after s.keyword) k.rows s
+Meets k s NoPrice = IsPricedBefore (section_after s.keyword) k
+Meets k s Shape = Unit {0}
+Meets k s Misplaced = Unit {0}
+Meets k s TooLong = Unit {0}
+Meets k s NoFeed = Unit {0}
+Meets k s Unprintable = Unit {0}
+Meets k s AfterEnd = Unit {0}
+
+-- a misplaced line has no other fault
+abbrev pub Fails : Known → Statement → Fault → Type 0
+Fails k s Misplaced = MayStand k s → ⊥
+Fails k s f = MayStand k s × (Meets k s f → ⊥)
+
+-- the line has no fault
+pub record IsFit (k : Known) (s : Statement) : Type 0 where
+  pub may_stand : MayStand k s
+  pub named : IsNamed s
+  pub known : Keep rule.Declared k.rows s
+  pub new : IsNew k.rows s
+  pub in_range : IsInRange s
+  pub within_limit : IsWithinLimit k.rows s
+  pub tail_apart : HasTailApart s
+  pub once : IsFirstOfBody (section_after s.keyword) k.rows s
+  pub priced : IsPricedBefore (section_after s.keyword) k
+
+-- the fault applies, and none of a lower number does
+pub record IsLeastOf (P : Fault → Type 0) (f : Fault) : Type 0 where
+  pub applies : P f
+  pub least : (g : Fault) → P g → number_of_fault f ≤ number_of_fault g

@@ -1,0 +1,69 @@
+-- What is known before a line, of the lines before it.
+use Rattle.std.specs.Prelude.{List, [], ◌∷◌, ◌++◌, ◌⊎◌, Bool, map}
+use Rattle.std.specs.List.{Contains, filter, flat_map}
+use Rattle.std.specs.Str.{bytes_eq}
+use Rattle.text_lines.specs.Texts.{Word}
+use Rattle.line_shapes.specs.Keywords.{text_of}
+use Rattle.line_shapes.specs.Lines.{Statement}
+use Rattle.line_shapes.specs.declared.keyword.Keyword.{Keyword}
+use Rattle.line_shapes.specs.declared.keyword.Keyword.TheVariants as keyword
+use Rattle.line_shapes.specs.declared.place.Kind.{Kind}
+use Rattle.line_shapes.specs.declared.place.Kind.TheVariants.{Rack, Worker, Split, Priced}
+use Rattle.line_rules.specs.declared.purpose.Purpose.{Purpose}
+use Rattle.line_rules.specs.declared.section.Section.{Section}
+use Rattle.line_rules.specs.declared.section.Section.TheVariants.{First}
+use Rattle.line_rules.specs.Entering.{Key, entered_of, key_of}
+use Rattle.line_rules.specs.Sections.{section_after}
+
+pub record Known : Type 0 where
+  -- what the text is read for
+  pub purpose : Purpose
+  -- where the line stands
+  pub section : Section
+  -- the lines before that are entered, in their order
+  pub rows : List Statement
+
+-- where a line stands after these
+abbrev pub section_at : Section → List Statement → Section
+section_at section [] = section
+section_at section (s ∷ ss) = section_at (section_after s.keyword) ss
+
+-- what is known after these lines
+abbrev pub known_at : Purpose → List Statement → Known
+known_at purpose before = record {
+  purpose = purpose;
+  section = section_at First before;
+  rows = flat_map entered_of before;
+}
+
+-- what is known after one line more
+abbrev pub entered : Known → Statement → Known
+entered k s = record k { section = section_after s.keyword; rows = k.rows ++ entered_of s }
+
+-- ---- the rows
+
+abbrev pub keys_of : List Statement → List Key
+keys_of rows = map key_of rows
+
+-- a row of this keyword and this first word
+abbrev pub HasRow : List Statement → Keyword → Word → Type 0
+HasRow rows k name = Contains (keys_of rows) (k, name, [])
+
+-- the name is declared, and of this kind
+abbrev pub IsDeclared : List Statement → Kind → Word → Type 0
+IsDeclared rows Rack name = HasRow rows keyword.Rack name
+IsDeclared rows Worker name = HasRow rows keyword.Worker name
+IsDeclared rows Split name = HasRow rows keyword.Split name
+IsDeclared rows Priced name = HasRow rows keyword.Split name ⊎ HasRow rows keyword.Worker name
+
+-- the one name space
+abbrev pub IsTaken : List Statement → Word → Type 0
+IsTaken rows name = HasRow rows keyword.Rack name ⊎ (HasRow rows keyword.Worker name
+    ⊎ HasRow rows keyword.Split name)
+
+abbrev pub is_of : Keyword → Statement → Bool
+is_of k s = bytes_eq (text_of k) (text_of s.keyword)
+
+-- the rows of one keyword
+abbrev pub rows_of : Keyword → List Statement → List Statement
+rows_of k rows = filter (is_of k) rows

@@ -1,0 +1,162 @@
+ghost use Rattle.std.specs.Prelude.{◌≡◌, ◌+◌, ◌≤◌, [], IfErr, IfOk, IsTrue, MatchOption, OnOk, length, ◌↔◌};
+ghost use Rattle.line_shapes.specs.Lines.{statement_of};
+ghost use Rattle.line_shapes.specs.Places.{places_of};
+ghost use Rattle.line_rules.specs.Faults.{Fails, IsLeastOf};
+ghost use Rattle.line_rules.specs.Known.{known_at};
+ghost use Rattle.line_rules.specs.Reading.{Enters, IsAllRead, IsLeastError, IsReadingError, Takes, error_at};
+ghost use Rattle.line_rules.specs.Texts.{LineHas, RestHas, longest};
+ghost use Rattle.line_rules.specs.declared.section.Section.TheVariants.{Ended};
+ghost use Rattle.line_rules.specs.declared.reading.LineError.TheVariants.{Memory};
+
+use crate::known::KnownLines;
+use crate::purpose::Purpose;
+use crate::section::Section;
+use line_shapes::{KeyedLine, said_by};
+use std::alloc::{AllocError, Global};
+use text_lines::{Fault, TextFault, printable, split_line, words};
+
+const MAX_TEXT_BYTES: usize = 16_777_216;
+
+/// Why a text was not read.
+#[derive(Clone, Copy, Debug, PartialEq, Eq)]
+pub enum ReadingError {
+    /// The least fault of the text.
+    Text(TextFault),
+    Memory,
+}
+
+/// Why a line was not taken.
+#[derive(Clone, Copy, Debug, PartialEq, Eq)]
+pub enum LineError {
+    /// The line's least fault.
+    Fault(Fault),
+    Memory,
+}
+
+impl From<AllocError> for LineError {
+    ghost from_gives = { λ _ e. e ≡ Memory };
+
+    fn from(_error: AllocError) -> LineError {
+        LineError::Memory
+    }
+}
+
+/// What all lines of a text say, read for a purpose, or the text's least fault. It borrows its words from
+/// the text.
+pub fn read_lines(
+    alloc: Global,
+    purpose: Purpose,
+    text: &[u8],
+) -> Result<KnownLines<'_>, ReadingError>
+    ensures ok { IfOk result (IsAllRead purpose text.entry.now) }
+    ensures err { IfErr result (IsReadingError purpose text.entry.now) }
+{
+    if text.len() > MAX_TEXT_BYTES {
+        return Err(fault_in(0, Fault::TooLong));
+    }
+    let mut known = KnownLines::new(alloc, purpose);
+    take_lines(alloc, text, &mut known)?;
+    Ok(known)
+}
+
+// Takes all lines of a text, and what follows the last line feed.
+fn take_lines<'t>(
+    alloc: Global,
+    text: &'t [u8],
+    known: &mut KnownLines<'t>,
+) -> Result<(), ReadingError>
+    requires short { length text.now ≤ longest }
+    requires first { known.old ≡ known_at known.old.purpose [] }
+    ensures ok { OnOk result (IsAllRead known.old.purpose text.entry.now known.new) }
+    ensures err { IfErr result (IsReadingError known.old.purpose text.entry.now) }
+{
+    let mut rest = text;
+    let mut lines_read: u32 = 0;
+    loop {
+        let (line, after) = split_line(rest);
+        let Some(after) = after else {
+            return match fault_of_rest(known, line) {
+                Some(fault) => Err(fault_in(lines_read + 1, fault)),
+                None => Ok(()),
+            };
+        };
+        if let Err(error) = take_line(alloc, line, known) {
+            return Err(error_in(lines_read + 1, error));
+        }
+        rest = after;
+        lines_read += 1;
+    }
+}
+
+// Takes a line that has its line feed, given without it.
+fn take_line<'t>(alloc: Global, line: &'t [u8], known: &mut KnownLines<'t>) -> Result<(), LineError>
+    ensures ok { OnOk result (Takes known.old line.entry.now known.new) }
+    ensures err { IfErr result (IsLeastError (LineHas known.old line.entry.now)) }
+{
+    let Some(line) = printable(line) else {
+        return Err(LineError::Fault(Fault::Unprintable));
+    };
+    if is_ended(known) {
+        return Err(LineError::Fault(Fault::AfterEnd));
+    }
+    let words = words(alloc, line)?;
+    match said_by(&words) {
+        Some(line) => take_said(alloc, &line, known),
+        None => Err(LineError::Fault(Fault::Shape)),
+    }
+}
+
+// Takes what a line says.
+fn take_said<'t>(
+    alloc: Global,
+    line: &KeyedLine<'_, 't>,
+    known: &mut KnownLines<'t>,
+) -> Result<(), LineError>
+    requires { length (places_of line.now.keyword) ≤ length line.now.words.now }
+    ensures ok { OnOk result (Enters known.old (statement_of line.now) known.new) }
+    ensures err { IfErr result (IsLeastError (Fails known.old (statement_of line.now))) }
+{
+    if let Some(fault) = known.fault_of(line) {
+        return Err(LineError::Fault(fault));
+    }
+    known.enter(alloc, line)?;
+    Ok(())
+}
+
+fn is_ended(known: &KnownLines<'_>) -> bool
+    ensures { IsTrue result ↔ (known.now.section ≡ Ended) }
+{
+    match known.section() {
+        Section::Ended => true,
+        Section::First | Section::Head | Section::Body => false,
+    }
+}
+
+// The least fault of what follows the last line feed.
+fn fault_of_rest(known: &KnownLines<'_>, rest: &[u8]) -> Option<Fault>
+    ensures { MatchOption result ((rest.now ≡ []) × (known.now.section ≡ Ended))
+        (IsLeastOf (RestHas known.now rest.now)) }
+{
+    if !rest.is_empty() {
+        Some(Fault::NoFeed)
+    } else if !is_ended(known) {
+        Some(Fault::Misplaced)
+    } else {
+        None
+    }
+}
+
+fn error_in(line: u32, error: LineError) -> ReadingError
+    ensures { result ≡ error_at line error }
+{
+    match error {
+        LineError::Fault(fault) => fault_in(line, fault),
+        LineError::Memory => ReadingError::Memory,
+    }
+}
+
+fn fault_in(line: u32, number: Fault) -> ReadingError
+    ensures { result ≡ ReadingError.Text (record { line = line; number = number }) }
+{
+    ReadingError::Text(TextFault { line, number })
+}

@@ -1,0 +1,124 @@
+use line_rules::{KnownLines, Purpose, ReadingError, read_lines};
+use line_shapes::Keyword;
+use std::alloc::Global;
+use std::test::Fail;
+
+// The line and the number of a text's fault, None where it has none or memory ran out.
+fn fault_of(alloc: Global, purpose: Purpose, text: &str) -> Option<(u32, u8)> {
+    let read: Result<KnownLines<'_>, ReadingError> = read_lines(alloc, purpose, text.as_bytes());
+    match read {
+        Ok(_) => None,
+        Err(ReadingError::Text(fault)) => Some((fault.line, fault.number.number())),
+        Err(ReadingError::Memory) => None,
+    }
+}
+
+// Texts to plan from.
+const TO_PLAN: [(&str, Option<(u32, u8)>); 22] = [
+    ("problem 1\nend\n", None),
+    (
+        "problem 1\nrack r\nworker a r 16\nsplit s 67108864 a\nend\n",
+        None,
+    ),
+    ("problem 1\nrock r\nend\n", Some((2, 1))),
+    ("problem 1\nrack r \nend\n", Some((2, 1))),
+    ("problem 1\nrack 1r\nend\n", Some((2, 2))),
+    ("problem 1\nworker 1a r 17\nend\n", Some((2, 2))),
+    ("problem 1\nworker a r 1\nend\n", Some((2, 3))),
+    ("problem 1\nrack r\nsplit s 5 r\nend\n", Some((3, 3))),
+    ("problem 1\nrack r\nworker r r 1\nend\n", Some((3, 4))),
+    (
+        "problem 1\nrack r\nworker a r 1\ndead a\ndead a\nend\n",
+        Some((5, 4)),
+    ),
+    (
+        "problem 1\nrack r\nworker a r 1\nsplit s 1\nbarred s a\nbarred s a\nend\n",
+        Some((6, 4)),
+    ),
+    ("problem 2\nend\n", Some((1, 5))),
+    ("problem 1\nrack r\nworker a r 17\nend\n", Some((3, 5))),
+    ("problem 1\nsplit s 67108865\nend\n", Some((2, 5))),
+    ("rack r\nend\n", Some((1, 7))),
+    ("problem 1\nplan\nend\n", Some((2, 7))),
+    ("problem 1\n", Some((2, 7))),
+    ("", Some((1, 7))),
+    (
+        "problem 1\nrack r\nworker a r 1\nsplit s 1 a a\nend\n",
+        Some((4, 8)),
+    ),
+    ("problem 1\nend", Some((2, 12))),
+    ("problem 1\nrack \t\nend\n", Some((2, 13))),
+    ("problem 1\nend\nend\n", Some((3, 14))),
+];
+
+#[test]
+fn texts_to_plan_from(rt: HostRuntime) {
+    for (text, fault) in TO_PLAN {
+        assert_eq!(rt;
+            fault_of(rt.alloc(), Purpose::Planning, text),
+            fault,
+            "{text}"
+        );
+    }
+}
+
+// What stands after the head of a text to check, whose first line is the fifth.
+const PLANS: [(&str, Option<(u32, u8)>); 9] = [
+    (
+        "plan\nstart s a\nprice s 0\nprice a 18446744073709551615\nend\n",
+        None,
+    ),
+    ("plan\nstart s a\nprice s 0\nend\n", Some((8, 10))),
+    ("plan\nstart s a\nprice a 0\nend\n", Some((8, 10))),
+    ("plan\nstart s a\nstart s a\nend\n", Some((7, 9))),
+    ("plan\nprice a 1\nprice a 2\nend\n", Some((7, 9))),
+    ("plan\nprice a 18446744073709551616\nend\n", Some((6, 5))),
+    ("plan\nprice r 1\nend\n", Some((6, 3))),
+    ("plan\nbusy s\nend\n", Some((6, 7))),
+    ("end\n", Some((5, 7))),
+];
+
+#[test]
+fn texts_to_check(rt: HostRuntime) -> Result<(), Fail> {
+    for (plan, fault) in PLANS {
+        let head = "problem 1\nrack r\nworker a r 1\nsplit s 1 a\n";
+        let text = format!(in rt.alloc(); "{head}{plan}")?;
+        assert_eq!(rt;
+            fault_of(rt.alloc(), Purpose::Checking, &text),
+            fault,
+            "{plan}"
+        );
+    }
+    Ok(())
+}
+
+#[test]
+fn a_ninth_holder_passes_the_limit(rt: HostRuntime) {
+    let text =
+        "problem 1\nrack r\nworker a r 0\nworker b r 0\nworker c r 0\nworker d r 0\nworker e r 0\n\
+worker f r 0\nworker g r 0\nworker h r 0\nworker i r 0\nsplit s 1 a b c d e f g h\nsplit t 1 a b c d e f g h i\n";
+    assert_eq!(rt;
+        fault_of(rt.alloc(), Purpose::Planning, text),
+        Some((13, 6))
+    );
+}
+
+// The keyword, the first two words of its key and how many words follow, of a row.
+fn row_of(alloc: Global, text: &str, row: usize) -> Option<(bool, bool, usize)> {
+    let known = read_lines(alloc, Purpose::Planning, text.as_bytes()).ok()?;
+    let row = known.rows().row(row)?;
+    let is_bar = row.keyword == Keyword::Barred;
+    Some((
+        is_bar,
+        row.first == "s" && row.second == "a",
+        row.rest.len(),
+    ))
+}
+
+#[test]
+fn lines_are_entered_in_their_order(rt: HostRuntime) {
+    let text = "problem 1\nrack r\nworker a r 1\nsplit s 1 a\nbarred s a\nend\n";
+    assert_eq!(rt; row_of(rt.alloc(), text, 3), Some((true, true, 0)));
+    assert_eq!(rt; row_of(rt.alloc(), text, 2), Some((false, false, 2)));
+    assert_eq!(rt; row_of(rt.alloc(), text, 4), None);
+}
