@@ -17,7 +17,7 @@ use Rattle.view_sums.proofs.Each.{place_within, each_set, each_snoc}
 use Rattle.beat_board.specs.declared.view.View.{View}
 use Rattle.beat_board.specs.declared.view.Tally.{Tally}
 use Rattle.beat_board.specs.declared.view.Look.{Look}
-use Rattle.beat_board.specs.Values.{look, AreWithin, down_from}
+use Rattle.beat_board.specs.Values.{look, last_seen, AreWithin, down_from}
 use Rattle.beat_board.specs.Views.{tally, seated, reading, making, spent, answers}
 use Rattle.beat_board.specs.Rule.{beats_of, told_of, seats_in, Fits, Counted, Rule}
 use Rattle.beat_board.specs.Steps.{Beats, Looks, Turns, more, shown, gathers}
@@ -520,3 +520,16 @@ told_head n v w m told e h =
     let all = subst (λ (u : View). All (λ t. All (λ k. k ≤ n) t.told) u.tallies) e h in
     let one = All-head (λ (t : Tally). All (λ k. k ≤ n) t.told) (tally w m told) [] all in
     All-weaker (λ k. k ≤ n) (λ k. k < n + 1) (λ k le. omega arith) told one
+
+-- what was last seen of a worker is one of the numbers that were seen
+pub last_within : (w n : ℕ) (xs : List Look) → All (λ x. x.worker ≡ w → x.beats ≤ n) xs → last_seen w xs ≤ n
+last_within w n [] h = omega arith
+last_within w n (x ∷ xs) h =
+    let here = All-head (λ (y : Look). y.worker ≡ w → y.beats ≤ n) x xs h in
+    let rest = last_within w n xs (All-tail (λ (y : Look). y.worker ≡ w → y.beats ≤ n) x xs h) in
+    by_cases (x.worker == w) refl here rest
+  where
+    by_cases : (b : Bool) → (x.worker == w) ≡ b → (x.worker ≡ w → x.beats ≤ n) → last_seen w xs ≤ n
+        → cond b x.beats (last_seen w xs) ≤ n
+    by_cases true e here rest = here (grind (arith, nat_tests))
+    by_cases false e here rest = rest

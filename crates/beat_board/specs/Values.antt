@@ -31,6 +31,11 @@ pub record ReaderValue : Type 0 where
 abbrev pub look : ℕ → ℕ → Look
 look w n = record { worker = w; beats = n }
 
+-- what was last seen of a worker, 0 before the first look
+abbrev pub last_seen : ℕ → List Look → ℕ
+last_seen w [] = 0
+last_seen w (x ∷ xs) = if x.worker == w then x.beats else last_seen w xs
+
 -- no number that was seen is more than its worker's word
 abbrev pub AreWithin : List ℕ → List Look → Type 0
 AreWithin words xs = All (λ x. x.beats ≤ slice_index words x.worker) xs

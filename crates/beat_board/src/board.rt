@@ -3,7 +3,7 @@ ghost use Rattle.std.specs.Prelude.{IfOk, IfErr, OnOk, OnErr, IsOk, IsErr};
 ghost use Rattle.std.specs.List.{All};
 ghost use Rattle.std.specs.Slots.{slots_items, slots_len, IsFull};
 ghost use Rattle.beat_board.specs.declared.TheConstants.{MAX_WORKERS, MAX_BEATS, MAX_SEATS};
-ghost use Rattle.beat_board.specs.Values.{beats_by, told_by, look, AreWithin, AreToldOnce};
+ghost use Rattle.beat_board.specs.Values.{beats_by, told_by, last_seen, look, AreWithin, AreToldOnce};
 ghost use Rattle.beat_board.specs.Rule.{beats_of, told_of};
 ghost use Rattle.beat_board.specs.Views.{making};
 
@@ -170,7 +170,8 @@ impl Board {
         requires board { reader.old.board ≡ self.now.board }
         requires worker { worker < self.now.workers }
         ensures board { reader.new.board ≡ reader.old.board }
-        ensures rises { All (λ x. x.worker ≡ worker → x.beats ≤ result) reader.old.looks }
+        ensures rises { last_seen worker reader.old.looks ≤ result }
+        ensures above { All (λ x. x.worker ≡ worker → x.beats ≤ result) reader.old.looks }
         ensures seen { reader.new.looks ≡ look worker result ∷ reader.old.looks }
     {
         self.table
