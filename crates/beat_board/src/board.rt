@@ -1,15 +1,18 @@
-ghost use Rattle.std.specs.Prelude.{◌≡◌, ◌≢◌, ◌+◌, ◌<◌, ◌≤◌, ℕ, [], ◌∷◌, ◌↔◌, length, slice_index};
+ghost use Rattle.std.specs.Prelude.{◌≡◌, ◌≢◌, ◌+◌, ◌<◌, ◌≤◌, ℕ, List, [], ◌∷◌, ◌++◌, ◌↔◌, map, length, slice_index};
 ghost use Rattle.std.specs.Prelude.{IfOk, IfErr, OnOk, OnErr, IsOk, IsErr};
 ghost use Rattle.std.specs.List.{All};
+ghost use Rattle.std.specs.Slots.{slots_items, slots_len, IsFull};
 ghost use Rattle.beat_board.specs.declared.TheConstants.{MAX_WORKERS, MAX_BEATS, MAX_SEATS};
-ghost use Rattle.beat_board.specs.Values.{beats_by, last_seen, look};
-ghost use Rattle.beat_board.specs.Rule.{beats_of};
+ghost use Rattle.beat_board.specs.Values.{beats_by, told_by, last_seen, look, AreWithin, AreToldOnce};
+ghost use Rattle.beat_board.specs.Rule.{beats_of, told_of};
 ghost use Rattle.beat_board.specs.Views.{making};
 
 use crate::tokens::{Maker, Reader, Seat, Token};
-use crate::view::{BeatStep, LookStep, ReaderSplit, SeatJoin, SeatSplit, Sums, TurnStep, View};
+use crate::view::{
+    BeatStep, Gather, LookStep, ReaderSplit, SeatSplit, Sums, TellSplit, TurnStep, View,
+};
 use crate::{MAX_BEATS, MAX_WORKERS};
-use atomic_table::{Shared, Table};
+use atomic_table::{Closed, Shared, Table};
 use node_ids::WorkerNo;
 use std::alloc::{AllocError, Global};
 use std::marker::Model;
@@ -94,7 +97,8 @@ impl Board {
     pub fn seat(&self, maker: &mut Maker, worker: WorkerNo) -> Result<Seat, SeatError>
         requires board { maker.old.board ≡ self.now.board }
         requires worker { worker < self.now.workers }
-        ensures seat { IfOk result (λ s. s ≡ record { board = self.now.board; worker = worker; beats = 0 }) }
+        ensures seat { IfOk result (λ s. s
+            ≡ record { board = self.now.board; worker = worker; beats = 0; told = [] }) }
         ensures made { OnOk result (maker.new ≡ record maker.old { seats = maker.old.seats + 1 }) }
         ensures err { OnErr result (maker.new ≡ maker.old) }
         ensures limit { (result ≡ Err SeatError.Limit) ↔ (maker.old.seats + maker.old.readers ≡ MAX_SEATS) }
@@ -140,8 +144,10 @@ impl Board {
     pub fn beat(&self, seat: &mut Seat) -> Result<u64, Worn>
         requires { seat.old.board ≡ self.now.board }
         ensures board { seat.new.board ≡ seat.old.board }
-        ensures counted { OnOk result (seat.new ≡ record seat.old { beats = seat.old.beats + 1 }) }
+        ensures counted { IfOk result (λ word. seat.new
+            ≡ record seat.old { beats = seat.old.beats + 1; told = word ∷ seat.old.told }) }
         ensures told { IfOk result (λ word. seat.new.beats ≤ word) }
+        ensures rises { IfOk result (λ word. All (λ n. n < word) seat.old.told) }
         ensures worn { IsErr result ↔ (seat.old.beats ≡ MAX_BEATS) }
         ensures err { OnErr result (seat.new ≡ seat.old) }
         ensures limit { seat.new.beats ≤ MAX_BEATS }
@@ -158,17 +164,34 @@ impl Board {
         Ok(found + 1)
     }
 
-    /// The word of a worker, which is one atomic load. It never falls for one reader.
+    /// The word of a worker, which is one atomic load. It is no less than what this reader saw of the worker
+    /// before, and than what it was told of a seat's beats.
     pub fn look(&self, reader: &mut Reader, worker: WorkerNo) -> u64
         requires board { reader.old.board ≡ self.now.board }
         requires worker { worker < self.now.workers }
         ensures board { reader.new.board ≡ reader.old.board }
         ensures rises { last_seen worker reader.old.looks ≤ result }
+        ensures above { All (λ x. x.worker ≡ worker → x.beats ≤ result) reader.old.looks }
         ensures seen { reader.new.looks ≡ look worker result ∷ reader.old.looks }
     {
         self.table
             .shared
             .load::<LookStep>(&mut reader.token, worker.index())
+    }
+
+    /// Tells a reader what the seat's beats were answered, so that no later look is less. A thread that beats
+    /// can hand such a reader to one that looks.
+    pub fn tell(&self, seat: &mut Seat, reader: &mut Reader)
+        requires seat { seat.old.board ≡ self.now.board }
+        requires reader { reader.old.board ≡ self.now.board }
+        ensures seat { seat.new ≡ seat.old }
+        ensures reader { reader.new ≡ record reader.old {
+          looks = map (λ n. look seat.old.worker n) seat.old.told ++ reader.old.looks;
+        } }
+    {
+        let shared = &self.table.shared;
+        let told = shared.split_seat::<TellSplit>(&mut seat.token);
+        shared.join_seat::<Gather>(&mut reader.token, told);
     }
 
     /// Ends the board: for each worker the sum of the beats that its seats made. It needs every seat that was
@@ -185,6 +208,9 @@ impl Board {
         ensures complete { IsOk result ↔ (length seats.items ≡ maker.seats) }
         ensures totals { IfOk result (λ t. (w : ℕ) → w < MAX_WORKERS
             → slice_index t.beats w ≡ beats_by w seats.items) }
+        ensures told { IfOk result (λ t. (w : ℕ) → w < MAX_WORKERS
+            → AreToldOnce w (slice_index t.beats w) seats.items) }
+        ensures seen { IfOk result (λ t. All (λ r. AreWithin t.beats r.looks) readers.items) }
         ensures missing { IfErr result (λ m. length seats.items + m.count ≡ maker.seats) }
         ensures given_back { IfErr result (λ m.
             (m.board ≡ self) × (m.maker ≡ maker) × (m.seats ≡ seats) × (m.readers ≡ readers)) }
@@ -199,15 +225,18 @@ impl Board {
                 readers,
             });
         }
-        Ok(self.totals(maker, seats))
+        Ok(self.totals(maker, seats, readers))
     }
 
-    fn totals(self, maker: Maker, seats: Vec<Seat>) -> Totals
+    fn totals(self, maker: Maker, seats: Vec<Seat>, readers: Vec<Reader>) -> Totals
         requires maker { maker.board ≡ self.board }
         requires seats { All (λ s. s.board ≡ self.board) seats.items }
+        requires readers { All (λ r. r.board ≡ self.board) readers.items }
         requires all { maker.seats ≤ length seats.items }
         ensures made { length seats.items ≡ maker.seats }
         ensures sums { (w : ℕ) → w < MAX_WORKERS → slice_index result.beats w ≡ beats_by w seats.items }
+        ensures told { (w : ℕ) → w < MAX_WORKERS → AreToldOnce w (slice_index result.beats w) seats.items }
+        ensures seen { All (λ r. AreWithin result.beats r.looks) readers.items }
     {
         let Board { table, workers: _ } = self;
         let Maker {
@@ -215,12 +244,10 @@ impl Board {
             seats: _,
             readers: _,
         } = maker;
-        gather(&table.shared, &mut token, seats);
+        gather_seats(&table.shared, &mut token, seats);
+        gather_readers(&table.shared, &mut token, readers);
         let closed = table.close_with(token);
-        let mut beats = zeros();
-        for worker in 0..MAX_WORKERS {
-            beats[worker] = closed.word(worker);
-        }
+        let beats = words_of(&closed);
         closed.free();
         Totals { beats }
     }
@@ -233,15 +260,29 @@ fn zeros() -> [u64; MAX_WORKERS]
     [0; MAX_WORKERS]
 }
 
+// The words of a closed board.
+fn words_of(closed: &Closed<u8, Global>) -> [u64; MAX_WORKERS]
+    requires { IsFull closed.now.words × (slots_len closed.now.words ≡ 256) }
+    ensures { result ≡ slots_items closed.now.words }
+{
+    let mut beats = zeros();
+    for worker in 0..MAX_WORKERS {
+        beats[worker] = closed.word(worker);
+    }
+    beats
+}
+
 // Joins all seats to the maker's token.
-fn gather(shared: &Shared<u8, View, (), Sums>, token: &mut Token, mut seats: Vec<Seat>)
+fn gather_seats(shared: &Shared<u8, View, (), Sums>, token: &mut Token, mut seats: Vec<Seat>)
     requires board { (token.old.table_id ≡ shared.now.table_id) × (shared.now.table_id.words ≡ 256) }
-    requires maker { (token.old.id ≡ 0) × (token.old.me.0 ≡ making [] token.old.me.0.next token.old.me.0.made) }
+    requires maker { (token.old.id ≡ 0) × (token.old.me.0 ≡ making [] [] token.old.me.0.next token.old.me.0.made) }
     requires seats { All (λ s. s.board ≡ shared.now.table_id) seats.items }
     ensures same { (token.new.table_id ≡ token.old.table_id) × (token.new.id ≡ 0) × (token.new.me.1 ≡ token.old.me.1) }
-    ensures view { token.new.me.0 ≡ making token.new.me.0.tallies token.new.me.0.next token.old.me.0.made }
+    ensures view { token.new.me.0 ≡ making token.new.me.0.tallies [] token.new.me.0.next token.old.me.0.made }
     ensures count { length token.new.me.0.tallies ≡ length seats.items }
     ensures sums { (w : ℕ) → beats_of w token.new.me.0.tallies ≡ beats_by w seats.items }
+    ensures told { (w : ℕ) (weight : ℕ → ℕ) → told_of w weight token.new.me.0.tallies
+        ≡ told_by w weight seats.items }
 {
     while let Some(seat) = seats.pop() {
         let Seat {
@@ -249,6 +290,21 @@ fn gather(shared: &Shared<u8, View, (), Sums>, token: &mut Token, mut seats: Vec
             worker: _,
             beats: _,
         } = seat;
-        shared.join_seat::<SeatJoin>(token, other);
+        shared.join_seat::<Gather>(token, other);
+    }
+}
+
+// Joins all readers to the maker's token, which has the seats.
+fn gather_readers(shared: &Shared<u8, View, (), Sums>, token: &mut Token, mut readers: Vec<Reader>)
+    requires board { (token.old.table_id ≡ shared.now.table_id) × (shared.now.table_id.words ≡ 256) }
+    requires readers { All (λ r. r.board ≡ shared.now.table_id) readers.items }
+    ensures same { (token.new.table_id ≡ token.old.table_id) × (token.new.id ≡ token.old.id) × (token.new.me.1 ≡ token.old.me.1) }
+    ensures view { token.new.me.0 ≡ making token.old.me.0.tallies token.new.me.0.looks token.old.me.0.next token.old.me.0.made }
+    ensures looks { (words : List ℕ) → AreWithin words token.new.me.0.looks
+        → All (λ r. AreWithin words r.looks) readers.items }
+{
+    while let Some(reader) = readers.pop() {
+        let Reader { token: other } = reader;
+        shared.join_seat::<Gather>(token, other);
     }
 }

@@ -27,7 +27,7 @@ impl Model for Maker {
     ghost view = { λ m. record { board = m.token.table_id; seats = m.seats; readers = m.readers } };
 
     ghost invariant = { λ m. (m.token.id ≡ 0) × (m.token.me.1 ≡ [])
-        × (m.token.me.0 ≡ making [] m.token.me.0.next m.seats) × (m.seats + m.readers ≤ 4096) };
+        × (m.token.me.0 ≡ making [] [] m.token.me.0.next m.seats) × (m.seats + m.readers ≤ 4096) };
 }
 
 impl Maker {
@@ -50,13 +50,18 @@ pub struct Seat {
 impl Model for Seat {
     ghost use Rattle.std.specs.Prelude.{◌≡◌, ◌<◌, ◌≤◌, ◌^◌, []};
     ghost use Rattle.beat_board.specs.Values.{SeatValue};
-    ghost use Rattle.beat_board.specs.Views.{seated};
+    ghost use Rattle.beat_board.specs.Views.{seated, answers};
 
     ghost Value = { SeatValue };
 
-    ghost view = { λ s. record { board = s.token.table_id; worker = s.worker; beats = s.beats } };
+    ghost view = { λ s. record {
+      board = s.token.table_id;
+      worker = s.worker;
+      beats = s.beats;
+      told = answers s.token.me.0.tallies;
+    } };
 
-    ghost invariant = { λ s. (s.token.me.1 ≡ []) × (s.token.me.0 ≡ seated s.worker s.beats)
+    ghost invariant = { λ s. (s.token.me.1 ≡ []) × (s.token.me.0 ≡ seated s.worker s.beats (answers s.token.me.0.tallies))
         × (s.beats ≤ 2 ^ 40) × (s.worker < 256) };
 }
 

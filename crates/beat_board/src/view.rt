@@ -3,10 +3,11 @@
 use atomic_table::{Join, Play, Split, TableRule};
 use std::collections::LinkedList;
 
-/// The beats that a seat made.
+/// The beats that a seat made, and what they were answered, the latest first.
 pub struct Tally {
     pub worker: u64,
     pub beats: u64,
+    pub told: LinkedList<u64>,
 }
 
 /// A number that was answered for a worker.
@@ -34,7 +35,7 @@ impl TableRule<u8, View, ()> for Sums {
 
     ghost holds = { λ _. Rule };
 
-    ghost first = { λ _. making [] 0 0 };
+    ghost first = { λ _. making [] [] 0 0 };
 }
 
 /// A beat of a seat.
@@ -68,12 +69,13 @@ impl Play<u8, View> for TurnStep {
 pub struct SeatSplit;
 
 impl Split<View> for SeatSplit {
+    ghost use Rattle.std.specs.Prelude.{[]};
     ghost use Rattle.beat_board.specs.Views.{seated};
     ghost use Rattle.beat_board.specs.Steps.{more};
 
     ghost left = { more };
 
-    ghost right = { λ v. seated v.next 0 };
+    ghost right = { λ v. seated v.next 0 [] };
 }
 
 /// A reader is split off from the maker.
@@ -88,10 +90,22 @@ impl Split<View> for ReaderSplit {
     ghost right = { λ v. reading [] };
 }
 
-/// A seat comes back to the maker.
-pub struct SeatJoin;
+/// What a seat was told is split off from it, as what a reader would know.
+pub struct TellSplit;
 
-impl Join<View> for SeatJoin {
+impl Split<View> for TellSplit {
+    ghost use Rattle.beat_board.specs.Views.{reading};
+    ghost use Rattle.beat_board.specs.Steps.{shown};
+
+    ghost left = { λ v. v };
+
+    ghost right = { λ v. reading (shown v.tallies) };
+}
+
+/// A seat or a reader comes back to the maker, or what a seat was told comes to a reader.
+pub struct Gather;
+
+impl Join<View> for Gather {
     ghost use Rattle.beat_board.specs.Views.{spent};
     ghost use Rattle.beat_board.specs.Steps.{gathers};
 

@@ -8,8 +8,8 @@ use Rattle.view_sums.proofs.Sums.{sum_by-one}
 use Rattle.lane_queue.specs.declared.order.Order.{Order}
 use Rattle.lane_queue.specs.declared.view.View.{View}
 use Rattle.lane_queue.specs.Orders.{is_alone}
-use Rattle.lane_queue.specs.Lanes.{PassValue, Saw, puts_of, takes_of, depths_of, one_each, IsWhole}
-use Rattle.lane_queue.specs.Steps.{hand, both, depth_of, Totals, Stands}
+use Rattle.lane_queue.specs.Lanes.{PassValue, Knows, puts_of, takes_of, depths_of, one_each, IsWhole}
+use Rattle.lane_queue.specs.Steps.{hand, both, depth_of, Totals}
 use Rattle.lane_queue.proofs.Parts.{undivided}
 
 -- what the passes know together
@@ -42,13 +42,12 @@ pub empty_list : {A : Type 0} (xs : List A) → length xs ≡ 0 → xs ≡ []
 empty_list [] e = refl
 empty_list (x ∷ xs) e = absurd (omega arith)
 
--- what one pass saw
-pub saw : (v : View) (x : PassValue) (items : List Order) → v ≡ hand v.puts v.takes (depth_of v.depths ∷ []) true
-    → v.puts ≡ x.puts → v.takes ≡ x.takes → depth_of v.depths ≡ x.depth → Stands v items → Saw x items
-saw v x items e p t d s =
+-- what one pass knows
+pub knows : (v : View) (x : PassValue) (items : List Order) → v ≡ hand v.puts v.takes (depth_of v.depths ∷ []) true
+    → v.puts ≡ x.puts → v.takes ≡ x.takes → depth_of v.depths ≡ x.depth → Totals v items → Knows x items
+knows v x items e p t d s z =
     let is : v ≡ hand x.puts x.takes (x.depth ∷ []) true = e ∙ (λ k. hand (p k) (t k) (d k ∷ []) true) in
-    let known = subst (λ u. Stands u items) is s in
-    record { stood = known.stood refl; all = λ z. (known.totals (undivided x.depth z)).in_turn refl }
+    (subst (λ u. Totals u items) is s (undivided x.depth z)).in_turn refl
 
 -- the view, after so much was taken
 abbrev pub further : View → List Order → View

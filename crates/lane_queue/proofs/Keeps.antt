@@ -13,7 +13,7 @@ use Rattle.lane_queue.specs.declared.order.Order.{Order}
 use Rattle.lane_queue.specs.declared.view.View.{View}
 use Rattle.lane_queue.specs.Orders.{IsSub, is_alone}
 use Rattle.lane_queue.specs.Rule.{weight, Fits, Balanced}
-use Rattle.lane_queue.specs.Steps.{hand, putting, taking, deeper, both, Stands, Totals}
+use Rattle.lane_queue.specs.Steps.{hand, putting, taking, deeper, both, Totals}
 use Rattle.lane_queue.proofs.Subs.{sub_longer, sub_both, sub_whole, sub_alone}
 use Rattle.lane_queue.proofs.Parts.{scale, whole_at, no_parts, deeper_sum, deeper_within, within_more, within_both, not_deeper}
 
@@ -93,14 +93,6 @@ totals port v items views h at w =
           let t = sub_whole v.takes h.got subs.1 (omega (arith, got (λ x. 1), sum_by-one h.got, sum_by-one v.takes)) in
           p ∙ h.line ∙ ap (λ l. l ++ items) (sym t);
     }
-
-pub stands : (port : ℕ) (v : View) → Learns Balanced port v (Stands v)
-stands port v items views h at = record {
-  stood = λ o.
-      let old = (h.each port v at).subs o in
-      record { gone = h.got; put = subst (IsSub v.puts) h.line old.0; taken = old.1 };
-  totals = totals port v items views h at;
-}
 
 pub forks : (port : ℕ) (v : View)
     → Forks Balanced port v (hand v.puts v.takes (deeper v.depths) v.ordered) (hand [] [] (deeper v.depths) true)

@@ -3,7 +3,7 @@ use Rattle.std.specs.Prelude.{◌≡◌, ℕ, ◌-◌, ◌^◌, ◌≤◌, Bool,
 use Rattle.std.specs.List.{sum_by}
 use Rattle.atomic_table.specs.Seated.{TableId}
 use Rattle.lane_queue.specs.declared.order.Order.{Order}
-use Rattle.lane_queue.specs.Orders.{is_alone, Stood}
+use Rattle.lane_queue.specs.Orders.{is_alone}
 
 -- which lane it is, and how many orders it holds at most
 pub record LaneValue : Type 0 where
@@ -17,10 +17,9 @@ pub record PassValue : Type 0 where
   pub takes : List Order
   pub depth : ℕ
 
--- What a pass knows of the orders that stood in the lane at one moment. One that was never shared knows them all.
-pub record Saw (pass : PassValue) (items : List Order) : Type 0 where
-  pub stood : Stood pass.puts pass.takes items
-  pub all : pass.depth ≡ 0 → pass.puts ≡ pass.takes ++ items
+-- What a pass knows of the orders that stood in the lane at one moment: one that was never shared knows them all
+abbrev pub Knows : PassValue → List Order → Type 0
+Knows pass items = pass.depth ≡ 0 → pass.puts ≡ pass.takes ++ items
 
 -- all that the passes put, one after the other
 abbrev pub puts_of : List PassValue → List Order

@@ -1,7 +1,17 @@
--- Lists of orders.
-use Rattle.std.specs.Prelude.{◌≡◌, ℕ, ◌+◌, ◌⊎◌, Bool, true, false, List, [], ◌∷◌, ◌++◌}
+-- Orders, and lists of them.
+use Rattle.std.specs.Prelude.{◌≡◌, ℕ, ◌+◌, ◌⊎◌, Bool, true, false, List, [], ◌∷◌, ◌++◌, if◌then◌else◌, ◌==◌}
 use Rattle.std.specs.List.{sum_by}
 use Rattle.lane_queue.specs.declared.order.Order.{Order}
+use Rattle.lane_queue.specs.declared.order.Order.TheVariants.{Map, Reduce}
+
+-- as which attempt an order is to be done
+abbrev pub attempt_of : Order → ℕ
+attempt_of (Map attempt text) = attempt
+attempt_of (Reduce attempt part runs) = attempt
+
+-- how many of these orders are this attempt's
+abbrev pub count_of : ℕ → List Order → ℕ
+count_of attempt orders = sum_by (λ o. if attempt_of o == attempt then 1 else 0) orders
 
 -- the first list is left where some elements of the second are struck out
 abbrev pub IsSub : List Order → List Order → Type 0
@@ -14,12 +24,6 @@ abbrev pub is_alone : List Order → List Order → Bool
 is_alone [] ys = true
 is_alone (x ∷ xs) [] = true
 is_alone (x ∷ xs) (y ∷ ys) = false
-
--- these orders stood in the lane, after all that were gone
-pub record Stood (puts takes items : List Order) : Type 0 where
-  pub gone : List Order
-  pub put : IsSub puts (gone ++ items)
-  pub taken : IsSub takes gone
 
 -- each order was taken or is left as often as it was put, however orders are weighed; and where one pass alone put
 -- and one alone took, what was taken and then what is left is what was put, in its order

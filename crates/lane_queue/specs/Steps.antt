@@ -1,8 +1,8 @@
--- What each step makes of a view, and what a pass learns of the orders in the lane.
+-- What each step makes of a view, and what a pass with every part learns.
 use Rattle.std.specs.Prelude.{◌≡◌, ℕ, ◌+◌, Bool, true, ◌&&◌, List, [], ◌∷◌, ◌++◌, map}
 use Rattle.lane_queue.specs.declared.order.Order.{Order}
 use Rattle.lane_queue.specs.declared.view.View.{View}
-use Rattle.lane_queue.specs.Orders.{is_alone, Stood, Settles}
+use Rattle.lane_queue.specs.Orders.{is_alone, Settles}
 use Rattle.lane_queue.specs.Lanes.{IsWhole}
 
 abbrev pub hand : List Order → List Order → List ℕ → Bool → View
@@ -34,8 +34,3 @@ depth_of (d ∷ ds) = d
 -- what a pass with every part knows of the orders in the lane
 abbrev pub Totals : View → List Order → Type 0
 Totals v items = IsWhole v.depths → Settles v.ordered v.puts v.takes items
-
--- what any pass knows of the orders in the lane
-pub record Stands (v : View) (items : List Order) : Type 0 where
-  pub stood : v.ordered ≡ true → Stood v.puts v.takes items
-  pub totals : Totals v items

@@ -5,12 +5,12 @@ ghost use Rattle.crossbeam_queue.specs.Passes.{view, IsPassOf, ruled_capacity};
 ghost use Rattle.lane_queue.specs.declared.TheConstants.{MAX_CAPACITY};
 ghost use Rattle.lane_queue.specs.declared.order.Order.{Order};
 ghost use Rattle.lane_queue.specs.Orders.{Settles};
-ghost use Rattle.lane_queue.specs.Lanes.{Saw, IsWhole, puts_of, takes_of, depths_of, one_each};
+ghost use Rattle.lane_queue.specs.Lanes.{Knows, IsWhole, puts_of, takes_of, depths_of, one_each};
 ghost use Rattle.lane_queue.specs.Steps.{hand, Totals};
 
 use crate::MAX_CAPACITY;
 use crate::order::Order;
-use crate::view::{DrainStep, InLine, PutStep, ShareJoin, ShareSplit, TakeStep, View};
+use crate::view::{InLine, PutStep, ShareJoin, ShareSplit, TakeStep, View};
 use crossbeam_queue::RuledArrayQueue;
 use std::alloc::{AllocError, Global};
 use std::marker::Model;
@@ -75,7 +75,8 @@ pub struct Tally {
     pub left: Vec<Order>,
 }
 
-/// There is no memory for what a lane holds, and the lane is as it was. All that was given comes back.
+/// There is no memory for what a lane holds, or no pass came, and the lane is as it was. All that was given
+/// comes back.
 #[derive(Drop)]
 pub struct CloseRefused {
     /// The lane, which is still open.
@@ -110,7 +111,8 @@ impl Lane {
         Ok(Pass { token })
     }
 
-    /// Puts an order at the back. It comes back only if the lane was full at one moment of the call.
+    /// Puts an order at the back. It comes back only if the lane was full at one moment of the call. A clause
+    /// says so of a pass that was never shared; what others put and took meanwhile no pass knows.
     pub fn put<R: Wait>(&self, rt: &R, pass: &mut Pass, order: Order) -> Result<(), Full>
         requires { pass.old.lane ≡ self.now.lane }
         ensures lane { pass.new.lane ≡ pass.old.lane }
@@ -118,7 +120,7 @@ impl Lane {
         ensures err { OnErr result (pass.new ≡ pass.old) }
         ensures given_back { IfErr result (λ full. full.order ≡ order) }
         ensures full { IfErr result (λ _. (items : List Order)
-            × (length items ≡ self.now.capacity) × Saw pass.old items) }
+            × (length items ≡ self.now.capacity) × Knows pass.old items) }
     {
         match self.queue.push_as::<PutStep, R>(rt, &mut pass.token, order) {
             Ok(()) => Ok(()),
@@ -133,13 +135,14 @@ impl Lane {
         ensures taken { IfSome result (λ order. pass.new
             ≡ record pass.old { takes = pass.old.takes ++ order ∷ [] }) }
         ensures none { IfNone result (pass.new ≡ pass.old) }
-        ensures empty { IfNone result (Saw pass.old []) }
+        ensures empty { IfNone result (Knows pass.old []) }
     {
         self.queue.pop_as::<TakeStep, R>(rt, &mut pass.token)
     }
 
-    /// Ends the lane, and answers what was left in it. The passes that are given settle it only where
-    /// they are all that were made: where their parts make up the whole lane.
+    /// Ends the lane, and answers what was left in it, however many of its passes come. What they know settles
+    /// it where they are all that were made: where their parts make up the whole lane. Orders can only be taken
+    /// with a pass, so where none comes the lane comes back.
     pub fn close<R: Wait>(
         self,
         rt: &R,
@@ -150,14 +153,18 @@ impl Lane {
         ensures settled { IfOk result (λ t. IsWhole (depths_of passes.items)
             → Settles (one_each passes.items) (puts_of passes.items) (takes_of passes.items) t.left.items) }
         ensures few { IfOk result (λ t. length t.left.items ≤ self.capacity) }
+        ensures some { IsOk result → 0 < length passes.items }
         ensures given_back { IfErr result (λ r. (r.lane ≡ self) × (r.passes ≡ passes)) }
     {
+        if passes.is_empty() {
+            return Err(CloseRefused { lane: self, passes });
+        }
         let Ok(left) = Vec::with_capacity(alloc, self.queue.capacity()) else {
             return Err(CloseRefused { lane: self, passes });
         };
         let Lane { queue } = self;
         let Some(token) = gather(&queue, passes) else {
-            return Ok(Tally { left });
+            unreachable!()
         };
         let left = drain(rt, &queue, token, left);
         Ok(Tally { left })
@@ -188,13 +195,13 @@ fn drain<R: Wait>(rt: &R, queue: &Queue, mut token: Token, mut left: Vec<Order>)
     ensures totals { Totals (view token) result.items }
     ensures few { length result.items ≤ ruled_capacity queue.now }
 {
-    let count = queue.len_as::<DrainStep, R>(rt, &mut token);
+    let count = queue.len_as::<TakeStep, R>(rt, &mut token);
     for _ in 0..count {
-        match queue.pop_as::<DrainStep, R>(rt, &mut token) {
+        match queue.pop_as::<TakeStep, R>(rt, &mut token) {
             Some(order) => left.push_reserved(order),
             None => return left,
         }
     }
-    queue.learn_as::<DrainStep>(&mut token);
+    queue.learn_as::<TakeStep>(&mut token);
     left
 }

@@ -36,9 +36,9 @@ impl Outcome<Order, View> for PutStep {
 }
 
 impl Lesson<Order, View> for PutStep {
-    ghost use Rattle.lane_queue.specs.Steps.{Stands};
+    ghost use Rattle.lane_queue.specs.Steps.{Totals};
 
-    ghost fact = { Stands };
+    ghost fact = { Totals };
 }
 
 /// The order at the front is taken.
@@ -52,22 +52,6 @@ impl Outcome<Order, View> for TakeStep {
 }
 
 impl Lesson<Order, View> for TakeStep {
-    ghost use Rattle.lane_queue.specs.Steps.{Stands};
-
-    ghost fact = { Stands };
-}
-
-/// An order is taken when the lane is closed.
-pub struct DrainStep;
-
-impl Outcome<Order, View> for DrainStep {
-    ghost use Rattle.std.specs.Prelude.{◌≡◌};
-    ghost use Rattle.lane_queue.specs.Steps.{taking};
-
-    ghost then = { λ v x w. w ≡ taking v x };
-}
-
-impl Lesson<Order, View> for DrainStep {
     ghost use Rattle.lane_queue.specs.Steps.{Totals};
 
     ghost fact = { Totals };

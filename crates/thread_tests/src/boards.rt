@@ -1,9 +1,10 @@
-ghost use Rattle.std.specs.Prelude.{◌≡◌, ◌+◌, ◌*◌, ◌<◌, ◌≤◌, IfSome, IsTrue};
+ghost use Rattle.std.specs.Prelude.{◌≡◌, ◌+◌, ◌*◌, ◌<◌, ◌≤◌, length, IfOk, IfSome, IsTrue};
+ghost use Rattle.std.specs.List.{All};
 ghost use Rattle.beat_board.specs.declared.TheConstants.{MAX_BEATS};
 
 use beat_board::{Board, Reader, Seat};
 use node_ids::WorkerNo;
-use std::alloc::Global;
+use std::alloc::{AllocError, Global};
 use std::sync::{Condvar, Mutex, Wait};
 use std::test::Fail;
 use std::thread;
@@ -13,7 +14,8 @@ use std::thread::Threads;
 fn beat_often(board: &Board, mut seat: Seat, times: u64) -> Seat
     requires board { seat.board ≡ board.now.board }
     requires room { seat.beats + times ≤ MAX_BEATS }
-    ensures { result ≡ record seat { beats = seat.beats + times } }
+    ensures same { (result.board ≡ seat.board) × (result.worker ≡ seat.worker) }
+    ensures beats { result.beats ≡ seat.beats + times }
 {
     for _ in 0..times {
         let Ok(_) = board.beat(&mut seat) else {
@@ -23,49 +25,75 @@ fn beat_often(board: &Board, mut seat: Seat, times: u64) -> Seat
     seat
 }
 
-// So many beats of each seat, in two threads.
-fn both_beat<R: Threads + Sync>(
-    rt: &R,
-    board: &Board,
-    one: Seat,
-    two: Seat,
-    times: u64,
-) -> (Seat, Seat)
-    requires boards { (one.board ≡ board.now.board) × (two.board ≡ board.now.board) }
-    requires room { (one.beats + times ≤ MAX_BEATS) × (two.beats + times ≤ MAX_BEATS) }
-    ensures one { result.0 ≡ record one { beats = one.beats + times } }
-    ensures two { result.1 ≡ record two { beats = two.beats + times } }
-{
-    thread::join(
-        rt,
-        move || -> Seat
-            requires { (one.board ≡ board.now.board) × (one.beats + times ≤ MAX_BEATS) }
-            ensures { result ≡ record one { beats = one.beats + times } }
-        { beat_often(board, one, times) },
-        move || -> Seat
-            requires { (two.board ≡ board.now.board) × (two.beats + times ≤ MAX_BEATS) }
-            ensures { result ≡ record two { beats = two.beats + times } }
-        { beat_often(board, two, times) },
-    )
+// What a thread gives back: a seat of the board and of the worker, with so many beats.
+#[derive(Clone, Copy)]
+struct SeatOf<'a> {
+    board: &'a Board,
+    worker: WorkerNo,
+    beats: u64,
 }
 
-// Two threads beat for one worker, and the total is what they made together.
-fn beat_together<R: Threads + Sync>(rt: &R, alloc: Global, times: u64) -> Option<u64>
-    requires { times ≤ MAX_BEATS }
-    ensures { IfSome result (λ total. total ≡ 2 * times) }
+impl<'a> thread::Promise<Seat> for SeatOf<'a> {
+    ghost use Rattle.std.specs.Prelude.{◌≡◌};
+
+    ghost kept_by = { λ p s. (s.board ≡ p.board.now.board) × (s.worker ≡ p.worker) × (s.beats ≡ p.beats) };
+}
+
+// A thread for each seat, which beats so often, and the seats that come back.
+fn each_beats<R: Threads + Wait + Sync>(
+    rt: &R,
+    alloc: Global,
+    board: &Board,
+    worker: WorkerNo,
+    seats: Vec<Seat>,
+    times: u64,
+) -> Result<Vec<Seat>, AllocError>
+    requires seats { All (λ s. (s.board ≡ board.now.board) × (s.worker ≡ worker) × (s.beats ≡ 0)) seats.items }
+    requires room { times ≤ MAX_BEATS }
+    ensures seats { IfOk result (λ back. All (λ s. (s.board ≡ board.now.board) × (s.worker ≡ worker)
+        × (s.beats ≡ times)) back.items) }
+    ensures count { IfOk result (λ back. length back.items ≡ length seats.items) }
 {
-    let worker = WorkerNo::new(0);
-    let mut seats = Vec::with_capacity(alloc, 2).ok()?;
-    let (board, mut maker) = Board::new(alloc, 1).ok()?;
-    let one = board.seat(&mut maker, worker).ok()?;
-    let two = board.seat(&mut maker, worker).ok()?;
-    let (one, two) = both_beat(rt, &board, one, two, times);
-    seats.push_reserved(one);
-    seats.push_reserved(two);
-    let Ok(totals) = board.close(maker, seats, Vec::new(alloc)) else {
-        unreachable!()
-    };
-    Some(totals.beats[0])
+    thread::scope(
+        thread::scope_env(),
+        rt,
+        |scope| -> Result<Vec<Seat>, AllocError>
+            requires { All (λ s. (s.board ≡ board.now.board) × (s.worker ≡ worker) × (s.beats ≡ 0)) seats.items
+                × (times ≤ MAX_BEATS) }
+            ensures { IfOk result (λ back. All (λ s. (s.board ≡ board.entry.now.board) × (s.worker ≡ worker)
+                × (s.beats ≡ times)) back.items × (length back.items ≡ length seats.items)) }
+        {
+            let mut back = Vec::with_capacity(alloc, seats.len())?;
+            let mut children = Vec::new(alloc);
+            for seat in seats {
+                let promise = SeatOf {
+                    board,
+                    worker,
+                    beats: times,
+                };
+                let child = scope.spawn_with(
+                    promise,
+                    move || -> Seat
+                        requires { (seat.board ≡ board.now.board) × (seat.worker ≡ worker) × (seat.beats ≡ 0)
+                            × (times ≤ MAX_BEATS) }
+                        ensures { (result.board ≡ board.entry.now.board) × (result.worker ≡ worker)
+                            × (result.beats ≡ times) }
+                    {
+                        let _of = worker;
+                        beat_often(board, seat, times)
+                    },
+                )?;
+                children.push(child)?;
+            }
+            for child in children {
+                let _here = board;
+                let _of = worker;
+                let _beats = times;
+                back.push(child.join(rt))?;
+            }
+            Ok(back)
+        },
+    )
 }
 
 // So many looks at a worker. No look falls below the one before.
@@ -85,27 +113,26 @@ fn look_often(board: &Board, mut reader: Reader, worker: WorkerNo, times: u64) -
     (reader, rose)
 }
 
-// So many beats of each seat and looks of the reader, in three threads.
-fn beat_and_look<R: Threads + Sync>(
+// A thousand beats of each seat, in threads, while another thread looks on.
+fn beat_and_look<R: Threads + Wait + Sync>(
     rt: &R,
+    alloc: Global,
     board: &Board,
-    one: Seat,
-    two: Seat,
-    reader: Reader,
     worker: WorkerNo,
-) -> ((Seat, Seat), (Reader, bool))
-    requires boards { (one.board ≡ board.now.board) × (two.board ≡ board.now.board) × (reader.board ≡ board.now.board) }
-    requires fresh { (one.beats ≡ 0) × (two.beats ≡ 0) }
-    requires worker { worker < board.now.workers }
-    ensures seats { (result.0.0.board ≡ board.now.board) × (result.0.1.board ≡ board.now.board) }
+    seats: Vec<Seat>,
+    reader: Reader,
+) -> (Result<Vec<Seat>, AllocError>, (Reader, bool))
+    requires seats { All (λ s. (s.board ≡ board.now.board) × (s.worker ≡ worker) × (s.beats ≡ 0)) seats.items }
+    requires reader { (reader.board ≡ board.now.board) × (worker < board.now.workers) }
+    ensures seats { IfOk result.0 (λ back. All (λ s. s.board ≡ board.now.board) back.items) }
     ensures reader { result.1.0.board ≡ board.now.board }
 {
     thread::join(
         rt,
-        || -> (Seat, Seat)
-            requires { (one.board ≡ board.now.board) × (two.board ≡ board.now.board) × (one.beats ≡ 0) × (two.beats ≡ 0) }
-            ensures { (result.0.board ≡ board.entry.now.board) × (result.1.board ≡ board.entry.now.board) }
-        { both_beat(rt, board, one, two, 1000) },
+        || -> Result<Vec<Seat>, AllocError>
+            requires { All (λ s. (s.board ≡ board.now.board) × (s.worker ≡ worker) × (s.beats ≡ 0)) seats.items }
+            ensures { IfOk result (λ back. All (λ s. s.board ≡ board.entry.now.board) back.items) }
+        { each_beats(rt, alloc, board, worker, seats, 1000) },
         move || -> (Reader, bool)
             requires { (reader.board ≡ board.now.board) × (worker < board.now.workers) }
             ensures { result.0.board ≡ board.entry.now.board }
@@ -113,32 +140,48 @@ fn beat_and_look<R: Threads + Sync>(
     )
 }
 
-// Two threads beat a thousand times each for one worker, and a third looks on. The seats come back one
-// by one.
+// So many threads beat for one worker, and the total is what they made together.
+fn beat_together<R: Threads + Wait + Sync>(
+    rt: &R,
+    alloc: Global,
+    threads: usize,
+    times: u64,
+) -> Option<u64>
+    requires { times ≤ MAX_BEATS }
+    ensures { IfSome result (λ total. total ≡ threads * times) }
+{
+    let worker = WorkerNo::new(0);
+    let (board, mut maker) = Board::new(alloc, 1).ok()?;
+    let mut seats = Vec::with_capacity(alloc, threads).ok()?;
+    for _ in 0..threads {
+        seats.push_reserved(board.seat(&mut maker, worker).ok()?);
+    }
+    let seats = each_beats(rt, alloc, &board, worker, seats, times).ok()?;
+    let Ok(totals) = board.close(maker, seats, Vec::new(alloc)) else {
+        unreachable!()
+    };
+    Some(totals.beats[0])
+}
+
+// Two threads beat a thousand times each for one worker, and a third looks on.
 #[test]
 fn two_threads_beat_for_one_worker(rt: HostRuntime) -> Result<(), Fail> {
+    let alloc = rt.alloc();
     let worker = WorkerNo::new(0);
-    let (board, mut maker) = Board::new(rt.alloc(), 2)?;
-    let one = board.seat(&mut maker, worker)?;
-    let two = board.seat(&mut maker, worker)?;
+    let (board, mut maker) = Board::new(alloc, 2)?;
+    let mut seats = Vec::with_capacity(alloc, 2)?;
+    seats.push_reserved(board.seat(&mut maker, worker)?);
+    seats.push_reserved(board.seat(&mut maker, worker)?);
     let reader = board.reader(&mut maker)?;
-    let ((one, two), (reader, rose)) = beat_and_look(&rt, &board, one, two, reader, worker);
+    let (seats, (reader, rose)) = beat_and_look(&rt, alloc, &board, worker, seats, reader);
     assert!(rt; rose);
-    let mut readers = Vec::new(rt.alloc());
+    let mut readers = Vec::new(alloc);
     readers.push(reader)?;
-    let Err(missing) = board.close(maker, Vec::new(rt.alloc()), readers) else {
+    let Err(missing) = board.close(maker, Vec::new(alloc), readers) else {
         panic!(rt; "both seats are out")
     };
     assert_eq!(rt; missing.count, 2);
-    let mut seats = missing.seats;
-    seats.push(one)?;
-    let Err(missing) = missing.board.close(missing.maker, seats, missing.readers) else {
-        panic!(rt; "a seat is out")
-    };
-    assert_eq!(rt; missing.count, 1);
-    let mut seats = missing.seats;
-    seats.push(two)?;
-    let Ok(totals) = missing.board.close(missing.maker, seats, missing.readers) else {
+    let Ok(totals) = missing.board.close(missing.maker, seats?, missing.readers) else {
         panic!(rt; "no seat is out")
     };
     assert_eq!(rt; totals.beats[0], 2000);
@@ -148,7 +191,48 @@ fn two_threads_beat_for_one_worker(rt: HostRuntime) -> Result<(), Fail> {
 
 #[test]
 fn seats_that_beat_together(rt: HostRuntime) {
-    assert_eq!(rt; beat_together(&rt, rt.alloc(), 1000), Some(2000));
+    assert_eq!(rt; beat_together(&rt, rt.alloc(), 5, 1000), Some(5000));
+}
+
+// The second beat for a worker answers two, whoever made the first. A seat that is kept back is missing.
+#[test]
+fn beats_of_two_seats_count_on(rt: HostRuntime) -> Result<(), Fail> {
+    let worker = WorkerNo::new(0);
+    let (board, mut maker) = Board::new(rt.alloc(), 1)?;
+    let mut one = board.seat(&mut maker, worker)?;
+    let mut two = board.seat(&mut maker, worker)?;
+    assert_eq!(rt; board.beat(&mut one), Ok(1));
+    assert_eq!(rt; board.beat(&mut two), Ok(2));
+    let mut seats = Vec::with_capacity(rt.alloc(), 2)?;
+    seats.push_reserved(one);
+    let Err(missing) = board.close(maker, seats, Vec::new(rt.alloc())) else {
+        panic!(rt; "a seat is out")
+    };
+    assert_eq!(rt; missing.count, 1);
+    let mut seats = missing.seats;
+    seats.push(two)?;
+    let Ok(totals) = missing.board.close(missing.maker, seats, missing.readers) else {
+        panic!(rt; "no seat is out")
+    };
+    assert_eq!(rt; totals.beats[0], 2);
+    Ok(())
+}
+
+// Beats once, and tells the reader, which then looks.
+fn beat_and_look_after(
+    board: &Board,
+    seat: &mut Seat,
+    reader: &mut Reader,
+    worker: WorkerNo,
+) -> Option<(u64, u64)>
+    requires boards { (seat.old.board ≡ board.now.board) × (reader.old.board ≡ board.now.board) }
+    requires worker { (worker < board.now.workers) × (seat.old.worker ≡ worker) }
+    ensures boards { (seat.new.board ≡ board.now.board) × (reader.new.board ≡ board.now.board) }
+    ensures sees { IfSome result (λ r. r.0 ≤ r.1) }
+{
+    let answer = board.beat(seat).ok()?;
+    board.tell(seat, reader);
+    Some((answer, board.look(reader, worker)))
 }
 
 // A number that one thread tells another.
@@ -234,8 +318,10 @@ fn a_refused_board_leaves_no_trace(rt: HostRuntime) -> Result<(), Fail> {
     };
     let mut seat = board.seat(&mut maker, worker)?;
     let mut reader = board.reader(&mut maker)?;
-    let answer = board.beat(&mut seat)?;
-    assert!(rt; board.look(&mut reader, worker) >= answer);
+    assert_eq!(rt;
+        beat_and_look_after(&board, &mut seat, &mut reader, worker),
+        Some((1, 1))
+    );
     let Ok(mut seats) = Vec::with_capacity(rt.alloc(), 1) else {
         return Ok(());
     };

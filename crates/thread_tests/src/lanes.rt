@@ -1,4 +1,5 @@
-ghost use Rattle.std.specs.Prelude.{◌≡◌, ◌<◌, ◌≤◌, ◌++◌, [], ◌∷◌, length, vec_len, vec_capacity, IfSome};
+ghost use Rattle.std.specs.Prelude.{◌≡◌, ◌<◌, ◌≤◌, ◌++◌, [], ◌∷◌, length, vec_len, vec_capacity, IfOk, IfSome};
+ghost use Rattle.std.specs.List.{All};
 
 use lane_queue::{Lane, Order, Pass};
 use node_ids::{AttemptNo, PartNo, SplitNo};
@@ -129,11 +130,55 @@ fn reduce_order(alloc: Global, attempt: u32) -> Order {
     Order::Reduce(AttemptNo::new(attempt), PartNo::new(0), Vec::new(alloc))
 }
 
-fn attempt_of(order: &Order) -> usize {
-    match order {
-        Order::Map(attempt, _) => attempt.index(),
-        Order::Reduce(attempt, _, _) => attempt.index(),
-    }
+// What a thread gives back: a pass of the lane.
+#[derive(Clone, Copy)]
+struct PassOf<'a>(&'a Lane);
+
+impl<'a> thread::Promise<Pass> for PassOf<'a> {
+    ghost use Rattle.std.specs.Prelude.{◌≡◌};
+
+    ghost kept_by = { λ p s. s.lane ≡ p.0.now.lane };
+}
+
+// A thread for each pass, which puts an order, and the passes that come back. The attempts are numbered from 1.
+fn each_puts<R: Threads + Wait + Sync>(
+    rt: &R,
+    alloc: Global,
+    lane: &Lane,
+    passes: Vec<Pass>,
+) -> Result<Vec<Pass>, AllocError>
+    requires { All (λ p. p.lane ≡ lane.now.lane) passes.items }
+    ensures { IfOk result (λ back. All (λ p. p.lane ≡ lane.now.lane) back.items) }
+{
+    thread::scope(
+        thread::scope_env(),
+        rt,
+        |scope| -> Result<Vec<Pass>, AllocError>
+            requires { All (λ p. p.lane ≡ lane.now.lane) passes.items }
+            ensures { IfOk result (λ back. All (λ p. p.lane ≡ lane.entry.now.lane) back.items) }
+        {
+            let mut back = Vec::with_capacity(alloc, passes.len())?;
+            let mut children = Vec::new(alloc);
+            let mut attempt = 0u32;
+            for pass in passes {
+                attempt = attempt.wrapping_add(1);
+                let order = reduce_order(alloc, attempt);
+                let child = scope.spawn_with(
+                    PassOf(lane),
+                    move || -> Pass
+                        requires { pass.lane ≡ lane.now.lane }
+                        ensures { result.lane ≡ lane.entry.now.lane }
+                    { put_one(rt, lane, pass, order) },
+                )?;
+                children.push(child)?;
+            }
+            for child in children {
+                let _here = lane;
+                back.push(child.join(rt))?;
+            }
+            Ok(back)
+        },
+    )
 }
 
 // A lane of two places: the third order comes back, the first is taken, and the second is left.
@@ -147,11 +192,11 @@ fn the_third_order_comes_back(rt: HostRuntime) -> Result<(), Fail> {
     let Err(full) = lane.put(&rt, &mut putter, reduce_order(alloc, 3)) else {
         panic!(rt; "the lane is full")
     };
-    assert_eq!(rt; attempt_of(&full.order), 3);
+    assert_eq!(rt; full.order.attempt().index(), 3);
     let Some(first) = lane.take(&rt, &mut taker) else {
         panic!(rt; "the lane has two orders")
     };
-    assert_eq!(rt; attempt_of(&first), 1);
+    assert_eq!(rt; first.attempt().index(), 1);
     let mut passes = Vec::with_capacity(alloc, 2)?;
     passes.push_reserved(putter);
     passes.push_reserved(taker);
@@ -159,7 +204,7 @@ fn the_third_order_comes_back(rt: HostRuntime) -> Result<(), Fail> {
         panic!(rt; "there is memory")
     };
     assert_eq!(rt; tally.left.len(), 1);
-    assert_eq!(rt; attempt_of(&tally.left[0]), 2);
+    assert_eq!(rt; tally.left[0].attempt().index(), 2);
     Ok(())
 }
 
@@ -174,10 +219,52 @@ fn another_thread_takes_all_in_order(rt: HostRuntime) -> Result<(), Fail> {
     };
     let mut wanted = 1usize;
     for order in &taken {
-        assert_eq!(rt; attempt_of(order), wanted);
+        assert_eq!(rt; order.attempt().index(), wanted);
         wanted = wanted.wrapping_add(1);
     }
     assert_eq!(rt; wanted, 6);
+    Ok(())
+}
+
+// Three threads put an order each, and all three are left, each once.
+#[test]
+fn each_thread_puts_an_order(rt: HostRuntime) -> Result<(), Fail> {
+    let alloc = rt.alloc();
+    let mut passes = Vec::with_capacity(alloc, 3)?;
+    let (lane, mut one) = Lane::new(alloc, 4)?;
+    let mut two = lane.share(&mut one)?;
+    let three = lane.share(&mut two)?;
+    passes.push_reserved(one);
+    passes.push_reserved(two);
+    passes.push_reserved(three);
+    let passes = each_puts(&rt, alloc, &lane, passes)?;
+    let Ok(tally) = lane.close(&rt, alloc, passes) else {
+        panic!(rt; "there is memory")
+    };
+    let mut seen = 0usize;
+    for order in &tally.left {
+        seen = seen.wrapping_mul(10).wrapping_add(order.attempt().index());
+    }
+    assert!(rt; matches!(seen, 123 | 132 | 213 | 231 | 312 | 321));
+    Ok(())
+}
+
+// What is left comes with any pass of the lane; without one the lane comes back.
+#[test]
+fn what_is_left_comes_with_any_pass(rt: HostRuntime) -> Result<(), Fail> {
+    let alloc = rt.alloc();
+    let (lane, mut putter) = Lane::new(alloc, 2)?;
+    let other = lane.share(&mut putter)?;
+    assert!(rt; lane.put(&rt, &mut putter, reduce_order(alloc, 1)).is_ok());
+    let Err(refused) = lane.close(&rt, alloc, Vec::new(alloc)) else {
+        panic!(rt; "no pass came")
+    };
+    let mut passes = refused.passes;
+    passes.push(other)?;
+    let Ok(tally) = refused.lane.close(&rt, alloc, passes) else {
+        panic!(rt; "there is memory")
+    };
+    assert_eq!(rt; tally.left.len(), 1);
     Ok(())
 }
 

@@ -1,6 +1,8 @@
-use Rattle.std.proofs.Common.{◌<◌, arith, ap, sym, ◌∙◌}
+use Rattle.std.proofs.Common.{◌≡◌, ◌<◌, ◌≤◌, arith, ap, sym, subst, ◌∙◌}
+use Rattle.std.specs.List.{All}
+use Rattle.beat_board.specs.declared.view.Look.{Look}
 use Rattle.beat_board.specs.Values.{last_seen}
-use Rattle.beat_board.proofs.Keeps.{looks_as}
+use Rattle.beat_board.proofs.Keeps.{looks_as, last_within}
 use Rattle.beat_board.proofs.board.Board.look.Goals as goal
 
 pub load-requires : goal.load-requires
@@ -10,11 +12,18 @@ load-requires c =
     omega (arith, c.index.ensures.value, c.requires.worker, ap (λ x. x.workers) c.self.view_is, c.self.invariant.2) in (
       ap (λ x. x.board) c.reader.view_is ∙ c.requires.board ∙ sym (ap (λ x. x.board) c.self.view_is),
       omega (arith, c.self.invariant.0, small),
-      looks_as _ _ r.token.me _ c.reader.invariant.1 c.reader.invariant.0 small,
+      looks_as _ _ r.token.me _ c.reader.invariant.1 c.reader.invariant.0,
     )
+
+pub returns-clause-above : goal.returns-clause-above
+returns-clause-above c =
+    let n = c.load.result in
+    let seen = subst (λ k. All (λ (x : Look). x.worker ≡ k → x.beats ≤ n) c.reader.inside.token.me.0.looks)
+    c.index.ensures.value c.load.ensures.2.2 in
+    subst (λ xs. All (λ (x : Look). x.worker ≡ c.args.worker → x.beats ≤ n) xs) (ap (λ r. r.looks) c.reader.view_is) seen
 
 pub returns-clause-rises : goal.returns-clause-rises
 returns-clause-rises c =
     let xs = c.reader.inside.token.me.0.looks in
     let same = ap (λ r. last_seen c.args.worker r.looks) (sym c.reader.view_is) in
-    omega (arith, same, c.load.ensures.2.2, ap (λ k. last_seen k xs) c.index.ensures.value)
+    omega (arith, same, last_within _ _ xs c.load.ensures.2.2, ap (λ k. last_seen k xs) c.index.ensures.value)
