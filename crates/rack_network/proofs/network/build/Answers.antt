@@ -19,7 +19,7 @@ returns-clause-arcs c =
     record {
       rows = are_rows wave c.know_racks.ensures limit (limit + 1) c.add_slots.new.network c.add.new.network (omega arith) c.in_ok-add_slots.ensures.built
           (c.in_ok-add.ensures.layout, c.in_ok-add.ensures.arcs, c.in_ok-add.ensures.flows);
-      near = subst IsWithinReach c.tree-reach.ensures.tree c.reach-reach.ensures.most;
+      near = subst IsWithinReach c.tree-2.ensures.tree c.reach-reach.ensures.most;
       racks_known = c.know_racks.ensures;
     }
 
