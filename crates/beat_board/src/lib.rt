@@ -2,9 +2,10 @@
 //!
 //! Each thread that beats for a worker has a `Seat`, and each that looks has a `Reader`; the thread that
 //! made the board keeps the `Maker`. A beat is one atomic addition and a look one atomic load, so neither
-//! waits for anybody. Upward the layer promises: a beat answers at least the seat's own count; the looks
-//! of one reader at one worker never fall; `close` answers for each worker the sum of the beats that its
-//! seats made, or how many seats are still out. The rule under which the threads' steps go together is
+//! waits for anybody. Upward the layer promises: the beats of a worker are answered 1, 2, 3 and on, each
+//! number once, whoever beats; no look of a reader is less than what it saw, or was told of a seat's beats,
+//! before; `close` answers for each worker the sum of the beats that its seats made, above which no reader
+//! saw anything, or how many seats are still out. The rule under which the threads' steps go together is
 //! `specs/Rule.antt`: at every moment each word is the sum of the counts over what all threads know. It
 //! stands on the words of `atomic_table`, on `view_sums` and on the numbers of `node_ids`.
 //!
@@ -12,40 +13,22 @@
 //! The calling thread makes board and maker, hands each worker's thread a seat, and keeps a reader. A
 //! thread that ends gives its seat back by its join, and `close` takes them all. A contract tells what a
 //! seat made by its value `{ board; worker; beats }`, so a caller proves what the totals are, whatever
-//! order the threads beat in. The crate's tests prove this one, in which two threads beat for one worker:
+//! order the threads beat in. `thread_tests` proves this one, in which as many threads as there are seats
+//! beat for one worker. What a thread gives back is told by a promise, since a join tells the type alone:
 //!
 //! ```text
-//! // So many beats of the seat.
-//! fn beat_often(board: &Board, mut seat: Seat, times: u64) -> Seat
-//!     requires board { seat.board ≡ board.now.board }
-//!     requires room { seat.beats + times ≤ MAX_BEATS }
-//!     ensures { result ≡ record seat { beats = seat.beats + times } }
-//! {
-//!     for _ in 0..times {
-//!         let Ok(_) = board.beat(&mut seat) else {
-//!             unreachable!()
-//!         };
-//!     }
-//!     seat
+//! // What a thread gives back: a seat of the board and of the worker, with so many beats.
+//! struct SeatOf<'a> { board: &'a Board, worker: WorkerNo, beats: u64 }
+//!
+//! impl<'a> thread::Promise<Seat> for SeatOf<'a> {
+//!     ghost kept_by = { λ p s. (s.board ≡ p.board.now.board) × (s.worker ≡ p.worker) × (s.beats ≡ p.beats) };
 //! }
 //!
-//! fn beat_together<R: Threads + Sync>(rt: &R, alloc: Global, times: u64) -> Option<u64>
-//!     requires { times ≤ MAX_BEATS }
-//!     ensures { IfSome result (λ total. total ≡ 2 * times) }
-//! {
-//!     let worker = WorkerNo::new(0);
-//!     let mut seats = Vec::with_capacity(alloc, 2).ok()?;
-//!     let (board, mut maker) = Board::new(alloc, 1).ok()?;
-//!     let one = board.seat(&mut maker, worker).ok()?;
-//!     let two = board.seat(&mut maker, worker).ok()?;
-//!     let (one, two) = both_beat(rt, &board, one, two, times); // thread::join of two calls of beat_often
-//!     seats.push_reserved(one);
-//!     seats.push_reserved(two);
-//!     let Ok(totals) = board.close(maker, seats, Vec::new(alloc)) else {
-//!         unreachable!() // the maker made two seats, and both are here
-//!     };
-//!     Some(totals.beats[0])
-//! }
+//! // in thread::scope, for each seat:
+//! scope.spawn_with(SeatOf { board, worker, beats: times }, move || -> Seat
+//!     requires { (seat.board ≡ board.now.board) × (seat.worker ≡ worker) × (seat.beats ≡ 0) × (times ≤ MAX_BEATS) }
+//!     ensures { (result.board ≡ board.entry.now.board) × (result.worker ≡ worker) × (result.beats ≡ times) }
+//! { beat_often(board, seat, times) })?
 //! ```
 #![tactic(auto)]
 

@@ -4,10 +4,12 @@
 //! A put adds at the back and a take takes from the front, in one step each. Upward the layer promises:
 //! an order that is not put comes back; where all passes come to `close`, each order was taken or is left
 //! as often as it was put; and where one pass alone put and one alone took, what was taken and then what
-//! is left is what was put, in its order. The rule under which the threads' steps go together is
-//! `specs/Rule.antt`: what was sent is what was got, and then what the lane holds. It stands on the ruled
-//! queue of `crossbeam_queue`, on `view_sums`, and on the texts and runs of `word_map`, which an order
-//! carries.
+//! is left is what was put, in its order. A pass that was never shared is told Full or None only where the
+//! lane was full or empty; of a shared pass no clause says so, since a refusal leaves no trace in what the
+//! passes know. `close` gives what is left with any pass, and without one gives the lane back. The rule
+//! under which the threads' steps go together is `specs/Rule.antt`: what was sent is what was got, and then
+//! what the lane holds. It stands on the ruled queue of `crossbeam_queue`, on `view_sums`, and on the texts
+//! and runs of `word_map`, which an order carries.
 //!
 //! # How the layer above uses it
 //! The calling thread makes the lane and shares its pass with the worker's thread. It puts and the worker
