@@ -5,3 +5,6 @@ pub mod Found
 pub mod Failing
 pub mod Opening
 pub mod Accepting
+pub mod Completing
+pub mod Counting
+pub mod Handed

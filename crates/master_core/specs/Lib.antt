@@ -2,3 +2,4 @@ pub mod Clusters
 pub mod Entries
 pub mod Inside
 pub mod Places
+pub mod Slots

@@ -1,6 +1,7 @@
-ghost use Rattle.std.specs.Prelude.{◌≡◌, ◌<◌, length, map, if◌then◌else◌, Some, None, Option};
-ghost use Rattle.std.specs.List.{list_all};
+ghost use Rattle.std.specs.Prelude.{◌≡◌, ◌<◌, length, map, filter, fold, if◌then◌else◌, Some, None, Option};
+ghost use Rattle.std.specs.List.{list_all, range_with_len};
 ghost use Rattle.std.specs.Option.{option_map_or};
+ghost use Rattle.node_ids.specs.Sets.{has_number};
 ghost use Rattle.master_state.specs.declared.states.SplitState.TheVariants as states;
 ghost use Rattle.master_state.specs.States.{Setup, State};
 ghost use Rattle.master_state.specs.Tests.{is_on, part_is_done};
@@ -11,7 +12,7 @@ ghost use Rattle.master_core.specs.Inside.{AreOfSplits};
 use crate::entries::SplitEntry;
 use block_map::BlockMap;
 use master_state::{Attempt, PartState};
-use node_ids::WorkerNo;
+use node_ids::{WorkerNo, WorkerSet};
 use worker_table::WorkerTable;
 
 /// A worker of the table dies: it holds nothing then, and what it ran, and had made, is pending.
@@ -38,6 +39,33 @@ pub fn bury(
     holders.drop_worker(worker);
     lose_entries(splits, stays, worker);
     lose_parts(parts, worker);
+}
+
+/// Each worker of the table that is in the set dies, one after another.
+pub fn bury_all(
+    workers: &mut WorkerTable,
+    holders: &mut BlockMap,
+    splits: &mut Vec<SplitEntry>,
+    parts: &mut Vec<PartState>,
+    dead: &WorkerSet,
+)
+    ensures died { (s : State) → s.workers ≡ workers.old → s.holders ≡ holders.old
+        → s.splits ≡ map shown_as splits.old.items → s.parts ≡ parts.old.items
+        → fold died s (filter (has_number dead.now) (range_with_len 0 (length workers.old.each))) ≡ record s {
+          workers = workers.new;
+          holders = holders.new;
+          splits = map shown_as splits.new.items;
+          parts = parts.new.items;
+        } }
+    ensures made { (setup : Setup) → AreOfSplits setup splits.old.items → AreOfSplits setup splits.new.items }
+{
+    let count = workers.workers().len();
+    for i in 0..count {
+        let worker = WorkerNo::new(i as u16);
+        if dead.has(worker) {
+            bury(workers, holders, splits, parts, worker);
+        }
+    }
 }
 
 fn are_all_done(parts: &Vec<PartState>) -> bool

@@ -7,12 +7,15 @@
 #![tactic(auto)]
 
 pub mod cluster;
+mod completions;
 mod deaths;
 mod entries;
 mod holders;
+mod inputs;
 mod log;
 pub mod master;
 mod running;
+mod starts;
 
 pub use cluster::{Cluster, ClusterError};
 pub use master::Master;

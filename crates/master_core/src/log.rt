@@ -1,6 +1,7 @@
 ghost use Rattle.std.specs.Prelude.{◌≡◌, ◌<◌, ◌+◌, ◌-◌, ◌^◌, ◌++◌, ◌∷◌, [], length, vec_capacity, vec_len};
 
-use master_state::Event;
+use master_state::{Event, Start};
+use node_ids::AttemptNo;
 
 /// Adds an event to a history with room for it, and gives its place.
 pub fn record_event(history: &mut Vec<Event>, event: Event) -> u32
@@ -12,4 +13,28 @@ pub fn record_event(history: &mut Vec<Event>, event: Event) -> u32
 {
     history.push_reserved(event);
     history.len() as u32
+}
+
+/// Adds a start to a list with room for it, and gives the number of its attempt.
+pub fn record_start(starts: &mut Vec<Start>, start: Start) -> AttemptNo
+    requires room { vec_len starts.old < vec_capacity starts.old }
+    requires few { vec_len starts.old < 2 ^ 32 - 1 }
+    ensures items { starts.new.items ≡ starts.old.items ++ start ∷ [] }
+    ensures capacity { vec_capacity starts.new ≡ vec_capacity starts.old }
+    ensures number { result ≡ length starts.old.items + 1 }
+{
+    starts.push_reserved(start);
+    AttemptNo::new(starts.len() as u32)
+}
+
+/// Adds the counts of a sweep to a list with room for them, and gives their place.
+pub fn record_counts(sweeps: &mut Vec<[u64; 256]>, counts: &[u64; 256]) -> u32
+    requires room { vec_len sweeps.old < vec_capacity sweeps.old }
+    requires few { vec_len sweeps.old < 2 ^ 32 - 1 }
+    ensures items { sweeps.new.items ≡ sweeps.old.items ++ counts.now ∷ [] }
+    ensures capacity { vec_capacity sweeps.new ≡ vec_capacity sweeps.old }
+    ensures place { result ≡ length sweeps.old.items + 1 }
+{
+    sweeps.push_reserved(*counts);
+    sweeps.len() as u32
 }
