@@ -39,6 +39,7 @@ use Rattle.master_core.specs.Places.{RunsPart, RunsSplit}
 use Rattle.master_core.specs.Slots.{AreTaken, with_slots_given}
 use Rattle.master_core.proofs.Accepting.{accepted, counted_from, one_more}
 use Rattle.master_core.proofs.Ended.{no_reason}
+use Rattle.master_core.proofs.Showing.{shown-updated}
 
 -- the attempt that has the number a, on the worker that its start tells
 abbrev pub numbered : ℕ → ℕ → Attempt
@@ -132,10 +133,8 @@ of_split setup split result right =
 pub shown-done_at : (attempt : Attempt) (result : MapView) (entries : List SplitEntry) (k : ℕ) →
     map shown_as (updated (λ _. Done attempt result) entries k)
     ≡ updated (λ _. states.Done attempt) (map shown_as entries) k
-shown-done_at attempt result [] k = refl
-shown-done_at attempt result (entry ∷ entries) zero = refl
-shown-done_at attempt result (entry ∷ entries) (suc k) =
-    ap (λ rest. shown_as entry ∷ rest) (shown-done_at attempt result entries k)
+shown-done_at attempt result =
+    shown-updated (λ _. Done attempt result) (λ _. states.Done attempt) (λ entry. refl)
 
 abbrev kept_in : MapView → SplitEntry → MapView
 kept_in other (Done attempt result) = result

@@ -8,3 +8,5 @@ pub mod Accepting
 pub mod Completing
 pub mod Counting
 pub mod Handed
+pub mod Burying
+pub mod Backing

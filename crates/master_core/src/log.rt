@@ -1,7 +1,7 @@
 ghost use Rattle.std.specs.Prelude.{◌≡◌, ◌<◌, ◌+◌, ◌-◌, ◌^◌, ◌++◌, ◌∷◌, [], length, vec_capacity, vec_len};
 
-use master_state::{Event, Start};
-use node_ids::AttemptNo;
+use master_state::{Event, Start, Work};
+use node_ids::{AttemptNo, WorkerNo};
 
 /// Adds an event to a history with room for it, and gives its place.
 pub fn record_event(history: &mut Vec<Event>, event: Event) -> u32
@@ -16,14 +16,14 @@ pub fn record_event(history: &mut Vec<Event>, event: Event) -> u32
 }
 
 /// Adds a start to a list with room for it, and gives the number of its attempt.
-pub fn record_start(starts: &mut Vec<Start>, start: Start) -> AttemptNo
+pub fn record_start(starts: &mut Vec<Start>, work: Work, worker: WorkerNo) -> AttemptNo
     requires room { vec_len starts.old < vec_capacity starts.old }
     requires few { vec_len starts.old < 2 ^ 32 - 1 }
-    ensures items { starts.new.items ≡ starts.old.items ++ start ∷ [] }
+    ensures items { starts.new.items ≡ starts.old.items ++ record { work = work; worker = worker } ∷ [] }
     ensures capacity { vec_capacity starts.new ≡ vec_capacity starts.old }
     ensures number { result ≡ length starts.old.items + 1 }
 {
-    starts.push_reserved(start);
+    starts.push_reserved(Start { work, worker });
     AttemptNo::new(starts.len() as u32)
 }
 

@@ -399,11 +399,7 @@ impl Master {
         if let Some(why) = self.why_not_backup(split, worker) {
             return BackupAnswer::Ignored(why);
         }
-        let start = Start {
-            work: Work::Split(split),
-            worker,
-        };
-        let number = record_start(&mut self.starts, start);
+        let number = record_start(&mut self.starts, Work::Split(split), worker);
         run_attempt(&mut self.splits, split, Attempt { number, worker });
         self.workers.take_slot(worker);
         let place = record_event(&mut self.history, Event::Backup(number, split, worker));

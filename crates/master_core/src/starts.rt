@@ -15,7 +15,12 @@ use worker_table::WorkerTable;
 pub fn is_any_pending(entries: &[SplitEntry]) -> bool
     ensures { result ≡ list_any is_pending (map shown_as entries.now) }
 {
-    entries.iter().any(|entry| is_pending(entry))
+    for entry in entries {
+        if is_pending(entry) {
+            return true;
+        }
+    }
+    false
 }
 
 fn is_pending(entry: &SplitEntry) -> bool
