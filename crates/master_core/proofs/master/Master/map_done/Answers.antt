@@ -1,9 +1,9 @@
 use Rattle.std.proofs.Common.{◌≡◌, refl, ap, sym, ◌∙◌, subst, false, true}
 use Rattle.master_state.specs.Refusals.{MapDone, is_full, is_wrong_map, no_split_runs}
 use Rattle.master_state.specs.declared.answers.Why.TheVariants.{WrongInput, HistoryFull}
-use Rattle.master_state.specs.Jobs.{Job}
+use Rattle.master_state.specs.Jobs.{IsAccepted, Job}
 use Rattle.master_core.specs.declared.master.Master.TheInside.{Inside}
-use Rattle.master_core.specs.Inside.{setup_of, state_of}
+use Rattle.master_core.specs.Inside.{job_of, setup_of, state_of}
 use Rattle.master_core.specs.Places.{RunsSplit}
 use Rattle.master_core.proofs.Accepting.{accepted_at, master_after}
 use Rattle.master_core.proofs.Ended.{is_false}
@@ -60,17 +60,21 @@ give_slots-requires c =
     c.index-2.ensures in
     rw at (split_taken (setup_of old) (state_of old) found.split c.self.invariant.kept.tidy)
 
-pub invariant_of-self : goal.invariant_of-self
-invariant_of-self c =
+abbrev new_of : goal.After-record_event → Inside
+new_of c = record c.self.inside {
+  workers = c.give_slots.new.workers;
+  splits = c.finish_split.new.entries;
+  history = c.record_event.new.history;
+}
+
+accepted_here : (c : goal.After-record_event) →
+    IsAccepted (job_of c.self.inside) (MapDone c.args.attempt c.args.made) c.record_event.result
+    (job_of (new_of c))
+accepted_here c =
     let old = c.self.inside in
     let a = c.args.attempt in
     let split = c.in-Some.found.split in
     let w = c.in-Some.found.worker in
-    let new : Inside = record old {
-      workers = c.give_slots.new.workers;
-      splits = c.finish_split.new.entries;
-      history = c.record_event.new.history;
-    } in
     let run = subst (λ (i : Job). RunsSplit i.state a split w) (sym c.self.view_is) c.in-Some.ensures.place in
     let runs : no_split_runs (state_of old) a ≡ false =
     ap (λ (i : Job). no_split_runs i.state a) c.self.view_is ∙ is_false _ c.in-Some.ensures.found in
@@ -81,41 +85,29 @@ invariant_of-self c =
     ∙ c.if-has_no_place.false in
     let at = entry_at old c.args.self.now a split c.index.result w c.index-2.result.now c.self.invariant
     c.self.view_is c.in-Some.ensures.place.start c.index.ensures.value c.index-2.ensures in
-    master_after old new (MapDone a c.args.made) c.record_event.result c.self.invariant
-    (done_accepted old new a split w c.record_event.result c.index-2.result.now c.args.made c.self.invariant
-    run runs right free at refl c.give_slots.ensures c.finish_split.ensures refl
-    c.record_event.ensures.items refl c.record_event.ensures.place)
+    done_accepted old (new_of c) a split w c.record_event.result c.index-2.result.now c.args.made
+    c.self.invariant run runs right free at refl c.give_slots.ensures c.finish_split.ensures refl
+    c.record_event.ensures.items refl c.record_event.ensures.place
+
+pub invariant_of-self : goal.invariant_of-self
+invariant_of-self c =
+    let old = c.self.inside in
+    let split = c.in-Some.found.split in
+    let winner = numbered c.args.attempt c.in-Some.found.worker in
+    let right : is_wrong_map (setup_of old) split c.args.made ≡ false =
+    sym (c.is_wrong_map.ensures (setup_of old) refl) ∙ c.if-is_wrong_map.false in
+    master_after old (new_of c) (MapDone c.args.attempt c.args.made) c.record_event.result c.self.invariant
+    (accepted_here c)
     (record {
       events = rw c.record_event.ensures.capacity c.self.invariant.room.events;
       attempts = c.self.invariant.room.attempts;
       sweeps = c.self.invariant.room.sweeps;
       results = c.self.invariant.room.results;
     })
-    (rw c.finish_split.ensures (made_done (setup_of old) (numbered a w) c.args.made old.splits.items split
+    (rw c.finish_split.ensures (made_done (setup_of old) winner c.args.made old.splits.items split
     (of_split (setup_of old) split c.args.made right) c.self.invariant.made))
 
 pub returns : goal.returns
 returns c =
-    let old = c.self.inside in
-    let a = c.args.attempt in
-    let split = c.in-Some.found.split in
-    let w = c.in-Some.found.worker in
-    let new : Inside = record old {
-      workers = c.give_slots.new.workers;
-      splits = c.finish_split.new.entries;
-      history = c.record_event.new.history;
-    } in
-    let run = subst (λ (i : Job). RunsSplit i.state a split w) (sym c.self.view_is) c.in-Some.ensures.place in
-    let runs : no_split_runs (state_of old) a ≡ false =
-    ap (λ (i : Job). no_split_runs i.state a) c.self.view_is ∙ is_false _ c.in-Some.ensures.found in
-    let right : is_wrong_map (setup_of old) split c.args.made ≡ false =
-    sym (c.is_wrong_map.ensures (setup_of old) refl) ∙ c.if-is_wrong_map.false in
-    let free : is_full (setup_of old) (state_of old) ≡ false =
-    ap (λ (i : Job). is_full i.setup i.state) c.self.view_is ∙ sym c.has_no_place.ensures
-    ∙ c.if-has_no_place.false in
-    let at = entry_at old c.args.self.now a split c.index.result w c.index-2.result.now c.self.invariant
-    c.self.view_is c.in-Some.ensures.place.start c.index.ensures.value c.index-2.ensures in
-    accepted_at old new c.args.self.now (MapDone a c.args.made) c.record_event.result c.self.view_is
-    (done_accepted old new a split w c.record_event.result c.index-2.result.now c.args.made c.self.invariant
-    run runs right free at refl c.give_slots.ensures c.finish_split.ensures refl
-    c.record_event.ensures.items refl c.record_event.ensures.place)
+    accepted_at c.self.inside (new_of c) c.args.self.now (MapDone c.args.attempt c.args.made)
+    c.record_event.result c.self.view_is (accepted_here c)
