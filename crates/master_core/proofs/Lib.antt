@@ -6,7 +6,7 @@ pub mod Failing
 pub mod Opening
 pub mod Accepting
 pub mod Completing
-pub mod Counting
+pub mod ResultRoom
 pub mod Handed
 pub mod Burying
 pub mod Backing

@@ -6,6 +6,7 @@
 //! tables of `worker_table` and `block_map`.
 #![tactic(auto)]
 
+mod backups;
 pub mod cluster;
 mod completions;
 mod deaths;
@@ -15,7 +16,6 @@ mod inputs;
 mod log;
 pub mod master;
 mod running;
-mod starts;
 
 pub use cluster::{Cluster, ClusterError};
 pub use master::Master;

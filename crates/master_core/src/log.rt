@@ -2,6 +2,7 @@ ghost use Rattle.std.specs.Prelude.{◌≡◌, ◌<◌, ◌+◌, ◌-◌, ◌^�
 
 use master_state::{Event, Start, Work};
 use node_ids::{AttemptNo, WorkerNo};
+use shuffle_reduce::PartResult;
 
 /// Adds an event to a history with room for it, and gives its place.
 pub fn record_event(history: &mut Vec<Event>, event: Event) -> u32
@@ -37,4 +38,13 @@ pub fn record_counts(sweeps: &mut Vec<[u64; 256]>, counts: &[u64; 256]) -> u32
 {
     sweeps.push_reserved(*counts);
     sweeps.len() as u32
+}
+
+/// Adds the result of a part to a list with room for it.
+pub fn record_result(results: &mut Vec<PartResult>, made: PartResult)
+    requires { vec_len results.old < vec_capacity results.old }
+    ensures items { results.new.items ≡ results.old.items ++ made ∷ [] }
+    ensures capacity { vec_capacity results.new ≡ vec_capacity results.old }
+{
+    results.push_reserved(made);
 }

@@ -1,20 +1,31 @@
 ghost use Rattle.std.specs.Prelude.{◌≡◌, ◌<◌, ◌≤◌, [], length, not, is_some, IfOk, IfSome, Some, slice_get};
 ghost use Rattle.master_state.specs.States.{AreSmall, opening, start_of};
-ghost use Rattle.master_state.specs.Refusals.{Call, IsKnown, IsPair, has_no_room, has_no_sweep, is_full, is_not_backable, no_part_runs, no_split_runs, refusal};
+ghost use Rattle.master_state.specs.Refusals.{
+  Call,
+  IsKnown,
+  IsPair,
+  has_no_room,
+  has_no_sweep,
+  is_full,
+  is_not_backable,
+  no_part_runs,
+  no_split_runs,
+  refusal,
+};
 ghost use Rattle.master_state.specs.Jobs.{AreResults, Answers, AnswersBackup, AnswersSweep, AnswersWith, IsKept};
 ghost use Rattle.master_core.specs.Places.{RunsPart, RunsSplit};
 
+use crate::backups::{has_free_slot, is_any_live, is_any_pending, run_attempt, takes_backup};
 use crate::cluster::Cluster;
 use crate::completions::{finish_part, finish_split, give_slots};
 use crate::deaths::{bury, bury_all};
 use crate::entries::{SplitEntry, pending_entries, shown};
 use crate::holders::{add_holder, drop_holder, first_holders};
 use crate::inputs::{is_wrong_map, is_wrong_part};
-use crate::log::{record_counts, record_event, record_start};
+use crate::log::{record_counts, record_event, record_result, record_start};
 use crate::running::{
     RunningPart, RunningSplit, end_attempt, end_part_attempt, part_of, part_runs, runs, split_of,
 };
-use crate::starts::{has_free_slot, is_any_live, is_any_pending, run_attempt, takes_backup};
 use block_map::BlockMap;
 use master_state::{
     Answer, AnswerWith, Attempt, BackupAnswer, Event, Limits, PartState, SplitState, Start, Swept,
@@ -362,7 +373,7 @@ impl Master {
         }
         finish_part(&mut self.parts, found.part, attempt);
         self.workers.give_slot(found.worker);
-        self.results.push_reserved(made);
+        record_result(&mut self.results, made);
         AnswerWith::Accepted(record_event(&mut self.history, Event::PartDone(attempt)))
     }
 

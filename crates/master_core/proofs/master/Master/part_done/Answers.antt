@@ -8,7 +8,7 @@ use Rattle.master_core.proofs.Accepting.{accepted_at, master_after}
 use Rattle.master_core.proofs.Ended.{is_false, part_takes}
 use Rattle.master_core.proofs.Found.{part_in_list, tidy_at}
 use Rattle.master_core.proofs.Completing.{first_reason, part_done_accepted, part_refusal, second_reason}
-use Rattle.master_core.proofs.Counting.{result_room}
+use Rattle.master_core.proofs.ResultRoom.{result_room}
 use Rattle.master_core.proofs.master.Master.part_done.Goals as goal
 
 pub returns-then-is_wrong_part : goal.returns-then-is_wrong_part
@@ -60,7 +60,7 @@ abbrev new_of : goal.After-record_event → Inside
 new_of c = record c.self.inside {
   workers = c.give_slot.new.self;
   parts = c.finish_part.new.parts;
-  results = c.push_reserved.new.self;
+  results = c.record_result.new.results;
   history = c.record_event.new.history;
 }
 
@@ -82,7 +82,7 @@ accepted_here c =
     ∙ c.if-has_no_place.false in
     part_done_accepted old (new_of c) a r w c.record_event.result c.args.made c.self.invariant run runs right
     free refl c.give_slot.ensures c.finish_part.ensures refl c.record_event.ensures.items
-    c.push_reserved.ensures.items c.record_event.ensures.place
+    c.record_result.ensures.items c.record_event.ensures.place
 
 pub invariant_of-self : goal.invariant_of-self
 invariant_of-self c =
@@ -92,7 +92,7 @@ invariant_of-self c =
       events = rw c.record_event.ensures.capacity c.self.invariant.room.events;
       attempts = c.self.invariant.room.attempts;
       sweeps = c.self.invariant.room.sweeps;
-      results = rw c.push_reserved.ensures.capacity c.self.invariant.room.results;
+      results = rw c.record_result.ensures.capacity c.self.invariant.room.results;
     })
     c.self.invariant.made
 
@@ -101,8 +101,8 @@ returns c =
     accepted_at c.self.inside (new_of c) c.args.self.now (PartDone c.args.attempt c.args.made)
     c.record_event.result c.self.view_is (accepted_here c)
 
-pub push_reserved-requires : goal.push_reserved-requires
-push_reserved-requires c =
+pub record_result-requires : goal.record_result-requires
+record_result-requires c =
     let old = c.self.inside in
     result_room old c.args.attempt c.in-Some.found.part c.in-Some.found.worker c.self.invariant
     (subst (λ (i : Job). RunsPart i.state c.args.attempt c.in-Some.found.part c.in-Some.found.worker)

@@ -1,7 +1,7 @@
 use Rattle.std.proofs.Common.{refl}
 use Rattle.node_ids.proofs.Updating.{updated_at}
 use Rattle.master_core.specs.Entries.{entry_with}
-use Rattle.master_core.proofs.starts.run_attempt.Goals as goal
+use Rattle.master_core.proofs.backups.run_attempt.Goals as goal
 
 pub returns : goal.returns
 returns c =

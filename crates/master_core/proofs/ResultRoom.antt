@@ -72,7 +72,12 @@ fewer results each r (suc n) inside none = elim (cases_eq r n) [
   | inl same ↦
       let here : count_of results n ≡ 0 = ap (count_of results) (sym same) ∙ none in
       omega (arith, count_more n results, here, at_most results each n)
-  | inr other ↦ omega (arith, count_more n results, each n, fewer results each r n (omega (arith, inside, other)) none)
+  | inr other ↦ omega (
+    arith,
+    count_more n results,
+    each n,
+    fewer results each r n (omega (arith, inside, other)) none,
+  )
 ]
 
 all_below : (n : ℕ) (results : List PartView) → All (λ result. result.part < n) results →
