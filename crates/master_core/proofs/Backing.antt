@@ -45,7 +45,8 @@ backup_accepted old new split w number place known allowed setup numbered worker
     let shown : updated (λ state. running (attempts_of state ++ next (next_attempt s) ∷ [])) s.splits split
     ≡ map shown_as new.splits.items =
     sym (ap (map shown_as) splits ∙ shown-started (next number) old.splits.items split
-    ∙ ap (λ (n : ℕ). updated (λ state. running (attempts_of state ++ next n ∷ [])) s.splits split) numbered) in
+    ∙ ap (λ (n : ℕ). updated (λ state. running (attempts_of state ++ next n ∷ [])) s.splits split)
+    numbered) in
     let changed : split_started s split w ≡ record s {
       workers = new.workers;
       splits = map shown_as new.splits.items;

@@ -39,11 +39,13 @@ length-died now next v buried =
 -- those that were silent too long have died, and no others
 swept_is : (s : State) (counts dead : List ℕ) (table : Workers) (next : State) →
     table ≡ swept s.workers counts → ((w : ℕ) → has_number dead w ≡ is_silent table w) →
-    fold died (heard_state s counts) (filter (has_number dead) (range_with_len 0 (length table.each))) ≡ next →
+    fold died (heard_state s counts) (filter (has_number dead) (range_with_len 0 (length table.each)))
+    ≡ next →
     with_sweep s counts ≡ next
 swept_is s counts dead table next heard silent buried =
     let begun = heard_state s counts in
-    ap (λ (t : Workers). fold died begun (filter (is_silent t) (range_with_len 0 (length t.each)))) (sym heard)
+    ap (λ (t : Workers). fold died begun (filter (is_silent t) (range_with_len 0 (length t.each))))
+    (sym heard)
     ∙ ap (fold died begun)
     (sym (filter_agree (has_number dead) (is_silent table) silent (range_with_len 0 (length table.each))))
     ∙ buried
@@ -93,5 +95,5 @@ sweep_accepted old new counts dead table place kept was room setup heard silent 
     let leads = recorded ∙ counted_from (with_sweep s counts) buried_state (length new.history.items)
     (swept_is s counts dead table buried_state heard silent buried)
     (one_more old.history.items new.history.items (event_of s (Sweep counts)) told) in
-    accepted old new (Sweep counts) place tt (one_reason (has_no_sweep (setup_of old) s) room) setup told leads
-    (results ∙ sym (append-nil old.results.items)) place_is
+    accepted old new (Sweep counts) place tt (one_reason (has_no_sweep (setup_of old) s) room) setup told
+    leads (results ∙ sym (append-nil old.results.items)) place_is

@@ -57,5 +57,6 @@ wrong_first x p q told off = rw (sym told, off) refl
 pub wrong_later : (x y p q : Bool) → x ≡ p → x ≡ true → y ≡ q → y ≡ (not p || q)
 wrong_later x y p q told on rest = rw (sym told, on) rest
 
-pub wrong_last : (p q r other : Bool) → p ≡ true → q ≡ true → r ≡ other → not r ≡ (not p || not q || not other)
+pub wrong_last : (p q r other : Bool) → p ≡ true → q ≡ true → r ≡ other →
+    not r ≡ (not p || not q || not other)
 wrong_last p q r other part parts same = rw (part, parts, same) refl

@@ -110,7 +110,9 @@ in_parts setup s results are k d l =
     let done = done_where (part_is_done (part_at s r)) (count_of results r) (are.one_each r) some in
     elim (cases_lt r (length s.parts)) [
       | inl inside ↦ inside
-      | inr past ↦ absurd (false≢true (sym (ap part_is_done (get_or_past s.parts r part.Pending past)) ∙ done))
+      | inr past ↦
+          let pending = ap part_is_done (get_or_past s.parts r part.Pending past) in
+          absurd (false≢true (sym pending ∙ done))
     ]
 
 pub few_results : (setup : Setup) (s : State) (results : List PartView) (r : ℕ) → AreResults setup s results →

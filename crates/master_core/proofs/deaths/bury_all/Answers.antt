@@ -43,7 +43,8 @@ loop-i-preserved c =
             made = λ setup were. w.bury.ensures.made setup (c.loop-i.invariant.made setup were);
           })
       | else-has w ↦
-          let here : dies i ≡ false = ap dies (sym c.new-worker.ensures) ∙ sym c.has.ensures ∙ w.if-has.false in
+          let here : dies i ≡ false =
+          ap dies (sym c.new-worker.ensures) ∙ sym c.has.ensures ∙ w.if-has.false in
           rw (w.workers-is, w.holders-is, w.splits-is, w.parts-is) (record {
             same = c.loop-i.invariant.same;
             rest = λ s workers holders splits parts.
@@ -53,7 +54,8 @@ loop-i-preserved c =
                   splits = map shown_as c.loop-i.splits.items;
                   parts = c.loop-i.parts.items;
                 } in
-                sym (life_next now dies i n inside here) ∙ c.loop-i.invariant.rest s workers holders splits parts;
+                sym (life_next now dies i n inside here)
+                ∙ c.loop-i.invariant.rest s workers holders splits parts;
             made = c.loop-i.invariant.made;
           })
     ]

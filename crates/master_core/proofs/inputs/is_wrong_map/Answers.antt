@@ -12,8 +12,10 @@ returns-then-not-is_same c setup same =
     let known : split < length setup.cluster.texts =
     subst (λ (cluster : Cluster). split < length cluster.texts) (sym same) c.requires in
     let here = text_at c.texts.result.now setup.cluster.texts c.index.result split
-    c.index-texts-index.result (record { split = split; documents = [] }) given c.index.ensures.value c.index-texts-index.is known in
-    let told = compared c.is_same.result c.deref.result.now c.deref-2.result.now made.text (text_of setup split)
+    c.index-texts-index.result (record { split = split; documents = [] }) given c.index.ensures.value
+    c.index-texts-index.is known in
+    let told = compared c.is_same.result c.deref.result.now c.deref-2.result.now made.text
+    (text_of setup split)
     c.is_same.ensures.same (c.deref.ensures ∙ c.text.ensures) (c.deref-2.ensures ∙ here) in
     wrong_first c.is_same.result (is_same_text made.text (text_of setup split))
     (not (made.parts == setup.cluster.parts)) told c.if-not-is_same.true
@@ -26,8 +28,10 @@ returns-else-not-is_same c setup same =
     let known : split < length setup.cluster.texts =
     subst (λ (cluster : Cluster). split < length cluster.texts) (sym same) c.requires in
     let here = text_at c.texts.result.now setup.cluster.texts c.index.result split
-    c.index-texts-index.result (record { split = split; documents = [] }) given c.index.ensures.value c.index-texts-index.is known in
-    let told = compared c.is_same.result c.deref.result.now c.deref-2.result.now made.text (text_of setup split)
+    c.index-texts-index.result (record { split = split; documents = [] }) given c.index.ensures.value
+    c.index-texts-index.is known in
+    let told = compared c.is_same.result c.deref.result.now c.deref-2.result.now made.text
+    (text_of setup split)
     c.is_same.ensures.same (c.deref.ensures ∙ c.text.ensures) (c.deref-2.ensures ∙ here) in
     let parts = c.parts-else-not-is_same.ensures.count
     ∙ ap (λ (cluster : Cluster). cluster.parts) (sym same) in

@@ -46,7 +46,8 @@ returns-then-has_no_place c =
         refused = map_refusal j.setup j.state c.args.attempt found.split found.worker c.args.made
             (tidy_at c.self.inside j c.self.invariant c.self.view_is) c.in-Some.ensures.place
             (is_false _ c.in-Some.ensures.found)
-            ∙ second_reason (is_wrong_map j.setup found.split c.args.made) (is_full j.setup j.state) right full;
+            ∙ second_reason (is_wrong_map j.setup found.split c.args.made) (is_full j.setup j.state) right
+            full;
         same = refl;
       },
     )

@@ -41,7 +41,8 @@ returns-then-has_no_place c =
         refused = part_refusal j.setup j.state c.args.attempt found.part found.worker c.args.made
             (tidy_at c.self.inside j c.self.invariant c.self.view_is) c.in-Some.ensures.place
             (is_false _ c.in-Some.ensures.found)
-            ∙ second_reason (is_wrong_part j.setup found.part c.args.made) (is_full j.setup j.state) right full;
+            ∙ second_reason (is_wrong_part j.setup found.part c.args.made) (is_full j.setup j.state) right
+            full;
         same = refl;
       },
     )
