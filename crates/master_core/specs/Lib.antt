@@ -1,4 +1,5 @@
 pub mod Clusters
+pub mod Ends
 pub mod Entries
 pub mod Inside
 pub mod Places

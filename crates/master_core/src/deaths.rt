@@ -1,17 +1,17 @@
-ghost use Rattle.std.specs.Prelude.{◌≡◌, ◌<◌, length, map, filter, fold, if◌then◌else◌, Some, None, Option};
+ghost use Rattle.std.specs.Prelude.{◌≡◌, ◌<◌, length, map, filter, fold, Some, None, Option};
 ghost use Rattle.std.specs.List.{list_all, range_with_len};
 ghost use Rattle.std.specs.Option.{option_map_or};
 ghost use Rattle.node_ids.specs.Sets.{has_number};
-ghost use Rattle.master_state.specs.declared.states.SplitState.TheVariants as states;
 ghost use Rattle.master_state.specs.States.{Setup, State};
 ghost use Rattle.master_state.specs.Tests.{is_on, part_is_done};
-ghost use Rattle.master_state.specs.Changes.{died, part_without, without_attempts};
-ghost use Rattle.master_core.specs.Entries.{entry_after_death, entry_of, shown_as};
+ghost use Rattle.master_state.specs.Changes.{died, part_without};
+ghost use Rattle.master_core.specs.Entries.{entry_after_death, shown_as};
 ghost use Rattle.master_core.specs.Inside.{AreOfSplits};
 
 use crate::entries::SplitEntry;
+use crate::running::{Ending, part_without_ended, without_ended};
 use block_map::BlockMap;
-use master_state::{Attempt, PartState};
+use master_state::PartState;
 use node_ids::{WorkerNo, WorkerSet};
 use worker_table::WorkerTable;
 
@@ -102,7 +102,11 @@ fn changed_entry(entry: &SplitEntry, stays: bool, worker: WorkerNo) -> Option<Sp
 {
     match entry {
         SplitEntry::Pending => None,
-        SplitEntry::Running(attempt, other) => Some(off_worker(*attempt, *other, worker)),
+        SplitEntry::Running(attempt, other) => Some(without_ended(
+            *attempt,
+            *other,
+            &Ending::On(worker),
+        )),
         SplitEntry::Done(attempt, _) => {
             if attempt.worker == worker && !stays {
                 Some(SplitEntry::Pending)
@@ -113,54 +117,10 @@ fn changed_entry(entry: &SplitEntry, stays: bool, worker: WorkerNo) -> Option<Sp
     }
 }
 
-// What a split still runs, of an attempt and perhaps another, without those on the worker.
-fn off_worker(attempt: Attempt, other: Option<Attempt>, worker: WorkerNo) -> SplitEntry
-    ensures { result ≡ entry_of (without_attempts (is_on worker) (states.Running attempt other)) }
-{
-    let first_stays = attempt.worker != worker;
-    match other {
-        Some(second) => {
-            let second_stays = second.worker != worker;
-            if first_stays && second_stays {
-                SplitEntry::Running(attempt, Some(second))
-            } else if first_stays {
-                SplitEntry::Running(attempt, None)
-            } else if second_stays {
-                SplitEntry::Running(second, None)
-            } else {
-                SplitEntry::Pending
-            }
-        }
-        None => {
-            if first_stays {
-                SplitEntry::Running(attempt, None)
-            } else {
-                SplitEntry::Pending
-            }
-        }
-    }
-}
-
 fn lose_parts(parts: &mut Vec<PartState>, worker: WorkerNo)
     ensures { parts.new.items ≡ map (part_without (is_on worker)) parts.old.items }
 {
     for part in parts.iter_mut() {
-        *part = part_off_worker(*part, worker);
-    }
-}
-
-fn part_off_worker(part: PartState, worker: WorkerNo) -> PartState
-    ensures { result ≡ part_without (is_on worker) part }
-{
-    match part {
-        PartState::Pending => PartState::Pending,
-        PartState::Running(attempt) => {
-            if attempt.worker == worker {
-                PartState::Pending
-            } else {
-                PartState::Running(attempt)
-            }
-        }
-        PartState::Done => PartState::Done,
+        *part = part_without_ended(*part, &Ending::On(worker));
     }
 }
