@@ -2,6 +2,7 @@
 use Rattle.std.proofs.Common.{◌≡◌, ℕ, zero, suc, ◌<◌, List, [], ◌∷◌, length, map, get_or, Bool, true, false, not, Some, None, refl, ap, ◌∙◌, sym, arith, subst}
 use Rattle.std.specs.Prelude.{slice_index_or}
 use Rattle.std.proofs.lemmas.List.{length-map}
+use Rattle.std.proofs.lemmas.List.FromFn.{length-range_with_len}
 use Rattle.master_state.specs.declared.states.Work.{Work}
 use Rattle.master_state.specs.declared.states.Work.TheVariants as works
 use Rattle.master_state.specs.declared.states.SplitState.TheVariants as states
@@ -17,7 +18,7 @@ use Rattle.master_state.proofs.Running.{start_known}
 use Rattle.master_core.specs.declared.entries.SplitEntry.{SplitEntry}
 use Rattle.master_core.specs.declared.master.Master.TheInside.{Inside}
 use Rattle.master_core.specs.Entries.{shown_as}
-use Rattle.master_core.specs.Inside.{job_of, IsMaster}
+use Rattle.master_core.specs.Inside.{state_of, job_of, IsMaster}
 use Rattle.master_core.specs.Places.{split_of, part_of}
 
 pub tidy_at : (m : Inside) (j : Job) → IsMaster m → job_of m ≡ j → IsTidy j.setup j.state
@@ -90,11 +91,15 @@ part_known setup s a r w tidy start =
     (start_known setup s a (record { work = works.Part r; worker = w }) tidy start).work in
     omega (arith, known, tidy.parts)
 
-pub shown_at : (entries : List SplitEntry) (k : ℕ) (entry : SplitEntry) → k < length entries →
+pub at_mapped : {X Y : Type 0} (f : X → Y) (xs : List X) (k : ℕ) (x : X) (d : Y) → k < length xs →
+    x ≡ get_or xs k x → f x ≡ slice_index_or (map f xs) k d
+at_mapped f [] k x d inside at = absurd (omega (arith, inside))
+at_mapped f (first ∷ xs) zero x d inside at = ap f at
+at_mapped f (first ∷ xs) (suc k) x d inside at = at_mapped f xs k x d (omega (arith, inside)) at
+
+shown_at : (entries : List SplitEntry) (k : ℕ) (entry : SplitEntry) → k < length entries →
     entry ≡ get_or entries k entry → shown_as entry ≡ slice_index_or (map shown_as entries) k states.Pending
-shown_at [] k entry inside at = absurd (omega (arith, inside))
-shown_at (first ∷ entries) zero entry inside at = ap shown_as at
-shown_at (first ∷ entries) (suc k) entry inside at = shown_at entries k entry (omega (arith, inside)) at
+shown_at entries k entry inside at = at_mapped shown_as entries k entry states.Pending inside at
 
 -- what a master reads at that place is what its job says of it
 pub split_in_list : (m : Inside) (j : Job) (a k w : ℕ) → IsMaster m → job_of m ≡ j →
@@ -113,6 +118,30 @@ split_run m j a k i w entry b was is start place at answer =
     let here : entry ≡ get_or m.splits.items k entry = rw place at at in
     answer ∙ ap (runs a) (shown_at m.splits.items k entry (split_in_list m j a k w was is start) here)
     ∙ ap (λ (l : Job). runs a (split_at l.state k)) is
+
+-- the entry that a master reads at a split shows what the split does
+pub entry_at : (m : Inside) (j : Job) (a k i w : ℕ) (entry : SplitEntry) → IsMaster m → job_of m ≡ j →
+    start_of j.state a ≡ Some (record { work = works.Split k; worker = w }) → i ≡ k →
+    entry ≡ get_or m.splits.items i entry → shown_as entry ≡ split_at (state_of m) k
+entry_at m j a k i w entry was is start place at =
+    let here : entry ≡ get_or m.splits.items k entry = rw place at at in
+    shown_at m.splits.items k entry (split_in_list m j a k w was is start) here
+
+-- a split has its text
+pub text_known : (m : Inside) (j : Job) (a k w : ℕ) → IsMaster m → job_of m ≡ j →
+    start_of j.state a ≡ Some (record { work = works.Split k; worker = w }) → k < length m.cluster.texts
+text_known m j a k w was is start =
+    let here : k < length (map shown_as m.splits.items) =
+    subst (λ (i : Job). k < length i.state.splits) (sym is)
+    (split_known j.setup j.state a k w (tidy_at m j was is) start) in
+    omega (
+      arith,
+      here,
+      was.kept.tidy.splits,
+      length-map m.cluster.texts (λ text. text.split),
+      ap length was.kept.whole.texts,
+      length-range_with_len 0 (length m.cluster.splits),
+    )
 
 pub part_in_list : (m : Inside) (j : Job) (a r w : ℕ) → IsMaster m → job_of m ≡ j →
     start_of j.state a ≡ Some (record { work = works.Part r; worker = w }) → r < length m.parts.items

@@ -5,3 +5,8 @@ pub mod Found
 pub mod Failing
 pub mod Opening
 pub mod Accepting
+pub mod Completing
+pub mod ResultRoom
+pub mod Handed
+pub mod Burying
+pub mod Backing

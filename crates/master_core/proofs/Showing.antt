@@ -1,5 +1,5 @@
 -- What changes of entries show, and which results they keep.
-use Rattle.std.proofs.Common.{◌≡◌, ℕ, zero, suc, ◌&&◌, List, [], ◌∷◌, map, get_or, cond, Bool, true, false, not, Option, Some, None, refl, ap, ◌∙◌, sym}
+use Rattle.std.proofs.Common.{◌≡◌, ℕ, zero, suc, ◌&&◌, List, [], ◌∷◌, ◌++◌, map, get_or, cond, Bool, true, false, not, Option, Some, None, refl, ap, ◌∙◌, sym}
 use Rattle.std.specs.Prelude.{filter, slice_get}
 use Rattle.std.specs.Option.{option_map}
 use Rattle.std.proofs.lemmas.Option.{slice_get-map, same_Some}
@@ -12,11 +12,11 @@ use Rattle.master_state.specs.declared.states.SplitState.{SplitState}
 use Rattle.master_state.specs.declared.states.SplitState.TheVariants as states
 use Rattle.master_state.specs.declared.states.PartState.{PartState}
 use Rattle.master_state.specs.States.{Setup, State}
-use Rattle.master_state.specs.Tests.{is_on, running, all_parts_done}
+use Rattle.master_state.specs.Tests.{attempts_of, is_on, running, all_parts_done}
 use Rattle.master_state.specs.Changes.{after_death, died, part_without, without_attempts}
 use Rattle.master_core.specs.declared.entries.SplitEntry.{SplitEntry}
 use Rattle.master_core.specs.declared.entries.SplitEntry.TheVariants.{Pending, Running, Done}
-use Rattle.master_core.specs.Entries.{shown_as, entry_of, entry_after_death, entry_without}
+use Rattle.master_core.specs.Entries.{shown_as, entry_of, entry_after_death, entry_with, entry_without}
 use Rattle.master_core.specs.Inside.{AreOfSplits}
 
 shown-running : (attempts : List Attempt) → shown_as (entry_of (running attempts)) ≡ running attempts
@@ -100,13 +100,31 @@ shown-without test (Running one None) = shown-running (filter (λ a. not (test a
 shown-without test (Running one (Some other)) = shown-running (filter (λ a. not (test a)) (one ∷ other ∷ []))
 shown-without test (Done attempt result) = refl
 
+-- a change of one entry shows as the change of what it showed
+pub shown-updated : (change : SplitEntry → SplitEntry) (shown : SplitState → SplitState) →
+    ((entry : SplitEntry) → shown_as (change entry) ≡ shown (shown_as entry)) →
+    (entries : List SplitEntry) (k : ℕ) →
+    map shown_as (updated change entries k) ≡ updated shown (map shown_as entries) k
+shown-updated change shown same [] k = refl
+shown-updated change shown same (entry ∷ entries) zero =
+    ap (λ state. state ∷ map shown_as entries) (same entry)
+shown-updated change shown same (entry ∷ entries) (suc k) =
+    ap (λ rest. shown_as entry ∷ rest) (shown-updated change shown same entries k)
+
 pub shown-ended : (test : Attempt → Bool) (entries : List SplitEntry) (k : ℕ) →
     map shown_as (updated (entry_without test) entries k)
     ≡ updated (without_attempts test) (map shown_as entries) k
-shown-ended test [] k = refl
-shown-ended test (entry ∷ entries) zero =
-    ap (λ state. state ∷ map shown_as entries) (shown-without test entry)
-shown-ended test (entry ∷ entries) (suc k) = ap (λ rest. shown_as entry ∷ rest) (shown-ended test entries k)
+shown-ended test = shown-updated (entry_without test) (without_attempts test) (shown-without test)
+
+pub shown-started : (attempt : Attempt) (entries : List SplitEntry) (k : ℕ) →
+    map shown_as (updated (entry_with attempt) entries k)
+    ≡ updated (λ state. running (attempts_of state ++ attempt ∷ [])) (map shown_as entries) k
+shown-started attempt =
+    shown-updated (entry_with attempt) (λ state. running (attempts_of state ++ attempt ∷ []))
+    (λ entry. shown-running (attempts_of (shown_as entry) ++ attempt ∷ []))
+
+pub start_makes_none : (one : Attempt) → MakesNone (entry_with one)
+start_makes_none one entry attempt result e = absurd (never_done _ attempt result e)
 
 pub end_makes_none : (test : Attempt → Bool) → MakesNone (entry_without test)
 end_makes_none test Pending attempt result e = e

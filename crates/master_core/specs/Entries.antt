@@ -1,9 +1,9 @@
 -- What has become of a split, as callers see it.
-use Rattle.std.specs.Prelude.{ℕ, ◌&&◌, Bool, not, if◌then◌else◌}
+use Rattle.std.specs.Prelude.{ℕ, ◌&&◌, Bool, not, if◌then◌else◌, [], ◌∷◌, ◌++◌}
 use Rattle.master_state.specs.declared.states.Attempt.{Attempt}
 use Rattle.master_state.specs.declared.states.SplitState.{SplitState}
 use Rattle.master_state.specs.declared.states.SplitState.TheVariants as states
-use Rattle.master_state.specs.Tests.{is_on}
+use Rattle.master_state.specs.Tests.{is_on, attempts_of, running}
 use Rattle.master_state.specs.Changes.{without_attempts}
 use Rattle.master_core.specs.declared.entries.SplitEntry.{SplitEntry}
 use Rattle.master_core.specs.declared.entries.SplitEntry.TheVariants.{Pending, Running, Done}
@@ -32,3 +32,7 @@ abbrev pub entry_without : (Attempt → Bool) → SplitEntry → SplitEntry
 entry_without test Pending = Pending
 entry_without test (Running attempt other) = entry_of (without_attempts test (states.Running attempt other))
 entry_without test (Done attempt result) = Done attempt result
+
+-- an entry that runs the attempt beside what it ran, two attempts at most
+abbrev pub entry_with : Attempt → SplitEntry → SplitEntry
+entry_with attempt entry = entry_of (running (attempts_of (shown_as entry) ++ attempt ∷ []))

@@ -1,17 +1,18 @@
-ghost use Rattle.std.specs.Prelude.{◌≡◌, ◌<◌, length, map, if◌then◌else◌, Some, None, Option};
-ghost use Rattle.std.specs.List.{list_all};
+ghost use Rattle.std.specs.Prelude.{◌≡◌, ◌<◌, length, map, filter, fold, Some, None, Option};
+ghost use Rattle.std.specs.List.{list_all, range_with_len};
 ghost use Rattle.std.specs.Option.{option_map_or};
-ghost use Rattle.master_state.specs.declared.states.SplitState.TheVariants as states;
+ghost use Rattle.node_ids.specs.Sets.{has_number};
 ghost use Rattle.master_state.specs.States.{Setup, State};
 ghost use Rattle.master_state.specs.Tests.{is_on, part_is_done};
-ghost use Rattle.master_state.specs.Changes.{died, part_without, without_attempts};
-ghost use Rattle.master_core.specs.Entries.{entry_after_death, entry_of, shown_as};
+ghost use Rattle.master_state.specs.Changes.{died, part_without};
+ghost use Rattle.master_core.specs.Entries.{entry_after_death, shown_as};
 ghost use Rattle.master_core.specs.Inside.{AreOfSplits};
 
 use crate::entries::SplitEntry;
+use crate::running::{Ending, part_without_ended, without_ended};
 use block_map::BlockMap;
-use master_state::{Attempt, PartState};
-use node_ids::WorkerNo;
+use master_state::PartState;
+use node_ids::{WorkerNo, WorkerSet};
 use worker_table::WorkerTable;
 
 /// A worker of the table dies: it holds nothing then, and what it ran, and had made, is pending.
@@ -38,6 +39,33 @@ pub fn bury(
     holders.drop_worker(worker);
     lose_entries(splits, stays, worker);
     lose_parts(parts, worker);
+}
+
+/// Each worker of the table that is in the set dies, one after another.
+pub fn bury_all(
+    workers: &mut WorkerTable,
+    holders: &mut BlockMap,
+    splits: &mut Vec<SplitEntry>,
+    parts: &mut Vec<PartState>,
+    dead: &WorkerSet,
+)
+    ensures died { (s : State) → s.workers ≡ workers.old → s.holders ≡ holders.old
+        → s.splits ≡ map shown_as splits.old.items → s.parts ≡ parts.old.items
+        → fold died s (filter (has_number dead.now) (range_with_len 0 (length workers.old.each))) ≡ record s {
+          workers = workers.new;
+          holders = holders.new;
+          splits = map shown_as splits.new.items;
+          parts = parts.new.items;
+        } }
+    ensures made { (setup : Setup) → AreOfSplits setup splits.old.items → AreOfSplits setup splits.new.items }
+{
+    let count = workers.workers().len();
+    for i in 0..count {
+        let worker = WorkerNo::new(i as u16);
+        if dead.has(worker) {
+            bury(workers, holders, splits, parts, worker);
+        }
+    }
 }
 
 fn are_all_done(parts: &Vec<PartState>) -> bool
@@ -74,7 +102,11 @@ fn changed_entry(entry: &SplitEntry, stays: bool, worker: WorkerNo) -> Option<Sp
 {
     match entry {
         SplitEntry::Pending => None,
-        SplitEntry::Running(attempt, other) => Some(off_worker(*attempt, *other, worker)),
+        SplitEntry::Running(attempt, other) => Some(without_ended(
+            *attempt,
+            *other,
+            &Ending::On(worker),
+        )),
         SplitEntry::Done(attempt, _) => {
             if attempt.worker == worker && !stays {
                 Some(SplitEntry::Pending)
@@ -85,54 +117,10 @@ fn changed_entry(entry: &SplitEntry, stays: bool, worker: WorkerNo) -> Option<Sp
     }
 }
 
-// What a split still runs, of an attempt and perhaps another, without those on the worker.
-fn off_worker(attempt: Attempt, other: Option<Attempt>, worker: WorkerNo) -> SplitEntry
-    ensures { result ≡ entry_of (without_attempts (is_on worker) (states.Running attempt other)) }
-{
-    let first_stays = attempt.worker != worker;
-    match other {
-        Some(second) => {
-            let second_stays = second.worker != worker;
-            if first_stays && second_stays {
-                SplitEntry::Running(attempt, Some(second))
-            } else if first_stays {
-                SplitEntry::Running(attempt, None)
-            } else if second_stays {
-                SplitEntry::Running(second, None)
-            } else {
-                SplitEntry::Pending
-            }
-        }
-        None => {
-            if first_stays {
-                SplitEntry::Running(attempt, None)
-            } else {
-                SplitEntry::Pending
-            }
-        }
-    }
-}
-
 fn lose_parts(parts: &mut Vec<PartState>, worker: WorkerNo)
     ensures { parts.new.items ≡ map (part_without (is_on worker)) parts.old.items }
 {
     for part in parts.iter_mut() {
-        *part = part_off_worker(*part, worker);
-    }
-}
-
-fn part_off_worker(part: PartState, worker: WorkerNo) -> PartState
-    ensures { result ≡ part_without (is_on worker) part }
-{
-    match part {
-        PartState::Pending => PartState::Pending,
-        PartState::Running(attempt) => {
-            if attempt.worker == worker {
-                PartState::Pending
-            } else {
-                PartState::Running(attempt)
-            }
-        }
-        PartState::Done => PartState::Done,
+        *part = part_without_ended(*part, &Ending::On(worker));
     }
 }

@@ -6,10 +6,13 @@
 //! tables of `worker_table` and `block_map`.
 #![tactic(auto)]
 
+mod backups;
 pub mod cluster;
+mod completions;
 mod deaths;
 mod entries;
 mod holders;
+mod inputs;
 mod log;
 pub mod master;
 mod running;

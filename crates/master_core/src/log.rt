@@ -1,6 +1,8 @@
 ghost use Rattle.std.specs.Prelude.{◌≡◌, ◌<◌, ◌+◌, ◌-◌, ◌^◌, ◌++◌, ◌∷◌, [], length, vec_capacity, vec_len};
 
-use master_state::Event;
+use master_state::{Event, Start, Work};
+use node_ids::{AttemptNo, WorkerNo};
+use shuffle_reduce::PartResult;
 
 /// Adds an event to a history with room for it, and gives its place.
 pub fn record_event(history: &mut Vec<Event>, event: Event) -> u32
@@ -12,4 +14,37 @@ pub fn record_event(history: &mut Vec<Event>, event: Event) -> u32
 {
     history.push_reserved(event);
     history.len() as u32
+}
+
+/// Adds a start to a list with room for it, and gives the number of its attempt.
+pub fn record_start(starts: &mut Vec<Start>, work: Work, worker: WorkerNo) -> AttemptNo
+    requires room { vec_len starts.old < vec_capacity starts.old }
+    requires few { vec_len starts.old < 2 ^ 32 - 1 }
+    ensures items { starts.new.items ≡ starts.old.items ++ record { work = work; worker = worker } ∷ [] }
+    ensures capacity { vec_capacity starts.new ≡ vec_capacity starts.old }
+    ensures number { result ≡ length starts.old.items + 1 }
+{
+    starts.push_reserved(Start { work, worker });
+    AttemptNo::new(starts.len() as u32)
+}
+
+/// Adds the counts of a sweep to a list with room for them, and gives their place.
+pub fn record_counts(sweeps: &mut Vec<[u64; 256]>, counts: &[u64; 256]) -> u32
+    requires room { vec_len sweeps.old < vec_capacity sweeps.old }
+    requires few { vec_len sweeps.old < 2 ^ 32 - 1 }
+    ensures items { sweeps.new.items ≡ sweeps.old.items ++ counts.now ∷ [] }
+    ensures capacity { vec_capacity sweeps.new ≡ vec_capacity sweeps.old }
+    ensures place { result ≡ length sweeps.old.items + 1 }
+{
+    sweeps.push_reserved(*counts);
+    sweeps.len() as u32
+}
+
+/// Adds the result of a part to a list with room for it.
+pub fn record_result(results: &mut Vec<PartResult>, made: PartResult)
+    requires { vec_len results.old < vec_capacity results.old }
+    ensures items { results.new.items ≡ results.old.items ++ made ∷ [] }
+    ensures capacity { vec_capacity results.new ≡ vec_capacity results.old }
+{
+    results.push_reserved(made);
 }

@@ -1,23 +1,41 @@
-ghost use Rattle.std.specs.Prelude.{◌≡◌, ◌<◌, [], length, not, is_some, IfOk, IfSome, Some, slice_get};
+ghost use Rattle.std.specs.Prelude.{◌≡◌, ◌<◌, ◌≤◌, [], length, not, is_some, IfOk, IfSome, Some, slice_get};
 ghost use Rattle.master_state.specs.States.{AreSmall, opening, start_of};
-ghost use Rattle.master_state.specs.Refusals.{Call, IsKnown, is_full, no_part_runs, no_split_runs, refusal};
-ghost use Rattle.master_state.specs.Jobs.{AreResults, Answers, IsKept};
+ghost use Rattle.master_state.specs.Refusals.{
+  Call,
+  IsKnown,
+  IsPair,
+  has_no_room,
+  has_no_sweep,
+  is_full,
+  is_not_backable,
+  no_part_runs,
+  no_split_runs,
+  refusal,
+};
+ghost use Rattle.master_state.specs.Jobs.{AreResults, Answers, AnswersBackup, AnswersSweep, AnswersWith, IsKept};
 ghost use Rattle.master_core.specs.Places.{RunsPart, RunsSplit};
 
+use crate::backups::{has_free_slot, is_any_live, is_any_pending, run_attempt, takes_backup};
 use crate::cluster::Cluster;
-use crate::deaths::bury;
+use crate::completions::{finish_part, finish_split, give_slots};
+use crate::deaths::{bury, bury_all};
 use crate::entries::{SplitEntry, pending_entries, shown};
 use crate::holders::{add_holder, drop_holder, first_holders};
-use crate::log::record_event;
+use crate::inputs::{is_wrong_map, is_wrong_part};
+use crate::log::{record_counts, record_event, record_result, record_start};
 use crate::running::{
     RunningPart, RunningSplit, end_attempt, end_part_attempt, part_of, part_runs, runs, split_of,
 };
 use block_map::BlockMap;
-use master_state::{Answer, Event, Limits, PartState, SplitState, Start, Why};
-use node_ids::{AttemptNo, PartNo, SplitNo, SplitSet, WorkerNo};
+use master_state::{
+    Answer, AnswerWith, Attempt, BackupAnswer, Event, Limits, PartState, SplitState, Start, Swept,
+    Why, Work,
+};
+use node_ids::{AttemptNo, PartNo, SplitNo, SplitSet, WorkerNo, WorkerSet};
 use shuffle_reduce::PartResult;
 use std::alloc::{AllocError, Global};
 use std::marker::Model;
+use word_map::MapResult;
 use worker_table::WorkerTable;
 
 /// The master of a job: its present state, and the history that led there.
@@ -318,6 +336,116 @@ impl Master {
         Answer::Accepted(record_event(&mut self.history, Event::PartFailed(attempt)))
     }
 
+    /// Makes the split done by the first of its attempts that is, and keeps what it made.
+    pub fn map_done(&mut self, attempt: AttemptNo, made: MapResult) -> AnswerWith<MapResult>
+        ensures { AnswersWith self.old (Call.MapDone attempt made) made result self.new }
+    {
+        let Some(found) = self.running_split(attempt) else {
+            return AnswerWith::Ignored(Why::OldAttempt, made);
+        };
+        if is_wrong_map(&self.cluster, found.split, &made) {
+            return AnswerWith::Ignored(Why::WrongInput, made);
+        }
+        if self.has_no_place() {
+            return AnswerWith::Ignored(Why::HistoryFull, made);
+        }
+        let winner = Attempt {
+            number: attempt,
+            worker: found.worker,
+        };
+        give_slots(&mut self.workers, &self.splits[found.split.index()]);
+        finish_split(&mut self.splits, found.split, winner, made);
+        AnswerWith::Accepted(record_event(&mut self.history, Event::MapDone(attempt)))
+    }
+
+    /// Makes a part done, and keeps its result after those before it.
+    pub fn part_done(&mut self, attempt: AttemptNo, made: PartResult) -> AnswerWith<PartResult>
+        ensures { AnswersWith self.old (Call.PartDone attempt made) made result self.new }
+    {
+        let Some(found) = self.running_part(attempt) else {
+            return AnswerWith::Ignored(Why::OldAttempt, made);
+        };
+        if is_wrong_part(&self.cluster, found.part, &made) {
+            return AnswerWith::Ignored(Why::WrongInput, made);
+        }
+        if self.has_no_place() {
+            return AnswerWith::Ignored(Why::HistoryFull, made);
+        }
+        finish_part(&mut self.parts, found.part, attempt);
+        self.workers.give_slot(found.worker);
+        record_result(&mut self.results, made);
+        AnswerWith::Accepted(record_event(&mut self.history, Event::PartDone(attempt)))
+    }
+
+    /// Lets each live worker hear the count of its beats, and marks those dead who have been silent too long.
+    pub fn sweep(&mut self, counts: &[u64; 256]) -> Swept
+        ensures { AnswersSweep self.old counts.now result.answer result.dead self.new }
+    {
+        if self.has_no_sweep() {
+            return Swept {
+                answer: Answer::Ignored(Why::HistoryFull),
+                dead: WorkerSet::new(),
+            };
+        }
+        let dead = self.workers.sweep(counts);
+        bury_all(
+            &mut self.workers,
+            &mut self.holders,
+            &mut self.splits,
+            &mut self.parts,
+            &dead,
+        );
+        let place = record_counts(&mut self.sweeps, counts);
+        Swept {
+            answer: Answer::Accepted(record_event(&mut self.history, Event::Sweep(place))),
+            dead,
+        }
+    }
+
+    /// Starts a second attempt of a split that runs one, on another worker.
+    pub fn backup(&mut self, split: SplitNo, worker: WorkerNo) -> BackupAnswer
+        requires { IsPair self.old.setup split worker }
+        ensures { AnswersBackup self.old split worker result self.new }
+    {
+        if let Some(why) = self.why_not_backup(split, worker) {
+            return BackupAnswer::Ignored(why);
+        }
+        let number = record_start(&mut self.starts, Work::Split(split), worker);
+        run_attempt(&mut self.splits, split, Attempt { number, worker });
+        self.workers.take_slot(worker);
+        let place = record_event(&mut self.history, Event::Backup(number, split, worker));
+        BackupAnswer::Accepted(place, number)
+    }
+
+    fn why_not_backup(&self, split: SplitNo, worker: WorkerNo) -> Option<Why>
+        requires { IsPair self.now.setup split worker }
+        ensures { result ≡ refusal self.now.setup self.now.state (Call.Backup split worker) }
+    {
+        if !self.workers.live(worker) {
+            Some(Why::DeadWorker)
+        } else if !takes_backup(&self.splits[split.index()], worker) {
+            Some(Why::NoBackup)
+        } else if self.is_not_backable(split, worker) {
+            Some(Why::NotReady)
+        } else if self.workers.barred(split, worker) {
+            Some(Why::Barred)
+        } else if self.has_no_room(1) {
+            Some(Why::HistoryFull)
+        } else {
+            None
+        }
+    }
+
+    // Whether a split is pending, this one has no live holder, or the worker no free slot.
+    fn is_not_backable(&self, split: SplitNo, worker: WorkerNo) -> bool
+        requires { IsPair self.now.setup split worker }
+        ensures { result ≡ is_not_backable self.now.state split worker }
+    {
+        is_any_pending(&self.splits)
+            || !is_any_live(&self.workers, self.holders.holders(split))
+            || !has_free_slot(&self.workers, worker)
+    }
+
     // The split that runs the attempt, if one does.
     fn running_split(&self, attempt: AttemptNo) -> Option<RunningSplit>
         ensures found { is_some result ≡ not (no_split_runs self.now.state attempt) }
@@ -352,6 +480,21 @@ impl Master {
         } else {
             None
         }
+    }
+
+    // Whether there is no place left for an event, or for the counts of a sweep.
+    fn has_no_sweep(&self) -> bool
+        ensures { result ≡ has_no_sweep self.now.setup self.now.state }
+    {
+        self.has_no_place() || self.sweeps.len() >= self.limits.sweeps as usize
+    }
+
+    // Whether there is no place left for an event, or for so many attempts.
+    fn has_no_room(&self, count: usize) -> bool
+        requires { count ≤ 1024 }
+        ensures { result ≡ has_no_room self.now.setup self.now.state count }
+    {
+        self.has_no_place() || self.starts.len() + count > self.limits.attempts as usize
     }
 
     // Whether the history has no place left.

@@ -5,6 +5,7 @@ ghost use Rattle.master_state.specs.declared.states.SplitState.TheVariants as st
 ghost use Rattle.master_state.specs.Tests.{is_numbered, part_runs, runs};
 ghost use Rattle.master_state.specs.Changes.{part_without, without_attempts};
 ghost use Rattle.master_core.specs.Entries.{entry_of, entry_without, shown_as};
+ghost use Rattle.master_core.specs.Ends.{ends};
 ghost use Rattle.master_core.specs.Places.{part_of, split_of};
 
 use crate::entries::SplitEntry;
@@ -23,6 +24,13 @@ pub struct RunningSplit {
 pub struct RunningPart {
     pub part: PartNo,
     pub worker: WorkerNo,
+}
+
+/// Which attempts end: that of a number, or all on a worker.
+#[derive(Clone, Copy)]
+pub enum Ending {
+    Numbered(AttemptNo),
+    On(WorkerNo),
 }
 
 /// The split for which an attempt was started, if for one.
@@ -85,19 +93,23 @@ fn changed_entry(entry: &SplitEntry, attempt: AttemptNo) -> Option<SplitEntry>
 {
     match entry {
         SplitEntry::Pending => None,
-        SplitEntry::Running(one, other) => Some(without_number(*one, *other, attempt)),
+        SplitEntry::Running(one, other) => Some(without_ended(
+            *one,
+            *other,
+            &Ending::Numbered(attempt),
+        )),
         SplitEntry::Done(_, _) => None,
     }
 }
 
-// What a split still runs, of an attempt and perhaps another, without the one of this number.
-fn without_number(attempt: Attempt, other: Option<Attempt>, number: AttemptNo) -> SplitEntry
-    ensures { result ≡ entry_of (without_attempts (is_numbered number) (states.Running attempt other)) }
+/// What a split still runs, of an attempt and perhaps another, without those that end.
+pub fn without_ended(attempt: Attempt, other: Option<Attempt>, ending: &Ending) -> SplitEntry
+    ensures { result ≡ entry_of (without_attempts (ends ending.now) (states.Running attempt other)) }
 {
-    let first_stays = attempt.number != number;
+    let first_stays = !ends(ending, &attempt);
     match other {
         Some(second) => {
-            let second_stays = second.number != number;
+            let second_stays = !ends(ending, &second);
             if first_stays && second_stays {
                 SplitEntry::Running(attempt, Some(second))
             } else if first_stays {
@@ -118,22 +130,32 @@ fn without_number(attempt: Attempt, other: Option<Attempt>, number: AttemptNo) -
     }
 }
 
+fn ends(ending: &Ending, attempt: &Attempt) -> bool
+    ensures { result ≡ ends ending.now attempt.now }
+{
+    match ending {
+        Ending::Numbered(number) => attempt.number == *number,
+        Ending::On(worker) => attempt.worker == *worker,
+    }
+}
+
 /// The part runs the attempt no more.
 pub fn end_part_attempt(parts: &mut Vec<PartState>, part: PartNo, attempt: AttemptNo)
     requires { part < length parts.old.items }
     ensures { parts.new.items ≡ updated (part_without (is_numbered attempt)) parts.old.items part }
 {
     let place = part.index();
-    parts[place] = part_without_number(parts[place], attempt);
+    parts[place] = part_without_ended(parts[place], &Ending::Numbered(attempt));
 }
 
-fn part_without_number(part: PartState, number: AttemptNo) -> PartState
-    ensures { result ≡ part_without (is_numbered number) part }
+/// What becomes of a part whose attempt ends, if it is one that does.
+pub fn part_without_ended(part: PartState, ending: &Ending) -> PartState
+    ensures { result ≡ part_without (ends ending.now) part }
 {
     match part {
         PartState::Pending => PartState::Pending,
         PartState::Running(attempt) => {
-            if attempt.number == number {
+            if ends(ending, &attempt) {
                 PartState::Pending
             } else {
                 PartState::Running(attempt)

@@ -7,6 +7,6 @@ use Rattle.master_core.proofs.running.end_part_attempt.Goals as goal
 pub returns : goal.returns
 returns c =
     updated_at (part_without (is_numbered c.args.attempt)) c.args.parts.now.items c.args.parts.now.items
-    c.index-place.result c.args.part c.index.result.now c.part_without_number.result
+    c.index-place.result c.args.part c.index.result.now c.part_without_ended.result
     c.index-place.ensures.value refl
-    c.index.ensures c.part_without_number.ensures c.requires
+    c.index.ensures c.part_without_ended.ensures c.requires

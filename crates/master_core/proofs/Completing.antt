@@ -1,0 +1,249 @@
+-- A master after the result of a split or a part.
+use Rattle.std.proofs.Common.{◌≡◌, ◌≢◌, ℕ, zero, suc, ◌+◌, ◌-◌, ◌==◌, ◌<◌, List, [], ◌∷◌, ◌++◌, length, map, Bool, true, false, not, Option, Some, None, refl, ap, ◌∙◌, sym, arith, inl, inr, All}
+use Rattle.std.specs.Prelude.{find, slice_get}
+use Rattle.std.specs.List.{list_any}
+use Rattle.std.specs.Option.{option_map, option_map_or}
+use Rattle.std.proofs.lemmas.Bool.{false≢true, cases_Bool, cases_eq, eqb-true, ne_eqb, not-false, or_parts}
+use Rattle.std.proofs.lemmas.List.{append-nil}
+use Rattle.std.proofs.lemmas.Option.{same_Some, none-some}
+use Rattle.node_ids.specs.Updates.{updated}
+use Rattle.node_ids.proofs.Updating.{length-updated, get-updated_same, get-updated_other}
+use Rattle.word_map.specs.Runs.{MapView}
+use Rattle.shuffle_reduce.specs.Merged.{PartView}
+use Rattle.worker_table.specs.declared.Worker.{Worker}
+use Rattle.worker_table.specs.Workers.{Workers, taken_slots, with_slot_given}
+use Rattle.master_state.specs.declared.answers.Why.TheVariants.{WrongInput, HistoryFull}
+use Rattle.master_state.specs.declared.states.Attempt.{Attempt}
+use Rattle.master_state.specs.declared.states.Work.{Work}
+use Rattle.master_state.specs.declared.states.Work.TheVariants as works
+use Rattle.master_state.specs.declared.states.SplitState.{SplitState}
+use Rattle.master_state.specs.declared.states.SplitState.TheVariants as states
+use Rattle.master_state.specs.declared.states.PartState.{PartState}
+use Rattle.master_state.specs.States.{Setup, State, start_of, worker_of}
+use Rattle.master_state.specs.Refusals.{MapDone, PartDone, first_of, is_full, is_same_text, is_wrong_map, is_wrong_part, no_part_runs, no_split_runs, refusal, text_of}
+use Rattle.master_state.specs.Tests.{attempts_of, is_numbered, split_at}
+use Rattle.master_state.specs.Changes.{done_by, part_done_by, with_map_done, with_part_done}
+use Rattle.master_state.specs.Tidy.{IsTidy, IsToldAs}
+use Rattle.master_state.specs.Jobs.{IsAccepted, event_of}
+use Rattle.master_state.proofs.Facts.{same_text}
+use Rattle.master_state.proofs.Lists.{updated-agree}
+use Rattle.master_state.proofs.Places.{done_at, part_done_at, part_running_is, split_running_is, worker_in}
+use Rattle.master_state.proofs.Running.{TakesSlot, split_takes_slots}
+use Rattle.master_state.proofs.Slots.{taken_given}
+use Rattle.master_core.specs.declared.entries.SplitEntry.{SplitEntry}
+use Rattle.master_core.specs.declared.entries.SplitEntry.TheVariants.{Done}
+use Rattle.master_core.specs.declared.master.Master.TheInside.{Inside}
+use Rattle.master_core.specs.Entries.{shown_as}
+use Rattle.master_core.specs.Inside.{setup_of, state_of, job_of, AreOfSplits, IsMaster, IsOfSplit}
+use Rattle.master_core.specs.Places.{RunsPart, RunsSplit}
+use Rattle.master_core.specs.Slots.{AreTaken, with_slots_given}
+use Rattle.master_core.proofs.Accepting.{accepted, counted_from, one_more}
+use Rattle.master_core.proofs.Ended.{no_reason}
+use Rattle.master_core.proofs.Showing.{shown-updated}
+
+-- the attempt that has the number a, on the worker that its start tells
+abbrev pub numbered : ℕ → ℕ → Attempt
+numbered a w = record { number = a; worker = w }
+
+found_is : (s : State) (a w : ℕ) (work : Work) (attempts : List Attempt) →
+    start_of s a ≡ Some (record { work = work; worker = w }) → All (IsToldAs s work) attempts →
+    list_any (is_numbered a) attempts ≡ true → find (is_numbered a) attempts ≡ Some (numbered a w)
+found_is s a w work [] start told any = absurd (false≢true any)
+found_is s a w work (one ∷ attempts) start told any = elim (cases_Bool (is_numbered a one)) [
+  | inl here ↦
+      let number : one.number ≡ a = eqb-true one.number a here in
+      let begun : start_of s one.number ≡ Some (record { work = work; worker = one.worker }) =
+      told 0 one (omega arith) in
+      let worker : one.worker ≡ w =
+      sym (ap worker_in begun) ∙ ap (λ (n : ℕ). worker_in (start_of s n)) number ∙ ap worker_in start in
+      rw here (λ i. Some (record { number = number i; worker = worker i }))
+  | inr off ↦ rw off (found_is s a w work attempts start (λ k d l. told (suc k) d (omega (arith, l)))
+      (rw off at any))
+]
+
+-- the first attempt that is done makes its split done
+done_to : (setup : Setup) (s : State) (a split w : ℕ) → IsTidy setup s → RunsSplit s a split w →
+    done_by a (split_at s split) ≡ states.Done (numbered a w)
+done_to setup s a split w tidy run =
+    ap (λ (found : Option Attempt). option_map_or states.Done found (split_at s split))
+    (found_is s a w (works.Split split) (attempts_of (split_at s split)) run.start (tidy.told split) run.runs)
+
+pub done_is : (setup : Setup) (s : State) (a split w : ℕ) → IsTidy setup s → RunsSplit s a split w →
+    with_map_done s a ≡ record s {
+      workers = with_slots_given s.workers (attempts_of (split_at s split));
+      splits = updated (λ _. states.Done (numbered a w)) s.splits split;
+    }
+done_is setup s a split w tidy run =
+    let here = split_running_is setup s a split tidy run.runs in
+    let places = done_at setup s a split w tidy run.start
+    ∙ updated-agree (done_by a) (λ _. states.Done (numbered a w)) s.splits split states.Pending
+    (done_to setup s a split w tidy run) in
+    rw (here, places) refl
+
+pub part_done_is : (setup : Setup) (s : State) (a r w : ℕ) → IsTidy setup s → RunsPart s a r w →
+    with_part_done s a ≡ record s {
+      workers = with_slot_given s.workers w;
+      parts = updated (part_done_by a) s.parts r;
+    }
+part_done_is setup s a r w tidy run =
+    let on : worker_of s a ≡ w = ap worker_in run.start in
+    rw (on, part_done_at setup s a r w tidy run.start) refl
+
+-- what a split runs takes slots, of two workers where it runs two
+two_taken : (t : Workers) (one other : Attempt) → TakesSlot t one → TakesSlot t other →
+    one.worker ≢ other.worker → AreTaken t (one ∷ other ∷ [])
+two_taken t one other first second apart =
+    let table = with_slot_given t one.worker in
+    let same : taken_slots table other.worker ≡ taken_slots t other.worker =
+    taken_given t one.worker other.worker ∙ rw (ne_eqb one.worker other.worker apart) (omega arith) in
+    let many : length table.each ≡ length t.each =
+    length-updated (λ (worker : Worker). record worker { taken = worker.taken - 1 }) t.each one.worker in
+    (first.known, first.taken, (omega (arith, many, second.known), omega (arith, same, second.taken), tt))
+
+all_taken : (t : Workers) (state : SplitState) → All (TakesSlot t) (attempts_of state) →
+    ((a b : Attempt) → state ≡ states.Running a (Some b) → a.worker ≢ b.worker) →
+    AreTaken t (attempts_of state)
+all_taken t states.Pending takes apart = tt
+all_taken t (states.Running one None) takes apart =
+    let first = takes 0 one (omega arith) in
+    (first.known, first.taken, tt)
+all_taken t (states.Running one (Some other)) takes apart =
+    two_taken t one other (takes 0 one (omega arith)) (takes 1 one (omega arith)) (apart one other refl)
+all_taken t (states.Done one) takes apart = tt
+
+pub split_taken : (setup : Setup) (s : State) (split : ℕ) → IsTidy setup s →
+    AreTaken s.workers (attempts_of (split_at s split))
+split_taken setup s split tidy =
+    all_taken s.workers (split_at s split) (split_takes_slots setup s split tidy) (tidy.apart split)
+
+-- a result that is not wrong is of its split
+pub of_split : (setup : Setup) (split : ℕ) (result : MapView) → is_wrong_map setup split result ≡ false →
+    IsOfSplit setup split result
+of_split setup split result right =
+    let tests = or_parts (not (is_same_text result.text (text_of setup split)))
+    (not (result.parts == setup.cluster.parts)) right in
+    record {
+      text = (same_text result.text (text_of setup split)).0
+          (not-false (is_same_text result.text (text_of setup split)) tests.0);
+      parts = eqb-true result.parts setup.cluster.parts
+          (not-false (result.parts == setup.cluster.parts) tests.1);
+    }
+
+-- a split that is done shows as done, and keeps the result of its split
+pub shown-done_at : (attempt : Attempt) (result : MapView) (entries : List SplitEntry) (k : ℕ) →
+    map shown_as (updated (λ _. Done attempt result) entries k)
+    ≡ updated (λ _. states.Done attempt) (map shown_as entries) k
+shown-done_at attempt result =
+    shown-updated (λ _. Done attempt result) (λ _. states.Done attempt) (λ entry. refl)
+
+abbrev kept_in : MapView → SplitEntry → MapView
+kept_in other (Done attempt result) = result
+kept_in other entry = other
+
+new_result : (one attempt : Attempt) (made result : MapView) (found : Option SplitEntry) →
+    option_map (λ _. Done one made) found ≡ Some (Done attempt result) → result ≡ made
+new_result one attempt made result None e = absurd (none-some (Done attempt result) e)
+new_result one attempt made result (Some entry) e = sym (ap (kept_in made) (same_Some _ _ e))
+
+pub made_done : (setup : Setup) (one : Attempt) (made : MapView) (entries : List SplitEntry) (k : ℕ) →
+    IsOfSplit setup k made → AreOfSplits setup entries →
+    AreOfSplits setup (updated (λ _. Done one made) entries k)
+made_done setup one made entries k of were split attempt result found = elim (cases_eq split k) [
+  | inl here ↦
+      let same : result ≡ made = new_result one attempt made result (slice_get entries k)
+      (sym (get-updated_same (λ _. Done one made) entries k)
+      ∙ ap (slice_get (updated (λ _. Done one made) entries k)) (sym here) ∙ found) in
+      rw (same, here) of
+  | inr other ↦ were split attempt result
+      (sym (get-updated_other (λ _. Done one made) entries k split other) ∙ found)
+]
+
+-- why a result is refused that is of an attempt that runs
+pub map_refusal : (setup : Setup) (s : State) (a split w : ℕ) (result : MapView) → IsTidy setup s →
+    RunsSplit s a split w → no_split_runs s a ≡ false →
+    refusal setup s (MapDone a result)
+    ≡ first_of ((is_wrong_map setup split result, WrongInput) ∷ (is_full setup s, HistoryFull) ∷ [])
+map_refusal setup s a split w result tidy run runs =
+    rw (runs, split_running_is setup s a split tidy run.runs) refl
+
+pub part_refusal : (setup : Setup) (s : State) (a r w : ℕ) (result : PartView) → IsTidy setup s →
+    RunsPart s a r w → no_part_runs s a ≡ false →
+    refusal setup s (PartDone a result)
+    ≡ first_of ((is_wrong_part setup r result, WrongInput) ∷ (is_full setup s, HistoryFull) ∷ [])
+part_refusal setup s a r w result tidy run runs =
+    rw (runs, part_running_is setup s a r tidy run.runs) refl
+
+pub first_reason : (x y : Bool) → x ≡ true →
+    first_of ((x, WrongInput) ∷ (y, HistoryFull) ∷ []) ≡ Some WrongInput
+first_reason x y e = rw e refl
+
+pub second_reason : (x y : Bool) → x ≡ false → y ≡ true →
+    first_of ((x, WrongInput) ∷ (y, HistoryFull) ∷ []) ≡ Some HistoryFull
+second_reason x y e f = rw (e, f) refl
+
+splits_are : (s : State) (workers now : Workers) (splits shown : List SplitState) → workers ≡ now →
+    splits ≡ shown →
+    record s { workers = workers; splits = splits } ≡ record s { workers = now; splits = shown }
+splits_are s workers now splits shown same_workers same_splits = rw (same_workers, same_splits) refl
+
+pub done_accepted : (old new : Inside) (a split w place : ℕ) (entry : SplitEntry) (result : MapView) →
+    IsMaster old → RunsSplit (state_of old) a split w → no_split_runs (state_of old) a ≡ false →
+    is_wrong_map (setup_of old) split result ≡ false → is_full (setup_of old) (state_of old) ≡ false →
+    shown_as entry ≡ split_at (state_of old) split → setup_of new ≡ setup_of old →
+    new.workers ≡ with_slots_given old.workers (attempts_of (shown_as entry)) →
+    new.splits.items ≡ updated (λ _. Done (numbered a w) result) old.splits.items split →
+    state_of new ≡ record (state_of old) {
+      workers = new.workers;
+      splits = map shown_as new.splits.items;
+      events = length new.history.items;
+    } → new.history.items ≡ old.history.items ++ event_of (state_of old) (MapDone a result) ∷ [] →
+    new.results.items ≡ old.results.items → place ≡ length old.history.items + 1 →
+    IsAccepted (job_of old) (MapDone a result) place (job_of new)
+done_accepted old new a split w place entry result was run runs right free at setup workers splits same
+    history results place_is =
+    let s = state_of old in
+    let shown : updated (λ _. states.Done (numbered a w)) s.splits split ≡ map shown_as new.splits.items =
+    sym (ap (map shown_as) splits ∙ shown-done_at (numbered a w) result old.splits.items split) in
+    let given : with_slots_given s.workers (attempts_of (split_at s split)) ≡ new.workers =
+    sym (workers ∙ ap (λ (state : SplitState). with_slots_given old.workers (attempts_of state)) at) in
+    let changed = done_is (setup_of old) s a split w was.kept.tidy run
+    ∙ splits_are s _ new.workers _ (map shown_as new.splits.items) given shown in
+    let leads = same ∙ counted_from (with_map_done s a)
+    (record s { workers = new.workers; splits = map shown_as new.splits.items }) (length new.history.items)
+    changed (one_more old.history.items new.history.items (event_of s (MapDone a result)) history) in
+    accepted old new (MapDone a result) place tt
+    (map_refusal (setup_of old) s a split w result was.kept.tidy run runs
+    ∙ no_reason (is_wrong_map (setup_of old) split result) (is_full (setup_of old) s) WrongInput HistoryFull
+    right free) setup history leads
+    (results ∙ sym (append-nil old.results.items)) place_is
+
+parts_are : (s : State) (workers now : Workers) (parts ended : List PartState) → workers ≡ now →
+    parts ≡ ended →
+    record s { workers = workers; parts = parts } ≡ record s { workers = now; parts = ended }
+parts_are s workers now parts ended same_workers same_parts = rw (same_workers, same_parts) refl
+
+pub part_done_accepted : (old new : Inside) (a r w place : ℕ) (result : PartView) →
+    IsMaster old → RunsPart (state_of old) a r w → no_part_runs (state_of old) a ≡ false →
+    is_wrong_part (setup_of old) r result ≡ false → is_full (setup_of old) (state_of old) ≡ false →
+    setup_of new ≡ setup_of old → new.workers ≡ with_slot_given old.workers w →
+    new.parts.items ≡ updated (part_done_by a) old.parts.items r →
+    state_of new ≡ record (state_of old) {
+      workers = new.workers;
+      parts = new.parts.items;
+      events = length new.history.items;
+    } → new.history.items ≡ old.history.items ++ event_of (state_of old) (PartDone a result) ∷ [] →
+    new.results.items ≡ old.results.items ++ result ∷ [] → place ≡ length old.history.items + 1 →
+    IsAccepted (job_of old) (PartDone a result) place (job_of new)
+part_done_accepted old new a r w place result was run runs right free setup workers parts same history
+    results place_is =
+    let s = state_of old in
+    let changed = part_done_is (setup_of old) s a r w was.kept.tidy run
+    ∙ parts_are s _ new.workers _ new.parts.items (sym workers) (sym parts) in
+    let leads = same ∙ counted_from (with_part_done s a)
+    (record s { workers = new.workers; parts = new.parts.items }) (length new.history.items)
+    changed (one_more old.history.items new.history.items (event_of s (PartDone a result)) history) in
+    accepted old new (PartDone a result) place tt
+    (part_refusal (setup_of old) s a r w result was.kept.tidy run runs
+    ∙ no_reason (is_wrong_part (setup_of old) r result) (is_full (setup_of old) s) WrongInput HistoryFull
+    right free) setup history leads results
+    place_is

@@ -1,0 +1,62 @@
+-- Whether a result that is handed in is of its split, or of its part.
+use Rattle.std.proofs.Common.{◌≡◌, ℕ, ◌<◌, ◌&&◌, ◌||◌, ◌==◌, List, get_or, length, map, Bool, true, false, not, refl, ap, ◌∙◌, sym, subst, arith}
+use Rattle.std.specs.Prelude.{◌↔◌, IsTrue, slice_index_or}
+use Rattle.std.specs.Bool.{Decides}
+use Rattle.std.proofs.lemmas.Bool.Decides.{same_from_decides}
+use Rattle.std.proofs.lemmas.Bool.{and_parts, and_from}
+use Rattle.std.proofs.lemmas.List.{length-map}
+use Rattle.std.specs.Arc.{arc_value}
+use Rattle.std.specs.declared.alloc.Global.{Global}
+use Rattle.std.specs.declared.sync.Arc.{Arc}
+use Rattle.word_map.specs.Texts.{SplitDocuments}
+use Rattle.shuffle_reduce.specs.Gather.{values_of}
+use Rattle.shuffle_reduce.specs.Merged.{AreSameTexts}
+use Rattle.master_state.specs.Refusals.{are_among, is_same_text}
+use Rattle.master_state.proofs.Facts.{among, are_among-all, same_text}
+use Rattle.master_core.proofs.Found.{at_mapped}
+
+-- the text at a place of a list of pointers
+pub text_at : (texts : List (Arc SplitDocuments Global)) (given : List SplitDocuments) (i k : ℕ)
+    (one : Arc SplitDocuments Global) (d : SplitDocuments) → values_of texts ≡ given → i ≡ k →
+    one ≡ get_or texts i one → k < length given → arc_value one ≡ slice_index_or given k d
+text_at texts given i k one d same place at inside =
+    let here : one ≡ get_or texts k one = rw place at at in
+    let many : length (values_of texts) ≡ length texts =
+    length-map texts (λ (text : Arc SplitDocuments Global). arc_value text) in
+    at_mapped (λ (text : Arc SplitDocuments Global). arc_value text) texts k one d
+    (omega (arith, inside, ap length same, many)) here
+    ∙ ap (λ (xs : List SplitDocuments). slice_index_or xs k d) same
+
+-- texts that were compared
+pub compared : (r : Bool) (a b x y : SplitDocuments) → IsTrue r ↔ (a ≡ b) → a ≡ x → b ≡ y →
+    r ≡ is_same_text x y
+compared r a b x y told first second =
+    same_from_decides r (is_same_text x y) (
+      (λ e. sym first ∙ told.0 e ∙ second),
+      (λ e. told.1 (first ∙ e
+          ∙ sym second)),
+    ) (same_text x y)
+
+-- lists of texts that were compared
+pub covered : (r : Bool) (xs ys : List SplitDocuments) → IsTrue r ↔ AreSameTexts xs ys →
+    r ≡ (are_among xs ys && are_among ys xs)
+covered r xs ys told =
+    same_from_decides {P = AreSameTexts xs ys} r (are_among xs ys && are_among ys xs)
+    ((λ e. told.0 e), (λ same. told.1 same)) (
+      (λ e.
+          let both = and_parts (are_among xs ys) (are_among ys xs) e in
+          λ text. (among xs ys both.0 text, among ys xs both.1 text)),
+      (λ same. and_from (are_among xs ys) (are_among ys xs)
+          (are_among-all xs ys (λ text. (same text).0)) (are_among-all ys xs (λ text. (same text).1))),
+    )
+
+-- the tests of a result, one after another
+pub wrong_first : (x p q : Bool) → x ≡ p → x ≡ false → not x ≡ (not p || q)
+wrong_first x p q told off = rw (sym told, off) refl
+
+pub wrong_later : (x y p q : Bool) → x ≡ p → x ≡ true → y ≡ q → y ≡ (not p || q)
+wrong_later x y p q told on rest = rw (sym told, on) rest
+
+pub wrong_last : (p q r other : Bool) → p ≡ true → q ≡ true → r ≡ other →
+    not r ≡ (not p || not q || not other)
+wrong_last p q r other part parts same = rw (part, parts, same) refl
