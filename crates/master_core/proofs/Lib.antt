@@ -5,3 +5,7 @@ pub mod Found
 pub mod Failing
 pub mod Opening
 pub mod Accepting
+pub mod WaveLines
+pub mod Starts
+pub mod Counting
+pub mod Committing

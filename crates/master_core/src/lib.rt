@@ -7,12 +7,16 @@
 #![tactic(auto)]
 
 pub mod cluster;
+mod counts;
 mod deaths;
 mod entries;
 mod holders;
+mod lines;
 mod log;
 pub mod master;
+mod reducing;
 mod running;
+mod starting;
 
 pub use cluster::{Cluster, ClusterError};
 pub use master::Master;

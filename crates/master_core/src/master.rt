@@ -4,6 +4,10 @@ ghost use Rattle.master_state.specs.Refusals.{Call, IsKnown, is_full, no_part_ru
 ghost use Rattle.master_state.specs.Jobs.{AreResults, Answers, IsKept};
 ghost use Rattle.master_core.specs.Places.{RunsPart, RunsSplit};
 
+mod readers;
+mod reduces;
+mod waves;
+
 use crate::cluster::Cluster;
 use crate::deaths::bury;
 use crate::entries::{SplitEntry, pending_entries, shown};
