@@ -26,19 +26,6 @@ use Rattle.master_core.specs.Starts.{MayStart}
 use Rattle.master_core.proofs.Accepting.{counted_from, one_more}
 use Rattle.master_core.proofs.Starts.{may_start_of}
 
--- the room that is left is one of the lists
-pub has_places : (m : Inside) (count : ℕ) → IsMaster m →
-    has_no_room (setup_of m) (state_of m) count ≡ false →
-    (vec_len m.starts + count ≤ vec_capacity m.starts) × (vec_len m.starts + count ≤ 1000000)
-    × (vec_len m.history < vec_capacity m.history) × (vec_len m.history < 2 ^ 32 - 1)
-has_places m count was free =
-    let left = attempts_left (setup_of m) (state_of m) count free in (
-      omega (arith, left.1, was.room.attempts),
-      omega (arith, left.1, was.kept.small.attempts),
-      omega (arith, left.0, was.room.events),
-      omega (arith, left.0, was.kept.small.events),
-    )
-
 -- the pairs of a plan that is best may start
 pub best_may_start : (m : Inside) (pairs : List (ℕ × ℕ)) → IsMaster m →
     IsBest (problem_of (setup_of m) (state_of m)) pairs →
@@ -104,12 +91,3 @@ master_after_wave old new plan wave was done room made = record {
   room = room;
   made = made;
 }
-
--- why a plan is not committed where there is room for it
-pub not_committed : (job : Job) (plan : List (Option ℕ)) (prices : PriceList) (why : CommitError) →
-    lacks_room job plan ≡ false →
-    ((c : Condition) → why ≡ Stale c → IsFirstFailure (present job plan prices) c) →
-    (why ≡ HistoryFull → ⊥) → AnswersCommit job plan prices (Err why) job
-not_committed job plan prices (Stale c) room stale full = (room, stale c refl, refl)
-not_committed job plan prices HistoryFull room stale full = absurd (full refl)
-not_committed job plan prices Memory room stale full = (room, refl)

@@ -9,3 +9,4 @@ pub mod WaveLines
 pub mod Starts
 pub mod Counting
 pub mod Committing
+pub mod Present
