@@ -10,3 +10,4 @@ pub mod Starts
 pub mod Counting
 pub mod Committing
 pub mod Present
+pub mod Replying

@@ -109,10 +109,11 @@ pub fn start_part(
     } ∷ [] }
     ensures capacity { vec_capacity starts.new ≡ vec_capacity starts.old }
 {
-    workers.take_slot(attempt.worker);
-    parts[part.index()] = PartState::Running(attempt);
+    let Attempt { number, worker } = attempt;
+    workers.take_slot(worker);
+    parts[part.index()] = PartState::Running(Attempt { number, worker });
     starts.push_reserved(Start {
         work: Work::Part(part),
-        worker: attempt.worker,
+        worker,
     });
 }

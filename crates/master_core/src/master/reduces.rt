@@ -19,29 +19,30 @@ impl Master {
         let Some(next) = self.next_reduce() else {
             return ReduceAnswer::Ignored(Why::NotReady);
         };
+        let NextPart { part, worker } = next;
         if self.has_no_room(1) {
             return ReduceAnswer::Ignored(Why::HistoryFull);
         }
-        let Ok(runs) = runs_of(alloc, &self.cluster, &self.splits, next.part) else {
+        let Ok(runs) = runs_of(alloc, &self.cluster, &self.splits, part) else {
             return ReduceAnswer::Ignored(Why::Memory);
         };
-        let attempt = Attempt {
-            number: AttemptNo::new(self.starts.len() as u32 + 1),
-            worker: next.worker,
+        let attempt = AttemptNo::new(self.starts.len() as u32 + 1);
+        let started = Attempt {
+            number: attempt,
+            worker,
         };
         start_part(
             &mut self.workers,
             &mut self.parts,
             &mut self.starts,
-            next.part,
-            attempt,
+            part,
+            started,
         );
-        let event = Event::ReduceStart(attempt.number, next.part, next.worker);
-        let place = record_event(&mut self.history, event);
+        let place = record_event(&mut self.history, Event::ReduceStart(attempt, part, worker));
         let reply = Reply {
-            attempt: attempt.number,
-            part: next.part,
-            worker: next.worker,
+            attempt,
+            part,
+            worker,
             runs,
         };
         ReduceAnswer::Accepted(place, reply)

@@ -29,7 +29,13 @@ loop-i-preserved c wave split w workers barred splits below admissible =
     ]
 
 pub returns : goal.returns
-returns c wave workers barred splits =
-    (λ no. absurd (false≢true no), λ found. absurd (c.loop-i.invariant wave found.0 found.1 workers barred splits
-    (omega (arith, c.loop-i-test.false, split_among wave c.args.lines.now c.args.entries.now
-    c.args.holders.now found.0 found.1 splits c.requires.entries c.requires.holders found.2)) found.2))
+returns c wave workers barred splits = (
+  λ no. absurd (false≢true no),
+  λ found. absurd (c.loop-i.invariant wave found.0 found.1 workers barred splits
+      (omega (
+        arith,
+        c.loop-i-test.false,
+        split_among wave c.args.lines.now c.args.entries.now
+            c.args.holders.now found.0 found.1 splits c.requires.entries c.requires.holders found.2,
+      )) found.2),
+)
