@@ -11,3 +11,4 @@ pub mod Counting
 pub mod Committing
 pub mod Present
 pub mod Replying
+pub mod PartStarts
