@@ -103,12 +103,13 @@ pub reduce_accepted : (old new : Inside) (r n w place : ℕ) →
     } → new.history.items ≡ old.history.items ++ events.ReduceStart n r w ∷ [] →
     new.results.items ≡ old.results.items → place ≡ length old.history.items + 1 →
     IsAccepted (job_of old) ReduceStart place (job_of new)
-reduce_accepted old new r n w place ready free number at on setup taken ran told same history results place_is =
+reduce_accepted old new r n w place ready free number at on setup taken ran told same history results
+    place_is =
     let s = state_of old in
     let recorded : new.history.items ≡ old.history.items ++ event_of s ReduceStart ∷ [] =
     history ∙ rw (number, at, on) refl in
-    let changed = reduce_started_is s new.workers new.parts.items new.starts.items r n w number at on taken ran
-    told in
+    let changed = reduce_started_is s new.workers new.parts.items new.starts.items r n w number at on taken
+    ran told in
     let leads = same ∙ counted_from (with_reduce_started s)
     (record s { workers = new.workers; parts = new.parts.items; starts = new.starts.items })
     (length new.history.items) changed

@@ -44,7 +44,7 @@ run_replied cluster runs later part i run is inside same_part same_parts same_te
     let none : SplitDocuments = record { split = i; documents = [] } in
     let text : Arc RunView Global → SplitDocuments = λ one. (arc_value one).text in (
       rw is (All-push (λ (one : Arc RunView Global). ((arc_value one).part ≡ part)
-      × ((arc_value one).parts ≡ cluster.parts)) runs run of_part (same_part, same_parts)),
+          × ((arc_value one).parts ≡ cluster.parts)) runs run of_part (same_part, same_parts)),
       ap (map text) is ∙ map-append text runs (run ∷ []) ∙ ap (λ xs. xs ++ text run ∷ []) texts
           ∙ ap (λ x. take i cluster.texts ++ x ∷ []) same_text ∙ sym (take_more cluster.texts i none inside),
     )

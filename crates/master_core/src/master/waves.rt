@@ -17,6 +17,7 @@ use master_state::{CommitError, Event, Wave};
 use node_ids::AttemptNo;
 use price_certificate::Prices;
 use std::alloc::{AllocError, Global};
+use wave_planner::Planned;
 use wave_problem::{Plan, Problem};
 
 impl Master {
@@ -33,6 +34,15 @@ impl Master {
         let tree = self.cluster.tree().copy(alloc)?;
         let barred = self.workers.bars().copy(alloc)?;
         Problem::within_limits(alloc, tree, workers, &splits, barred)
+    }
+
+    /// Starts the splits of a plan, if its prices certify it in the present state. It is tested in the
+    /// order HistoryFull, Memory, Stale.
+    pub fn commit(&mut self, alloc: Global, planned: &Planned) -> Result<Wave, CommitError>
+        requires { HasSizesOf self.old.setup planned.now.plan planned.now.prices }
+        ensures { AnswersCommit self.old planned.now.plan.starts planned.now.prices result self.new }
+    {
+        self.commit_plan(alloc, planned.plan(), planned.prices())
     }
 
     // As `commit`, of a plan with prices.

@@ -18,16 +18,16 @@ loop-entry-preserved c =
     let at = changed_at shown_as entries i entry c.loop-entry-test.true c.entry-item.is in
     elim c.if-not-is_done.branch [
       | then-not-is_done w ↦
-          let more = count_by_more_yes (λ split. not (is_done split)) (map shown_as entries) i (shown_as entry)
-          inside (ap (λ (state : SplitState). not (is_done state)) (sym at)
+          let more = count_by_more_yes (λ split. not (is_done split)) (map shown_as entries) i
+          (shown_as entry) inside (ap (λ (state : SplitState). not (is_done state)) (sym at)
           ∙ ap not (sym c.is_done.ensures ∙ w.if-not-is_done.true)) in
           record {
             count = omega (arith, w.count-is, more, c.loop-entry.invariant.count);
             few = omega (arith, w.count-is, c.loop-entry.invariant.few);
           }
       | else-not-is_done w ↦
-          let more = count_by_more_no (λ split. not (is_done split)) (map shown_as entries) i (shown_as entry)
-          inside (ap (λ (state : SplitState). not (is_done state)) (sym at)
+          let more = count_by_more_no (λ split. not (is_done split)) (map shown_as entries) i
+          (shown_as entry) inside (ap (λ (state : SplitState). not (is_done state)) (sym at)
           ∙ ap not (sym c.is_done.ensures ∙ w.if-not-is_done.false)) in
           record {
             count = omega (arith, w.count-is, more, c.loop-entry.invariant.count);

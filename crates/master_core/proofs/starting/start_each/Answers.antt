@@ -24,8 +24,8 @@ start_one-requires-clause-worker c =
     let i = c.loop-i.i in
     let w = c.in-Some.worker in
     let shown = map shown_as c.loop-i.splits.items in
-    let here : start_of starts i ≡ Some w = sym (c.of.ensures.start ∙ ap (start_of starts) c.new-split.ensures)
-    ∙ c.in-Some.is in
+    let here : start_of starts i ≡ Some w =
+    sym (c.of.ensures.start ∙ ap (start_of starts) c.new-split.ensures) ∙ c.in-Some.is in
     let front = pair_next starts i w (omega arith) here in
     (first_slot c.loop-i.workers shown i w (pairs_from (i + 1) (drop (i + 1) starts))
     (subst (λ (pairs : List (ℕ × ℕ)). MayStart c.loop-i.workers shown pairs) front
@@ -37,8 +37,8 @@ start_one-requires-clause-split c =
     let i = c.loop-i.i in
     let w = c.in-Some.worker in
     let shown = map shown_as c.loop-i.splits.items in
-    let here : start_of starts i ≡ Some w = sym (c.of.ensures.start ∙ ap (start_of starts) c.new-split.ensures)
-    ∙ c.in-Some.is in
+    let here : start_of starts i ≡ Some w =
+    sym (c.of.ensures.start ∙ ap (start_of starts) c.new-split.ensures) ∙ c.in-Some.is in
     let front = pair_next starts i w (omega arith) here in
     let may : MayStart c.loop-i.workers shown ((i, w) ∷ pairs_from (i + 1) (drop (i + 1) starts)) =
     subst (λ (pairs : List (ℕ × ℕ)). MayStart c.loop-i.workers shown pairs) front
@@ -76,8 +76,8 @@ loop-i-preserved c =
           ∙ ap (λ (k : ℕ). l.starts.items ++ record { work = works.Split k; worker = v } ∷ [])
           c.new-split.ensures in
           record {
-            allowed = others_may_start l.workers m.workers l.splits.items m.splits.items l.starts.items i v later
-                may taken ran;
+            allowed = others_may_start l.workers m.workers l.splits.items m.splits.items l.starts.items i v
+                later may taken ran;
             room = omega (
               arith,
               l.invariant.room,

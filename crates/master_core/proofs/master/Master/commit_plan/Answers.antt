@@ -87,10 +87,9 @@ returns c =
     ∙ ap (has_no_room c.args.self.now.setup c.args.self.now.state) (sym c.count.ensures.count)
     ∙ sym c.has_no_room.ensures ∙ c.if-has_no_room.false in
     let leads = after_starts old new pairs (events.Wave wave.first wave.count wave.cost)
-    (c.start_each.ensures.started (state_of old) refl refl refl) refl c.record_event-place.ensures.items in (
-      c.in_ok-certified.ensures.certified.certifies,
-      subst (λ (i : Job). IsCommitted i plan wave (job_of new))
-          c.self.view_is
-          (committed old new plan wave best free (omega (arith, c.new-first.ensures, c.len.ensures)) certified.count
-          certified.cost refl leads c.record_event-place.ensures.items refl c.record_event-place.ensures.place),
-    )
+    (c.start_each.ensures.started (state_of old) refl refl refl) refl c.record_event-place.ensures.items in
+    let done = committed old new plan wave best free (omega (arith, c.new-first.ensures, c.len.ensures))
+    certified.count certified.cost refl leads c.record_event-place.ensures.items refl
+    c.record_event-place.ensures.place in
+    let there = subst (λ (i : Job). IsCommitted i plan wave (job_of new)) c.self.view_is done in
+    (c.in_ok-certified.ensures.certified.certifies, there)

@@ -60,8 +60,8 @@ invariant_of-self c =
     ∙ c.if-has_no_room.false in
     let number : c.new-attempt.result ≡ length old.starts.items + 1 =
     omega (arith, c.new-attempt.ensures, c.len.ensures) in
-    let done = reduce_accepted old new part c.new-attempt.result worker place next.ready free number next.part_is
-    next.worker_is refl c.start_part.ensures.taken c.start_part.ensures.running c.start_part.ensures.told refl
+    let done = reduce_accepted old new part c.new-attempt.result worker place next.ready free number
+    next.part_is next.worker_is refl c.start_part.ensures.taken c.start_part.ensures.running c.start_part.ensures.told refl
     c.record_event-place.ensures.items refl c.record_event-place.ensures.place in
     master_after old new ReduceStart place c.self.invariant done
     (record {
@@ -91,8 +91,8 @@ returns c =
     ∙ c.if-has_no_room.false in
     let number : c.new-attempt.result ≡ length old.starts.items + 1 =
     omega (arith, c.new-attempt.ensures, c.len.ensures) in
-    let done = reduce_accepted old new part c.new-attempt.result worker place next.ready free number next.part_is
-    next.worker_is refl c.start_part.ensures.taken c.start_part.ensures.running c.start_part.ensures.told refl
+    let done = reduce_accepted old new part c.new-attempt.result worker place next.ready free number
+    next.part_is next.worker_is refl c.start_part.ensures.taken c.start_part.ensures.running c.start_part.ensures.told refl
     c.record_event-place.ensures.items refl c.record_event-place.ensures.place in
     let reply : Reply = record {
       attempt = c.new-attempt.result;
@@ -100,8 +100,7 @@ returns c =
       worker = worker;
       runs = c.in-Ok.runs;
     } in
-    subst (λ (i : Job). IsReply i reply × IsAccepted i ReduceStart place (job_of new)) c.self.view_is
-    (
+    subst (λ (i : Job). IsReply i reply × IsAccepted i ReduceStart place (job_of new)) c.self.view_is (
       record {
         attempt = number;
         part = next.part_is;
