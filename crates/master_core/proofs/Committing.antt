@@ -1,21 +1,15 @@
 -- A master after a wave that it committed.
-use Rattle.std.proofs.Common.{◌≡◌, ℕ, ◌+◌, ◌-◌, ◌^◌, ◌<◌, ◌≤◌, List, [], ◌∷◌, ◌++◌, length, map, true, false, Option, Err, refl, sym, ap, ◌∙◌, arith}
-use Rattle.std.specs.Prelude.{fold, vec_len, vec_capacity}
+use Rattle.std.proofs.Common.{◌≡◌, ℕ, ◌+◌, List, [], ◌∷◌, ◌++◌, length, map, false, Option, sym, ◌∙◌}
+use Rattle.std.specs.Prelude.{fold}
 use Rattle.std.proofs.lemmas.List.{append-nil}
 use Rattle.wave_problem.specs.Assignment.{IsBest, pairs_of, total}
-use Rattle.price_certificate.specs.Certificate.{HasOneSize, IsFirstFailure}
-use Rattle.price_certificate.specs.declared.Condition.{Condition}
-use Rattle.price_certificate.specs.PriceList.{PriceList}
 use Rattle.master_state.specs.declared.answers.Wave.{Wave}
-use Rattle.master_state.specs.declared.answers.CommitError.{CommitError}
-use Rattle.master_state.specs.declared.answers.CommitError.TheVariants.{Stale, HistoryFull, Memory}
 use Rattle.master_state.specs.declared.events.Event.{Event}
 use Rattle.master_state.specs.declared.events.Event.TheVariants as events
-use Rattle.master_state.specs.States.{Setup, State}
 use Rattle.master_state.specs.Refusals.{has_no_room}
 use Rattle.master_state.specs.Changes.{after_wave, split_started}
 use Rattle.master_state.specs.Steps.{problem_of}
-use Rattle.master_state.specs.Jobs.{Job, AnswersCommit, IsCommitted, present, lacks_room}
+use Rattle.master_state.specs.Jobs.{IsCommitted}
 use Rattle.master_state.proofs.Reasons.{attempts_left}
 use Rattle.master_state.proofs.Waves.{are_starts}
 use Rattle.master_state.proofs.Keeping.{waves_keep}

@@ -1,6 +1,6 @@
 -- A master after the start of a part.
-use Rattle.std.proofs.Common.{◌≡◌, ℕ, ◌+◌, ◌<◌, ◌||◌, List, [], ◌∷◌, ◌++◌, length, Bool, true, false, not, None, refl, sym, ap, ◌∙◌, arith, subst, map}
-use Rattle.std.specs.List.{list_all, list_any, range_with_len}
+use Rattle.std.proofs.Common.{◌≡◌, ℕ, ◌+◌, ◌<◌, ◌||◌, List, [], ◌∷◌, ◌++◌, length, true, false, not, refl, sym, ap, ◌∙◌, arith, subst}
+use Rattle.std.specs.List.{list_all, list_any}
 use Rattle.std.proofs.lemmas.Bool.{or_parts, not-false}
 use Rattle.std.proofs.lemmas.List.{append-nil, length-map}
 use Rattle.std.proofs.lemmas.List.FromFn.{length-range_with_len}
@@ -9,16 +9,14 @@ use Rattle.word_map.specs.Texts.{SplitDocuments}
 use Rattle.worker_table.specs.Workers.{Workers, free_slots, has_free_slot, with_slot_taken}
 use Rattle.master_state.specs.declared.answers.Why.TheVariants.{NotReady, HistoryFull}
 use Rattle.master_state.specs.declared.events.Event.TheVariants as events
-use Rattle.master_state.specs.declared.states.Attempt.{Attempt}
 use Rattle.master_state.specs.declared.states.Start.{Start}
 use Rattle.master_state.specs.declared.states.Work.TheVariants as works
 use Rattle.master_state.specs.declared.states.PartState.{PartState}
 use Rattle.master_state.specs.declared.states.PartState.TheVariants as part
-use Rattle.master_state.specs.States.{Setup, State, IsWhole, next_attempt}
+use Rattle.master_state.specs.States.{State, next_attempt}
 use Rattle.master_state.specs.Tests.{is_done, part_is_pending, next_part, next_worker}
 use Rattle.master_state.specs.Refusals.{ReduceStart, has_no_room, is_not_reducible}
 use Rattle.master_state.specs.Changes.{with_reduce_started}
-use Rattle.master_state.specs.Tidy.{IsTidy}
 use Rattle.master_state.specs.Jobs.{Job, IsAccepted, event_of}
 use Rattle.master_state.proofs.Lists.{any_inside, any_found}
 use Rattle.master_state.proofs.Slots.{nobody, live-inside}

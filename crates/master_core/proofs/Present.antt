@@ -5,7 +5,7 @@ use Rattle.wave_problem.specs.declared.lines.WorkerLine.{WorkerLine}
 use Rattle.wave_problem.specs.Wave.{Split, Wave, IsWithinLimits, wave_from}
 use Rattle.master_state.specs.Steps.{problem_of, worker_line}
 use Rattle.master_state.specs.Jobs.{Job}
-use Rattle.master_state.proofs.Problems.{within_limits, length-splits, length-workers}
+use Rattle.master_state.proofs.Problems.{within_limits, length-splits}
 use Rattle.master_core.specs.declared.master.Master.TheInside.{Inside}
 use Rattle.master_core.specs.Entries.{shown_as}
 use Rattle.master_core.specs.Inside.{setup_of, state_of, job_of, IsMaster}

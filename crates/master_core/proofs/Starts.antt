@@ -1,15 +1,14 @@
 -- The starts of a plan, made one after another in the tables of a master.
-use Rattle.std.proofs.Common.{◌≡◌, ℕ, zero, suc, ◌+◌, ◌-◌, ◌<◌, ◌≤◌, List, [], ◌∷◌, ◌++◌, length, map, None, refl, sym, ap, ◌∙◌, arith, subst}
+use Rattle.std.proofs.Common.{◌≡◌, ℕ, zero, suc, ◌+◌, ◌<◌, List, [], ◌∷◌, ◌++◌, length, map, None, refl, sym, ap, ◌∙◌, arith, subst}
 use Rattle.std.specs.Prelude.{slice_index_or}
 use Rattle.node_ids.specs.Updates.{updated}
 use Rattle.worker_table.specs.Workers.{Workers, free_slots, with_slot_taken}
-use Rattle.master_state.specs.declared.states.Attempt.{Attempt}
 use Rattle.master_state.specs.declared.states.Start.{Start}
 use Rattle.master_state.specs.declared.states.Work.TheVariants as works
 use Rattle.master_state.specs.declared.states.SplitState.{SplitState}
 use Rattle.master_state.specs.declared.states.SplitState.TheVariants as states
 use Rattle.master_state.specs.States.{Setup, State}
-use Rattle.master_state.specs.Changes.{with_start, split_started}
+use Rattle.master_state.specs.Changes.{split_started}
 use Rattle.master_state.proofs.Slots.{live-inside}
 use Rattle.master_state.proofs.Starting.{AreStarts, first_free, free_parts, starts_after, pending_started}
 use Rattle.master_core.specs.declared.entries.SplitEntry.{SplitEntry}

@@ -1,4 +1,4 @@
-use Rattle.std.proofs.Common.{length, map, arith}
+use Rattle.std.proofs.Common.{map, arith}
 use Rattle.std.proofs.lemmas.List.{length-map}
 use Rattle.master_state.specs.Tests.{attempts_of}
 use Rattle.master_core.specs.Entries.{shown_as}

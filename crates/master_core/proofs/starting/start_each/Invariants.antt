@@ -1,4 +1,4 @@
-use Rattle.std.proofs.Common.{◌≡◌, ℕ, ◌+◌, length, drop, map}
+use Rattle.std.proofs.Common.{◌≡◌, ◌+◌, length, drop, map}
 use Rattle.std.specs.Prelude.{fold, vec_len, vec_capacity}
 use Rattle.wave_problem.specs.Assignment.{pairs_of, pairs_from}
 use Rattle.master_state.specs.States.{Setup, State}

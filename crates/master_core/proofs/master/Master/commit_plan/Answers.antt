@@ -1,4 +1,4 @@
-use Rattle.std.proofs.Common.{◌≡◌, ℕ, ◌+◌, List, length, false, refl, sym, ap, ◌∙◌, arith, subst}
+use Rattle.std.proofs.Common.{◌≡◌, length, false, refl, sym, ap, ◌∙◌, arith, subst}
 use Rattle.wave_problem.specs.Assignment.{IsBest, pairs_of}
 use Rattle.certificate_checker.specs.Verdict.{IsCertified}
 use Rattle.master_state.specs.declared.answers.Wave.{Wave}

@@ -1,10 +1,8 @@
 use Rattle.std.proofs.Common.{◌≡◌, map, ap, ◌∙◌, length}
 use Rattle.std.proofs.lemmas.Result.{IfOk-weaker}
-use Rattle.wave_problem.specs.Wave.{Wave, wave_from}
+use Rattle.wave_problem.specs.Wave.{Wave}
 use Rattle.master_state.specs.Steps.{worker_line}
-use Rattle.master_core.specs.Entries.{shown_as}
-use Rattle.master_core.specs.Lines.{split_lines}
-use Rattle.master_core.proofs.Present.{AreParts, problem_is, parts_within, splits_of_problem}
+use Rattle.master_core.proofs.Present.{problem_is, parts_within, splits_of_problem}
 use Rattle.master_core.proofs.master.Master.problem.Goals as goal
 
 pub within_limits-requires : goal.within_limits-requires
