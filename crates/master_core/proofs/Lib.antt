@@ -10,3 +10,10 @@ pub mod ResultRoom
 pub mod Handed
 pub mod Burying
 pub mod Backing
+pub mod WaveLines
+pub mod Starts
+pub mod Counting
+pub mod Committing
+pub mod Present
+pub mod Replying
+pub mod PartStarts

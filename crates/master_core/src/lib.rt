@@ -9,13 +9,17 @@
 mod backups;
 pub mod cluster;
 mod completions;
+mod counts;
 mod deaths;
 mod entries;
 mod holders;
 mod inputs;
+mod lines;
 mod log;
 pub mod master;
+mod reducing;
 mod running;
+mod starting;
 
 pub use cluster::{Cluster, ClusterError};
 pub use master::Master;

@@ -1,5 +1,30 @@
-ghost use Rattle.std.specs.Prelude.{◌≡◌, ◌<◌, ◌≤◌, [], length, not, is_some, IfOk, IfSome, Some, slice_get};
+ghost use Rattle.std.specs.Prelude.{
+  ◌≡◌,
+  ◌≢◌,
+  ◌<◌,
+  ◌≤◌,
+  ◌↔◌,
+  [],
+  length,
+  not,
+  is_some,
+  Err,
+  IfOk,
+  IfSome,
+  IsTrue,
+  OnOk,
+  Some,
+  slice_get,
+};
+ghost use Rattle.wave_problem.specs.Assignment.{IsBest, pairs_of};
+ghost use Rattle.price_certificate.specs.declared.Condition.{Condition};
+ghost use Rattle.price_certificate.specs.Certificate.{IsFirstFailure};
+ghost use Rattle.certificate_checker.specs.Verdict.{IsCertified};
+ghost use Rattle.shuffle_reduce.specs.Gather.{values_of};
+ghost use Rattle.block_map.specs.Copies.{AreCopies, holdings};
 ghost use Rattle.master_state.specs.States.{AreSmall, opening, start_of};
+ghost use Rattle.master_state.specs.Tests.{next_part, next_worker};
+ghost use Rattle.master_state.specs.Steps.{problem_of};
 ghost use Rattle.master_state.specs.Refusals.{
   Call,
   IsKnown,
@@ -8,34 +33,57 @@ ghost use Rattle.master_state.specs.Refusals.{
   has_no_sweep,
   is_full,
   is_not_backable,
+  is_not_reducible,
   no_part_runs,
   no_split_runs,
   refusal,
 };
-ghost use Rattle.master_state.specs.Jobs.{AreResults, Answers, AnswersBackup, AnswersSweep, AnswersWith, IsKept};
+ghost use Rattle.master_state.specs.Jobs.{
+  Answers,
+  AnswersBackup,
+  AnswersCommit,
+  AnswersReduce,
+  AnswersSweep,
+  AnswersWith,
+  AreResults,
+  IsGlance,
+  IsKept,
+  IsReady,
+  present,
+};
 ghost use Rattle.master_core.specs.Places.{RunsPart, RunsSplit};
+ghost use Rattle.master_core.specs.Starts.{HasSizesOf};
 
 use crate::backups::{has_free_slot, is_any_live, is_any_pending, run_attempt, takes_backup};
 use crate::cluster::Cluster;
 use crate::completions::{finish_part, finish_split, give_slots};
+use crate::counts::{open_parts, open_splits, running_maps, running_parts};
 use crate::deaths::{bury, bury_all};
 use crate::entries::{SplitEntry, pending_entries, shown};
 use crate::holders::{add_holder, drop_holder, first_holders};
 use crate::inputs::{is_wrong_map, is_wrong_part};
+use crate::lines::{all_split_lines, may_any_start, worker_line_table, worker_lines};
 use crate::log::{record_counts, record_event, record_result, record_start};
+use crate::reducing::{NextPart, are_done, first_pending, runs_of, start_part};
 use crate::running::{
     RunningPart, RunningSplit, end_attempt, end_part_attempt, part_of, part_runs, runs, split_of,
 };
-use block_map::BlockMap;
+use crate::starting::start_each;
+use block_map::{BlockMap, CopyOrder};
+use certificate_checker::{Certified, certify};
 use master_state::{
-    Answer, AnswerWith, Attempt, BackupAnswer, Event, Limits, PartState, SplitState, Start, Swept,
-    Why, Work,
+    Answer, AnswerWith, Attempt, BackupAnswer, CommitError, Event, Glance, Limits, PartState,
+    ReduceAnswer, Reply, SplitState, Start, Swept, Wave, Why, Work,
 };
 use node_ids::{AttemptNo, PartNo, SplitNo, SplitSet, WorkerNo, WorkerSet};
+use price_certificate::Prices;
 use shuffle_reduce::PartResult;
 use std::alloc::{AllocError, Global};
 use std::marker::Model;
-use word_map::MapResult;
+use std::sync::Arc;
+use wave_planner::Planned;
+use wave_problem::{Plan, Problem};
+use word_map::{MapResult, SplitText};
 use worker_table::WorkerTable;
 
 /// The master of a job: its present state, and the history that led there.
@@ -150,6 +198,185 @@ impl Master {
         ensures exact { AreResults self.now.setup self.now.state self.now.results }
     {
         &self.results
+    }
+
+    /// What may start now, and what is still to be done.
+    pub fn glance(&self) -> Glance
+        ensures { IsGlance self.now result }
+    {
+        Glance {
+            ready: self.is_ready(),
+            reducible: self.next_reduce().is_some(),
+            running: running_maps(&self.splits) + running_parts(&self.parts),
+            open_splits: open_splits(&self.splits),
+            open_parts: open_parts(&self.parts),
+        }
+    }
+
+    // Whether a split may start on a worker.
+    fn is_ready(&self) -> bool
+        ensures { IsTrue result ↔ IsReady self.now }
+    {
+        let workers = self.workers.workers();
+        let lines = worker_line_table(workers);
+        may_any_start(
+            &lines[..workers.len()],
+            self.workers.bars(),
+            self.cluster.splits(),
+            &self.splits,
+            &self.holders,
+        )
+    }
+
+    /// The copies that bring each split nearer to so many replicas, by rising split.
+    pub fn copy_orders(&self, alloc: Global, target: usize) -> Result<Vec<CopyOrder>, AllocError>
+        ensures { IfOk result (λ orders. AreCopies (holdings self.now.state.workers
+            self.now.setup.cluster.tree self.now.state.holders target) orders.items) }
+    {
+        self.holders
+            .copy_orders(alloc, &self.workers, self.cluster.tree(), target)
+    }
+
+    /// The text of each split.
+    pub fn texts(&self) -> &[Arc<SplitText>]
+        ensures { values_of result.now ≡ self.now.setup.cluster.texts }
+    {
+        self.cluster.texts()
+    }
+
+    /// The problem of the present state, from which the next wave is planned.
+    pub fn problem(&self, alloc: Global) -> Result<Problem, AllocError>
+        ensures present { IfOk result (λ problem. problem ≡ problem_of self.now.setup self.now.state) }
+        ensures splits { IfOk result (λ problem.
+            length problem.splits ≡ length self.now.setup.cluster.splits) }
+        ensures workers { IfOk result (λ problem.
+            length problem.workers ≡ length self.now.setup.cluster.slots) }
+    {
+        let workers = worker_lines(alloc, self.workers.workers())?;
+        let splits = all_split_lines(alloc, self.cluster.splits(), &self.splits, &self.holders)?;
+        let tree = self.cluster.tree().copy(alloc)?;
+        let barred = self.workers.bars().copy(alloc)?;
+        Problem::within_limits(alloc, tree, workers, &splits, barred)
+    }
+
+    /// Starts the splits of a plan, if its prices certify it in the present state. It is tested in the
+    /// order HistoryFull, Memory, Stale.
+    pub fn commit(&mut self, alloc: Global, planned: &Planned) -> Result<Wave, CommitError>
+        requires { HasSizesOf self.old.setup planned.now.plan planned.now.prices }
+        ensures { AnswersCommit self.old planned.now.plan.starts planned.now.prices result self.new }
+    {
+        self.commit_plan(alloc, planned.plan(), planned.prices())
+    }
+
+    // As `commit`, of a plan with prices.
+    fn commit_plan(
+        &mut self,
+        alloc: Global,
+        plan: &Plan,
+        prices: &Prices,
+    ) -> Result<Wave, CommitError>
+        requires { HasSizesOf self.old.setup plan.now prices.now }
+        ensures { AnswersCommit self.old plan.now.starts prices.now result self.new }
+    {
+        if self.has_no_room(plan.count()) {
+            return Err(CommitError::HistoryFull);
+        }
+        let certified = self.certified(alloc, plan, prices)?;
+        let first = AttemptNo::new(self.starts.len() as u32 + 1);
+        let count = certified.count as u32;
+        let cost = certified.cost;
+        start_each(&mut self.workers, &mut self.splits, &mut self.starts, plan);
+        let place = record_event(&mut self.history, Event::Wave { first, count, cost });
+        Ok(Wave {
+            place,
+            first,
+            count,
+            cost,
+        })
+    }
+
+    // Whether the history has no place left, or there are fewer attempts left than these.
+    fn has_no_room(&self, count: usize) -> bool
+        requires { count ≤ 1024 }
+        ensures { result ≡ has_no_room self.now.setup self.now.state count }
+    {
+        self.has_no_place() || (self.limits.attempts as usize) < self.starts.len() + count
+    }
+
+    // What the prices say of the plan in the present state.
+    fn certified(
+        &self,
+        alloc: Global,
+        plan: &Plan,
+        prices: &Prices,
+    ) -> Result<Certified, CommitError>
+        requires { HasSizesOf self.now.setup plan.now prices.now }
+        ensures certified { IfOk result (λ certified.
+            IsCertified (present self.now plan.now.starts prices.now) certified) }
+        ensures best { OnOk result
+            (IsBest (problem_of self.now.setup self.now.state) (pairs_of plan.now.starts)) }
+        ensures stale { (c : Condition) → result ≡ Err (CommitError.Stale c)
+            → IsFirstFailure (present self.now plan.now.starts prices.now) c }
+        ensures room { result ≢ Err CommitError.HistoryFull }
+    {
+        let Ok(problem) = self.problem(alloc) else {
+            return Err(CommitError::Memory);
+        };
+        match certify(&problem, plan, prices) {
+            Ok(certified) => Ok(certified),
+            Err(condition) => Err(CommitError::Stale(condition)),
+        }
+    }
+
+    /// Starts the lowest pending part on the lowest live worker with a free slot, and answers with all that
+    /// the worker needs. Memory is taken for the list of runs alone, and before anything changes.
+    pub fn reduce_start(&mut self, alloc: Global) -> ReduceAnswer
+        ensures { AnswersReduce self.old result self.new }
+    {
+        let Some(next) = self.next_reduce() else {
+            return ReduceAnswer::Ignored(Why::NotReady);
+        };
+        let NextPart { part, worker } = next;
+        if self.has_no_room(1) {
+            return ReduceAnswer::Ignored(Why::HistoryFull);
+        }
+        let Ok(runs) = runs_of(alloc, &self.cluster, &self.splits, part) else {
+            return ReduceAnswer::Ignored(Why::Memory);
+        };
+        let attempt = AttemptNo::new(self.starts.len() as u32 + 1);
+        let started = Attempt {
+            number: attempt,
+            worker,
+        };
+        start_part(
+            &mut self.workers,
+            &mut self.parts,
+            &mut self.starts,
+            part,
+            started,
+        );
+        let place = record_event(&mut self.history, Event::ReduceStart(attempt, part, worker));
+        let reply = Reply {
+            attempt,
+            part,
+            worker,
+            runs,
+        };
+        ReduceAnswer::Accepted(place, reply)
+    }
+
+    // What the next reduce attempt would run, and where, if one may start now.
+    fn next_reduce(&self) -> Option<NextPart>
+        ensures ready { is_some result ≡ not (is_not_reducible self.now.state) }
+        ensures part { IfSome result (λ next. next.part ≡ next_part self.now.state) }
+        ensures worker { IfSome result (λ next. next.worker ≡ next_worker self.now.state) }
+    {
+        if !are_done(&self.splits) {
+            return None;
+        }
+        let part = first_pending(&self.parts)?;
+        let worker = self.workers.first_free()?;
+        Some(NextPart { part, worker })
     }
 
     /// Makes a live worker the last holder of a split.
@@ -487,14 +714,6 @@ impl Master {
         ensures { result ≡ has_no_sweep self.now.setup self.now.state }
     {
         self.has_no_place() || self.sweeps.len() >= self.limits.sweeps as usize
-    }
-
-    // Whether there is no place left for an event, or for so many attempts.
-    fn has_no_room(&self, count: usize) -> bool
-        requires { count ≤ 1024 }
-        ensures { result ≡ has_no_room self.now.setup self.now.state count }
-    {
-        self.has_no_place() || self.starts.len() + count > self.limits.attempts as usize
     }
 
     // Whether the history has no place left.
