@@ -1,0 +1,225 @@
+//! Masters made from rows, and their calls by number.
+ghost use Rattle.std.specs.Prelude.{◌≡◌, IfSome, length, map};
+ghost use Rattle.std.specs.List.{range_with_len};
+ghost use Rattle.shuffle_reduce.specs.Gather.{values_of};
+
+use master_core::{Cluster, Master};
+use master_state::{Answer, AnswerWith, BackupAnswer, Limits, ReduceAnswer, Why, Work};
+use node_ids::{AttemptNo, DocNo, PartNo, SplitNo, SplitSet, WorkerNo};
+use rack_tree::RackTree;
+use shuffle_reduce::{are_of_part, merge};
+use std::alloc::Global;
+use std::process::Abort;
+use std::sync::Arc;
+use wave_planner::plan;
+use wave_problem::SplitLine;
+use word_map::{Document, Run, SplitText, Text, map_split};
+
+/// A split: its bytes, its first holders, and the words of its one document.
+pub type SplitRow<'r> = (u64, &'r [u16], &'r str);
+
+/// Room for whatever a test does.
+pub const AMPLE: Limits = Limits {
+    events: 100,
+    attempts: 100,
+    sweeps: 100,
+};
+
+/// A master, and the runs that its last reduce attempt was given.
+#[derive(Drop)]
+pub struct Job {
+    pub master: Master,
+    pub runs: Vec<Arc<Run>>,
+}
+
+/// A call of the master, by numbers; a sweep gives all workers one count.
+#[derive(Clone, Copy, Debug)]
+pub enum Call {
+    Wave,
+    Done(u32),
+    Fail(u32),
+    Withdraw(u32),
+    Backup(u16, u16),
+    Die(u16),
+    Join(u16, Option<u16>),
+    Add(u16, u16),
+    Lose(u16, u16),
+    Sweep(u64),
+    Reduce,
+}
+
+fn one_rack(rt: &impl Abort, alloc: Global, workers: usize) -> Option<RackTree> {
+    let mut tree = RackTree::new(alloc);
+    let centre = tree.add_centre().ok()?;
+    assert!(rt; centre.index() < tree.centres());
+    let rack = tree.add_rack(centre).ok()?;
+    for _ in 0..workers {
+        assert!(rt; rack.index() < tree.racks());
+        tree.add_worker(rack).ok()?;
+    }
+    Some(tree)
+}
+
+fn line_of(alloc: Global, row: &SplitRow<'_>) -> Option<SplitLine> {
+    let mut holders = Vec::new(alloc);
+    for holder in row.1 {
+        holders.push(WorkerNo::new(*holder)).ok()?;
+    }
+    Some(SplitLine {
+        bytes: row.0,
+        pending: true,
+        holders,
+    })
+}
+
+fn lines_of(alloc: Global, rows: &[SplitRow<'_>]) -> Option<Vec<SplitLine>> {
+    let mut lines = Vec::new(alloc);
+    for row in rows {
+        lines.push(line_of(alloc, row)?).ok()?;
+    }
+    Some(lines)
+}
+
+/// The text of a split that has these words.
+pub fn text_of(alloc: Global, split: SplitNo, words: &str) -> Option<Arc<SplitText>>
+    ensures { IfSome result (λ text. (arc_value text).split ≡ split) }
+{
+    let mut documents = Vec::new(alloc);
+    documents
+        .push(Document {
+            number: DocNo::new(0),
+            text: Text::new(String::from_str(alloc, words).ok()?),
+        })
+        .ok()?;
+    Arc::new(alloc, SplitText::new(split, documents)).ok()
+}
+
+fn texts_of(rt: &impl Abort, alloc: Global, rows: &[SplitRow<'_>]) -> Option<Vec<Arc<SplitText>>>
+    ensures { IfSome result (λ texts. map (λ text. text.split) (values_of texts.items)
+        ≡ range_with_len 0 (length rows.now)) }
+{
+    let mut texts = Vec::new(alloc);
+    for number in 0..rows.len() {
+        assert!(rt; number < 1024);
+        let text = text_of(alloc, SplitNo::new(number as u16), rows[number].2)?;
+        texts.push(text).ok()?;
+    }
+    Some(texts)
+}
+
+/// A master of workers in one rack with so many slots, of these splits, and of two parts.
+pub fn job(
+    rt: &impl Abort,
+    alloc: Global,
+    slots: &[u8],
+    rows: &[SplitRow<'_>],
+    limits: Limits,
+) -> Option<Job> {
+    let tree = one_rack(rt, alloc, slots.len())?;
+    let lines = lines_of(alloc, rows)?;
+    let texts = texts_of(rt, alloc, rows)?;
+    assert!(rt; tree.workers() == slots.len() && lines.len() == rows.len());
+    let cluster = Cluster::new(alloc, tree, slots, lines, texts, 2, 3).ok()?;
+    assert!(rt;
+        limits.events <= 65_536 && limits.attempts <= 1_000_000 && limits.sweeps <= limits.events
+    );
+    let master = Master::new(alloc, cluster, limits).ok()?;
+    Some(Job {
+        master,
+        runs: Vec::new(alloc),
+    })
+}
+
+/// What the call answers: its place, or why it is ignored.
+pub fn call(rt: &impl Abort, alloc: Global, job: &mut Job, call: Call) -> Option<Answer> {
+    match call {
+        Call::Wave => wave(alloc, job),
+        Call::Done(attempt) => done(rt, alloc, job, AttemptNo::new(attempt)),
+        Call::Fail(attempt) => Some(fail(job, AttemptNo::new(attempt))),
+        Call::Withdraw(attempt) => Some(job.master.withdraw(AttemptNo::new(attempt))),
+        Call::Sweep(count) => Some(job.master.sweep(&[count; 256]).answer),
+        Call::Reduce => Some(reduce(alloc, job)),
+        Call::Die(worker) => {
+            let worker = WorkerNo::new(worker);
+            assert!(rt; worker.index() < job.master.cluster().slots().len());
+            Some(job.master.die(worker))
+        }
+        Call::Join(worker, split) => Some(join(rt, job, WorkerNo::new(worker), split)),
+        Call::Add(split, worker) | Call::Lose(split, worker) | Call::Backup(split, worker) => {
+            Some(of_pair(rt, job, call, SplitNo::new(split), WorkerNo::new(worker)))
+        }
+    }
+}
+
+fn wave(alloc: Global, job: &mut Job) -> Option<Answer> {
+    let problem = job.master.problem(alloc).ok()?;
+    let planned = plan(alloc, &problem).ok()?;
+    let wave = job.master.commit(alloc, &planned).ok()?;
+    Some(Answer::Accepted(wave.place))
+}
+
+// Hands in what is made of the attempt's text, or of the runs of the last reduce attempt.
+fn done(rt: &impl Abort, alloc: Global, job: &mut Job, attempt: AttemptNo) -> Option<Answer> {
+    match job.master.start(attempt)?.work {
+        Work::Split(split) => {
+            assert!(rt; split.index() < job.master.texts().len());
+            let text = Arc::try_clone(&job.master.texts()[split.index()]).ok()?;
+            let made = map_split(alloc, text, job.master.cluster().parts()).ok()?;
+            Some(answer_of(job.master.map_done(attempt, made)))
+        }
+        Work::Part(part) => {
+            let parts = job.master.cluster().parts();
+            assert!(rt; part.index() < parts && are_of_part(job.runs.as_slice(), part, parts));
+            let made = merge(alloc, parts, part, job.runs.as_slice()).ok()?;
+            Some(answer_of(job.master.part_done(attempt, made)))
+        }
+    }
+}
+
+fn answer_of<R: Drop>(answer: AnswerWith<R>) -> Answer {
+    match answer {
+        AnswerWith::Accepted(place) => Answer::Accepted(place),
+        AnswerWith::Ignored(why, _) => Answer::Ignored(why),
+    }
+}
+
+fn fail(job: &mut Job, attempt: AttemptNo) -> Answer {
+    match job.master.map_failed(attempt) {
+        Answer::Ignored(Why::OldAttempt) => job.master.part_failed(attempt),
+        answer => answer,
+    }
+}
+
+fn reduce(alloc: Global, job: &mut Job) -> Answer {
+    match job.master.reduce_start(alloc) {
+        ReduceAnswer::Accepted(place, reply) => {
+            job.runs = reply.runs;
+            Answer::Accepted(place)
+        }
+        ReduceAnswer::Ignored(why) => Answer::Ignored(why),
+    }
+}
+
+fn join(rt: &impl Abort, job: &mut Job, worker: WorkerNo, split: Option<u16>) -> Answer {
+    let mut set = SplitSet::new();
+    if let Some(split) = split {
+        assert!(rt; split < 1024);
+        set.put(SplitNo::new(split));
+    }
+    let cluster = job.master.cluster();
+    assert!(rt; worker.index() < cluster.slots().len() && set.are_below(cluster.splits().len()));
+    job.master.join(worker, &set)
+}
+
+fn of_pair(rt: &impl Abort, job: &mut Job, call: Call, split: SplitNo, worker: WorkerNo) -> Answer {
+    let cluster = job.master.cluster();
+    assert!(rt; split.index() < cluster.splits().len() && worker.index() < cluster.slots().len());
+    match call {
+        Call::Add(_, _) => job.master.add(split, worker),
+        Call::Lose(_, _) => job.master.lose(split, worker),
+        _ => match job.master.backup(split, worker) {
+            BackupAnswer::Accepted(place, _) => Answer::Accepted(place),
+            BackupAnswer::Ignored(why) => Answer::Ignored(why),
+        },
+    }
+}
