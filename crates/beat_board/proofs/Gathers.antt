@@ -28,9 +28,17 @@ more_beats k old new w n told x ys zs e is_w is_n at =
     let one : f (tally w n told) ≡ g x = λ i. cond (is_w i == k) (is_n i) 0 in
     let here = ap (λ (v : View). beats_of k v.tallies) e in
     let there = ap (beats_by k) at in
-    omega (arith, one, here, sum_by-append f old.tallies (tally w n told ∷ []), there, sum_by-append g ys (x ∷ []))
+    omega (
+      arith,
+      one,
+      here,
+      sum_by-append f old.tallies (tally w n told ∷ []),
+      there,
+      sum_by-append g ys (x ∷ []),
+    )
 
-pub more_told : (k : ℕ) (h : ℕ → ℕ) (old new : View) (w n : ℕ) (told : List ℕ) (x : SeatValue) (ys zs : List SeatValue)
+pub more_told : (k : ℕ) (h : ℕ → ℕ) (old new : View) (w n : ℕ) (told : List ℕ) (x : SeatValue)
+    (ys zs : List SeatValue)
     → new ≡ gathers old (seated w n told) → w ≡ x.worker → told ≡ x.told → zs ≡ ys ++ x ∷ []
     → told_of k h new.tallies + told_by k h ys ≡ told_of k h old.tallies + told_by k h zs
 more_told k h old new w n told x ys zs e is_w is at =
@@ -39,13 +47,21 @@ more_told k h old new w n told x ys zs e is_w is at =
     let one : f (tally w n told) ≡ g x = λ i. cond (is_w i == k) (sum_by h (is i)) 0 in
     let here = ap (λ (v : View). told_of k h v.tallies) e in
     let there = ap (told_by k h) at in
-    omega (arith, one, here, sum_by-append f old.tallies (tally w n told ∷ []), there, sum_by-append g ys (x ∷ []))
+    omega (
+      arith,
+      one,
+      here,
+      sum_by-append f old.tallies (tally w n told ∷ []),
+      there,
+      sum_by-append g ys (x ∷ []),
+    )
 
 pub remade : (v : View) (ts : List Tally) (n m made : ℕ) → v ≡ making ts [] n m → m ≡ made
     → v ≡ making v.tallies [] v.next made
 remade v ts n m made e is = e ∙ (λ i. making (sym e i).tallies [] (sym e i).next (is i))
 
-pub remade_looks : (v u : View) (looks xs : List Look) (ts : List Tally) (n m : ℕ) → v ≡ gathers u (reading looks)
+pub remade_looks : (v u : View) (looks xs : List Look) (ts : List Tally) (n m : ℕ)
+    → v ≡ gathers u (reading looks)
     → u ≡ making ts xs n m → v ≡ making ts v.looks n m
 remade_looks v u looks xs ts n m e f =
     let is : v ≡ making (ts ++ []) (looks ++ xs) n m = e ∙ ap (λ (y : View). gathers y (reading looks)) f in
@@ -67,9 +83,11 @@ back_within words [] ys h = h
 back_within words (x ∷ xs) ys h = back_within words xs ys (λ j e le. h (suc j) e (omega arith))
 
 -- what was seen of one reader more
-pub more_seen : (words : List ℕ) (old new : View) (looks : List Look) (x : ReaderValue) (ys zs : List ReaderValue)
+pub more_seen : (words : List ℕ) (old new : View) (looks : List Look) (x : ReaderValue)
+    (ys zs : List ReaderValue)
     → new ≡ gathers old (reading looks) → looks ≡ x.looks → zs ≡ ys ++ x ∷ [] → AreWithin words new.looks
-    → (AreWithin words old.looks → All (λ r. AreWithin words r.looks) ys → All (λ r. AreWithin words r.looks) zs)
+    → (AreWithin words old.looks → All (λ r. AreWithin words r.looks) ys
+    → All (λ r. AreWithin words r.looks) zs)
     × AreWithin words old.looks
 more_seen words old new looks x ys zs e is at within =
     let all = subst (λ (v : View). AreWithin words v.looks) e within in
@@ -88,7 +106,8 @@ at_elem (x ∷ xs) (suc i) r e = at_elem xs i r e
 -- one word more is read
 pub filled : (beats ws : List ℕ) (i r : ℕ) → length beats ≡ 256 → i < 256 → get_elem? ws i ≡ some r
     → ((k : ℕ) → k < i → slice_index beats k ≡ slice_index ws k)
-    → (length (set beats i r) ≡ 256) × ((k : ℕ) → k < i + 1 → slice_index (set beats i r) k ≡ slice_index ws k)
+    → (length (set beats i r) ≡ 256)
+    × ((k : ℕ) → k < i + 1 → slice_index (set beats i r) k ≡ slice_index ws k)
 filled beats ws i r len lt e old = (
   length-set beats i r ∙ len,
   λ k le. dite (ℕ_discrete k i)
@@ -101,7 +120,8 @@ filled beats ws i r len lt e old = (
 -- all words are read
 pub all_filled : (beats ws : List ℕ) → length beats ≡ 256 → length ws ≡ 256
     → ((k : ℕ) → k < 256 → slice_index beats k ≡ slice_index ws k) → beats ≡ ws
-all_filled beats ws len wide h = ext_get_or 0 beats ws (omega (arith, len, wide)) (λ i lt. h i (omega (arith, len)))
+all_filled beats ws len wide h =
+    ext_get_or 0 beats ws (omega (arith, len, wide)) (λ i lt. h i (omega (arith, len)))
 
 -- what the last state tells
 pub ended : (ws : List ℕ) (xs : List ℕ) (id : ℕ) (v : View) (made : ℕ) → Final (Seen Rule id v) ws xs
@@ -110,7 +130,8 @@ ended ws xs id v made f z e =
     let s = f.0 in
     let at : get_elem? s.views 0 ≡ some (making v.tallies v.looks v.next made) =
     ap (λ i. get_elem? s.views i) (sym z) ∙ f.1.1 ∙ ap some e in
-    subst (λ w. Gathered w v.tallies v.looks made) f.2 (gathered s.words s.views v.tallies v.looks v.next made f.1.0 at)
+    subst (λ w. Gathered w v.tallies v.looks made) f.2
+    (gathered s.words s.views v.tallies v.looks v.next made f.1.0 at)
 
 -- the maker's last view
 pub whole_end : (t s : View) (made : ℕ) → t ≡ making s.tallies t.looks s.next s.made → s.made ≡ made

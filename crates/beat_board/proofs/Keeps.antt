@@ -35,9 +35,11 @@ up_to f words k = sum_by f (down_from (slice_index words k))
 abbrev pub AreRising : List ℕ → List ℕ → Type 0
 AreRising words words' = (k : ℕ) → slice_index words k ≤ slice_index words' k
 
-within_rises : (words words' : List ℕ) (xs : List Look) → AreRising words words' → AreWithin words xs → AreWithin words' xs
+within_rises : (words words' : List ℕ) (xs : List Look) → AreRising words words' → AreWithin words xs
+    → AreWithin words' xs
 within_rises words words' xs rises h =
-    All-weaker (λ (x : Look). x.beats ≤ slice_index words x.worker) (λ (x : Look). x.beats ≤ slice_index words' x.worker)
+    All-weaker (λ (x : Look). x.beats ≤ slice_index words x.worker)
+    (λ (x : Look). x.beats ≤ slice_index words' x.worker)
     (λ x le. omega (arith, rises x.worker)) xs h
 
 fits_rises : (words words' : List ℕ) (v : View) → AreRising words words' → Fits words v → Fits words' v
@@ -62,9 +64,19 @@ pub keep : (words words' : List ℕ) (views : List View) (id : ℕ) (v w : View)
 keep words words' views id v w h at len rises same made sums told fits =
     let seats = sum_by-set seats_in views id v w at in record {
       width = omega (arith, len, h.width);
-      sums = λ k lt. omega (arith, sum_by-set (worth k) views id v w at, h.sums k (omega arith), sums k (omega arith));
+      sums = λ k lt. omega (
+        arith,
+        sum_by-set (worth k) views id v w at,
+        h.sums k (omega arith),
+        sums k (omega arith),
+      );
       told = λ k lt f.
-          omega (arith, sum_by-set (told_worth k f) views id v w at, h.told k (omega arith) f, told k (omega arith) f);
+          omega (
+            arith,
+            sum_by-set (told_worth k f) views id v w at,
+            h.told k (omega arith) f,
+            told k (omega arith) f,
+          );
       made = λ u e. ⊎_elim
           (λ (x : (0 ≡ id) × (w ≡ u)).
           let was : get_elem? views 0 ≡ some v = ap (λ i. get_elem? views i) x.0 ∙ at in
@@ -72,11 +84,13 @@ keep words words' views id v w h at len rises same made sums told fits =
           (λ (x : (0 ≢ id) × (get_elem? views 0 ≡ some u)). omega (arith, seats, same, h.made u x.1))
           (at_set views id 0 w u e);
       limit = omega (arith, seats, same, h.limit);
-      each = each_set (Fits words') views id w (λ j u _ e. fits_rises words words' u rises (h.each j u e)) fits;
+      each = each_set (Fits words') views id w
+          (λ j u _ e. fits_rises words words' u rises (h.each j u e)) fits;
     }
 
 -- one view changes, and neither the words nor its counts
-pub learns : (words : List ℕ) (views : List View) (id : ℕ) (v w : View) → Counted words views → get_elem? views id ≡ some v
+pub learns : (words : List ℕ) (views : List View) (id : ℕ) (v w : View) → Counted words views
+    → get_elem? views id ≡ some v
     → w.tallies ≡ v.tallies → w.made ≡ v.made → AreWithin words w.looks → Counted words (set views id w)
 learns words views id v w h at tallies made seen =
     let old = h.each id v at in
@@ -144,7 +158,8 @@ bounded words views k h lt =
     omega (arith, all, h.limit, h.sums k lt)
 
 at_word : (words : List ℕ) (i n k : ℕ) → i < length words
-    → (k ≡ i → slice_index (set words i n) k ≡ n) × (k ≢ i → slice_index (set words i n) k ≡ slice_index words k)
+    → (k ≡ i → slice_index (set words i n) k ≡ n)
+    × (k ≢ i → slice_index (set words i n) k ≡ slice_index words k)
 at_word words i n k lt = (
   (λ e. subst (λ x. slice_index (set words i n) x ≡ n) (sym e) (get_or-set_same words i n 0 lt)),
   (λ ne. get_or-set_other words i k n 0 ne),
@@ -154,7 +169,8 @@ both_are : (m : Me ℕ View) (v : View) → m.0 ≡ v → m.1 ≡ [] → (v, [])
 both_are m v e f = λ k. (sym e k, sym f k)
 
 -- one word is raised by one
-rises_by_one : (words : List ℕ) (i : ℕ) → i < length words → AreRising words (set words i (slice_index words i + 1))
+rises_by_one : (words : List ℕ) (i : ℕ) → i < length words
+    → AreRising words (set words i (slice_index words i + 1))
 rises_by_one words i here k =
     let n = slice_index words i + 1 in
     dite (ℕ_discrete k i)
@@ -168,9 +184,15 @@ sums_rise : (words : List ℕ) (i n m : ℕ) (old new : List ℕ) → i < length
 sums_rise words i n m old new here is k = dite (ℕ_discrete k i)
     (λ e.
     let t = (at_word words i m i here).0 refl in
-    subst (λ j. slice_index (set words i m) j + worth j (seated i n old) ≡ slice_index words j + worth j (seated i (n + 1) new))
+    subst (λ j. slice_index (set words i m) j + worth j (seated i n old)
+    ≡ slice_index words j + worth j (seated i (n + 1) new))
     (sym e) (omega (arith, t, is, beats_here i n old, beats_here i (n + 1) new)))
-    (λ ne. omega (arith, (at_word words i m k here).1 ne, beats_else k i n old ne, beats_else k i (n + 1) new ne))
+    (λ ne. omega (
+      arith,
+      (at_word words i m k here).1 ne,
+      beats_else k i n old ne,
+      beats_else k i (n + 1) new ne,
+    ))
 
 -- and the seat is told the number that comes to those up to the word
 told_rises : (words : List ℕ) (i n m : ℕ) (old : List ℕ) → i < length words → m ≡ slice_index words i + 1
@@ -192,10 +214,12 @@ told_rises words i n m old here is k f = dite (ℕ_discrete k i)
     last : (x y : ℕ) → y ≡ x + 1 → sum_by f (down_from y) ≡ f y + sum_by f (down_from x)
     last x y e =
         let s : y ≡ suc x = omega (arith, e) in
-        subst (λ z. sum_by f (down_from z) ≡ f z + sum_by f (down_from x)) (sym s) (sum_by-cons f (suc x) (down_from x))
+        subst (λ z. sum_by f (down_from z) ≡ f z + sum_by f (down_from x)) (sym s)
+        (sum_by-cons f (suc x) (down_from x))
 
 beats : (id i n slots : ℕ) (told : List ℕ) → i < 256 → n < 2 ^ 40
-    → Allows Rule slots id (seated i n told, []) i (λ k. (k + 1) % 2 ^ 64) (Beats (step slots i 1 0 none) (seated i n told, []))
+    → Allows Rule slots id (seated i n told, []) i (λ k. (k + 1) % 2 ^ 64)
+    (Beats (step slots i 1 0 none) (seated i n told, []))
 beats id i n slots told lt small s h homes at fits =
     let here : i < length s.words = omega (arith, h.width) in
     let most = bounded s.words s.views i h here in
@@ -207,16 +231,19 @@ beats id i n slots told lt small s h homes at fits =
     let words' = set s.words i (found + 1) in
     let rises = rises_by_one s.words i here in
     let known : All (λ k. k ≤ found) told =
-    All-head (λ (t : Tally). All (λ k. k ≤ slice_index s.words t.worker) t.told) (tally i n told) [] old.told in
+    All-head (λ (t : Tally). All (λ k. k ≤ slice_index s.words t.worker) t.told)
+    (tally i n told) [] old.told in
     let now = get_or-set_same s.words i (found + 1) 0 here in
     let kept = keep s.words words' s.views id v w h at (length-set s.words i (found + 1)) rises refl refl
     (λ k _. sums_rise s.words i n (found + 1) told ((found + 1) ∷ told) here refl k)
     (λ k _ f. told_rises s.words i n (found + 1) told here refl k f)
     record {
       small = one_tally (λ t. t.beats ≤ 2 ^ 40) (tally i (n + 1) ((found + 1) ∷ told)) (omega arith);
-      told = one_tally (λ t. All (λ k. k ≤ slice_index words' t.worker) t.told) (tally i (n + 1) ((found + 1) ∷ told))
+      told = one_tally (λ t. All (λ k. k ≤ slice_index words' t.worker) t.told)
+          (tally i (n + 1) ((found + 1) ∷ told))
           (All-cons (λ k. k ≤ slice_index words' i) (found + 1) told (omega (arith, now))
-          (All-weaker (λ k. k ≤ found) (λ k. k ≤ slice_index words' i) (λ k le. omega (arith, now)) told known));
+          (All-weaker (λ k. k ≤ found) (λ k. k ≤ slice_index words' i)
+          (λ k le. omega (arith, now)) told known));
       seen = All-nil (λ (x : Look). x.beats ≤ slice_index words' x.worker);
     } in (
       w,
@@ -232,18 +259,21 @@ beats id i n slots told lt small s h homes at fits =
       ),
     )
 
-pub beats_as : (id slots : ℕ) (m : Me ℕ View) (i n : ℕ) (told : List ℕ) → m.0 ≡ seated i n told → m.1 ≡ [] → i < 256
+pub beats_as : (id slots : ℕ) (m : Me ℕ View) (i n : ℕ) (told : List ℕ) → m.0 ≡ seated i n told → m.1 ≡ []
+    → i < 256
     → n < 2 ^ 40 → Allows Rule slots id m i (λ k. (k + 1) % 2 ^ 64) (Beats (step slots i 1 0 none) m)
 beats_as id slots m i n told e f lt small =
     subst (λ x. Allows Rule slots id x i (λ k. (k + 1) % 2 ^ 64) (Beats (step slots i 1 0 none) x))
     (both_are m (seated i n told) e f) (beats id i n slots told lt small)
 
 -- a step that leaves the words
-stays : (words : List ℕ) (views : List View) (id i : ℕ) (v w : View) → Counted words views → get_elem? views id ≡ some v
+stays : (words : List ℕ) (views : List View) (id i : ℕ) (v w : View) → Counted words views
+    → get_elem? views id ≡ some v
     → w.tallies ≡ v.tallies → w.made ≡ v.made → AreWithin words w.looks
     → Counted (set words i (slice_index words i)) (set views id w)
 stays words views id i v w h at tallies made seen =
-    subst (λ ws. Counted ws (set views id w)) (sym (set-get_or words i 0)) (learns words views id v w h at tallies made seen)
+    subst (λ ws. Counted ws (set views id w)) (sym (set-get_or words i 0))
+    (learns words views id v w h at tallies made seen)
 
 looks : (id i slots : ℕ) (xs : List Look)
     → Allows Rule slots id (reading xs, []) i (λ n. n) (Looks (step slots i 0 0 none) (reading xs, []))
@@ -258,7 +288,8 @@ looks id i slots xs s h homes at fits =
       (
         refl,
         refl,
-        All-weaker (λ (x : Look). x.beats ≤ slice_index s.words x.worker) (λ (x : Look). x.worker ≡ i → x.beats ≤ n)
+        All-weaker (λ (x : Look). x.beats ≤ slice_index s.words x.worker) (λ (x : Look). x.worker ≡ i
+            → x.beats ≤ n)
             (λ x le e. omega (arith, ap (λ j. slice_index s.words j) e)) xs old,
       ),
     )
@@ -270,7 +301,8 @@ looks_as id slots m i e f =
     (both_are m (reading m.0.looks) e f) (looks id i slots m.0.looks)
 
 turns : (id i slots next made : ℕ)
-    → Allows Rule slots id (making [] [] next made, []) i (λ n. n) (Turns (step slots i 0 0 none) (making [] [] next made, []))
+    → Allows Rule slots id (making [] [] next made, []) i (λ n. n)
+    (Turns (step slots i 0 0 none) (making [] [] next made, []))
 turns id i slots next made s h homes at fits = (
   making [] [] i made,
   keeps,
@@ -287,10 +319,12 @@ turns_as id slots m i next made e f =
     (both_are m (making [] [] next made) e f) (turns id i slots next made)
 
 -- a new view is made by another
-split : (words : List ℕ) (views : List View) (id : ℕ) (v left right : View) → Counted words views → get_elem? views id ≡ some v
+split : (words : List ℕ) (views : List View) (id : ℕ) (v left right : View) → Counted words views
+    → get_elem? views id ≡ some v
     → left.tallies ≡ v.tallies → AreWithin words left.looks
     → ((k : ℕ) → worth k right ≡ 0) → ((k : ℕ) (f : ℕ → ℕ) → told_worth k f right ≡ 0)
-    → ((u : View) → get_elem? (set views id left) 0 ≡ some u → sum_by seats_in views + seats_in right ≡ u.made)
+    → ((u : View) → get_elem? (set views id left) 0 ≡ some u
+    → sum_by seats_in views + seats_in right ≡ u.made)
     → sum_by seats_in views + seats_in right ≤ 4096 → Fits words right
     → Counted words (set views id left ++ right ∷ [])
 split words views id v left right h at tallies seen idle quiet made room theirs =
@@ -332,11 +366,13 @@ split words views id v left right h at tallies seen idle quiet made room theirs 
     place : 0 < length (set views id left)
     place = omega (arith, place_within views id v at, length-set views id left)
 
-    there : (us : List View) → 0 < length us → (u : View) → get_elem? (us ++ right ∷ []) 0 ≡ some u → get_elem? us 0 ≡ some u
+    there : (us : List View) → 0 < length us → (u : View) → get_elem? (us ++ right ∷ []) 0 ≡ some u
+        → get_elem? us 0 ≡ some u
     there [] lt u e = absurd (omega arith)
     there (x ∷ us) lt u e = e
 
-    before : (u : View) → get_elem? (set views id left ++ right ∷ []) 0 ≡ some u → get_elem? (set views id left) 0 ≡ some u
+    before : (u : View) → get_elem? (set views id left ++ right ∷ []) 0 ≡ some u
+        → get_elem? (set views id left) 0 ≡ some u
     before u e = there (set views id left) place u e
 
 seats : (next made : ℕ) → made < 4096
@@ -359,7 +395,8 @@ seats next made lt s h at =
 pub seats_as : (id : ℕ) (v : View) (next made : ℕ) → id ≡ 0 → v ≡ making [] [] next made → made < 4096
     → Splits Rule id v (more v) (seated v.next 0 [])
 seats_as id v next made z e lt =
-    subst (λ (x : ℕ × View). Splits Rule x.0 x.1 (more x.1) (seated x.1.next 0 [])) (λ k. (sym z k, sym e k)) (seats next made lt)
+    subst (λ (x : ℕ × View). Splits Rule x.0 x.1 (more x.1) (seated x.1.next 0 [])) (λ k. (sym z k, sym e k))
+    (seats next made lt)
 
 -- what was seen or told may be known to a reader
 pub readers : (id : ℕ) (v : View) (xs : List Look) → ((words : List ℕ) → Fits words v → AreWithin words xs)
@@ -382,29 +419,34 @@ none_seen words = All-nil (λ (x : Look). x.beats ≤ slice_index words x.worker
 pub told_seen : (words : List ℕ) (v : View) → Fits words v → AreWithin words (shown v.tallies)
 told_seen words v h = of v.tallies h.told
   where
-    of : (ts : List Tally) → All (λ t. All (λ n. n ≤ slice_index words t.worker) t.told) ts → AreWithin words (shown ts)
+    of : (ts : List Tally) → All (λ t. All (λ n. n ≤ slice_index words t.worker) t.told) ts
+        → AreWithin words (shown ts)
     of [] all = none_seen words
     of (t ∷ ts) all =
         All-map (λ (x : Look). x.beats ≤ slice_index words x.worker) (λ n. look t.worker n) t.told
         (All-head (λ (x : Tally). All (λ n. n ≤ slice_index words x.worker) x.told) t ts all)
 
 -- a view takes in what a reader knows
-pub hears : (id : ℕ) (v : View) (other : ℕ) (xs : List Look) → Joins Rule id v other (reading xs) (gathers v (reading xs)) spent
+pub hears : (id : ℕ) (v : View) (other : ℕ) (xs : List Look)
+    → Joins Rule id v other (reading xs) (gathers v (reading xs)) spent
 hears id v other xs s h at apart there =
     let w = gathers v (reading xs) in
     let u = reading xs in
     let was = sym (set_else s.views id other w apart) ∙ there in
-    let seen = All-append (λ (x : Look). x.beats ≤ slice_index s.words x.worker) xs v.looks (h.each other u was).seen
+    let seen = All-append (λ (x : Look). x.beats ≤ slice_index s.words x.worker) xs v.looks
+    (h.each other u was).seen
     (h.each id v at).seen in
     learns s.words (set s.views id w) other u spent
     (learns s.words s.views id v w h at (append-nil v.tallies) refl seen) there refl refl (none_seen s.words)
 
-pub hears_as : (id : ℕ) (v : View) (other : ℕ) (u : View) → u ≡ reading u.looks → Joins Rule id v other u (gathers v u) spent
+pub hears_as : (id : ℕ) (v : View) (other : ℕ) (u : View) → u ≡ reading u.looks
+    → Joins Rule id v other u (gathers v u) spent
 hears_as id v other u e =
     subst (λ x. Joins Rule id v other x (gathers v x) spent) (sym e) (hears id v other u.looks)
 
 joins : (other next made w n : ℕ) (told : List ℕ) (ts : List Tally)
-    → Joins Rule 0 (making ts [] next made) other (seated w n told) (gathers (making ts [] next made) (seated w n told)) spent
+    → Joins Rule 0 (making ts [] next made) other (seated w n told)
+    (gathers (making ts [] next made) (seated w n told)) spent
 joins other next made w n told ts s h at apart there =
     let v = making ts [] next made in
     let u = seated w n told in
@@ -416,7 +458,8 @@ joins other next made w n told ts s h at apart there =
     let theirs = h.each other u (sym was ∙ there) in
     let mine = h.each 0 v at in
     let kept = set_here s.views 0 both (place_within s.views 0 v at) in
-    let first : get_elem? (set views' other spent) 0 ≡ some both = set_else views' other 0 spent (λ e. apart (sym e)) ∙ kept in
+    let first : get_elem? (set views' other spent) 0 ≡ some both =
+    set_else views' other 0 spent (λ e. apart (sym e)) ∙ kept in
     let seats1 = sum_by-set seats_in s.views 0 v both at in
     let seats2 = sum_by-set seats_in views' other u spent there in
     let longer : seats_in both ≡ seats_in v + 1 = length-append ts one in
@@ -425,7 +468,13 @@ joins other next made w n told ts s h at apart there =
       sums = λ k lt.
           let taken = sum_by-set (worth k) s.views 0 v both at in
           let given = sum_by-set (worth k) views' other u spent there in
-          omega (arith, h.sums k lt, taken, given, sum_by-append (λ (t : Tally). cond (t.worker == k) t.beats 0) ts one);
+          omega (
+            arith,
+            h.sums k lt,
+            taken,
+            given,
+            sum_by-append (λ (t : Tally). cond (t.worker == k) t.beats 0) ts one,
+          );
       told = λ k lt f.
           let taken = sum_by-set (told_worth k f) s.views 0 v both at in
           let given = sum_by-set (told_worth k f) views' other u spent there in
@@ -439,7 +488,8 @@ joins other next made w n told ts s h at apart there =
           (λ j x _ e. each_set (Fits words) s.views 0 both (λ i y _ a. h.each i y a)
           record {
             small = All-append (λ (t : Tally). t.beats ≤ 2 ^ 40) ts one mine.small theirs.small;
-            told = All-append (λ (t : Tally). All (λ k. k ≤ slice_index words t.worker) t.told) ts one mine.told theirs.told;
+            told = All-append (λ (t : Tally). All
+                (λ k. k ≤ slice_index words t.worker) t.told) ts one mine.told theirs.told;
             seen = none_seen words;
           }
           j x e)
@@ -450,7 +500,8 @@ joins other next made w n told ts s h at apart there =
           };
     }
 
-pub joins_as : (id : ℕ) (v : View) (other : ℕ) (u : View) (next made w n : ℕ) (told : List ℕ) (ts : List Tally)
+pub joins_as : (id : ℕ) (v : View) (other : ℕ) (u : View) (next made w n : ℕ) (told : List ℕ)
+    (ts : List Tally)
     → id ≡ 0 → v ≡ making ts [] next made → u ≡ seated w n told → Joins Rule id v other u (gathers v u) spent
 joins_as id v other u next made w n told ts z e f =
     subst (λ (x : ℕ × View × View). Joins Rule x.0 x.1 other x.2 (gathers x.1 x.2) spent)
@@ -478,7 +529,8 @@ pub record Gathered (words : List ℕ) (ts : List Tally) (xs : List Look) (made 
   pub told : made ≤ length ts → (k : ℕ) → k < 256 → (f : ℕ → ℕ) → told_of k f ts ≡ up_to f words k
   pub seen : AreWithin words xs
 
-pub gathered : (words : List ℕ) (views : List View) (ts : List Tally) (xs : List Look) (next made : ℕ) → Counted words views
+pub gathered : (words : List ℕ) (views : List View) (ts : List Tally) (xs : List Look) (next made : ℕ)
+    → Counted words views
     → get_elem? views 0 ≡ some (making ts xs next made) → Gathered words ts xs made
 gathered words views ts xs next made h at =
     let v = making ts xs next made in
@@ -486,7 +538,8 @@ gathered words views ts xs next made h at =
       few = omega (arith, h.made v at, has);
       sums = λ le k lt.
           let all : sum_by seats_in views ≡ length ts = omega (arith, h.made v at, has) in
-          h.sums k (omega (arith, h.width)) ∙ sum_alone (worth k) seats_in views (λ i u _ e. no_worth k u e) 0 v at all;
+          h.sums k (omega (arith, h.width))
+          ∙ sum_alone (worth k) seats_in views (λ i u _ e. no_worth k u e) 0 v at all;
       told = λ le k lt f.
           let all : sum_by seats_in views ≡ length ts = omega (arith, h.made v at, has) in
           sym (sum_alone (told_worth k f) seats_in views (λ i u _ e. no_told k f u e) 0 v at all)

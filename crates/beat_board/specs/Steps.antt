@@ -21,7 +21,8 @@ Beats s m n m' =
 -- a look finds at least what was seen of the worker
 abbrev pub Looks : Step ℕ → Me ℕ View → ℕ → Me ℕ View → Type 0
 Looks s m n m' =
-    (m'.0 ≡ reading (look s.word n ∷ m.0.looks)) × (m'.1 ≡ m.1) × All (λ x. x.worker ≡ s.word → x.beats ≤ n) m.0.looks
+    (m'.0 ≡ reading (look s.word n ∷ m.0.looks)) × (m'.1 ≡ m.1)
+    × All (λ x. x.worker ≡ s.word → x.beats ≤ n) m.0.looks
 
 -- the maker turns to a worker, whose seat it makes next
 abbrev pub Turns : Step ℕ → Me ℕ View → ℕ → Me ℕ View → Type 0

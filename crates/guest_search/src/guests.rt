@@ -74,8 +74,7 @@ impl Model for Guests {
     ghost view = { λ g. record {
       is_source = g.is_source.items;
       exits = g.exits.items;
-      inner =
-          g.inner.items;
+      inner = g.inner.items;
       standing = g.standing.items;
     } };
 }
@@ -117,6 +116,7 @@ impl Guests {
         })
     }
 
+    /// Whether a node is one of the sources.
     pub fn is_source(&self, node: usize) -> bool
         requires { node < length self.now.is_source }
         ensures { result ≡ source_at self.now node }

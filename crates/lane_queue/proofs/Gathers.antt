@@ -26,16 +26,20 @@ first v x e p t d =
     let puts = p ∙ sym (append-nil x.puts) in
     let takes = t ∙ sym (append-nil x.takes) in
     let one : (is_alone x.puts [] && is_alone x.takes []) && true ≡ true =
-    ap (λ b. (b && is_alone x.takes []) && true) (alone_none x.puts) ∙ ap (λ b. b && true) (alone_none x.takes) in
+    ap (λ b. (b && is_alone x.takes []) && true) (alone_none x.puts)
+    ∙ ap (λ b. b && true) (alone_none x.takes) in
     e ∙ (λ k. hand (puts k) (takes k) (d k ∷ []) (sym one k))
 
-pub next : (v w : View) (x : PassValue) (cs : List PassValue) → v ≡ hand v.puts v.takes (depth_of v.depths ∷ []) true
-    → v.puts ≡ x.puts → v.takes ≡ x.takes → depth_of v.depths ≡ x.depth → w ≡ gathered cs → both v w ≡ gathered (x ∷ cs)
+pub next : (v w : View) (x : PassValue) (cs : List PassValue)
+    → v ≡ hand v.puts v.takes (depth_of v.depths ∷ []) true
+    → v.puts ≡ x.puts → v.takes ≡ x.takes → depth_of v.depths ≡ x.depth → w ≡ gathered cs
+    → both v w ≡ gathered (x ∷ cs)
 next v w x cs e p t d f =
     let is : v ≡ hand x.puts x.takes (x.depth ∷ []) true = e ∙ (λ k. hand (p k) (t k) (d k ∷ []) true) in
     λ k. both (is k) (f k)
 
-pub moved : (all zs ys cs : List PassValue) (x : PassValue) → all ≡ zs ++ cs → zs ≡ ys ++ x ∷ [] → all ≡ ys ++ x ∷ cs
+pub moved : (all zs ys cs : List PassValue) (x : PassValue) → all ≡ zs ++ cs → zs ≡ ys ++ x ∷ []
+    → all ≡ ys ++ x ∷ cs
 moved all zs ys cs x e f = e ∙ ap (λ l. l ++ cs) f ∙ append_assoc ys (x ∷ []) cs
 
 pub empty_list : {A : Type 0} (xs : List A) → length xs ≡ 0 → xs ≡ []
@@ -43,7 +47,8 @@ empty_list [] e = refl
 empty_list (x ∷ xs) e = absurd (omega arith)
 
 -- what one pass knows
-pub knows : (v : View) (x : PassValue) (items : List Order) → v ≡ hand v.puts v.takes (depth_of v.depths ∷ []) true
+pub knows : (v : View) (x : PassValue) (items : List Order)
+    → v ≡ hand v.puts v.takes (depth_of v.depths ∷ []) true
     → v.puts ≡ x.puts → v.takes ≡ x.takes → depth_of v.depths ≡ x.depth → Totals v items → Knows x items
 knows v x items e p t d s z =
     let is : v ≡ hand x.puts x.takes (x.depth ∷ []) true = e ∙ (λ k. hand (p k) (t k) (d k ∷ []) true) in
@@ -53,7 +58,8 @@ knows v x items e p t d s z =
 abbrev pub further : View → List Order → View
 further v left = hand v.puts (v.takes ++ left) v.depths v.ordered
 
-ends : (v : View) (left items : List Order) → Totals (further v left) items → (IsWhole v.depths → length items ≡ 0) → Totals v left
+ends : (v : View) (left items : List Order) → Totals (further v left) items
+    → (IsWhole v.depths → length items ≡ 0) → Totals v left
 ends v left items t none whole =
     let is : items ≡ [] = empty_list items (none whole) in
     let told = t whole in record {
@@ -73,7 +79,19 @@ ends_full v w left count e len held last =
     let before = (held.2 whole).as_often (λ x. 1) in
     let after = (now whole).as_often (λ x. 1) in
     let longer = length-append v.takes left in
-    omega (arith, before, after, sum_by-one v.puts, sum_by-one v.takes, sum_by-one held.0, sum_by-one last.0, sum_by-one (v.takes ++ left), longer, len, held.1))
+    omega (
+      arith,
+      before,
+      after,
+      sum_by-one v.puts,
+      sum_by-one v.takes,
+      sum_by-one held.0,
+      sum_by-one last.0,
+      sum_by-one (v.takes ++ left),
+      longer,
+      len,
+      held.1,
+    ))
 
 pub begins_further : (v : View) (left : List Order) → left ≡ [] → v ≡ further v left
 begins_further v left e =
@@ -84,4 +102,5 @@ pub takes_further : (v w u : View) (left new : List Order) (x : Order) → w ≡
     → u ≡ hand w.puts (w.takes ++ x ∷ []) w.depths w.ordered → new ≡ left ++ x ∷ [] → u ≡ further v new
 takes_further v w u left new x e f g =
     let takes = append_assoc v.takes left (x ∷ []) ∙ ap (λ l. v.takes ++ l) (sym g) in
-    f ∙ (λ k. hand (e k).puts ((e k).takes ++ x ∷ []) (e k).depths (e k).ordered) ∙ (λ k. hand v.puts (takes k) v.depths v.ordered)
+    f ∙ (λ k. hand (e k).puts ((e k).takes ++ x ∷ []) (e k).depths (e k).ordered)
+    ∙ (λ k. hand v.puts (takes k) v.depths v.ordered)

@@ -18,7 +18,8 @@ use Rattle.lane_queue.proofs.Subs.{sub_longer, sub_both, sub_whole, sub_alone}
 use Rattle.lane_queue.proofs.Parts.{scale, whole_at, no_parts, deeper_sum, deeper_within, within_more, within_both, not_deeper}
 
 -- one order more, at the end of both
-pub puts : (n port : ℕ) (v : View) (x : Order) → 0 < length v.depths → Pushes Balanced n port v x (λ w. w ≡ putting v x)
+pub puts : (n port : ℕ) (v : View) (x : Order) → 0 < length v.depths
+    → Pushes Balanced n port v x (λ w. w ≡ putting v x)
 puts n port v x has items views room h at =
     let w = putting v x in
     let old = h.each port v at in (
@@ -30,7 +31,13 @@ puts n port v x has items views room h at =
         line = ap (λ l. l ++ x ∷ []) h.line ∙ append_assoc h.got items (x ∷ []);
         puts = λ f.
             let changed = sum_by-set (λ (u : View). sum_by f u.puts) views port v w at in
-            omega (arith, h.puts f, changed, sum_by-append f v.puts (x ∷ []), sum_by-append f h.sent (x ∷ []));
+            omega (
+              arith,
+              h.puts f,
+              changed,
+              sum_by-append f v.puts (x ∷ []),
+              sum_by-append f h.sent (x ∷ []),
+            );
         takes = λ f. omega (arith, h.takes f, sum_by-set (λ (u : View). sum_by f u.takes) views port v w at);
         whole = omega (arith, h.whole, sum_by-set (weight h.depth) views port v w at);
         each = each_set (Fits (h.sent ++ x ∷ []) h.got h.depth) views port w
@@ -59,7 +66,13 @@ takes port v has x items views h at =
         puts = λ f. omega (arith, h.puts f, sum_by-set (λ (u : View). sum_by f u.puts) views port v w at);
         takes = λ f.
             let changed = sum_by-set (λ (u : View). sum_by f u.takes) views port v w at in
-            omega (arith, h.takes f, changed, sum_by-append f v.takes (x ∷ []), sum_by-append f h.got (x ∷ []));
+            omega (
+              arith,
+              h.takes f,
+              changed,
+              sum_by-append f v.takes (x ∷ []),
+              sum_by-append f h.got (x ∷ []),
+            );
         whole = omega (arith, h.whole, sum_by-set (weight h.depth) views port v w at);
         each = each_set (Fits h.sent (h.got ++ x ∷ []) h.depth) views port w
             (λ j u _ e.
@@ -78,7 +91,8 @@ takes port v has x items views h at =
 pub totals : (port : ℕ) (v : View) → Learns Balanced port v (Totals v)
 totals port v items views h at w =
     let old = h.each port v at in
-    let all : sum_by (weight h.depth) views ≡ weight h.depth v = h.whole ∙ sym (whole_at h.depth v.depths old.within w) in
+    let all : sum_by (weight h.depth) views ≡ weight h.depth v = h.whole
+    ∙ sym (whole_at h.depth v.depths old.within w) in
     let sent : (f : Order → ℕ) → sum_by f h.sent ≡ sum_by f v.puts =
     λ f. sym (h.puts f) ∙ sum_alone (λ (u : View). sum_by f u.puts) (weight h.depth) views
     (λ j u e none. ap (sum_by f) ((h.each j u e).spent (no_parts h.depth u.depths none)).0) port v at all in
@@ -89,19 +103,23 @@ totals port v items views h at w =
       as_often = λ f. omega (arith, sent f, got f, ap (sum_by f) h.line, sum_by-append f h.got items);
       in_turn = λ o.
           let subs = old.subs o in
-          let p = sub_whole v.puts h.sent subs.0 (omega (arith, sent (λ x. 1), sum_by-one h.sent, sum_by-one v.puts)) in
-          let t = sub_whole v.takes h.got subs.1 (omega (arith, got (λ x. 1), sum_by-one h.got, sum_by-one v.takes)) in
+          let p = sub_whole v.puts h.sent subs.0
+          (omega (arith, sent (λ x. 1), sum_by-one h.sent, sum_by-one v.puts)) in
+          let t = sub_whole v.takes h.got subs.1
+          (omega (arith, got (λ x. 1), sum_by-one h.got, sum_by-one v.takes)) in
           p ∙ h.line ∙ ap (λ l. l ++ items) (sym t);
     }
 
 pub forks : (port : ℕ) (v : View)
-    → Forks Balanced port v (hand v.puts v.takes (deeper v.depths) v.ordered) (hand [] [] (deeper v.depths) true)
+    → Forks Balanced port v (hand v.puts v.takes (deeper v.depths) v.ordered)
+    (hand [] [] (deeper v.depths) true)
 forks port v items views h at =
     let left = hand v.puts v.takes (deeper v.depths) v.ordered in
     let right = hand [] [] (deeper v.depths) true in
     let old = h.each port v at in
     let more = h.depth + 1 in
-    let twice = sum_scaled (weight more) (weight h.depth) (2 ^ 1) views (λ j u e. scale h.depth 1 u.depths (h.each j u e).within) in
+    let twice = sum_scaled (weight more) (weight h.depth) (2 ^ 1) views
+    (λ j u e. scale h.depth 1 u.depths (h.each j u e).within) in
     let mine = scale h.depth 1 v.depths old.within in
     let half = deeper_sum h.depth v.depths in
     let power : 2 ^ more ≡ 2 ^ h.depth * 2 = pow-add 2 h.depth 1 in
@@ -113,10 +131,20 @@ forks port v items views h at =
       line = h.line;
       puts = λ f.
           let s = λ (u : View). sum_by f u.puts in
-          omega (arith, h.puts f, sum_by-set s views port v left at, sum_by-append s (set views port left) (right ∷ []));
+          omega (
+            arith,
+            h.puts f,
+            sum_by-set s views port v left at,
+            sum_by-append s (set views port left) (right ∷ []),
+          );
       takes = λ f.
           let s = λ (u : View). sum_by f u.takes in
-          omega (arith, h.takes f, sum_by-set s views port v left at, sum_by-append s (set views port left) (right ∷ []));
+          omega (
+            arith,
+            h.takes f,
+            sum_by-set s views port v left at,
+            sum_by-append s (set views port left) (right ∷ []),
+          );
       whole =
           let changed = sum_by-set (weight more) views port v left at in
           let added = sum_by-append (weight more) (set views port left) (right ∷ []) in
@@ -138,15 +166,18 @@ none_both : {A : Type 0} (xs ys : List A) → xs ++ ys ≡ [] → (xs ≡ []) ×
 none_both [] ys e = (refl, e)
 none_both (x ∷ xs) ys e = absurd (cc e)
 
-joined : (sent got : List Order) (depth : ℕ) (v w : View) → Fits sent got depth v → Fits sent got depth w → Fits sent got depth (both v w)
+joined : (sent got : List Order) (depth : ℕ) (v w : View) → Fits sent got depth v → Fits sent got depth w
+    → Fits sent got depth (both v w)
 joined sent got depth v w a b = record {
   subs = λ o.
       let both = and_both (is_alone v.puts w.puts && is_alone v.takes w.takes) (v.ordered && w.ordered) o in
       let apart = and_both (is_alone v.puts w.puts) (is_alone v.takes w.takes) both.0 in
       let in_order = and_both v.ordered w.ordered both.1 in
       let here = a.subs in_order.0 in
-      let there = b.subs in_order.1 in
-      (sub_alone v.puts w.puts sent apart.0 here.0 there.0, sub_alone v.takes w.takes got apart.1 here.1 there.1);
+      let there = b.subs in_order.1 in (
+        sub_alone v.puts w.puts sent apart.0 here.0 there.0,
+        sub_alone v.takes w.takes got apart.1 here.1 there.1,
+      );
   within = within_both depth v.depths w.depths a.within b.within;
   spent = λ e.
       let none = none_both v.depths w.depths e in
@@ -155,7 +186,8 @@ joined sent got depth v w a b = record {
       ((λ k. p.0 k ++ q.0 k), (λ k. p.1 k ++ q.1 k));
 }
 
-pub merges : (port : ℕ) (v : View) (other : ℕ) (w : View) → Merges Balanced port v other w (both v w) (hand [] [] [] true)
+pub merges : (port : ℕ) (v : View) (other : ℕ) (w : View)
+    → Merges Balanced port v other w (both v w) (hand [] [] [] true)
 merges port v other w items views h at apart there =
     let u = both v w in
     let spent = hand [] [] [] true in
@@ -172,11 +204,23 @@ merges port v other w items views h at apart there =
       puts = λ f.
           let s = λ (x : View). sum_by f x.puts in
           let taken = sum_by-set s views port v u at in
-          omega (arith, h.puts f, taken, sum_by-set s views' other w spent there, sum_by-append f v.puts w.puts);
+          omega (
+            arith,
+            h.puts f,
+            taken,
+            sum_by-set s views' other w spent there,
+            sum_by-append f v.puts w.puts,
+          );
       takes = λ f.
           let s = λ (x : View). sum_by f x.takes in
           let taken = sum_by-set s views port v u at in
-          omega (arith, h.takes f, taken, sum_by-set s views' other w spent there, sum_by-append f v.takes w.takes);
+          omega (
+            arith,
+            h.takes f,
+            taken,
+            sum_by-set s views' other w spent there,
+            sum_by-append f v.takes w.takes,
+          );
       whole =
           let taken = sum_by-set (weight h.depth) views port v u at in
           let given = sum_by-set (weight h.depth) views' other w spent there in

@@ -24,7 +24,8 @@ cancel : (n x y : ℕ) → 0 < n → n * x ≡ n * y → x ≡ y
 cancel n x y pos e = sym (mul-div_cancel_left x pos) ∙ ap (λ z. z / n) e ∙ mul-div_cancel_left y pos
 
 -- parts that make up the whole do so however they are counted
-pub whole_at : (depth : ℕ) (ds : List ℕ) → AreWithin depth ds → IsWhole ds → sum_by (λ d. 2 ^ (depth - d)) ds ≡ 2 ^ depth
+pub whole_at : (depth : ℕ) (ds : List ℕ) → AreWithin depth ds → IsWhole ds
+    → sum_by (λ d. 2 ^ (depth - d)) ds ≡ 2 ^ depth
 whole_at depth ds within w =
     let a = scale w.most depth ds w.within in
     let b = scale depth w.most ds within in
@@ -42,7 +43,8 @@ no_parts most (d ∷ ds) e =
     absurd (omega (arith, sum_by-cons (λ x. 2 ^ (most - x)) d ds))
 
 -- each halved, and counted in halves
-pub deeper_sum : (most : ℕ) (ds : List ℕ) → sum_by (λ d. 2 ^ (most + 1 - d)) (deeper ds) ≡ sum_by (λ d. 2 ^ (most - d)) ds
+pub deeper_sum : (most : ℕ) (ds : List ℕ)
+    → sum_by (λ d. 2 ^ (most + 1 - d)) (deeper ds) ≡ sum_by (λ d. 2 ^ (most - d)) ds
 deeper_sum most [] = refl
 deeper_sum most (d ∷ ds) =
     let same : most + 1 - (d + 1) ≡ most - d = omega arith in
@@ -58,7 +60,8 @@ pub within_more : (most : ℕ) (ds : List ℕ) → AreWithin most ds → AreWith
 within_more most [] h = tt
 within_more most (d ∷ ds) h = let le = h.0 in (omega arith, within_more most ds h.1)
 
-pub within_both : (most : ℕ) (ds es : List ℕ) → AreWithin most ds → AreWithin most es → AreWithin most (ds ++ es)
+pub within_both : (most : ℕ) (ds es : List ℕ) → AreWithin most ds → AreWithin most es
+    → AreWithin most (ds ++ es)
 within_both most [] es h k = k
 within_both most (d ∷ ds) es h k = (h.0, within_both most ds es h.1 k)
 

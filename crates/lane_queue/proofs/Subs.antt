@@ -48,7 +48,8 @@ sub_whole (x ∷ xs) (y ∷ ys) h le = ⊎_elim
     h
 
 -- of two lists, one of which is empty
-pub sub_alone : (xs ys zs : List Order) → is_alone xs ys ≡ true → IsSub xs zs → IsSub ys zs → IsSub (xs ++ ys) zs
+pub sub_alone : (xs ys zs : List Order) → is_alone xs ys ≡ true → IsSub xs zs → IsSub ys zs
+    → IsSub (xs ++ ys) zs
 sub_alone [] ys zs a h k = k
 sub_alone (x ∷ xs) [] zs a h k = subst (λ l. IsSub l zs) (sym (append-nil (x ∷ xs))) h
 sub_alone (x ∷ xs) (y ∷ ys) zs a h k = absurd cc

@@ -14,7 +14,8 @@ use Rattle.beat_board.proofs.board.gather_readers.Goals as goal
 pub join_seat-requires : goal.join_seat-requires
 join_seat-requires c =
     let i = c.loop-reader.invariant in
-    let last = all_but_last (λ (x : ReaderValue). x.board ≡ c.args.shared.now.table_id) _ _ _ c.in-Some.ensures.items i.5 in (
+    let last = all_but_last
+    (λ (x : ReaderValue). x.board ≡ c.args.shared.now.table_id) _ _ _ c.in-Some.ensures.items i.5 in (
       i.0 ∙ c.requires.board.0,
       ap (λ x. x.board) c.reader.view_is ∙ last.1,
       c.reader.invariant.0,
@@ -46,6 +47,8 @@ loop-reader-preserved c =
 
 pub returns-clause-looks : goal.returns-clause-looks
 returns-clause-looks c = λ words within.
-    let none = none_left c.loop-reader.readers.items (omega (arith, c.loop-reader.readers.ok.0, c.in_default.ensures.cases.0)) in
+    let none = none_left c.loop-reader.readers.items
+    (omega (arith, c.loop-reader.readers.ok.0, c.in_default.ensures.cases.0)) in
     c.loop-reader.invariant.4 words within
-    (subst (All (λ (r : ReaderValue). AreWithin words r.looks)) (sym none) (All-nil (λ (r : ReaderValue). AreWithin words r.looks)))
+    (subst (All (λ (r : ReaderValue). AreWithin words r.looks)) (sym none)
+    (All-nil (λ (r : ReaderValue). AreWithin words r.looks)))

@@ -11,7 +11,8 @@ use Rattle.beat_board.proofs.board.gather_seats.Goals as goal
 pub join_seat-requires : goal.join_seat-requires
 join_seat-requires c =
     let i = c.loop-seat.invariant in
-    let last = all_but_last (λ (x : SeatValue). x.board ≡ c.args.shared.now.table_id) _ _ _ c.in-Some.ensures.items i.7 in (
+    let last = all_but_last
+    (λ (x : SeatValue). x.board ≡ c.args.shared.now.table_id) _ _ _ c.in-Some.ensures.items i.7 in (
       i.0 ∙ c.requires.board.0,
       ap (λ x. x.board) c.seat.view_is ∙ last.1,
       c.seat.invariant.0,
@@ -31,7 +32,8 @@ loop-seat-preserved c =
     let new = c.join_seat.new.seat.me.0 in
     let now : new ≡ gathers old (seated s.worker s.beats told) =
     ap (λ m. m.0) j.2 ∙ ap (λ (v : View). gathers old v) c.seat.invariant.1 in
-    let longer = ap (λ (v : View). length v.tallies) now ∙ length-append old.tallies (tally s.worker s.beats told ∷ []) in
+    let longer = ap (λ (v : View). length v.tallies) now
+    ∙ length-append old.tallies (tally s.worker s.beats told ∷ []) in
     let shorter = ap length items ∙ length-append c.pop.new.self.items (c.in-Some.seat ∷ []) in
     let is = c.seat.view_is in
     let x = c.in-Some.seat in
@@ -42,8 +44,10 @@ loop-seat-preserved c =
       ap (λ m. m.1) j.2 ∙ i.2,
       remade _ _ _ _ _ (now ∙ ap (λ (v : View). gathers v (seated s.worker s.beats told)) i.3) refl,
       omega (arith, longer, shorter, i.4),
-      λ w. more_beats w old new s.worker s.beats told x left had now (ap (λ y. y.worker) is) (ap (λ y. y.beats) is) items ∙ i.5 w,
+      λ w. more_beats w old new s.worker s.beats told x left had now (ap (λ y. y.worker) is)
+          (ap (λ y. y.beats) is) items ∙ i.5 w,
       λ w f.
-          more_told w f old new s.worker s.beats told x left had now (ap (λ y. y.worker) is) (ap (λ y. y.told) is) items ∙ i.6 w f,
+          more_told w f old new s.worker s.beats told x left had now (ap (λ y. y.worker) is)
+          (ap (λ y. y.told) is) items ∙ i.6 w f,
       last.0,
     )

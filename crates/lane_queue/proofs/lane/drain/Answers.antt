@@ -19,12 +19,15 @@ loop-init g c =
     )
 
 pub pop_as-requires-clause-rule : goal.pop_as-requires-clause-rule
-pop_as-requires-clause-rule g c =
-    (takes _ _ (omega (arith, c.requires.pass.1, ap (λ (v : View). length v.depths) c.loop.invariant.1)), totals _ _)
+pop_as-requires-clause-rule g c = (
+  takes _ _ (omega (arith, c.requires.pass.1, ap (λ (v : View). length v.depths) c.loop.invariant.1)),
+  totals _ _,
+)
 
 pub returns-in-None-clause-totals : goal.returns-in-None-clause-totals
 returns-in-None-clause-totals g c =
-    ends_empty (view c.args.token) (view c.loop.token) c.loop.left.items c.loop.invariant.1 c.in-None.ensures.rule.1
+    ends_empty (view c.args.token)
+    (view c.loop.token) c.loop.left.items c.loop.invariant.1 c.in-None.ensures.rule.1
 
 pub loop-preserved : goal.loop-preserved
 loop-preserved g c =
@@ -32,7 +35,8 @@ loop-preserved g c =
     let q = c.pop_as.ensures.queue in
     let pushed = c.push_reserved in (
       (q.0 ∙ i.0.0, q.2 ∙ i.0.1),
-      takes_further (view c.args.token) (view c.loop.token) (view c.pop_as.new.pass) c.loop.left.items pushed.new.self.items c.in-Some.order
+      takes_further (view c.args.token) (view c.loop.token)
+          (view c.pop_as.new.pass) c.loop.left.items pushed.new.self.items c.in-Some.order
           i.1 c.in-Some.ensures.rule pushed.ensures.items,
       omega (arith, i.2, pushed.ensures.capacity),
       omega (arith, i.3, pushed.ensures.len),
@@ -46,4 +50,9 @@ pub returns-clause-totals : goal.returns-clause-totals
 returns-clause-totals g c =
     let i = c.loop.invariant in
     ends_full (view c.args.token) (view c.loop.token) c.loop.left.items c.len_as-count.result i.1
-    (omega (arith, i.3, c.loop.left.ok.0, c.loop.auto.counter-end)) c.len_as-count.ensures.rule.1 c.learn_as.ensures.rule
+    (omega (
+      arith,
+      i.3,
+      c.loop.left.ok.0,
+      c.loop.auto.counter-end,
+    )) c.len_as-count.ensures.rule.1 c.learn_as.ensures.rule

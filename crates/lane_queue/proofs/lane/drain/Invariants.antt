@@ -6,5 +6,6 @@ use Rattle.lane_queue.proofs.lane.drain.Given as goal
 abbrev pub invariant-loop : goal.invariant-loop
 invariant-loop g l =
     let was = view l.fn.token in
-    IsPassOf l.queue l.token × (view l.token ≡ hand was.puts (was.takes ++ l.left.items) was.depths was.ordered)
+    IsPassOf l.queue l.token
+    × (view l.token ≡ hand was.puts (was.takes ++ l.left.items) was.depths was.ordered)
     × (l.count ≤ vec_capacity l.left) × (vec_len l.left ≡ l.counter) × (l.count ≤ ruled_capacity l.queue)

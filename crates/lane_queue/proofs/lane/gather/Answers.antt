@@ -21,7 +21,8 @@ loop-pass-init c =
     let is = c.token.view_is in
     let of_lane = λ (x : PassValue). x.lane ≡ c.args.queue.now.table.shared.table_id in
     let last = all_but_last of_lane _ _ _ c.in_ok-token.ensures.items c.requires in
-    let known = first _ x c.token.invariant.1 (ap (λ p. p.puts) is) (ap (λ p. p.takes) is) (ap (λ p. p.depth) is) in (
+    let known = first _ x c.token.invariant.1 (ap (λ p. p.puts) is) (ap (λ p. p.takes) is)
+    (ap (λ p. p.depth) is) in (
       (ap (λ p. p.lane) is ∙ last.1, c.token.invariant.0),
       last.0,
       (x ∷ [], c.in_ok-token.ensures.items, omega arith, known),
@@ -36,7 +37,8 @@ loop-pass-preserved c =
     let last = all_but_last of_lane _ _ _ c.in-Some.ensures.items i.1 in
     let q = c.absorb.ensures.queue in
     let more : 0 < length (depths_of (x ∷ i.2.0)) = omega arith in
-    let known = next _ _ x i.2.0 c.pass.invariant.1 (ap (λ p. p.puts) is) (ap (λ p. p.takes) is) (ap (λ p. p.depth) is) i.2.3 in (
+    let known = next _ _ x i.2.0 c.pass.invariant.1 (ap (λ p. p.puts) is) (ap (λ p. p.takes) is)
+    (ap (λ p. p.depth) is) i.2.3 in (
       (q.0 ∙ ap (λ p. p.lane) is ∙ last.1, q.2 ∙ c.pass.invariant.0),
       last.0,
       (
@@ -51,6 +53,7 @@ pub returns : goal.returns
 returns c =
     let i = c.loop-pass.invariant in
     let none : c.loop-pass.passes.items ≡ [] =
-    empty_list c.loop-pass.passes.items (omega (arith, c.loop-pass.passes.ok.0, c.in_default.ensures.cases.0)) in
+    empty_list c.loop-pass.passes.items
+    (omega (arith, c.loop-pass.passes.ok.0, c.in_default.ensures.cases.0)) in
     let all : i.2.0 ≡ c.args.passes.items = sym (i.2.1 ∙ ap (λ (l : List PassValue). l ++ i.2.0) none) in
     (i.0, subst (λ l. 0 < length (depths_of l)) all i.2.2, i.2.3 ∙ ap gathered all)

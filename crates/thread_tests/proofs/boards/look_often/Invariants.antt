@@ -4,4 +4,5 @@ use Rattle.beat_board.specs.Values.{last_seen}
 use Rattle.thread_tests.proofs.boards.look_often.Given as goal
 
 abbrev pub invariant-loop : goal.invariant-loop
-invariant-loop l = (l.reader.board ≡ l.board.board) × IsTrue l.rose × (l.last ≡ last_seen l.worker l.reader.looks)
+invariant-loop l = (l.reader.board ≡ l.board.board) × IsTrue l.rose
+    × (l.last ≡ last_seen l.worker l.reader.looks)

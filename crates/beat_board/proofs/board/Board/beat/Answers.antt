@@ -10,7 +10,8 @@ fetch_add-found-requires c =
     let room = c.if-seat-ge-MAX_BEATS.false in (
       ap (λ x. x.board) c.seat.view_is ∙ c.requires ∙ sym (ap (λ x. x.board) c.self.view_is),
       omega (arith, c.seat.invariant.3, c.self.invariant.0),
-      beats_as _ _ s.token.me s.worker s.beats (answers s.token.me.0.tallies) c.seat.invariant.1 c.seat.invariant.0
+      beats_as _ _ s.token.me s.worker s.beats
+          (answers s.token.me.0.tallies) c.seat.invariant.1 c.seat.invariant.0
           c.seat.invariant.3 room,
     )
 

@@ -9,7 +9,13 @@ pub load-requires : goal.load-requires
 load-requires c =
     let r = c.reader.inside in
     let small : c.index.result < 256 =
-    omega (arith, c.index.ensures.value, c.requires.worker, ap (λ x. x.workers) c.self.view_is, c.self.invariant.2) in (
+    omega (
+      arith,
+      c.index.ensures.value,
+      c.requires.worker,
+      ap (λ x. x.workers) c.self.view_is,
+      c.self.invariant.2,
+    ) in (
       ap (λ x. x.board) c.reader.view_is ∙ c.requires.board ∙ sym (ap (λ x. x.board) c.self.view_is),
       omega (arith, c.self.invariant.0, small),
       looks_as _ _ r.token.me _ c.reader.invariant.1 c.reader.invariant.0,
@@ -20,7 +26,8 @@ returns-clause-above c =
     let n = c.load.result in
     let seen = subst (λ k. All (λ (x : Look). x.worker ≡ k → x.beats ≤ n) c.reader.inside.token.me.0.looks)
     c.index.ensures.value c.load.ensures.2.2 in
-    subst (λ xs. All (λ (x : Look). x.worker ≡ c.args.worker → x.beats ≤ n) xs) (ap (λ r. r.looks) c.reader.view_is) seen
+    subst (λ xs. All (λ (x : Look). x.worker ≡ c.args.worker → x.beats ≤ n) xs)
+    (ap (λ r. r.looks) c.reader.view_is) seen
 
 pub returns-clause-rises : goal.returns-clause-rises
 returns-clause-rises c =

@@ -10,7 +10,8 @@ split_seat-told-requires c =
     let s = c.seat.inside in (
       ap (λ x. x.board) c.seat.view_is ∙ c.requires.seat ∙ sym (ap (λ x. x.board) c.self.view_is),
       omega (arith, c.self.invariant.0),
-      readers s.token.id s.token.me.0 (shown s.token.me.0.tallies) (λ words h. told_seen words s.token.me.0 h),
+      readers s.token.id s.token.me.0 (shown s.token.me.0.tallies)
+          (λ words h. told_seen words s.token.me.0 h),
     )
 
 pub join_seat-requires : goal.join_seat-requires

@@ -16,6 +16,7 @@ returns-clause-full g c =
       | in-Ok w ↦ rw w.result-is tt
       | in-Err w ↦
           let told = w.in-Err.ensures.rule.2 in
-          let known = knows _ c.args.pass.now told.0 c.pass.invariant.1 (ap (λ p. p.puts) is) (ap (λ p. p.takes) is) (ap (λ p. p.depth) is) told.2 in
+          let known = knows _ c.args.pass.now told.0 c.pass.invariant.1 (ap (λ p. p.puts) is)
+          (ap (λ p. p.takes) is) (ap (λ p. p.depth) is) told.2 in
           rw w.result-is (told.0, told.1 ∙ ap (λ l. l.capacity) c.self.view_is, known)
     ]
