@@ -39,6 +39,7 @@ use Rattle.master_core.specs.Places.{RunsPart, RunsSplit}
 use Rattle.master_core.specs.Slots.{AreTaken, with_slots_given}
 use Rattle.master_core.proofs.Accepting.{accepted, counted_from, one_more}
 use Rattle.master_core.proofs.Ended.{no_reason}
+use Rattle.master_core.proofs.Failing.{parts_are, tables_are}
 use Rattle.master_core.proofs.Showing.{shown-updated}
 
 -- the attempt that has the number a, on the worker that its start tells
@@ -181,11 +182,6 @@ pub second_reason : (x y : Bool) → x ≡ false → y ≡ true →
     first_of ((x, WrongInput) ∷ (y, HistoryFull) ∷ []) ≡ Some HistoryFull
 second_reason x y e f = rw (e, f) refl
 
-splits_are : (s : State) (workers now : Workers) (splits shown : List SplitState) → workers ≡ now →
-    splits ≡ shown →
-    record s { workers = workers; splits = splits } ≡ record s { workers = now; splits = shown }
-splits_are s workers now splits shown same_workers same_splits = rw (same_workers, same_splits) refl
-
 pub done_accepted : (old new : Inside) (a split w place : ℕ) (entry : SplitEntry) (result : MapView) →
     IsMaster old → RunsSplit (state_of old) a split w → no_split_runs (state_of old) a ≡ false →
     is_wrong_map (setup_of old) split result ≡ false → is_full (setup_of old) (state_of old) ≡ false →
@@ -207,7 +203,7 @@ done_accepted old new a split w place entry result was run runs right free at se
     let given : with_slots_given s.workers (attempts_of (split_at s split)) ≡ new.workers =
     sym (workers ∙ ap (λ (state : SplitState). with_slots_given old.workers (attempts_of state)) at) in
     let changed = done_is (setup_of old) s a split w was.kept.tidy run
-    ∙ splits_are s _ new.workers _ (map shown_as new.splits.items) given shown in
+    ∙ tables_are s _ new.workers _ (map shown_as new.splits.items) given shown in
     let leads = same ∙ counted_from (with_map_done s a)
     (record s { workers = new.workers; splits = map shown_as new.splits.items }) (length new.history.items)
     changed (one_more old.history.items new.history.items (event_of s (MapDone a result)) history) in
@@ -216,11 +212,6 @@ done_accepted old new a split w place entry result was run runs right free at se
     ∙ no_reason (is_wrong_map (setup_of old) split result) (is_full (setup_of old) s) WrongInput HistoryFull
     right free) setup history leads
     (results ∙ sym (append-nil old.results.items)) place_is
-
-parts_are : (s : State) (workers now : Workers) (parts ended : List PartState) → workers ≡ now →
-    parts ≡ ended →
-    record s { workers = workers; parts = parts } ≡ record s { workers = now; parts = ended }
-parts_are s workers now parts ended same_workers same_parts = rw (same_workers, same_parts) refl
 
 pub part_done_accepted : (old new : Inside) (a r w place : ℕ) (result : PartView) →
     IsMaster old → RunsPart (state_of old) a r w → no_part_runs (state_of old) a ≡ false →

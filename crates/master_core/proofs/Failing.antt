@@ -23,7 +23,7 @@ use Rattle.master_core.proofs.Ended.{failed_is, ended_is, part_ended_is, split_t
 use Rattle.master_state.proofs.Places.{no_split_is, no_part_is}
 use Rattle.master_state.specs.Tests.{runs}
 
-tables_are : (s : State) (workers now : Workers) (splits shown : List SplitState) → workers ≡ now →
+pub tables_are : (s : State) (workers now : Workers) (splits shown : List SplitState) → workers ≡ now →
     splits ≡ shown → record s { workers = workers; splits = splits } ≡ record s {
       workers = now;
       splits =
@@ -68,7 +68,7 @@ failed_accepted old new a split w place was run runs free setup workers splits s
     history leads
     (results ∙ sym (append-nil old.results.items)) place_is
 
-parts_are : (s : State) (workers now : Workers) (parts shown : List PartState) → workers ≡ now →
+pub parts_are : (s : State) (workers now : Workers) (parts shown : List PartState) → workers ≡ now →
     parts ≡ shown → record s { workers = workers; parts = parts } ≡ record s { workers = now; parts = shown }
 parts_are s workers now parts shown same_workers same_parts = rw (same_workers, same_parts) refl
 
