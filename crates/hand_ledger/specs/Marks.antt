@@ -1,5 +1,5 @@
 -- What has been found at each place.
-use Rattle.std.specs.Prelude.{ℕ, ◌≡◌, ◌+◌, ◌<◌, ◌≤◌, ◌==◌, ◌&&◌, nat_le, Bool, true, List, [], length, filter, if◌then◌else◌, slice_index_or}
+use Rattle.std.specs.Prelude.{ℕ, ◌≡◌, ◌+◌, ◌<◌, ◌≤◌, ◌==◌, ◌&&◌, nat_le, Bool, true, List, [], length, Option, Some, None, if◌then◌else◌, slice_index_or}
 use Rattle.hand_ledger.specs.declared.marks.Found.{Found}
 use Rattle.hand_ledger.specs.declared.marks.Found.TheVariants.{Nowhere, Once, Wrong}
 use Rattle.hand_ledger.specs.declared.marks.TheConstants.{PLACES}
@@ -28,6 +28,16 @@ abbrev pub wanted : ℕ → ℕ → Found
 wanted events place = if nat_le 1 place && nat_le place events then Once else Nowhere
 
 -- it was found, and after the last event all notes are true
-pub record IsRight (events : ℕ) (notes : Bool) (found : List Found) (place : ℕ) : Type 0 where
-  pub seen : (d : Found) → slice_index_or found place d ≡ wanted events place
+pub record IsWanted (events : ℕ) (notes : Bool) (found : Found) (place : ℕ) : Type 0 where
+  pub seen : found ≡ wanted events place
   pub noted : place ≡ events + 1 → notes ≡ true
+
+abbrev pub IsRight : ℕ → Bool → List Found → ℕ → Type 0
+IsRight events notes found place = (d : Found) → IsWanted events notes (slice_index_or found place d) place
+
+-- the first place at which it is not right, if there is one
+abbrev pub IsFirstWrong : ℕ → Bool → List Found → Option ℕ → Type 0
+IsFirstWrong events notes found None = (place : ℕ) → place < PLACES → IsRight events notes found place
+IsFirstWrong events notes found (Some torn) =
+    (torn < PLACES) × (IsRight events notes found torn → ⊥)
+    × ((place : ℕ) → place < torn → IsRight events notes found place)

@@ -1,7 +1,7 @@
-ghost use Rattle.std.specs.Prelude.{◌≡◌, ℕ, ◌+◌, ◌<◌, ◌≤◌, ◌↔◌, List, [], ◌∷◌, ◌++◌, length, All, IsTrue, MatchOption};
+ghost use Rattle.std.specs.Prelude.{◌≡◌, ℕ, ◌+◌, ◌<◌, ◌≤◌, ◌↔◌, List, [], ◌∷◌, ◌++◌, length, All, IsTrue};
 ghost use Rattle.hand_ledger.specs.Hands.{Kept};
 ghost use Rattle.hand_ledger.specs.Inside.{calls_of, counts_taken, starts_taken, IsPlace};
-ghost use Rattle.hand_ledger.specs.Marks.{found_more, IsRight, Marks, wanted};
+ghost use Rattle.hand_ledger.specs.Marks.{found_more, IsFirstWrong, IsWanted, Marks, wanted};
 ghost use Rattle.hand_ledger.specs.Settling.{call_at, LogValue};
 ghost use Rattle.hand_ledger.specs.declared.marks.TheConstants.{PLACES};
 
@@ -89,18 +89,31 @@ fn wanted(events: usize, place: usize) -> Found
 pub(crate) fn first_wrong(events: usize, notes: bool, found: &[Found]) -> Option<u32>
     requires size { length found.now ≡ PLACES }
     requires few { events ≤ 65536 }
-    ensures { MatchOption result
-        ((place : ℕ) → place < PLACES → IsRight events notes found.now place)
-        (λ torn. (torn < PLACES) × (IsRight events notes found.now torn → ⊥)
-            × ((place : ℕ) → place < torn → IsRight events notes found.now place)) }
+    ensures { IsFirstWrong events notes found.now result }
 {
     for place in 0..PLACES {
-        if found[place] != wanted(events, place) {
-            return Some(place as u32);
-        }
-        if place == events + 1 && !notes {
+        if !is_right(events, notes, found[place], place) {
             return Some(place as u32);
         }
     }
     None
+}
+
+// Whether it is what is wanted at the place.
+fn is_right(events: usize, notes: bool, found: Found, place: usize) -> bool
+    requires { events ≤ 65536 }
+    ensures { IsTrue result ↔ IsWanted events notes found place }
+{
+    if place == events + 1 && !notes {
+        return false;
+    }
+    found == wanted(events, place)
+}
+
+// A table in which nothing was found.
+pub(crate) fn nothing_found() -> [Found; PLACES]
+    ensures size { length result ≡ PLACES }
+    ensures marks { (log : LogValue) → Marks log [] result }
+{
+    [Found::Nowhere; PLACES]
 }

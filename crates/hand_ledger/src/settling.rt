@@ -3,7 +3,7 @@ ghost use Rattle.hand_ledger.specs.Settling.{AreTrue, IsLowestTorn};
 
 use crate::hands::Hand;
 use crate::logs::Log;
-use crate::marks::{Found, PLACES, first_wrong};
+use crate::marks::{first_wrong, nothing_found};
 use std::sync::ledger::Ledger;
 
 /// The lowest place at which a log and hands disagree, or after the last event a note of a hand is not true.
@@ -12,7 +12,7 @@ pub fn torn_place<L: Ledger>(log: &Log<'_>, is_short: bool, hands: &[Hand<L>]) -
     requires { length log.now.history ≤ 65536 }
     ensures { IsLowestTorn log.now is_short hands.now result }
 {
-    let mut found = [Found::Nowhere; PLACES];
+    let mut found = nothing_found();
     for hand in hands {
         hand.mark(log, &mut found);
     }
