@@ -1,4 +1,4 @@
-ghost use Rattle.std.specs.Prelude.{◌≡◌, ◌<◌, [], length, not, is_some, IfOk, IfSome, Some, slice_get};
+ghost use Rattle.std.specs.Prelude.{◌≡◌, ◌<◌, ◌≤◌, [], length, not, is_some, IfOk, IfSome, Some, slice_get};
 ghost use Rattle.master_state.specs.States.{AreSmall, opening, start_of};
 ghost use Rattle.master_state.specs.Refusals.{Call, IsKnown, is_full, no_part_runs, no_split_runs, refusal};
 ghost use Rattle.master_state.specs.Jobs.{AreResults, Answers, IsKept};
@@ -98,6 +98,28 @@ impl Master {
         ensures kept { IsKept self.now }
     {
         &self.history
+    }
+
+    /// How many events were accepted.
+    pub fn events(&self) -> u32
+        ensures count { result ≡ length self.now.history }
+        ensures limit { result ≤ 65536 }
+    {
+        self.history.len() as u32
+    }
+
+    /// The start of every attempt, the first one first.
+    pub fn starts(&self) -> &[Start]
+        ensures { result.now ≡ self.now.state.starts }
+    {
+        &self.starts
+    }
+
+    /// The counts of every sweep, the first one first.
+    pub fn sweeps(&self) -> &[[u64; 256]]
+        ensures { result.now ≡ self.now.state.sweeps }
+    {
+        &self.sweeps
     }
 
     /// What an attempt was started for, and where, if it was.
