@@ -103,6 +103,7 @@ impl Master {
     /// How many events were accepted.
     pub fn events(&self) -> u32
         ensures count { result ≡ length self.now.history }
+        ensures state { result ≡ self.now.state.events }
         ensures limit { result ≤ 65536 }
     {
         self.history.len() as u32

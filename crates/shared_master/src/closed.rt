@@ -78,10 +78,16 @@ impl<L: Ledger> Closed<L> {
         let events = self.master.events();
         let starts = self.master.starts().len() as u64;
         let splits = self.master.cluster().splits().len() as u64;
-        events >= limits.events
-            || self.master.sweeps().len() as u64 >= limits.sweeps as u64
-            || starts + 1 > limits.attempts as u64
-            || starts + splits > limits.attempts as u64
+        if events >= limits.events {
+            return true;
+        }
+        if self.master.sweeps().len() as u64 >= limits.sweeps as u64 {
+            return true;
+        }
+        if starts + 1 > limits.attempts as u64 {
+            return true;
+        }
+        starts + splits > limits.attempts as u64
     }
 }
 

@@ -1,6 +1,7 @@
 ghost use Rattle.std.specs.Prelude.{◌≡◌, ◌<◌, [], true, false, length, IfOk};
 ghost use Rattle.master_state.specs.declared.events.Event.{Event};
-ghost use Rattle.shared_master.specs.Steps.{IsKeptAs};
+ghost use Rattle.shared_master.specs.Steps.{IsKeptAs, IsKnownTo};
+ghost use Rattle.master_state.specs.Refusals.{Call};
 
 use crate::closed::Closed;
 use crate::held::Held;
@@ -8,7 +9,7 @@ use crate::sizes::Sizes;
 use hand_ledger::Hand;
 use master_core::Master;
 use master_state::{Answer, Event, Limits};
-use node_ids::{SplitNo, WorkerNo};
+use node_ids::{AttemptNo, SplitNo, SplitSet, WorkerNo};
 use std::alloc::Global;
 use std::marker::Model;
 use std::sync::ledger::{Blank, Ledger};
@@ -84,6 +85,52 @@ impl<L: Ledger> SharedMaster<L> {
         ensures { IsKeptAs hand.old (Event.Add split worker) result hand.new }
     {
         self.lock.lock(rt).add(self.sizes, hand, split, worker)
+    }
+
+    /// `Master::lose` under the lock.
+    pub fn lose<R: Wait>(&self, rt: &R, hand: &mut Hand<L>, split: SplitNo, worker: WorkerNo) -> Answer
+        requires split { split < self.now.splits }
+        requires worker { worker < self.now.workers }
+        ensures { IsKeptAs hand.old (Event.Lose split worker) result hand.new }
+    {
+        self.lock.lock(rt).lose(self.sizes, hand, split, worker)
+    }
+
+    /// `Master::join` under the lock.
+    pub fn join<R: Wait>(&self, rt: &R, hand: &mut Hand<L>, worker: WorkerNo, set: &SplitSet) -> Answer
+        requires { IsKnownTo self.now (Call.Join worker set.now) }
+        ensures { IsKeptAs hand.old (Event.Join worker set.now) result hand.new }
+    {
+        self.lock.lock(rt).join(self.sizes, hand, worker, set)
+    }
+
+    /// `Master::die` under the lock.
+    pub fn die<R: Wait>(&self, rt: &R, hand: &mut Hand<L>, worker: WorkerNo) -> Answer
+        requires { worker < self.now.workers }
+        ensures { IsKeptAs hand.old (Event.Die worker) result hand.new }
+    {
+        self.lock.lock(rt).die(self.sizes, hand, worker)
+    }
+
+    /// `Master::map_failed` under the lock.
+    pub fn map_failed<R: Wait>(&self, rt: &R, hand: &mut Hand<L>, attempt: AttemptNo) -> Answer
+        ensures { IsKeptAs hand.old (Event.MapFailed attempt) result hand.new }
+    {
+        self.lock.lock(rt).map_failed(self.sizes, hand, attempt)
+    }
+
+    /// `Master::withdraw` under the lock.
+    pub fn withdraw<R: Wait>(&self, rt: &R, hand: &mut Hand<L>, attempt: AttemptNo) -> Answer
+        ensures { IsKeptAs hand.old (Event.Withdraw attempt) result hand.new }
+    {
+        self.lock.lock(rt).withdraw(self.sizes, hand, attempt)
+    }
+
+    /// `Master::part_failed` under the lock.
+    pub fn part_failed<R: Wait>(&self, rt: &R, hand: &mut Hand<L>, attempt: AttemptNo) -> Answer
+        ensures { IsKeptAs hand.old (Event.PartFailed attempt) result hand.new }
+    {
+        self.lock.lock(rt).part_failed(self.sizes, hand, attempt)
     }
 
     /// The master that the lock kept, with its book.
