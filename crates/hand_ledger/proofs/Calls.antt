@@ -39,7 +39,7 @@ calls_more (x ∷ es) e cs ss =
     ap (λ calls. call_of x cs ss ∷ calls)
     (calls_more es e (drop (counts_in x.event) cs) (drop (starts_in x.event) ss)
     ∙ (λ k. calls_of es (drop (counts_in x.event) cs) (drop (starts_in x.event) ss)
-        ++ call_of e (counts_on x es cs k) (starts_on x es ss k) ∷ []))
+    ++ call_of e (counts_on x es cs k) (starts_on x es ss k) ∷ []))
 
 -- the first one's part of what all take
 counts_first : (x : Entry) (es : List Entry) (n : ℕ) → counts_taken (x ∷ es) ≤ n → counts_in x.event ≤ n
@@ -69,9 +69,9 @@ calls_same (x ∷ es) cs more ss others c s =
     let few : n ≤ length cs = counts_first x es (length cs) c in
     let short : m ≤ length ss = starts_first x es (length ss) s in
     (λ k. kept x.place x.event (take-append-le n cs more few k) (take-append-le m ss others short k)
-        ∷ calls_of es (drop-append-le n cs more few k) (drop-append-le m ss others short k))
+    ∷ calls_of es (drop-append-le n cs more few k) (drop-append-le m ss others short k))
     ∙ ap (λ calls. call_of x cs ss ∷ calls)
-        (calls_same es (drop n cs) more (drop m ss) others (counts_rest x es cs c) (starts_rest x es ss s))
+    (calls_same es (drop n cs) more (drop m ss) others (counts_rest x es cs c) (starts_rest x es ss s))
 
 -- what comes after the first elements, and all of it
 taken_back : {X : Type 0} (n : ℕ) (first back : List X) (k : ℕ) → k ≡ length first → length back ≡ n →
@@ -88,10 +88,10 @@ pub calls_kept : (es : List Entry) (e : Entry) (cs more : List (List ℕ)) (ss o
 calls_kept es e cs more ss others c s m o =
     calls_more es e (cs ++ more) (ss ++ others)
     ∙ (λ k. calls_same es cs more ss others (omega arith) (omega arith) k
-        ++ kept e.place e.event
-            (taken_back (counts_in e.event) cs more (counts_taken es) c m k)
-            (taken_back (starts_in e.event) ss others (starts_taken es) s o k)
-        ∷ [])
+    ++ kept e.place e.event
+    (taken_back (counts_in e.event) cs more (counts_taken es) c m k)
+    (taken_back (starts_in e.event) ss others (starts_taken es) s o k)
+    ∷ [])
 
 pub length-calls : (es : List Entry) (cs : List (List ℕ)) (ss : List Start) →
     length (calls_of es cs ss) ≡ length es
@@ -106,9 +106,12 @@ all_counts-calls (x ∷ es) cs ss whole =
     let rest = calls_of es (drop n cs) (drop (starts_in x.event) ss) in
     let sum = sum_by-cons (λ (e : Entry). counts_in e.event) x es in
     let long = length-drop n cs in
-    omega (arith, length-take-le n cs (omega arith),
-        sum_by-cons (λ (call : Kept). length call.counts) (call_of x cs ss) rest,
-        all_counts-calls es (drop n cs) (drop (starts_in x.event) ss) (omega arith))
+    omega (
+      arith,
+      length-take-le n cs (omega arith),
+      sum_by-cons (λ (call : Kept). length call.counts) (call_of x cs ss) rest,
+      all_counts-calls es (drop n cs) (drop (starts_in x.event) ss) (omega arith),
+    )
 
 pub all_starts-calls : (es : List Entry) (cs : List (List ℕ)) (ss : List Start) →
     starts_taken es ≡ length ss → all_starts (calls_of es cs ss) ≡ length ss
@@ -118,9 +121,12 @@ all_starts-calls (x ∷ es) cs ss whole =
     let rest = calls_of es (drop (counts_in x.event) cs) (drop n ss) in
     let sum = sum_by-cons (λ (e : Entry). starts_in e.event) x es in
     let long = length-drop n ss in
-    omega (arith, length-take-le n ss (omega arith),
-        sum_by-cons (λ (call : Kept). length call.starts) (call_of x cs ss) rest,
-        all_starts-calls es (drop (counts_in x.event) cs) (drop n ss) (omega arith))
+    omega (
+      arith,
+      length-take-le n ss (omega arith),
+      sum_by-cons (λ (call : Kept). length call.starts) (call_of x cs ss) rest,
+      all_starts-calls es (drop (counts_in x.event) cs) (drop n ss) (omega arith),
+    )
 
 -- the last of some entries
 length-less_one : {X : Type 0} (x : X) (xs : List X) → length (x ∷ xs) - 1 ≡ length xs
@@ -202,13 +208,13 @@ starts_within es i e n lt is le =
 pub calls_step : (before : List Kept) (es : List Entry) (i : ℕ) (e : Entry) (cs : List (List ℕ)) (ss : List Start) →
     i < length es → e ≡ get_or es i e →
     (before ++ calls_of (take i es) cs ss)
-        ++ call_of e (drop (counts_taken (take i es)) cs) (drop (starts_taken (take i es)) ss) ∷ []
+    ++ call_of e (drop (counts_taken (take i es)) cs) (drop (starts_taken (take i es)) ss) ∷ []
     ≡ before ++ calls_of (take (i + 1) es) cs ss
 calls_step before es i e cs ss lt is =
     append_assoc before (calls_of (take i es) cs ss) _
     ∙ ap (λ l. before ++ l) (sym (ap (λ l. calls_of l cs ss)
-        (take_more es i e lt ∙ ap (λ (x : Entry). take i es ++ x ∷ []) (sym is))
-        ∙ calls_more (take i es) e cs ss))
+    (take_more es i e lt ∙ ap (λ (x : Entry). take i es ++ x ∷ []) (sym is))
+    ∙ calls_more (take i es) e cs ss))
 
 -- the room of a hand, by its fields
 pub has_room-is : (es : List Entry) (cs : List (List ℕ)) (ss : List Start) (room : Limits) (strange full : Bool) (c s : ℕ) →

@@ -47,15 +47,18 @@ pub says_more : (f : Found) (r : Bool) (calls ws : List Kept) (call : Kept) → 
 says_more Nowhere true calls ws call few right is =
     let w = right.0 refl in
     (ap (λ l. l ++ call ∷ []) is ∙ sym w, ap length w)
-says_more Nowhere false calls ws call few right is =
-    (λ e. absurd (omega (arith, length_push calls call, ap length e)),
-     λ e. absurd (cc (right.1 (sym e ∙ ap (λ l. l ++ call ∷ []) is))))
-says_more Once r calls ws call few right is =
-    (λ e. absurd (omega (arith, length_push calls call, ap length e)),
-     λ e. absurd (omega (arith, length_push calls call, ap length e, ap length is.0)))
-says_more Wrong r calls ws call few right is =
-    (λ e. absurd (omega (arith, length_push calls call, ap length e)),
-     λ e. absurd (is.0 (nil_from_length calls (omega (arith, length_push calls call, ap length e)))))
+says_more Nowhere false calls ws call few right is = (
+  λ e. absurd (omega (arith, length_push calls call, ap length e)),
+  λ e. absurd (cc (right.1 (sym e ∙ ap (λ l. l ++ call ∷ []) is))),
+)
+says_more Once r calls ws call few right is = (
+  λ e. absurd (omega (arith, length_push calls call, ap length e)),
+  λ e. absurd (omega (arith, length_push calls call, ap length e, ap length is.0)),
+)
+says_more Wrong r calls ws call few right is = (
+  λ e. absurd (omega (arith, length_push calls call, ap length e)),
+  λ e. absurd (is.0 (nil_from_length calls (omega (arith, length_push calls call, ap length e)))),
+)
 
 -- the call, where it stands at the place; elsewhere nothing
 one_at : (place : ℕ) (call : Kept) → call.place ≡ place → at_place place (call ∷ []) ≡ call ∷ []
@@ -161,15 +164,17 @@ told_at log calls f place (Before is) says = at_zero place is says
     at_zero (suc k) is says = absurd (omega arith)
 told_at log calls f place (At low high) says =
     let one = some_call log place low high in
-    let is = wanted_in (length log.history) place low high in
-    (λ e. once_told f (at_place place calls) (call_at log place) one (e ∙ is) says,
-     λ e. told_once f (at_place place calls) (call_at log place) one e says ∙ sym is)
+    let is = wanted_in (length log.history) place low high in (
+      λ e. once_told f (at_place place calls) (call_at log place) one (e ∙ is) says,
+      λ e. told_once f (at_place place calls) (call_at log place) one e says ∙ sym is,
+    )
 told_at log calls f place (After past) says =
     let none = no_call log place past in
     let is = wanted_past (length log.history) place past in
-    let said = subst (λ (l : List Kept). Says f (at_place place calls) l) none says in
-    (λ e. nowhere_none f (at_place place calls) (e ∙ is) said ∙ sym none,
-     λ e. none_nowhere f (at_place place calls) (e ∙ none) said ∙ sym is)
+    let said = subst (λ (l : List Kept). Says f (at_place place calls) l) none says in (
+      λ e. nowhere_none f (at_place place calls) (e ∙ is) said ∙ sym none,
+      λ e. none_nowhere f (at_place place calls) (e ∙ none) said ∙ sym is,
+    )
 
 -- so it holds exactly where it is right
 pub right_holds : (log : LogValue) (short notes : Bool) (hands : List HandValue) (found : List Found) (place : ℕ) →
@@ -214,9 +219,10 @@ pub lowest_torn : (log : LogValue) (short notes : Bool) (hands : List HandValue)
     IsLowestTorn log short hands torn
 lowest_torn log short notes hands found None few marks true_notes all =
     λ place. all_hold log short notes hands found place few marks true_notes all (dec_le PLACES place)
-lowest_torn log short notes hands found (Some t) few marks true_notes is =
-    (λ holds. is.1 (holds_right log short notes hands found t is.0 marks true_notes holds),
-     λ place lt. right_holds log short notes hands found place (omega (arith, is.0)) marks true_notes (is.2 place lt))
+lowest_torn log short notes hands found (Some t) few marks true_notes is = (
+  λ holds. is.1 (holds_right log short notes hands found t is.0 marks true_notes holds),
+  λ place lt. right_holds log short notes hands found place (omega (arith, is.0)) marks true_notes (is.2 place lt),
+)
 
 -- a table in which nothing was found
 pub marks_none : (log : LogValue) (found : List Found) →

@@ -11,7 +11,7 @@ abbrev pub calls_of : List Entry → List (List ℕ) → List Start → List Kep
 calls_of [] counts starts = []
 calls_of (entry ∷ entries) counts starts =
     kept entry.place entry.event
-        (take (counts_in entry.event) counts) (take (starts_in entry.event) starts)
+    (take (counts_in entry.event) counts) (take (starts_in entry.event) starts)
     ∷ calls_of entries (drop (counts_in entry.event) counts) (drop (starts_in entry.event) starts)
 
 -- how many counts and starts they take

@@ -112,8 +112,8 @@ pub fn settle<L: Ledger>(closed: Closed<L>, hands: Vec<Hand<L>>) -> Result<Settl
     ensures { MatchResult result
         (λ s. (s.master ≡ closed) × ((place : ℕ) → Holds (log_of closed) (is_short closed) hands.items place))
         (λ t. (t.closed ≡ closed) × (t.hands ≡ hands)
-            × (Holds (log_of closed) (is_short closed) hands.items t.place → ⊥)
-            × ((place : ℕ) → place < t.place → Holds (log_of closed) (is_short closed) hands.items place)) }
+        × (Holds (log_of closed) (is_short closed) hands.items t.place → ⊥)
+        × ((place : ℕ) → place < t.place → Holds (log_of closed) (is_short closed) hands.items place)) }
 {
     let torn = closed.torn_place(&hands);
     match torn {

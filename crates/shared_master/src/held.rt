@@ -81,7 +81,13 @@ impl<L: Ledger> Held<L> {
         }
     }
 
-    pub(crate) fn add(&mut self, sizes: Sizes, hand: &mut Hand<L>, split: SplitNo, worker: WorkerNo) -> Answer
+    pub(crate) fn add(
+        &mut self,
+        sizes: Sizes,
+        hand: &mut Hand<L>,
+        split: SplitNo,
+        worker: WorkerNo,
+    ) -> Answer
         requires split { split < sizes.splits }
         requires worker { worker < sizes.workers }
         ensures { IsStep sizes self.old.job hand.old (Call.Add split worker) result self.new.job hand.new }
@@ -90,10 +96,22 @@ impl<L: Ledger> Held<L> {
             return ignored(hand, why);
         }
         let answer = self.master.add(split, worker);
-        enter(&self.master, &mut self.book, hand, Event::Add(split, worker), answer)
+        enter(
+            &self.master,
+            &mut self.book,
+            hand,
+            Event::Add(split, worker),
+            answer,
+        )
     }
 
-    pub(crate) fn lose(&mut self, sizes: Sizes, hand: &mut Hand<L>, split: SplitNo, worker: WorkerNo) -> Answer
+    pub(crate) fn lose(
+        &mut self,
+        sizes: Sizes,
+        hand: &mut Hand<L>,
+        split: SplitNo,
+        worker: WorkerNo,
+    ) -> Answer
         requires split { split < sizes.splits }
         requires worker { worker < sizes.workers }
         ensures { IsStep sizes self.old.job hand.old (Call.Lose split worker) result self.new.job hand.new }
@@ -102,10 +120,22 @@ impl<L: Ledger> Held<L> {
             return ignored(hand, why);
         }
         let answer = self.master.lose(split, worker);
-        enter(&self.master, &mut self.book, hand, Event::Lose(split, worker), answer)
+        enter(
+            &self.master,
+            &mut self.book,
+            hand,
+            Event::Lose(split, worker),
+            answer,
+        )
     }
 
-    pub(crate) fn join(&mut self, sizes: Sizes, hand: &mut Hand<L>, worker: WorkerNo, set: &SplitSet) -> Answer
+    pub(crate) fn join(
+        &mut self,
+        sizes: Sizes,
+        hand: &mut Hand<L>,
+        worker: WorkerNo,
+        set: &SplitSet,
+    ) -> Answer
         requires { IsKnownTo sizes (Call.Join worker set.now) }
         ensures { IsStep sizes self.old.job hand.old (Call.Join worker set.now) result self.new.job hand.new }
     {
@@ -113,7 +143,13 @@ impl<L: Ledger> Held<L> {
             return ignored(hand, why);
         }
         let answer = self.master.join(worker, set);
-        enter(&self.master, &mut self.book, hand, Event::Join(worker, *set), answer)
+        enter(
+            &self.master,
+            &mut self.book,
+            hand,
+            Event::Join(worker, *set),
+            answer,
+        )
     }
 
     pub(crate) fn die(&mut self, sizes: Sizes, hand: &mut Hand<L>, worker: WorkerNo) -> Answer
@@ -124,37 +160,76 @@ impl<L: Ledger> Held<L> {
             return ignored(hand, why);
         }
         let answer = self.master.die(worker);
-        enter(&self.master, &mut self.book, hand, Event::Die(worker), answer)
+        enter(
+            &self.master,
+            &mut self.book,
+            hand,
+            Event::Die(worker),
+            answer,
+        )
     }
 
-    pub(crate) fn map_failed(&mut self, sizes: Sizes, hand: &mut Hand<L>, attempt: AttemptNo) -> Answer
+    pub(crate) fn map_failed(
+        &mut self,
+        sizes: Sizes,
+        hand: &mut Hand<L>,
+        attempt: AttemptNo,
+    ) -> Answer
         ensures { IsStep sizes self.old.job hand.old (Call.MapFailed attempt) result self.new.job hand.new }
     {
         if let Some(why) = self.why_not(sizes, hand, 0, 0) {
             return ignored(hand, why);
         }
         let answer = self.master.map_failed(attempt);
-        enter(&self.master, &mut self.book, hand, Event::MapFailed(attempt), answer)
+        enter(
+            &self.master,
+            &mut self.book,
+            hand,
+            Event::MapFailed(attempt),
+            answer,
+        )
     }
 
-    pub(crate) fn withdraw(&mut self, sizes: Sizes, hand: &mut Hand<L>, attempt: AttemptNo) -> Answer
+    pub(crate) fn withdraw(
+        &mut self,
+        sizes: Sizes,
+        hand: &mut Hand<L>,
+        attempt: AttemptNo,
+    ) -> Answer
         ensures { IsStep sizes self.old.job hand.old (Call.Withdraw attempt) result self.new.job hand.new }
     {
         if let Some(why) = self.why_not(sizes, hand, 0, 0) {
             return ignored(hand, why);
         }
         let answer = self.master.withdraw(attempt);
-        enter(&self.master, &mut self.book, hand, Event::Withdraw(attempt), answer)
+        enter(
+            &self.master,
+            &mut self.book,
+            hand,
+            Event::Withdraw(attempt),
+            answer,
+        )
     }
 
-    pub(crate) fn part_failed(&mut self, sizes: Sizes, hand: &mut Hand<L>, attempt: AttemptNo) -> Answer
+    pub(crate) fn part_failed(
+        &mut self,
+        sizes: Sizes,
+        hand: &mut Hand<L>,
+        attempt: AttemptNo,
+    ) -> Answer
         ensures { IsStep sizes self.old.job hand.old (Call.PartFailed attempt) result self.new.job hand.new }
     {
         if let Some(why) = self.why_not(sizes, hand, 0, 0) {
             return ignored(hand, why);
         }
         let answer = self.master.part_failed(attempt);
-        enter(&self.master, &mut self.book, hand, Event::PartFailed(attempt), answer)
+        enter(
+            &self.master,
+            &mut self.book,
+            hand,
+            Event::PartFailed(attempt),
+            answer,
+        )
     }
 }
 
@@ -170,7 +245,13 @@ fn ignored<L: Ledger>(hand: &mut Hand<L>, why: Why) -> Answer
 
 // Keeps the event of an accepted call in the hand, and counts it in the book; or notes why the call was
 // ignored.
-fn enter<L: Ledger>(master: &Master, book: &mut Book<L>, hand: &mut Hand<L>, event: Event, answer: Answer) -> Answer
+fn enter<L: Ledger>(
+    master: &Master,
+    book: &mut Book<L>,
+    hand: &mut Hand<L>,
+    event: Event,
+    answer: Answer,
+) -> Answer
     requires place { (place : ℕ) → answer ≡ Answer.Accepted place → place ≡ length master.now.history }
     requires room { has_room hand.old 0 0 ≡ true }
     requires counts { counts_in event ≡ 0 }

@@ -79,7 +79,13 @@ impl<L: Ledger> SharedMaster<L> {
     }
 
     /// `Master::add` under the lock.
-    pub fn add<R: Wait>(&self, rt: &R, hand: &mut Hand<L>, split: SplitNo, worker: WorkerNo) -> Answer
+    pub fn add<R: Wait>(
+        &self,
+        rt: &R,
+        hand: &mut Hand<L>,
+        split: SplitNo,
+        worker: WorkerNo,
+    ) -> Answer
         requires split { split < self.now.splits }
         requires worker { worker < self.now.workers }
         ensures { IsKeptAs hand.old (Event.Add split worker) result hand.new }
@@ -88,7 +94,13 @@ impl<L: Ledger> SharedMaster<L> {
     }
 
     /// `Master::lose` under the lock.
-    pub fn lose<R: Wait>(&self, rt: &R, hand: &mut Hand<L>, split: SplitNo, worker: WorkerNo) -> Answer
+    pub fn lose<R: Wait>(
+        &self,
+        rt: &R,
+        hand: &mut Hand<L>,
+        split: SplitNo,
+        worker: WorkerNo,
+    ) -> Answer
         requires split { split < self.now.splits }
         requires worker { worker < self.now.workers }
         ensures { IsKeptAs hand.old (Event.Lose split worker) result hand.new }
@@ -97,7 +109,13 @@ impl<L: Ledger> SharedMaster<L> {
     }
 
     /// `Master::join` under the lock.
-    pub fn join<R: Wait>(&self, rt: &R, hand: &mut Hand<L>, worker: WorkerNo, set: &SplitSet) -> Answer
+    pub fn join<R: Wait>(
+        &self,
+        rt: &R,
+        hand: &mut Hand<L>,
+        worker: WorkerNo,
+        set: &SplitSet,
+    ) -> Answer
         requires { IsKnownTo self.now (Call.Join worker set.now) }
         ensures { IsKeptAs hand.old (Event.Join worker set.now) result hand.new }
     {

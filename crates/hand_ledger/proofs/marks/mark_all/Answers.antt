@@ -20,11 +20,11 @@ loop-entry-preserved c =
       marks = λ before m.
           subst (λ (l : List Kept). Marks c.args.log.now l c.mark.new.found)
           (ap (λ (call : Kept). (before ++ calls_of (take i es) cs ss) ++ call ∷ [])
-              (λ k. kept e.place e.event
-                  ((c.part.ensures ∙ (λ j. take (c.counts_in-new_counts.ensures j) (drop (kept_so.counts j) cs))) k)
-                  ((c.part-in-loop-entry.ensures ∙ (λ j. take (c.starts_in-new_starts.ensures.value j) (drop (kept_so.starts j) ss))) k))
+          (λ k. kept e.place e.event
+          ((c.part.ensures ∙ (λ j. take (c.counts_in-new_counts.ensures j) (drop (kept_so.counts j) cs))) k)
+          ((c.part-in-loop-entry.ensures ∙ (λ j. take (c.starts_in-new_starts.ensures.value j) (drop (kept_so.starts j) ss))) k))
           ∙ calls_step before es i e cs ss c.loop-entry-test.true c.entry-item.is)
           (c.mark.ensures.marks c.args.log.now (before ++ calls_of (take i es) cs ss)
-              (kept e.place e.event c.part.result.now c.part-in-loop-entry.result.now) refl c.has-is_right.ensures
-              (kept_so.marks before m));
+          (kept e.place e.event c.part.result.now c.part-in-loop-entry.result.now) refl c.has-is_right.ensures
+          (kept_so.marks before m));
     }

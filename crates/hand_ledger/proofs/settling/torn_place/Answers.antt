@@ -13,7 +13,7 @@ returns g c =
     let hands = c.args.hands.now in
     lowest_torn log c.args.is_short c.are_true.result hands found c.first_wrong.result c.requires
     (subst (λ (l : List HandValue). Marks log (all_calls l) found)
-        (take_all c.loop-hand.hand-index hands c.loop-hand-test.false) c.loop-hand.invariant.1)
+    (take_all c.loop-hand.hand-index hands c.loop-hand-test.false) c.loop-hand.invariant.1)
     c.are_true.ensures
     (subst (λ (n : ℕ). IsFirstWrong n c.are_true.result found c.first_wrong.result)
-        (ap (λ (l : LogValue). length l.history) c.log.view_is) c.first_wrong.ensures)
+    (ap (λ (l : LogValue). length l.history) c.log.view_is) c.first_wrong.ensures)

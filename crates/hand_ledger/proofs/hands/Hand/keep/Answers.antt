@@ -34,17 +34,18 @@ invariant_of-self g c =
     let h = c.self.inside in
     let inv = c.self.invariant in
     let ev = c.args.event in
-    let fits = room_of h.entries.items h.counts.items h.starts.items h.room h.strange h.full c.args.self.now (counts_in ev) (starts_in ev) c.self.view_is inv.2 c.requires.room in
-    (c.add.ensures.parts ∙ inv.0,
-     omega (arith, c.add.ensures.amount, inv.1, c.push_reserved.ensures.len, h.entries.ok.0, c.push_reserved.new.self.ok.0),
-     kept_more h.entries.items c.push_reserved.new.self.items (record { place = c.args.place; event = ev })
-        h.counts.items c.add_all.new.list.items c.args.counts.now
-        h.starts.items c.add_all-2.new.list.items c.args.starts.now h.room
-        c.push_reserved.ensures.items c.add_all.ensures.items c.add_all-2.ensures.items
-        c.requires.counts c.requires.starts c.requires.place fits inv.2,
-     omega (arith, c.push_reserved.ensures.capacity, inv.3),
-     omega (arith, c.add_all.ensures.capacity, inv.4),
-     omega (arith, c.add_all-2.ensures.capacity, inv.5))
+    let fits = room_of h.entries.items h.counts.items h.starts.items h.room h.strange h.full c.args.self.now (counts_in ev) (starts_in ev) c.self.view_is inv.2 c.requires.room in (
+      c.add.ensures.parts ∙ inv.0,
+      omega (arith, c.add.ensures.amount, inv.1, c.push_reserved.ensures.len, h.entries.ok.0, c.push_reserved.new.self.ok.0),
+      kept_more h.entries.items c.push_reserved.new.self.items (record { place = c.args.place; event = ev })
+          h.counts.items c.add_all.new.list.items c.args.counts.now
+          h.starts.items c.add_all-2.new.list.items c.args.starts.now h.room
+          c.push_reserved.ensures.items c.add_all.ensures.items c.add_all-2.ensures.items
+          c.requires.counts c.requires.starts c.requires.place fits inv.2,
+      omega (arith, c.push_reserved.ensures.capacity, inv.3),
+      omega (arith, c.add_all.ensures.capacity, inv.4),
+      omega (arith, c.add_all-2.ensures.capacity, inv.5),
+    )
 
 pub returns-clause-value : goal.returns-clause-value
 returns-clause-value g c =
@@ -52,10 +53,10 @@ returns-clause-value g c =
     let inv = c.self.invariant in
     let e : Entry = record { place = c.args.place; event = c.args.event } in
     let made : calls_of c.push_reserved.new.self.items c.add_all.new.list.items c.add_all-2.new.list.items
-            ≡ calls_of h.entries.items h.counts.items h.starts.items
-                ++ kept c.args.place c.args.event c.args.counts.now c.args.starts.now ∷ [] =
-        (λ j. calls_of (c.push_reserved.ensures.items j) (c.add_all.ensures.items j) (c.add_all-2.ensures.items j))
-        ∙ calls_kept h.entries.items e h.counts.items c.args.counts.now h.starts.items c.args.starts.now
-                inv.2.counts_are inv.2.starts_are c.requires.counts c.requires.starts in
+    ≡ calls_of h.entries.items h.counts.items h.starts.items
+    ++ kept c.args.place c.args.event c.args.counts.now c.args.starts.now ∷ [] =
+    (λ j. calls_of (c.push_reserved.ensures.items j) (c.add_all.ensures.items j) (c.add_all-2.ensures.items j))
+    ∙ calls_kept h.entries.items e h.counts.items c.args.counts.now h.starts.items c.args.starts.now
+    inv.2.counts_are inv.2.starts_are c.requires.counts c.requires.starts in
     ap (λ (calls : List Kept). hand_from calls h.room h.strange h.full) made
     ∙ ap (λ (v : HandValue). with_call v (kept c.args.place c.args.event c.args.counts.now c.args.starts.now)) c.self.view_is

@@ -11,5 +11,5 @@ returns g c =
     let e = c.in_ok-entry.entry.now in
     let at = sym c.in_ok-entry.ensures.value in
     sym (ap (λ (v : HandValue). last_event v.calls) (sym c.self.view_is)
-        ∙ last_event-is h.entries.items e h.counts.items h.starts.items
-            (subst (λ (l : List Entry). slice_get l (length l - 1) ≡ Some e) c.deref.ensures.value at))
+    ∙ last_event-is h.entries.items e h.counts.items h.starts.items
+    (subst (λ (l : List Entry). slice_get l (length l - 1) ≡ Some e) c.deref.ensures.value at))

@@ -17,7 +17,8 @@ returns c =
     let event-is : ev ≡ e.event = search rules in
     let counts-are : c.counts_at.result.now ≡ c.args.counts.now = search rules in
     let starts-are : Decides c.eq.result (c.starts_at.result.now ≡ c.args.starts.now) =
-        slice_eq-Decides (λ a b. search rules) _ _ _ c.eq.ensures in
-    (λ t. there ∙ (λ k. kept e.place (event-is k)
-            ((sym c.counts_at.ensures ∙ counts-are) k) ((sym c.starts_at.ensures ∙ starts-are.0 t) k) ∷ []),
-     λ is. starts-are.1 (c.starts_at.ensures ∙ ap first_starts (sym there ∙ is)))
+    slice_eq-Decides (λ a b. search rules) _ _ _ c.eq.ensures in (
+      λ t. there ∙ (λ k. kept e.place (event-is k)
+          ((sym c.counts_at.ensures ∙ counts-are) k) ((sym c.starts_at.ensures ∙ starts-are.0 t) k) ∷ []),
+      λ is. starts-are.1 (c.starts_at.ensures ∙ ap first_starts (sym there ∙ is)),
+    )
