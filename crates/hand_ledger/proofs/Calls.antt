@@ -1,7 +1,6 @@
 -- The calls that lists of entries, counts and starts stand for.
 use Rattle.std.proofs.Common.{◌≡◌, ℕ, zero, suc, ◌+◌, ◌-◌, ◌≤◌, List, [], ◌∷◌, ◌++◌, length, take, drop, get_or, All, Option, ◌<◌, ◌&&◌, nat_lt, nat_le, Bool, true, false, Some, None, refl, sym, ap, subst, ◌∙◌, arith}
 use Rattle.std.specs.Prelude.{slice_get}
-use Rattle.std.specs.List.{sum_by}
 use Rattle.std.specs.Option.{option_map_or}
 use Rattle.std.proofs.lemmas.List.{drop-drop, take-append-le, drop-append-le, take_all, drop_at, length-drop, length-take-le, length-append, append_assoc, take_more}
 use Rattle.std.proofs.lemmas.List.Elements.{All-push}

@@ -1,9 +1,8 @@
 -- What a table of places says of calls.
-use Rattle.std.proofs.Common.{◌≡◌, ℕ, zero, suc, ◌+◌, ◌<◌, ◌≤◌, Bool, true, false, List, [], ◌∷◌, ◌++◌, length, set, get_or, replicate, All, IsTrue, Option, Some, None, refl, sym, ap, subst, ◌∙◌, arith, rules, tests, ◌==◌, ◌↔◌}
-use Rattle.std.specs.List.{filter}
+use Rattle.std.proofs.Common.{◌≡◌, ℕ, zero, suc, ◌+◌, ◌<◌, ◌≤◌, Bool, true, false, List, [], ◌∷◌, ◌++◌, length, set, get_or, All, IsTrue, Option, Some, None, refl, sym, ap, subst, ◌∙◌, arith, ◌==◌, ◌↔◌}
 use Rattle.std.specs.Option.{option_map_or}
 use Rattle.std.specs.Prelude.{slice_get}
-use Rattle.std.proofs.lemmas.List.{append-nil, nil_from_length, length_push, get_or-set_same, get_or-set_other, get_or-replicate, get_or_default}
+use Rattle.std.proofs.lemmas.List.{append-nil, nil_from_length, length_push, get_or-set_same, get_or-set_other, get_or_default}
 use Rattle.std.proofs.lemmas.List.Elements.{filter-append}
 use Rattle.std.proofs.lemmas.Option.{slice_get_past}
 use Rattle.std.proofs.lemmas.Bool.Decides.{nat_tests}
@@ -15,7 +14,7 @@ use Rattle.hand_ledger.specs.declared.marks.Found.TheVariants.{Nowhere, Once, Wr
 use Rattle.hand_ledger.specs.declared.marks.TheConstants.{PLACES}
 use Rattle.hand_ledger.specs.Hands.{Kept, kept, HandValue}
 use Rattle.hand_ledger.specs.Marks.{Says, Marks, found_more, wanted, IsRight, IsWanted, IsFirstWrong}
-use Rattle.hand_ledger.specs.Settling.{LogValue, counts_at, starts_at, at_place, call_at, event_at, all_calls, AreTrue, IsTold, Holds, IsLowestTorn}
+use Rattle.hand_ledger.specs.Settling.{LogValue, counts_at, starts_at, at_place, call_at, event_at, all_calls, AreTrue, Holds, IsLowestTorn}
 
 -- at most one call stands at a place
 at_most_one : (f : Event → Kept) (o : Option Event) → length (option_map_or (λ e. f e ∷ []) o []) ≤ 1

@@ -1,6 +1,6 @@
-use Rattle.std.proofs.Common.{◌≡◌, ◌+◌, List, [], ◌∷◌, ◌++◌, take, drop, refl, sym, ap, subst, ◌∙◌, arith}
-use Rattle.hand_ledger.specs.Hands.{Kept, kept, counts_in, starts_in}
-use Rattle.hand_ledger.specs.Inside.{calls_of, counts_taken, starts_taken}
+use Rattle.std.proofs.Common.{List, [], ◌∷◌, ◌++◌, take, drop, refl, ap, subst, ◌∙◌, arith}
+use Rattle.hand_ledger.specs.Hands.{Kept, kept}
+use Rattle.hand_ledger.specs.Inside.{calls_of}
 use Rattle.hand_ledger.specs.Marks.{Marks}
 use Rattle.hand_ledger.proofs.Calls.{counts_step, starts_step, calls_step}
 use Rattle.hand_ledger.proofs.marks.mark_all.Goals as goal

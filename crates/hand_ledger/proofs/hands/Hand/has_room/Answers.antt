@@ -1,4 +1,4 @@
-use Rattle.std.proofs.Common.{◌≡◌, ◌+◌, Bool, ap, sym, ◌∙◌, arith, length, nat_le}
+use Rattle.std.proofs.Common.{◌+◌, ap, sym, ◌∙◌, arith, length, nat_le}
 use Rattle.hand_ledger.specs.Hands.{HandValue, has_room}
 use Rattle.hand_ledger.proofs.Calls.{has_room-is, first_false, second_false, third_is}
 use Rattle.hand_ledger.proofs.hands.Hand.has_room.Goals as goal

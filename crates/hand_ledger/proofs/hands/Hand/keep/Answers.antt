@@ -1,4 +1,4 @@
-use Rattle.std.proofs.Common.{◌≡◌, ◌+◌, List, [], ◌∷◌, ◌++◌, ap, ◌∙◌, arith, refl}
+use Rattle.std.proofs.Common.{◌≡◌, List, [], ◌∷◌, ◌++◌, ap, ◌∙◌, arith}
 use Rattle.hand_ledger.specs.Hands.{HandValue, Kept, kept, counts_in, starts_in, with_call}
 use Rattle.hand_ledger.specs.declared.hands.Entry.{Entry}
 use Rattle.hand_ledger.specs.Inside.{calls_of}

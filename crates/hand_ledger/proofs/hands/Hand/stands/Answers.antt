@@ -1,9 +1,9 @@
 use Rattle.std.proofs.Common.{◌≡◌, Some, List, length, ◌-◌, IsTrue, ap, sym, subst, ◌∙◌, rules}
 use Rattle.std.specs.Prelude.{slice_get}
 use Rattle.hand_ledger.specs.declared.hands.Entry.{Entry}
-use Rattle.hand_ledger.specs.Hands.{HandValue, Kept}
-use Rattle.hand_ledger.specs.Settling.{Stands, event_at}
-use Rattle.hand_ledger.proofs.Calls.{stands-is, IsAtPlace}
+use Rattle.hand_ledger.specs.Hands.{HandValue}
+use Rattle.hand_ledger.specs.Settling.{Stands}
+use Rattle.hand_ledger.proofs.Calls.{stands-is}
 use Rattle.hand_ledger.proofs.hands.Hand.stands.Goals as goal
 
 pub returns-in_default-event_at : goal.returns-in_default-event_at

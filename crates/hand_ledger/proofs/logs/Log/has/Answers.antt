@@ -1,10 +1,7 @@
-use Rattle.std.proofs.Common.{◌≡◌, List, [], ◌∷◌, Option, Some, IsTrue, ap, sym, ◌∙◌, rules}
+use Rattle.std.proofs.Common.{◌≡◌, [], ◌∷◌, ap, sym, ◌∙◌, rules}
 use Rattle.std.specs.Bool.{Decides}
 use Rattle.std.proofs.lemmas.Slice.Eq.{slice_eq-Decides}
-use Rattle.master_state.specs.declared.events.Event.{Event}
-use Rattle.master_state.specs.declared.states.Start.{Start}
-use Rattle.hand_ledger.specs.Hands.{Kept, kept}
-use Rattle.hand_ledger.specs.Settling.{call_at, counts_at, starts_at}
+use Rattle.hand_ledger.specs.Hands.{kept}
 use Rattle.hand_ledger.proofs.Calls.{call_there, first_starts}
 use Rattle.hand_ledger.proofs.logs.Log.has.Goals as goal
 
