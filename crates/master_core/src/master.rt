@@ -166,6 +166,29 @@ impl Master {
         &self.history
     }
 
+    /// How many events were accepted.
+    pub fn events(&self) -> u32
+        ensures count { result ≡ length self.now.history }
+        ensures state { result ≡ self.now.state.events }
+        ensures limit { result ≤ 65536 }
+    {
+        self.history.len() as u32
+    }
+
+    /// The start of every attempt, the first one first.
+    pub fn starts(&self) -> &[Start]
+        ensures { result.now ≡ self.now.state.starts }
+    {
+        &self.starts
+    }
+
+    /// The counts of every sweep, the first one first.
+    pub fn sweeps(&self) -> &[[u64; 256]]
+        ensures { result.now ≡ self.now.state.sweeps }
+    {
+        &self.sweeps
+    }
+
     /// What an attempt was started for, and where, if it was.
     pub fn start(&self, attempt: AttemptNo) -> Option<Start>
         ensures { result ≡ start_of self.now.state attempt }

@@ -1,0 +1,15 @@
+use Rattle.std.proofs.Common.{◌≡◌, ◌++◌, List, take, length}
+use Rattle.hand_ledger.specs.Hands.{Kept}
+use Rattle.hand_ledger.specs.Inside.{calls_of, counts_taken, starts_taken}
+use Rattle.hand_ledger.specs.Marks.{Marks}
+use Rattle.hand_ledger.specs.declared.marks.TheConstants.{PLACES}
+use Rattle.hand_ledger.proofs.marks.mark_all.Given as goal
+
+abbrev pub invariant-loop-entry : goal.invariant-loop-entry
+invariant-loop-entry l = record {
+  size : length l.found ≡ PLACES;
+  counts : l.counts_done ≡ counts_taken (take l.entry-index l.entries);
+  starts : l.starts_done ≡ starts_taken (take l.entry-index l.entries);
+  marks : (before : List Kept) → Marks l.log before l.fn.found →
+      Marks l.log (before ++ calls_of (take l.entry-index l.entries) l.counts l.starts) l.found;
+}

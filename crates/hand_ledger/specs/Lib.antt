@@ -1,0 +1,4 @@
+pub mod Hands
+pub mod Inside
+pub mod Marks
+pub mod Settling

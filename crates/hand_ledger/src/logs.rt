@@ -1,0 +1,121 @@
+ghost use Rattle.std.specs.Prelude.{◌≡◌, ◌<◌, ◌≤◌, ◌^◌, ◌↔◌, ◌∷◌, [], IsTrue, take, drop};
+ghost use Rattle.hand_ledger.specs.Hands.{kept, counts_in, starts_in};
+ghost use Rattle.hand_ledger.specs.Settling.{call_at, event_at, counts_at, starts_at};
+
+use crate::hands::Entry;
+use master_state::{Event, Start};
+use std::marker::Model;
+
+/// What a master tells of the calls that it accepted: its history, all starts, and the counts of all sweeps.
+#[derive(Drop)]
+pub struct Log<'a> {
+    pub(crate) history: &'a [Event],
+    starts: &'a [Start],
+    sweeps: &'a [[u64; 256]],
+}
+
+impl<'a> Model for Log<'a> {
+    ghost use Rattle.hand_ledger.specs.Settling.{LogValue};
+
+    ghost Value = { LogValue };
+
+    ghost view = { λ log. record { history = log.history.now; starts = log.starts.now; sweeps = log.sweeps.now } };
+}
+
+impl<'a> Log<'a> {
+    /// The log with these lists.
+    pub fn new(history: &'a [Event], starts: &'a [Start], sweeps: &'a [[u64; 256]]) -> Log<'a>
+        ensures { result ≡ record { history = history.now; starts = starts.now; sweeps = sweeps.now } }
+    {
+        Log {
+            history,
+            starts,
+            sweeps,
+        }
+    }
+
+    // The event at a place.
+    pub(crate) fn event_at(&self, place: u32) -> Option<Event>
+        ensures { result ≡ event_at self.now.history place }
+    {
+        event_at(self.history, place)
+    }
+
+    // Whether the call of an entry, with these counts and starts, is the one that stands at its place.
+    pub(crate) fn has(&self, entry: &Entry, counts: &[[u64; 256]], starts: &[Start]) -> bool
+        ensures { IsTrue result ↔ (call_at self.now entry.now.place ≡ kept entry.now.place entry.now.event counts.now starts.now ∷ []) }
+    {
+        let Some(event) = self.event_at(entry.place) else {
+            return false;
+        };
+        if event != entry.event {
+            return false;
+        }
+        if self.counts_at(event) != counts {
+            return false;
+        }
+        self.starts_at(event) == starts
+    }
+
+    // The counts of a sweep.
+    pub(crate) fn counts_at(&self, event: Event) -> &'a [[u64; 256]]
+        ensures { result.now ≡ counts_at self.now event }
+    {
+        match event {
+            Event::Sweep(place) => part(self.sweeps, (place as usize).saturating_sub(1), 1),
+            _ => part(self.sweeps, 0, 0),
+        }
+    }
+
+    // The starts of a wave.
+    pub(crate) fn starts_at(&self, event: Event) -> &'a [Start]
+        ensures { result.now ≡ starts_at self.now event }
+    {
+        match event {
+            Event::Wave { first, count, .. } => {
+                part(self.starts, first.index().saturating_sub(1), count as usize)
+            }
+            _ => part(self.starts, 0, 0),
+        }
+    }
+}
+
+// The event at a place. Places count from 1.
+pub(crate) fn event_at(history: &[Event], place: u32) -> Option<Event>
+    ensures { result ≡ event_at history.now place }
+{
+    if place == 0 {
+        return None;
+    }
+    history.get(place as usize - 1).copied()
+}
+
+// How many counts stand for an event.
+pub(crate) fn counts_in(event: Event) -> usize
+    ensures { result ≡ counts_in event }
+{
+    match event {
+        Event::Sweep(_) => 1,
+        _ => 0,
+    }
+}
+
+// How many starts do.
+pub(crate) fn starts_in(event: Event) -> usize
+    ensures value { result ≡ starts_in event }
+    ensures bound { result < 2 ^ 32 }
+{
+    match event {
+        Event::Wave { count, .. } => count as usize,
+        _ => 0,
+    }
+}
+
+// So many elements of a list, from this one on; fewer where it ends before.
+#[tactic(auto, using(std::proofs::lemmas::List::take_min, std::proofs::lemmas::List::drop_min))]
+pub(crate) fn part<T>(list: &[T], from: usize, count: usize) -> &[T]
+    ensures { result.now ≡ take count (drop from list.now) }
+{
+    let rest = &list[from.min(list.len())..];
+    &rest[..count.min(rest.len())]
+}
