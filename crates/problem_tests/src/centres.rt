@@ -3,6 +3,7 @@ use crate::clusters::{Centres, SplitRow, WorkerRow, made_in};
 use certificate_checker::{Certified, certify};
 use node_ids::{SplitNo, WorkerNo};
 use price_certificate::{Prices, are_of_one_size};
+use rack_tree::MAX_WORKERS;
 use std::alloc::Global;
 use std::process::Abort;
 use std::test::Fail;
@@ -26,7 +27,7 @@ fn problem(rt: &impl Abort, alloc: Global, row: Row<'_>) -> Option<Problem> {
 }
 
 fn plan(rt: &impl Abort, alloc: Global, row: Row<'_>) -> Option<Plan> {
-    assert!(rt; row.splits.len() <= MAX_SPLITS);
+    assert!(rt; row.splits.len() <= MAX_SPLITS && row.workers.len() <= MAX_WORKERS);
     let mut plan = Plan::new(alloc, row.splits.len(), row.workers.len()).ok()?;
     for (split, start) in row.starts.iter().enumerate() {
         if let Some(worker) = start {
