@@ -32,7 +32,7 @@ state_with workers splits starts = record {
 abbrev setup_with : ℕ → Setup
 setup_with attempts = record {
   cluster = record {
-    tree = record { racks = 0; rack_of = [] };
+    tree = record { centres = 0; centre_of = []; rack_of = [] };
     slots = [];
     splits = [];
     texts = [];
