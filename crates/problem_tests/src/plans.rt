@@ -19,10 +19,10 @@ fn a_plan_counts_its_starts(rt: HostRuntime) -> Result<(), Fail> {
 fn total_costs(rt: HostRuntime) -> Result<(), Fail> {
     let alloc = rt.alloc();
     let problem = three_splits(&rt, alloc).ok_or("no problem")?;
-    assert!(rt; problem.splits() == 3 && problem.workers() == 3);
     for (last, want) in [(None, Some(20)), (Some(WorkerNo::new(0)), None)] {
         let starts = [Some(WorkerNo::new(1)), Some(WorkerNo::new(0)), last];
         let plan = Plan::from_starts(starts.to_vec(alloc)?, 3);
+        assert!(rt; plan.splits() == problem.splits() && plan.workers() == problem.workers());
         assert_eq!(rt; plan.total_cost(&problem), want);
     }
     Ok(())
