@@ -80,7 +80,7 @@ abbrev pub LeadsOn : List FlowArc → ℕ → ℕ → ℕ → Type 0
 LeadsOn arcs units sink node = (on : ℕ) × (on < length arcs) × ((arc_at arcs on).from ≡ node)
     × ((arc_at arcs on).to ≡ sink) × (units ≤ (arc_at arcs on).capacity)
 
--- no arc leads to the node
+-- an arc leads to the node
 abbrev pub IsEntered : List FlowArc → ℕ → Type 0
 IsEntered arcs node = (j : ℕ) × (j < length arcs) × ((arc_at arcs j).to ≡ node)
 
