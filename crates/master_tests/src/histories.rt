@@ -1,9 +1,10 @@
-use crate::jobs::{AMPLE, Call, Job, SplitRow, call, job, text_of};
+use crate::jobs::{AMPLE, Call, Job, SplitRow, answer, make_job, text_of};
 use master_state::{Answer, CommitError, Limits, SplitState, Why};
 use node_ids::{AttemptNo, SplitNo, WorkerNo};
 use price_certificate::Condition;
 use std::alloc::Global;
 use std::process::Abort;
+use std::sync::Arc;
 use std::test::Fail;
 use wave_planner::plan;
 use word_map::map_split;
@@ -16,7 +17,7 @@ fn answers(
     rows: &[(Call, Answer)],
 ) -> Result<(), Fail> {
     for (row, want) in rows {
-        let told = call(rt, alloc, job, *row).ok_or("no answer")?;
+        let told = answer(rt, alloc, job, *row).ok_or("no answer")?;
         assert_eq!(rt; told, *want, "{row:?}");
     }
     Ok(())
@@ -25,7 +26,7 @@ fn answers(
 // A master of two workers with a slot each, and of this split.
 fn two_workers(rt: &impl Abort, alloc: Global, holders: &[u16]) -> Result<Job, Fail> {
     let rows: [SplitRow<'_>; 1] = [(5, holders, "one")];
-    Ok(job(rt, alloc, &[1, 1], &rows, AMPLE).ok_or("no master")?)
+    Ok(make_job(rt, alloc, &[1, 1], &rows, AMPLE).ok_or("no master")?)
 }
 
 #[test]
@@ -62,7 +63,7 @@ fn a_death_and_the_rest_of_the_job(rt: HostRuntime) -> Result<(), Fail> {
 #[test]
 fn silence_is_a_death(rt: HostRuntime) -> Result<(), Fail> {
     let rows: [SplitRow<'_>; 1] = [(5, &[0], "one")];
-    let mut job = job(&rt, rt.alloc(), &[1], &rows, AMPLE).ok_or("no master")?;
+    let mut job = make_job(&rt, rt.alloc(), &[1], &rows, AMPLE).ok_or("no master")?;
     answers(
         &rt,
         rt.alloc(),
@@ -133,8 +134,10 @@ fn a_full_history_is_told(rt: HostRuntime) -> Result<(), Fail> {
         sweeps: 0,
     };
     let rows: [SplitRow<'_>; 2] = [(10, &[0], "one"), (20, &[0], "two")];
-    let mut job = job(&rt, alloc, &[1, 1], &rows, limits).ok_or("no master")?;
-    let planned = plan(alloc, &job.master.problem(alloc)?).map_err(|_| "no plan")?;
+    let mut job = make_job(&rt, alloc, &[1, 1], &rows, limits).ok_or("no master")?;
+    let planned = plan(alloc, &job.master.problem(alloc)?)
+        .ok()
+        .ok_or("no plan")?;
     assert_eq!(rt;
         job.master.commit(alloc, &planned),
         Err(CommitError::HistoryFull)
@@ -155,7 +158,7 @@ fn a_full_history_is_told(rt: HostRuntime) -> Result<(), Fail> {
 fn an_old_plan_is_stale(rt: HostRuntime) -> Result<(), Fail> {
     let (alloc, a, s) = (rt.alloc(), WorkerNo::new(0), SplitNo::new(1));
     let rows: [SplitRow<'_>; 2] = [(10, &[0], "one"), (10, &[], "two")];
-    let mut job = job(&rt, alloc, &[1, 1], &rows, AMPLE).ok_or("no master")?;
+    let mut job = make_job(&rt, alloc, &[1, 1], &rows, AMPLE).ok_or("no master")?;
     answers(
         &rt,
         alloc,
@@ -165,7 +168,9 @@ fn an_old_plan_is_stale(rt: HostRuntime) -> Result<(), Fail> {
             (Call::Add(1, 0), Answer::Accepted(2)),
         ],
     )?;
-    let old = plan(alloc, &job.master.problem(alloc)?).map_err(|_| "no plan")?;
+    let old = plan(alloc, &job.master.problem(alloc)?)
+        .ok()
+        .ok_or("no plan")?;
     answers(
         &rt,
         alloc,
@@ -173,13 +178,15 @@ fn an_old_plan_is_stale(rt: HostRuntime) -> Result<(), Fail> {
         &[(Call::Done(1), Answer::Accepted(3))],
     )?;
     let told = job.master.commit(alloc, &old);
-    let sides = [Condition::Priced(s, a), Condition::Spare(a)];
-    assert!(rt;
-        sides.iter().any(|c| told == Err(CommitError::Stale(*c))),
-        "{told:?}"
-    );
-    let new = plan(alloc, &job.master.problem(alloc)?).map_err(|_| "no plan")?;
-    let wave = job.master.commit(alloc, &new).map_err(|_| "no wave")?;
+    let sides = [
+        Err(CommitError::Stale(Condition::Priced(s, a))),
+        Err(CommitError::Stale(Condition::Spare(a))),
+    ];
+    assert!(rt; told == sides[0] || told == sides[1], "{told:?}");
+    let new = plan(alloc, &job.master.problem(alloc)?)
+        .ok()
+        .ok_or("no plan")?;
+    let wave = job.master.commit(alloc, &new).ok().ok_or("no wave")?;
     assert_eq!(rt;
         (wave.place, wave.first, wave.count, wave.cost),
         (4, AttemptNo::new(2), 1, 0)
@@ -197,7 +204,7 @@ fn a_result_of_another_text_comes_back(rt: HostRuntime) -> Result<(), Fail> {
     let mut job = two_workers(&rt, alloc, &[0])?;
     answers(&rt, alloc, &mut job, &[(Call::Wave, Answer::Accepted(1))])?;
     let text = text_of(alloc, s, "onf").ok_or("no text")?;
-    let made = map_split(alloc, text, 2)?;
+    let made = map_split(alloc, Arc::new(alloc, text)?, 2)?;
     let told = job.master.map_done(AttemptNo::new(1), made);
     assert!(rt; matches!(told, master_state::AnswerWith::Ignored(Why::WrongInput, _)));
     answers(

@@ -4,8 +4,11 @@ ghost use Rattle.std.specs.List.{range_with_len};
 ghost use Rattle.shuffle_reduce.specs.Gather.{values_of};
 
 use master_core::{Cluster, Master};
-use master_state::{Answer, AnswerWith, BackupAnswer, Limits, ReduceAnswer, Why, Work};
+use master_state::{
+    Answer, AnswerWith, BackupAnswer, CommitError, Limits, ReduceAnswer, Why, Work,
+};
 use node_ids::{AttemptNo, DocNo, PartNo, SplitNo, SplitSet, WorkerNo};
+use price_certificate::Condition;
 use rack_tree::RackTree;
 use shuffle_reduce::{are_of_part, merge};
 use std::alloc::Global;
@@ -81,8 +84,8 @@ fn lines_of(alloc: Global, rows: &[SplitRow<'_>]) -> Option<Vec<SplitLine>> {
 }
 
 /// The text of a split that has these words.
-pub fn text_of(alloc: Global, split: SplitNo, words: &str) -> Option<Arc<SplitText>>
-    ensures { IfSome result (λ text. (arc_value text).split ≡ split) }
+pub fn text_of(alloc: Global, split: SplitNo, words: &str) -> Option<SplitText>
+    ensures { IfSome result (λ text. text.split ≡ split) }
 {
     let mut documents = Vec::new(alloc);
     documents
@@ -91,7 +94,7 @@ pub fn text_of(alloc: Global, split: SplitNo, words: &str) -> Option<Arc<SplitTe
             text: Text::new(String::from_str(alloc, words).ok()?),
         })
         .ok()?;
-    Arc::new(alloc, SplitText::new(split, documents)).ok()
+    Some(SplitText::new(split, documents))
 }
 
 fn texts_of(rt: &impl Abort, alloc: Global, rows: &[SplitRow<'_>]) -> Option<Vec<Arc<SplitText>>>
@@ -102,13 +105,13 @@ fn texts_of(rt: &impl Abort, alloc: Global, rows: &[SplitRow<'_>]) -> Option<Vec
     for number in 0..rows.len() {
         assert!(rt; number < 1024);
         let text = text_of(alloc, SplitNo::new(number as u16), rows[number].2)?;
-        texts.push(text).ok()?;
+        texts.push(Arc::new(alloc, text).ok()?).ok()?;
     }
     Some(texts)
 }
 
 /// A master of workers in one rack with so many slots, of these splits, and of two parts.
-pub fn job(
+pub fn make_job(
     rt: &impl Abort,
     alloc: Global,
     slots: &[u8],
@@ -131,7 +134,7 @@ pub fn job(
 }
 
 /// What the call answers: its place, or why it is ignored.
-pub fn call(rt: &impl Abort, alloc: Global, job: &mut Job, call: Call) -> Option<Answer> {
+pub fn answer(rt: &impl Abort, alloc: Global, job: &mut Job, call: Call) -> Option<Answer> {
     match call {
         Call::Wave => wave(alloc, job),
         Call::Done(attempt) => done(rt, alloc, job, AttemptNo::new(attempt)),
@@ -154,26 +157,50 @@ pub fn call(rt: &impl Abort, alloc: Global, job: &mut Job, call: Call) -> Option
 fn wave(alloc: Global, job: &mut Job) -> Option<Answer> {
     let problem = job.master.problem(alloc).ok()?;
     let planned = plan(alloc, &problem).ok()?;
-    let wave = job.master.commit(alloc, &planned).ok()?;
-    Some(Answer::Accepted(wave.place))
+    match job.master.commit(alloc, &planned) {
+        Ok(wave) => Some(Answer::Accepted(wave.place)),
+        Err(CommitError::Stale(condition)) => no_answer(condition),
+        Err(_) => None,
+    }
+}
+
+fn no_answer(_condition: Condition) -> Option<Answer> {
+    None
 }
 
 // Hands in what is made of the attempt's text, or of the runs of the last reduce attempt.
 fn done(rt: &impl Abort, alloc: Global, job: &mut Job, attempt: AttemptNo) -> Option<Answer> {
-    match job.master.start(attempt)?.work {
-        Work::Split(split) => {
-            assert!(rt; split.index() < job.master.texts().len());
-            let text = Arc::try_clone(&job.master.texts()[split.index()]).ok()?;
-            let made = map_split(alloc, text, job.master.cluster().parts()).ok()?;
-            Some(answer_of(job.master.map_done(attempt, made)))
-        }
-        Work::Part(part) => {
-            let parts = job.master.cluster().parts();
-            assert!(rt; part.index() < parts && are_of_part(job.runs.as_slice(), part, parts));
-            let made = merge(alloc, parts, part, job.runs.as_slice()).ok()?;
-            Some(answer_of(job.master.part_done(attempt, made)))
-        }
+    let start = job.master.start(attempt)?;
+    match &start.work {
+        Work::Split(split) => done_split(rt, alloc, job, attempt, *split),
+        Work::Part(part) => done_part(rt, alloc, job, attempt, *part),
     }
+}
+
+fn done_split(
+    rt: &impl Abort,
+    alloc: Global,
+    job: &mut Job,
+    attempt: AttemptNo,
+    split: SplitNo,
+) -> Option<Answer> {
+    assert!(rt; split.index() < job.master.texts().len());
+    let text = Arc::try_clone(&job.master.texts()[split.index()]).ok()?;
+    let made = map_split(alloc, text, job.master.cluster().parts()).ok()?;
+    Some(answer_of(job.master.map_done(attempt, made)))
+}
+
+fn done_part(
+    rt: &impl Abort,
+    alloc: Global,
+    job: &mut Job,
+    attempt: AttemptNo,
+    part: PartNo,
+) -> Option<Answer> {
+    let parts = job.master.cluster().parts();
+    assert!(rt; part.index() < parts && are_of_part(job.runs.as_slice(), part, parts));
+    let made = merge(alloc, parts, part, job.runs.as_slice()).ok()?;
+    Some(answer_of(job.master.part_done(attempt, made)))
 }
 
 fn answer_of<R: Drop>(answer: AnswerWith<R>) -> Answer {

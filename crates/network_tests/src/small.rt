@@ -83,7 +83,8 @@ impl Small {
             ..Small::default()
         };
         for rack in 0..3usize {
-            small.centre_of[rack] = random.below(u64::from(small.centres)) as u8;
+            let centre: u8 = random.one_of(&[0, 1, 2]);
+            small.centre_of[rack] = centre.checked_rem(small.centres).unwrap_or(0);
         }
         for i in 0..4usize {
             if i < small.workers {
