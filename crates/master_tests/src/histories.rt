@@ -1,12 +1,12 @@
 use crate::jobs::{AMPLE, Call, Job, SplitRow, answer, make_job, text_of};
-use master_state::{Answer, CommitError, Limits, SplitState, Why};
+use master_state::{Answer, CommitError, Limits, SplitState, Wave, Why};
 use node_ids::{AttemptNo, SplitNo, WorkerNo};
 use price_certificate::Condition;
 use std::alloc::Global;
 use std::process::Abort;
 use std::sync::Arc;
 use std::test::Fail;
-use wave_planner::plan;
+use wave_planner::{Planned, plan};
 use word_map::map_split;
 
 // One call after another, each with its answer.
@@ -154,13 +154,35 @@ fn a_full_history_is_told(rt: HostRuntime) -> Result<(), Fail> {
     )
 }
 
-#[test]
-fn an_old_plan_is_stale(rt: HostRuntime) -> Result<(), Fail> {
-    let (alloc, a, s) = (rt.alloc(), WorkerNo::new(0), SplitNo::new(1));
+// Hands in a plan that may be an old one.
+fn commit(
+    rt: &impl Abort,
+    alloc: Global,
+    job: &mut Job,
+    planned: &Planned,
+) -> Result<Wave, CommitError> {
+    let (plan, prices, cluster) = (planned.plan(), planned.prices(), job.master.cluster());
+    assert!(rt; plan.splits() == cluster.splits().len() && plan.workers() == cluster.slots().len());
+    assert!(rt;
+        prices.splits() == cluster.splits().len() && prices.workers() == cluster.slots().len()
+    );
+    job.master.commit(alloc, planned)
+}
+
+fn planned(alloc: Global, job: &Job) -> Result<Planned, Fail> {
+    Ok(
+        plan(alloc, &job.master.problem(alloc)?)
+            .ok()
+            .ok_or("no plan")?,
+    )
+}
+
+// Split 0 runs on worker 0, which holds split 1 too, whose best start is a plan of before split 0 was done.
+fn with_an_old_plan(rt: &impl Abort, alloc: Global) -> Result<(Job, Planned), Fail> {
     let rows: [SplitRow<'_>; 2] = [(10, &[0], "one"), (10, &[], "two")];
-    let mut job = make_job(&rt, alloc, &[1, 1], &rows, AMPLE).ok_or("no master")?;
+    let mut job = make_job(rt, alloc, &[1, 1], &rows, AMPLE).ok_or("no master")?;
     answers(
-        &rt,
+        rt,
         alloc,
         &mut job,
         &[
@@ -168,32 +190,37 @@ fn an_old_plan_is_stale(rt: HostRuntime) -> Result<(), Fail> {
             (Call::Add(1, 0), Answer::Accepted(2)),
         ],
     )?;
-    let old = plan(alloc, &job.master.problem(alloc)?)
-        .ok()
-        .ok_or("no plan")?;
-    answers(
-        &rt,
-        alloc,
-        &mut job,
-        &[(Call::Done(1), Answer::Accepted(3))],
-    )?;
-    let told = job.master.commit(alloc, &old);
-    let sides = [
-        Err(CommitError::Stale(Condition::Priced(s, a))),
-        Err(CommitError::Stale(Condition::Spare(a))),
-    ];
-    assert!(rt; told == sides[0] || told == sides[1], "{told:?}");
-    let new = plan(alloc, &job.master.problem(alloc)?)
-        .ok()
-        .ok_or("no plan")?;
-    let wave = job.master.commit(alloc, &new).ok().ok_or("no wave")?;
+    let old = planned(alloc, &job)?;
+    answers(rt, alloc, &mut job, &[(Call::Done(1), Answer::Accepted(3))])?;
+    Ok((job, old))
+}
+
+#[test]
+fn an_old_plan_is_stale(rt: HostRuntime) -> Result<(), Fail> {
+    let (a, s) = (WorkerNo::new(0), SplitNo::new(1));
+    let (mut job, old) = with_an_old_plan(&rt, rt.alloc())?;
+    let told = commit(&rt, rt.alloc(), &mut job, &old);
+    let priced = Err(CommitError::Stale(Condition::Priced(s, a)));
+    let spare = Err(CommitError::Stale(Condition::Spare(a)));
+    assert!(rt; told == priced || told == spare, "{told:?}");
+    Ok(())
+}
+
+#[test]
+fn a_new_plan_is_committed_once(rt: HostRuntime) -> Result<(), Fail> {
+    let (mut job, _) = with_an_old_plan(&rt, rt.alloc())?;
+    let new = planned(rt.alloc(), &job)?;
+    let wave = Wave {
+        place: 4,
+        first: AttemptNo::new(2),
+        count: 1,
+        cost: 0,
+    };
+    assert_eq!(rt; commit(&rt, rt.alloc(), &mut job, &new), Ok(wave));
+    let open = Condition::Open(SplitNo::new(1));
     assert_eq!(rt;
-        (wave.place, wave.first, wave.count, wave.cost),
-        (4, AttemptNo::new(2), 1, 0)
-    );
-    assert_eq!(rt;
-        job.master.commit(alloc, &new),
-        Err(CommitError::Stale(Condition::Open(s)))
+        commit(&rt, rt.alloc(), &mut job, &new),
+        Err(CommitError::Stale(open))
     );
     Ok(())
 }
