@@ -2,7 +2,7 @@
 use Rattle.std.proofs.Common.{◌≡◌, ℕ, ◌+◌, ◌-◌, ◌*◌, ◌/◌, ◌^◌, ◌<◌, ◌≤◌, List, [], ◌∷◌, ◌++◌, length, refl, sym, ap, ◌∙◌, arith, mul_comm}
 use Rattle.std.proofs.lemmas.Nat.{pow-add, pow_pos}
 use Rattle.std.proofs.Math.Nat.{mul-div_cancel_left}
-use Rattle.std.proofs.lemmas.List.Sums.{sum_by-cons}
+use Rattle.std.proofs.lemmas.List.Sums.{sum_by-append, sum_by-cons, sum_by_push}
 use Rattle.std.specs.List.{sum_by}
 use Rattle.lane_queue.specs.Lanes.{AreWithin, IsWhole}
 use Rattle.lane_queue.specs.Steps.{deeper}
@@ -72,3 +72,39 @@ not_deeper (d ∷ ds) e = absurd (omega (arith, ap length e))
 -- the part of a pass that was never shared is the whole
 pub undivided : (d : ℕ) → d ≡ 0 → IsWhole (d ∷ [])
 undivided d e = record { most = 0; within = (omega arith, tt); sum = ap (λ n. sum_by (λ x. 2 ^ (0 - x)) (n ∷ [])) e }
+
+within_shared : (most : ℕ) (before after : List ℕ) (d : ℕ) → AreWithin most (before ++ d ∷ after)
+    → (d ≤ most) × AreWithin (most + 1) (before ++ (d + 1) ∷ (after ++ (d + 1) ∷ []))
+within_shared most [] after d h =
+    let le : d ≤ most = h.0 in
+    let more : d + 1 ≤ most + 1 = omega arith in
+    (le, (more, within_both (most + 1) after ((d + 1) ∷ []) (within_more most after h.1) (more, tt)))
+within_shared most (b ∷ bs) after d h =
+    let here : b ≤ most = h.0 in
+    let rest = within_shared most bs after d h.1 in
+    (rest.0, (omega arith, rest.1))
+
+-- where a pass is shared, the passes with the new one are as whole as before
+pub shared_whole : (before after : List ℕ) (d : ℕ) → IsWhole (before ++ d ∷ after)
+    → IsWhole (before ++ (d + 1) ∷ (after ++ (d + 1) ∷ []))
+shared_whole before after d w =
+    let m = w.most in
+    let f : ℕ → ℕ = λ e. 2 ^ (m + 1 - e) in
+    let within = within_shared m before after d w.within in
+    let le : d ≤ m = within.0 in
+    let was : sum_by f (before ++ d ∷ after) ≡ 2 ^ 1 * 2 ^ m = scale m 1 (before ++ d ∷ after) w.within ∙ ap (λ n. 2 ^ 1 * n) w.sum in
+    let up : 2 ^ (m + 1) ≡ 2 ^ m * 2 ^ 1 = pow-add 2 m 1 in
+    let whole : m + 1 - d ≡ (m - d) + 1 = omega arith in
+    let half : m + 1 - (d + 1) ≡ m - d = omega arith in
+    let two : f d ≡ 2 ^ (m - d) * 2 ^ 1 = ap (λ n. 2 ^ n) whole ∙ pow-add 2 (m - d) 1 in
+    let one : f (d + 1) ≡ 2 ^ (m - d) = ap (λ n. 2 ^ n) half in
+    let old = sum_by-append f before (d ∷ after) in
+    let old_rest = sum_by-cons f d after in
+    let new = sum_by-append f before ((d + 1) ∷ (after ++ (d + 1) ∷ [])) in
+    let new_rest = sum_by-cons f (d + 1) (after ++ (d + 1) ∷ []) in
+    let last = sum_by_push f after (d + 1) in
+    record {
+      most = m + 1;
+      within = within.1;
+      sum = omega (arith, was, up, two, one, old, old_rest, new, new_rest, last);
+    }
