@@ -1,2 +1,3 @@
 pub mod Shipped
+pub mod Orders
 pub mod Starts

@@ -1,9 +1,14 @@
 -- One unit after the other is shipped from its source to the sink.
-use Rattle.std.specs.Prelude.{◌≡◌, ℕ, ◌+◌, ◌*◌, ◌^◌, ◌<◌, ◌≤◌, Bool, true, List, [], ◌∷◌, length, map, slice_index, take, Option, Some}
+use Rattle.std.specs.Prelude.{◌≡◌, ℕ, ◌+◌, ◌*◌, ◌^◌, ◌<◌, ◌≤◌, Bool, true, false, List, [], ◌∷◌, length, map, slice_index, slice_index_or, take, Contains, IsPermutation, ◌↔◌}
 use Rattle.flow_network.specs.declared.arcs.FlowArc.{FlowArc}
 use Rattle.flow_network.specs.declared.arcs.ArcNo.{ArcNo}
-use Rattle.flow_network.specs.Flows.{arc_at, AreArcs, WithinCapacities, IsPath, IsDistinct, NoNegative, path_cost, pushed, inflow, outflow, unit_at}
-use Rattle.flow_network.specs.Laws.{IsLeast, short_of, flow_cost}
+use Rattle.flow_network.specs.Flows.{arc_at, AreArcs, WithinCapacities, NoNegative, pushed, inflow, outflow, unit_at}
+use Rattle.flow_network.specs.Laws.{flow_cost}
+use Rattle.guest_lists.specs.Guests.{GuestLists, source_at}
+use Rattle.guest_lists.specs.Standing.{AreStanding}
+use Rattle.guest_lists.specs.Ways.{AreSorted}
+use Rattle.guest_search.specs.Lowering.{lowered}
+use Rattle.guest_search.specs.ToSink.{IsSearched, IsTrace}
 
 -- how often a node stands in a list
 abbrev pub times_in : ℕ → List ℕ → ℕ
@@ -59,16 +64,43 @@ pub record IsCheapest (arcs : List FlowArc) (sources : List ℕ) (sink : ℕ) (f
   pub least : (other : List ℕ) → IsShipment arcs sources sink other → flow_cost arcs flows
       ≤ flow_cost arcs other
 
+-- the depth of a source is no more than its own arcs with room and the depths of their ends allow
+pub record IsLifted (arcs : List FlowArc) (h h' : ℕ → ℕ) (s : ℕ) : Type 0 where
+  pub others : (v : ℕ) → (v ≡ s → ⊥) → h' v ≡ h v
+  pub allowed : (k : ℕ) → k < length arcs → (arc_at arcs k).from ≡ s → 0 < (arc_at arcs k).capacity
+      → h' s ≤ (arc_at arcs k).cost + h (arc_at arcs k).to
+
+-- A search from the next source, whose depth was lifted, finds the sink near enough, and the unit that goes
+-- over its path, with the depths lowered by the distances, keeps the state.
 abbrev pub ShippingLaw : Type 0
 ShippingLaw =
-    (nodes : ℕ) (arcs : List FlowArc) (sources : List ℕ) (sink count : ℕ) (flows : List ℕ) (h : ℕ → ℕ)
-    (d : ℕ → Option ℕ)
+    (nodes : ℕ) (arcs : List FlowArc) (sources : List ℕ) (sink count : ℕ) (flows : List ℕ) (h h' d : ℕ → ℕ)
     → CanShip nodes arcs sources sink → count < length sources → HasShipped arcs sources sink count flows h
-    → IsLeast arcs flows h (slice_index sources count) sink d
-    → (total : ℕ) × (d sink ≡ Some total)
-    × ((path : List ArcNo) → IsDistinct path → IsPath arcs flows path (slice_index sources count) sink
-    → path_cost arcs h path ≡ total
-    → HasShipped arcs sources sink (count + 1) (pushed path flows) (λ v. h v + short_of total (d v)))
+    → IsLifted arcs h h' (slice_index sources count)
+    → IsSearched arcs flows h' (slice_index sources count) sink d
+    → (d sink ≤ 2 ^ 40) × ((v : ℕ) → h' v + d sink ≤ (count + 1) * 2 ^ 40)
+    × ((path : List ArcNo) → IsTrace arcs flows h' (slice_index sources count) sink d path
+    → HasShipped arcs sources sink (count + 1) (pushed path flows) (lowered h' d (d sink)))
+
+-- the order in which units are shipped may be any
+abbrev pub OrderLaw : Type 0
+OrderLaw =
+    (nodes : ℕ) (arcs : List FlowArc) (sources order : List ℕ) (sink : ℕ) (flows : List ℕ) (h : ℕ → ℕ)
+    → IsPermutation sources order → CanShip nodes arcs sources sink
+    → CanShip nodes arcs order sink
+    × (HasShipped arcs order sink (length order) flows h
+    → HasShipped arcs sources sink (length sources) flows h)
+
+-- the lists of arcs and the guests of a flow, over a network to whose sink units are shipped
+pub record KeepsGuests (nodes : ℕ) (arcs : List FlowArc) (flows : List ℕ) (sink : ℕ)
+    (g : GuestLists) : Type 0 where
+  pub sorted : AreSorted nodes arcs sink g
+  pub standing : AreStanding arcs flows g
+  pub sink_apart : source_at g sink ≡ false
+
+-- just the indices of the list are marked
+abbrev pub AreMarked : List ℕ → List Bool → Type 0
+AreMarked sources marks = (v : ℕ) → (slice_index_or marks v false ≡ true) ↔ Contains sources v
 
 -- each of them passes the test
 abbrev pub AreMembers : {X : Type 0} → (X → Bool) → List X → Type 0

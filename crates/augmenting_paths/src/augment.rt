@@ -1,14 +1,28 @@
 //! One unit after the other along least paths.
-ghost use Rattle.std.specs.Prelude.{◌≡◌, ℕ, ◌+◌, ◌<◌, ◌≤◌, ◌^◌, length, map, slice_index, slice_index_or, true, IfOk, OnOk, None, Some};
-ghost use Rattle.flow_network.specs.Flows.{NoNegative};
-ghost use Rattle.flow_network.specs.Laws.{short_of};
-ghost use Rattle.shortest_paths.specs.Paths.{option_distance, AreLeastUpTo};
-ghost use Rattle.augmenting_paths.specs.Shipping.{CanShip, HasShipped, IsCheapest, AreMembers};
+ghost use Rattle.std.specs.Prelude.{◌≡◌, ℕ, ◌+◌, ◌*◌, ◌<◌, ◌≤◌, ◌^◌, List, length, map, slice_index, true, false, IfOk, IsSome};
+ghost use Rattle.flow_network.specs.Flows.{arc_at, arc_index, AreArcs};
+ghost use Rattle.guest_search.specs.Finding.{IsTotal};
+ghost use Rattle.guest_search.specs.Search.{MaySearch};
+ghost use Rattle.guest_search.specs.Searching.{distance_at};
+ghost use Rattle.guest_search.specs.ToSink.{IsSearched, IsTrace};
+ghost use Rattle.augmenting_paths.specs.Shipping.{CanShip, HasShipped, IsCheapest, AreMembers, IsLifted, KeepsGuests, AreMarked};
 
-use flow_network::{Meter, Network};
+use crate::order::shipping_order;
+use crate::ways::indices;
+use flow_network::{ArcNo, FlowArc, Meter, Network};
+use guest_lists::Guests;
+use guest_search::{Buffers, Found};
 use node_ids::Layout;
-use shortest_paths::{Buffers, Distances, Potentials, distances_to};
+use shortest_paths::{Potentials, leaving};
 use std::alloc::{AllocError, Global};
+
+/// What is kept from unit to unit.
+#[derive(Drop)]
+struct Shipping {
+    potentials: Potentials,
+    guests: Guests,
+    buffers: Buffers,
+}
 
 /// Ships one unit from each source to the sink, at the least total cost, by successive shortest paths
 /// (Ahuja, Magnanti and Orlin, Network Flows, section 9.7), one augmentation a source. It answers the
@@ -37,112 +51,162 @@ pub fn saturate<L: Layout>(
     ensures layout { network.new.layout ≡ network.old.layout }
 {
     network.limits();
-    let mut potentials = Potentials::new(alloc, network.layout().size())?;
-    let mut buffers = Buffers::new(alloc);
-    for count in 0..sources.len() {
-        buffers = ship(
-            alloc,
-            network,
-            &mut potentials,
-            buffers,
-            sources,
-            sink,
-            count,
-        )?;
+    let nodes = network.layout().size();
+    let end = network.layout().index(sink);
+    let starts = indices(alloc, network.layout(), sources)?;
+    let order = shipping_order(alloc, network, &starts, end)?;
+    let marks = marked(alloc, nodes, &starts)?;
+    let mut shipping = Shipping {
+        potentials: Potentials::new(alloc, nodes)?,
+        guests: Guests::new(alloc, network, marks, end)?,
+        buffers: Buffers::new(alloc, nodes)?,
+    };
+    for count in 0..order.len() {
+        shipping = ship(alloc, network, shipping, &order, end, count)?;
     }
     network.limits();
+    let Shipping { potentials, .. } = shipping;
     Ok(potentials)
 }
 
-// Ships the unit of the source of this number along a least path, and lowers the potentials. The buffers
-// come back for the next unit.
+/// Ships the unit of the source that stands at this place of the order along a least path, and lowers the
+/// potentials. The source is lifted first, so that an arc of reduced cost 0 leaves it.
 fn ship<L: Layout>(
     alloc: Global,
     network: &mut Network<L>,
-    potentials: &mut Potentials,
-    buffers: Buffers,
-    sources: &[L::Node],
-    sink: L::Node,
+    shipping: Shipping,
+    order: &[usize],
+    sink: usize,
     count: usize,
-) -> Result<Buffers, AllocError>
-    requires members { AreMembers (L.is_member network.old.layout) sources.now }
-    requires sink { L.is_member network.old.layout sink ≡ true }
-    requires limit { length sources.now ≤ 4096 }
-    requires count { count < length sources.now }
-    requires size { length potentials.old ≡ L.node_count network.old.layout }
-    requires can { CanShip (L.node_count network.old.layout) network.old.arcs
-        (map (L.index_of network.old.layout) sources.now) (L.index_of network.old.layout sink) }
-    requires state { HasShipped network.old.arcs (map (L.index_of network.old.layout) sources.now)
-        (L.index_of network.old.layout sink)
-        count network.old.flows (slice_index potentials.old) }
-    ensures size { length potentials.new ≡ length potentials.old }
-    ensures state { OnOk result (HasShipped network.old.arcs
-        (map (L.index_of network.old.layout) sources.now) (L.index_of network.old.layout sink)
-        (count + 1) network.new.flows (slice_index potentials.new)) }
+) -> Result<Shipping, AllocError>
+    requires limit { length order.now ≤ 4096 }
+    requires count { count < length order.now }
+    requires size { length shipping.potentials ≡ L.node_count network.old.layout }
+    requires buffers { shipping.buffers ≡ L.node_count network.old.layout }
+    requires can { CanShip (L.node_count network.old.layout) network.old.arcs order.now sink }
+    requires state { HasShipped network.old.arcs order.now sink count network.old.flows
+        (slice_index shipping.potentials) }
+    requires guests { KeepsGuests (L.node_count network.old.layout) network.old.arcs network.old.flows sink
+        shipping.guests }
+    ensures size { IfOk result (λ s. length s.potentials ≡ L.node_count network.old.layout) }
+    ensures buffers { IfOk result (λ s. s.buffers ≡ L.node_count network.old.layout) }
+    ensures state { IfOk result (λ s. HasShipped network.old.arcs order.now sink (count + 1) network.new.flows
+        (slice_index s.potentials)) }
+    ensures guests { IfOk result (λ s. KeepsGuests (L.node_count network.old.layout) network.old.arcs
+        network.new.flows sink s.guests) }
     ensures arcs { network.new.arcs ≡ network.old.arcs }
     ensures layout { network.new.layout ≡ network.old.layout }
 {
-    let end = network.layout().index(sink);
-    let found = least_paths(buffers, network, potentials, sources[count], sink)?;
-    let path = match found.path(alloc, end)? {
+    let Shipping {
+        mut potentials,
+        mut guests,
+        buffers,
+    } = shipping;
+    network.limits();
+    let start = order[count];
+    lift(network, &mut potentials, start);
+    let found = find(buffers, network, &potentials, &guests, start, sink)?;
+    let path = match found.path(alloc)? {
         Some(path) => path,
         None => unreachable!(),
     };
-    let total = match found.of(end) {
-        Some(total) => total,
-        None => unreachable!(),
-    };
     network.push(&path);
-    lower_all(potentials, &found, network.layout().size(), total);
-    Ok(found.into_buffers())
+    let buffers = found.lower(&mut potentials);
+    guests.follow(network, &path)?;
+    Ok(Shipping {
+        potentials,
+        guests,
+        buffers,
+    })
 }
 
-// The least paths from a node as far as the sink. The search is lent a meter, under which it looks at most
-// twice at each arc.
-fn least_paths<L: Layout>(
+/// Lowers the potential of a source, which is 0, by the least of what an arc of its own costs together with
+/// the depth of its end.
+fn lift<L: Layout>(network: &Network<L>, potentials: &mut Potentials, source: usize)
+    requires size { length potentials.old ≡ L.node_count network.now.layout }
+    requires source { source < L.node_count network.now.layout }
+    requires level { slice_index potentials.old source ≡ 0 }
+    requires way { (k : ℕ) × (k < length network.now.arcs) × ((arc_at network.now.arcs k).from ≡ source)
+        × (0 < (arc_at network.now.arcs k).capacity)
+        × ((arc_at network.now.arcs k).cost + slice_index potentials.old (arc_at network.now.arcs k).to ≤ 2 ^ 52) }
+    ensures size { length potentials.new ≡ length potentials.old }
+    ensures lifted { IsLifted network.now.arcs (slice_index potentials.old) (slice_index potentials.new) source }
+{
+    let way = least_way(network, potentials.depths(), source);
+    potentials.lower(source, way);
+}
+
+/// The least of what an arc with room of a node's own costs together with the depth of its end.
+fn least_way<L: Layout>(network: &Network<L>, depths: &[u64], node: usize) -> u64
+    requires size { length depths.now ≡ L.node_count network.now.layout }
+    requires node { node < L.node_count network.now.layout }
+    requires deep { (v : ℕ) → slice_index depths.now v ≤ 2 ^ 52 }
+    ensures { (k : ℕ) → k < length network.now.arcs → (arc_at network.now.arcs k).from ≡ node
+        → 0 < (arc_at network.now.arcs k).capacity
+        → result ≤ (arc_at network.now.arcs k).cost + slice_index depths.now (arc_at network.now.arcs k).to }
+{
+    network.limits();
+    let mut least = u64::MAX;
+    let meter = Meter::new(network);
+    for arc in leaving(&meter, node) {
+        least = lesser_way(network.all_arcs(), depths, *arc, least);
+    }
+    least
+}
+
+/// The same of one arc, and of what is known.
+fn lesser_way(arcs: &[FlowArc], depths: &[u64], arc: ArcNo, least: u64) -> u64
+    requires arcs { AreArcs (length depths.now) arcs.now }
+    requires listed { arc_index arc < length arcs.now }
+    requires deep { (v : ℕ) → slice_index depths.now v ≤ 2 ^ 52 }
+    ensures known { result ≤ least }
+    ensures way { (k : ℕ) → arc ≡ ArcNo.Forward k → 0 < (arc_at arcs.now k).capacity
+        → result ≤ (arc_at arcs.now k).cost + slice_index depths.now (arc_at arcs.now k).to }
+{
+    match arc {
+        ArcNo::Forward(k) if arcs[k].capacity > 0 => {
+            least.min(arcs[k].cost + depths[arcs[k].to])
+        }
+        _ => least,
+    }
+}
+
+/// Searches for the sink. The search is lent a meter, under which it looks at most twice at each arc.
+fn find<L: Layout>(
     buffers: Buffers,
     network: &Network<L>,
     potentials: &Potentials,
-    from: L::Node,
-    sink: L::Node,
-) -> Result<Distances, AllocError>
-    requires from { L.is_member network.now.layout from ≡ true }
-    requires sink { L.is_member network.now.layout sink ≡ true }
-    requires nodes { length potentials.now ≡ L.node_count network.now.layout }
-    requires reduced { NoNegative network.now.arcs network.now.flows (slice_index potentials.now) }
-    ensures size { IfOk result (λ d. length d ≡ length potentials.now) }
-    ensures least { IfOk result (λ d. AreLeastUpTo network.now.arcs network.now.flows
-        (slice_index potentials.now)
-        (L.index_of network.now.layout from) (Some (L.index_of network.now.layout sink)) d) }
+    guests: &Guests,
+    start: usize,
+    sink: usize,
+) -> Result<Found, AllocError>
+    requires may { MaySearch (L.node_count network.now.layout) network.now.arcs network.now.flows
+        potentials.now guests.now sink }
+    requires nodes { buffers ≡ length potentials.now }
+    requires start { start < length potentials.now }
+    requires sink { sink < length potentials.now }
+    ensures size { IfOk result (λ f. length f.distances ≡ length potentials.now) }
+    ensures total { IfOk result (λ f. IsTotal f.total (distance_at f.distances sink)) }
+    ensures searched { IfOk result (λ f. IsSearched network.now.arcs network.now.flows
+        (slice_index potentials.now) start sink (distance_at f.distances)) }
+    ensures path { IfOk result (λ f. IsSome f.total
+        → IsTrace network.now.arcs network.now.flows
+        (slice_index potentials.now) start sink (distance_at f.distances) f.path) }
 {
     let mut meter = Meter::new(network);
-    distances_to(buffers, &mut meter, potentials, from, sink)
+    let found = buffers.search(&mut meter, potentials, guests, start, sink)?;
+    Ok(found)
 }
 
-// What a distance lacks of the sink's.
-fn shortfall(total: u64, distance: Option<u64>) -> u64
-    ensures { result ≡ short_of total distance }
+/// Which of so many nodes are sources.
+fn marked(alloc: Global, nodes: usize, sources: &[usize]) -> Result<Vec<bool>, AllocError>
+    requires { (k : ℕ) → k < length sources.now → slice_index sources.now k < nodes }
+    ensures size { IfOk result (λ m. length m.items ≡ nodes) }
+    ensures marks { IfOk result (λ m. AreMarked sources.now m.items) }
 {
-    match distance {
-        Some(distance) if distance < total => total - distance,
-        _ => 0,
+    let mut marks = vec![in alloc; false; nodes]?;
+    for source in sources {
+        marks[*source] = true;
     }
-}
-
-// Lowers each potential by what the node's distance lacks of the sink's; that is nothing where the sink
-// is at distance 0.
-fn lower_all(potentials: &mut Potentials, found: &Distances, nodes: usize, total: u64)
-    requires nodes { nodes ≡ length potentials.old }
-    requires found { nodes ≡ length found.now }
-    requires low { (v : ℕ) → slice_index potentials.old v + total ≤ 2 ^ 52 }
-    ensures size { length potentials.new ≡ length potentials.old }
-    ensures lowered { (v : ℕ) → v < nodes → slice_index potentials.new v
-        ≡ slice_index potentials.old v + short_of total (option_distance (slice_index_or found.now v None)) }
-{
-    if total == 0 {
-        return;
-    }
-    for node in 0..nodes {
-        potentials.lower(node, shortfall(total, found.of(node)));
-    }
+    Ok(marks)
 }

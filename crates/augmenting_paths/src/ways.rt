@@ -82,7 +82,7 @@ fn are_zero(flows: &[u64]) -> bool
 }
 
 /// The indices of nodes.
-fn indices<L: Layout>(
+pub fn indices<L: Layout>(
     alloc: Global,
     layout: &L,
     nodes: &[L::Node],

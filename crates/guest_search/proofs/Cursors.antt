@@ -8,7 +8,7 @@ use Rattle.flow_network.specs.declared.arcs.ArcNo.TheVariants.{Forward, Reverse}
 use Rattle.flow_network.specs.Flows.{tail_of, arc_index}
 use Rattle.flow_network.specs.Leaving.{IsIn}
 use Rattle.flow_network.proofs.Listed.{in_left, in_right, in_split, in_at}
-use Rattle.guest_search.specs.Guests.{GuestLists, AreGuests, inner_at, standing_at, exits_at, first_ways, inner_ways}
+use Rattle.guest_lists.specs.Guests.{GuestLists, AreGuests, inner_at, standing_at, exits_at, first_ways, inner_ways}
 use Rattle.shortest_paths.specs.Labels.{is_settled}
 use Rattle.guest_search.specs.Searching.{Problem, Tables, distance_at, IsSearching}
 use Rattle.guest_search.proofs.Sums.{less_at}

@@ -5,7 +5,7 @@ use Rattle.std.specs.Prelude.{slice_index, IsSome}
 use Rattle.flow_network.specs.Flow.{Counted}
 use Rattle.guest_search.specs.declared.search.Search.{Search}
 use Rattle.guest_search.specs.Finding.{IsTotal, IsFound}
-use Rattle.guest_search.specs.Guests.{GuestLists}
+use Rattle.guest_lists.specs.Guests.{GuestLists}
 use Rattle.guest_search.specs.Search.{tables, problem, Ends}
 use Rattle.guest_search.specs.Searching.{distance_at, IsLeft, trace_to}
 use Rattle.guest_search.specs.ToSink.{far, IsSearched, IsTrace}

@@ -10,5 +10,3 @@ pub mod Settled
 pub mod Searching
 pub mod SearchEnds
 pub mod Finds
--- the lists of each node's arcs
-pub mod Ways

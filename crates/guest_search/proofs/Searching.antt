@@ -14,7 +14,7 @@ use Rattle.flow_network.specs.Flows.{AreArcs, NoNegative, tail_of, head_of, arc_
 use Rattle.flow_network.specs.Leaving.{IsIn}
 use Rattle.flow_network.proofs.Listed.{in_left, in_right, in_at, few_looks}
 use Rattle.guest_search.specs.declared.arrival.Arrival.{Arrival}
-use Rattle.guest_search.specs.Guests.{GuestLists, AreGuests, source_at, inner_at, standing_at, exit_arcs, exits_at, inner_ways}
+use Rattle.guest_lists.specs.Guests.{GuestLists, AreGuests, source_at, inner_at, standing_at, exit_arcs, exits_at, inner_ways}
 use Rattle.shortest_paths.specs.Labels.{is_settled}
 use Rattle.guest_search.specs.Searching.{Problem, Tables, distance_at, no_arrival, arrival_at, rc, AreReached, AreListed, AreCovered, IsSearching}
 use Rattle.shortest_paths.specs.Paths.{IsPriced}

@@ -9,7 +9,7 @@ use Rattle.flow_network.specs.Flows.{tail_of, leaving_of}
 use Rattle.flow_network.specs.Leaving.{IsIn}
 use Rattle.flow_network.proofs.Listed.{each_arc, in_left, in_right, in_split}
 use Rattle.guest_search.specs.declared.arrival.Arrival.{Arrival}
-use Rattle.guest_search.specs.Guests.{AreGuests, source_at, inner_at, standing_at, exits_at, inner_ways}
+use Rattle.guest_lists.specs.Guests.{AreGuests, source_at, inner_at, standing_at, exits_at, inner_ways}
 use Rattle.shortest_paths.specs.Labels.{is_settled}
 use Rattle.guest_search.specs.Searching.{Problem, Tables, distance_at, arrival_at, settled_number, AreReached, AreWaiting, IsSearching}
 use Rattle.shortest_paths.proofs.Waiting.{nothing_in, in_front, first_in}

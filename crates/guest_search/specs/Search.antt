@@ -5,7 +5,7 @@ use Rattle.flow_network.specs.declared.arcs.FlowArc.{FlowArc}
 use Rattle.flow_network.specs.declared.arcs.ArcNo.{ArcNo}
 use Rattle.shortest_paths.specs.Paths.{IsPriced}
 use Rattle.guest_search.specs.declared.search.Search.{Search}
-use Rattle.guest_search.specs.Guests.{GuestLists, source_at, AreSized, AreGuests}
+use Rattle.guest_lists.specs.Guests.{GuestLists, source_at, AreSized, AreGuests}
 use Rattle.guest_search.specs.Searching.{Problem, Tables, IsSearching}
 
 abbrev pub tables : Search → Tables

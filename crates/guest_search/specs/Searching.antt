@@ -7,7 +7,7 @@ use Rattle.flow_network.specs.declared.arcs.ArcNo.TheVariants.{Forward}
 use Rattle.flow_network.specs.Flows.{tail_of, head_of, arc_index, IsResidual, reduced_cost, leaving_of}
 use Rattle.flow_network.specs.Leaving.{IsIn, marked_sum}
 use Rattle.guest_search.specs.declared.arrival.Arrival.{Arrival}
-use Rattle.guest_search.specs.Guests.{GuestLists, inner_at, standing_at, first_ways}
+use Rattle.guest_lists.specs.Guests.{GuestLists, inner_at, standing_at, first_ways}
 use Rattle.shortest_paths.specs.Labels.{is_settled}
 use Rattle.guest_search.specs.ToSink.{far}
 

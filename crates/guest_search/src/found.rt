@@ -6,9 +6,9 @@ ghost use Rattle.guest_search.specs.Search.{MaySearch};
 ghost use Rattle.guest_search.specs.Searching.{distance_at};
 ghost use Rattle.guest_search.specs.ToSink.{IsSearched, IsTrace};
 
-use crate::Guests;
 use crate::search::Search;
 use flow_network::{ArcNo, Meter};
+use guest_lists::Guests;
 use node_ids::Layout;
 use shortest_paths::Potentials;
 use std::alloc::{AllocError, Global};

@@ -1,7 +1,7 @@
 //! The search for a least path to one sink.
 ghost use Rattle.std.specs.Prelude.{◌≡◌, ℕ, ◌+◌, ◌*◌, ◌<◌, ◌≤◌, ◌^◌, List, [], ◌∷◌, ◌++◌, true, false, length, slice_index, slice_set, Option, Some, None, OnOk, IfOk, IfSome};
 ghost use Rattle.flow_network.specs.Flows.{tail_of, head_of, arc_index};
-ghost use Rattle.guest_search.specs.Guests.{GuestLists, AreSized, source_at, inner_at, standing_at};
+ghost use Rattle.guest_lists.specs.Guests.{GuestLists, AreSized, source_at, inner_at, standing_at};
 ghost use Rattle.guest_search.specs.Lowering.{lowered};
 ghost use Rattle.guest_search.specs.ToSink.{far};
 ghost use Rattle.shortest_paths.specs.Paths.{IsPriced};
@@ -10,8 +10,8 @@ ghost use Rattle.flow_network.specs.declared.arcs.ArcNo.{ArcNo};
 ghost use Rattle.guest_search.specs.Search.{tables, option_list, MaySearch, Searches, ComesTo, Ends, IsBetween, Stands, Spends, Falls};
 
 use crate::arrival::Arrival;
-use crate::guests::Guests;
 use flow_network::{ArcNo, Meter};
+use guest_lists::Guests;
 use node_ids::Layout;
 use shortest_paths::{Potentials, Queue, leaving, reduced};
 use std::alloc::{AllocError, Global};

@@ -11,7 +11,7 @@ use Rattle.flow_network.proofs.Listed.{marked_sum-set}
 use Rattle.shortest_paths.specs.declared.labels.Step.{Step}
 use Rattle.shortest_paths.specs.declared.labels.Label.{Label}
 use Rattle.shortest_paths.specs.Labels.{label_at, is_settled, Reaches, trace, last_of, IsLinked}
-use Rattle.shortest_paths.specs.Turns.{IsReached, IsRest, IsBounded, LooksOver, IsNearest, ReachesSink, AreLeast}
+use Rattle.shortest_paths.specs.Turns.{IsReached, IsRest, IsBounded, LooksOver, IsNearest, AreLeast}
 use Rattle.shortest_paths.specs.Frontier.{IsFrontier}
 use Rattle.shortest_paths.proofs.Relaxing.{reaches_more}
 use Rattle.shortest_paths.proofs.Turning.{turn_begins, turn_ends}
@@ -67,61 +67,41 @@ path_back arcs flows h start settled labels t (suc n) v l here e (Some s) r =
       ap (λ p. p ++ s.arc ∷ []) (rest.5 ∙ ap (λ o. trace labels (last_of o) n) (sym r.4.1)),
     )
 
-sink_more : (labels : List (Option Label)) (sink : Option ℕ) (m n : ℕ) → m ≤ n → ReachesSink labels sink m → ReachesSink labels sink n
-sink_more labels None m n l r = r
-sink_more labels (Some sink) m n l r = reaches_more labels sink m n l r
+-- nothing is left to settle
+abbrev pub AreAllSettled : List (Option Label) → List Bool → Type 0
+AreAllSettled labels settled = (v : ℕ) (l : Label) → label_at labels v ≡ Some l → is_settled settled v ≡ true
 
--- a search may stop where each node left to settle is no nearer than the sink
-abbrev pub MayStop : List (Option Label) → List Bool → Option ℕ → Type 0
-MayStop labels settled sink = (v : ℕ) (l : Label) → label_at labels v ≡ Some l → (is_settled settled v ≡ true) ⊎ ReachesSink labels sink l.distance
-
--- no path is cheaper than the labels, unless the sink is as near
-path_on : (arcs : List FlowArc) (flows : List ℕ) (h : ℕ → ℕ) (start : ℕ) (settled : List Bool) (labels : List (Option Label)) (sink : Option ℕ) → IsRest arcs flows h start settled labels
-    → MayStop labels settled sink
+-- no path is cheaper than the labels
+path_on : (arcs : List FlowArc) (flows : List ℕ) (h : ℕ → ℕ) (start : ℕ) (settled : List Bool) (labels : List (Option Label)) → IsRest arcs flows h start settled labels
+    → AreAllSettled labels settled
     → (path : List ArcNo) (x v m : ℕ) → Reaches labels x m → IsPath arcs flows path x v
-    → Reaches labels v (m + path_cost arcs h path) ⊎ ReachesSink labels sink (m + path_cost arcs h path)
-path_on arcs flows h start settled labels sink t stop [] x v m r p = inl (reaches_more labels v m _ (omega arith) (subst (λ y. Reaches labels y m) p r))
-path_on arcs flows h start settled labels sink t stop (a ∷ path) x v m r p =
+    → Reaches labels v (m + path_cost arcs h path)
+path_on arcs flows h start settled labels t all [] x v m r p = reaches_more labels v m _ (omega arith) (subst (λ y. Reaches labels y m) p r)
+path_on arcs flows h start settled labels t all (a ∷ path) x v m r p =
     let at_tail = subst (λ y. Reaches labels y m) (sym p.1) r in
     let bound = at_tail.2 in
-    elim (stop (tail_of arcs a) at_tail.0 at_tail.1) [
-      | inr near ↦ inr (sink_more labels sink _ _ (omega arith) near)
-      | inl done ↦ (let over = t.covered a at_tail.0 p.0 done at_tail.1 in
-          elim (path_on arcs flows h start settled labels sink t stop path (head_of arcs a) v (m + reduced_cost arcs h a)
-          (reaches_more labels (head_of arcs a) _ _ (omega arith) over) p.2) [
-            | inl w ↦ inl (reaches_more labels v _ _ (omega arith) w)
-            | inr w ↦ inr (sink_more labels sink _ _ (omega arith) w)
-          ])
-    ]
+    let over = t.covered a at_tail.0 p.0 (all (tail_of arcs a) at_tail.0 at_tail.1) at_tail.1 in
+    reaches_more labels v _ _ (omega arith)
+    (path_on arcs flows h start settled labels t all path (head_of arcs a) v (m + reduced_cost arcs h a)
+    (reaches_more labels (head_of arcs a) _ _ (omega arith) over) p.2)
 
 linked : (arcs : List FlowArc) (flows : List ℕ) (h : ℕ → ℕ) (start : ℕ) (settled : List Bool) (labels : List (Option Label)) (v distance count : ℕ) (last : Option Step)
     → IsReached arcs flows h start labels settled v distance count last → IsLinked labels last count
 linked arcs flows h start settled labels v distance count None r = tt
 linked arcs flows h start settled labels v distance count (Some s) r = (r.4.0, r.4.1, (let more = r.4.3 in omega arith))
 
--- where a search may stop, its labels are least
-pub stop_least : (arcs : List FlowArc) (flows : List ℕ) (h : ℕ → ℕ) (start : ℕ) (settled : List Bool) (labels : List (Option Label)) (sink : Option ℕ) → IsRest arcs flows h start settled labels
-    → MayStop labels settled sink → AreLeast arcs flows h start sink labels
-stop_least arcs flows h start settled labels sink t stop = record {
+-- where nothing is left to settle, the labels are least
+pub all_least : (arcs : List FlowArc) (flows : List ℕ) (h : ℕ → ℕ) (start : ℕ) (settled : List Bool) (labels : List (Option Label)) → IsRest arcs flows h start settled labels
+    → AreAllSettled labels settled → AreLeast arcs flows h start labels
+all_least arcs flows h start settled labels t all = record {
   traced = λ v l e. linked arcs flows h start settled labels v l.distance l.arcs l.last (t.sound v l e);
   reached = λ v l e. (let p = path_back arcs flows h start settled labels t l.arcs v l e refl l.last (t.sound v l e) in
       subst (λ (path : List ArcNo). IsPath arcs flows path start v × (path_cost arcs h path ≡ l.distance) × IsDistinct path) p.5 (p.1, p.2, p.3));
-  least = λ v path p. elim (path_on arcs flows h start settled labels sink t stop path start v 0 t.begun p) [
-    | inl w ↦ inl (reaches_more labels v _ _ (omega arith) w)
-    | inr w ↦ inr (sink_more labels sink _ _ (omega arith) w)
-  ];
+  least = λ v path p. reaches_more labels v _ _ (omega arith) (path_on arcs flows h start settled labels t all path start v 0 t.begun p);
 }
 
--- nothing is left to settle, or the sink is the nearest
-pub stop_none : (labels : List (Option Label)) (settled : List Bool) (sink : Option ℕ) → IsNearest labels settled None → MayStop labels settled sink
-stop_none labels settled sink n v l w = elim (cases_Bool (is_settled settled v)) [ inl t ↦ inl t | inr f ↦ absurd (n v l f w) ]
-
-pub stop_sink : (labels : List (Option Label)) (settled : List Bool) (sink : Option ℕ) (v : ℕ) (label : Label)
-    → ReachesSink labels sink label.distance → IsNearest labels settled (Some (v, label)) → MayStop labels settled sink
-stop_sink labels settled sink v label reached n y l w = elim (cases_Bool (is_settled settled y)) [
-  | inl t ↦ inl t
-  | inr f ↦ inr (sink_more labels sink _ _ (n.3 y l f w) reached)
-]
+pub none_left : (labels : List (Option Label)) (settled : List Bool) → IsNearest labels settled None → AreAllSettled labels settled
+none_left labels settled n v l w = elim (cases_Bool (is_settled settled v)) [ inl t ↦ t | inr f ↦ absurd (n v l f w) ]
 
 -- how many nodes are settled
 abbrev pub settled_count : List Bool → ℕ
@@ -247,8 +227,8 @@ module _ (arcs : List FlowArc) (flows : List ℕ) (h : ℕ → ℕ) (start nodes
             (λ v l w. (let old = before.bounded v l w in (omega arith, old.1)));
       }
 
-  pub search_ends : (sink : Option ℕ) → MayStop labels settled sink → AreLeast arcs flows h start sink labels
-  search_ends sink stop = stop_least arcs flows h start settled labels sink before.rest stop
+  pub search_ends : IsNearest labels settled None → AreLeast arcs flows h start labels
+  search_ends n = all_least arcs flows h start settled labels before.rest (none_left labels settled n)
 
 -- the looks at the arcs of a node come to those of the nodes settled before
 pub looks_so_far : (arcs : List FlowArc) (settled : List Bool) (u count : ℕ) → u < length settled → is_settled settled u ≡ false

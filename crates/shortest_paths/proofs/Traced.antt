@@ -6,8 +6,8 @@ use Rattle.flow_network.specs.Flows.{IsPath, IsDistinct, path_cost}
 use Rattle.shortest_paths.specs.declared.labels.Step.{Step}
 use Rattle.shortest_paths.specs.declared.labels.Label.{Label}
 use Rattle.shortest_paths.specs.Labels.{label_at, trace, last_of, found, paths_of, Reaches, IsLinked}
-use Rattle.shortest_paths.specs.Paths.{IsFound, IsSinkFound, AreLeastPaths, AreLeastUpTo}
-use Rattle.shortest_paths.specs.Turns.{ReachesSink, AreLeast}
+use Rattle.shortest_paths.specs.Paths.{IsFound, AreLeastPaths}
+use Rattle.shortest_paths.specs.Turns.{AreLeast}
 
 -- one step back
 pub step_back : (labels : List (Option Label)) (last : Option Step) (count : ℕ) (s : Step) (b : Label) → last ≡ Some s → label_at labels s.before ≡ Some b → IsLinked labels last count
@@ -46,28 +46,13 @@ found_some labels (Some l) c path e = (
 label_found : (labels : List (Option Label)) (v most : ℕ) → Reaches labels v most → IsFound (paths_of labels) v most
 label_found labels v most r = ((r.0.distance, trace labels r.0.last r.0.arcs), get_or-paths labels labels v ∙ ap (found labels) r.1, r.2)
 
-sink_found : (labels : List (Option Label)) (sink : Option ℕ) (most : ℕ) → ReachesSink labels sink most → IsSinkFound (paths_of labels) sink most
-sink_found labels None most r = r
-sink_found labels (Some sink) most r = label_found labels sink most r
-
-pub least_paths : (arcs : List FlowArc) (flows : List ℕ) (h : ℕ → ℕ) (start : ℕ) (sink : Option ℕ) (labels : List (Option Label)) → AreLeast arcs flows h start sink labels
-    → AreLeastUpTo arcs flows h start sink (paths_of labels)
-least_paths arcs flows h start sink labels t = record {
+pub least_paths : (arcs : List FlowArc) (flows : List ℕ) (h : ℕ → ℕ) (start : ℕ) (labels : List (Option Label)) → AreLeast arcs flows h start labels
+    → AreLeastPaths arcs flows h start (paths_of labels)
+least_paths arcs flows h start labels t = record {
   reached = λ v c path e.
       (let f = found_some labels (label_at labels v) c path (sym (get_or-paths labels labels v) ∙ e) in
       let r = t.reached v f.0 f.1 in
       let q = subst (λ (p : List ArcNo). IsPath arcs flows p start v × (path_cost arcs h p ≡ f.0.distance) × IsDistinct p) f.3 r in
       (q.0, q.1 ∙ f.2, q.2));
-  least = λ v path p. elim (t.least v path p) [
-    | inl w ↦ inl (label_found labels v _ w)
-    | inr w ↦ inr (sink_found labels sink _ w)
-  ];
-}
-
--- without a sink no path is passed over
-pub all_paths : (arcs : List FlowArc) (flows : List ℕ) (h : ℕ → ℕ) (start : ℕ) (paths : List (Option (ℕ × List ArcNo))) → AreLeastUpTo arcs flows h start None paths
-    → AreLeastPaths arcs flows h start paths
-all_paths arcs flows h start paths t = record {
-  reached = t.reached;
-  least = λ v path p. elim (t.least v path p) [ inl w ↦ w | inr none ↦ absurd none ];
+  least = λ v path p. label_found labels v _ (t.least v path p);
 }

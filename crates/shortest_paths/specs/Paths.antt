@@ -30,18 +30,6 @@ pub record AreLeastPaths (arcs : List FlowArc) (flows : List ℕ) (h : ℕ → �
   pub least : (v : ℕ) (path : List ArcNo) → IsPath arcs flows path start v
       → IsFound paths v (path_cost arcs h path)
 
--- the sink, where there is one, has a path of at most this cost
-abbrev pub IsSinkFound : List (Option (ℕ × List ArcNo)) → Option ℕ → ℕ → Type 0
-IsSinkFound paths None most = ⊥
-IsSinkFound paths (Some sink) most = IsFound paths sink most
-
--- the same of each path that is cheaper than the sink's, and of each path to the sink
-pub record AreLeastUpTo (arcs : List FlowArc) (flows : List ℕ) (h : ℕ → ℕ) (start : ℕ) (sink : Option ℕ)
-    (paths : List (Option (ℕ × List ArcNo))) : Type 0 where
-  pub reached : ArePaths arcs flows h start paths
-  pub least : (v : ℕ) (path : List ArcNo) → IsPath arcs flows path start v
-      → IsFound paths v (path_cost arcs h path) ⊎ IsSinkFound paths sink (path_cost arcs h path)
-
 -- a network with potentials, of which h v is how far the one of v lies below 0, and no negative reduced cost
 pub record IsPriced (nodes : ℕ) (arcs : List FlowArc) (flows : List ℕ) (depths : List ℕ) : Type 0 where
   pub network : IsNetwork nodes arcs flows

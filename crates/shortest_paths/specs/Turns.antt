@@ -71,13 +71,8 @@ IsNearest labels settled (Some p) =
     × ((y : ℕ) (l : Label) → is_settled settled y ≡ false → label_at labels y ≡ Some l → p.1.distance
     ≤ l.distance)
 
--- the sink, where there is one, has a label of at most this distance
-abbrev pub ReachesSink : List (Option Label) → Option ℕ → ℕ → Type 0
-ReachesSink labels None most = ⊥
-ReachesSink labels (Some sink) most = Reaches labels sink most
-
--- each label is the cost of a path, and no path is cheaper, unless it costs as much as the sink
-pub record AreLeast (arcs : List FlowArc) (flows : List ℕ) (h : ℕ → ℕ) (start : ℕ) (sink : Option ℕ)
+-- each label is the cost of a path, and no path is cheaper
+pub record AreLeast (arcs : List FlowArc) (flows : List ℕ) (h : ℕ → ℕ) (start : ℕ)
     (labels : List (Option Label)) : Type 0 where
   pub traced : (v : ℕ) (l : Label) → label_at labels v ≡ Some l → IsLinked labels l.last l.arcs
   pub reached : (v : ℕ) (l : Label) → label_at labels v ≡ Some l
@@ -85,4 +80,4 @@ pub record AreLeast (arcs : List FlowArc) (flows : List ℕ) (h : ℕ → ℕ) (
       × (path_cost arcs h (trace labels l.last l.arcs) ≡ l.distance)
       × IsDistinct (trace labels l.last l.arcs)
   pub least : (v : ℕ) (path : List ArcNo) → IsPath arcs flows path start v
-      → Reaches labels v (path_cost arcs h path) ⊎ ReachesSink labels sink (path_cost arcs h path)
+      → Reaches labels v (path_cost arcs h path)

@@ -1,9 +1,10 @@
 //! Least reduced costs over a network.
-ghost use Rattle.std.specs.Prelude.{◌≡◌, ℕ, ◌*◌, ◌≤◌, length, slice_index, true, Some, IfOk};
+ghost use Rattle.std.specs.Prelude.{◌≡◌, ℕ, ◌*◌, ◌≤◌, length, slice_index, true, IfOk};
 ghost use Rattle.flow_network.specs.Flows.{NoNegative};
-ghost use Rattle.shortest_paths.specs.Paths.{AreLeastPaths, AreLeastUpTo};
+ghost use Rattle.shortest_paths.specs.Paths.{AreLeastPaths};
 
-use crate::{Buffers, Distances, Potentials};
+use crate::reached::find;
+use crate::{Distances, Potentials};
 use flow_network::{Meter, Network};
 use node_ids::Layout;
 use std::alloc::{AllocError, Global};
@@ -47,33 +48,6 @@ pub fn distances_by<L: Layout>(
     ensures steps { meter.new.count ≤ 2 * length meter.old.network.arcs }
 {
     let start = meter.layout().index(from);
-    let found = Buffers::new(alloc).search(meter, potentials, start, None)?;
+    let found = find(alloc, meter, potentials, start)?;
     Ok(found)
-}
-
-/// `distances_by` as far as the sink: a node that is farther has some path or none. It keeps no more than it
-/// needs of the buffers' room, and ends as soon as no node left is nearer than the sink.
-pub fn distances_to<L: Layout>(
-    buffers: Buffers,
-    meter: &mut Meter<L>,
-    potentials: &Potentials,
-    from: L::Node,
-    sink: L::Node,
-) -> Result<Distances, AllocError>
-    requires count { meter.old.count ≡ 0 }
-    requires from { L.is_member meter.old.network.layout from ≡ true }
-    requires sink { L.is_member meter.old.network.layout sink ≡ true }
-    requires nodes { length potentials.now ≡ L.node_count meter.old.network.layout }
-    requires reduced { NoNegative meter.old.network.arcs meter.old.network.flows
-        (slice_index potentials.now) }
-    ensures size { IfOk result (λ d. length d ≡ length potentials.now) }
-    ensures least { IfOk result (λ d. AreLeastUpTo meter.old.network.arcs meter.old.network.flows
-        (slice_index potentials.now)
-        (L.index_of meter.old.network.layout from) (Some (L.index_of meter.old.network.layout sink)) d) }
-    ensures network { meter.new.network ≡ meter.old.network }
-    ensures steps { meter.new.count ≤ 2 * length meter.old.network.arcs }
-{
-    let start = meter.layout().index(from);
-    let end = meter.layout().index(sink);
-    buffers.search(meter, potentials, start, Some(end))
 }

@@ -1,9 +1,8 @@
 //! Least paths over the residual arcs of a network.
 //!
 //! `Potentials` give each arc its reduced cost. `distances` answers for each node the least reduced cost of a
-//! residual path and such a path, `distances_by` the same over a `Meter` with at most two looks an arc, and
-//! `distances_to`, with no more looks, as much of it as a unit to one sink needs. Nodes are settled nearest
-//! first, by std's heap.
+//! residual path and such a path, and `distances_by` the same over a `Meter` with at most two looks an arc.
+//! Nodes are settled nearest first, by std's heap.
 //! Stands on `flow_network`, for the layers that ship units along least paths.
 #![tactic(auto)]
 
@@ -16,9 +15,9 @@ mod pricing;
 mod queue;
 mod reached;
 
-pub use least::{distances, distances_by, distances_to};
+pub use least::{distances, distances_by};
 pub use nearest_first::{leaving, reduced};
 pub use potentials::Potentials;
 pub use pricing::has_no_negative;
 pub use queue::Queue;
-pub use reached::{Buffers, Distances};
+pub use reached::Distances;

@@ -2,7 +2,7 @@
 ghost use Rattle.std.specs.Prelude.{◌≡◌, ℕ, ◌+◌, ◌*◌, ◌<◌, ◌≤◌, List, [], ◌∷◌, ◌++◌, length, false, replicate, slice_index, slice_index_or, Option, None, Some, OnOk, IfOk, MatchOption};
 ghost use Rattle.flow_network.specs.Flows.{NoNegative};
 ghost use Rattle.shortest_paths.specs.Labels.{trace, IsTraced, IsLinked};
-ghost use Rattle.shortest_paths.specs.Paths.{option_distance, option_path, IsPriced, AreLeastUpTo};
+ghost use Rattle.shortest_paths.specs.Paths.{option_distance, option_path, AreLeastPaths};
 
 use crate::Potentials;
 use crate::frontier::Frontier;
@@ -17,8 +17,6 @@ use std::marker::Model;
 #[derive(Drop)]
 pub struct Distances {
     labels: Vec<Option<Label>>,
-    settled: Vec<bool>,
-    frontier: Frontier,
 }
 
 impl Model for Distances {
@@ -33,81 +31,29 @@ impl Model for Distances {
     ghost invariant = { λ d. IsTraced d.labels.items };
 }
 
-/// The tables of a search, kept from one search to the next.
-#[derive(Drop)]
-pub struct Buffers {
-    labels: Vec<Option<Label>>,
-    settled: Vec<bool>,
-    frontier: Frontier,
-}
-
-impl Buffers {
-    /// Empty buffers; nothing is allocated.
-    pub fn new(alloc: Global) -> Buffers {
-        Buffers {
-            labels: Vec::new(alloc),
-            settled: Vec::new(alloc),
-            frontier: Frontier::new(alloc),
-        }
-    }
-
-    /// The least paths from a node: all of them, or up to the cost of the one to a sink.
-    pub fn search<L: Layout>(
-        self,
-        meter: &mut Meter<L>,
-        potentials: &Potentials,
-        start: usize,
-        sink: Option<usize>,
-    ) -> Result<Distances, AllocError>
-        requires count { meter.old.count ≡ 0 }
-        requires nodes { length potentials.now ≡ L.node_count meter.old.network.layout }
-        requires reduced { NoNegative meter.old.network.arcs meter.old.network.flows
-            (slice_index potentials.now) }
-        requires start { start < length potentials.now }
-        ensures size { IfOk result (λ d. length d ≡ length potentials.now) }
-        ensures least { IfOk result (λ d. AreLeastUpTo meter.old.network.arcs meter.old.network.flows
-            (slice_index potentials.now) start sink d) }
-        ensures network { meter.new.network ≡ meter.old.network }
-        ensures steps { meter.new.count ≤ 2 * length meter.old.network.arcs }
-    {
-        meter.limits();
-        let nodes = potentials.depths().len();
-        let labels = unlabelled(self.labels, nodes)?;
-        let settled = unsettled(self.settled, nodes)?;
-        find(
-            meter,
-            potentials,
-            labels,
-            settled,
-            self.frontier,
-            start,
-            sink,
-        )
-    }
-}
-
-/// The least paths, of a search whose tables have a place for each node.
-fn find<L: Layout>(
+/// The least paths from the node of an index.
+pub fn find<L: Layout>(
+    alloc: Global,
     meter: &mut Meter<L>,
     potentials: &Potentials,
-    mut labels: Vec<Option<Label>>,
-    mut settled: Vec<bool>,
-    mut frontier: Frontier,
     start: usize,
-    sink: Option<usize>,
 ) -> Result<Distances, AllocError>
-    requires priced { IsPriced (L.node_count meter.old.network.layout) meter.old.network.arcs
-        meter.old.network.flows potentials.now }
     requires count { meter.old.count ≡ 0 }
+    requires nodes { length potentials.now ≡ L.node_count meter.old.network.layout }
+    requires reduced { NoNegative meter.old.network.arcs meter.old.network.flows
+        (slice_index potentials.now) }
     requires start { start < length potentials.now }
-    requires labels { labels.items ≡ replicate (length potentials.now) None }
-    requires settled { settled.items ≡ replicate (length potentials.now) false }
     ensures size { IfOk result (λ d. length d ≡ length potentials.now) }
-    ensures least { IfOk result (λ d. AreLeastUpTo meter.old.network.arcs meter.old.network.flows
-        (slice_index potentials.now) start sink d) }
+    ensures least { IfOk result (λ d. AreLeastPaths meter.old.network.arcs meter.old.network.flows
+        (slice_index potentials.now) start d) }
     ensures network { meter.new.network ≡ meter.old.network }
     ensures steps { meter.new.count ≤ 2 * length meter.old.network.arcs }
 {
+    meter.limits();
+    let nodes = potentials.depths().len();
+    let mut labels = vec![in alloc; None; nodes]?;
+    let mut settled = vec![in alloc; false; nodes]?;
+    let mut frontier = Frontier::new(alloc);
     settle(
         meter,
         potentials,
@@ -115,34 +61,8 @@ fn find<L: Layout>(
         &mut settled,
         &mut frontier,
         start,
-        sink,
     )?;
-    Ok(Distances {
-        labels,
-        settled,
-        frontier,
-    })
-}
-
-/// No node has a label.
-fn unlabelled(
-    mut labels: Vec<Option<Label>>,
-    nodes: usize,
-) -> Result<Vec<Option<Label>>, AllocError>
-    ensures { IfOk result (λ l. l.items ≡ replicate nodes None) }
-{
-    labels.clear();
-    labels.resize(nodes, None)?;
-    Ok(labels)
-}
-
-/// No node is settled.
-fn unsettled(mut settled: Vec<bool>, nodes: usize) -> Result<Vec<bool>, AllocError>
-    ensures { IfOk result (λ s. s.items ≡ replicate nodes false) }
-{
-    settled.clear();
-    settled.resize(nodes, false)?;
-    Ok(settled)
+    Ok(Distances { labels })
 }
 
 impl Distances {
@@ -166,20 +86,6 @@ impl Distances {
         match self.labels[node] {
             Some(label) => Ok(Some(trace_back(alloc, &self.labels, label)?)),
             None => Ok(None),
-        }
-    }
-
-    /// Gives the tables back, for the next search.
-    pub fn into_buffers(self) -> Buffers {
-        let Distances {
-            labels,
-            settled,
-            frontier,
-        } = self;
-        Buffers {
-            labels,
-            settled,
-            frontier,
         }
     }
 }

@@ -1,11 +1,13 @@
-use Rattle.std.proofs.Common.{◌≡◌, length, map, get_or}
-use Rattle.augmenting_paths.specs.Shipping.{HasShipped}
+use Rattle.std.proofs.Common.{◌≡◌, length, get_or}
+use Rattle.augmenting_paths.specs.Shipping.{HasShipped, KeepsGuests}
 use Rattle.augmenting_paths.proofs.augment.saturate.Given as goal
 
 abbrev pub invariant-loop-count : goal.invariant-loop-count
 invariant-loop-count g l = record {
   arcs : l.network.arcs ≡ l.fn.network.arcs;
   layout : l.network.layout ≡ l.fn.network.layout;
-  size : length l.potentials ≡ g.L.Layout.node_count l.fn.network.layout;
-  state : HasShipped l.fn.network.arcs (map (g.L.Layout.index_of l.fn.network.layout) l.sources) (g.L.Layout.index_of l.fn.network.layout l.sink) l.count l.network.flows (λ v. get_or l.potentials v 0);
+  size : length l.shipping.potentials ≡ g.L.Layout.node_count l.fn.network.layout;
+  buffers : l.shipping.buffers ≡ g.L.Layout.node_count l.fn.network.layout;
+  state : HasShipped l.fn.network.arcs l.order.items l.end l.count l.network.flows (λ v. get_or l.shipping.potentials v 0);
+  guests : KeepsGuests (g.L.Layout.node_count l.fn.network.layout) l.fn.network.arcs l.network.flows l.end l.shipping.guests;
 }

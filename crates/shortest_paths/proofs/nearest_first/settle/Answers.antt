@@ -2,7 +2,7 @@ use Rattle.std.proofs.Common.{length, set, true, refl, sym, ap, ◌∙◌, arith
 use Rattle.flow_network.specs.Flows.{leaving_of}
 use Rattle.flow_network.specs.Leaving.{marked_sum}
 use Rattle.flow_network.proofs.Listed.{few_looks}
-use Rattle.shortest_paths.proofs.Settling.{search_begins, search_bound, search_falls, search_goes_on, search_ends, stop_none, stop_sink, frontier_begins, looks_so_far, looks_none}
+use Rattle.shortest_paths.proofs.Settling.{search_begins, search_bound, search_falls, search_goes_on, search_ends, frontier_begins, looks_so_far, looks_none}
 use Rattle.shortest_paths.proofs.nearest_first.settle.Goals as goal
 
 pub loop-node-init : goal.loop-node-init
@@ -12,13 +12,6 @@ loop-node-init g c = record {
   search = rw (c.requires.labels, c.requires.settled) (search_begins _ _ _ _ _ c.requires.start);
   waits = rw (c.requires.labels, c.requires.settled, c.begin.ensures.level, c.in_ok-begin.ensures.near, c.begin.ensures.far) (frontier_begins _ _ c.requires.start);
 }
-
-pub returns-then-is_sink_reached-clause-least : goal.returns-then-is_sink_reached-clause-least
-returns-then-is_sink_reached-clause-least g c =
-    search_ends _ _ _ _ _ _ _ c.loop-node.invariant.search c.args.sink (stop_sink _ _ _ _ _ (c.is_sink_reached.ensures.0 c.if-is_sink_reached.true) c.in-Some.ensures.nearest)
-
-pub returns-then-is_sink_reached-clause-steps : goal.returns-then-is_sink_reached-clause-steps
-returns-then-is_sink_reached-clause-steps g c = let few = few_looks c.args.meter.now.network.arcs c.loop-node.settled in let count = c.loop-node.invariant.count in omega arith
 
 pub look_around-requires-clause-count : goal.look_around-requires-clause-count
 look_around-requires-clause-count g c =
@@ -67,7 +60,7 @@ returns-in_err-look_around-clause-steps g c =
     omega arith
 
 pub returns-clause-least : goal.returns-clause-least
-returns-clause-least g c = search_ends _ _ _ _ _ _ _ c.loop-node.invariant.search c.args.sink (stop_none _ _ _ c.in_default.ensures.nearest)
+returns-clause-least g c = search_ends _ _ _ _ _ _ _ c.loop-node.invariant.search c.in_default.ensures.nearest
 
 pub returns-clause-steps : goal.returns-clause-steps
 returns-clause-steps g c = let few = few_looks c.args.meter.now.network.arcs c.loop-node.settled in let count = c.loop-node.invariant.count in omega arith

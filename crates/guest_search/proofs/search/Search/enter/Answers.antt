@@ -1,6 +1,6 @@
 use Rattle.std.proofs.Common.{[], ap, ◌∙◌, sym}
 use Rattle.std.proofs.lemmas.Bool.{false≢true}
-use Rattle.guest_search.specs.Guests.{source_at}
+use Rattle.guest_lists.specs.Guests.{source_at}
 use Rattle.guest_search.proofs.search.Search.enter.Goals as goal
 
 pub is_source-requires : goal.is_source-requires

@@ -1,7 +1,7 @@
 use Rattle.std.proofs.Common.{◌≡◌, ℕ, ◌≤◌, List, length, ap, ◌∙◌, sym, subst, arith}
 use Rattle.flow_network.specs.Flow.{Counted}
 use Rattle.flow_network.specs.Flows.{head_of, AreArcs}
-use Rattle.guest_search.specs.Guests.{source_at}
+use Rattle.guest_lists.specs.Guests.{source_at}
 use Rattle.guest_search.specs.Searching.{arrival_at}
 use Rattle.guest_search.proofs.Searching.{may_look, few_so_far, head_in}
 use Rattle.guest_search.proofs.search.Search.pass.Goals as goal

@@ -1,0 +1,162 @@
+-- The order in which units are shipped may be any.
+use Rattle.std.proofs.Common.{◌≡◌, ℕ, zero, suc, ◌+◌, ◌*◌, ◌<◌, ◌≤◌, Bool, true, false, List, [], ◌∷◌, ◌++◌, length, get_or, set, take, drop, map, replicate, refl, sym, ap, ◌∙◌, subst, inl, inr, ◌⊎◌, arith, get_or-set_same, get_or-set_other, Contains}
+use Rattle.std.specs.Prelude.{nat_eq}
+use Rattle.std.specs.List.{IsDistinct, sum_by}
+use Rattle.std.specs.List.Sorted.{IsPermutation}
+use Rattle.std.specs.Cmp.{nat_eq_equiv}
+use Rattle.std.proofs.Math.Seq.{take-length}
+use Rattle.std.proofs.lemmas.Bool.{cases_eq, cases_lt, cases_Bool, ne_eqb, eq-eqb, false≢true}
+use Rattle.std.proofs.lemmas.List.{get_or_default, take-append-drop}
+use Rattle.std.proofs.lemmas.List.Elements.{Contains-append_left, Contains-push, Contains-push_cases}
+use Rattle.std.proofs.lemmas.List.Sums.{sum_by-cons}
+use Rattle.std.proofs.lemmas.List.Sorted.{IsPermutation-sym, IsPermutation-trans, IsPermutation-append_left, IsPermutation-map, Contains-permutation, length_permutation, sum_by-IsPermutation}
+use Rattle.std.proofs.lemmas.Map.Keys.{IsDistinct-IsPermutation, IsDistinct-from_apart, apart_from_distinct}
+use Rattle.flow_network.specs.declared.arcs.FlowArc.{FlowArc}
+use Rattle.flow_network.specs.Flows.{arc_at, unit_at}
+use Rattle.augmenting_paths.specs.Shipping.{times_in, HasWay, CanShip, HasShipped, AreMarked, OrderLaw}
+
+times_sum : (w : ℕ) (xs : List ℕ) → times_in w xs ≡ sum_by (λ s. unit_at s w) xs
+times_sum w [] = refl
+times_sum w (x ∷ xs) = ap (λ n. unit_at x w + n) (times_sum w xs) ∙ sym (sum_by-cons (λ s. unit_at s w) x xs)
+
+pub times_in-permutation : (w : ℕ) (xs ys : List ℕ) → IsPermutation xs ys → times_in w ys ≡ times_in w xs
+times_in-permutation w xs ys p =
+    times_sum w ys ∙ sum_by-IsPermutation (λ s. unit_at s w) xs ys p ∙ sym (times_sum w xs)
+
+-- where a member of the order stands among the sources
+place : (xs ys : List ℕ) → IsPermutation xs ys → (k : ℕ) → k < length ys
+    → (j : ℕ) × (j < length xs) × (get_or xs j 0 ≡ get_or ys k 0)
+place xs ys p k l =
+    let c = Contains-permutation ys xs (get_or ys k 0) (IsPermutation-sym xs ys p)
+    (k, l, get_or_default ys k (get_or ys k 0) 0 l) in
+    (c.0, c.1, get_or_default xs c.0 0 (get_or ys k 0) c.1 ∙ c.2)
+
+module _ (nodes : ℕ) (arcs : List FlowArc) (xs ys : List ℕ) (sink : ℕ) (p : IsPermutation xs ys)
+    (can : CanShip nodes arcs xs sink) where
+  apart : IsDistinct nat_eq ys
+  apart = IsDistinct-IsPermutation nat_eq nat_eq_equiv.symm xs ys p
+      (IsDistinct-from_apart nat_eq xs (λ i j d l m. ne_eqb (get_or xs i d) (get_or xs j d) (λ e.
+      (let inside : i < length xs = omega arith in
+      let same = can.distinct i j inside m
+      (get_or_default xs i 0 d inside ∙ e ∙ get_or_default xs j d 0 m) in absurd (omega arith)))))
+
+  differ : (j k : ℕ) → j < k → k < length ys → get_or ys j 0 ≡ get_or ys k 0 → ⊥
+  differ j k l m e = false≢true (sym (apart_from_distinct nat_eq ys j k 0 apart l m)
+      ∙ eq-eqb (get_or ys j 0) (get_or ys k 0) e)
+
+  pub order_can : CanShip nodes arcs ys sink
+  order_can = record {
+    arcs_in = can.arcs_in;
+    ways = λ k l.
+        (let at = place xs ys p k l in let w = can.ways at.0 at.1 in
+        let size = length_permutation xs ys p in let room = w.room in
+        record {
+          out = w.out;
+          on = w.on;
+          out_in = w.out_in;
+          on_in = w.on_in;
+          leaves = w.leaves ∙ at.2;
+          meets = w.meets;
+          arrives = w.arrives;
+          own_room = w.own_room;
+          room = omega arith;
+        });
+    distinct = λ j k l m e. elim (cases_lt j k) [
+      | inl before ↦ absurd (differ j k before m e)
+      | inr past ↦ elim (cases_lt k j) [ inl after ↦ absurd (differ k j after l (sym e)) | inr same ↦ omega arith ]
+    ];
+    not_sink = λ k l e. (let at = place xs ys p k l in can.not_sink at.0 at.1 (at.2 ∙ e));
+    no_entry = λ k j l m e. (let at = place xs ys p k l in can.no_entry at.0 j at.1 m (e ∙ sym at.2));
+  }
+
+-- what was shipped in one order was shipped in the other
+pub order_shipped : (arcs : List FlowArc) (xs ys : List ℕ) (sink : ℕ) (flows : List ℕ) (h : ℕ → ℕ)
+    → IsPermutation xs ys → HasShipped arcs ys sink (length ys) flows h
+    → HasShipped arcs xs sink (length xs) flows h
+order_shipped arcs xs ys sink flows h p t =
+    let size = length_permutation xs ys p in
+    record {
+      sizes = t.sizes;
+      reduced = t.reduced;
+      at_sink = t.at_sink;
+      depth = λ v. (let old = t.depth v in omega arith);
+      few = λ j. (let old = t.few j in omega arith);
+      untouched = λ k c l. absurd (omega arith);
+      unused = λ k j c l m f. absurd (omega arith);
+      balance = λ w.
+          (let old = t.balance w in
+          let all = ap (times_in w) (take-length xs) in
+          let all_ys = ap (times_in w) (take-length ys) in
+          let same = times_in-permutation w xs ys p in
+          let units : length ys * unit_at sink w ≡ length xs * unit_at sink w = ap (λ n. n * unit_at sink w) size in
+          omega arith);
+    }
+
+pub order_law : OrderLaw
+order_law nodes arcs sources order sink flows h p can =
+    (order_can nodes arcs sources order sink p can, order_shipped arcs sources order sink flows h p)
+
+-- the nodes of sorted keys, the first part of them turned
+pub order_made : (keys sorted : List (ℕ × ℕ)) (sources order first last : List ℕ) (m : ℕ)
+    → map (λ p. p.1) keys ≡ sources → IsPermutation keys sorted → order ≡ map (λ p. p.1) sorted
+    → IsPermutation (take m order) first → last ≡ first ++ drop m order → IsPermutation sources last
+order_made keys sorted sources order first last m e p f q l =
+    let all : IsPermutation sources order = subst (λ xs. IsPermutation xs order) e
+    (subst (λ ys. IsPermutation (map (λ p. p.1) keys) ys) (sym f) (IsPermutation-map (λ p. p.1) keys sorted p)) in
+    let turned : IsPermutation order (first ++ drop m order) =
+    subst (λ ys. IsPermutation ys (first ++ drop m order)) (take-append-drop m order)
+    (IsPermutation-append_left (drop m order) (take m order) first q) in
+    IsPermutation-trans sources order last all (subst (λ ys. IsPermutation order ys) (sym l) turned)
+
+pub map-push : {X Y : Type 0} (f : X → Y) (xs : List X) (x : X) → map f (xs ++ x ∷ []) ≡ map f xs ++ f x ∷ []
+map-push f [] x = refl
+map-push f (y ∷ xs) x = ap (λ ys. f y ∷ ys) (map-push f xs x)
+
+-- the marks of sources
+unset : (n v : ℕ) → get_or (replicate {A = Bool} n false) v false ≡ false
+unset zero v = refl
+unset (suc n) zero = refl
+unset (suc n) (suc v) = unset n v
+
+pub marks_none : (n : ℕ) → AreMarked [] (replicate n false)
+marks_none n v = (
+  (λ t. absurd (false≢true (sym (unset n v) ∙ t))),
+  (λ c. absurd (let l = c.1 in omega arith)),
+)
+
+pub marks_more : (xs : List ℕ) (marks : List Bool) (s : ℕ) → s < length marks → AreMarked xs marks
+    → AreMarked (xs ++ s ∷ []) (set marks s true)
+marks_more xs marks s l m v = (
+  (λ t. elim (cases_eq v s) [
+    | inl e ↦ subst (λ u. Contains (xs ++ s ∷ []) u) (sym e) (Contains-push xs s)
+    | inr n ↦ Contains-append_left xs (s ∷ []) v ((m v).0 (sym (get_or-set_other marks s v true false n) ∙ t))
+  ]),
+  (λ c. elim (cases_eq v s) [
+    | inl e ↦ ap (λ u. get_or (set marks s true) u false) e ∙ get_or-set_same marks s true false l
+    | inr n ↦ elim (Contains-push_cases xs s v c) [
+      | inl old ↦ get_or-set_other marks s v true false n ∙ (m v).1 old
+      | inr e ↦ absurd (n (sym e))
+    ]
+  ]),
+)
+
+-- neither the sink nor the end of an arc is marked
+module _ (nodes : ℕ) (arcs : List FlowArc) (sources : List ℕ) (sink : ℕ) (marks : List Bool)
+    (can : CanShip nodes arcs sources sink) (m : AreMarked sources marks) where
+  unmarked : (v : ℕ) → ((k : ℕ) → k < length sources → get_or sources k 0 ≡ v → ⊥)
+      → get_or marks v false ≡ false
+  unmarked v n = elim (cases_Bool (get_or marks v false)) [
+    | inl t ↦ absurd (let c = (m v).0 t in n c.0 c.1 (get_or_default sources c.0 0 v c.1 ∙ c.2))
+    | inr f ↦ f
+  ]
+
+  pub sink_unmarked : get_or marks sink false ≡ false
+  sink_unmarked = unmarked sink (λ k l e. can.not_sink k l e)
+
+  pub ends_unmarked : (j : ℕ) → j < length arcs → get_or marks (arc_at arcs j).to false ≡ false
+  ends_unmarked j l = unmarked (arc_at arcs j).to (λ k i e. can.no_entry k j i l (sym e))
+
+pub sources_in : (nodes : ℕ) (arcs : List FlowArc) (sources : List ℕ) (sink : ℕ) → CanShip nodes arcs sources sink
+    → (k : ℕ) → k < length sources → get_or sources k 0 < nodes
+sources_in nodes arcs sources sink can k l =
+    let w = can.ways k l in let inside = (can.arcs_in w.out w.out_in).from_in in let e = w.leaves in omega arith
