@@ -1,8 +1,9 @@
 #!/usr/bin/env python3
 """Writes the problems on which plans are timed, the same ones each time: 1,024 splits and up to 256 workers, or fewer.
 
-    make_problems.py SHAPE [SPLITS]    writes the text of one shape, with a worker for each four splits where SPLITS, a multiple of
-                                       128, is given; without an argument it writes the names of the shapes
+    make_problems.py SHAPE [SPLITS [CENTRES]]    writes the text of one shape, with a worker for each four splits where SPLITS,
+                                                 a multiple of 128, is given, and its racks in so many data centres, of one
+                                                 where none is given; without an argument it writes the names of the shapes
 """
 import random
 import sys
@@ -50,11 +51,15 @@ def main():
         print(*SHAPES, sep="\n")
         return
     shape, splits = sys.argv[1], int(sys.argv[2]) if len(sys.argv) > 2 else SPLITS
+    centres = int(sys.argv[3]) if len(sys.argv) > 3 else 1
     count = splits // 4
     rnd = random.Random(shape)
-    lines = ["problem 1"]
     stand = workers(shape, count, rnd)
-    lines += [f"rack r{r}" for r in range(1 + max(rack for rack, _ in stand))]
+    racks = 1 + max(rack for rack, _ in stand)
+    lines = ["problem 1", *(f"rack r{r}" for r in range(racks))]
+    if centres > 1:
+        lines = ["problem 2", *(f"centre c{c}" for c in range(centres))]
+        lines += [f"rack r{r} c{r * centres // racks}" for r in range(racks)]
     lines += [f"worker w{w} r{rack} {slots}" for w, (rack, slots) in enumerate(stand)]
     for s in range(splits):
         size, holders = split(shape, count, rnd)

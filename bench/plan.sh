@@ -4,6 +4,7 @@
 # process that reads the same problem text. One table is printed: the least of five runs each, in microseconds
 # (of fewer, once they have taken two seconds together), and how many times the others' time on the same
 # network mrjob takes. All must answer the same count and cost. It needs a C++ compiler and Debian's liblemon-dev.
+# usage: plan.sh [CENTRES]    with the racks in so many data centres, of one where none is given
 set -euo pipefail
 cd "$(dirname "$0")/.."
 bench/needs_lemon
@@ -49,7 +50,7 @@ printf '%-14s %17s %17s %17s %13s %13s\n' "" mrjob LEMON plain mrjob/LEMON mrjob
 line='%-14s %8s %8s %8s %8s %8s %8s %6s %6s %6s %6s   %s\n'
 printf "$line" problem racks direct racks direct racks direct racks direct racks direct answer
 for shape in $(bench/make_problems.py); do
-    bench/make_problems.py "$shape" > "$room/text"
+    bench/make_problems.py "$shape" 1024 "${1:-1}" > "$room/text"
     rm -f "$room/answer"
     row=()
     for program in mrjob lemon plain; do

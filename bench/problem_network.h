@@ -4,8 +4,8 @@
 // In both networks an arc leads from each pending split to the unstarted node at the reward, and arcs from
 // workers and from that node to the sink. In the direct one an arc leads from a split to each admissible
 // worker at the pair's cost. In the other, arcs lead from a split without barred pairs to its live holders
-// with a free slot, to their racks and to the cluster, and on from there to the workers below; a split with a
-// barred pair keeps its direct arcs.
+// with a free slot, to their racks, to their data centres and, where there are several, to the cluster, and on
+// from there to the workers below; a split with a barred pair keeps its direct arcs.
 #ifndef BENCH_PROBLEM_NETWORK_H_
 #define BENCH_PROBLEM_NETWORK_H_
 
@@ -35,7 +35,8 @@ struct Split {
 };
 
 struct Problem {
-  int racks = 0;
+  int racks = 0, centres = 1;
+  std::vector<int> centre_of;  // by rack
   std::vector<Worker> workers;
   std::vector<Split> splits;
 };
@@ -69,11 +70,15 @@ inline int ToNumber(std::string_view word) {
 
 inline Problem ReadProblem(std::string_view text) {
   Problem problem;
-  std::unordered_map<std::string_view, int> numbers;  // racks, workers and splits share one name space
+  std::unordered_map<std::string_view, int> numbers;  // all names share one space
+  int centres = 0;
   while (!text.empty()) {
     const std::vector<std::string_view> words = TakeLine(text);
-    if (words[0] == "rack") {
+    if (words[0] == "centre") {
+      numbers[words[1]] = centres++;
+    } else if (words[0] == "rack") {
       numbers[words[1]] = problem.racks++;
+      problem.centre_of.push_back(words.size() > 2 ? numbers.at(words[2]) : 0);
     } else if (words[0] == "worker") {
       numbers[words[1]] = static_cast<int>(problem.workers.size());
       problem.workers.push_back({numbers.at(words[2]), ToNumber(words[3]), true});
@@ -90,6 +95,7 @@ inline Problem ReadProblem(std::string_view text) {
       problem.splits[numbers.at(words[1])].pending = false;
     }
   }
+  problem.centres = std::max(centres, 1);
   return problem;
 }
 
@@ -97,7 +103,7 @@ inline Problem ReadProblem(std::string_view text) {
 inline std::int64_t Reward(const Problem& problem) {
   std::int64_t bytes = 0;
   for (const Split& split : problem.splits) bytes += split.bytes;
-  return 1 + 4 * bytes;
+  return 1 + (problem.centres > 1 ? 6 : 4) * bytes;
 }
 
 // The number of each node, or of the first of its kind. Whoever takes the lower number where two nodes are
@@ -105,37 +111,40 @@ inline std::int64_t Reward(const Problem& problem) {
 struct Nodes {
   Nodes(const Problem& problem, Kind kind)
       : rack(worker + static_cast<int>(problem.workers.size())),
-        cluster(rack + problem.racks),
-        split(kind == Kind::kRacks ? cluster + 1 : rack) {}
+        centre(rack + problem.racks),
+        cluster(centre + problem.centres),
+        split(kind == Kind::kRacks ? cluster + (problem.centres > 1) : rack) {}
 
   int sink = 0, unstarted = 1, worker = 2;
-  int rack, cluster;  // in the network with racks alone
+  int rack, centre, cluster;  // in the network with racks alone, the cluster above several centres
   int split;
 };
 
 // The arcs of a split to each worker where it may start.
 inline void AddDirectArcs(const Problem& problem, const Nodes& nodes, int s, std::vector<Arc>& arcs) {
   const Split& split = problem.splits[s];
-  std::vector<bool> holds(problem.workers.size()), near(problem.racks), barred(problem.workers.size());
+  std::vector<bool> holds(problem.workers.size()), near(problem.racks), within(problem.centres);
+  std::vector<bool> barred(problem.workers.size());
   bool has_holder = false;
   for (const int holder : split.holders) {
     if (!problem.workers[holder].live) continue;
-    holds[holder] = near[problem.workers[holder].rack] = has_holder = true;
+    const int rack = problem.workers[holder].rack;
+    holds[holder] = near[rack] = within[problem.centre_of[rack]] = has_holder = true;
   }
   if (!has_holder) return;
   for (const int worker : split.barred) barred[worker] = true;
   for (std::size_t w = 0; w < problem.workers.size(); ++w) {
     const Worker& worker = problem.workers[w];
     if (!worker.live || worker.slots == 0 || barred[w]) continue;
-    const int steps = holds[w] ? 0 : near[worker.rack] ? 2 : 4;
+    const int steps = holds[w] ? 0 : near[worker.rack] ? 2 : within[problem.centre_of[worker.rack]] ? 4 : 6;
     arcs.push_back({nodes.split + s, nodes.worker + static_cast<int>(w), 1, split.bytes * steps});
   }
 }
 
-// The arcs of a split to its holders, to their racks and to the cluster.
+// The arcs of a split to its holders, to their racks and centres, and to the cluster above several centres.
 inline void AddArcsToRacks(const Problem& problem, const Nodes& nodes, int s, std::vector<Arc>& arcs) {
   const Split& split = problem.splits[s];
-  std::vector<bool> met(problem.racks);
+  std::vector<bool> met(problem.racks), within(problem.centres);
   bool has_holder = false;
   for (const int holder : split.holders) {
     const Worker& worker = problem.workers[holder];
@@ -144,20 +153,28 @@ inline void AddArcsToRacks(const Problem& problem, const Nodes& nodes, int s, st
     if (worker.slots > 0) arcs.push_back({nodes.split + s, nodes.worker + holder, 1, 0});
     if (!met[worker.rack]) arcs.push_back({nodes.split + s, nodes.rack + worker.rack, 1, 2 * split.bytes});
     met[worker.rack] = true;
+    const int centre = problem.centre_of[worker.rack];
+    if (!within[centre]) arcs.push_back({nodes.split + s, nodes.centre + centre, 1, 4 * split.bytes});
+    within[centre] = true;
   }
-  if (has_holder) arcs.push_back({nodes.split + s, nodes.cluster, 1, 4 * split.bytes});
+  if (has_holder && problem.centres > 1) arcs.push_back({nodes.split + s, nodes.cluster, 1, 6 * split.bytes});
 }
 
-// The arcs from the cluster to racks, and from racks to workers.
+// The arcs from the cluster to centres, from centres to racks, and from racks to workers.
 inline void AddArcsBelow(const Problem& problem, const Nodes& nodes, std::vector<Arc>& arcs) {
-  std::vector<std::int64_t> slots(problem.racks);
+  std::vector<std::int64_t> slots(problem.racks), within(problem.centres);
   for (std::size_t w = 0; w < problem.workers.size(); ++w) {
     const Worker& worker = problem.workers[w];
     if (!worker.live || worker.slots == 0) continue;
     arcs.push_back({nodes.rack + worker.rack, nodes.worker + static_cast<int>(w), worker.slots, 0});
     slots[worker.rack] += worker.slots;
+    within[problem.centre_of[worker.rack]] += worker.slots;
   }
-  for (int r = 0; r < problem.racks; ++r) arcs.push_back({nodes.cluster, nodes.rack + r, slots[r], 0});
+  for (int r = 0; r < problem.racks; ++r) {
+    arcs.push_back({nodes.centre + problem.centre_of[r], nodes.rack + r, slots[r], 0});
+  }
+  if (problem.centres == 1) return;
+  for (int c = 0; c < problem.centres; ++c) arcs.push_back({nodes.cluster, nodes.centre + c, within[c], 0});
 }
 
 inline Network BuildNetwork(const Problem& problem, Kind kind) {

@@ -6,9 +6,13 @@
 #![tactic(auto)]
 
 #[cfg(test)]
+mod centres;
+#[cfg(test)]
 mod flows;
 #[cfg(test)]
 mod networks;
+#[cfg(test)]
+mod orders;
 #[cfg(test)]
 mod paths;
 #[cfg(test)]

@@ -1,13 +1,16 @@
--- How many arcs there are at most: holders that are passed, and workers of racks.
-use Rattle.std.proofs.Common.{◌≡◌, ℕ, zero, suc, ◌+◌, ◌<◌, ◌≤◌, cond, ltb, List, [], ◌∷◌, length, get_or, refl, ap, inl, inr, arith}
+-- How many arcs there are at most: holders that are passed, workers of racks, racks of centres; and a centre's
+-- slots.
+use Rattle.std.proofs.Common.{◌≡◌, ℕ, zero, suc, ◌+◌, ◌<◌, ◌≤◌, Bool, true, false, cond, eqb, List, [], ◌∷◌, length, get_or, refl, ap, ◌∙◌, inl, inr, arith}
 use Rattle.std.proofs.lemmas.Bool.{cases_lt, cases_eq, lt-ltb, le-ltb, eq-eqb}
 use Rattle.wave_problem.specs.Sums.{sum_below}
 use Rattle.wave_problem.specs.Wave.{Wave}
+use Rattle.wave_problem.proofs.Grouping.{sum_below-add, sum_below-one, sum_below-same, sum_below-zero}
 use Rattle.network_prices.proofs.Sums.{part_more}
-use Rattle.rack_network.specs.Racks.{node_above, rack_of}
-use Rattle.rack_network.specs.Build.{passed, in_racks, in_rack}
+use Rattle.rack_network.specs.Racks.{node_above, rack_of, centre_of, slots_of, slots_below, slots_within, IsTree}
+use Rattle.rack_network.specs.Build.{passed, in_places, in_place}
 
-pub passed-le : (wave : Wave) (level place : ℕ) (holders : List ℕ) → passed wave level place holders ≤ length holders
+pub passed-le : (wave : Wave) (level place : ℕ) (holders : List ℕ)
+    → passed wave level place holders ≤ length holders
 passed-le wave level place [] = omega arith
 passed-le wave level place (h ∷ holders) =
     let rest = passed-le wave level place holders in
@@ -16,12 +19,14 @@ passed-le wave level place (h ∷ holders) =
       | inr m ↦ rw (le-ltb (node_above wave level h) place (omega arith)) (omega arith)
     ]
 
-passed-mono : (wave : Wave) (level x y : ℕ) (holders : List ℕ) → x ≤ y → passed wave level x holders ≤ passed wave level y holders
+passed-mono : (wave : Wave) (level x y : ℕ) (holders : List ℕ) → x ≤ y
+    → passed wave level x holders ≤ passed wave level y holders
 passed-mono wave level x y [] l = omega arith
 passed-mono wave level x y (h ∷ holders) l =
     let rest = passed-mono wave level x y holders l in
     elim (cases_lt (node_above wave level h) x) [
-      | inl a ↦ rw (lt-ltb (node_above wave level h) x a, lt-ltb (node_above wave level h) y (omega arith)) (omega arith)
+      | inl a ↦ rw (lt-ltb (node_above wave level h) x a, lt-ltb (node_above wave level h) y (omega arith))
+          (omega arith)
       | inr b ↦ rw (le-ltb (node_above wave level h) x (omega arith)) (omega arith)
     ]
 
@@ -36,49 +41,74 @@ passed-more wave level x y zero (h ∷ holders) l m low high =
 passed-more wave level x y (suc i) (h ∷ holders) l m low high =
     let rest = passed-more wave level x y i holders l (omega arith) low high in
     elim (cases_lt (node_above wave level h) x) [
-      | inl a ↦ rw (lt-ltb (node_above wave level h) x a, lt-ltb (node_above wave level h) y (omega arith)) (omega arith)
+      | inl a ↦ rw (lt-ltb (node_above wave level h) x a, lt-ltb (node_above wave level h) y (omega arith))
+          (omega arith)
       | inr b ↦ rw (le-ltb (node_above wave level h) x (omega arith)) (omega arith)
     ]
 
-pub rack_more : (wave : Wave) (r n : ℕ) → rack_of wave n ≡ r → in_rack wave r (suc n) ≡ in_rack wave r n + 1
-rack_more wave r n e = rw (eq-eqb (rack_of wave n) r e) refl
+-- the numbers below n in a place, and in the places before one
+module _ (place_of : ℕ → ℕ) where
+  pub place_more : (p n : ℕ) → place_of n ≡ p → in_place place_of (suc n) p ≡ in_place place_of n p + 1
+  place_more p n e = rw (eq-eqb (place_of n) p e) refl
 
-pub rack-le : (wave : Wave) (r n : ℕ) → in_rack wave r n ≤ in_rack wave r (suc n)
-rack-le wave r n = omega arith
+  pub place-le : (p n : ℕ) → in_place place_of n p ≤ in_place place_of (suc n) p
+  place-le p n = omega arith
 
-pub rack-mono : (wave : Wave) (r m n : ℕ) → m ≤ n → in_rack wave r m ≤ in_rack wave r n
-rack-mono wave r m zero l = let none : m ≡ 0 = omega arith in let same = ap (in_rack wave r) none in omega arith
-rack-mono wave r m (suc n) l = elim (cases_eq m (suc n)) [
-  | inl e ↦ (let same = ap (in_rack wave r) e in omega arith)
-  | inr d ↦ (let rest = rack-mono wave r m n (omega arith) in omega arith)
-]
+  pub place-mono : (p m n : ℕ) → m ≤ n → in_place place_of m p ≤ in_place place_of n p
+  place-mono p m zero l = let none : m ≡ 0 = omega arith in
+      let same = ap (λ (i : ℕ). in_place place_of i p) none in omega arith
+  place-mono p m (suc n) l = elim (cases_eq m (suc n)) [
+    | inl e ↦ (let same = ap (λ (i : ℕ). in_place place_of i p) e in omega arith)
+    | inr d ↦ (let rest = place-mono p m n (omega arith) in omega arith)
+  ]
 
-racks_sum : (wave : Wave) (r n : ℕ) → sum_below n (λ w. cond (ltb (rack_of wave w) (suc r)) 1 0)
-    ≡ sum_below n (λ w. cond (ltb (rack_of wave w) r) 1 0) + in_rack wave r n
-racks_sum wave r zero = refl
-racks_sum wave r (suc n) =
-    let rest = racks_sum wave r n in
-    let part = part_more (rack_of wave n) r 1 in
-    omega arith
+  pub places_more : (p n : ℕ) → in_places place_of n (suc p) ≡ in_places place_of n p + in_place place_of n p
+  places_more p zero = refl
+  places_more p (suc n) =
+      let rest = places_more p n in
+      let part = part_more (place_of n) p 1 in
+      omega arith
 
-pub racks_more : (wave : Wave) (r : ℕ) → in_racks wave (suc r) ≡ in_racks wave r + in_rack wave r (length wave.workers)
-racks_more wave r = racks_sum wave r (length wave.workers)
+  pub places_none : (n : ℕ) → in_places place_of n 0 ≡ 0
+  places_none zero = refl
+  places_none (suc n) = let rest = places_none n in rw (le-ltb (place_of n) 0 (omega arith)) (omega arith)
 
-none_first : (wave : Wave) (n : ℕ) → sum_below n (λ w. cond (ltb (rack_of wave w) 0) 1 0) ≡ 0
-none_first wave zero = refl
-none_first wave (suc n) = let rest = none_first wave n in rw (le-ltb (rack_of wave n) 0 (omega arith)) (omega arith)
+  pub places-le : (p n : ℕ) → in_places place_of n p ≤ n
+  places-le p zero = omega arith
+  places-le p (suc n) =
+      let rest = places-le p n in
+      elim (cases_lt (place_of n) p) [
+        | inl l ↦ rw (lt-ltb (place_of n) p l) (omega arith)
+        | inr m ↦ rw (le-ltb (place_of n) p (omega arith)) (omega arith)
+      ]
 
-pub racks_none : (wave : Wave) → in_racks wave 0 ≡ 0
-racks_none wave = none_first wave (length wave.workers)
+-- a sum over the racks of a centre, each of them of its workers' slots, is one over the centre's workers
+cond_none : (b : Bool) → ◌≡◌ {A = ℕ} (cond b 0 0) 0
+cond_none true = refl
+cond_none false = refl
 
-sum-le : (wave : Wave) (r n : ℕ) → sum_below n (λ w. cond (ltb (rack_of wave w) r) 1 0) ≤ n
-sum-le wave r zero = omega arith
-sum-le wave r (suc n) =
-    let rest = sum-le wave r n in
-    elim (cases_lt (rack_of wave n) r) [
-      | inl l ↦ rw (lt-ltb (rack_of wave n) r l) (omega arith)
-      | inr m ↦ rw (le-ltb (rack_of wave n) r (omega arith)) (omega arith)
-    ]
+cond-add : (b d : Bool) (x y : ℕ) → cond b (x + cond d y 0) 0 ≡ cond b x 0 + cond d (cond b y 0) 0
+cond-add true d x y = refl
+cond-add false true x y = refl
+cond-add false false x y = refl
 
-pub racks-le : (wave : Wave) (r : ℕ) → in_racks wave r ≤ length wave.workers
-racks-le wave r = sum-le wave r (length wave.workers)
+pub by_racks : (wave : Wave) (tree : IsTree wave) (c m : ℕ) → m ≤ length wave.workers
+    → sum_below (length wave.tree.centre_of) (λ r. cond (eqb (centre_of wave r) c) (slots_below wave m r) 0)
+    ≡ slots_within wave m c
+by_racks wave tree c zero l =
+    sum_below-same (length wave.tree.centre_of) _ (λ _. 0) (λ r k. cond_none (eqb (centre_of wave r) c))
+    ∙ sum_below-zero (length wave.tree.centre_of)
+by_racks wave tree c (suc m) l =
+    let rest = by_racks wave tree c m (omega arith) in
+    let part = sum_below-same (length wave.tree.centre_of)
+    (λ r. cond (eqb (centre_of wave r) c) (slots_below wave (suc m) r) 0)
+    (λ r. cond (eqb (centre_of wave r) c) (slots_below wave m r) 0
+    + cond (eqb (rack_of wave m) r) (cond (eqb (centre_of wave r) c) (slots_of wave m) 0) 0)
+    (λ r k. cond-add (eqb (centre_of wave r) c) (eqb (rack_of wave m) r) (slots_below wave m r)
+    (slots_of wave m)) in
+    let both = sum_below-add (length wave.tree.centre_of)
+    (λ r. cond (eqb (centre_of wave r) c) (slots_below wave m r) 0)
+    (λ r. cond (eqb (rack_of wave m) r) (cond (eqb (centre_of wave r) c) (slots_of wave m) 0) 0) in
+    let one = sum_below-one (length wave.tree.centre_of) (rack_of wave m)
+    (λ r. cond (eqb (centre_of wave r) c) (slots_of wave m) 0) (tree.racks m (omega arith)) in
+    omega (arith, rest, part, both, one)

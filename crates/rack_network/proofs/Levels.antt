@@ -1,5 +1,5 @@
 -- What a start costs, by the level at which its worker meets a live holder.
-use Rattle.std.proofs.Common.{◌≡◌, ℕ, zero, suc, ◌*◌, ◌<◌, ◌≤◌, Bool, true, false, subst, min, List, [], ◌∷◌, length, get_or, map, filter, fold, Option, Some, refl, sym, ap, ◌∙◌, inl, inr, ◌⊎◌, arith, unwrap_or}
+use Rattle.std.proofs.Common.{◌≡◌, ℕ, zero, suc, ◌*◌, ◌<◌, ◌≤◌, Bool, true, false, min, List, [], ◌∷◌, length, get_or, map, filter, fold, Option, Some, refl, sym, ap, ◌∙◌, inl, inr, ◌⊎◌, arith, unwrap_or}
 use Rattle.std.specs.Prelude.{◌==◌}
 use Rattle.std.specs.Option.{option_map}
 use Rattle.std.proofs.lemmas.Bool.{cases_Bool, cases_eq, cases_lt, eq-eqb, ne_eqb}
@@ -34,14 +34,16 @@ least-le f (y ∷ ys) x d among e =
 min_is : (a b : ℕ) → (min a b ≡ a) ⊎ (min a b ≡ b)
 min_is a b = elim (cases_lt a b) [ inl l ↦ inl (omega arith) | inr n ↦ inr (omega arith) ]
 
-fold_is : (f : ℕ → ℕ) (xs : List ℕ) (a : ℕ) → (fold min a (map f xs) ≡ a) ⊎ ((x : ℕ) × IsAmong x xs × (fold min a (map f xs) ≡ f x))
+fold_is : (f : ℕ → ℕ) (xs : List ℕ) (a : ℕ) → (fold min a (map f xs) ≡ a)
+    ⊎ ((x : ℕ) × IsAmong x xs × (fold min a (map f xs) ≡ f x))
 fold_is f [] a = inl refl
 fold_is f (y ∷ ys) a = elim (fold_is f ys (min a (f y))) [
   | inr r ↦ inr (r.0, inr r.1, r.2)
   | inl e ↦ elim (min_is a (f y)) [ inl p ↦ inl (e ∙ p) | inr q ↦ inr (y, inl refl, e ∙ q) ]
 ]
 
-pub least_is : (f : ℕ → ℕ) (xs : List ℕ) → 0 < length xs → (x : ℕ) × IsAmong x xs × (least (map f xs) ≡ Some (f x))
+pub least_is : (f : ℕ → ℕ) (xs : List ℕ) → 0 < length xs → (x : ℕ) × IsAmong x xs
+    × (least (map f xs) ≡ Some (f x))
 least_is f [] l = absurd (omega arith)
 least_is f (y ∷ ys) l = elim (fold_is f ys (f y)) [
   | inl e ↦ (y, inl refl, ap Some e)
@@ -67,87 +69,141 @@ pub holder_held : (wave : Wave) (s h : ℕ) → IsAmong h (live_holders wave s) 
 holder_held wave s h a = among_some (live_holders wave s) h a
 
 -- no live holder is nearer than a start's cost says, and one is as near
-cost_at : (wave : Wave) (s w d : ℕ) → least_distance wave s w ≡ Some d → unwrap_or (cost wave s w) 0 ≡ (split_at wave s).bytes * d
+cost_at : (wave : Wave) (s w d : ℕ) → least_distance wave s w ≡ Some d
+    → unwrap_or (cost wave s w) 0 ≡ (split_at wave s).bytes * d
 cost_at wave s w d e = ap (λ (o : Option ℕ). unwrap_or (option_map (λ d. (split_at wave s).bytes * d) o) 0) e
 
-pub cost-le : (wave : Wave) (s w h : ℕ) → IsAmong h (live_holders wave s) → unwrap_or (cost wave s w) 0 ≤ (split_at wave s).bytes * distance wave.tree h w
+pub cost-le : (wave : Wave) (s w h : ℕ) → IsAmong h (live_holders wave s)
+    → unwrap_or (cost wave s w) 0 ≤ (split_at wave s).bytes * distance wave.tree h w
 cost-le wave s w h among =
     let best = least_is (λ h. distance wave.tree h w) (live_holders wave s) (holder_held wave s h among) in
-    let near = least-le (λ h. distance wave.tree h w) (live_holders wave s) h (distance wave.tree best.0 w) among best.2 in
+    let near = least-le (λ h. distance wave.tree h w) (live_holders wave s) h (distance wave.tree best.0 w)
+    among best.2 in
     let is = cost_at wave s w (distance wave.tree best.0 w) best.2 in
     let scaled = mul-le-mul_left (split_at wave s).bytes near in
     omega arith
 
 pub cost_is : (wave : Wave) (s w : ℕ) → 0 < length (live_holders wave s)
-    → (h : ℕ) × IsAmong h (live_holders wave s) × (unwrap_or (cost wave s w) 0 ≡ (split_at wave s).bytes * distance wave.tree h w)
+    → (h : ℕ) × IsAmong h (live_holders wave s)
+    × (unwrap_or (cost wave s w) 0 ≡ (split_at wave s).bytes * distance wave.tree h w)
 cost_is wave s w held =
     let best = least_is (λ h. distance wave.tree h w) (live_holders wave s) held in
     (best.0, best.1, cost_at wave s w (distance wave.tree best.0 w) best.2)
 
--- the level at which two workers meet: they are the same, or of one rack, or of the cluster
+-- the level at which two workers meet: they are the same, or of one rack, or of one centre, or of the cluster
 abbrev pub Meet : Tree → ℕ → ℕ → ℕ → Type 0
 Meet tree zero h w = h ≡ w
 Meet tree (suc zero) h w = get_or tree.rack_of h 0 ≡ get_or tree.rack_of w 0
-Meet tree (suc (suc level)) h w = Unit {0}
+Meet tree (suc (suc zero)) h w = centre_at tree h ≡ centre_at tree w
+Meet tree (suc (suc (suc level))) h w = Unit {0}
 
--- workers of one rack are no further apart than 2, and others of a centre 4
-within_two : (same centre : Bool) → steps_by same true centre ≤ 2
-within_two true centre = omega arith
-within_two false centre = omega arith
+-- workers of one rack are no further apart than 2, others of a centre 4, and others 6
+within_rack : (same centre : Bool) → steps_by same true centre ≤ 2
+within_rack true centre = omega arith
+within_rack false centre = omega arith
 
-just_four : (centre : Bool) → steps_by false false centre ≤ 4 → steps_by false false centre ≡ 4
-just_four true near = refl
-just_four false near = absurd (omega (arith, near))
+within_centre : (same rack : Bool) → steps_by same rack true ≤ 4
+within_centre true rack = omega arith
+within_centre false true = omega arith
+within_centre false false = omega arith
 
-pub distance-le : (tree : Tree) (level h w : ℕ) → distance tree h w ≤ 4 → Meet tree level h w → distance tree h w ≤ 2 * level
-distance-le tree zero h w near m =
-    let rack : Bool = get_or tree.rack_of h 0 == get_or tree.rack_of w 0 in
-    let none : distance tree h w ≡ 0 = distance_by tree h w
-    ∙ ap (λ (b : Bool). steps_by b rack (centre_at tree h == centre_at tree w)) (eq-eqb h w m) in
-    omega (arith, none)
-distance-le tree (suc zero) h w near m =
-    let two : distance tree h w ≡ steps_by (h == w) true (centre_at tree h == centre_at tree w) = distance_by tree h w
-    ∙ ap (λ (b : Bool). steps_by (h == w) b (centre_at tree h == centre_at tree w))
-    (eq-eqb (get_or tree.rack_of h 0) (get_or tree.rack_of w 0) m) in
-    omega (arith, two, within_two (h == w) (centre_at tree h == centre_at tree w))
-distance-le tree (suc (suc level)) h w near m = omega (arith, near)
+within_cluster : (same rack centre : Bool) → steps_by same rack centre ≤ 6
+within_cluster true rack centre = omega arith
+within_cluster false true centre = omega arith
+within_cluster false false true = omega arith
+within_cluster false false false = omega arith
 
-pub distance_is : (tree : Tree) (h w : ℕ) → distance tree h w ≤ 4
-    → (level : ℕ) × (level < 3) × Meet tree level h w × (distance tree h w ≡ 2 * level)
-distance_is tree h w near =
-    let centre : Bool = centre_at tree h == centre_at tree w in
-    let rack : Bool = get_or tree.rack_of h 0 == get_or tree.rack_of w 0 in
-    elim (cases_eq h w) [
-      | inl s ↦ (0, omega arith, s, distance_by tree h w ∙ ap (λ (b : Bool). steps_by b rack centre) (eq-eqb h w s))
-      | inr n ↦
-          let other : distance tree h w ≡ steps_by false rack centre =
-          distance_by tree h w ∙ ap (λ (b : Bool). steps_by b rack centre) (ne_eqb h w n) in
-          elim (cases_eq (get_or tree.rack_of h 0) (get_or tree.rack_of w 0)) [
-            | inl e ↦ (
-              1,
-              omega arith,
-              e,
-              other ∙ ap (λ (b : Bool). steps_by false b centre)
-                  (eq-eqb (get_or tree.rack_of h 0) (get_or tree.rack_of w 0) e),
-            )
-            | inr m ↦
-                let far : distance tree h w ≡ steps_by false false centre = other
-                ∙ ap (λ (b : Bool). steps_by false b centre)
-                (ne_eqb (get_or tree.rack_of h 0) (get_or tree.rack_of w 0) m) in
-                (2, omega arith, tt, far ∙ just_four centre (subst (λ (d : ℕ). d ≤ 4) far near))
-          ]
-    ]
+module _ (tree : Tree) (h w : ℕ) where
+  abbrev same_rack : Bool
+  same_rack = get_or tree.rack_of h 0 == get_or tree.rack_of w 0
+
+  abbrev same_centre : Bool
+  same_centre = centre_at tree h == centre_at tree w
+
+  pub distance-le : (level : ℕ) → level < 4 → Meet tree level h w → distance tree h w ≤ 2 * level
+  distance-le zero l m =
+      let none : distance tree h w ≡ 0 = distance_by tree h w
+      ∙ ap (λ (b : Bool). steps_by b same_rack same_centre) (eq-eqb h w m) in
+      omega (arith, none)
+  distance-le (suc zero) l m =
+      let two : distance tree h w ≡ steps_by (h == w) true same_centre = distance_by tree h w
+      ∙ ap (λ (b : Bool). steps_by (h == w) b same_centre)
+      (eq-eqb (get_or tree.rack_of h 0) (get_or tree.rack_of w 0) m) in
+      omega (arith, two, within_rack (h == w) same_centre)
+  distance-le (suc (suc zero)) l m =
+      let four : distance tree h w ≡ steps_by (h == w) same_rack true = distance_by tree h w
+      ∙ ap (λ (b : Bool). steps_by (h == w) same_rack b) (eq-eqb (centre_at tree h) (centre_at tree w) m) in
+      omega (arith, four, within_centre (h == w) same_rack)
+  distance-le (suc (suc (suc zero))) l m =
+      omega (arith, distance_by tree h w, within_cluster (h == w) same_rack same_centre)
+  distance-le (suc (suc (suc (suc level)))) l m = absurd (omega arith)
+
+  -- they are as far apart as twice the least level at which they meet, which is the cluster's where their centres
+  -- differ
+  pub distance_is : (level : ℕ) × (level < 4) × Meet tree level h w × (distance tree h w ≡ 2 * level)
+      × (2 < level → centre_at tree h ≡ centre_at tree w → ⊥)
+  distance_is = elim (cases_eq h w) [
+    | inl s ↦ (
+      0,
+      omega arith,
+      s,
+      distance_by tree h w ∙ ap (λ (b : Bool). steps_by b same_rack same_centre) (eq-eqb h w s),
+      λ l e. omega arith,
+    )
+    | inr n ↦
+        let other : distance tree h w ≡ steps_by false same_rack same_centre =
+        distance_by tree h w ∙ ap (λ (b : Bool). steps_by b same_rack same_centre) (ne_eqb h w n) in
+        elim (cases_eq (get_or tree.rack_of h 0) (get_or tree.rack_of w 0)) [
+          | inl e ↦ (
+            1,
+            omega arith,
+            e,
+            other ∙ ap (λ (b : Bool). steps_by false b same_centre)
+                (eq-eqb (get_or tree.rack_of h 0) (get_or tree.rack_of w 0) e),
+            λ l same. omega arith,
+          )
+          | inr m ↦
+              let far : distance tree h w ≡ steps_by false false same_centre = other
+              ∙ ap (λ (b : Bool). steps_by false b same_centre)
+              (ne_eqb (get_or tree.rack_of h 0) (get_or tree.rack_of w 0) m) in
+              elim (cases_eq (centre_at tree h) (centre_at tree w)) [
+                | inl c ↦ (
+                  2,
+                  omega arith,
+                  c,
+                  far ∙ ap (λ (b : Bool). steps_by false false b)
+                      (eq-eqb (centre_at tree h) (centre_at tree w) c),
+                  λ l same. omega arith,
+                )
+                | inr d ↦ (
+                  3,
+                  omega arith,
+                  tt,
+                  far ∙ ap (λ (b : Bool). steps_by false false b)
+                      (ne_eqb (centre_at tree h) (centre_at tree w) d),
+                  λ l same. d same,
+                )
+              ]
+        ]
+  ]
 
 -- a live holder stands in the list of the holders, and each that stands there and lives is one
-pub holder_place : (p : ℕ → Bool) (xs : List ℕ) (h : ℕ) → IsAmong h (filter p xs) → (j : ℕ) × (j < length xs) × (get_or xs j 0 ≡ h)
+pub holder_place : (p : ℕ → Bool) (xs : List ℕ) (h : ℕ) → IsAmong h (filter p xs) → (j : ℕ) × (j < length xs)
+    × (get_or xs j 0 ≡ h)
 holder_place p [] h a = absurd a
 holder_place p (y ∷ ys) h a = elim (cases_Bool (p y)) [
   | inl t ↦ (let here : IsAmong h (y ∷ filter p ys) = rw t at a in
-      elim here [ inl e ↦ (0, omega arith, sym e) | inr r ↦ (let found = holder_place p ys h r in let l = found.1 in (suc found.0, omega arith, found.2)) ])
-  | inr f ↦ (let rest : IsAmong h (filter p ys) = rw f at a in let found = holder_place p ys h rest in let l = found.1 in (suc found.0, omega arith, found.2))
+      elim here [
+        | inl e ↦ (0, omega arith, sym e)
+        | inr r ↦ (let found = holder_place p ys h r in
+            let l = found.1 in (suc found.0, omega arith, found.2))
+      ])
+  | inr f ↦ (let rest : IsAmong h (filter p ys) = rw f at a in let found = holder_place p ys h rest in
+      let l = found.1 in (suc found.0, omega arith, found.2))
 ]
 
-pub among_kept : (p : ℕ → Bool) (xs : List ℕ) (i : ℕ) → i < length xs → p (get_or xs i 0) ≡ true → IsAmong (get_or xs i 0) (filter p xs)
+pub among_kept : (p : ℕ → Bool) (xs : List ℕ) (i : ℕ) → i < length xs → p (get_or xs i 0) ≡ true
+    → IsAmong (get_or xs i 0) (filter p xs)
 among_kept p [] i l t = absurd (omega arith)
 among_kept p (y ∷ ys) zero l t = rw t (inl refl)
 among_kept p (y ∷ ys) (suc i) l t = elim (cases_Bool (p y)) [

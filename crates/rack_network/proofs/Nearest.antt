@@ -3,13 +3,14 @@ use Rattle.std.proofs.Common.{◌≡◌, ℕ, ◌+◌, ◌<◌, ◌≤◌, true,
 use Rattle.std.proofs.lemmas.Bool.{cases_Bool, cases_lt, cases_eq, false≢true}
 use Rattle.wave_problem.specs.Wave.{Wave, split_at, worker_at, worker_in, live_holders}
 use Rattle.network_prices.specs.Ways.{IsAmong}
-use Rattle.rack_network.specs.Racks.{node_above, GoesDirect, IsReach}
+use Rattle.rack_network.specs.Racks.{node_above, level_count, HasBars, IsReach}
 use Rattle.rack_network.specs.Build.{passed, IsNearer, IsNext, IsReached}
 use Rattle.rack_network.proofs.Counts.{passed-more}
 use Rattle.rack_network.proofs.Levels.{among_kept, holder_live, holder_place}
 
 module _ (wave : Wave) (holders : List ℕ) (level place n : ℕ) where
-  pub next_found : (h : ℕ) (next : Option ℕ) → get_or holders n 0 ≡ h → IsReached wave level h → IsNearer wave level place h next
+  pub next_found : (h : ℕ) (next : Option ℕ) → get_or holders n 0 ≡ h → IsReached wave level h
+      → IsNearer wave level place h next
       → IsNext wave holders level place n next → IsNext wave holders level place (n + 1) (Some h)
   next_found h next at reached nearer was = record {
     found = λ k e. (let same : h ≡ k = cc in (
@@ -23,18 +24,23 @@ module _ (wave : Wave) (holders : List ℕ) (level place n : ℕ) where
         (let same : h ≡ k = cc in
         let node = ap (node_above wave level) same in
         elim (cases_eq j n) [
-          | inl q ↦ (let here = ap (λ (x : ℕ). node_above wave level (get_or holders x 0)) q in let own = ap (node_above wave level) at in omega arith)
+          | inl q ↦ (let here = ap (λ (x : ℕ). node_above wave level (get_or holders x 0)) q in
+              let own = ap (node_above wave level) at in omega arith)
           | inr o ↦ far next refl j k (omega arith) reach past node
         ]);
     none = λ j e l reach. absurd (let no : Some h ≡ None = e in cc);
   }
     where
-      far : (o : Option ℕ) → next ≡ o → (j k : ℕ) → j < n → IsReached wave level (get_or holders j 0) → place ≤ node_above wave level (get_or holders j 0)
-          → node_above wave level h ≡ node_above wave level k → node_above wave level k ≤ node_above wave level (get_or holders j 0)
+      far : (o : Option ℕ) → next ≡ o → (j k : ℕ) → j < n → IsReached wave level (get_or holders j 0)
+          → place ≤ node_above wave level (get_or holders j 0)
+          → node_above wave level h ≡ node_above wave level k
+          → node_above wave level k ≤ node_above wave level (get_or holders j 0)
       far None e j k l reach past node = let before = was.none j e l reach in absurd (omega arith)
-      far (Some m) e j k l reach past node = let old = was.least m j e l reach past in let less = nearer.1 m e in omega arith
+      far (Some m) e j k l reach past node = let old = was.least m j e l reach past in
+          let less = nearer.1 m e in omega arith
 
-  pub next_kept : (h : ℕ) (next : Option ℕ) → get_or holders n 0 ≡ h → (IsReached wave level h → IsNearer wave level place h next → ⊥)
+  pub next_kept : (h : ℕ) (next : Option ℕ) → get_or holders n 0 ≡ h
+      → (IsReached wave level h → IsNearer wave level place h next → ⊥)
       → IsNext wave holders level place n next → IsNext wave holders level place (n + 1) next
   next_kept h next at never was = record {
     found = λ k e. (let f = was.found k e in let l = f.1 in (f.0, omega arith, f.2, f.3, f.4));
@@ -65,16 +71,22 @@ module _ (wave : Wave) (holders : List ℕ) (level place n : ℕ) where
     ];
   }
 
-  nearer_or_not : (h : ℕ) (next : Option ℕ) → IsNearer wave level place h next ⊎ (IsNearer wave level place h next → ⊥)
+  nearer_or_not : (h : ℕ) (next : Option ℕ) → IsNearer wave level place h next
+      ⊎ (IsNearer wave level place h next → ⊥)
   nearer_or_not h next = elim (cases_lt (node_above wave level h) place) [
     | inl l ↦ inr (λ nearer. let low = nearer.0 in omega arith)
     | inr m ↦ against (omega arith) next
   ]
     where
-      against : place ≤ node_above wave level h → (o : Option ℕ) → IsNearer wave level place h o ⊎ (IsNearer wave level place h o → ⊥)
+      against : place ≤ node_above wave level h → (o : Option ℕ) → IsNearer wave level place h o
+          ⊎ (IsNearer wave level place h o → ⊥)
       against low None = inl (omega arith, λ k e. absurd (let no : None ≡ Some k = e in cc))
       against low (Some g) = elim (cases_lt (node_above wave level h) (node_above wave level g)) [
-        | inl l ↦ inl (omega arith, λ k e. (let same : g ≡ k = cc in let node = ap (node_above wave level) same in omega arith))
+        | inl l ↦ inl (
+          omega arith,
+          λ k e. (let same : g ≡ k = cc in
+              let node = ap (node_above wave level) same in omega arith),
+        )
         | inr m ↦ inr (λ nearer. let less = nearer.1 g refl in omega arith)
       ]
 
@@ -98,13 +110,16 @@ module _ (wave : Wave) (holders : List ℕ) (level place n : ℕ) where
     | inr no_reach ↦ subst (IsNext wave holders level place (n + 1)) (sym (kept (λ r nearer. no_reach r)))
         (next_kept h next at (λ r nearer. no_reach r) was)
     | inl reached ↦ elim (nearer_or_not h next) [
-      | inl nearer ↦ subst (IsNext wave holders level place (n + 1)) (sym (taken reached nearer)) (next_found h next at reached nearer was)
-      | inr far ↦ subst (IsNext wave holders level place (n + 1)) (sym (kept (λ r nearer. far nearer))) (next_kept h next at (λ r nearer. far nearer) was)
+      | inl nearer ↦ subst (IsNext wave holders level place (n + 1)) (sym (taken reached nearer))
+          (next_found h next at reached nearer was)
+      | inr far ↦ subst (IsNext wave holders level place (n + 1)) (sym (kept (λ r nearer. far nearer)))
+          (next_kept h next at (λ r nearer. far nearer) was)
     ]
   ]
 
 -- the same for the holders of a split, and what it says of the nodes that the split reaches
-module _ (wave : Wave) (s level place : ℕ) (pending : (split_at wave s).pending ≡ true) (not_direct : GoesDirect wave s → ⊥) (few : level < 3) where
+module _ (wave : Wave) (s level place : ℕ) (pending : (split_at wave s).pending ≡ true)
+    (no_bars : HasBars wave s → ⊥) (known : level < level_count wave) where
   abbrev Next : Option ℕ → Type 0
   Next next = IsNext wave (split_at wave s).holders level place (length (split_at wave s).holders) next
 
@@ -113,8 +128,8 @@ module _ (wave : Wave) (s level place : ℕ) (pending : (split_at wave s).pendin
       let f = next.found h refl in
       record {
         pending = pending;
-        not_direct = not_direct;
-        levels = few;
+        no_bars = no_bars;
+        known = known;
         holder = subst (λ (z : ℕ). IsAmong z (live_holders wave s)) f.2
             (among_kept (λ g. (worker_in wave.workers g).live) (split_at wave s).holders f.0 f.1
             (ap (λ (z : ℕ). (worker_at wave z).live) f.2 ∙ f.3.0));
@@ -124,13 +139,18 @@ module _ (wave : Wave) (s level place : ℕ) (pending : (split_at wave s).pendin
   pub next_past : (h : ℕ) → Next (Some h) → place ≤ node_above wave level h
   next_past h next = (next.found h refl).4
 
-  stands_at : (g : ℕ) → IsReach wave s level g → (j : ℕ) × (j < length (split_at wave s).holders) × (get_or (split_at wave s).holders j 0 ≡ g)
-  stands_at g reach = holder_place (λ g. (worker_in wave.workers g).live) (split_at wave s).holders g reach.holder
+  stands_at : (g : ℕ) → IsReach wave s level g → (j : ℕ) × (j < length (split_at wave s).holders)
+      × (get_or (split_at wave s).holders j 0 ≡ g)
+  stands_at g reach = holder_place (λ g. (worker_in wave.workers g).live) (split_at wave s).holders g
+      reach.holder
 
-  reached_at : (g j : ℕ) → IsReach wave s level g → get_or (split_at wave s).holders j 0 ≡ g → IsReached wave level (get_or (split_at wave s).holders j 0)
-  reached_at g j reach at = subst (IsReached wave level) (sym at) (holder_live wave s g reach.holder, reach.has_slot)
+  reached_at : (g j : ℕ) → IsReach wave s level g → get_or (split_at wave s).holders j 0 ≡ g
+      → IsReached wave level (get_or (split_at wave s).holders j 0)
+  reached_at g j reach at =
+      subst (IsReached wave level) (sym at) (holder_live wave s g reach.holder, reach.has_slot)
 
-  pub next_least : (h : ℕ) → Next (Some h) → (g : ℕ) → IsReach wave s level g → place ≤ node_above wave level g
+  pub next_least : (h : ℕ) → Next (Some h) → (g : ℕ) → IsReach wave s level g
+      → place ≤ node_above wave level g
       → node_above wave level h ≤ node_above wave level g
   next_least h next g reach past =
       let j = stands_at g reach in
@@ -146,9 +166,11 @@ module _ (wave : Wave) (s level place : ℕ) (pending : (split_at wave s).pendin
       omega arith
 
   pub next_passed : (h : ℕ) → Next (Some h)
-      → passed wave level place (split_at wave s).holders < passed wave level (node_above wave level h + 1) (split_at wave s).holders
+      → passed wave level place (split_at wave s).holders < passed wave level (node_above wave level h + 1)
+      (split_at wave s).holders
   next_passed h next =
       let f = next.found h refl in
       let node = ap (node_above wave level) f.2 in
       let past = f.4 in
-      passed-more wave level place (node_above wave level h + 1) f.0 (split_at wave s).holders (omega arith) f.1 (omega arith) (omega arith)
+      passed-more wave level place (node_above wave level h + 1) f.0 (split_at wave s).holders
+      (omega arith) f.1 (omega arith) (omega arith)

@@ -1,30 +1,28 @@
 -- How far the rack network of a wave is built.
-use Rattle.std.specs.Prelude.{ℕ, zero, suc, ◌≡◌, ◌+◌, ◌<◌, ◌≤◌, ◌==◌, nat_lt, true, cond, List, [], ◌∷◌, length, slice_index, Option, Some, None}
+use Rattle.std.specs.Prelude.{ℕ, zero, suc, ◌≡◌, ◌+◌, ◌*◌, ◌<◌, ◌≤◌, ◌==◌, nat_lt, true, cond, List, [], ◌∷◌, length, slice_index, Option, Some, None}
 use Rattle.wave_problem.specs.Sums.{sum_below}
 use Rattle.wave_problem.specs.Wave.{Wave, worker_at}
 use Rattle.flow_network.specs.Flow.{Flow}
 use Rattle.network_prices.specs.Tables.{IsBuiltTo}
 use Rattle.rack_network.specs.declared.layout.RackLayout.{RackLayout}
-use Rattle.rack_network.specs.Racks.{cluster_node, rack_node, first_worker, unstarted_node, node_above, rack_of, arc_of, IsSized, IsWanted}
+use Rattle.rack_network.specs.Racks.{cluster_node, centre_node, rack_node, first_worker, unstarted_node, node_above, arc_of, IsSized, IsWanted}
 
 -- as far as the row u and the column x, with at most so many arcs
 abbrev pub IsBuilt : Wave → ℕ → ℕ → ℕ → Flow RackLayout → Type 0
 IsBuilt wave u x limit network = IsBuiltTo (IsWanted wave) (arc_of wave) (IsSized wave) u x limit network
 
--- each worker stands in one of the racks
-abbrev pub AreRacksKnown : Wave → Type 0
-AreRacksKnown wave = (w : ℕ) → w < length wave.workers → rack_of wave w < length wave.tree.centre_of
-
 -- where the nodes of a level begin, and where they end
 abbrev pub level_start : Wave → ℕ → ℕ
 level_start wave zero = first_worker wave
 level_start wave (suc zero) = rack_node wave 0
-level_start wave (suc (suc level)) = cluster_node wave
+level_start wave (suc (suc zero)) = centre_node wave 0
+level_start wave (suc (suc (suc level))) = cluster_node wave
 
 abbrev pub level_end : Wave → ℕ → ℕ
 level_end wave zero = unstarted_node wave
 level_end wave (suc zero) = first_worker wave
-level_end wave (suc (suc level)) = rack_node wave 0
+level_end wave (suc (suc zero)) = rack_node wave 0
+level_end wave (suc (suc (suc level))) = centre_node wave 0
 
 -- a live holder, with a free slot where its own node is meant
 abbrev pub IsReached : Wave → ℕ → ℕ → Type 0
@@ -37,7 +35,8 @@ IsNearer wave level place h next = (place ≤ node_above wave level h)
 
 -- of the first n holders, one below the first node of a level from a place on
 pub record IsNext (wave : Wave) (holders : List ℕ) (level place n : ℕ) (next : Option ℕ) : Type 0 where
-  pub found : (h : ℕ) → next ≡ Some h → (i : ℕ) × (i < n) × (slice_index holders i ≡ h) × IsReached wave level h
+  pub found : (h : ℕ) → next ≡ Some h → (i : ℕ) × (i < n) × (slice_index holders i ≡ h)
+      × IsReached wave level h
       × (place ≤ node_above wave level h)
   pub least : (h j : ℕ) → next ≡ Some h → j < n → IsReached wave level (slice_index holders j)
       → place ≤ node_above wave level (slice_index holders j)
@@ -48,11 +47,25 @@ pub record IsNext (wave : Wave) (holders : List ℕ) (level place n : ℕ) (next
 -- how many of the holders stand below a node of a level before a place
 abbrev pub passed : Wave → ℕ → ℕ → List ℕ → ℕ
 passed wave level place [] = 0
-passed wave level place (h ∷ holders) = cond (nat_lt (node_above wave level h) place) 1 0 + passed wave level place holders
+passed wave level place (h ∷ holders) =
+    cond (nat_lt (node_above wave level h) place) 1 0 + passed wave level place holders
 
--- how many workers stand in racks before r, and how many of those below w stand in r
-abbrev pub in_racks : Wave → ℕ → ℕ
-in_racks wave r = sum_below (length wave.workers) (λ w. cond (nat_lt (rack_of wave w) r) 1 0)
+-- how many of the numbers below n are in places before p, and how many are in p
+abbrev pub in_places : (ℕ → ℕ) → ℕ → ℕ → ℕ
+in_places place_of n p = sum_below n (λ i. cond (nat_lt (place_of i) p) 1 0)
 
-abbrev pub in_rack : Wave → ℕ → ℕ → ℕ
-in_rack wave r n = sum_below n (λ w. cond (rack_of wave w == r) 1 0)
+abbrev pub in_place : (ℕ → ℕ) → ℕ → ℕ → ℕ
+in_place place_of n p = sum_below n (λ i. cond (place_of i == p) 1 0)
+
+-- so many arcs have the rows of the splits, of the cluster, of the centres, of the racks at most
+abbrev pub split_arcs : Wave → ℕ
+split_arcs wave = 257 * length wave.splits
+
+abbrev pub trunk_arcs : Wave → ℕ
+trunk_arcs wave = split_arcs wave + wave.tree.centres
+
+abbrev pub branch_arcs : Wave → ℕ
+branch_arcs wave = trunk_arcs wave + length wave.tree.centre_of
+
+abbrev pub feed_arcs : Wave → ℕ
+feed_arcs wave = branch_arcs wave + length wave.workers

@@ -1,90 +1,160 @@
--- The laws of the numbering, proved here since an impl cites them: each node has a place of its own, each place a node.
-use Rattle.std.proofs.Common.{◌≡◌, ℕ, ◌+◌, ◌-◌, ◌<◌, true, false, eqb, ltb, inl, inr, refl, sym, ap, ◌∙◌, arith}
-use Rattle.std.proofs.lemmas.Bool.{cases_lt, cases_eq, lt-ltb, le-ltb, ltb-true, eq-eqb, ne_eqb}
+-- The laws of the numbering, proved here since an impl cites them: each node has a place of its own, and each
+-- place a node.
+use Rattle.std.proofs.Common.{◌≡◌, ℕ, ◌+◌, ◌-◌, ◌<◌, ◌≤◌, Bool, true, cond, ◌⊎◌, inl, inr, refl, sym, ap, ◌∙◌, arith}
+use Rattle.std.proofs.lemmas.Bool.{cases_lt, lt-ltb, le-ltb, ltb-true, eq-eqb, ne_eqb}
 use Rattle.rack_network.specs.declared.layout.RackNode.{RackNode}
-use Rattle.rack_network.specs.declared.layout.RackNode.TheVariants.{Split, Cluster, Rack, Worker, Unstarted, Sink}
-use Rattle.rack_network.specs.Layout.{place_of, node_of, is_node}
+use Rattle.rack_network.specs.declared.layout.RackNode.TheVariants.{Split, Cluster, Centre, Rack, Worker, Unstarted, Sink}
+use Rattle.rack_network.specs.Layout.{clusters, place_of, node_of, is_node}
 
-at_split : (s r w i : ℕ) → i < s → node_of s r w i ≡ Split i
-at_split s r w i h = rw (lt-ltb i s h) refl
+-- the node of the cluster, where there are several centres
+pub one_cluster : (c : ℕ) → 1 < c → clusters c ≡ 1
+one_cluster c h = ap (λ (b : Bool). cond b 1 0) (lt-ltb 1 c h)
 
-at_cluster : (s r w : ℕ) → node_of s r w s ≡ Cluster
-at_cluster s r w = rw (le-ltb s s (omega arith), eq-eqb s s refl) refl
+pub no_cluster : (c : ℕ) → c ≤ 1 → clusters c ≡ 0
+no_cluster c h = ap (λ (b : Bool). cond b 1 0) (le-ltb 1 c h)
 
-at_rack : (s r w k : ℕ) → k < r → node_of s r w (s + 1 + k) ≡ Rack k
-at_rack s r w k h =
-    let past : ltb (s + 1 + k) s ≡ false = le-ltb (s + 1 + k) s (omega arith) in
-    let other : eqb (s + 1 + k) s ≡ false = ne_eqb (s + 1 + k) s (λ e. omega arith) in
-    let within : ltb (s + 1 + k) (s + 1 + r) ≡ true = lt-ltb (s + 1 + k) (s + 1 + r) (omega arith) in
-    let back : s + 1 + k - (s + 1) ≡ k = omega arith in
-    rw (past, other, within, back) refl
+pub several_or_not : (c : ℕ) → ((1 < c) × (clusters c ≡ 1)) ⊎ ((c ≤ 1) × (clusters c ≡ 0))
+several_or_not c = elim (cases_lt 1 c) [
+  | inl h ↦ inl (h, one_cluster c h)
+  | inr h ↦ inr (omega arith, no_cluster c (omega arith))
+]
 
-at_worker : (s r w k : ℕ) → k < w → node_of s r w (s + 1 + r + k) ≡ Worker k
-at_worker s r w k h =
-    let past : ltb (s + 1 + r + k) s ≡ false = le-ltb (s + 1 + r + k) s (omega arith) in
-    let other : eqb (s + 1 + r + k) s ≡ false = ne_eqb (s + 1 + r + k) s (λ e. omega arith) in
-    let no_rack : ltb (s + 1 + r + k) (s + 1 + r) ≡ false = le-ltb (s + 1 + r + k) (s + 1 + r) (omega arith) in
-    let within : ltb (s + 1 + r + k) (s + 1 + r + w) ≡ true = lt-ltb (s + 1 + r + k) (s + 1 + r + w) (omega arith) in
-    let back : s + 1 + r + k - (s + 1 + r) ≡ k = omega arith in
-    rw (past, other, no_rack, within, back) refl
+pub several : (c : ℕ) → 0 < clusters c → 1 < c
+several c h = elim (several_or_not c)
+    [ inl some ↦ some.0 | inr none ↦ absurd (let is = none.1 in omega arith) ]
 
-at_unstarted : (s r w : ℕ) → node_of s r w (s + 1 + r + w) ≡ Unstarted
-at_unstarted s r w =
-    let past : ltb (s + 1 + r + w) s ≡ false = le-ltb (s + 1 + r + w) s (omega arith) in
-    let other : eqb (s + 1 + r + w) s ≡ false = ne_eqb (s + 1 + r + w) s (λ e. omega arith) in
-    let no_rack : ltb (s + 1 + r + w) (s + 1 + r) ≡ false = le-ltb (s + 1 + r + w) (s + 1 + r) (omega arith) in
-    let no_worker : ltb (s + 1 + r + w) (s + 1 + r + w) ≡ false = le-ltb (s + 1 + r + w) (s + 1 + r + w) (omega arith) in
-    let same : eqb (s + 1 + r + w) (s + 1 + r + w) ≡ true = eq-eqb (s + 1 + r + w) (s + 1 + r + w) refl in
-    rw (past, other, no_rack, no_worker, same) refl
+pub clusters-le : (c : ℕ) → clusters c ≤ 1
+clusters-le c = elim (several_or_not c)
+    [ inl some ↦ (let is = some.1 in omega arith) | inr none ↦ (let is = none.1 in omega arith) ]
 
-at_sink : (s r w : ℕ) → node_of s r w (s + 1 + r + w + 1) ≡ Sink
-at_sink s r w =
-    let past : ltb (s + 1 + r + w + 1) s ≡ false = le-ltb (s + 1 + r + w + 1) s (omega arith) in
-    let other : eqb (s + 1 + r + w + 1) s ≡ false = ne_eqb (s + 1 + r + w + 1) s (λ e. omega arith) in
-    let no_rack : ltb (s + 1 + r + w + 1) (s + 1 + r) ≡ false = le-ltb (s + 1 + r + w + 1) (s + 1 + r) (omega arith) in
-    let no_worker : ltb (s + 1 + r + w + 1) (s + 1 + r + w) ≡ false = le-ltb (s + 1 + r + w + 1) (s + 1 + r + w) (omega arith) in
-    let last : eqb (s + 1 + r + w + 1) (s + 1 + r + w) ≡ false = ne_eqb (s + 1 + r + w + 1) (s + 1 + r + w) (λ e. omega arith) in
-    rw (past, other, no_rack, no_worker, last) refl
+module _ (s c r w : ℕ) where
+  -- the nodes between the splits and the centres
+  abbrev k : ℕ
+  k = clusters c
 
-pub node_at_place : (s r w : ℕ) (n : RackNode) → is_node s r w n ≡ true → node_of s r w (place_of s r w n) ≡ n
-node_at_place s r w (Split k) h = at_split s r w k (ltb-true k s h)
-node_at_place s r w Cluster h = at_cluster s r w
-node_at_place s r w (Rack k) h = at_rack s r w k (ltb-true k r h)
-node_at_place s r w (Worker k) h = at_worker s r w k (ltb-true k w h)
-node_at_place s r w Unstarted h = at_unstarted s r w
-node_at_place s r w Sink h = at_sink s r w
+  at_split : (i : ℕ) → i < s → node_of s c r w i ≡ Split i
+  at_split i h = rw (lt-ltb i s h) refl
 
-pub place_below : (s r w : ℕ) (n : RackNode) → is_node s r w n ≡ true → place_of s r w n < s + r + w + 3
-place_below s r w (Split k) h = omega (arith, ltb-true k s h)
-place_below s r w Cluster h = omega arith
-place_below s r w (Rack k) h = omega (arith, ltb-true k r h)
-place_below s r w (Worker k) h = omega (arith, ltb-true k w h)
-place_below s r w Unstarted h = omega arith
-place_below s r w Sink h = omega arith
+  at_cluster : 1 < c → node_of s c r w s ≡ Cluster
+  at_cluster h =
+      let one = one_cluster c h in
+      rw (le-ltb s s (omega arith), lt-ltb s (s + k) (omega arith)) refl
 
--- each place below the size is that of a node
-node_for : (s r w i : ℕ) → i < s + r + w + 3 → (n : RackNode) × (is_node s r w n ≡ true) × (place_of s r w n ≡ i)
-node_for s r w i h =
-    elim (cases_lt i s) [
-      | inl a ↦ (Split i, lt-ltb i s a, refl)
-      | inr a ↦ elim (cases_eq i s) [
-        | inl e ↦ (Cluster, refl, sym e)
-        | inr n ↦ elim (cases_lt i (s + 1 + r)) [
-          | inl b ↦ (Rack (i - (s + 1)), lt-ltb (i - (s + 1)) r (omega arith), omega arith)
-          | inr b ↦ elim (cases_lt i (s + 1 + r + w)) [
-            | inl d ↦ (Worker (i - (s + 1 + r)), lt-ltb (i - (s + 1 + r)) w (omega arith), omega arith)
-            | inr d ↦ elim (cases_lt (s + 1 + r + w) i) [ inl f ↦ (Sink, refl, omega arith) | inr f ↦ (Unstarted, refl, omega arith) ]
-          ]
-        ]
-      ]
+  at_centre : (i : ℕ) → i < c → node_of s c r w (s + k + i) ≡ Centre i
+  at_centre i h =
+      let back : s + k + i - (s + k) ≡ i = omega arith in
+      rw (
+        le-ltb (s + k + i) s (omega arith),
+        le-ltb (s + k + i) (s + k) (omega arith),
+        lt-ltb (s + k + i) (s + k + c) (omega arith),
+        back,
+      ) refl
+
+  at_rack : (i : ℕ) → i < r → node_of s c r w (s + k + c + i) ≡ Rack i
+  at_rack i h =
+      let back : s + k + c + i - (s + k + c) ≡ i = omega arith in
+      rw (
+        le-ltb (s + k + c + i) s (omega arith),
+        le-ltb (s + k + c + i) (s + k) (omega arith),
+        le-ltb (s + k + c + i) (s + k + c) (omega arith),
+        lt-ltb (s + k + c + i) (s + k + c + r)
+            (omega arith),
+        back,
+      ) refl
+
+  at_worker : (i : ℕ) → i < w → node_of s c r w (s + k + c + r + i) ≡ Worker i
+  at_worker i h =
+      let back : s + k + c + r + i - (s + k + c + r) ≡ i = omega arith in
+      rw (
+        le-ltb (s + k + c + r + i) s (omega arith),
+        le-ltb (s + k + c + r + i) (s + k) (omega arith),
+        le-ltb (s + k + c + r + i) (s + k + c) (omega arith),
+        le-ltb (s + k + c + r + i) (s + k + c + r)
+            (omega arith),
+        lt-ltb (s + k + c + r + i) (s + k + c + r + w) (omega arith),
+        back,
+      ) refl
+
+  at_unstarted : node_of s c r w (s + k + c + r + w) ≡ Unstarted
+  at_unstarted =
+      rw (
+        le-ltb (s + k + c + r + w) s (omega arith),
+        le-ltb (s + k + c + r + w) (s + k) (omega arith),
+        le-ltb (s + k + c + r + w) (s + k + c) (omega arith),
+        le-ltb (s + k + c + r + w) (s + k + c + r)
+            (omega arith),
+        le-ltb (s + k + c + r + w) (s + k + c + r + w) (omega arith),
+        eq-eqb (s + k + c + r + w) (s + k + c + r + w) refl,
+      ) refl
+
+  at_sink : node_of s c r w (s + k + c + r + w + 1) ≡ Sink
+  at_sink =
+      rw (
+        le-ltb (s + k + c + r + w + 1) s (omega arith),
+        le-ltb (s + k + c + r + w + 1) (s + k)
+            (omega arith),
+        le-ltb (s + k + c + r + w + 1) (s + k + c) (omega arith),
+        le-ltb (s + k + c + r + w + 1) (s + k + c + r) (omega arith),
+        le-ltb (s + k + c + r + w + 1) (s + k + c + r + w) (omega arith),
+        ne_eqb (s + k + c + r + w + 1) (s + k + c + r + w) (λ e. omega arith),
+      ) refl
+
+  pub node_at_place : (n : RackNode) → is_node s c r w n ≡ true → node_of s c r w (place_of s c r w n) ≡ n
+  node_at_place (Split i) h = at_split i (ltb-true i s h)
+  node_at_place Cluster h = at_cluster (ltb-true 1 c h)
+  node_at_place (Centre i) h = at_centre i (ltb-true i c h)
+  node_at_place (Rack i) h = at_rack i (ltb-true i r h)
+  node_at_place (Worker i) h = at_worker i (ltb-true i w h)
+  node_at_place Unstarted h = at_unstarted
+  node_at_place Sink h = at_sink
+
+  pub place_below : (n : RackNode) → is_node s c r w n ≡ true → place_of s c r w n < s + k + c + r + w + 2
+  place_below (Split i) h = let low = ltb-true i s h in omega arith
+  place_below Cluster h = omega arith
+  place_below (Centre i) h = let low = ltb-true i c h in omega arith
+  place_below (Rack i) h = let low = ltb-true i r h in omega arith
+  place_below (Worker i) h = let low = ltb-true i w h in omega arith
+  place_below Unstarted h = omega arith
+  place_below Sink h = omega arith
+
+  -- each place below the size is that of a node
+  abbrev At : ℕ → Type 0
+  At i = (n : RackNode) × (is_node s c r w n ≡ true) × (place_of s c r w n ≡ i)
+
+  below_racks : (i : ℕ) → (s ≤ i) → (i < s + k + c) → At i
+  below_racks i h l = elim (cases_lt i (s + k)) [
+    | inl a ↦ (let many = several c (omega arith) in let one = one_cluster c many in
+        (Cluster, lt-ltb 1 c many, omega arith))
+    | inr a ↦ (Centre (i - (s + k)), lt-ltb (i - (s + k)) c (omega arith), omega arith)
+  ]
+
+  past_centres : (i : ℕ) → (s + k + c ≤ i) → (i < s + k + c + r + w + 2) → At i
+  past_centres i h l = elim (cases_lt i (s + k + c + r)) [
+    | inl b ↦ (Rack (i - (s + k + c)), lt-ltb (i - (s + k + c)) r (omega arith), omega arith)
+    | inr b ↦ elim (cases_lt i (s + k + c + r + w)) [
+      | inl d ↦ (Worker (i - (s + k + c + r)), lt-ltb (i - (s + k + c + r)) w (omega arith), omega arith)
+      | inr d ↦ elim (cases_lt (s + k + c + r + w) i)
+          [ inl f ↦ (Sink, refl, omega arith) | inr f ↦ (Unstarted, refl, omega arith) ]
     ]
+  ]
 
-pub member_at : (s r w i : ℕ) → i < s + r + w + 3 → is_node s r w (node_of s r w i) ≡ true
-member_at s r w i h =
-    let found = node_for s r w i h in
-    ap (λ (k : ℕ). is_node s r w (node_of s r w k)) (sym found.2) ∙ ap (is_node s r w) (node_at_place s r w found.0 found.1) ∙ found.1
+  node_for : (i : ℕ) → i < s + k + c + r + w + 2 → At i
+  node_for i h = elim (cases_lt i s) [
+    | inl a ↦ (Split i, lt-ltb i s a, refl)
+    | inr a ↦ elim (cases_lt i (s + k + c)) [
+      | inl b ↦ below_racks i (omega arith) b
+      | inr b ↦ past_centres i (omega arith) h
+    ]
+  ]
 
-pub place_at : (s r w i : ℕ) → i < s + r + w + 3 → place_of s r w (node_of s r w i) ≡ i
-place_at s r w i h =
-    let found = node_for s r w i h in
-    ap (λ (k : ℕ). place_of s r w (node_of s r w k)) (sym found.2) ∙ ap (place_of s r w) (node_at_place s r w found.0 found.1) ∙ found.2
+  pub member_at : (i : ℕ) → i < s + k + c + r + w + 2 → is_node s c r w (node_of s c r w i) ≡ true
+  member_at i h =
+      let found = node_for i h in
+      ap (λ (j : ℕ). is_node s c r w (node_of s c r w j)) (sym found.2)
+      ∙ ap (is_node s c r w) (node_at_place found.0 found.1) ∙ found.1
+
+  pub place_at : (i : ℕ) → i < s + k + c + r + w + 2 → place_of s c r w (node_of s c r w i) ≡ i
+  place_at i h =
+      let found = node_for i h in
+      ap (λ (j : ℕ). place_of s c r w (node_of s c r w j)) (sym found.2)
+      ∙ ap (place_of s c r w) (node_at_place found.0 found.1) ∙ found.2

@@ -4,19 +4,20 @@ ghost use Rattle.wave_problem.specs.Wave.{reward, split_at, worker_at};
 ghost use Rattle.wave_problem.specs.declared.TheConstants.{MAX_HOLDERS, MAX_SPLITS};
 ghost use Rattle.rack_network.specs.declared.arcs.TheConstants.{LEVELS, MAX_ARCS};
 ghost use Rattle.network_prices.specs.Pending.{IsUsable};
-ghost use Rattle.rack_network.specs.Racks.{arc_of, cluster_node, node_above, rack_node, rack_of, worker_node, unstarted_node, GoesDirect, HasBars, IsRackNetwork, IsSized, IsWanted};
-ghost use Rattle.rack_network.specs.Build.{in_racks, level_end, level_start, AreRacksKnown, IsBuilt, IsNearer, IsNext, IsReached};
+ghost use Rattle.rack_network.specs.Racks.{arc_of, centre_node, centre_of, cluster_node, level_count, node_above, rack_node, rack_of, worker_node, unstarted_node, HasBars, IsRackNetwork, IsSized, IsTree, IsWanted};
+ghost use Rattle.rack_network.specs.Build.{branch_arcs, feed_arcs, in_places, level_end, level_start, split_arcs, trunk_arcs, IsBuilt, IsNearer, IsNext, IsReached};
 
-use crate::arcs::place_above;
+use crate::places::{first_centre, first_rack, first_worker, place_above};
 use crate::{LEVELS, RackArc, RackLayout};
 use flow_network::{NetError, Network};
-use node_ids::{RackNo, SplitNo, WorkerNo};
+use node_ids::{CentreNo, RackNo, SplitNo, WorkerNo};
 use std::alloc::{AllocError, Global};
 use wave_problem::{Problem, SplitCosts};
 
-/// The rack network of a problem, without flow, row by row: of each split the arcs to `Cluster`, to racks, to
-/// workers and to `Unstarted`, then those of `Cluster`, of the racks and of the workers, then the last. Where
-/// live holders of a split stand below one node, one arc leads from the split to it.
+/// The rack network of a problem, without flow, row by row: of each split the arcs to `Cluster`, to data
+/// centres, to racks, to workers and to `Unstarted`, then those of `Cluster`, of the centres, of the racks
+/// and of the workers, then the last. Where live holders of a split stand below one node, one arc leads from
+/// the split to it.
 pub fn build(alloc: Global, problem: &Problem) -> Result<Network<RackLayout>, AllocError>
     ensures layout { IfOk result (λ network. IsSized problem.now network.layout) }
     ensures arcs { IfOk result (λ network. IsRackNetwork problem.now network.arcs) }
@@ -25,23 +26,44 @@ pub fn build(alloc: Global, problem: &Problem) -> Result<Network<RackLayout>, Al
 {
     let layout = RackLayout {
         splits: problem.splits() as u16,
+        centres: problem.tree().centres() as u8,
         racks: problem.tree().racks() as u16,
         workers: problem.workers() as u16,
     };
     let mut network = Network::new(alloc, layout)?;
-    know_racks(problem);
-    let _reach = problem.tree().reach();
+    know_tree(problem);
     add_splits(&mut network, problem)?;
-    add_branches(&mut network, problem)?;
+    add_trunks(&mut network, problem)?;
+    add_centres(&mut network, problem)?;
     add_racks(&mut network, problem)?;
     add_slots(&mut network, problem)?;
     add(&mut network, problem, RackArc::Rest, 0)?;
     Ok(network)
 }
 
-// That each worker stands in one of the racks, which the tree says of one worker at a time.
+// That the tree says where each worker and each rack stands.
+fn know_tree(problem: &Problem)
+    ensures { IsTree problem.now }
+{
+    know_racks(problem);
+    know_centres(problem);
+}
+
+// That each rack stands in one of the centres, which the tree says of one rack at a time.
+fn know_centres(problem: &Problem)
+    ensures { (r : ℕ) → r < length problem.now.tree.centre_of
+        → centre_of problem.now r < problem.now.tree.centres }
+{
+    let tree = problem.tree();
+    for i in 0..tree.racks() {
+        let _centre = tree.centre_of(RackNo::new(i as u16));
+    }
+}
+
+// That each worker stands in one of the racks.
 fn know_racks(problem: &Problem)
-    ensures { AreRacksKnown problem.now }
+    ensures { (w : ℕ) → w < length problem.now.workers
+        → rack_of problem.now w < length problem.now.tree.centre_of }
 {
     let tree = problem.tree();
     for i in 0..problem.workers() {
@@ -51,9 +73,9 @@ fn know_racks(problem: &Problem)
 
 // Adds the rows of the splits.
 fn add_splits(network: &mut Network<RackLayout>, problem: &Problem) -> Result<(), AllocError>
-    requires racks { AreRacksKnown problem.now }
+    requires tree { IsTree problem.now }
     requires built { IsBuilt problem.now 0 0 0 network.old }
-    ensures built { OnOk result (IsBuilt problem.now (cluster_node problem.now) 0 (257 * length problem.now.splits)
+    ensures built { OnOk result (IsBuilt problem.now (cluster_node problem.now) 0 (split_arcs problem.now)
         network.new) }
 {
     let worth = problem.reward();
@@ -78,7 +100,7 @@ fn add_split(
     requires pending { (split_at problem.now split).pending ≡ true }
     requires worth { worth ≡ reward problem.now }
     requires small { worth < 2 ^ 39 }
-    requires racks { AreRacksKnown problem.now }
+    requires tree { IsTree problem.now }
     requires built { IsBuilt problem.now split 0 (257 * split) network.old }
     ensures built { OnOk result (IsBuilt problem.now (split + 1) 0 (257 * split + 257) network.new) }
 {
@@ -96,24 +118,16 @@ fn add_ways(
     requires split { split < length problem.now.splits }
     requires few { split < MAX_SPLITS }
     requires pending { (split_at problem.now split).pending ≡ true }
-    requires racks { AreRacksKnown problem.now }
+    requires tree { IsTree problem.now }
     requires built { IsBuilt problem.now split 0 (257 * split) network.old }
     ensures built { OnOk result (IsBuilt problem.now split (unstarted_node problem.now) (257 * split + 256)
         network.new) }
 {
-    if goes_direct(problem, split) {
+    if has_bars(problem, split) {
         add_pairs(network, problem, split)
     } else {
         add_reaches(network, problem, split)
     }
-}
-
-// Whether the arcs of the split lead to workers alone.
-fn goes_direct(problem: &Problem, split: SplitNo) -> bool
-    requires { split < length problem.now.splits }
-    ensures { IsTrue result ↔ GoesDirect problem.now split }
-{
-    problem.tree().reach() > 4 || has_bars(problem, split)
 }
 
 // Whether a pair of the split is barred.
@@ -129,7 +143,7 @@ fn has_bars(problem: &Problem, split: SplitNo) -> bool
     false
 }
 
-// Adds the arcs from a split that goes direct to workers.
+// Adds the arcs from a split with a barred pair, to workers alone.
 fn add_pairs(
     network: &mut Network<RackLayout>,
     problem: &Problem,
@@ -137,8 +151,8 @@ fn add_pairs(
 ) -> Result<(), AllocError>
     requires split { split < length problem.now.splits }
     requires few { split < MAX_SPLITS }
-    requires direct { GoesDirect problem.now split }
-    requires racks { AreRacksKnown problem.now }
+    requires bars { HasBars problem.now split }
+    requires tree { IsTree problem.now }
     requires built { IsBuilt problem.now split 0 (257 * split) network.old }
     ensures built { OnOk result (IsBuilt problem.now split (unstarted_node problem.now) (257 * split + 256)
         network.new) }
@@ -154,7 +168,7 @@ fn add_pairs(
     Ok(())
 }
 
-// Adds the arcs from a pending split that does not go direct to the nodes above its live holders.
+// Adds the arcs from a pending split without barred pairs to the nodes above its live holders.
 fn add_reaches(
     network: &mut Network<RackLayout>,
     problem: &Problem,
@@ -163,18 +177,38 @@ fn add_reaches(
     requires split { split < length problem.now.splits }
     requires few { split < MAX_SPLITS }
     requires pending { (split_at problem.now split).pending ≡ true }
-    requires not_direct { GoesDirect problem.now split → ⊥ }
-    requires racks { AreRacksKnown problem.now }
+    requires no_bars { HasBars problem.now split → ⊥ }
+    requires tree { IsTree problem.now }
     requires built { IsBuilt problem.now split 0 (257 * split) network.old }
     ensures built { OnOk result (IsBuilt problem.now split (unstarted_node problem.now) (257 * split + 256)
         network.new) }
 {
-    let cluster = problem.splits();
-    let racks = cluster + 1;
-    let workers = racks + problem.tree().racks();
-    add_level(network, problem, split, 2, cluster)?;
-    add_level(network, problem, split, 1, racks)?;
-    add_level(network, problem, split, 0, workers)
+    add_top(network, problem, split)?;
+    add_level(network, problem, split, 2, first_centre(problem))?;
+    add_level(network, problem, split, 1, first_rack(problem))?;
+    add_level(network, problem, split, 0, first_worker(problem))
+}
+
+// Adds that to `Cluster`, where there are several data centres.
+fn add_top(
+    network: &mut Network<RackLayout>,
+    problem: &Problem,
+    split: SplitNo,
+) -> Result<(), AllocError>
+    requires split { split < length problem.now.splits }
+    requires few { split < MAX_SPLITS }
+    requires pending { (split_at problem.now split).pending ≡ true }
+    requires no_bars { HasBars problem.now split → ⊥ }
+    requires tree { IsTree problem.now }
+    requires built { IsBuilt problem.now split 0 (257 * split) network.old }
+    ensures built { OnOk result (IsBuilt problem.now split (level_start problem.now 2) (257 * split + 8)
+        network.new) }
+{
+    if problem.tree().centres() > 1 {
+        add_level(network, problem, split, 3, problem.splits())
+    } else {
+        Ok(())
+    }
 }
 
 // Adds those to the nodes of one level, the first of which is told, each once, by rising node.
@@ -187,15 +221,15 @@ fn add_level(
 ) -> Result<(), AllocError>
     requires split { split < length problem.now.splits }
     requires few { split < MAX_SPLITS }
-    requires level { level < LEVELS }
+    requires level { level < level_count problem.now }
     requires first { first ≡ level_start problem.now level }
     requires pending { (split_at problem.now split).pending ≡ true }
-    requires not_direct { GoesDirect problem.now split → ⊥ }
-    requires racks { AreRacksKnown problem.now }
-    requires built { IsBuilt problem.now split (level_start problem.now level) (257 * split + 8 * (2 - level))
+    requires no_bars { HasBars problem.now split → ⊥ }
+    requires tree { IsTree problem.now }
+    requires built { IsBuilt problem.now split (level_start problem.now level) (257 * split + 8 * (3 - level))
         network.old }
     ensures built { OnOk result (IsBuilt problem.now split (level_end problem.now level)
-        (257 * split + 8 * (2 - level) + 8) network.new) }
+        (257 * split + 8 * (3 - level) + 8) network.new) }
 {
     let holders = problem.holders(split);
     let cost = problem.bytes(split) * (2 * u64::from(level));
@@ -270,27 +304,83 @@ fn is_reached(problem: &Problem, level: u8, holder: WorkerNo) -> bool
     problem.is_live(holder) && (level > 0 || problem.free(holder) > 0)
 }
 
+// Adds the row of `Cluster`, where there are several data centres.
+fn add_trunks(network: &mut Network<RackLayout>, problem: &Problem) -> Result<(), AllocError>
+    requires tree { IsTree problem.now }
+    requires built { IsBuilt problem.now (cluster_node problem.now) 0 (split_arcs problem.now) network.old }
+    ensures built { OnOk result (IsBuilt problem.now (centre_node problem.now 0) 0 (trunk_arcs problem.now)
+        network.new) }
+{
+    if problem.tree().centres() > 1 {
+        add_trunk_row(network, problem)
+    } else {
+        Ok(())
+    }
+}
+
 // Adds the row of `Cluster`.
-fn add_branches(network: &mut Network<RackLayout>, problem: &Problem) -> Result<(), AllocError>
-    requires racks { AreRacksKnown problem.now }
-    requires built { IsBuilt problem.now (cluster_node problem.now) 0 (257 * length problem.now.splits) network.old }
-    ensures built { OnOk result (IsBuilt problem.now (rack_node problem.now 0) 0
-        (257 * length problem.now.splits + length problem.now.tree.centre_of) network.new) }
+fn add_trunk_row(network: &mut Network<RackLayout>, problem: &Problem) -> Result<(), AllocError>
+    requires tree { IsTree problem.now }
+    requires several { 1 < problem.now.tree.centres }
+    requires built { IsBuilt problem.now (cluster_node problem.now) 0 (split_arcs problem.now) network.old }
+    ensures built { OnOk result (IsBuilt problem.now (centre_node problem.now 0) 0 (trunk_arcs problem.now)
+        network.new) }
 {
     let _splits = problem.splits();
-    for i in 0..problem.tree().racks() {
-        add(network, problem, RackArc::Branch(RackNo::new(i as u16)), 0)?;
+    for i in 0..problem.tree().centres() {
+        add(network, problem, RackArc::Trunk(CentreNo::new(i as u8)), 0)?;
+    }
+    Ok(())
+}
+
+// Adds the rows of the data centres.
+fn add_centres(network: &mut Network<RackLayout>, problem: &Problem) -> Result<(), AllocError>
+    requires tree { IsTree problem.now }
+    requires built { IsBuilt problem.now (centre_node problem.now 0) 0 (trunk_arcs problem.now) network.old }
+    ensures built { OnOk result (IsBuilt problem.now (rack_node problem.now 0) 0 (branch_arcs problem.now)
+        network.new) }
+{
+    for i in 0..problem.tree().centres() {
+        add_branches(network, problem, CentreNo::new(i as u8))?;
+    }
+    Ok(())
+}
+
+// Adds the row of a data centre.
+fn add_branches(
+    network: &mut Network<RackLayout>,
+    problem: &Problem,
+    centre: CentreNo,
+) -> Result<(), AllocError>
+    requires centre { centre < problem.now.tree.centres }
+    requires tree { IsTree problem.now }
+    requires built { IsBuilt problem.now (centre_node problem.now centre) 0
+        (trunk_arcs problem.now
+        + in_places (centre_of problem.now) (length problem.now.tree.centre_of) centre)
+        network.old }
+    ensures built { OnOk result (IsBuilt problem.now (centre_node problem.now (centre + 1)) 0
+        (trunk_arcs problem.now
+        + in_places (centre_of problem.now) (length problem.now.tree.centre_of) (centre + 1))
+        network.new) }
+{
+    let _splits = problem.splits();
+    let tree = problem.tree();
+    let _centres = tree.centres();
+    for i in 0..tree.racks() {
+        let rack = RackNo::new(i as u16);
+        if tree.centre_of(rack) == centre {
+            add(network, problem, RackArc::Branch(rack), 0)?;
+        }
     }
     Ok(())
 }
 
 // Adds the rows of the racks.
 fn add_racks(network: &mut Network<RackLayout>, problem: &Problem) -> Result<(), AllocError>
-    requires racks { AreRacksKnown problem.now }
-    requires built { IsBuilt problem.now (rack_node problem.now 0) 0
-        (257 * length problem.now.splits + length problem.now.tree.centre_of) network.old }
-    ensures built { OnOk result (IsBuilt problem.now (worker_node problem.now 0) 0
-        (257 * length problem.now.splits + length problem.now.tree.centre_of + length problem.now.workers) network.new) }
+    requires tree { IsTree problem.now }
+    requires built { IsBuilt problem.now (rack_node problem.now 0) 0 (branch_arcs problem.now) network.old }
+    ensures built { OnOk result (IsBuilt problem.now (worker_node problem.now 0) 0 (feed_arcs problem.now)
+        network.new) }
 {
     for i in 0..problem.tree().racks() {
         add_feeds(network, problem, RackNo::new(i as u16))?;
@@ -305,13 +395,16 @@ fn add_feeds(
     rack: RackNo,
 ) -> Result<(), AllocError>
     requires rack { rack < length problem.now.tree.centre_of }
-    requires racks { AreRacksKnown problem.now }
+    requires tree { IsTree problem.now }
     requires built { IsBuilt problem.now (rack_node problem.now rack) 0
-        (257 * length problem.now.splits + length problem.now.tree.centre_of + in_racks problem.now rack) network.old }
+        (branch_arcs problem.now + in_places (rack_of problem.now) (length problem.now.workers) rack)
+        network.old }
     ensures built { OnOk result (IsBuilt problem.now (rack_node problem.now (rack + 1)) 0
-        (257 * length problem.now.splits + length problem.now.tree.centre_of + in_racks problem.now (rack + 1)) network.new) }
+        (branch_arcs problem.now + in_places (rack_of problem.now) (length problem.now.workers) (rack + 1))
+        network.new) }
 {
     let _splits = problem.splits();
+    let _centres = problem.tree().centres();
     let _racks = problem.tree().racks();
     for i in 0..problem.workers() {
         let worker = WorkerNo::new(i as u16);
@@ -332,13 +425,13 @@ fn takes_from(problem: &Problem, rack: RackNo, worker: WorkerNo) -> bool
 
 // Adds the rows of the workers.
 fn add_slots(network: &mut Network<RackLayout>, problem: &Problem) -> Result<(), AllocError>
-    requires racks { AreRacksKnown problem.now }
-    requires built { IsBuilt problem.now (worker_node problem.now 0) 0
-        (257 * length problem.now.splits + length problem.now.tree.centre_of + length problem.now.workers) network.old }
+    requires tree { IsTree problem.now }
+    requires built { IsBuilt problem.now (worker_node problem.now 0) 0 (feed_arcs problem.now) network.old }
     ensures built { OnOk result (IsBuilt problem.now (worker_node problem.now (length problem.now.workers)) 0
-        (257 * length problem.now.splits + length problem.now.tree.centre_of + 2 * length problem.now.workers) network.new) }
+        (feed_arcs problem.now + length problem.now.workers) network.new) }
 {
     let _splits = problem.splits();
+    let _centres = problem.tree().centres();
     let _racks = problem.tree().racks();
     for i in 0..problem.workers() {
         add(network, problem, RackArc::Slot(WorkerNo::new(i as u16)), 0)?;

@@ -1,29 +1,83 @@
-use Rattle.std.proofs.Common.{ℕ, ◌≡◌, ◌+◌, ◌*◌, length, ap, subst, arith}
+use Rattle.std.proofs.Common.{ℕ, ◌≡◌, ◌+◌, suc, length, get_or, sym, ap, ◌∙◌, subst, arith}
+use Rattle.std.proofs.lemmas.Bool.{eqb-true, eqb-false}
 use Rattle.rack_tree.specs.Tree.{Tree}
-use Rattle.rack_network.specs.Racks.{cluster_node, rack_node}
-use Rattle.rack_network.specs.Build.{IsBuilt}
-use Rattle.rack_network.proofs.Rows.{to_branches, branch_step, branches_end}
+use Rattle.rack_network.specs.Racks.{centre_node, centre_of, rack_node}
+use Rattle.rack_network.specs.Build.{in_place, in_places, trunk_arcs, IsBuilt}
+use Rattle.rack_network.proofs.Counts.{place_more, place-le, place-mono, places_more, places-le}
+use Rattle.rack_network.proofs.Rows.{to_branches, branch_step, branch_skip, branches_end}
 use Rattle.rack_network.proofs.network.add_branches.Goals as goal
+use Rattle.rack_network.proofs.network.add_branches.Goals.{then-eq+in_ok-add, else-eq}
+
+pub add-requires-clause-room : goal.add-requires-clause-room
+add-requires-clause-room c =
+    let wave = c.args.problem.now in
+    let racks : ℕ = length wave.tree.centre_of in
+    let limit = c.loop-i.invariant.frame.arc_limit in
+    let splits = c.splits-splits.ensures.limit in
+    let centres = c.centres-centres.ensures.limit in
+    let count_centres = c.centres-centres.ensures.count in
+    let centre_tree = ap (λ (t : Tree). t.centres) c.tree-tree.ensures.tree in
+    let some = c.racks-i-end.ensures.limit in
+    let count = c.racks-i-end.ensures.count in
+    let tree = ap (λ (t : Tree). length t.centre_of) c.tree-tree.ensures.tree in
+    let up = place-mono (centre_of wave) c.args.centre c.loop-i.i racks (omega arith) in
+    let whole = places_more (centre_of wave) c.args.centre racks in
+    let all = places-le (centre_of wave) (suc c.args.centre) racks in
+    omega arith
 
 pub loop-i-init : goal.loop-i-init
 loop-i-init c =
-    let s : ℕ = length c.args.problem.now.splits in
-    to_branches c.args.problem.now c.requires.racks (257 * s) (257 * s + 0) c.args.network.now (omega arith) c.requires.built
+    let wave = c.args.problem.now in
+    let limit : ℕ = trunk_arcs wave + in_places (centre_of wave) (length wave.tree.centre_of) c.args.centre in
+    to_branches wave c.requires.tree c.args.centre limit (limit + in_place (centre_of wave) 0 c.args.centre)
+    c.args.network.now c.requires.centre (omega arith) c.requires.built
 
 pub loop-i-preserved : goal.loop-i-preserved
 loop-i-preserved c =
-    let s : ℕ = length c.args.problem.now.splits in
-    let same = ap (λ (t : Tree). length t.centre_of) c.tree.ensures.tree in
-    branch_step c.args.problem.now c.requires.racks c.loop-i.i c.new.result (257 * s + c.loop-i.i) (257 * s + (c.loop-i.i + 1)) c.loop-i.network c.add.new.network
-    (omega arith) (omega arith) (omega arith) c.loop-i.invariant (c.in_ok-add.ensures.layout, c.in_ok-add.ensures.arcs, c.in_ok-add.ensures.flows)
+    let wave = c.args.problem.now in
+    let d : ℕ = c.args.centre in
+    let rack : ℕ = c.new-rack.result in
+    let same : rack ≡ c.loop-i.i = omega arith in
+    let limit : ℕ = trunk_arcs wave + in_places (centre_of wave) (length wave.tree.centre_of) d in
+    let now : ℕ = limit + in_place (centre_of wave) c.loop-i.i d in
+    let then : ℕ = limit + in_place (centre_of wave) (c.loop-i.i + 1) d in
+    let next : c.loop-i.i + 1 ≡ suc c.loop-i.i = omega arith in
+    let count = ap (λ (n : ℕ). in_place (centre_of wave) n d) next in
+    let tree = ap (λ (t : Tree). length t.centre_of) c.tree-tree.ensures.tree in
+    let racks = c.racks-i-end.ensures.count in
+    let own : c.centre_of.result ≡ centre_of wave rack =
+    c.centre_of.ensures.centre ∙ ap (λ (t : Tree). get_or t.centre_of rack 0) c.tree-tree.ensures.tree in
+    elim c.if-eq.branch [
+      | then-eq+in_ok-add w ↦ rw w.network-is
+          (let here : centre_of wave rack ≡ d = sym own ∙ eqb-true _ _ (sym c.eq.ensures ∙ w.if-eq.true) in
+          let one = place_more (centre_of wave) d c.loop-i.i (ap (centre_of wave) (sym same) ∙ here) in
+          branch_step wave c.requires.tree d c.loop-i.i rack now then c.loop-i.network w.add.new.network
+          c.requires.centre same (omega arith) (omega arith) here c.loop-i.invariant
+          (w.in_ok-add.ensures.layout, w.in_ok-add.ensures.arcs, w.in_ok-add.ensures.flows))
+      | else-eq w ↦ rw w.network-is
+          (let more = place-le (centre_of wave) d c.loop-i.i in
+          branch_skip wave c.requires.tree d c.loop-i.i rack now then c.loop-i.network c.requires.centre same
+          (omega arith) (λ here. eqb-false _ _ (sym c.eq.ensures ∙ w.if-eq.false) (own ∙ here))
+          c.loop-i.invariant)
+    ]
 
 pub returns : goal.returns
 returns c =
     let wave = c.args.problem.now in
-    let s : ℕ = length wave.splits in
-    let tree = ap (λ (t : Tree). length t.centre_of) c.tree.ensures.tree in
-    let end : c.loop-i.i ≡ length wave.tree.centre_of = omega arith in
+    let d : ℕ = c.args.centre in
+    let racks : ℕ = length wave.tree.centre_of in
+    let limit : ℕ = trunk_arcs wave + in_places (centre_of wave) racks d in
+    let count = c.racks-i-end.ensures.count in
+    let tree = ap (λ (t : Tree). length t.centre_of) c.tree-tree.ensures.tree in
+    let end : c.loop-i.i ≡ racks = omega arith in
+    let next : d + 1 ≡ suc d = omega arith in
+    let whole : in_places (centre_of wave) racks (d + 1)
+    ≡ in_places (centre_of wave) racks d + in_place (centre_of wave) racks d =
+    ap (in_places (centre_of wave) racks) next ∙ places_more (centre_of wave) d racks in
     record {
-      built = branches_end wave c.requires.racks (257 * s + length wave.tree.centre_of) (257 * s + length wave.tree.centre_of) c.loop-i.network (omega arith)
-          (subst (λ (i : ℕ). IsBuilt wave (cluster_node wave) (rack_node wave i) (257 * s + i) c.loop-i.network) end c.loop-i.invariant);
+      built = branches_end wave c.requires.tree d (limit + in_place (centre_of wave) racks d)
+          (trunk_arcs wave + in_places (centre_of wave) racks (d + 1)) c.loop-i.network c.requires.centre
+          (omega arith)
+          (subst (λ (i : ℕ). IsBuilt wave (centre_node wave d) (rack_node wave i)
+          (limit + in_place (centre_of wave) i d) c.loop-i.network) end c.loop-i.invariant);
     }

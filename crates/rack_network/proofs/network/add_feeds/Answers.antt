@@ -1,9 +1,9 @@
-use Rattle.std.proofs.Common.{ℕ, ◌≡◌, ◌+◌, ◌*◌, suc, length, sym, ap, ◌∙◌, subst, arith}
+use Rattle.std.proofs.Common.{ℕ, ◌≡◌, ◌+◌, suc, length, sym, ap, ◌∙◌, subst, arith}
 use Rattle.std.proofs.lemmas.Bool.{false≢true}
 use Rattle.rack_tree.specs.Tree.{Tree}
 use Rattle.rack_network.specs.Racks.{rack_node, worker_node, rack_of}
-use Rattle.rack_network.specs.Build.{in_rack, in_racks, IsBuilt}
-use Rattle.rack_network.proofs.Counts.{rack_more, rack-le, rack-mono, racks_more, racks-le}
+use Rattle.rack_network.specs.Build.{branch_arcs, in_place, in_places, IsBuilt}
+use Rattle.rack_network.proofs.Counts.{place_more, place-le, place-mono, places_more, places-le}
 use Rattle.rack_network.proofs.Rows.{to_feeds, feed_step, feed_skip, feeds_end}
 use Rattle.rack_network.proofs.network.add_feeds.Goals as goal
 use Rattle.rack_network.proofs.network.add_feeds.Goals.{then-takes_from+in_ok-add, else-takes_from}
@@ -13,21 +13,26 @@ add-requires-clause-room c =
     let wave = c.args.problem.now in
     let limit = c.loop-i.invariant.frame.arc_limit in
     let splits = c.splits-splits.ensures.limit in
+    let centres = c.centres-centres.ensures.limit in
+    let count_centres = c.centres-centres.ensures.count in
+    let centre_tree = ap (λ (t : Tree). t.centres) c.tree.ensures.tree in
     let racks = c.racks-racks.ensures.limit in
     let count_racks = c.racks-racks.ensures.count in
-    let tree = ap (λ (t : Tree). length t.centre_of) c.tree.ensures.tree in
+    let tree = ap (λ (t : Tree). length t.centre_of) c.tree-2.ensures.tree in
     let workers = c.workers-i-end.ensures.limit in
     let count = c.workers-i-end.ensures.count in
-    let up = rack-mono wave c.args.rack c.loop-i.i (length wave.workers) (omega arith) in
-    let whole = racks_more wave c.args.rack in
-    let all = racks-le wave (suc c.args.rack) in
+    let up = place-mono (rack_of wave) c.args.rack c.loop-i.i (length wave.workers) (omega arith) in
+    let whole = places_more (rack_of wave) c.args.rack (length wave.workers) in
+    let all = places-le (rack_of wave) (suc c.args.rack) (length wave.workers) in
     omega arith
 
 pub loop-i-init : goal.loop-i-init
 loop-i-init c =
     let wave = c.args.problem.now in
-    let limit : ℕ = 257 * length wave.splits + length wave.tree.centre_of + in_racks wave c.args.rack in
-    to_feeds wave c.requires.racks c.args.rack limit (limit + in_rack wave c.args.rack 0) c.args.network.now c.requires.rack (omega arith) c.requires.built
+    let limit : ℕ = branch_arcs wave + in_places (rack_of wave) (length wave.workers) c.args.rack in
+    to_feeds wave c.requires.tree c.args.rack limit (limit + in_place (rack_of wave) 0 c.args.rack)
+    c.args.network.now
+    c.requires.rack (omega arith) c.requires.built
 
 pub loop-i-preserved : goal.loop-i-preserved
 loop-i-preserved c =
@@ -35,34 +40,46 @@ loop-i-preserved c =
     let r : ℕ = c.args.rack in
     let worker : ℕ = c.new-worker.result in
     let same : worker ≡ c.loop-i.i = omega arith in
-    let limit : ℕ = 257 * length wave.splits + length wave.tree.centre_of + in_racks wave r in
+    let limit : ℕ = branch_arcs wave + in_places (rack_of wave) (length wave.workers) r in
+    let now : ℕ = limit + in_place (rack_of wave) c.loop-i.i r in
+    let then : ℕ = limit + in_place (rack_of wave) (c.loop-i.i + 1) r in
     let next : c.loop-i.i + 1 ≡ suc c.loop-i.i = omega arith in
-    let count : in_rack wave r (c.loop-i.i + 1) ≡ in_rack wave r (suc c.loop-i.i) = ap (in_rack wave r) next in
+    let count = ap (λ (n : ℕ). in_place (rack_of wave) n r) next in
     elim c.if-takes_from.branch [
       | then-takes_from+in_ok-add w ↦ rw w.network-is
           (let takes = c.takes_from.ensures.0 w.if-takes_from.true in
-          let one = rack_more wave r c.loop-i.i (ap (rack_of wave) (sym same) ∙ takes.1) in
-          feed_step wave c.requires.racks r c.loop-i.i worker (limit + in_rack wave r c.loop-i.i) (limit + in_rack wave r (c.loop-i.i + 1))
-          c.loop-i.network w.add.new.network c.requires.rack same (omega arith) (omega arith) takes.0 takes.1 c.loop-i.invariant
-          (w.in_ok-add.ensures.layout, w.in_ok-add.ensures.arcs, w.in_ok-add.ensures.flows))
+          let one = place_more (rack_of wave) r c.loop-i.i (ap (rack_of wave) (sym same) ∙ takes.1) in
+          feed_step wave c.requires.tree r c.loop-i.i worker now then
+          c.loop-i.network w.add.new.network c.requires.rack same (omega arith) (omega arith) takes.0 takes.1
+          c.loop-i.invariant (
+            w.in_ok-add.ensures.layout,
+            w.in_ok-add.ensures.arcs,
+            w.in_ok-add.ensures.flows,
+          ))
       | else-takes_from w ↦ rw w.network-is
-          (let more = rack-le wave r c.loop-i.i in
-          feed_skip wave c.requires.racks r c.loop-i.i worker (limit + in_rack wave r c.loop-i.i) (limit + in_rack wave r (c.loop-i.i + 1))
+          (let more = place-le (rack_of wave) r c.loop-i.i in
+          feed_skip wave c.requires.tree r c.loop-i.i worker now then
           c.loop-i.network c.requires.rack same (omega arith)
-          (λ usable rack. false≢true (sym w.if-takes_from.false ∙ c.takes_from.ensures.1 (usable, rack))) c.loop-i.invariant)
+          (λ usable rack. false≢true (sym w.if-takes_from.false ∙ c.takes_from.ensures.1 (usable, rack)))
+          c.loop-i.invariant)
     ]
 
 pub returns : goal.returns
 returns c =
     let wave = c.args.problem.now in
     let r : ℕ = c.args.rack in
-    let limit : ℕ = 257 * length wave.splits + length wave.tree.centre_of + in_racks wave r in
+    let workers : ℕ = length wave.workers in
+    let limit : ℕ = branch_arcs wave + in_places (rack_of wave) workers r in
     let count = c.workers-i-end.ensures.count in
     let end : c.loop-i.i ≡ length wave.workers = omega arith in
     let next : r + 1 ≡ suc r = omega arith in
-    let whole : in_racks wave (r + 1) ≡ in_racks wave r + in_rack wave r (length wave.workers) = ap (in_racks wave) next ∙ racks_more wave r in
+    let whole : in_places (rack_of wave) workers (r + 1)
+    ≡ in_places (rack_of wave) workers r + in_place (rack_of wave) workers r =
+    ap (in_places (rack_of wave) workers) next ∙ places_more (rack_of wave) r workers in
     record {
-      built = feeds_end wave c.requires.racks r (limit + in_rack wave r (length wave.workers))
-          (257 * length wave.splits + length wave.tree.centre_of + in_racks wave (r + 1)) c.loop-i.network c.requires.rack (omega arith)
-          (subst (λ (i : ℕ). IsBuilt wave (rack_node wave r) (worker_node wave i) (limit + in_rack wave r i) c.loop-i.network) end c.loop-i.invariant);
+      built = feeds_end wave c.requires.tree r (limit + in_place (rack_of wave) workers r)
+          (branch_arcs wave + in_places (rack_of wave) workers (r + 1)) c.loop-i.network c.requires.rack
+          (omega arith)
+          (subst (λ (i : ℕ). IsBuilt wave (rack_node wave r) (worker_node wave i)
+          (limit + in_place (rack_of wave) i r) c.loop-i.network) end c.loop-i.invariant);
     }

@@ -4,28 +4,37 @@ use Rattle.rack_network.specs.Racks.{node_above}
 use Rattle.rack_network.specs.Build.{passed, IsBuilt, IsNext}
 use Rattle.rack_network.proofs.Counts.{passed-le}
 use Rattle.rack_network.proofs.Nearest.{next_reach, next_past, next_least, next_none, next_passed}
-use Rattle.rack_network.proofs.Rows.{level_opens, reach_at, reach_step, reach_end, raise}
+use Rattle.rack_network.proofs.Heights.{four_levels, level_opens}
+use Rattle.rack_network.proofs.Rows.{reach_at, reach_step, reach_end, raise}
 use Rattle.rack_network.proofs.network.add_level.Goals as goal
 
 pub loop-holder-init : goal.loop-holder-init
 loop-holder-init c =
     let wave = c.args.problem.now in
-    let limit : ℕ = 257 * c.args.split + 8 * (2 - c.args.level) in
+    let limit : ℕ = 257 * c.args.split + 8 * (3 - c.args.level) in
     let first = c.requires.first in
-    let opens = level_opens wave c.requires.racks c.args.level c.requires.level in (
+    let opens = level_opens wave c.requires.tree c.args.level
+    (four_levels wave c.requires.tree c.args.level c.requires.level) in (
       omega arith,
       omega arith,
-      raise wave c.requires.racks c.args.split c.args.first limit (limit + passed wave c.args.level c.args.first (split_at wave c.args.split).holders)
+      raise wave c.requires.tree c.args.split c.args.first limit
+          (limit + passed wave c.args.level c.args.first (split_at wave c.args.split).holders)
           c.args.network.now (omega arith)
-          (subst (λ (x : ℕ). IsBuilt wave c.args.split x limit c.args.network.now) (sym first) c.requires.built),
+          (subst (λ (x : ℕ). IsBuilt wave c.args.split x limit c.args.network.now)
+          (sym first) c.requires.built),
     )
 
 pub add-requires-clause-wanted : goal.add-requires-clause-wanted
 add-requires-clause-wanted c =
     let wave = c.args.problem.now in
-    let next : IsNext wave (split_at wave c.args.split).holders c.args.level c.loop-holder.place (length (split_at wave c.args.split).holders) (Some c.in-Some.holder) =
-    subst (λ (hs : List ℕ). IsNext wave hs c.args.level c.loop-holder.place (length hs) (Some c.in-Some.holder)) c.holders-holders.ensures.holders c.in-Some.ensures in
-    next_reach wave c.args.split c.args.level c.loop-holder.place c.requires.pending c.requires.not_direct c.requires.level c.in-Some.holder next
+    let s : ℕ = c.args.split in
+    let level : ℕ = c.args.level in
+    let h : ℕ = c.in-Some.holder in
+    let place : ℕ = c.loop-holder.place in
+    let next : IsNext wave (split_at wave s).holders level place (length (split_at wave s).holders) (Some h) =
+    subst (λ (hs : List ℕ). IsNext wave hs level place (length hs) (Some h)) c.holders-holders.ensures.holders
+    c.in-Some.ensures in
+    next_reach wave s level place c.requires.pending c.requires.no_bars c.requires.level h next
 
 pub add-requires-clause-room : goal.add-requires-clause-room
 add-requires-clause-room c =
@@ -40,11 +49,16 @@ add-requires-clause-room c =
 pub loop-holder-smaller : goal.loop-holder-smaller
 loop-holder-smaller c =
     let wave = c.args.problem.now in
-    let next : IsNext wave (split_at wave c.args.split).holders c.args.level c.loop-holder.place (length (split_at wave c.args.split).holders) (Some c.in-Some.holder) =
-    subst (λ (hs : List ℕ). IsNext wave hs c.args.level c.loop-holder.place (length hs) (Some c.in-Some.holder)) c.holders-holders.ensures.holders c.in-Some.ensures in
-    let past = next_past wave c.args.split c.args.level c.loop-holder.place c.requires.pending c.requires.not_direct c.requires.level c.in-Some.holder next in
-    let reach = next_reach wave c.args.split c.args.level c.loop-holder.place c.requires.pending c.requires.not_direct c.requires.level c.in-Some.holder next in
-    let up = (reach_at wave c.requires.racks c.args.split c.args.level c.in-Some.holder reach).1 in
+    let s : ℕ = c.args.split in
+    let level : ℕ = c.args.level in
+    let h : ℕ = c.in-Some.holder in
+    let place : ℕ = c.loop-holder.place in
+    let next : IsNext wave (split_at wave s).holders level place (length (split_at wave s).holders) (Some h) =
+    subst (λ (hs : List ℕ). IsNext wave hs level place (length hs) (Some h)) c.holders-holders.ensures.holders
+    c.in-Some.ensures in
+    let past = next_past wave s level place c.requires.pending c.requires.no_bars c.requires.level h next in
+    let reach = next_reach wave s level place c.requires.pending c.requires.no_bars c.requires.level h next in
+    let up = (reach_at wave c.requires.tree s level h reach).1 in
     let place = c.place_above-place.ensures.place in
     omega arith
 
@@ -56,24 +70,31 @@ loop-holder-preserved c =
     let h : ℕ = c.in-Some.holder in
     let place : ℕ = c.loop-holder.place in
     let next : IsNext wave (split_at wave s).holders level place (length (split_at wave s).holders) (Some h) =
-    subst (λ (hs : List ℕ). IsNext wave hs level place (length hs) (Some h)) c.holders-holders.ensures.holders c.in-Some.ensures in
-    let past = next_past wave s level place c.requires.pending c.requires.not_direct c.requires.level h next in
-    let reach = next_reach wave s level place c.requires.pending c.requires.not_direct c.requires.level h next in
-    let least = next_least wave s level place c.requires.pending c.requires.not_direct c.requires.level h next in
-    let more = next_passed wave s level place c.requires.pending c.requires.not_direct c.requires.level h next in
-    let up = (reach_at wave c.requires.racks s level h reach).1 in
+    subst (λ (hs : List ℕ). IsNext wave hs level place (length hs) (Some h)) c.holders-holders.ensures.holders
+    c.in-Some.ensures in
+    let past = next_past wave s level place c.requires.pending c.requires.no_bars c.requires.level h next in
+    let reach = next_reach wave s level place c.requires.pending c.requires.no_bars c.requires.level h next in
+    let least = next_least wave s level place c.requires.pending c.requires.no_bars c.requires.level h next in
+    let more = next_passed wave s level place c.requires.pending c.requires.no_bars c.requires.level h next in
+    let up = (reach_at wave c.requires.tree s level h reach).1 in
     let from = c.loop-holder.invariant.0 in
-    let limit : ℕ = 257 * s + 8 * (2 - level) in
-    let at : node_above wave level h + 1 ≡ c.place_above-place.result + 1 = ap (λ (x : ℕ). x + 1) (sym c.place_above-place.ensures.place) in
-    let now : IsBuilt wave s (node_above wave level h + 1) (limit + passed wave level (node_above wave level h + 1) (split_at wave s).holders) c.add.new.network =
-    reach_step wave c.requires.racks s c.requires.split c.requires.not_direct level place c.requires.level from h
-    (limit + passed wave level place (split_at wave s).holders) (limit + passed wave level (node_above wave level h + 1) (split_at wave s).holders)
+    let limit : ℕ = 257 * s + 8 * (3 - level) in
+    let at : node_above wave level h + 1 ≡ c.place_above-place.result + 1 =
+    ap (λ (x : ℕ). x + 1) (sym c.place_above-place.ensures.place) in
+    let now : IsBuilt wave s (node_above wave level h + 1)
+    (limit + passed wave level (node_above wave level h + 1) (split_at wave s).holders) c.add.new.network
+    =
+    reach_step wave c.requires.tree s c.requires.split c.requires.no_bars level place
+    (four_levels wave c.requires.tree level c.requires.level) from h
+    (limit + passed wave level place (split_at wave s).holders)
+    (limit + passed wave level (node_above wave level h + 1) (split_at wave s).holders)
     c.loop-holder.network c.add.new.network (omega arith) reach past least c.loop-holder.invariant.2
     (c.in_ok-add.ensures.layout, c.in_ok-add.ensures.arcs, c.in_ok-add.ensures.flows) in
     let node = c.place_above-place.ensures.place in (
       omega arith,
       omega arith,
-      subst (λ (x : ℕ). IsBuilt wave s x (limit + passed wave level x (split_at wave s).holders) c.add.new.network) at now,
+      subst (λ (x : ℕ). IsBuilt wave s x (limit + passed wave level x (split_at wave s).holders)
+          c.add.new.network) at now,
     )
 
 pub returns : goal.returns
@@ -82,15 +103,18 @@ returns c =
     let s : ℕ = c.args.split in
     let level : ℕ = c.args.level in
     let place : ℕ = c.loop-holder.place in
-    let limit : ℕ = 257 * s + 8 * (2 - level) in
+    let limit : ℕ = 257 * s + 8 * (3 - level) in
     let next : IsNext wave (split_at wave s).holders level place (length (split_at wave s).holders) None =
-    subst (λ (hs : List ℕ). IsNext wave hs level place (length hs) None) c.holders-holders.ensures.holders c.in_default.ensures in
-    let none = next_none wave s level place c.requires.pending c.requires.not_direct c.requires.level next in
+    subst (λ (hs : List ℕ). IsNext wave hs level place (length hs) None) c.holders-holders.ensures.holders
+    c.in_default.ensures in
+    let none = next_none wave s level place c.requires.pending c.requires.no_bars c.requires.level next in
     let most = passed-le wave level place (split_at wave s).holders in
     let size = ap (λ (z : List ℕ). length z) c.holders-holders.ensures.holders in
     let holders = c.holders-holders.ensures.limit in
     record {
-      built = reach_end wave c.requires.racks s c.requires.split c.requires.not_direct level place c.requires.level c.loop-holder.invariant.0
-          (limit + passed wave level place (split_at wave s).holders) (limit + 8) c.loop-holder.network (omega arith) c.loop-holder.invariant.1 none
+      built = reach_end wave c.requires.tree s c.requires.split c.requires.no_bars level place
+          (four_levels wave c.requires.tree level c.requires.level) c.loop-holder.invariant.0
+          (limit + passed wave level place (split_at wave s).holders) (limit + 8) c.loop-holder.network
+          (omega arith) c.loop-holder.invariant.1 none
           c.loop-holder.invariant.2;
     }

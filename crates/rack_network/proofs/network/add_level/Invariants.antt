@@ -6,7 +6,8 @@ use Rattle.rack_network.proofs.network.add_level.Given as goal
 abbrev pub invariant-loop-holder : goal.invariant-loop-holder
 invariant-loop-holder l = (level_start l.problem l.level ≤ l.place) × (l.place ≤ level_end l.problem l.level)
     × IsBuilt l.problem l.split l.place
-    (257 * l.split + 8 * (2 - l.level) + passed l.problem l.level l.place (split_at l.problem l.split).holders) l.network
+    (257 * l.split + 8 * (3 - l.level) + passed l.problem l.level l.place
+    (split_at l.problem l.split).holders) l.network
 
 abbrev pub decreases-loop-holder : goal.decreases-loop-holder
 decreases-loop-holder l = level_end l.problem l.level - l.place

@@ -21,23 +21,32 @@ loop-i-preserved c =
     let next : ℕ = 257 * s + (c.loop-i.i + 1) in
     elim c.if-admissible.branch [
       | then-admissible+in_ok-add w ↦ rw w.network-is
-          (pair_step c.args.problem.now c.requires.racks s c.requires.split c.requires.direct c.loop-i.i c.new-worker.result limit next c.loop-i.network w.add.new.network
+          (pair_step c.args.problem.now c.requires.tree s c.requires.split c.requires.bars c.loop-i.i
+          c.new-worker.result limit next c.loop-i.network w.add.new.network
           (omega arith) (omega arith) (omega arith)
           (subst (λ z. IsAdmissible z s c.new-worker.result) c.new-costs.ensures.wave
-          (subst (λ z. IsAdmissible c.new-costs.result.wave z c.new-worker.result) c.new-costs.ensures.split (c.admissible.ensures.0 w.if-admissible.true)))
-          c.loop-i.invariant (w.in_ok-add.ensures.layout, w.in_ok-add.ensures.arcs, w.in_ok-add.ensures.flows))
+          (subst (λ z. IsAdmissible c.new-costs.result.wave z c.new-worker.result) c.new-costs.ensures.split
+          (c.admissible.ensures.0 w.if-admissible.true)))
+          c.loop-i.invariant (
+            w.in_ok-add.ensures.layout,
+            w.in_ok-add.ensures.arcs,
+            w.in_ok-add.ensures.flows,
+          ))
       | else-admissible w ↦ rw w.network-is
-          (pair_skip c.args.problem.now c.requires.racks s c.requires.split c.requires.direct c.loop-i.i c.new-worker.result limit next c.loop-i.network
+          (pair_skip c.args.problem.now c.requires.tree s c.requires.split c.requires.bars c.loop-i.i
+          c.new-worker.result limit next c.loop-i.network
           (omega arith) (omega arith) (omega arith)
           (λ may. false≢true (sym w.if-admissible.false ∙ c.admissible.ensures.1
-          (subst (λ z. IsAdmissible c.new-costs.result.wave z c.new-worker.result) (sym c.new-costs.ensures.split)
+          (subst (λ z. IsAdmissible c.new-costs.result.wave z c.new-worker.result)
+          (sym c.new-costs.ensures.split)
           (subst (λ z. IsAdmissible z s c.new-worker.result) (sym c.new-costs.ensures.wave) may))))
           c.loop-i.invariant)
     ]
 
 pub loop-i-init : goal.loop-i-init
 loop-i-init c =
-    to_pairs c.args.problem.now c.requires.racks c.args.split c.requires.split c.requires.direct (257 * c.args.split) (257 * c.args.split + 0)
+    to_pairs c.args.problem.now c.requires.tree c.args.split c.requires.split c.requires.bars
+    (257 * c.args.split) (257 * c.args.split + 0)
     c.args.network.now (omega arith) c.requires.built
 
 pub returns : goal.returns
@@ -48,6 +57,8 @@ returns c =
     let count = c.workers-i-end.ensures.count in
     let end : c.loop-i.i ≡ length wave.workers = omega arith in
     record {
-      built = raise wave c.requires.racks s (unstarted_node wave) (257 * s + length wave.workers) (257 * s + 256) c.loop-i.network (omega arith)
-          (subst (λ (i : ℕ). IsBuilt wave s (worker_node wave i) (257 * s + i) c.loop-i.network) end c.loop-i.invariant);
+      built = raise wave c.requires.tree s (unstarted_node wave) (257 * s + length wave.workers)
+          (257 * s + 256) c.loop-i.network (omega arith)
+          (subst (λ (i : ℕ). IsBuilt wave s (worker_node wave i) (257 * s + i) c.loop-i.network) end
+          c.loop-i.invariant);
     }

@@ -11,7 +11,8 @@ add-requires-clause-room c =
 pub returns : goal.returns
 returns c = record {
   built =
-      wait_step c.args.problem.now c.requires.racks c.args.split (257 * c.args.split + 256) (257 * c.args.split + 257) c.add_ways.new.network
+      wait_step c.args.problem.now c.requires.tree c.args.split (257 * c.args.split + 256)
+      (257 * c.args.split + 257) c.add_ways.new.network
       c.add.new.network (omega arith) c.requires.split c.requires.pending c.in_ok-add_ways.ensures.built
       (c.in_ok-add.ensures.layout, c.in_ok-add.ensures.arcs, c.in_ok-add.ensures.flows);
 }

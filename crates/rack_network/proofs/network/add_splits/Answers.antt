@@ -11,11 +11,15 @@ loop-i-preserved c =
     let same : split ≡ c.loop-i.i = omega arith in
     elim c.if-is_pending.branch [
       | then-is_pending+in_ok-add_split w ↦ rw w.network-is
-          (raise wave c.requires.racks (c.loop-i.i + 1) 0 (257 * split + 257) (257 * (c.loop-i.i + 1)) w.add_split.new.network (omega arith)
-          (subst (λ (z : ℕ). IsBuilt wave (z + 1) 0 (257 * split + 257) w.add_split.new.network) same w.in_ok-add_split.ensures.built))
+          (raise wave c.requires.tree (c.loop-i.i + 1) 0 (257 * split + 257) (257 * (c.loop-i.i + 1))
+          w.add_split.new.network (omega arith)
+          (subst (λ (z : ℕ). IsBuilt wave (z + 1) 0 (257 * split + 257) w.add_split.new.network) same
+          w.in_ok-add_split.ensures.built))
       | else-is_pending w ↦ rw w.network-is
           (subst (λ (z : ℕ). IsBuilt wave (z + 1) 0 (257 * (c.loop-i.i + 1)) c.loop-i.network) same
-          (idle_row wave c.requires.racks split (257 * c.loop-i.i) (257 * (c.loop-i.i + 1)) c.loop-i.network (omega arith) (omega arith)
+          (idle_row wave c.requires.tree split (257 * c.loop-i.i) (257 * (c.loop-i.i + 1)) c.loop-i.network
+          (omega arith) (omega arith)
           (sym c.is_pending.ensures ∙ w.if-is_pending.false)
-          (subst (λ (z : ℕ). IsBuilt wave z 0 (257 * c.loop-i.i) c.loop-i.network) (sym same) c.loop-i.invariant)))
+          (subst (λ (z : ℕ). IsBuilt wave z 0 (257 * c.loop-i.i) c.loop-i.network)
+          (sym same) c.loop-i.invariant)))
     ]
