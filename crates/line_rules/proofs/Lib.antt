@@ -5,5 +5,7 @@ pub mod Fits
 pub mod Steps
 pub mod OneReading
 pub mod LineErrors
+pub mod Least
+pub mod Saying
 pub mod FitLines
 pub mod ReadTo

@@ -10,10 +10,10 @@ use Rattle.text_lines.specs.declared.fault.Fault.TheVariants.{RepeatedHolder, Se
 use Rattle.text_lines.specs.declared.fault.Fault.TheVariants.{NoFeed, Unprintable, AfterEnd}
 use Rattle.line_shapes.specs.Lines.{Says, SaysNothing, Statement}
 use Rattle.line_rules.specs.Known.{Known}
-use Rattle.line_rules.specs.Faults.{Fails, IsFit, IsLeastOf}
+use Rattle.line_rules.specs.Faults.{Fails, IsFit, IsLeastOf, IsWhole}
 use Rattle.line_rules.specs.Texts.{IsSound, LineHas}
 use Rattle.line_rules.proofs.Fits.{fit_faultless}
-use Rattle.line_rules.proofs.OneReading.{says-unique}
+use Rattle.line_shapes.proofs.OneStatement.{says-unique}
 use Rattle.line_rules.specs.Reading.{IsLeastError}
 use Rattle.line_rules.specs.declared.section.Section.TheVariants.{Ended}
 use Rattle.line_rules.specs.declared.reading.LineError.{LineError}
@@ -22,7 +22,8 @@ use Rattle.line_rules.specs.declared.reading.LineError.TheVariants as error
 -- a fault of the statement is one of the line
 fault_of_line : (k : Known) (line : Line) (s : Statement) → IsSound k line → Says line s → (f : Fault)
     → Fails k s f → LineHas k line f
-fault_of_line k line s sound says Shape h = absurd (h.1 tt)
+fault_of_line k line s sound says Shape h =
+    (sound, λ t other whole. h (subst (λ u. IsWhole k u) (says-unique line t s other says) whole))
 fault_of_line k line s sound says Misnamed h = (sound, (s, says, h))
 fault_of_line k line s sound says Unknown h = (sound, (s, says, h))
 fault_of_line k line s sound says Repeated h = (sound, (s, says, h))
@@ -32,10 +33,10 @@ fault_of_line k line s sound says Misplaced h = (sound, (s, says, h))
 fault_of_line k line s sound says RepeatedHolder h = (sound, (s, says, h))
 fault_of_line k line s sound says SecondEntry h = (sound, (s, says, h))
 fault_of_line k line s sound says NoPrice h = (sound, (s, says, h))
-fault_of_line k line s sound says TooLong h = absurd (h.1 tt)
-fault_of_line k line s sound says NoFeed h = absurd (h.1 tt)
-fault_of_line k line s sound says Unprintable h = absurd (h.1 tt)
-fault_of_line k line s sound says AfterEnd h = absurd (h.1 tt)
+fault_of_line k line s sound says TooLong h = absurd (h.2 tt)
+fault_of_line k line s sound says NoFeed h = absurd (h.2 tt)
+fault_of_line k line s sound says Unprintable h = absurd (h.2 tt)
+fault_of_line k line s sound says AfterEnd h = absurd (h.2 tt)
 
 -- a statement that the line says is the one that it says
 same_fault : (k : Known) (line : Line) (s t : Statement) → Says line s → Says line t → (f : Fault)
@@ -45,7 +46,7 @@ same_fault k line s t one other f h = subst (λ u. Fails k u f) (says-unique lin
 -- a fault of the line is one of the statement
 fault_of_statement : (k : Known) (line : Line) (s : Statement) → IsSound k line → Says line s
     → (f : Fault) → LineHas k line f → Fails k s f
-fault_of_statement k line s sound says Shape h = absurd (h.1 s says)
+fault_of_statement k line s sound says Shape h = h.1 s says
 fault_of_statement k line s sound says Misnamed h = same_fault k line s h.1.0 says h.1.1 Misnamed h.1.2
 fault_of_statement k line s sound says Unknown h = same_fault k line s h.1.0 says h.1.1 Unknown h.1.2
 fault_of_statement k line s sound says Repeated h = same_fault k line s h.1.0 says h.1.1 Repeated h.1.2
@@ -94,7 +95,7 @@ lowest AfterEnd = omega arith
 -- a line that says nothing has the lowest fault of all
 pub nothing_least : (k : Known) (line : Line) → IsSound k line → SaysNothing line
     → IsLeastOf (LineHas k line) Shape
-nothing_least k line sound nothing = record { applies = (sound, nothing); least = λ g h. lowest g }
+nothing_least k line sound nothing = record { applies = (sound, λ s says whole. nothing s says); least = λ g h. lowest g }
 
 past_words : (k : Known) (line : Line) → (All IsPrintable line → ⊥) → (g : Fault) → LineHas k line g
     → 13 ≤ number_of_fault g

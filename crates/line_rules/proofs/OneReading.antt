@@ -2,68 +2,17 @@
 use Rattle.std.proofs.Common.{ℕ, List, [], ◌∷◌, ◌≡◌, ◌≤◌, ◌<◌, ◌+◌, ◌⊎◌, ◌∙◌, inl, inr, length, take}
 use Rattle.std.proofs.Common.{refl, sym, ap, subst, arith}
 use Rattle.std.specs.Prelude.{◌==◌, if◌then◌else◌}
-use Rattle.std.specs.Str.{bytes_eq}
-use Rattle.text_lines.specs.Texts.{Line, Word, lines_of}
-use Rattle.line_shapes.specs.Keywords.{text_of}
-use Rattle.line_shapes.specs.declared.keyword.Keyword.{Keyword}
-use Rattle.line_shapes.specs.declared.keyword.Keyword.TheVariants.{Problem, Rack, Worker, Split, Barred, Dead}
-use Rattle.line_shapes.specs.declared.keyword.Keyword.TheVariants.{Busy, Plan, Start, Price, End}
+use Rattle.text_lines.specs.Texts.{Line, lines_of}
 use Rattle.text_lines.specs.Faults.{number_of_fault}
 use Rattle.text_lines.specs.declared.fault.Fault.{Fault}
 use Rattle.text_lines.specs.declared.fault.Fault.TheVariants.{Shape, Misnamed, Unknown, Repeated}
 use Rattle.text_lines.specs.declared.fault.Fault.TheVariants.{OutOfRange, PassesLimit, Misplaced}
 use Rattle.text_lines.specs.declared.fault.Fault.TheVariants.{RepeatedHolder, SecondEntry, NoPrice, TooLong}
 use Rattle.text_lines.specs.declared.fault.Fault.TheVariants.{NoFeed, Unprintable, AfterEnd}
-use Rattle.line_shapes.specs.Lines.{Says, Statement}
+use Rattle.line_shapes.specs.Lines.{Statement}
+use Rattle.line_shapes.proofs.OneStatement.{says-unique}
 use Rattle.line_rules.specs.Texts.{Declare, IsLeastAt, IsLeastFault, Reads, longest}
 use Rattle.line_rules.specs.declared.purpose.Purpose.{Purpose}
-
--- ---- a line
-
--- the keyword that is spelled so
-abbrev keyword_told : Word → Keyword
-keyword_told w =
-    if bytes_eq w (text_of Problem) then Problem
-    else if bytes_eq w (text_of Rack) then Rack
-    else if bytes_eq w (text_of Worker) then Worker
-    else if bytes_eq w (text_of Split) then Split
-    else if bytes_eq w (text_of Barred) then Barred
-    else if bytes_eq w (text_of Dead) then Dead
-    else if bytes_eq w (text_of Busy) then Busy
-    else if bytes_eq w (text_of Plan) then Plan
-    else if bytes_eq w (text_of Start) then Start
-    else if bytes_eq w (text_of Price) then Price
-    else End
-
-told_back : (k : Keyword) → keyword_told (text_of k) ≡ k
-told_back Problem = refl
-told_back Rack = refl
-told_back Worker = refl
-told_back Split = refl
-told_back Barred = refl
-told_back Dead = refl
-told_back Busy = refl
-told_back Plan = refl
-told_back Start = refl
-told_back Price = refl
-told_back End = refl
-
-abbrev first_word : List Word → Word
-first_word [] = []
-first_word (w ∷ ws) = w
-
-abbrev other_words : List Word → List Word
-other_words [] = []
-other_words (w ∷ ws) = ws
-
--- a line says one statement
-pub says-unique : (line : Line) (s t : Statement) → Says line s → Says line t → s ≡ t
-says-unique line s t a b =
-    let same : text_of s.keyword ∷ s.words ≡ text_of t.keyword ∷ t.words = sym a.spelled ∙ b.spelled in
-    let keyword : s.keyword ≡ t.keyword =
-    sym (told_back s.keyword) ∙ ap (λ ws. keyword_told (first_word ws)) same ∙ told_back t.keyword in
-    let words : s.words ≡ t.words = ap other_words same in
-    λ i. record { keyword = keyword i; words = words i }
 
 -- ---- the statements
 

@@ -14,21 +14,48 @@ use Rattle.line_shapes.specs.Places.{place_at}
 use Rattle.line_shapes.specs.declared.keyword.Keyword.{Keyword}
 use Rattle.line_shapes.specs.declared.keyword.Keyword.TheVariants as keyword
 use Rattle.line_shapes.specs.declared.place.Place.{Place}
-use Rattle.line_shapes.specs.declared.place.Place.TheVariants.{New, Used, Number}
+use Rattle.line_shapes.specs.declared.place.Place.TheVariants.{New, Used, Number, Text}
+use Rattle.line_rules.specs.declared.edition.Version.{Version}
+use Rattle.line_rules.specs.declared.edition.Version.TheVariants.{One, Two}
+use Rattle.line_rules.specs.declared.entering.Entering.{Entering}
+use Rattle.line_rules.specs.declared.entering.Entering.TheVariants as by
+use Rattle.line_rules.specs.declared.entering.Follow.{Follow}
+use Rattle.line_rules.specs.declared.entering.Follow.TheVariants.{Any, Centre, Counts}
 use Rattle.line_rules.specs.declared.purpose.Purpose.{Purpose}
-use Rattle.line_rules.specs.declared.purpose.Purpose.TheVariants.{Checking, Planning}
+use Rattle.line_rules.specs.declared.purpose.Purpose.TheVariants.{Checking, Planning, Playing, Running}
 use Rattle.line_rules.specs.declared.rule.Rule.{Rule}
 use Rattle.line_rules.specs.declared.rule.Rule.TheVariants as rule
 use Rattle.line_rules.specs.declared.section.Section.{Section}
 use Rattle.line_rules.specs.declared.section.Section.TheVariants.{First, Head, Body, Ended}
-use Rattle.line_rules.specs.Entering.{Key, is_priced, key_of, most_more_of, most_of}
+use Rattle.line_rules.specs.Entering.{Key, entering_of, follow_of, is_priced, key_of, most_more_of, most_of}
 use Rattle.line_rules.specs.Known.{HasRow, IsDeclared, IsTaken, Known, keys_of, rows_of}
-use Rattle.line_rules.specs.Sections.{section_after, section_of}
+use Rattle.line_rules.specs.Sections.{IsOfVersion, edition_of, section_after, section_of}
 
 -- ---- what a line must meet, each its own fault where it does not
 
+-- a rack's centre follows its name in version 2 alone
+abbrev pub centres_in : Version → ℕ
+centres_in One = 0
+centres_in Two = 1
+
+-- how many words have to follow those in the places of a line, where that is told
+abbrev pub follows : Follow → Known → Option ℕ
+follows Any k = None
+follows Centre k = Some (centres_in k.version)
+follows Counts k = Some (length (rows_of keyword.Worker k.rows))
+
+abbrev pub AreAsMany : Option ℕ → ℕ → Type 0
+AreAsMany None n = Unit {0}
+AreAsMany (Some wanted) n = n ≡ wanted
+
+-- as many words follow as have to
+abbrev pub IsWhole : Known → Statement → Type 0
+IsWhole k s = AreAsMany (follows (follow_of s.keyword) k) (length (tail_of s))
+
+-- the kind of text has such a line in this section, and in this version
 abbrev pub MayStand : Known → Statement → Type 0
-MayStand k s = section_of k.purpose s.keyword ≡ Some k.section
+MayStand k s = (section_of k.purpose s.keyword ≡ Some k.section)
+    × IsOfVersion (edition_of s.keyword) k.version
 
 -- a name that is used is declared, of its kind
 abbrev pub IsDeclaredIn : List Statement → Option Place → Word → Type 0
@@ -36,6 +63,7 @@ IsDeclaredIn rows None w = Unit {0}
 IsDeclaredIn rows (Some New) w = Unit {0}
 IsDeclaredIn rows (Some (Used kind)) w = IsDeclared rows kind w
 IsDeclaredIn rows (Some (Number least most)) w = Unit {0}
+IsDeclaredIn rows (Some Text) w = Unit {0}
 
 -- a name that is declared is not taken
 abbrev pub IsFreeIn : List Statement → Option Place → Word → Type 0
@@ -43,6 +71,7 @@ IsFreeIn rows None w = Unit {0}
 IsFreeIn rows (Some New) w = IsTaken rows w → ⊥
 IsFreeIn rows (Some (Used kind)) w = Unit {0}
 IsFreeIn rows (Some (Number least most)) w = Unit {0}
+IsFreeIn rows (Some Text) w = Unit {0}
 
 abbrev pub KeepsTo : Rule → List Statement → Option Place → Word → Type 0
 KeepsTo rule.Declared rows place w = IsDeclaredIn rows place w
@@ -89,9 +118,20 @@ abbrev pub KeepIn : Rule → List Statement → Keyword → List (Bor (List ℕ)
 KeepIn r rows k ws = (i : ℕ) (d : Bor (List ℕ)) → i < length ws
     → KeepsTo r rows (place_at k i) (slice_index_or ws i d).now
 
+-- the lines before that count towards the limit of a keyword: of a command's, all commands
+abbrev pub counted_by : Entering → Known → Keyword → ℕ
+counted_by by.Nothing k word = length (rows_of word k.rows)
+counted_by by.InTurn k word = length k.commands
+counted_by by.Alone k word = length (rows_of word k.rows)
+counted_by by.Word k word = length (rows_of word k.rows)
+counted_by by.Pair k word = length (rows_of word k.rows)
+
+abbrev pub counted_of : Known → Keyword → ℕ
+counted_of k word = counted_by (entering_of word) k word
+
 -- there may be one line more of its keyword, and no more words follow than may
-pub record IsWithinLimit (rows : List Statement) (s : Statement) : Type 0 where
-  pub room : HasRoom (most_of s.keyword) (length (rows_of s.keyword rows))
+pub record IsWithinLimit (k : Known) (s : Statement) : Type 0 where
+  pub room : HasRoom (most_of k.purpose s.keyword) (counted_of k s.keyword)
   pub few : IsFew (most_more_of s.keyword) (length (tail_of s))
 
 -- a split or a worker has a price
@@ -102,6 +142,8 @@ HasItsPrice rows key = is_priced key.0 ≡ true → HasRow rows keyword.Price ke
 abbrev pub IsPriced : Purpose → List Statement → Type 0
 IsPriced Checking rows = All (HasItsPrice rows) (keys_of rows)
 IsPriced Planning rows = Unit {0}
+IsPriced Playing rows = Unit {0}
+IsPriced Running rows = Unit {0}
 
 -- at the end nothing lacks its price
 abbrev pub IsPricedBefore : Section → Known → Type 0
@@ -118,7 +160,7 @@ Meets k s Misnamed = IsNamed s
 Meets k s Unknown = Keep rule.Declared k.rows s
 Meets k s Repeated = IsNew k.rows s
 Meets k s OutOfRange = IsInRange s
-Meets k s PassesLimit = IsWithinLimit k.rows s
+Meets k s PassesLimit = IsWithinLimit k s
 Meets k s RepeatedHolder = HasTailApart s
 Meets k s SecondEntry = IsFirstOfBody (section_after s.keyword) k.rows s
 Meets k s NoPrice = IsPricedBefore (section_after s.keyword) k
@@ -129,19 +171,21 @@ Meets k s NoFeed = Unit {0}
 Meets k s Unprintable = Unit {0}
 Meets k s AfterEnd = Unit {0}
 
--- a misplaced line has no other fault
+-- a line that is not whole has no other fault, and a misplaced line no other than that
 abbrev pub Fails : Known → Statement → Fault → Type 0
-Fails k s Misplaced = MayStand k s → ⊥
-Fails k s f = MayStand k s × (Meets k s f → ⊥)
+Fails k s Shape = IsWhole k s → ⊥
+Fails k s Misplaced = IsWhole k s × (MayStand k s → ⊥)
+Fails k s f = IsWhole k s × MayStand k s × (Meets k s f → ⊥)
 
 -- the line has no fault
 pub record IsFit (k : Known) (s : Statement) : Type 0 where
+  pub whole : IsWhole k s
   pub may_stand : MayStand k s
   pub named : IsNamed s
   pub known : Keep rule.Declared k.rows s
   pub new : IsNew k.rows s
   pub in_range : IsInRange s
-  pub within_limit : IsWithinLimit k.rows s
+  pub within_limit : IsWithinLimit k s
   pub tail_apart : HasTailApart s
   pub once : IsFirstOfBody (section_after s.keyword) k.rows s
   pub priced : IsPricedBefore (section_after s.keyword) k

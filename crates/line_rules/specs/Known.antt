@@ -8,20 +8,33 @@ use Rattle.line_shapes.specs.Lines.{Statement}
 use Rattle.line_shapes.specs.declared.keyword.Keyword.{Keyword}
 use Rattle.line_shapes.specs.declared.keyword.Keyword.TheVariants as keyword
 use Rattle.line_shapes.specs.declared.place.Kind.{Kind}
-use Rattle.line_shapes.specs.declared.place.Kind.TheVariants.{Rack, Worker, Split, Priced}
+use Rattle.line_shapes.specs.declared.place.Kind.TheVariants.{Centre, Rack, Worker, Split, Priced}
+use Rattle.line_rules.specs.declared.edition.Version.{Version}
+use Rattle.line_rules.specs.declared.edition.Version.TheVariants.{One}
 use Rattle.line_rules.specs.declared.purpose.Purpose.{Purpose}
 use Rattle.line_rules.specs.declared.section.Section.{Section}
 use Rattle.line_rules.specs.declared.section.Section.TheVariants.{First}
-use Rattle.line_rules.specs.Entering.{Key, entered_of, key_of}
-use Rattle.line_rules.specs.Sections.{section_after}
+use Rattle.line_rules.specs.Entering.{Key, command_of, entered_of, key_of}
+use Rattle.line_rules.specs.Sections.{edition_of, section_after, version_by}
 
 pub record Known : Type 0 where
   -- what the text is read for
   pub purpose : Purpose
+  pub version : Version
   -- where the line stands
   pub section : Section
   -- the lines before that are entered, in their order
   pub rows : List Statement
+  -- the commands before, in their order
+  pub commands : List Statement
+
+abbrev pub version_after : Version → Statement → Version
+version_after version s = version_by (edition_of s.keyword) version s.words
+
+-- the version after these lines
+abbrev pub version_at : Version → List Statement → Version
+version_at version [] = version
+version_at version (s ∷ ss) = version_at (version_after version s) ss
 
 -- where a line stands after these
 abbrev pub section_at : Section → List Statement → Section
@@ -32,13 +45,20 @@ section_at section (s ∷ ss) = section_at (section_after s.keyword) ss
 abbrev pub known_at : Purpose → List Statement → Known
 known_at purpose before = record {
   purpose = purpose;
+  version = version_at One before;
   section = section_at First before;
   rows = flat_map entered_of before;
+  commands = flat_map command_of before;
 }
 
 -- what is known after one line more
 abbrev pub entered : Known → Statement → Known
-entered k s = record k { section = section_after s.keyword; rows = k.rows ++ entered_of s }
+entered k s = record k {
+  version = version_after k.version s;
+  section = section_after s.keyword;
+  rows = k.rows ++ entered_of s;
+  commands = k.commands ++ command_of s;
+}
 
 -- ---- the rows
 
@@ -51,6 +71,7 @@ HasRow rows k name = Contains (keys_of rows) (k, name, [])
 
 -- the name is declared, and of this kind
 abbrev pub IsDeclared : List Statement → Kind → Word → Type 0
+IsDeclared rows Centre name = HasRow rows keyword.Centre name
 IsDeclared rows Rack name = HasRow rows keyword.Rack name
 IsDeclared rows Worker name = HasRow rows keyword.Worker name
 IsDeclared rows Split name = HasRow rows keyword.Split name
@@ -58,8 +79,8 @@ IsDeclared rows Priced name = HasRow rows keyword.Split name ⊎ HasRow rows key
 
 -- the one name space
 abbrev pub IsTaken : List Statement → Word → Type 0
-IsTaken rows name = HasRow rows keyword.Rack name ⊎ (HasRow rows keyword.Worker name
-    ⊎ HasRow rows keyword.Split name)
+IsTaken rows name = HasRow rows keyword.Centre name ⊎ (HasRow rows keyword.Rack name
+    ⊎ (HasRow rows keyword.Worker name ⊎ (HasRow rows keyword.Split name ⊎ HasRow rows keyword.Doc name)))
 
 abbrev pub is_of : Keyword → Statement → Bool
 is_of k s = bytes_eq (text_of k) (text_of s.keyword)

@@ -6,9 +6,11 @@ use Rattle.std.specs.Global.{Vec}
 use Rattle.text_lines.specs.Texts.{Word}
 use Rattle.line_shapes.specs.Lines.{Statement}
 use Rattle.line_shapes.specs.declared.keyword.Keyword.{Keyword}
+use Rattle.line_rules.specs.declared.commands.CommandLine.{CommandLine}
 use Rattle.line_rules.specs.Entering.{Key, entering_of, key_of}
 use Rattle.line_rules.specs.declared.entering.Entering.{Entering}
-use Rattle.line_rules.specs.declared.entering.Entering.TheVariants.{Nothing, Word as ByWord, Pair as ByPair}
+use Rattle.line_rules.specs.declared.entering.Entering.TheVariants.{Nothing, InTurn, Alone, Word as ByWord}
+use Rattle.line_rules.specs.declared.entering.Entering.TheVariants.{Pair as ByPair}
 
 abbrev pub TextKey : Type 0
 TextKey = Keyword × Bor (List ℕ) × Bor (List ℕ)
@@ -19,6 +21,8 @@ key_in k = (k.0, k.1.now, k.2.now)
 -- the words of a key
 abbrev pub front_of : Entering → Word → Word → List Word
 front_of Nothing first second = []
+front_of InTurn first second = []
+front_of Alone first second = []
 front_of ByWord first second = first ∷ []
 front_of ByPair first second = first ∷ second ∷ []
 
@@ -31,6 +35,10 @@ made_of k first second rest = record {
 
 abbrev pub statement_of_entry : TextKey × Vec (Bor (List ℕ)) → Statement
 statement_of_entry e = made_of e.0.0 e.0.1.now e.0.2.now e.1.items
+
+-- a command of the code as a line
+abbrev pub statement_of_command : CommandLine → Statement
+statement_of_command c = record { keyword = c.keyword; words = map (λ w. w.now) c.words.items }
 
 -- each stands under its own key
 abbrev pub AreKeyed : List (TextKey × Vec (Bor (List ℕ))) → Type 0

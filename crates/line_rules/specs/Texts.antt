@@ -9,7 +9,7 @@ use Rattle.text_lines.specs.declared.fault.Fault.TheVariants.{Unprintable, After
 use Rattle.line_shapes.specs.Lines.{Says, SaysNothing, Statement}
 use Rattle.line_rules.specs.declared.purpose.Purpose.{Purpose}
 use Rattle.line_rules.specs.declared.section.Section.TheVariants.{Ended}
-use Rattle.line_rules.specs.Faults.{Fails}
+use Rattle.line_rules.specs.Faults.{Fails, IsWhole}
 use Rattle.line_rules.specs.Known.{Known, known_at}
 
 -- what the lines say, those that say nothing left out
@@ -23,13 +23,13 @@ Declare (l ∷ ls) (s ∷ ss) = (Says l s × Declare ls ss) ⊎ (SaysNothing l �
 abbrev pub IsSound : Known → Line → Type 0
 IsSound k line = All IsPrintable line × (k.section ≢ Ended)
 
--- a line that has its line feed
+-- a line that has its line feed; it has no shape where it says nothing, or not as many words as have to follow
 abbrev pub LineHas : Known → Line → Fault → Type 0
 LineHas k line Unprintable = All IsPrintable line → ⊥
 LineHas k line AfterEnd = k.section ≡ Ended
 LineHas k line NoFeed = ⊥
 LineHas k line TooLong = ⊥
-LineHas k line Shape = IsSound k line × SaysNothing line
+LineHas k line Shape = IsSound k line × ((s : Statement) → Says line s → IsWhole k s → ⊥)
 LineHas k line f = IsSound k line × ((s : Statement) × Says line s × Fails k s f)
 
 -- what stands after the last line feed

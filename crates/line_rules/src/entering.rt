@@ -1,18 +1,35 @@
 ghost use Rattle.std.specs.Prelude.{◌≡◌};
-ghost use Rattle.line_rules.specs.Entering.{entering_of as entering, is_priced as priced};
+ghost use Rattle.line_rules.specs.Entering.{entering_of as entering, follow_of as follow, is_priced as priced};
 ghost use Rattle.line_rules.specs.Entering.{most_more_of as most_words, most_of as most};
+ghost use Rattle.line_rules.specs.Entering.{most_workers as workers};
 
+use crate::purpose::Purpose;
 use line_shapes::Keyword;
 
-/// By which of its words a line is entered, so that a later one can be told to be the same.
+/// By what a line is entered, so that a later one can be told to be the same.
 #[derive(Clone, Copy, Debug, PartialEq, Eq)]
 pub enum Entering {
     /// It is not entered.
     Nothing,
+    /// Behind the lines before it, as often as it stands: a command.
+    InTurn,
+    /// By its keyword alone.
+    Alone,
     /// By its first word.
     Word,
     /// By its first two words.
     Pair,
+}
+
+/// Which words have to follow those in the places of a line.
+#[derive(Clone, Copy, Debug, PartialEq, Eq)]
+pub enum Follow {
+    /// Any, as far as some may.
+    Any,
+    /// A data centre, in version 2, and else nothing.
+    Centre,
+    /// A count for each worker that was declared.
+    Counts,
 }
 
 /// How the lines of a keyword are entered.
@@ -20,24 +37,45 @@ pub fn entering_of(keyword: Keyword) -> Entering
     ensures { result ≡ entering keyword }
 {
     match keyword {
-        Keyword::Problem | Keyword::Plan | Keyword::End => Entering::Nothing,
-        Keyword::Rack | Keyword::Worker | Keyword::Split => Entering::Word,
-        Keyword::Dead | Keyword::Busy => Entering::Word,
-        Keyword::Start | Keyword::Price => Entering::Word,
+        Keyword::Problem | Keyword::Script | Keyword::Job | Keyword::Plan => Entering::Nothing,
+        Keyword::Begin | Keyword::End => Entering::Nothing,
+        Keyword::Centre | Keyword::Rack | Keyword::Worker | Keyword::Split => Entering::Word,
+        Keyword::Dead | Keyword::Busy | Keyword::Doc | Keyword::Start => Entering::Word,
+        Keyword::Price => Entering::Word,
         Keyword::Barred => Entering::Pair,
+        Keyword::Parts | Keyword::Target | Keyword::Silence => Entering::Alone,
+        Keyword::Wave | Keyword::Done | Keyword::Fail | Keyword::Withdraw => Entering::InTurn,
+        Keyword::Die | Keyword::Join | Keyword::Add | Keyword::Lose => Entering::InTurn,
+        Keyword::Sweep | Keyword::Reduce | Keyword::Copies | Keyword::Backup => Entering::InTurn,
     }
 }
 
-/// How many lines of a keyword there may be, where there is a limit.
-pub fn most_of(keyword: Keyword) -> Option<usize>
-    ensures { result ≡ most keyword }
+/// How many lines of a keyword there may be, where there is a limit; of commands, how many in all.
+pub fn most_of(purpose: Purpose, keyword: Keyword) -> Option<usize>
+    ensures { result ≡ most purpose keyword }
 {
     match keyword {
+        Keyword::Problem | Keyword::Script | Keyword::Job | Keyword::Barred => None,
+        Keyword::Dead | Keyword::Busy | Keyword::Parts | Keyword::Target => None,
+        Keyword::Silence | Keyword::Plan | Keyword::Start | Keyword::Price => None,
+        Keyword::Begin | Keyword::End => None,
+        Keyword::Centre => Some(8),
         Keyword::Rack => Some(32),
-        Keyword::Worker => Some(256),
+        Keyword::Worker => Some(most_workers(purpose)),
         Keyword::Split => Some(1024),
-        Keyword::Problem | Keyword::Barred | Keyword::Dead | Keyword::Busy => None,
-        Keyword::Plan | Keyword::Start | Keyword::Price | Keyword::End => None,
+        Keyword::Doc | Keyword::Wave | Keyword::Done | Keyword::Fail => Some(65_536),
+        Keyword::Withdraw | Keyword::Die | Keyword::Join | Keyword::Add => Some(65_536),
+        Keyword::Lose | Keyword::Sweep | Keyword::Reduce | Keyword::Copies => Some(65_536),
+        Keyword::Backup => Some(65_536),
+    }
+}
+
+fn most_workers(purpose: Purpose) -> usize
+    ensures { result ≡ workers purpose }
+{
+    match purpose {
+        Purpose::Checking | Purpose::Planning | Purpose::Playing => 256,
+        Purpose::Running => 32,
     }
 }
 
@@ -46,10 +84,32 @@ pub fn most_more_of(keyword: Keyword) -> Option<usize>
     ensures { result ≡ most_words keyword }
 {
     match keyword {
+        Keyword::Problem | Keyword::Script | Keyword::Job | Keyword::Centre => None,
+        Keyword::Rack | Keyword::Worker | Keyword::Barred | Keyword::Dead | Keyword::Busy => None,
+        Keyword::Parts | Keyword::Target | Keyword::Silence | Keyword::Doc => None,
+        Keyword::Plan | Keyword::Start | Keyword::Price | Keyword::Begin | Keyword::Wave => None,
+        Keyword::Done | Keyword::Fail | Keyword::Withdraw | Keyword::Die | Keyword::Join => None,
+        Keyword::Add | Keyword::Lose | Keyword::Sweep | Keyword::Reduce | Keyword::Copies => None,
+        Keyword::Backup | Keyword::End => None,
         Keyword::Split => Some(8),
-        Keyword::Problem | Keyword::Rack | Keyword::Worker => None,
-        Keyword::Barred | Keyword::Dead | Keyword::Busy => None,
-        Keyword::Plan | Keyword::Start | Keyword::Price | Keyword::End => None,
+    }
+}
+
+/// Which words have to follow those in the places of a line.
+pub fn follow_of(keyword: Keyword) -> Follow
+    ensures { result ≡ follow keyword }
+{
+    match keyword {
+        Keyword::Problem | Keyword::Script | Keyword::Job | Keyword::Centre => Follow::Any,
+        Keyword::Worker | Keyword::Split | Keyword::Barred | Keyword::Dead => Follow::Any,
+        Keyword::Busy | Keyword::Parts | Keyword::Target | Keyword::Silence => Follow::Any,
+        Keyword::Doc | Keyword::Plan | Keyword::Start | Keyword::Price => Follow::Any,
+        Keyword::Begin | Keyword::Wave | Keyword::Done | Keyword::Fail => Follow::Any,
+        Keyword::Withdraw | Keyword::Die | Keyword::Join | Keyword::Add => Follow::Any,
+        Keyword::Lose | Keyword::Reduce | Keyword::Copies | Keyword::Backup => Follow::Any,
+        Keyword::End => Follow::Any,
+        Keyword::Rack => Follow::Centre,
+        Keyword::Sweep => Follow::Counts,
     }
 }
 
@@ -58,8 +118,13 @@ pub fn is_priced(keyword: Keyword) -> bool
     ensures { result ≡ priced keyword }
 {
     match keyword {
+        Keyword::Problem | Keyword::Script | Keyword::Job | Keyword::Centre => false,
+        Keyword::Rack | Keyword::Barred | Keyword::Dead | Keyword::Busy | Keyword::Parts => false,
+        Keyword::Target | Keyword::Silence | Keyword::Doc | Keyword::Plan => false,
+        Keyword::Start | Keyword::Price | Keyword::Begin | Keyword::Wave | Keyword::Done => false,
+        Keyword::Fail | Keyword::Withdraw | Keyword::Die | Keyword::Join | Keyword::Add => false,
+        Keyword::Lose | Keyword::Sweep | Keyword::Reduce | Keyword::Copies => false,
+        Keyword::Backup | Keyword::End => false,
         Keyword::Worker | Keyword::Split => true,
-        Keyword::Problem | Keyword::Rack | Keyword::Barred | Keyword::Dead => false,
-        Keyword::Busy | Keyword::Plan | Keyword::Start | Keyword::Price | Keyword::End => false,
     }
 }

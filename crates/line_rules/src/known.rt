@@ -1,13 +1,21 @@
-ghost use Rattle.std.specs.Prelude.{◌≡◌, ◌↔◌, IsTrue, MatchOption, OnErr, OnOk, length};
+ghost use Rattle.std.specs.Prelude.{◌≡◌, ◌≢◌, ◌++◌, ◌≤◌, ◌↔◌, IsTrue, MatchOption, OnErr, OnOk, Some, length};
+ghost use Rattle.line_shapes.specs.Lines.{statement_of};
+ghost use Rattle.line_shapes.specs.Places.{places_of};
+ghost use Rattle.line_rules.specs.Entering.{command_of, entered_of, entering_of as entering};
+ghost use Rattle.line_rules.specs.Faults.{IsFirst, centres_in as centres};
+ghost use Rattle.line_rules.specs.declared.entering.Entering.TheVariants.{Nothing};
 ghost use Rattle.text_lines.specs.declared.fault.Fault.{Fault};
 
-use crate::counts::Counts;
+use crate::commands::Commands;
+use crate::counts::{Counts, is_below};
+use crate::edition::{Version, is_of_version, version_after};
+use crate::entering::{Entering, Follow, entering_of, follow_of, most_of};
 use crate::purpose::Purpose;
 use crate::rows::Rows;
 use crate::rule::Rule;
 use crate::rules::{are_priced, is_few, is_first_of_body, is_first_of_head, keep};
 use crate::section::{Section, section_after, section_of};
-use line_shapes::KeyedLine;
+use line_shapes::{KeyedLine, Keyword};
 use std::alloc::{AllocError, Global};
 use std::marker::Model;
 use text_lines::Fault;
@@ -16,9 +24,11 @@ use text_lines::Fault;
 #[derive(Drop)]
 pub struct KnownLines<'t> {
     purpose: Purpose,
+    version: Version,
     section: Section,
     rows: Rows<'t>,
     counts: Counts,
+    commands: Commands<'t>,
 }
 
 impl<'t> Model for KnownLines<'t> {
@@ -29,23 +39,26 @@ impl<'t> Model for KnownLines<'t> {
 
     ghost view = { λ k. record {
       purpose = k.purpose;
+      version = k.version;
       section = k.section;
       rows = k.rows;
+      commands = k.commands;
     } };
 
     ghost invariant = { λ k. AreCounts k.counts k.rows };
 }
 
 impl<'t> KnownLines<'t> {
-    ghost use Rattle.std.specs.Prelude.{[], ◌≤◌};
-    ghost use Rattle.line_shapes.specs.Lines.{Statement, statement_of};
-    ghost use Rattle.line_shapes.specs.Places.{places_of};
+    ghost use Rattle.std.specs.Prelude.{[]};
+    ghost use Rattle.line_shapes.specs.Lines.{Statement};
     ghost use Rattle.line_shapes.specs.declared.keyword.Keyword.{Keyword};
-    ghost use Rattle.line_rules.specs.Entering.{most_of};
+    ghost use Rattle.line_rules.specs.Entering.{most_of as most_in};
     ghost use Rattle.line_rules.specs.Faults.{Fails, HasRoom, IsFit, IsLeastOf, IsNew, IsPriced};
-    ghost use Rattle.line_rules.specs.Faults.{IsPricedBefore};
-    ghost use Rattle.line_rules.specs.Faults.{IsWithinLimit, MayStand};
-    ghost use Rattle.line_rules.specs.Known.{entered, known_at, rows_of};
+    ghost use Rattle.line_rules.specs.Faults.{IsPricedBefore, IsWhole, Keep};
+    ghost use Rattle.line_rules.specs.Faults.{IsWithinLimit, MayStand, counted_of};
+    ghost use Rattle.line_rules.specs.Known.{entered, known_at};
+    ghost use Rattle.line_rules.specs.Sections.{section_of as section_in};
+    ghost use Rattle.line_rules.specs.declared.rule.Rule.TheVariants as rule;
 
     /// Before the first line. Nothing is allocated.
     pub fn new(alloc: Global, purpose: Purpose) -> KnownLines<'t>
@@ -53,9 +66,11 @@ impl<'t> KnownLines<'t> {
     {
         KnownLines {
             purpose,
+            version: Version::One,
             section: Section::First,
             rows: Rows::new(alloc),
             counts: Counts::none(),
+            commands: Commands::new(alloc),
         }
     }
 
@@ -66,20 +81,59 @@ impl<'t> KnownLines<'t> {
         self.section
     }
 
-    /// The lines that were entered.
+    /// The version of the text: that of its first line.
+    pub fn version(&self) -> Version
+        ensures { result ≡ self.now.version }
+    {
+        self.version
+    }
+
+    /// The commands of a script.
+    pub fn commands(&self) -> &Commands<'t>
+        ensures { result.now ≡ self.now.commands }
+    {
+        &self.commands
+    }
+
+    /// The lines that were entered, but for commands.
     pub fn rows(&self) -> &Rows<'t>
         ensures { result.now ≡ self.now.rows }
     {
         &self.rows
     }
 
+    // Whether as many words follow those in the places of the line as have to.
+    fn is_whole(&self, line: &KeyedLine<'_, 't>) -> bool
+        requires { length (places_of line.now.keyword) ≤ length line.now.words.now }
+        ensures { IsTrue result ↔ IsWhole self.now (statement_of line.now) }
+    {
+        let words = line.words.len() - line.keyword.places().len();
+        match follow_of(line.keyword) {
+            Follow::Any => true,
+            Follow::Centre => words == centres_in(self.version),
+            Follow::Counts => words == self.counts.workers,
+        }
+    }
+
     fn may_stand(&self, line: &KeyedLine<'_, 't>) -> bool
         ensures { IsTrue result ↔ MayStand self.now (statement_of line.now) }
     {
-        match section_of(self.purpose, line.keyword) {
+        self.is_in_section(line.keyword) && is_of_version(line.keyword, self.version)
+    }
+
+    fn is_in_section(&self, keyword: Keyword) -> bool
+        ensures { IsTrue result ↔ (section_in self.now.purpose keyword ≡ Some self.now.section) }
+    {
+        match section_of(self.purpose, keyword) {
             Some(section) => section == self.section,
             None => false,
         }
+    }
+
+    fn is_known(&self, line: &KeyedLine<'_, 't>) -> bool
+        ensures { IsTrue result ↔ Keep rule.Declared self.now.rows (statement_of line.now) }
+    {
+        keep(Rule::Declared, &self.rows, line)
     }
 
     fn is_new(&self, line: &KeyedLine<'_, 't>) -> bool
@@ -90,16 +144,23 @@ impl<'t> KnownLines<'t> {
     }
 
     fn is_within_limit(&self, line: &KeyedLine<'_, 't>) -> bool
-        ensures { IsTrue result ↔ IsWithinLimit self.now.rows (statement_of line.now) }
+        ensures { IsTrue result ↔ IsWithinLimit self.now (statement_of line.now) }
     {
         self.has_room(line) && is_few(line)
     }
 
     fn has_room(&self, line: &KeyedLine<'_, 't>) -> bool
         ensures { IsTrue result
-            ↔ HasRoom (most_of line.now.keyword) (length (rows_of line.now.keyword self.now.rows)) }
+            ↔ HasRoom (most_in self.now.purpose line.now.keyword) (counted_of self.now line.now.keyword) }
     {
-        self.counts.has_room(line.keyword)
+        match entering_of(line.keyword) {
+            Entering::InTurn => {
+                is_below(self.commands.len(), most_of(self.purpose, line.keyword))
+            }
+            Entering::Nothing | Entering::Alone | Entering::Word | Entering::Pair => {
+                self.counts.has_room(self.purpose, line.keyword)
+            }
+        }
     }
 
     fn is_priced_before(&self, after: Section) -> bool
@@ -116,7 +177,7 @@ impl<'t> KnownLines<'t> {
     {
         match self.purpose {
             Purpose::Checking => are_priced(&self.rows),
-            Purpose::Planning => true,
+            Purpose::Planning | Purpose::Playing | Purpose::Running => true,
         }
     }
 
@@ -127,11 +188,13 @@ impl<'t> KnownLines<'t> {
             (IsLeastOf (Fails self.now (statement_of line.now))) }
     {
         let after = section_after(line.keyword);
-        if !self.may_stand(line) {
+        if !self.is_whole(line) {
+            Some(Fault::Shape)
+        } else if !self.may_stand(line) {
             Some(Fault::Misplaced)
         } else if !line.is_named() {
             Some(Fault::Misnamed)
-        } else if !keep(Rule::Declared, &self.rows, line) {
+        } else if !self.is_known(line) {
             Some(Fault::Unknown)
         } else if !self.is_new(line) {
             Some(Fault::Repeated)
@@ -157,9 +220,41 @@ impl<'t> KnownLines<'t> {
         ensures ok { OnOk result (self.new ≡ entered self.old (statement_of line.now)) }
         ensures err { OnErr result (self.new ≡ self.old) }
     {
-        self.rows.enter(alloc, line)?;
+        put(alloc, line, &mut self.rows, &mut self.commands)?;
         self.counts = self.counts.with(line.keyword);
+        self.version = version_after(self.version, line);
         self.section = section_after(line.keyword);
         Ok(())
+    }
+}
+
+// How many centres a rack names in a text of the version.
+fn centres_in(version: Version) -> usize
+    ensures { result ≡ centres version }
+{
+    match version {
+        Version::One => 0,
+        Version::Two => 1,
+    }
+}
+
+// Puts a line where lines of its keyword are entered. After an error it was not put.
+fn put<'t>(
+    alloc: Global,
+    line: &KeyedLine<'_, 't>,
+    rows: &mut Rows<'t>,
+    commands: &mut Commands<'t>,
+) -> Result<(), AllocError>
+    requires whole { length (places_of line.now.keyword) ≤ length line.now.words.now }
+    requires new { entering line.now.keyword ≢ Nothing → IsFirst rows.old (statement_of line.now) }
+    ensures rows { OnOk result (rows.new ≡ rows.old ++ entered_of (statement_of line.now)) }
+    ensures commands { OnOk result (commands.new ≡ commands.old ++ command_of (statement_of line.now)) }
+    ensures err { OnErr result ((rows.new ≡ rows.old) × (commands.new ≡ commands.old)) }
+{
+    match entering_of(line.keyword) {
+        Entering::InTurn => commands.push(alloc, line),
+        Entering::Nothing | Entering::Alone | Entering::Word | Entering::Pair => {
+            rows.enter(alloc, line)
+        }
     }
 }

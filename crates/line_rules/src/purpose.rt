@@ -5,4 +5,8 @@ pub enum Purpose {
     Checking,
     /// To plan: the text is a head alone.
     Planning,
+    /// To play a script: commands stand after the head of a job.
+    Playing,
+    /// To run a job: the text is a head alone.
+    Running,
 }

@@ -1,6 +1,5 @@
 ghost use Rattle.std.specs.Prelude.{◌≡◌, ◌+◌, ◌≤◌, [], IfErr, IfOk, IsTrue, MatchOption, OnOk, length, ◌↔◌};
-ghost use Rattle.line_shapes.specs.Lines.{statement_of};
-ghost use Rattle.line_shapes.specs.Places.{places_of};
+ghost use Rattle.line_shapes.specs.Lines.{IsShaped, statement_of};
 ghost use Rattle.line_rules.specs.Faults.{Fails, IsLeastOf};
 ghost use Rattle.line_rules.specs.Known.{known_at};
 ghost use Rattle.line_rules.specs.Reading.{Enters, IsAllRead, IsLeastError, IsReadingError, Takes, error_at};
@@ -11,9 +10,9 @@ ghost use Rattle.line_rules.specs.declared.reading.LineError.TheVariants.{Memory
 use crate::known::KnownLines;
 use crate::purpose::Purpose;
 use crate::section::Section;
-use line_shapes::{KeyedLine, said_by};
+use line_shapes::{KeyedLine, keyword_of, said_by, words_after};
 use std::alloc::{AllocError, Global};
-use text_lines::{Fault, TextFault, printable, split_line, words};
+use text_lines::{Fault, TextFault, printable, split_line};
 
 const MAX_TEXT_BYTES: usize = 16_777_216;
 
@@ -99,8 +98,11 @@ fn take_line<'t>(alloc: Global, line: &'t [u8], known: &mut KnownLines<'t>) -> R
     if is_ended(known) {
         return Err(LineError::Fault(Fault::AfterEnd));
     }
-    let words = words(alloc, line)?;
-    match said_by(&words) {
+    let Some((keyword, rest)) = keyword_of(line) else {
+        return Err(LineError::Fault(Fault::Shape));
+    };
+    let words = words_after(alloc, keyword, rest)?;
+    match said_by(keyword, &words) {
         Some(line) => take_said(alloc, &line, known),
         None => Err(LineError::Fault(Fault::Shape)),
     }
@@ -112,7 +114,7 @@ fn take_said<'t>(
     line: &KeyedLine<'_, 't>,
     known: &mut KnownLines<'t>,
 ) -> Result<(), LineError>
-    requires { length (places_of line.now.keyword) ≤ length line.now.words.now }
+    requires { IsShaped (statement_of line.now) }
     ensures ok { OnOk result (Enters known.old (statement_of line.now) known.new) }
     ensures err { IfErr result (IsLeastError (Fails known.old (statement_of line.now))) }
 {

@@ -115,7 +115,8 @@ impl<'t> Rows<'t> {
     {
         let words = line.words;
         match entering_of(line.keyword) {
-            Entering::Nothing => Ok(()),
+            Entering::Nothing | Entering::InTurn => Ok(()),
+            Entering::Alone => self.put(alloc, line.keyword, "", "", words),
             Entering::Word => self.put(alloc, line.keyword, words[0], "", &words[1..]),
             Entering::Pair => self.put(alloc, line.keyword, words[0], words[1], &words[2..]),
         }

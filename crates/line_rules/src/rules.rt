@@ -47,6 +47,7 @@ fn is_declared_in(rows: &Rows<'_>, place: Option<Place>, word: &str) -> bool
         Some(Place::New) => true,
         Some(Place::Used(kind)) => is_declared(rows, kind, word),
         Some(Place::Number(_, _)) => true,
+        Some(Place::Text) => true,
     }
 }
 
@@ -55,9 +56,10 @@ fn is_free_in(rows: &Rows<'_>, place: Option<Place>, word: &str) -> bool
 {
     match place {
         None => true,
-        Some(Place::New) => !is_taken(rows, word),
+        Some(Place::New) => is_free(rows, word),
         Some(Place::Used(_)) => true,
         Some(Place::Number(_, _)) => true,
+        Some(Place::Text) => true,
     }
 }
 
@@ -65,6 +67,7 @@ fn is_declared(rows: &Rows<'_>, kind: Kind, name: &str) -> bool
     ensures { IsTrue result ↔ IsDeclared rows.now kind name.now }
 {
     match kind {
+        Kind::Centre => has_row(rows, Keyword::Centre, name),
         Kind::Rack => has_row(rows, Keyword::Rack, name),
         Kind::Worker => has_row(rows, Keyword::Worker, name),
         Kind::Split => has_row(rows, Keyword::Split, name),
@@ -72,12 +75,20 @@ fn is_declared(rows: &Rows<'_>, kind: Kind, name: &str) -> bool
     }
 }
 
+fn is_free(rows: &Rows<'_>, name: &str) -> bool
+    ensures { IsTrue result ↔ (IsTaken rows.now name.now → ⊥) }
+{
+    !is_taken(rows, name)
+}
+
 fn is_taken(rows: &Rows<'_>, name: &str) -> bool
     ensures { IsTrue result ↔ IsTaken rows.now name.now }
 {
-    has_row(rows, Keyword::Rack, name)
+    has_row(rows, Keyword::Centre, name)
+        || has_row(rows, Keyword::Rack, name)
         || has_row(rows, Keyword::Worker, name)
         || has_row(rows, Keyword::Split, name)
+        || has_row(rows, Keyword::Doc, name)
 }
 
 // Whether a row of this keyword has this first word and is entered by it alone.
@@ -98,7 +109,7 @@ fn first_of_key<'t>(line: &KeyedLine<'_, 't>) -> &'t str
     ensures { result.now ≡ first_of (entering line.now.keyword) (statement_of line.now).words }
 {
     match entering_of(line.keyword) {
-        Entering::Nothing => "",
+        Entering::Nothing | Entering::InTurn | Entering::Alone => "",
         Entering::Word => word_at(line.words, 0),
         Entering::Pair => word_at(line.words, 0),
     }
@@ -108,7 +119,7 @@ fn second_of_key<'t>(line: &KeyedLine<'_, 't>) -> &'t str
     ensures { result.now ≡ second_of (entering line.now.keyword) (statement_of line.now).words }
 {
     match entering_of(line.keyword) {
-        Entering::Nothing => "",
+        Entering::Nothing | Entering::InTurn | Entering::Alone => "",
         Entering::Word => "",
         Entering::Pair => word_at(line.words, 1),
     }

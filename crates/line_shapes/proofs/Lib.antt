@@ -1,3 +1,4 @@
 pub mod Mapped
 pub mod Each
 pub mod FirstWord
+pub mod OneStatement

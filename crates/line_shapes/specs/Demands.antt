@@ -4,17 +4,18 @@ use Rattle.std.specs.Borrow.{Bor}
 use Rattle.text_lines.specs.Texts.{IsName, IsNumber, Word, number_of}
 use Rattle.line_shapes.specs.declared.keyword.Keyword.{Keyword}
 use Rattle.line_shapes.specs.declared.place.Place.{Place}
-use Rattle.line_shapes.specs.declared.place.Place.TheVariants.{New, Used, Number}
+use Rattle.line_shapes.specs.declared.place.Place.TheVariants.{New, Used, Number, Text}
 use Rattle.line_shapes.specs.declared.demand.Demand.{Demand}
 use Rattle.line_shapes.specs.declared.demand.Demand.TheVariants.{Shape, Name, Range}
 use Rattle.line_shapes.specs.Places.{place_at}
 
--- there is such a place; a number stands in a number's place, and no empty word in a name's
+-- there is such a place; a number stands in a number's place, and no empty word in a name's; a text is any
 abbrev pub HasShape : Option Place → Word → Type 0
 HasShape None w = ⊥
 HasShape (Some New) w = 0 < length w
 HasShape (Some (Used kind)) w = 0 < length w
 HasShape (Some (Number least most)) w = IsNumber w
+HasShape (Some Text) w = Unit {0}
 
 -- a name stands in a name's place
 abbrev pub IsNamedIn : Option Place → Word → Type 0
@@ -22,6 +23,7 @@ IsNamedIn None w = Unit {0}
 IsNamedIn (Some New) w = IsName w
 IsNamedIn (Some (Used kind)) w = IsName w
 IsNamedIn (Some (Number least most)) w = Unit {0}
+IsNamedIn (Some Text) w = Unit {0}
 
 abbrev pub IsWithin : ℕ → ℕ → Word → Type 0
 IsWithin least most w = IsNumber w × (least ≤ number_of w) × (number_of w ≤ most)
@@ -32,6 +34,7 @@ IsWithinIn None w = Unit {0}
 IsWithinIn (Some New) w = Unit {0}
 IsWithinIn (Some (Used kind)) w = Unit {0}
 IsWithinIn (Some (Number least most)) w = IsWithin least most w
+IsWithinIn (Some Text) w = Unit {0}
 
 abbrev pub Meets : Demand → Option Place → Word → Type 0
 Meets Shape place w = HasShape place w

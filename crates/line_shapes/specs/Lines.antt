@@ -1,30 +1,61 @@
 -- What a line says: a keyword and its words, each of which has the shape of its place.
-use Rattle.std.specs.Prelude.{ℕ, List, [], ◌∷◌, ◌≡◌, ◌≢◌, ◌≤◌, Option, Some, None, drop, length, map}
+use Rattle.std.specs.Prelude.{ℕ, zero, suc, List, [], ◌∷◌, ◌≡◌, ◌≢◌, ◌≤◌, ◌==◌, Bool, Option, Some, None}
+use Rattle.std.specs.Prelude.{drop, length, map, nat_lt, if◌then◌else◌}
 use Rattle.std.specs.Borrow.{Bor}
-use Rattle.std.specs.List.{AllPairs}
+use Rattle.std.specs.List.{AllPairs, after_first, before_first, position_or_len}
 use Rattle.text_lines.specs.Texts.{Line, Word, words_of}
 use Rattle.line_shapes.specs.declared.demand.Demand.TheVariants.{Shape, Name, Range}
 use Rattle.line_shapes.specs.declared.keyword.Keyword.{Keyword}
 use Rattle.line_shapes.specs.declared.line.KeyedLine.{KeyedLine}
 use Rattle.line_shapes.specs.declared.place.Place.{Place}
-use Rattle.line_shapes.specs.declared.place.Place.TheVariants.{New, Used, Number}
+use Rattle.line_shapes.specs.declared.place.Place.TheVariants.{New, Used, Number, Text}
 use Rattle.line_shapes.specs.Demands.{Meet}
 use Rattle.line_shapes.specs.Keywords.{text_of}
 use Rattle.line_shapes.specs.Places.{more_of, places_of}
+
+-- ---- the words of a line
+
+abbrev pub is_space : ℕ → Bool
+is_space b = b == 32
+
+-- a space stands in the text: before its end
+abbrev pub has_space : List ℕ → Bool
+has_space text = nat_lt (position_or_len is_space text) (length text)
+
+-- the first n words, and what follows them as it stands
+abbrev pub first_words : ℕ → List ℕ → List Word
+first_words zero text = text ∷ []
+first_words (suc n) text =
+    if has_space text then before_first is_space text ∷ first_words n (after_first is_space text) else text ∷ []
+
+-- the words between the spaces; where a text may follow the first n of them, it is one word
+abbrev pub pieces : Option Place → ℕ → List ℕ → List Word
+pieces None n text = words_of text
+pieces (Some New) n text = words_of text
+pieces (Some (Used kind)) n text = words_of text
+pieces (Some (Number least most)) n text = words_of text
+pieces (Some Text) n text = first_words n text
+
+-- the words of a line of this keyword, which is one itself
+abbrev pub words_in : Keyword → Line → List Word
+words_in k line = pieces (more_of k) (suc (length (places_of k))) line
+
+-- ---- what a line says
 
 pub record Statement : Type 0 where
   pub keyword : Keyword
   pub words : List Word
 
--- the words are those of the statement, which has no place without a word
-pub record Say (ws : List Word) (s : Statement) : Type 0 where
-  pub spelled : ws ≡ text_of s.keyword ∷ s.words
+-- each word has the shape of its place, and no place is without a word
+pub record IsShaped (s : Statement) : Type 0 where
   pub many : length (places_of s.keyword) ≤ length s.words
   pub shape : Meet Shape s.keyword s.words
 
 -- the line says this
-abbrev pub Says : Line → Statement → Type 0
-Says line s = Say (words_of line) s
+pub record Says (line : Line) (s : Statement) : Type 0 where
+  pub spelled : words_in s.keyword line ≡ text_of s.keyword ∷ s.words
+  pub many : length (places_of s.keyword) ≤ length s.words
+  pub shape : Meet Shape s.keyword s.words
 
 abbrev pub SaysNothing : Line → Type 0
 SaysNothing line = (s : Statement) → Says line s → ⊥
@@ -43,6 +74,7 @@ Differ None ws = Unit {0}
 Differ (Some New) ws = AllPairs (λ a b. a ≢ b) ws
 Differ (Some (Used kind)) ws = AllPairs (λ a b. a ≢ b) ws
 Differ (Some (Number least most)) ws = Unit {0}
+Differ (Some Text) ws = Unit {0}
 
 -- the words after the places
 abbrev pub tail_of : Statement → List Word
@@ -56,7 +88,14 @@ HasTailApart s = Differ (more_of s.keyword) (tail_of s)
 abbrev pub statement_of : KeyedLine → Statement
 statement_of l = record { keyword = l.keyword; words = map (λ w. w.now) l.words.now }
 
--- the words of what follows the space after the first word, none where no space follows
-abbrev pub words_after : Option (Bor (List ℕ)) → List Word
-words_after None = []
-words_after (Some rest) = words_of rest.now
+-- these words after the keyword
+abbrev pub stated : Keyword → List (Bor (List ℕ)) → Statement
+stated k ws = record { keyword = k; words = map (λ w. w.now) ws }
+
+-- the words of what follows the space after a word, none where no space follows
+abbrev pub pieces_after : Option Place → ℕ → Option (Bor (List ℕ)) → List Word
+pieces_after more n None = []
+pieces_after more n (Some rest) = pieces more n rest.now
+
+abbrev pub words_after : Keyword → Option (Bor (List ℕ)) → List Word
+words_after k rest = pieces_after (more_of k) (length (places_of k)) rest

@@ -4,34 +4,74 @@ use Rattle.line_shapes.specs.declared.keyword.Keyword.{Keyword}
 use Rattle.line_shapes.specs.declared.keyword.Keyword.TheVariants as keyword
 use Rattle.line_shapes.specs.declared.place.Kind.TheVariants as kind
 use Rattle.line_shapes.specs.declared.place.Place.{Place}
-use Rattle.line_shapes.specs.declared.place.Place.TheVariants.{New, Used, Number}
+use Rattle.line_shapes.specs.declared.place.Place.TheVariants.{New, Used, Number, Text}
 
 -- what follows each keyword
 abbrev pub places_of : Keyword → List Place
-places_of keyword.Problem = Number 1 1 ∷ []
+places_of keyword.Problem = Number 1 2 ∷ []
+places_of keyword.Script = Number 1 2 ∷ []
+places_of keyword.Job = Number 1 2 ∷ []
+places_of keyword.Centre = New ∷ []
 places_of keyword.Rack = New ∷ []
 places_of keyword.Worker = New ∷ Used kind.Rack ∷ Number 0 16 ∷ []
 places_of keyword.Split = New ∷ Number 0 67108864 ∷ []
 places_of keyword.Barred = Used kind.Split ∷ Used kind.Worker ∷ []
 places_of keyword.Dead = Used kind.Worker ∷ []
 places_of keyword.Busy = Used kind.Split ∷ []
+places_of keyword.Parts = Number 1 64 ∷ []
+places_of keyword.Target = Number 1 8 ∷ []
+places_of keyword.Silence = Number 1 1000 ∷ []
+places_of keyword.Doc = New ∷ Used kind.Split ∷ []
 places_of keyword.Plan = []
 places_of keyword.Start = Used kind.Split ∷ Used kind.Worker ∷ []
 places_of keyword.Price = Used kind.Priced ∷ Number 0 18446744073709551615 ∷ []
+places_of keyword.Begin = []
+places_of keyword.Wave = []
+places_of keyword.Done = Number 0 1000000 ∷ []
+places_of keyword.Fail = Number 0 1000000 ∷ []
+places_of keyword.Withdraw = Number 0 1000000 ∷ []
+places_of keyword.Die = Used kind.Worker ∷ []
+places_of keyword.Join = Used kind.Worker ∷ []
+places_of keyword.Add = Used kind.Split ∷ Used kind.Worker ∷ []
+places_of keyword.Lose = Used kind.Split ∷ Used kind.Worker ∷ []
+places_of keyword.Sweep = []
+places_of keyword.Reduce = []
+places_of keyword.Copies = []
+places_of keyword.Backup = Used kind.Split ∷ Used kind.Worker ∷ []
 places_of keyword.End = []
 
 -- and what may follow those places, any number of times
 abbrev pub more_of : Keyword → Option Place
 more_of keyword.Problem = None
-more_of keyword.Rack = None
+more_of keyword.Script = None
+more_of keyword.Job = None
+more_of keyword.Centre = None
+more_of keyword.Rack = Some (Used kind.Centre)
 more_of keyword.Worker = None
 more_of keyword.Split = Some (Used kind.Worker)
 more_of keyword.Barred = None
 more_of keyword.Dead = None
 more_of keyword.Busy = None
+more_of keyword.Parts = None
+more_of keyword.Target = None
+more_of keyword.Silence = None
+more_of keyword.Doc = Some Text
 more_of keyword.Plan = None
 more_of keyword.Start = None
 more_of keyword.Price = None
+more_of keyword.Begin = None
+more_of keyword.Wave = None
+more_of keyword.Done = None
+more_of keyword.Fail = None
+more_of keyword.Withdraw = None
+more_of keyword.Die = None
+more_of keyword.Join = Some (Used kind.Split)
+more_of keyword.Add = None
+more_of keyword.Lose = None
+more_of keyword.Sweep = Some (Number 0 1099511627776)
+more_of keyword.Reduce = None
+more_of keyword.Copies = None
+more_of keyword.Backup = None
 more_of keyword.End = None
 
 abbrev pub or_more : Option Place → Option Place → Option Place

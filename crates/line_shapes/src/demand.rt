@@ -47,6 +47,7 @@ fn has_shape(place: Option<Place>, word: &str) -> bool
         Some(Place::New) => !word.is_empty(),
         Some(Place::Used(_)) => !word.is_empty(),
         Some(Place::Number(_, _)) => Number::of(word).is_some(),
+        Some(Place::Text) => true,
     }
 }
 
@@ -58,6 +59,7 @@ fn is_named_in(place: Option<Place>, word: &str) -> bool
         Some(Place::New) => is_name(word),
         Some(Place::Used(_)) => is_name(word),
         Some(Place::Number(_, _)) => true,
+        Some(Place::Text) => true,
     }
 }
 
@@ -70,6 +72,7 @@ fn is_within_in(place: Option<Place>, word: &str) -> bool
         Some(Place::New) => true,
         Some(Place::Used(_)) => true,
         Some(Place::Number(least, most)) => is_within(word, least, most),
+        Some(Place::Text) => true,
     }
 }
 

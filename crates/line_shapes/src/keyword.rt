@@ -1,24 +1,45 @@
 ghost use Rattle.std.specs.Prelude.{◌≡◌, ◌∷◌, MatchOption, ℕ, List};
-ghost use Rattle.text_lines.specs.Texts.{Word, words_of};
+ghost use Rattle.text_lines.specs.Texts.{Word};
 ghost use Rattle.line_shapes.specs.Keywords.{text_of};
-ghost use Rattle.line_shapes.specs.Lines.{words_after};
+ghost use Rattle.line_shapes.specs.Lines.{words_after, words_in};
 ghost use Rattle.line_shapes.specs.declared.keyword.Keyword.{Keyword};
 
+use crate::cut::first_word;
 use crate::place::{Kind, Place};
 
 /// The first word of a line.
 #[derive(Clone, Copy, Debug, PartialEq, Eq, Hash)]
 pub enum Keyword {
     Problem,
+    Script,
+    Job,
+    Centre,
     Rack,
     Worker,
     Split,
     Barred,
     Dead,
     Busy,
+    Parts,
+    Target,
+    Silence,
+    Doc,
     Plan,
     Start,
     Price,
+    Begin,
+    Wave,
+    Done,
+    Fail,
+    Withdraw,
+    Die,
+    Join,
+    Add,
+    Lose,
+    Sweep,
+    Reduce,
+    Copies,
+    Backup,
     End,
 }
 
@@ -32,15 +53,35 @@ impl Keyword {
     {
         match word {
             "problem" => Some(Keyword::Problem),
+            "script" => Some(Keyword::Script),
+            "job" => Some(Keyword::Job),
+            "centre" => Some(Keyword::Centre),
             "rack" => Some(Keyword::Rack),
             "worker" => Some(Keyword::Worker),
             "split" => Some(Keyword::Split),
             "barred" => Some(Keyword::Barred),
             "dead" => Some(Keyword::Dead),
             "busy" => Some(Keyword::Busy),
+            "parts" => Some(Keyword::Parts),
+            "target" => Some(Keyword::Target),
+            "silence" => Some(Keyword::Silence),
+            "doc" => Some(Keyword::Doc),
             "plan" => Some(Keyword::Plan),
             "start" => Some(Keyword::Start),
             "price" => Some(Keyword::Price),
+            "begin" => Some(Keyword::Begin),
+            "wave" => Some(Keyword::Wave),
+            "done" => Some(Keyword::Done),
+            "fail" => Some(Keyword::Fail),
+            "withdraw" => Some(Keyword::Withdraw),
+            "die" => Some(Keyword::Die),
+            "join" => Some(Keyword::Join),
+            "add" => Some(Keyword::Add),
+            "lose" => Some(Keyword::Lose),
+            "sweep" => Some(Keyword::Sweep),
+            "reduce" => Some(Keyword::Reduce),
+            "copies" => Some(Keyword::Copies),
+            "backup" => Some(Keyword::Backup),
             "end" => Some(Keyword::End),
             _ => None,
         }
@@ -56,17 +97,25 @@ impl Keyword {
         ensures { result.now ≡ places_of self }
     {
         match self {
-            Keyword::Problem => &[Place::Number(1, 1)],
-            Keyword::Rack => &[Place::New],
+            Keyword::Problem | Keyword::Script | Keyword::Job => &[Place::Number(1, 2)],
+            Keyword::Centre | Keyword::Rack => &[Place::New],
             Keyword::Worker => &[Place::New, Place::Used(Kind::Rack), Place::Number(0, 16)],
             Keyword::Split => &[Place::New, Place::Number(0, 67_108_864)],
-            Keyword::Barred => &[Place::Used(Kind::Split), Place::Used(Kind::Worker)],
-            Keyword::Dead => &[Place::Used(Kind::Worker)],
+            Keyword::Barred | Keyword::Start | Keyword::Add | Keyword::Lose => &[
+                Place::Used(Kind::Split),
+                Place::Used(Kind::Worker),
+            ],
+            Keyword::Backup => &[Place::Used(Kind::Split), Place::Used(Kind::Worker)],
+            Keyword::Dead | Keyword::Die | Keyword::Join => &[Place::Used(Kind::Worker)],
             Keyword::Busy => &[Place::Used(Kind::Split)],
-            Keyword::Plan => &[],
-            Keyword::Start => &[Place::Used(Kind::Split), Place::Used(Kind::Worker)],
+            Keyword::Parts => &[Place::Number(1, 64)],
+            Keyword::Target => &[Place::Number(1, 8)],
+            Keyword::Silence => &[Place::Number(1, 1_000)],
+            Keyword::Doc => &[Place::New, Place::Used(Kind::Split)],
+            Keyword::Plan | Keyword::Begin | Keyword::Wave | Keyword::Sweep => &[],
+            Keyword::Reduce | Keyword::Copies | Keyword::End => &[],
             Keyword::Price => &[Place::Used(Kind::Priced), Place::Number(0, u64::MAX)],
-            Keyword::End => &[],
+            Keyword::Done | Keyword::Fail | Keyword::Withdraw => &[Place::Number(0, 1_000_000)],
         }
     }
 
@@ -75,10 +124,19 @@ impl Keyword {
         ensures { result ≡ more_of self }
     {
         match self {
+            Keyword::Rack => Some(Place::Used(Kind::Centre)),
             Keyword::Split => Some(Place::Used(Kind::Worker)),
-            Keyword::Problem | Keyword::Rack | Keyword::Worker => None,
+            Keyword::Doc => Some(Place::Text),
+            Keyword::Join => Some(Place::Used(Kind::Split)),
+            Keyword::Sweep => Some(Place::Number(0, 1_099_511_627_776)),
+            Keyword::Problem | Keyword::Script | Keyword::Job => None,
+            Keyword::Centre | Keyword::Worker => None,
             Keyword::Barred | Keyword::Dead | Keyword::Busy => None,
-            Keyword::Plan | Keyword::Start | Keyword::Price | Keyword::End => None,
+            Keyword::Parts | Keyword::Target | Keyword::Silence => None,
+            Keyword::Plan | Keyword::Start | Keyword::Price => None,
+            Keyword::Begin | Keyword::Wave | Keyword::Done | Keyword::Fail => None,
+            Keyword::Withdraw | Keyword::Die | Keyword::Add | Keyword::Lose => None,
+            Keyword::Reduce | Keyword::Copies | Keyword::Backup | Keyword::End => None,
         }
     }
 
@@ -93,20 +151,11 @@ impl Keyword {
     }
 }
 
-/// The first word of a line, and what follows the space after it.
-pub fn first_word(line: &str) -> (&str, Option<&str>)
-    ensures { words_of line.entry.now ≡ result.0.now ∷ words_after result.1 }
-{
-    match line.split_once(' ') {
-        Some((first, rest)) => (first, Some(rest)),
-        None => (line, None),
-    }
-}
-
 /// The keyword of a line, and what follows the space after it; no word after it is looked at.
 pub fn keyword_of(line: &str) -> Option<(Keyword, Option<&str>)>
-    ensures { MatchOption result ((k : Keyword) (ws : List Word) → words_of line.entry.now ≡ text_of k ∷ ws → ⊥)
-        (λ cut. words_of line.entry.now ≡ text_of cut.0 ∷ words_after cut.1) }
+    ensures { MatchOption result
+        ((k : Keyword) (ws : List Word) → words_in k line.entry.now ≡ text_of k ∷ ws → ⊥)
+        (λ cut. words_in cut.0 line.entry.now ≡ text_of cut.0 ∷ words_after cut.0 cut.1) }
 {
     let (first, rest) = first_word(line);
     Some((Keyword::of(first)?, rest))

@@ -1,5 +1,5 @@
-ghost use Rattle.std.specs.Prelude.{MatchOption, map};
-ghost use Rattle.line_shapes.specs.Lines.{Say, Statement, statement_of};
+ghost use Rattle.std.specs.Prelude.{◌≡◌, MatchOption};
+ghost use Rattle.line_shapes.specs.Lines.{IsShaped, stated, statement_of};
 
 use crate::apart::are_apart;
 use crate::demand::{Demand, meet};
@@ -13,18 +13,13 @@ pub struct KeyedLine<'w, 't> {
     pub words: &'w [&'t str],
 }
 
-/// The line that the words say, or None where they say none.
-pub fn said_by<'w, 't>(words: &'w [&'t str]) -> Option<KeyedLine<'w, 't>>
-    ensures { MatchOption result ((s : Statement) → Say (map (λ w. w.now) words.entry.now) s → ⊥)
-        (λ line. Say (map (λ w. w.now) words.entry.now) (statement_of line)) }
+/// The line of this keyword and these words after it, or None where they have not its shape.
+pub fn said_by<'w, 't>(keyword: Keyword, words: &'w [&'t str]) -> Option<KeyedLine<'w, 't>>
+    ensures { MatchOption result (IsShaped (stated keyword words.entry.now) → ⊥)
+        (λ line. (statement_of line ≡ stated keyword words.entry.now) × IsShaped (statement_of line)) }
 {
-    let (first, rest) = words.split_first()?;
-    let keyword = Keyword::of(first)?;
-    if rest.len() >= keyword.places().len() && meet(Demand::Shape, keyword, rest) {
-        Some(KeyedLine {
-            keyword,
-            words: rest,
-        })
+    if words.len() >= keyword.places().len() && meet(Demand::Shape, keyword, words) {
+        Some(KeyedLine { keyword, words })
     } else {
         None
     }
@@ -57,6 +52,7 @@ impl<'w, 't> KeyedLine<'w, 't> {
         match self.keyword.more() {
             None => true,
             Some(Place::Number(_, _)) => true,
+            Some(Place::Text) => true,
             Some(Place::New) => are_apart(self.tail()),
             Some(Place::Used(_)) => are_apart(self.tail()),
         }

@@ -1,6 +1,7 @@
 /// What a used name is of.
 #[derive(Clone, Copy, Debug, PartialEq, Eq)]
 pub enum Kind {
+    Centre,
     Rack,
     Worker,
     Split,
@@ -17,4 +18,6 @@ pub enum Place {
     Used(Kind),
     /// A number, at least and at most so much.
     Number(u64, u64),
+    /// All that is left of the line, spaces and all.
+    Text,
 }

@@ -1,9 +1,8 @@
-pub mod LineErrors
-pub mod FitLines
-pub mod ReadTo
-pub mod ReadsFit
+pub mod Named
+pub mod Words
 pub mod Numbers
 pub mod Parts
 pub mod PlanLines
 pub mod OneWave
-pub mod AllFit
+pub mod Tidy
+pub mod Read

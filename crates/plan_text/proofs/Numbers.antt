@@ -1,17 +1,18 @@
 -- Names and their numbers, and the pairs that are barred.
-use Rattle.std.proofs.Common.{ℕ, List, [], ◌∷◌, ◌++◌, ◌≡◌, ◌≢◌, ◌<◌, ◌+◌, ◌⊎◌, ◌∙◌, arith}
-use Rattle.std.proofs.Common.{Bool, true, false, true≢false, inl, inr, length, take, sym, ap, refl, subst}
+use Rattle.std.proofs.Common.{ℕ, List, [], ◌∷◌, ◌++◌, ◌≡◌, ◌≢◌, ◌<◌, ◌⊎◌, ◌∙◌, arith}
+use Rattle.std.proofs.Common.{Bool, true, false, true≢false, inl, inr, length, sym, ap, refl}
 use Rattle.std.specs.Prelude.{◌↔◌, IsTrue, unwrap_or}
 use Rattle.std.specs.List.{Contains, position_or_len, slice_index_or}
 use Rattle.std.specs.Str.{bytes_eq}
 use Rattle.std.proofs.lemmas.Bool.{cases_lt}
-use Rattle.std.proofs.lemmas.List.{take_more}
 use Rattle.std.proofs.lemmas.List.Elements.{Contains-append_left, Contains-push, Contains-push_cases}
 use Rattle.std.proofs.lemmas.List.Sums.{fails_before_first, passes_at_first}
 use Rattle.std.proofs.lemmas.Slice.Eq.{bytes_eq-Decides}
 use Rattle.node_ids.proofs.Positions.{position_found}
 use Rattle.text_lines.proofs.Keys.{found}
 use Rattle.text_lines.specs.Texts.{Word}
+use Rattle.line_shapes.specs.Lines.{Statement}
+use Rattle.plan_text.specs.Names.{word_at}
 use Rattle.plan_text.specs.Value.{IsBarred, number_in, stands_in}
 
 -- where a name stands first
@@ -64,37 +65,26 @@ stands_by b names name test =
     same_truth b (stands_in names name) test (found bytes_eq bytes_eq-Decides name names)
 
 pub none_barred : (splits workers : List Word) (s w : ℕ) → IsBarred splits workers [] s w → ⊥
-none_barred splits workers s w (split, worker, (k, lt, is), one, other) = omega arith
+none_barred splits workers s w (line, (k, lt, is), one, other) = omega arith
 
--- the numbers of a pair of names
-abbrev pub AreNumbers : List Word → List Word → Word × Word → ℕ → ℕ → Type 0
-AreNumbers splits workers pair s w = (s ≡ number_in splits pair.0) × (w ≡ number_in workers pair.1)
-
--- the pair at a place is barred with those before it
-pub one_more_barred : (splits workers : List Word) (barred : List (Word × Word)) (i s w : ℕ) (New Old : Type 0)
-    → i < length barred
-    → (New ↔ (AreNumbers splits workers (slice_index_or barred i ([], [])) s w ⊎ Old))
-    → (Old ↔ IsBarred splits workers (take i barred) s w)
-    → New ↔ IsBarred splits workers (take (i + 1) barred) s w
-one_more_barred splits workers barred i s w New Old inside step before =
-    let pair : Word × Word = slice_index_or barred i ([], []) in
-    let front = take i barred in
-    let more = take_more barred i ([], []) inside in
-    let longer : (p : Word × Word) → Contains (front ++ pair ∷ []) p → Contains (take (i + 1) barred) p =
-    λ p. subst (λ l. Contains l p) (sym more) in
-    let one : IsBarred splits workers (front ++ pair ∷ []) s w → New = λ b. step.1
-    (elim (Contains-push_cases front pair (b.0, b.1) b.2) [
-      | inl has ↦ inr (before.1 (b.0, b.1, has, b.3, b.4))
-      | inr is ↦ inl (
-        sym b.3 ∙ sym (ap (λ p. number_in splits p.0) is),
-        sym b.4 ∙ sym (ap (λ p. number_in workers p.1) is),
-      )
-    ]) in (
-      λ new. elim (step.0 new) [
-        | inl here ↦ (pair.0, pair.1, longer pair (Contains-push front pair), sym here.0, sym here.1)
-        | inr old ↦
-            let b = before.0 old in
-            (b.0, b.1, longer (b.0, b.1) (Contains-append_left front (pair ∷ []) (b.0, b.1) b.2), b.3, b.4)
-      ],
-      subst (λ l. IsBarred splits workers l s w → New) (sym more) one,
+-- the line barred with those before it
+pub one_more_barred : (splits workers : List Word) (front : List Statement) (line : Statement) (s w : ℕ)
+    (New Old : Type 0)
+    → (New ↔ (((s ≡ number_in splits (word_at 0 line)) × (w ≡ number_in workers (word_at 1 line))) ⊎ Old))
+    → (Old ↔ IsBarred splits workers front s w)
+    → New ↔ IsBarred splits workers (front ++ line ∷ []) s w
+one_more_barred splits workers front line s w New Old step before = (
+  λ new. elim (step.0 new) [
+    | inl here ↦ (line, Contains-push front line, sym here.0, sym here.1)
+    | inr old ↦
+        let b = before.0 old in
+        (b.0, Contains-append_left front (line ∷ []) b.0 b.1, b.2, b.3)
+  ],
+  λ b. step.1 (elim (Contains-push_cases front line b.0 b.1) [
+    | inl has ↦ inr (before.1 (b.0, has, b.2, b.3))
+    | inr is ↦ inl (
+      sym b.2 ∙ sym (ap (λ t. number_in splits (word_at 0 t)) is),
+      sym b.3 ∙ sym (ap (λ t. number_in workers (word_at 1 t)) is),
     )
+  ]),
+)

@@ -1,90 +1,136 @@
--- Lists that are mapped twice, and the parts that tidy names and entries make.
+-- Lists that are mapped twice, and the parts that the rows of a text without a fault make.
 use Rattle.std.proofs.Common.{ℕ, List, [], ◌∷◌, ◌++◌, ◌≡◌, ◌≢◌, ◌<◌, ◌≤◌, ◌+◌, ◌∙◌, Option, Some, None, IfSome}
-use Rattle.std.proofs.Common.{length, take, map, subst, sym, ap, refl, arith}
-use Rattle.std.specs.List.{All, position, slice_index_or}
+use Rattle.std.proofs.Common.{Bor, length, take, map, subst, sym, ap, refl, arith}
+use Rattle.std.specs.List.{All, Contains, position, slice_index_or}
 use Rattle.std.specs.Option.{option_map}
 use Rattle.std.specs.Str.{bytes_eq}
-use Rattle.std.proofs.lemmas.List.{length-map, map-append, map_more}
+use Rattle.std.proofs.lemmas.List.{get_or-map, length-map, map-append, map_more}
 use Rattle.std.proofs.lemmas.List.Elements.{All-map}
 use Rattle.std.proofs.lemmas.List.Quantifiers.{position-Some}
+use Rattle.line_shapes.specs.Lines.{Statement, tail_of}
+use Rattle.line_shapes.specs.declared.keyword.Keyword.TheVariants.{Problem, Dead, Busy, Split, Start, Worker}
+use Rattle.line_shapes.proofs.Mapped.{AllPairs-map}
+use Rattle.line_rules.specs.Known.{rows_of}
+use Rattle.line_rules.specs.declared.rows.Row.{Row}
 use Rattle.text_lines.specs.Texts.{Word}
 use Rattle.wave_problem.specs.Wave.{AreHeldWell, AreSmall, IsHeldWell, IsSmall}
-use Rattle.plan_lines.proofs.Mapped.{All-map_iff, AllPairs-map}
-use Rattle.plan_lines.specs.Entries.{Entries, SplitEntry}
-use Rattle.plan_lines.specs.Known.{Known}
-use Rattle.plan_lines.specs.Tidy.{IsTidy, IsTidySplit}
+use Rattle.plan_text.specs.Names.{names_in, names_of, said_in, word_at}
+use Rattle.plan_text.specs.Tidy.{AreTidy, IsTidySplit, IsTidyStart}
+use Rattle.plan_text.specs.Value.{beside, number_in, split_line, start_at, starts_in, worker_line}
 use Rattle.plan_text.proofs.Numbers.{number_within, numbers_differ}
-use Rattle.plan_text.specs.Value.{number_in, split_line, start_of_name, starts_in, worker_line}
+use Rattle.plan_text.proofs.Words.{tidy_splits, tidy_starts, tidy_workers}
 
-pub each_of : {X Y : Type 0} (P : X → Type 0) (f : Y → X) (xs ys : List Y) → xs ≡ ys → All P (map f ys)
-    → All (λ y. P (f y)) xs
-each_of P f xs ys same h = (All-map_iff P f xs).1 (subst (λ l. All P (map f l)) (sym same) h)
+pub All-unmap : {X Y : Type 0} (P : X → Type 0) (f : Y → X) (ys : List Y) → All P (map f ys)
+    → All (λ y. P (f y)) ys
+All-unmap P f ys h k d lt = subst P (get_or-map f ys k d (f d) lt) (h k (f d) (rw length-map lt))
+
+abbrev no_text : Bor (List ℕ)
+no_text = record { ref_ptr = (0, 0); now = [] }
+
+-- a row to stand past the last
+abbrev pub no_row : Row
+no_row = record { keyword = Problem; first = no_text; second = no_text; rest = record { ref_ptr = (0, 0); now = [] } }
 
 pub mapped_more : {X Y Z : Type 0} (g : Y → Z) (f : X → Y) (xs : List X) (i : ℕ) (d : X) → i < length xs
     → map g (map f (take (i + 1) xs)) ≡ map g (map f (take i xs)) ++ g (f (slice_index_or xs i d)) ∷ []
 mapped_more g f xs i d inside =
     ap (map g) (map_more f xs i d inside) ∙ map-append g (map f (take i xs)) (f (slice_index_or xs i d) ∷ [])
 
-small_split : (workers busy : List Word) (e : SplitEntry) → IsTidySplit workers e
-    → IsSmall (split_line workers busy e)
-small_split workers busy e tidy = record {
-  bytes = tidy.bytes;
-  holders = omega (arith, length-map e.holders (number_in workers), tidy.few_holders);
+small_split : (workers busy : List Word) (s : Statement) → IsTidySplit workers s
+    → IsSmall (split_line workers busy s)
+small_split workers busy s tidy = record {
+  bytes = tidy.bytes.most;
+  holders = omega (arith, length-map (tail_of s) (number_in workers), tidy.few_holders);
 }
 
-pub all_small : (k : Known) (e : Entries) → IsTidy k e
-    → AreSmall (map (worker_line k.dead) e.workers) (map (split_line k.workers k.busy) e.splits)
-all_small k e tidy =
-    let split = split_line k.workers k.busy in
-    record {
-      few_splits = omega (arith, length-map e.splits split, tidy.one_entry_a_split, tidy.few_splits);
-      slots = All-map (λ worker. worker.free ≤ 16) (worker_line k.dead) e.workers
-          (λ i d lt. (tidy.tidy_workers i d lt).slots);
-      each_small = All-map IsSmall split e.splits
-          (λ i d lt. small_split k.workers k.busy _ (tidy.tidy_splits i d lt));
-    }
-
-held_split : (n : ℕ) (workers busy : List Word) (e : SplitEntry) → n ≡ length workers → IsTidySplit workers e
-    → IsHeldWell n (split_line workers busy e)
-held_split n workers busy e size tidy = record {
-  known = All-map (λ h. h < n) (number_in workers) e.holders
+held_split : (n : ℕ) (workers busy : List Word) (s : Statement) → n ≡ length workers → IsTidySplit workers s
+    → IsHeldWell n (split_line workers busy s)
+held_split n workers busy s size tidy = record {
+  known = All-map (λ h. h < n) (number_in workers) (tail_of s)
       (λ i d lt. rw size (number_within workers _ (tidy.holders i d lt)));
-  once = AllPairs-map (λ (a b : ℕ). a ≢ b) (number_in workers) e.holders
+  once = AllPairs-map (λ (a b : ℕ). a ≢ b) (number_in workers) (tail_of s)
       (λ i j d lt inside. numbers_differ workers _ _ (tidy.holders i d (omega arith)) (tidy.holders j d inside)
       (tidy.holders_differ i j d lt inside));
 }
 
-pub all_held : (k : Known) (e : Entries) → IsTidy k e
-    → AreHeldWell (length (map (worker_line k.dead) e.workers)) (map (split_line k.workers k.busy) e.splits)
-all_held k e tidy =
-    let n = length (map (worker_line k.dead) e.workers) in
-    let size : n ≡ length k.workers = length-map e.workers (worker_line k.dead) ∙ tidy.one_entry_a_worker in
-    All-map (IsHeldWell n) (split_line k.workers k.busy) e.splits
-    (λ i d lt. held_split n k.workers k.busy _ size (tidy.tidy_splits i d lt))
+module _ (rows : List Statement) (tidy : AreTidy rows) where
+  pub all_small : AreSmall (map (worker_line (names_of Dead rows)) (rows_of Worker rows))
+      (map (split_line (names_of Worker rows) (names_of Busy rows)) (rows_of Split rows))
+  all_small =
+      let split = split_line (names_of Worker rows) (names_of Busy rows) in
+      let few : length (rows_of Split rows) ≤ 1024 = tidy.few_splits in
+      record {
+        few_splits = omega (arith, length-map (rows_of Split rows) split, few);
+        slots = All-map (λ worker. worker.free ≤ 16) (worker_line (names_of Dead rows)) (rows_of Worker rows)
+            (λ i d lt. (tidy_workers rows tidy i d lt).slots.most);
+        each_small = All-map IsSmall split (rows_of Split rows)
+            (λ i d lt. small_split (names_of Worker rows) (names_of Busy rows) _ (tidy_splits rows tidy i d lt));
+      }
 
--- the place of a start's split has a worker
-pub start_inside : (k : Known) (e : Entries) → IsTidy k e → (name : Word) (place : ℕ)
-    → position (λ n. bytes_eq name n) k.started ≡ Some place → place < length e.start_workers
-start_inside k e tidy name place is =
-    omega (arith, (position-Some (λ n. bytes_eq name n) k.started place [] is).0, tidy.one_worker_a_start)
+  pub all_held : AreHeldWell (length (map (worker_line (names_of Dead rows)) (rows_of Worker rows)))
+      (map (split_line (names_of Worker rows) (names_of Busy rows)) (rows_of Split rows))
+  all_held =
+      let workers = names_of Worker rows in
+      let n = length (map (worker_line (names_of Dead rows)) (rows_of Worker rows)) in
+      let size : n ≡ length workers =
+      length-map (rows_of Worker rows) (worker_line (names_of Dead rows))
+      ∙ sym (length-map (rows_of Worker rows) (word_at 0)) in
+      All-map (IsHeldWell n) (split_line workers (names_of Busy rows)) (rows_of Split rows)
+      (λ i d lt. held_split n workers (names_of Busy rows) _ size (tidy_splits rows tidy i d lt))
 
-abbrev start_at : Known → Entries → Option ℕ → Option ℕ
-start_at k e place =
-    option_map (number_in k.workers) (option_map (λ i. slice_index_or e.start_workers i []) place)
+-- ---- starts
 
-start_within : (k : Known) (e : Entries) → IsTidy k e → (name : Word)
-    → IfSome (start_of_name k e name) (λ w. w < length k.workers)
-start_within k e tidy name = by (position (λ n. bytes_eq name n) k.started) refl
+-- the place of a start's name is that of a line
+pub start_inside : (lines : List Statement) (name : Word) (place : ℕ)
+    → position (λ n. bytes_eq name n) (names_in lines) ≡ Some place → place < length lines
+start_inside lines name place is =
+    omega (
+      arith,
+      (position-Some (λ n. bytes_eq name n) (names_in lines) place [] is).0,
+      length-map lines (word_at 0),
+    )
+
+-- what a line of the name found says
+module _ (rows : List Row) (names : List Word) (name : Word) (found : Option ℕ) (place : ℕ)
+    (same : names ≡ names_in (map said_in rows)) (is : found ≡ position (λ n. bytes_eq name n) names)
+    (some : found ≡ Some place) where
+  pub at_place : position (λ n. bytes_eq name n) (names_in (map said_in rows)) ≡ Some place
+  at_place = ap (position (λ n. bytes_eq name n)) (sym same) ∙ sym is ∙ some
+
+  pub row_inside : place < length rows
+  row_inside = rw length-map at (start_inside (map said_in rows) name place at_place)
+
+  pub beside_at : {X : Type 0} (d : X) (f : Statement → X)
+      → beside d (names_in (map said_in rows)) (map f (map said_in rows)) name
+      ≡ Some (f (said_in (slice_index_or rows place no_row)))
+  beside_at d f =
+      let lines = map said_in rows in
+      ap (option_map (λ i. slice_index_or (map f lines) i d)) at_place
+      ∙ ap Some (get_or-map f lines place (said_in no_row) d (start_inside lines name place at_place)
+      ∙ ap f (get_or-map said_in rows place no_row (said_in no_row) row_inside))
+
+abbrev started : List Word → List Statement → Option ℕ → Option ℕ
+started workers lines place =
+    option_map (number_in workers) (option_map (λ i. slice_index_or (map (word_at 1) lines) i []) place)
+
+start_within : (workers : List Word) (lines : List Statement) → All (IsTidyStart workers) lines → (name : Word)
+    → IfSome (start_at workers lines name) (λ w. w < length workers)
+start_within workers lines tidy name = by (position (λ n. bytes_eq name n) (names_in lines)) refl
   where
-    by : (place : Option ℕ) → position (λ n. bytes_eq name n) k.started ≡ place
-        → IfSome (start_at k e place) (λ w. w < length k.workers)
+    by : (place : Option ℕ) → position (λ n. bytes_eq name n) (names_in lines) ≡ place
+        → IfSome (started workers lines place) (λ w. w < length workers)
     by None is = tt
     by (Some i) is =
-        number_within k.workers (slice_index_or e.start_workers i [])
-        (tidy.start_workers i [] (start_inside k e tidy name i is))
+        let d : Statement = record { keyword = Start; words = [] } in
+        let inside = start_inside lines name i is in
+        number_within workers (slice_index_or (map (word_at 1) lines) i [])
+        (subst (λ w. Contains workers w) (sym (get_or-map (word_at 1) lines i d [] inside)) (tidy i d inside))
 
-pub starts_within : (k : Known) (e : Entries) → IsTidy k e
-    → All (λ start. IfSome start (λ w. w < length k.workers)) (starts_in k e)
-starts_within k e tidy =
-    All-map (λ start. IfSome start (λ w. w < length k.workers)) (start_of_name k e) k.splits
-    (λ i d lt. start_within k e tidy (slice_index_or k.splits i d))
+pub starts_within : (rows : List Statement) → AreTidy rows
+    → All (λ start. IfSome start (λ w. w < length (names_of Worker rows))) (starts_in rows)
+starts_within rows tidy =
+    let workers = names_of Worker rows in
+    All-map (λ start. IfSome start (λ w. w < length workers)) (start_at workers (rows_of Start rows))
+    (names_of Split rows)
+    (λ i d lt. start_within workers (rows_of Start rows) (tidy_starts rows tidy)
+    (slice_index_or (names_of Split rows) i d))

@@ -1,4 +1,5 @@
+pub mod Names
+pub mod Tidy
 pub mod Value
 pub mod Reading
 pub mod Report
-pub mod Draft

@@ -1,5 +1,6 @@
 -- The value that the lines of a problem and a plan declare, over whole lists and by names.
-use Rattle.std.specs.Prelude.{ℕ, List, [], ◌≡◌, ◌<◌, ◌↔◌, Bool, not, Option, length, map, replicate, slice_index_or, unwrap_or}
+use Rattle.std.specs.Prelude.{ℕ, List, [], ◌≡◌, ◌<◌, ◌↔◌, Bool, not, Option, length, map, max}
+use Rattle.std.specs.Prelude.{slice_index_or, unwrap_or}
 use Rattle.std.specs.List.{Contains, list_any, position}
 use Rattle.std.specs.Option.{option_map}
 use Rattle.std.specs.Str.{bytes_eq}
@@ -9,12 +10,12 @@ use Rattle.wave_problem.specs.Wave as wave
 use Rattle.wave_problem.specs.Wave.{Wave}
 use Rattle.wave_problem.specs.declared.lines.WorkerLine.{WorkerLine}
 use Rattle.price_certificate.specs.PriceList.{PriceList}
-use Rattle.text_lines.specs.Texts.{Word}
-use Rattle.plan_lines.specs.Statements.{Statement}
-use Rattle.plan_lines.specs.Known.{Known, known_at}
-use Rattle.plan_lines.specs.declared.purpose.Purpose.{Purpose}
-use Rattle.plan_lines.specs.declared.purpose.Purpose.TheVariants.{Checking}
-use Rattle.plan_lines.specs.Entries.{Entries, SplitEntry, WorkerEntry, entries_of}
+use Rattle.text_lines.specs.Texts.{Word, number_of}
+use Rattle.line_shapes.specs.Lines.{Statement, tail_of}
+use Rattle.line_shapes.specs.declared.keyword.Keyword.TheVariants.{Centre, Rack, Worker, Split, Barred, Dead}
+use Rattle.line_shapes.specs.declared.keyword.Keyword.TheVariants.{Busy, Start, Price}
+use Rattle.line_rules.specs.Known.{rows_of}
+use Rattle.plan_text.specs.Names.{names_in, names_of, rows_in, word_at}
 
 -- the number of a name: its place among the names of its kind
 abbrev pub number_in : List Word → Word → ℕ
@@ -27,66 +28,76 @@ stands_in names name = list_any (bytes_eq name) names
 abbrev pub beside : {X : Type 0} → X → List Word → List X → Word → Option X
 beside d names values name = option_map (λ i. slice_index_or values i d) (position (λ n. bytes_eq name n) names)
 
-abbrev pub rack_number : List Word → WorkerEntry → ℕ
-rack_number names entry = number_in names entry.rack
+-- ---- a line of each kind
 
--- all racks stand in one centre, which has no name
-abbrev pub tree_of : List Word → List WorkerEntry → Tree
-tree_of racks entries = record {
-  centres = 1;
-  centre_of = replicate (length racks) 0;
-  rack_of = map (rack_number racks) entries;
-}
+-- `worker NAME RACK SLOTS`, among these racks
+abbrev pub rack_number : List Word → Statement → ℕ
+rack_number racks s = number_in racks (word_at 1 s)
 
 -- a worker lives where no line says that it is dead
-abbrev pub worker_line : List Word → WorkerEntry → WorkerLine
-worker_line dead entry = record { live = not (stands_in dead entry.name); free = entry.slots }
+abbrev pub worker_line : List Word → Statement → WorkerLine
+worker_line dead s = record { live = not (stands_in dead (word_at 0 s)); free = number_of (word_at 2 s) }
 
--- a split is pending where no line says that it is busy
-abbrev pub split_line : List Word → List Word → SplitEntry → wave.Split
-split_line workers busy entry = record {
-  bytes = entry.bytes;
-  pending = not (stands_in busy entry.name);
-  holders = map (number_in workers) entry.holders;
+-- `split NAME BYTES HOLDER ..`: it is pending where no line says that it is busy
+abbrev pub split_line : List Word → List Word → Statement → wave.Split
+split_line workers busy s = record {
+  bytes = number_of (word_at 1 s);
+  pending = not (stands_in busy (word_at 0 s));
+  holders = map (number_in workers) (tail_of s);
 }
 
--- a line bars the worker w from the split s
-abbrev pub IsBarred : List Word → List Word → List (Word × Word) → ℕ → ℕ → Type 0
-IsBarred splits workers barred s w = (split : Word) × (worker : Word) × Contains barred (split, worker)
-    × (number_in splits split ≡ s) × (number_in workers worker ≡ w)
+-- `barred SPLIT WORKER`: one of these lines bars the worker w from the split s
+abbrev pub IsBarred : List Word → List Word → List Statement → ℕ → ℕ → Type 0
+IsBarred splits workers barred s w = (line : Statement) × Contains barred line
+    × (number_in splits (word_at 0 line) ≡ s) × (number_in workers (word_at 1 line) ≡ w)
 
--- the wave that names and entries make. A set of pairs stands as words of bits, so its part is no equation.
-pub record MakesWave (k : Known) (e : Entries) (wave : Wave) : Type 0 where
-  pub tree : wave.tree ≡ tree_of k.racks e.workers
-  pub workers : wave.workers ≡ map (worker_line k.dead) e.workers
-  pub splits : wave.splits ≡ map (split_line k.workers k.busy) e.splits
-  pub barred : (s w : ℕ) → w < 256 → HasPair wave.barred s w ↔ IsBarred k.splits k.workers k.barred s w
+-- `start SPLIT WORKER`: the worker that the split starts on, if one of these lines says so
+abbrev pub start_at : List Word → List Statement → Word → Option ℕ
+start_at workers lines name = option_map (number_in workers) (beside [] (names_in lines) (map (word_at 1) lines) name)
 
--- the worker that a split starts on, and the price of a split or a worker: 0 where no line says it
-abbrev pub start_of_name : Known → Entries → Word → Option ℕ
-start_of_name k e name = option_map (number_in k.workers) (beside [] k.started e.start_workers name)
+-- `price NAME AMOUNT`: the price of a split or a worker, 0 where none of these lines says it
+abbrev pub price_at : List Statement → Word → ℕ
+price_at lines name = unwrap_or (beside 0 (names_in lines) (map (λ s. number_of (word_at 1 s)) lines) name) 0
 
-abbrev pub price_of_name : Known → Entries → Word → ℕ
-price_of_name k e name = unwrap_or (beside 0 k.priced e.amounts name) 0
+-- ---- all lines
 
-abbrev pub starts_in : Known → Entries → List (Option ℕ)
-starts_in k e = map (start_of_name k e) k.splits
+-- `rack NAME CENTRE`, among these centres; where the text has none, its racks stand in one without a name
+abbrev pub centre_number : List Word → Statement → ℕ
+centre_number centres s = number_in centres (word_at 1 s)
 
-abbrev pub prices_in : Known → Entries → PriceList
-prices_in k e = record { splits = map (price_of_name k e) k.splits; workers = map (price_of_name k e) k.workers }
+-- the centres, and the lines of racks and of workers
+abbrev pub tree_of : List Word → List Statement → List Statement → Tree
+tree_of centres racks workers = record {
+  centres = max 1 (length centres);
+  centre_of = map (centre_number centres) racks;
+  rack_of = map (rack_number (names_in racks)) workers;
+}
 
--- ---- of statements
+-- the wave that the rows make. A set of pairs stands as words of bits, so its part is no equation.
+pub record MakesWave (rows : List Statement) (wave : Wave) : Type 0 where
+  pub tree : wave.tree ≡ tree_of (names_of Centre rows) (rows_of Rack rows) (rows_of Worker rows)
+  pub workers : wave.workers ≡ map (worker_line (names_of Dead rows)) (rows_of Worker rows)
+  pub splits : wave.splits ≡ map (split_line (names_of Worker rows) (names_of Busy rows)) (rows_of Split rows)
+  pub barred : (s w : ℕ) → w < 256
+      → HasPair wave.barred s w ↔ IsBarred (names_of Split rows) (names_of Worker rows) (rows_of Barred rows) s w
 
--- what is known after all these statements
-abbrev pub known_of : Purpose → List Statement → Known
-known_of purpose ss = known_at purpose (length ss) ss
+abbrev pub starts_in : List Statement → List (Option ℕ)
+starts_in rows = map (start_at (names_of Worker rows) (rows_of Start rows)) (names_of Split rows)
 
-abbrev pub DeclaresWave : Purpose → List Statement → Wave → Type 0
-DeclaresWave purpose ss wave = MakesWave (known_of purpose ss) (entries_of ss) wave
+abbrev pub prices_in : List Statement → PriceList
+prices_in rows = record {
+  splits = map (price_at (rows_of Price rows)) (names_of Split rows);
+  workers = map (price_at (rows_of Price rows)) (names_of Worker rows);
+}
+
+-- ---- of all that a text says
+
+abbrev pub DeclaresWave : List Statement → Wave → Type 0
+DeclaresWave ss wave = MakesWave (rows_in ss) wave
 
 -- the starts and prices of a plan to check
 abbrev pub starts : List Statement → List (Option ℕ)
-starts ss = starts_in (known_of Checking ss) (entries_of ss)
+starts ss = starts_in (rows_in ss)
 
 abbrev pub prices : List Statement → PriceList
-prices ss = prices_in (known_of Checking ss) (entries_of ss)
+prices ss = prices_in (rows_in ss)

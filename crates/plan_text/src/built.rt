@@ -1,18 +1,23 @@
-ghost use Rattle.std.specs.Prelude.{◌≡◌, ◌+◌, ◌<◌, ◌≤◌, ◌↔◌, ◌⊎◌, ◌∷◌, ◌++◌, ℕ, List, [], length, map, replicate};
+ghost use Rattle.std.specs.Prelude.{◌≡◌, ◌+◌, ◌<◌, ◌≤◌, ◌↔◌, ◌⊎◌, ◌∷◌, ◌++◌, ℕ, List, [], length, map, max};
 ghost use Rattle.std.specs.Prelude.{All, Contains, IfOk, OnOk, slice_index_or};
 ghost use Rattle.node_ids.specs.Sets.{HasPair};
 ghost use Rattle.rack_tree.specs.declared.TheConstants.{MAX_CENTRES, MAX_RACKS, MAX_WORKERS};
 ghost use Rattle.wave_problem.specs.declared.TheConstants.{MAX_SLOTS, MAX_SPLITS};
 ghost use Rattle.price_certificate.specs.Certificate.{HasOneSize, claim};
-ghost use Rattle.plan_lines.specs.Tidy.{IsTidy, IsTidySplit, IsTidyWorker};
-ghost use Rattle.plan_lines.specs.Rows.{entries_in, entry_of_split, entry_of_worker};
+ghost use Rattle.text_lines.specs.Texts.{Word};
+ghost use Rattle.line_shapes.specs.declared.keyword.Keyword.TheVariants.{Barred, Busy, Centre, Rack, Split, Worker};
+ghost use Rattle.line_rules.specs.Known.{rows_of as lines_of};
+ghost use Rattle.plan_text.specs.Names.{names_in, names_of as said_names, said_in, word_at};
 ghost use Rattle.plan_text.specs.Reading.{MakesPlan, MakesProblem};
-ghost use Rattle.plan_text.specs.Value.{IsBarred, MakesWave, number_in, split_line, tree_of, worker_line};
-ghost use Rattle.plan_text.specs.Value.{price_of_name, prices_in, start_of_name, starts_in};
+ghost use Rattle.plan_text.specs.Tidy.{AreTidy, IsAtMost, IsTidyBar, IsTidyPrice, IsTidySplit, IsTidyStart};
+ghost use Rattle.plan_text.specs.Tidy.{IsTidyWorker};
+ghost use Rattle.plan_text.specs.Value.{IsBarred, MakesWave, number_in, price_at, prices_in, split_line};
+ghost use Rattle.plan_text.specs.Value.{centre_number, rack_number, start_at, starts_in, tree_of, worker_line};
 
+use crate::row_lists::{holders, names_of, number, rows_of, word};
+use line_rules::{Row, Rows};
+use line_shapes::Keyword;
 use node_ids::{CentreNo, PairSet, RackNo, SplitNo, WorkerNo};
-use plan_lines::rows::{SplitRow, WorkerRow};
-use plan_lines::{KnownNames, Rows};
 use price_certificate::Prices;
 use rack_tree::{RackTree, TreeError};
 use std::alloc::{AllocError, Global};
@@ -37,20 +42,17 @@ pub struct ProblemText<'t> {
     pub workers: NameTable<'t>,
 }
 
-/// What the names and rows of a text to check make. The only error is want of memory.
-pub fn build_plan_text<'t>(
-    alloc: Global,
-    names: KnownNames<'t>,
-    rows: &Rows<'t>,
-) -> Result<PlanText<'t>, AllocError>
-    requires { IsTidy names (entries_in rows.now) }
-    ensures value { IfOk result (MakesPlan names.entry (entries_in rows.now)) }
+/// What the rows of a text to check make. The only error is want of memory.
+pub fn build_plan_text<'t>(alloc: Global, rows: &Rows<'t>) -> Result<PlanText<'t>, AllocError>
+    requires { AreTidy rows.now }
+    ensures value { IfOk result (MakesPlan rows.now) }
     ensures sized { IfOk result (λ v. HasOneSize (claim v.problem v.plan.starts v.prices) v.plan.workers) }
 {
-    let problem = build_problem(alloc, &names, rows)?;
-    let plan = build_plan(alloc, &names, rows)?;
-    let prices = build_prices(alloc, &names, rows)?;
-    let (splits, workers) = names.into_splits_and_workers();
+    let splits = names_of(alloc, rows, Keyword::Split)?;
+    let workers = names_of(alloc, rows, Keyword::Worker)?;
+    let problem = build_problem(alloc, rows, &splits, &workers)?;
+    let plan = build_plan(alloc, rows, &splits, &workers)?;
+    let prices = build_prices(alloc, rows, &splits, &workers)?;
     Ok(PlanText {
         problem,
         plan,
@@ -60,19 +62,16 @@ pub fn build_plan_text<'t>(
     })
 }
 
-/// What the names and rows of a text to plan from make. The only error is want of memory.
-pub fn build_problem_text<'t>(
-    alloc: Global,
-    names: KnownNames<'t>,
-    rows: &Rows<'t>,
-) -> Result<ProblemText<'t>, AllocError>
-    requires { IsTidy names (entries_in rows.now) }
-    ensures value { IfOk result (MakesProblem names.entry (entries_in rows.now)) }
+/// What the rows of a text to plan from make. The only error is want of memory.
+pub fn build_problem_text<'t>(alloc: Global, rows: &Rows<'t>) -> Result<ProblemText<'t>, AllocError>
+    requires { AreTidy rows.now }
+    ensures value { IfOk result (MakesProblem rows.now) }
     ensures splits { IfOk result (λ v. length v.splits ≡ length v.problem.splits) }
     ensures workers { IfOk result (λ v. length v.workers ≡ length v.problem.workers) }
 {
-    let problem = build_problem(alloc, &names, rows)?;
-    let (splits, workers) = names.into_splits_and_workers();
+    let splits = names_of(alloc, rows, Keyword::Split)?;
+    let workers = names_of(alloc, rows, Keyword::Worker)?;
+    let problem = build_problem(alloc, rows, &splits, &workers)?;
     Ok(ProblemText {
         problem,
         splits,
@@ -82,17 +81,22 @@ pub fn build_problem_text<'t>(
 
 fn build_problem(
     alloc: Global,
-    names: &KnownNames<'_>,
     rows: &Rows<'_>,
+    splits: &NameTable<'_>,
+    workers: &NameTable<'_>,
 ) -> Result<Problem, AllocError>
-    requires { IsTidy names.now (entries_in rows.now) }
-    ensures { IfOk result (MakesWave names.now (entries_in rows.now)) }
+    requires tidy { AreTidy rows.now }
+    requires splits { splits.now ≡ said_names Split rows.now }
+    requires workers { workers.now ≡ said_names Worker rows.now }
+    ensures { IfOk result (MakesWave rows.now) }
 {
-    let tree = build_tree(alloc, names.racks(), &rows.workers)?;
-    let workers = build_workers(alloc, names.dead(), &rows.workers)?;
-    let splits = build_splits(alloc, names.workers(), names.busy(), &rows.splits)?;
-    let barred = build_barred(alloc, names)?;
-    match Problem::new(alloc, tree, workers, splits, barred) {
+    let barred = build_barred(alloc, rows, splits, workers)?;
+    let split_lines = build_split_lines(alloc, rows, workers)?;
+    let worker_rows = rows_of(alloc, rows, Keyword::Worker)?;
+    let dead = names_of(alloc, rows, Keyword::Dead)?;
+    let worker_lines = build_workers(alloc, &dead, &worker_rows)?;
+    let tree = build_tree(alloc, rows, &worker_rows)?;
+    match Problem::new(alloc, tree, worker_lines, split_lines, barred) {
         Ok(problem) => Ok(problem),
         Err(ProblemError::Memory) => Err(AllocError),
         Err(ProblemError::Limit) => unreachable!(),
@@ -100,25 +104,55 @@ fn build_problem(
     }
 }
 
-fn build_plan(alloc: Global, names: &KnownNames<'_>, rows: &Rows<'_>) -> Result<Plan, AllocError>
-    requires { IsTidy names.now (entries_in rows.now) }
-    ensures starts { IfOk result (λ plan. plan.starts ≡ starts_in names.now (entries_in rows.now)) }
-    ensures workers { IfOk result (λ plan. plan.workers ≡ length names.now.workers) }
+fn build_split_lines(
+    alloc: Global,
+    rows: &Rows<'_>,
+    workers: &NameTable<'_>,
+) -> Result<Vec<SplitLine>, AllocError>
+    requires tidy { AreTidy rows.now }
+    requires workers { workers.now ≡ said_names Worker rows.now }
+    ensures { IfOk result (λ lines. lines.items
+        ≡ map (split_line (said_names Worker rows.now) (said_names Busy rows.now)) (lines_of Split rows.now)) }
 {
-    let starts = build_starts(alloc, names, rows)?;
-    Ok(Plan::from_starts(starts, names.workers().len()))
+    let busy = names_of(alloc, rows, Keyword::Busy)?;
+    let split_rows = rows_of(alloc, rows, Keyword::Split)?;
+    build_splits(alloc, workers, &busy, &split_rows)
+}
+
+fn build_plan(
+    alloc: Global,
+    rows: &Rows<'_>,
+    splits: &NameTable<'_>,
+    workers: &NameTable<'_>,
+) -> Result<Plan, AllocError>
+    requires tidy { AreTidy rows.now }
+    requires splits { splits.now ≡ said_names Split rows.now }
+    requires workers { workers.now ≡ said_names Worker rows.now }
+    ensures starts { IfOk result (λ plan. plan.starts ≡ starts_in rows.now) }
+    ensures workers { IfOk result (λ plan. plan.workers ≡ length workers.now) }
+{
+    let started = names_of(alloc, rows, Keyword::Start)?;
+    let start_rows = rows_of(alloc, rows, Keyword::Start)?;
+    let starts = build_starts(alloc, splits, workers, &started, &start_rows)?;
+    Ok(Plan::from_starts(starts, workers.len()))
 }
 
 fn build_prices(
     alloc: Global,
-    names: &KnownNames<'_>,
     rows: &Rows<'_>,
+    splits: &NameTable<'_>,
+    workers: &NameTable<'_>,
 ) -> Result<Prices, AllocError>
-    ensures { IfOk result (λ prices. prices ≡ prices_in names.now (entries_in rows.now)) }
+    requires tidy { AreTidy rows.now }
+    requires splits { splits.now ≡ said_names Split rows.now }
+    requires workers { workers.now ≡ said_names Worker rows.now }
+    ensures { IfOk result (λ prices. prices ≡ prices_in rows.now) }
 {
-    let splits = prices_of(alloc, names, rows, names.splits())?;
-    let workers = prices_of(alloc, names, rows, names.workers())?;
-    Ok(Prices::from_lists(splits, workers))
+    let priced = names_of(alloc, rows, Keyword::Price)?;
+    let price_rows = rows_of(alloc, rows, Keyword::Price)?;
+    let split_prices = prices_of(alloc, splits, &priced, &price_rows)?;
+    let worker_prices = prices_of(alloc, workers, &priced, &price_rows)?;
+    Ok(Prices::from_lists(split_prices, worker_prices))
 }
 
 /// The name of a number, empty where the table has no such number.
@@ -151,34 +185,79 @@ fn worker_no(workers: &NameTable<'_>, name: &str) -> WorkerNo
 
 fn build_tree(
     alloc: Global,
-    racks: &NameTable<'_>,
-    rows: &[WorkerRow<'_>],
+    rows: &Rows<'_>,
+    worker_rows: &[Row<'_, '_>],
 ) -> Result<RackTree, AllocError>
-    requires few_racks { length racks.now ≤ MAX_RACKS }
-    requires few_workers { length rows.now ≤ MAX_WORKERS }
-    requires known { All (IsTidyWorker racks.now) (map entry_of_worker rows.now) }
-    ensures { IfOk result (λ tree. tree ≡ tree_of racks.now (map entry_of_worker rows.now)) }
+    requires tidy { AreTidy rows.now }
+    requires workers { map said_in worker_rows.now ≡ lines_of Worker rows.now }
+    ensures { IfOk result (λ tree. tree ≡ tree_of (said_names Centre rows.now) (lines_of Rack rows.now)
+        (lines_of Worker rows.now)) }
 {
-    let mut tree = tree_with_racks(alloc, racks.len());
-    for row in rows {
-        add_worker(&mut tree, racks, row)?;
-    }
+    let centres = names_of(alloc, rows, Keyword::Centre)?;
+    let rack_rows = rows_of(alloc, rows, Keyword::Rack)?;
+    let racks = names_of(alloc, rows, Keyword::Rack)?;
+    let mut tree = tree_with_racks(alloc, &centres, &rack_rows);
+    add_workers(&mut tree, &racks, worker_rows)?;
     Ok(tree)
 }
 
-/// So many racks in one data centre, which has no name.
-fn tree_with_racks(alloc: Global, count: usize) -> RackTree
-    requires { count ≤ MAX_RACKS }
-    ensures centres { result.centres ≡ 1 }
-    ensures racks { result.centre_of ≡ replicate count 0 }
+fn add_workers(
+    tree: &mut RackTree,
+    racks: &NameTable<'_>,
+    rows: &[Row<'_, '_>],
+) -> Result<(), AllocError>
+    requires same { length tree.old.centre_of ≡ length racks.now }
+    requires none { tree.old.rack_of ≡ [] }
+    requires few_racks { length racks.now ≤ MAX_RACKS }
+    requires few_workers { length rows.now ≤ MAX_WORKERS }
+    requires known { All (IsTidyWorker racks.now) (map said_in rows.now) }
+    ensures { OnOk result (tree.new
+        ≡ record tree.old { rack_of = map (rack_number racks.now) (map said_in rows.now) }) }
+{
+    for row in rows {
+        add_worker(tree, racks, word(row, 1))?;
+    }
+    Ok(())
+}
+
+/// The centres, or one without a name where there is none, and the racks in them.
+fn tree_with_racks(alloc: Global, centres: &NameTable<'_>, rows: &[Row<'_, '_>]) -> RackTree
+    requires few_centres { length centres.now ≤ MAX_CENTRES }
+    requires few_racks { length rows.now ≤ MAX_RACKS }
+    ensures centres { result.centres ≡ max 1 (length centres.now) }
+    ensures racks { result.centre_of ≡ map (centre_number centres.now) (map said_in rows.now) }
+    ensures workers { result.rack_of ≡ [] }
+{
+    let mut tree = tree_with_centres(alloc, centres.len().max(1));
+    for row in rows {
+        add_rack(&mut tree, centre_no(centres, word(row, 1)));
+    }
+    tree
+}
+
+fn tree_with_centres(alloc: Global, count: usize) -> RackTree
+    requires { count ≤ MAX_CENTRES }
+    ensures centres { result.centres ≡ count }
+    ensures racks { result.centre_of ≡ [] }
     ensures workers { result.rack_of ≡ [] }
 {
     let mut tree = RackTree::new(alloc);
-    add_centre(&mut tree);
     for _ in 0..count {
-        add_rack(&mut tree);
+        add_centre(&mut tree);
     }
     tree
+}
+
+/// The number of a centre, 0 where the text has no such centre.
+fn centre_no(centres: &NameTable<'_>, name: &str) -> CentreNo
+    requires { length centres.now ≤ MAX_CENTRES }
+    ensures value { result ≡ number_in centres.now name.now }
+    ensures within { result < max 1 (length centres.now) }
+{
+    match centres.number(name) {
+        Some(number) => CentreNo::new(number as u8),
+        None => CentreNo::new(0),
+    }
 }
 
 fn add_centre(tree: &mut RackTree)
@@ -191,33 +270,28 @@ fn add_centre(tree: &mut RackTree)
     }
 }
 
-/// Adds a rack to the first centre.
-fn add_rack(tree: &mut RackTree)
-    requires centre { 0 < tree.old.centres }
+fn add_rack(tree: &mut RackTree, centre: CentreNo)
+    requires centre { centre < tree.old.centres }
     requires room { length tree.old.centre_of < MAX_RACKS }
-    ensures { tree.new ≡ record tree.old { centre_of = tree.old.centre_of ++ 0 ∷ [] } }
+    ensures { tree.new ≡ record tree.old { centre_of = tree.old.centre_of ++ centre ∷ [] } }
 {
-    match tree.add_rack(CentreNo::new(0)) {
+    match tree.add_rack(centre) {
         Ok(_) => {}
         Err(_) => unreachable!(),
     }
 }
 
-fn add_worker(
-    tree: &mut RackTree,
-    racks: &NameTable<'_>,
-    row: &WorkerRow<'_>,
-) -> Result<(), AllocError>
+fn add_worker(tree: &mut RackTree, racks: &NameTable<'_>, rack: &str) -> Result<(), AllocError>
     requires same { length tree.old.centre_of ≡ length racks.now }
     requires few { length racks.now ≤ MAX_RACKS }
     requires room { length tree.old.rack_of < MAX_WORKERS }
-    requires known { Contains racks.now row.now.rack.now }
+    requires known { Contains racks.now rack.now }
     ensures centres { OnOk result (tree.new.centres ≡ tree.old.centres) }
     ensures racks { OnOk result (tree.new.centre_of ≡ tree.old.centre_of) }
     ensures workers { OnOk result
-        (tree.new.rack_of ≡ tree.old.rack_of ++ number_in racks.now row.now.rack.now ∷ []) }
+        (tree.new.rack_of ≡ tree.old.rack_of ++ number_in racks.now rack.now ∷ []) }
 {
-    let rack = RackNo::new(number_of(racks, row.rack) as u16);
+    let rack = RackNo::new(number_of(racks, rack) as u16);
     match tree.add_worker(rack) {
         Ok(_) => Ok(()),
         Err(TreeError::Memory) => Err(AllocError),
@@ -228,10 +302,10 @@ fn add_worker(
 fn build_workers(
     alloc: Global,
     dead: &NameTable<'_>,
-    rows: &[WorkerRow<'_>],
+    rows: &[Row<'_, '_>],
 ) -> Result<Vec<WorkerLine>, AllocError>
-    requires { All (λ row. row.slots ≤ MAX_SLOTS) rows.now }
-    ensures { IfOk result (λ lines. lines.items ≡ map (worker_line dead.now) (map entry_of_worker rows.now)) }
+    requires { All (λ s. IsAtMost (word_at 2 s) MAX_SLOTS) (map said_in rows.now) }
+    ensures { IfOk result (λ lines. lines.items ≡ map (worker_line dead.now) (map said_in rows.now)) }
 {
     let mut lines = Vec::new(alloc);
     for row in rows {
@@ -240,13 +314,13 @@ fn build_workers(
     Ok(lines)
 }
 
-fn worker_line_of(dead: &NameTable<'_>, row: &WorkerRow<'_>) -> WorkerLine
-    requires { row.now.slots ≤ MAX_SLOTS }
-    ensures { result ≡ worker_line dead.now (entry_of_worker row.now) }
+fn worker_line_of(dead: &NameTable<'_>, row: &Row<'_, '_>) -> WorkerLine
+    requires { IsAtMost (word_at 2 (said_in row.now)) MAX_SLOTS }
+    ensures { result ≡ worker_line dead.now (said_in row.now) }
 {
     WorkerLine {
-        live: !dead.has(row.name),
-        free: row.slots as u8,
+        live: !dead.has(word(row, 0)),
+        free: number(word(row, 2)) as u8,
     }
 }
 
@@ -254,12 +328,12 @@ fn build_splits(
     alloc: Global,
     workers: &NameTable<'_>,
     busy: &NameTable<'_>,
-    rows: &[SplitRow<'_>],
+    rows: &[Row<'_, '_>],
 ) -> Result<Vec<SplitLine>, AllocError>
     requires few { length workers.now ≤ MAX_WORKERS }
-    requires known { All (IsTidySplit workers.now) (map entry_of_split rows.now) }
+    requires known { All (IsTidySplit workers.now) (map said_in rows.now) }
     ensures { IfOk result (λ lines. lines.items
-        ≡ map (split_line workers.now busy.now) (map entry_of_split rows.now)) }
+        ≡ map (split_line workers.now busy.now) (map said_in rows.now)) }
 {
     let mut lines = Vec::new(alloc);
     for row in rows {
@@ -272,16 +346,16 @@ fn split_line_of(
     alloc: Global,
     workers: &NameTable<'_>,
     busy: &NameTable<'_>,
-    row: &SplitRow<'_>,
+    row: &Row<'_, '_>,
 ) -> Result<SplitLine, AllocError>
     requires few { length workers.now ≤ MAX_WORKERS }
-    requires known { IsTidySplit workers.now (entry_of_split row.now) }
-    ensures { IfOk result (λ line. line ≡ split_line workers.now busy.now (entry_of_split row.now)) }
+    requires known { IsTidySplit workers.now (said_in row.now) }
+    ensures { IfOk result (λ line. line ≡ split_line workers.now busy.now (said_in row.now)) }
 {
-    let holders = worker_nos(alloc, workers, &row.holders)?;
+    let holders = worker_nos(alloc, workers, holders(row))?;
     Ok(SplitLine {
-        bytes: row.bytes,
-        pending: !busy.has(row.name),
+        bytes: number(word(row, 1)),
+        pending: !busy.has(word(row, 0)),
         holders,
     })
 }
@@ -302,90 +376,107 @@ fn worker_nos(
     Ok(numbers)
 }
 
-fn build_barred(alloc: Global, names: &KnownNames<'_>) -> Result<PairSet, AllocError>
-    requires few_splits { length names.now.splits ≤ MAX_SPLITS }
-    requires few_workers { length names.now.workers ≤ MAX_WORKERS }
-    requires known { All (λ pair. Contains names.now.splits pair.0 × Contains names.now.workers pair.1)
-        names.now.barred }
+fn build_barred(
+    alloc: Global,
+    rows: &Rows<'_>,
+    splits: &NameTable<'_>,
+    workers: &NameTable<'_>,
+) -> Result<PairSet, AllocError>
+    requires tidy { AreTidy rows.now }
+    requires splits { splits.now ≡ said_names Split rows.now }
+    requires workers { workers.now ≡ said_names Worker rows.now }
     ensures { IfOk result (λ set. (s w : ℕ) → w < 256
-        → HasPair set s w ↔ IsBarred names.now.splits names.now.workers names.now.barred s w) }
+        → HasPair set s w ↔ IsBarred splits.now workers.now (lines_of Barred rows.now) s w) }
 {
     let mut set = PairSet::new(alloc)?;
-    for place in 0..names.barred().len() {
-        bar(&mut set, names, place);
+    for place in 0..rows.len() {
+        match rows.row(place) {
+            Some(row) => {
+                if row.keyword == Keyword::Barred {
+                    bar(&mut set, splits, workers, &row);
+                }
+            }
+            None => {}
+        }
     }
     Ok(set)
 }
 
-/// Puts the pair at a place of the barred pairs into the set.
-fn bar(set: &mut PairSet, names: &KnownNames<'_>, place: usize)
-    requires few_splits { length names.now.splits ≤ MAX_SPLITS }
-    requires few_workers { length names.now.workers ≤ MAX_WORKERS }
-    requires known { All (λ pair. Contains names.now.splits pair.0 × Contains names.now.workers pair.1)
-        names.now.barred }
-    requires place { place < length names.now.barred }
-    ensures { let pair = slice_index_or names.now.barred place ([], []) in
-        let split = number_in names.now.splits pair.0 in
-        let worker = number_in names.now.workers pair.1 in
-        (s w : ℕ) → w < 256 → HasPair set.new s w ↔ (((s ≡ split) × (w ≡ worker)) ⊎ HasPair set.old s w) }
+/// Puts the pair of a row into the set.
+fn bar(set: &mut PairSet, splits: &NameTable<'_>, workers: &NameTable<'_>, row: &Row<'_, '_>)
+    requires few_splits { length splits.now ≤ MAX_SPLITS }
+    requires few_workers { length workers.now ≤ MAX_WORKERS }
+    requires known { IsTidyBar splits.now workers.now (said_in row.now) }
+    ensures { (s w : ℕ) → w < 256 → HasPair set.new s w
+        ↔ (((s ≡ number_in splits.now (word_at 0 (said_in row.now)))
+        × (w ≡ number_in workers.now (word_at 1 (said_in row.now)))) ⊎ HasPair set.old s w) }
 {
-    match names.barred().pair(place) {
-        Some((split, worker)) => {
-            let split = SplitNo::new(number_of(names.splits(), split) as u16);
-            set.put(split, worker_no(names.workers(), worker));
-        }
-        None => unreachable!(),
-    }
+    let split = SplitNo::new(number_of(splits, word(row, 0)) as u16);
+    set.put(split, worker_no(workers, word(row, 1)));
 }
 
 fn build_starts(
     alloc: Global,
-    names: &KnownNames<'_>,
-    rows: &Rows<'_>,
+    splits: &NameTable<'_>,
+    workers: &NameTable<'_>,
+    started: &NameTable<'_>,
+    rows: &[Row<'_, '_>],
 ) -> Result<Vec<Option<WorkerNo>>, AllocError>
-    requires { IsTidy names.now (entries_in rows.now) }
-    ensures { IfOk result (λ starts. starts.items ≡ starts_in names.now (entries_in rows.now)) }
+    requires few { length workers.now ≤ MAX_WORKERS }
+    requires names { started.now ≡ names_in (map said_in rows.now) }
+    requires known { All (IsTidyStart workers.now) (map said_in rows.now) }
+    ensures { IfOk result (λ starts. starts.items
+        ≡ map (start_at workers.now (map said_in rows.now)) splits.now) }
 {
-    let splits = names.splits();
     let mut starts = Vec::new(alloc);
     for number in 0..splits.len() {
-        starts.push(start_of(names, rows, name_at(splits, number)))?;
+        starts.push(start_of(workers, started, rows, name_at(splits, number)))?;
     }
     Ok(starts)
 }
 
 /// The worker that a split starts on.
-fn start_of(names: &KnownNames<'_>, rows: &Rows<'_>, split: &str) -> Option<WorkerNo>
-    requires { IsTidy names.now (entries_in rows.now) }
-    ensures { result ≡ start_of_name names.now (entries_in rows.now) split.now }
+fn start_of(
+    workers: &NameTable<'_>,
+    started: &NameTable<'_>,
+    rows: &[Row<'_, '_>],
+    split: &str,
+) -> Option<WorkerNo>
+    requires few { length workers.now ≤ MAX_WORKERS }
+    requires names { started.now ≡ names_in (map said_in rows.now) }
+    requires known { All (IsTidyStart workers.now) (map said_in rows.now) }
+    ensures { result ≡ start_at workers.now (map said_in rows.now) split.now }
 {
-    let place = names.started().number(split)?;
-    Some(worker_no(names.workers(), rows.start_workers[place]))
+    let place = started.number(split)?;
+    Some(worker_no(workers, word(&rows[place], 1)))
 }
 
 /// The prices of the names of a table.
 fn prices_of(
     alloc: Global,
-    names: &KnownNames<'_>,
-    rows: &Rows<'_>,
     table: &NameTable<'_>,
+    priced: &NameTable<'_>,
+    rows: &[Row<'_, '_>],
 ) -> Result<Vec<u64>, AllocError>
-    ensures { IfOk result (λ prices. prices.items
-        ≡ map (price_of_name names.now (entries_in rows.now)) table.now) }
+    requires names { priced.now ≡ names_in (map said_in rows.now) }
+    requires amounts { All IsTidyPrice (map said_in rows.now) }
+    ensures { IfOk result (λ prices. prices.items ≡ map (price_at (map said_in rows.now)) table.now) }
 {
     let mut prices = Vec::new(alloc);
     for number in 0..table.len() {
-        prices.push(price_of(names, rows, name_at(table, number)))?;
+        prices.push(price_of(priced, rows, name_at(table, number)))?;
     }
     Ok(prices)
 }
 
 /// The price of a name, 0 where it has none.
-fn price_of(names: &KnownNames<'_>, rows: &Rows<'_>, name: &str) -> u64
-    ensures { result ≡ price_of_name names.now (entries_in rows.now) name.now }
+fn price_of(priced: &NameTable<'_>, rows: &[Row<'_, '_>], name: &str) -> u64
+    requires names { priced.now ≡ names_in (map said_in rows.now) }
+    requires amounts { All IsTidyPrice (map said_in rows.now) }
+    ensures { result ≡ price_at (map said_in rows.now) name.now }
 {
-    match names.priced().number(name) {
-        Some(place) => rows.amounts.get(place).copied().unwrap_or(0),
+    match priced.number(name) {
+        Some(place) => number(word(&rows[place], 1)),
         None => 0,
     }
 }

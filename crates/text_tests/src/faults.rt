@@ -35,7 +35,7 @@ const TO_PLAN: [(&str, Option<(u32, u8)>); 22] = [
         "problem 1\nrack r\nworker a r 1\nsplit s 1\nbarred s a\nbarred s a\nend\n",
         Some((6, 4)),
     ),
-    ("problem 2\nend\n", Some((1, 5))),
+    ("problem 3\nend\n", Some((1, 5))),
     ("problem 1\nrack r\nworker a r 17\nend\n", Some((3, 5))),
     ("problem 1\nsplit s 67108865\nend\n", Some((2, 5))),
     ("rack r\nend\n", Some((1, 7))),

@@ -9,11 +9,13 @@
 #[cfg(test)]
 mod faults;
 #[cfg(test)]
-mod plan_words;
-#[cfg(test)]
 mod readers;
 #[cfg(test)]
 mod reading;
+#[cfg(test)]
+mod script_values;
+#[cfg(test)]
+mod scripts;
 #[cfg(test)]
 mod tables;
 #[cfg(test)]

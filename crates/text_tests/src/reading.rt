@@ -21,3 +21,17 @@ fn a_plan_has_no_place_in_a_text_to_plan_from(rt: HostRuntime) {
     let text = "problem 1\nplan\nend\n";
     assert_eq!(rt; workers_of(rt.alloc(), text), Some(Err((2, 7))));
 }
+
+#[test]
+fn words_that_are_no_line(rt: HostRuntime) {
+    for text in [
+        "problem 1\n\nend\n",
+        "problem 1\nrack\nend\n",
+        "problem 1\n rack r\nend\n",
+        "problem 1\nworker a r 01\nend\n",
+        "problem 1\nbusy\nend\n",
+        "problem 1\nend b\n",
+    ] {
+        assert_eq!(rt; workers_of(rt.alloc(), text), Some(Err((2, 1))), "{text}");
+    }
+}

@@ -1,7 +1,7 @@
 -- What is said of the value that was read is said of the text.
 use Rattle.std.proofs.Common.{ℕ, List, subst}
 use Rattle.price_certificate.specs.Certificate.{claim}
-use Rattle.plan_lines.specs.Known.{splits}
+use Rattle.plan_text.specs.Names.{splits}
 use Rattle.plan_text.specs.Reading.{IsReadingOf}
 use Rattle.plan_text.specs.Value.{starts}
 use Rattle.plan_text.specs.declared.built.PlanText.{PlanText}

@@ -1,11 +1,11 @@
 -- The fault for which a text could not be read is told.
 use Rattle.std.proofs.Common.{ℕ, List, ◌∙◌, ap, subst, sym}
 use Rattle.text_lines.specs.declared.fault.TextFault.{TextFault}
-use Rattle.plan_lines.specs.Faults.{IsLeastFault}
-use Rattle.plan_lines.specs.declared.purpose.Purpose.{Purpose}
-use Rattle.plan_text.specs.Reading.{IsReadingError}
-use Rattle.plan_text.specs.declared.reader.ReadingError.{ReadingError}
-use Rattle.plan_text.specs.declared.reader.ReadingError.TheVariants as reading
+use Rattle.line_rules.specs.Texts.{IsLeastFault}
+use Rattle.line_rules.specs.declared.purpose.Purpose.{Purpose}
+use Rattle.line_rules.specs.Reading.{IsReadingError}
+use Rattle.line_rules.specs.declared.reading.ReadingError.{ReadingError}
+use Rattle.line_rules.specs.declared.reading.ReadingError.TheVariants as reading
 use Rattle.text_reading.specs.FaultLine.{fault_line}
 use Rattle.tools.specs.CheckAnswer.{IsFaulty, TellsFault}
 

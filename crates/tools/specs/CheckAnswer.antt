@@ -7,16 +7,16 @@ use Rattle.wave_problem.specs.Wave.{Wave}
 use Rattle.wave_problem.specs.Assignment.{IsBest, pairs_of, total}
 use Rattle.price_certificate.specs.Certificate.{Claim, Certifies, IsFirstFailure, claim}
 use Rattle.price_certificate.specs.declared.Condition.{Condition}
-use Rattle.plan_lines.specs.Statements.{Statement}
-use Rattle.plan_lines.specs.Known.{splits, workers}
-use Rattle.plan_lines.specs.Faults.{IsLeastFault, Reads}
-use Rattle.plan_lines.specs.declared.purpose.Purpose.{Purpose}
-use Rattle.plan_lines.specs.declared.purpose.Purpose.TheVariants.{Checking}
+use Rattle.line_shapes.specs.Lines.{Statement}
+use Rattle.plan_text.specs.Names.{splits, workers}
+use Rattle.line_rules.specs.Texts.{IsLeastFault, Reads}
+use Rattle.line_rules.specs.declared.purpose.Purpose.{Purpose}
+use Rattle.line_rules.specs.declared.purpose.Purpose.TheVariants.{Checking}
 use Rattle.plan_text.specs.Value.{DeclaresWave, prices, starts}
 use Rattle.plan_text.specs.Report.{certified_line, refused_line}
 use Rattle.text_reading.specs.FaultLine.{fault_line}
-use Rattle.plan_text.specs.declared.reader.ReadingError.{ReadingError}
-use Rattle.plan_text.specs.declared.reader.ReadingError.TheVariants as reading
+use Rattle.line_rules.specs.declared.reading.ReadingError.{ReadingError}
+use Rattle.line_rules.specs.declared.reading.ReadingError.TheVariants as reading
 use Rattle.tools.specs.declared.ending.CheckEnd.{CheckEnd}
 use Rattle.tools.specs.declared.ending.CheckEnd.TheVariants.{Certified, Refused}
 
@@ -45,7 +45,7 @@ pub record AnswersRead (text : List ℕ) (end : CheckEnd) (line : List ℕ) : Ty
   pub statements : List Statement
   pub wave : Wave
   pub reads : Reads Checking text statements
-  pub declared : DeclaresWave Checking statements wave
+  pub declared : DeclaresWave statements wave
   pub judges : Judges end (claim_of wave statements) (splits statements) (workers statements) line
 
 -- the line names the least fault of the text

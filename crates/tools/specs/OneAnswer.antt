@@ -5,13 +5,12 @@ use Rattle.price_certificate.proofs.SameBars.{HaveSamePairs, barring, have_same_
 use Rattle.price_certificate.proofs.SameBars.{certified-faultless, first_failures-equal}
 use Rattle.text_lines.specs.Texts.{Word}
 use Rattle.text_lines.specs.declared.fault.TextFault.{TextFault}
-use Rattle.plan_lines.specs.Known.{splits, workers}
-use Rattle.plan_lines.specs.Entries.{entries_of}
-use Rattle.plan_lines.specs.declared.purpose.Purpose.{Purpose}
-use Rattle.plan_lines.specs.declared.purpose.Purpose.TheVariants.{Checking, Planning}
-use Rattle.plan_lines.proofs.OneReading.{least_fault-unique, reads-faultless, reads-unique}
+use Rattle.plan_text.specs.Names.{rows_in, splits, workers}
+use Rattle.line_rules.specs.declared.purpose.Purpose.{Purpose}
+use Rattle.line_rules.specs.declared.purpose.Purpose.TheVariants.{Checking, Planning}
+use Rattle.line_rules.proofs.OneReading.{least_fault-unique, reads-faultless, reads-unique}
 use Rattle.plan_text.specs.Report.{refused_line}
-use Rattle.plan_text.specs.Value.{DeclaresWave, known_of}
+use Rattle.plan_text.specs.Value.{DeclaresWave}
 use Rattle.text_reading.specs.FaultLine.{fault_line}
 use Rattle.text_reading.specs.Running.{HasOneAnswer}
 use Rattle.plan_text.proofs.OneWave.{same_bars, same_parts}
@@ -39,16 +38,15 @@ one_answer_read : (text : List ℕ) (a b : CheckEnd) (x y : List ℕ) → Answer
     → AnswersRead text b y → (a ≡ b) × (x ≡ y)
 one_answer_read text a b x y g h =
     let ss = g.statements in
-    let k = known_of Checking ss in
-    let e = entries_of ss in
+    let rows = rows_in ss in
     let same : h.statements ≡ ss = reads-unique Checking text h.statements ss h.reads g.reads in
-    let made : DeclaresWave Checking ss h.wave =
-    subst (λ q. DeclaresWave Checking q h.wave) same h.declared in
+    let made : DeclaresWave ss h.wave =
+    subst (λ q. DeclaresWave q h.wave) same h.declared in
     let judges : Judges b (claim_of h.wave ss) (splits ss) (workers ss) y =
     subst (λ q. Judges b (claim_of h.wave q) (splits q) (workers q) y) same h.judges in
-    let parts = same_parts k e g.wave h.wave g.declared made in
+    let parts = same_parts rows g.wave h.wave g.declared made in
     one_judgement (claim_of g.wave ss) (splits ss) (workers ss) g.wave.barred h.wave.barred
-    (same_bars k e g.wave h.wave g.declared made) a b x y g.judges
+    (same_bars rows g.wave h.wave g.declared made) a b x y g.judges
     (subst (λ w. Judges b (claim_of w ss) (splits ss) (workers ss) y) parts judges)
 
 one_fault : (purpose : Purpose) (text : List ℕ) (f g : TextFault) (x y : List ℕ) → IsFaulty purpose text f x

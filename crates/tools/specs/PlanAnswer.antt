@@ -7,10 +7,10 @@ use Rattle.wave_problem.specs.Wave.{Wave}
 use Rattle.wave_problem.specs.Assignment.{IsBest, pairs_of, total}
 use Rattle.price_certificate.specs.Certificate.{Claim, Certifies, claim}
 use Rattle.price_certificate.specs.PriceList.{PriceList}
-use Rattle.plan_lines.specs.Statements.{Statement}
-use Rattle.plan_lines.specs.Known.{splits, workers}
-use Rattle.plan_lines.specs.Faults.{Reads, longest}
-use Rattle.plan_lines.specs.declared.purpose.Purpose.TheVariants.{Planning}
+use Rattle.line_shapes.specs.Lines.{Statement}
+use Rattle.plan_text.specs.Names.{splits, workers}
+use Rattle.line_rules.specs.Texts.{Reads, longest}
+use Rattle.line_rules.specs.declared.purpose.Purpose.TheVariants.{Planning}
 use Rattle.plan_text.specs.Value.{DeclaresWave}
 use Rattle.plan_text.specs.Report.{certified_line, lines_of_plan, price_lines, start_lines, wave_line}
 use Rattle.written_plan.specs.Joined.{IsPlanFor, with_plan}
@@ -53,7 +53,7 @@ pub record PlansRead (text : List ℕ) (with_prices : Bool) (lines : List ℕ) :
   pub starts : List (Option ℕ)
   pub prices : PriceList
   pub reads : Reads Planning text statements
-  pub declared : DeclaresWave Planning statements wave
+  pub declared : DeclaresWave statements wave
   pub says : SaysPlanned with_prices (claim wave starts prices) (splits statements) (workers statements) lines
   pub checks : ChecksAgain text (claim wave starts prices) (splits statements) (workers statements)
 

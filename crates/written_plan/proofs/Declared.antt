@@ -1,94 +1,140 @@
--- The names, entries and values that the lines of a head and a plan declare.
-use Rattle.std.proofs.Common.{ℕ, List, [], ◌∷◌, ◌++◌, ◌≡◌, ◌∙◌, length, map, refl, sym, ap}
-use Rattle.std.specs.List.{flat_map}
-use Rattle.std.proofs.lemmas.Grind.{flat_map-append}
-use Rattle.std.proofs.lemmas.List.{append-nil}
-use Rattle.std.proofs.lemmas.List.Concat.{flat_map_single}
+-- The names and values that the lines of a head and a plan declare.
+use Rattle.std.proofs.Common.{ℕ, List, [], ◌∷◌, ◌++◌, ◌≡◌, ◌≢◌, ◌≤◌, ◌<◌, ◌^◌, ◌∙◌, Option, Some, append-nil, ap, arith}
+use Rattle.std.proofs.Common.{get_or, length, map, refl, subst, sym}
+use Rattle.std.specs.Prelude.{◌↔◌}
+use Rattle.std.specs.List.{All, AllPairs}
+use Rattle.std.proofs.lemmas.List.{map-append}
+use Rattle.std.proofs.lemmas.List.Elements.{All-filter, All-head, All-map, All-tail, filter_passes}
+use Rattle.std.proofs.lemmas.List.Kept.{AllPairs-filter}
+use Rattle.node_ids.specs.Sets.{HasPair}
+use Rattle.wave_problem.specs.Assignment.{start_of}
 use Rattle.wave_problem.specs.Wave.{Wave}
 use Rattle.price_certificate.specs.PriceList.{PriceList}
-use Rattle.text_lines.specs.Texts.{Word}
-use Rattle.plan_lines.specs.Statements.{Statement, Plan, Start, Price, End}
-use Rattle.plan_lines.specs.Known.{Known, entered, known_at}
-use Rattle.plan_lines.specs.Entries.{Entries, amount_in, start_worker_in}
-use Rattle.plan_lines.specs.declared.purpose.Purpose.TheVariants.{Checking, Planning}
-use Rattle.plan_text.specs.Value.{MakesWave, known_of, split_line, tree_of, worker_line}
-use Rattle.plan_text.proofs.FitLines.{known_after, names_after}
-use Rattle.written_plan.proofs.Heads.{after_head, AreNames, AreOfHead, IsOfHead, after-checking, checking}
-use Rattle.written_plan.proofs.Pairs.{new-none, price_pairs, price_said, priced_names, start_said}
-use Rattle.written_plan.proofs.Values.{priced_at, prices_read}
-use Rattle.written_plan.proofs.PlanPart.{after-append, after-plan_part, all_entered, flat_map-none, flat_map-plan, plan_said}
+use Rattle.text_lines.specs.Texts.{IsName, Word, number_of}
+use Rattle.line_shapes.proofs.Mapped.{AllPairs-map, AllPairs-unmap}
+use Rattle.line_shapes.specs.Demands.{Meets}
+use Rattle.line_shapes.specs.Lines.{Statement}
+use Rattle.line_shapes.specs.Places.{place_at, places_of}
+use Rattle.line_shapes.specs.declared.demand.Demand.TheVariants.{Name}
+use Rattle.line_shapes.specs.declared.place.Place.{Place}
+use Rattle.line_shapes.specs.declared.place.Place.TheVariants.{New}
+use Rattle.line_shapes.specs.declared.keyword.Keyword.{Keyword}
+use Rattle.line_shapes.specs.declared.keyword.Keyword.TheVariants.{Centre, Rack, Worker, Split, Barred, Dead}
+use Rattle.line_shapes.specs.declared.keyword.Keyword.TheVariants.{Busy}
+use Rattle.line_rules.specs.Entering.{entering_of, key_of}
+use Rattle.line_rules.specs.Known.{is_of, rows_of}
+use Rattle.line_rules.specs.declared.entering.Entering.TheVariants.{Word as ByWord}
+use Rattle.plan_text.specs.Names.{names_in, names_of, word_at}
+use Rattle.plan_text.specs.Tidy.{AreTidy, IsTidyRow}
+use Rattle.plan_text.specs.Value.{IsBarred, MakesWave, price_at, prices_in, split_line, start_at, starts_in, tree_of, worker_line}
+use Rattle.plan_text.proofs.Named.{key_by_word, keyword_of, named_row}
+use Rattle.written_plan.proofs.Heads.{AreApart, IsBare}
+use Rattle.written_plan.proofs.Pairs.{new-none, price_pairs, price_said, priced_amounts, priced_names, start_pairs}
+use Rattle.written_plan.proofs.Pairs.{start_said}
+use Rattle.written_plan.proofs.PlanPart.{AreNames, plan_rows, price_names, rows-other, rows-price, rows-start, start_names}
+use Rattle.written_plan.proofs.Values.{priced_at, prices_read, started_on, starts_read}
+use Rattle.written_plan.proofs.Words.{number_of-decimal}
 
--- ---- the entries
+-- ---- the names of a head
 
-head_none : {X : Type 0} (f : Statement → List X) → ((s : Statement) → IsOfHead s → f s ≡ [])
-    → (ss : List Statement) → AreOfHead ss
-    → flat_map f ss ≡ []
-head_none f none [] heads = refl
-head_none f none (s ∷ ss) heads =
-    let first = none s heads.0 in let rest = head_none f none ss heads.1 in rw (first, rest) refl
+abbrev AreNamed : Keyword → List Statement → Type 0
+AreNamed k rows = (s : Statement) → s.keyword ≡ k → IsTidyRow rows s → IsName (word_at 0 s)
 
-no_start : (s : Statement) → IsOfHead s → start_worker_in s ≡ []
-no_start (Start _ _) head = absurd head
-no_start s head = refl
+named_in : (k : Keyword) (rows : List Statement) → AreTidy rows → AreNamed k rows → All IsName (names_of k rows)
+named_in k rows tidy named =
+    All-map IsName (word_at 0) (rows_of k rows)
+    (λ i d lt. named (get_or (rows_of k rows) i d) (keyword_of k (get_or (rows_of k rows) i d)
+    (filter_passes (is_of k) rows i d lt))
+    (All-filter (is_of k) (IsTidyRow rows) rows tidy.each i d lt))
 
-no_price : (s : Statement) → IsOfHead s → amount_in s ≡ []
-no_price (Price _ _) head = absurd head
-no_price s head = refl
+-- the word of a new name is a name
+first_named : (k : Keyword) → place_at k 0 ≡ Some New → 0 < length (places_of k) → (rows : List Statement)
+    → AreNamed k rows
+first_named k first some rows s same tidy =
+    let many : length (places_of k) ≤ length s.words =
+    subst (λ (i : Keyword). length (places_of i) ≤ length s.words) same tidy.whole in
+    let placed : place_at s.keyword 0 ≡ Some New = ap (λ (i : Keyword). place_at i 0) same ∙ first in
+    subst (λ (p : Option Place). Meets Name p (word_at 0 s)) placed (tidy.named 0 (omega arith))
 
-pub same_rows : {X : Type 0} (f : Statement → List X) (head : List Statement) (a : List (Word × Word))
-    (b c : List (Word × ℕ))
-    → f Plan ≡ [] → f End ≡ [] → ((p : Word × Word) → f (start_said p) ≡ [])
-    → ((p : Word × ℕ) → f (price_said p) ≡ [])
-    → flat_map f (head ++ plan_said a b c) ≡ flat_map f (head ++ End ∷ [])
-same_rows f head a b c first last starts prices =
-    simp (flat_map-append, flat_map-plan f a b c first last, starts, prices, flat_map-none, last, append-nil)
+names_differ : (k : Keyword) → entering_of k ≡ ByWord → (rows : List Statement) → AreTidy rows
+    → AllPairs (λ a b. a ≢ b) (names_of k rows)
+names_differ k by rows tidy =
+    AllPairs-map (λ a b. a ≢ b) (word_at 0) (rows_of k rows) (λ i j d lt inside same.
+    let s = get_or (rows_of k rows) i d in
+    let t = get_or (rows_of k rows) j d in
+    let near : i < length (rows_of k rows) = omega arith in
+    let of_s = keyword_of k s (filter_passes (is_of k) rows i d near) in
+    let of_t = keyword_of k t (filter_passes (is_of k) rows j d inside) in
+    AllPairs-filter (λ a b. key_of a ≢ key_of b) (is_of k) rows
+    (AllPairs-unmap (λ a b. a ≢ b) key_of rows tidy.differ) i j d lt inside
+    (key_by_word k by s of_s ∙ ap (λ (w : Word). (k, w, [])) same ∙ sym (key_by_word k by t of_t)))
 
-pub start_rows : (head : List Statement) (a : List (Word × Word)) (b c : List (Word × ℕ)) → AreOfHead head
-    → flat_map start_worker_in (head ++ plan_said a b c) ≡ map (λ p. p.1) a
-start_rows head a b c heads =
-    let none = head_none start_worker_in no_start head heads in
-    simp (
-      flat_map-append,
-      flat_map-plan start_worker_in a b c refl refl,
-      none,
-      flat_map-none,
-      flat_map_single,
-      append-nil,
-    )
-
-pub price_rows : (head : List Statement) (a : List (Word × Word)) (b c : List (Word × ℕ)) → AreOfHead head
-    → flat_map amount_in (head ++ plan_said a b c) ≡ map (λ p. p.1) b ++ map (λ p. p.1) c
-price_rows head a b c heads =
-    let none = head_none amount_in no_price head heads in
-    simp (flat_map-append, flat_map-plan amount_in a b c refl refl, none, flat_map-none, flat_map_single)
-
--- ---- the names
-
-pub known-written : (head : List Statement) (a : List (Word × Word)) (b c : List (Word × ℕ))
-    → known_of Checking (head ++ plan_said a b c) ≡ all_entered (after_head head) a b c
-known-written head a b c =
-    let planning = known_at Planning 0 [] in
-    sym (known_after Checking (head ++ plan_said a b c))
-    ∙ after-append (checking planning) head (plan_said a b c)
-    ∙ ap (λ k. names_after k (plan_said a b c)) (after-checking planning head)
-    ∙ after-plan_part (names_after planning head) a b c
-
-pub known-before : (head : List Statement)
-    → known_of Planning (head ++ End ∷ []) ≡ entered (after_head head) End
-known-before head =
-    sym (known_after Planning (head ++ End ∷ [])) ∙ after-append (known_at Planning 0 []) head (End ∷ [])
-
--- ---- the values
-
-pub same_wave : (j : Known) (a : List (Word × Word)) (b c : List (Word × ℕ)) (e g : Entries) (w : Wave)
-    → g.workers ≡ e.workers
-    → g.splits ≡ e.splits → MakesWave (entered j End) e w → MakesWave (all_entered j a b c) g w
-same_wave j a b c e g w workers splits h = record {
-  tree = h.tree ∙ ap (tree_of j.racks) (sym workers);
-  workers = h.workers ∙ ap (map (worker_line j.dead)) (sym workers);
-  splits = h.splits ∙ ap (map (split_line j.workers j.busy)) (sym splits);
-  barred = h.barred;
+pub head_names : (rows : List Statement) → AreTidy rows → AreApart rows
+    → AreNames (names_of Split rows) (names_of Worker rows)
+head_names rows tidy apart = record {
+  splits_named = named_in Split rows tidy (first_named Split refl (omega arith) rows);
+  workers_named = named_in Worker rows tidy (first_named Worker refl (omega arith) rows);
+  splits_differ = names_differ Split refl rows tidy;
+  workers_differ = names_differ Worker refl rows tidy;
+  apart = λ n split worker. apart n (named_row Split refl rows n split) (named_row Worker refl rows n worker);
 }
+
+-- ---- the wave
+
+pub same_wave : (rows : List Statement) (a : List (Word × Word)) (b c : List (Word × ℕ)) (w : Wave)
+    → MakesWave rows w → MakesWave (rows ++ plan_rows a b c) w
+same_wave rows a b c w h =
+    let all = rows ++ plan_rows a b c in
+    let centres : rows_of Centre rows ≡ rows_of Centre all =
+    sym (rows-other Centre rows a b c (λ p ss. refl) (λ p ss. refl)) in
+    let racks : rows_of Rack rows ≡ rows_of Rack all =
+    sym (rows-other Rack rows a b c (λ p ss. refl) (λ p ss. refl)) in
+    let workers : rows_of Worker rows ≡ rows_of Worker all =
+    sym (rows-other Worker rows a b c (λ p ss. refl) (λ p ss. refl)) in
+    let splits : rows_of Split rows ≡ rows_of Split all =
+    sym (rows-other Split rows a b c (λ p ss. refl) (λ p ss. refl)) in
+    let dead : rows_of Dead rows ≡ rows_of Dead all =
+    sym (rows-other Dead rows a b c (λ p ss. refl) (λ p ss. refl)) in
+    let busy : rows_of Busy rows ≡ rows_of Busy all =
+    sym (rows-other Busy rows a b c (λ p ss. refl) (λ p ss. refl)) in
+    let barred : rows_of Barred rows ≡ rows_of Barred all =
+    sym (rows-other Barred rows a b c (λ p ss. refl) (λ p ss. refl)) in
+    record {
+      tree = h.tree ∙ (λ i. tree_of (names_in (centres i)) (racks i) (workers i));
+      workers = h.workers ∙ (λ i. map (worker_line (names_in (dead i))) (workers i));
+      splits = h.splits ∙ (λ i. map (split_line (names_in (workers i)) (names_in (busy i))) (splits i));
+      barred = λ s n few.
+          subst (λ (l : List Statement). HasPair w.barred s n
+          ↔ IsBarred (names_of Split all) (names_of Worker all) l s n) barred
+          (subst (λ (l : List Statement). HasPair w.barred s n
+          ↔ IsBarred (names_of Split all) (names_in l) (rows_of Barred rows) s n) workers
+          (subst (λ (l : List Statement). HasPair w.barred s n
+          ↔ IsBarred (names_in l) (names_of Worker rows) (rows_of Barred rows) s n) splits (h.barred s n few)));
+    }
+
+-- ---- the starts
+
+start_words : (a : List (Word × Word)) → map (word_at 1) (map start_said a) ≡ map (λ p. p.1) a
+start_words [] = refl
+start_words (p ∷ ps) = ap (λ (ws : List Word). p.1 ∷ ws) (start_words ps)
+
+pub starts-back : (rows : List Statement) (starts : List (Option ℕ)) (b c : List (Word × ℕ)) → IsBare rows
+    → AreNames (names_of Split rows) (names_of Worker rows) → length starts ≡ length (names_of Split rows)
+    → ((s w : ℕ) → start_of starts s ≡ Some w → w < length (names_of Worker rows))
+    → starts_in (rows ++ plan_rows (start_pairs (names_of Worker rows) (names_of Split rows) starts) b c) ≡ starts
+starts-back rows starts b c bare names count of_workers =
+    let splits = names_of Split rows in
+    let workers = names_of Worker rows in
+    let a = start_pairs workers splits starts in
+    let split_rows = rows-other Split rows a b c (λ p ss. refl) (λ p ss. refl) in
+    let worker_rows = rows-other Worker rows a b c (λ p ss. refl) (λ p ss. refl) in
+    let lines = rows-start rows a b c bare.no_starts in
+    (λ i. map (start_at (names_in (worker_rows i)) (lines i)) (names_in (split_rows i)))
+    ∙ (λ i. map (started_on workers (start_names a i) (start_words a i)) splits)
+    ∙ starts_read workers splits starts [] [] names.workers_differ refl count
+    (new-none [] splits refl names.splits_differ) of_workers
+
+-- ---- the prices
 
 split_prices-back : (splits workers : List Word) (ps qs : List ℕ) → AreNames splits workers
     → length ps ≡ length splits
@@ -125,13 +171,46 @@ prices-back priced amounts splits workers prices names count more_count all_name
     ∙ ap (both_kinds prices.splits) (worker_prices-back splits workers prices.splits prices.workers names count
     more_count)
 
--- the names that have a price at the end
-pub priced_names-all : (priced splits workers : List Word) (ps qs : List ℕ) → priced ≡ []
-    → length ps ≡ length splits
-    → length qs ≡ length workers
-    → priced ++ map (λ p. p.0) (price_pairs splits ps) ++ map (λ p. p.0) (price_pairs workers qs)
-    ≡ splits ++ workers
-priced_names-all priced splits workers ps qs none count more_count =
-    ap (λ ns. ns ++ map (λ p. p.0) (price_pairs splits ps) ++ map (λ p. p.0) (price_pairs workers qs)) none
-    ∙ ap (λ ns. ns ++ map (λ p. p.0) (price_pairs workers qs)) (priced_names splits ps count)
-    ∙ ap (λ ns. splits ++ ns) (priced_names workers qs more_count)
+amount_words : (b : List (Word × ℕ)) → All (λ a. a < 2 ^ 64) (map (λ p. p.1) b)
+    → map (λ s. number_of (word_at 1 s)) (map price_said b) ≡ map (λ p. p.1) b
+amount_words [] small = refl
+amount_words (p ∷ ps) small =
+    let first = number_of-decimal p.1 (All-head (λ a. a < 2 ^ 64) p.1 (map (λ q. q.1) ps) small) in
+    let rest = amount_words ps (All-tail (λ a. a < 2 ^ 64) p.1 (map (λ q. q.1) ps) small) in
+    λ i. first i ∷ rest i
+
+amounts_back : (names : List Word) (amounts : List ℕ) → length amounts ≡ length names
+    → All (λ a. a < 2 ^ 64) amounts
+    → map (λ s. number_of (word_at 1 s)) (map price_said (price_pairs names amounts)) ≡ amounts
+amounts_back names amounts count small =
+    let back = priced_amounts names amounts count in
+    amount_words (price_pairs names amounts) (subst (All (λ a. a < 2 ^ 64)) (sym back) small) ∙ back
+
+pub prices-read_back : (rows : List Statement) (a : List (Word × Word)) (prices : PriceList) → IsBare rows
+    → AreNames (names_of Split rows) (names_of Worker rows) → length prices.splits ≡ length (names_of Split rows)
+    → length prices.workers ≡ length (names_of Worker rows) → All (λ x. x < 2 ^ 64) prices.splits
+    → All (λ x. x < 2 ^ 64) prices.workers
+    → prices_in (rows ++ plan_rows a (price_pairs (names_of Split rows) prices.splits)
+    (price_pairs (names_of Worker rows) prices.workers)) ≡ prices
+prices-read_back rows a prices bare names count more_count small more_small =
+    let splits = names_of Split rows in
+    let workers = names_of Worker rows in
+    let b = price_pairs splits prices.splits in
+    let c = price_pairs workers prices.workers in
+    let split_rows = rows-other Split rows a b c (λ p ss. refl) (λ p ss. refl) in
+    let worker_rows = rows-other Worker rows a b c (λ p ss. refl) (λ p ss. refl) in
+    let lines = rows-price rows a b c bare.no_prices in
+    let bs = map price_said b in
+    let cs = map price_said c in
+    let priced : names_in (bs ++ cs) ≡ splits ++ workers =
+    map-append (word_at 0) bs cs
+    ∙ (λ i. price_names b i ++ price_names c i)
+    ∙ (λ i. priced_names splits prices.splits count i ++ priced_names workers prices.workers more_count i) in
+    let amounts : map (λ s. number_of (word_at 1 s)) (bs ++ cs) ≡ prices.splits ++ prices.workers =
+    map-append (λ s. number_of (word_at 1 s)) bs cs
+    ∙ (λ i. amounts_back splits prices.splits count small i
+    ++ amounts_back workers prices.workers more_count more_small i) in
+    (λ i. both_kinds (map (price_at (lines i)) (names_in (split_rows i)))
+    (map (price_at (lines i)) (names_in (worker_rows i))))
+    ∙ prices-back (names_in (bs ++ cs)) (map (λ s. number_of (word_at 1 s)) (bs ++ cs)) splits workers prices names
+    count more_count priced amounts

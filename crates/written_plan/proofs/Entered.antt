@@ -1,18 +1,124 @@
 -- The starts and prices of a plan fit, one after the other.
-use Rattle.std.proofs.Common.{ℕ, List, [], ◌∷◌, ◌++◌, ◌≡◌, ◌<◌, ◌^◌, ◌∙◌, ◌⊎◌, Option, Some, None, true, false, codes, length, map, refl, arith, suc, get_or}
+use Rattle.std.proofs.Common.{ℕ, List, [], ◌∷◌, ◌++◌, ◌≡◌, ◌≢◌, ◌≤◌, ◌<◌, ◌^◌, ◌∙◌, ◌⊎◌, Option, Some, None, inl, inr}
+use Rattle.std.proofs.Common.{ap, append-nil, arith, codes, get_or, length, map, refl, subst, suc, sym}
+use Rattle.std.specs.Fmt.{decimal}
 use Rattle.std.specs.List.{All, Contains}
-use Rattle.std.proofs.lemmas.List.{append_assoc, append-nil}
-use Rattle.std.proofs.lemmas.List.Elements.{All-get_or, All-head, All-tail, Contains-get_or}
-use Rattle.text_lines.specs.Texts.{IsName, Word}
-use Rattle.plan_lines.specs.Statements.{Plan, Start, Price, End}
-use Rattle.plan_lines.specs.Known.{Known, entered}
-use Rattle.plan_lines.specs.Faults.{IsInHead}
-use Rattle.plan_lines.specs.Fits.{IsFit}
-use Rattle.plan_lines.specs.declared.purpose.Purpose.TheVariants.{Checking}
-use Rattle.plan_text.specs.Draft.{AreFitLines, IsFitLine}
-use Rattle.plan_text.proofs.FitLines.{names_after}
-use Rattle.written_plan.proofs.Words.{fit-made, made-end, made-plan, made-price, made-start}
-use Rattle.written_plan.proofs.Pairs.{AreNew, new-first, new-next, new-skip, price_pairs, price_said, price_text, start_pairs, start_said, start_text}
+use Rattle.std.proofs.lemmas.List.{map-append}
+use Rattle.std.proofs.lemmas.List.Elements.{All-get_or, All-head, All-tail, Contains-get_or, filter-append}
+use Rattle.text_lines.specs.Texts.{IsName, Word, number_of}
+use Rattle.line_shapes.specs.Demands.{Meets}
+use Rattle.line_shapes.specs.Lines.{Statement}
+use Rattle.line_shapes.specs.Places.{place_at}
+use Rattle.line_shapes.specs.declared.demand.Demand.TheVariants.{Name, Range}
+use Rattle.line_shapes.specs.declared.keyword.Keyword.{Keyword}
+use Rattle.line_shapes.specs.declared.keyword.Keyword.TheVariants.{Worker, Split, Plan, Start, Price, End}
+use Rattle.line_rules.specs.Faults.{HasItsPrice, IsFit, IsPriced, KeepsTo}
+use Rattle.line_rules.specs.Known.{HasRow, Known, entered, is_of, keys_of, rows_of}
+use Rattle.line_rules.specs.Reading.{AreFitLines, IsFitLine}
+use Rattle.line_rules.specs.Sections.{section_of}
+use Rattle.line_rules.specs.declared.purpose.Purpose.{Purpose}
+use Rattle.line_rules.specs.declared.purpose.Purpose.TheVariants.{Checking}
+use Rattle.line_rules.specs.declared.rule.Rule.TheVariants as rule
+use Rattle.line_rules.specs.declared.section.Section.TheVariants.{Head, Body, Ended}
+use Rattle.plan_text.specs.Names.{names_in, names_of, word_at}
+use Rattle.plan_text.proofs.Named.{named_row, row_named}
+use Rattle.written_plan.proofs.Words.{IsMade, both_of, line_of, made-end, made-plan, made-price, made-start}
+use Rattle.written_plan.proofs.Words.{none_of, number-decimal, number_of-decimal, said}
+use Rattle.written_plan.proofs.Pairs.{AreNew, new-first, new-next, new-skip, price_pairs, price_said, price_text}
+use Rattle.written_plan.proofs.Pairs.{start_pairs, start_said, start_text}
+
+-- ---- what stands in the rows
+
+-- the names of the splits and the workers, and of those that start and have a price
+pub record HasNames (rows : List Statement) (splits workers started priced : List Word) : Type 0 where
+  pub splits_are : names_of Split rows ≡ splits
+  pub workers_are : names_of Worker rows ≡ workers
+  pub started_are : names_of Start rows ≡ started
+  pub priced_are : names_of Price rows ≡ priced
+
+pub names_of-append : (k : Keyword) (rows more : List Statement)
+    → names_of k (rows ++ more) ≡ names_of k rows ++ names_of k more
+names_of-append k rows more =
+    ap names_in (filter-append (is_of k) rows more) ∙ map-append (word_at 0) (rows_of k rows) (rows_of k more)
+
+-- with lines more that have these names
+module _ (rows more : List Statement) (splits workers started priced : List Word)
+    (h : HasNames rows splits workers started priced) where
+  with_none : (k : Keyword) (names : List Word) → names_of k rows ≡ names → names_of k more ≡ []
+      → names_of k (rows ++ more) ≡ names
+  with_none k names is none =
+      names_of-append k rows more ∙ ap (λ (l : List Word). l ++ names_of k more) is
+      ∙ ap (λ (l : List Word). names ++ l) none ∙ append-nil names
+
+  with_some : (k : Keyword) (names last : List Word) → names_of k rows ≡ names → names_of k more ≡ last
+      → names_of k (rows ++ more) ≡ names ++ last
+  with_some k names last is some =
+      names_of-append k rows more ∙ ap (λ (l : List Word). l ++ names_of k more) is
+      ∙ ap (λ (l : List Word). names ++ l) some
+
+  pub names-started : (last : List Word) → names_of Split more ≡ [] → names_of Worker more ≡ []
+      → names_of Start more ≡ last → names_of Price more ≡ []
+      → HasNames (rows ++ more) splits workers (started ++ last) priced
+  names-started last a b c d = record {
+    splits_are = with_none Split splits h.splits_are a;
+    workers_are = with_none Worker workers h.workers_are b;
+    started_are = with_some Start started last h.started_are c;
+    priced_are = with_none Price priced h.priced_are d;
+  }
+
+  pub names-priced : (last : List Word) → names_of Split more ≡ [] → names_of Worker more ≡ []
+      → names_of Start more ≡ [] → names_of Price more ≡ last
+      → HasNames (rows ++ more) splits workers started (priced ++ last)
+  names-priced last a b c d = record {
+    splits_are = with_none Split splits h.splits_are a;
+    workers_are = with_none Worker workers h.workers_are b;
+    started_are = with_none Start started h.started_are c;
+    priced_are = with_some Price priced last h.priced_are d;
+  }
+
+  pub has_split : (n : Word) → Contains splits n → HasRow rows Split n
+  has_split n has = named_row Split refl rows n (subst (λ (l : List Word). Contains l n) (sym h.splits_are) has)
+
+  pub has_worker : (n : Word) → Contains workers n → HasRow rows Worker n
+  has_worker n has = named_row Worker refl rows n (subst (λ (l : List Word). Contains l n) (sym h.workers_are) has)
+
+  pub has_price : (n : Word) → Contains priced n → HasRow rows Price n
+  has_price n has = named_row Price refl rows n (subst (λ (l : List Word). Contains l n) (sym h.priced_are) has)
+
+  pub not_started : (n : Word) → (Contains started n → ⊥) → HasRow rows Start n → ⊥
+  not_started n new has =
+      new (subst (λ (l : List Word). Contains l n) h.started_are (row_named Start refl rows n has))
+
+  pub not_priced : (n : Word) → (Contains priced n → ⊥) → HasRow rows Price n → ⊥
+  not_priced n new has =
+      new (subst (λ (l : List Word). Contains l n) h.priced_are (row_named Price refl rows n has))
+
+-- within a plan to check
+pub record IsBegun (k : Known) : Type 0 where
+  pub checking : k.purpose ≡ Checking
+  pub body : k.section ≡ Body
+
+-- where a line of the body may stand
+in_body : (k : Known) (keyword : Keyword) → IsBegun k → section_of Checking keyword ≡ Some Body
+    → section_of k.purpose keyword ≡ Some k.section
+in_body k keyword begun stands =
+    ap (λ (p : Purpose). section_of p keyword) begun.checking ∙ stands ∙ ap Some (sym begun.body)
+
+fit-line : (k : Known) (keyword : Keyword) (ws : List Word) → IsMade keyword ws → k.section ≢ Ended
+    → IsFit k (said keyword ws) → IsFitLine k (line_of keyword ws) (said keyword ws)
+fit-line k keyword ws made going fit = record {
+  printable = made.printable;
+  not_ended = going;
+  says = made.says;
+  fit = fit;
+}
+
+pub open-body : (k : Known) → IsBegun k → k.section ≢ Ended
+open-body k begun ended = let both : Body ≡ Ended = sym begun.body ∙ ended in cc
+
+-- the lines known with rows more, in the body
+abbrev pub with_rows : Known → List Statement → Known
+with_rows k more = record k { rows = k.rows ++ more }
 
 -- ---- starts
 
@@ -52,40 +158,39 @@ are_starts splits workers started (x ∷ xs) (Some w ∷ os) known named workers
           workers_named (new-next started x xs new) (λ s. of_workers (suc s)),
     )
 
-fit-start : (k : Known) (p : Word × Word) → k.plan_begun ≡ true → IsStart k.splits k.workers k.started p
-    → IsFit k (Start p.0 p.1)
-fit-start k p begun h = record {
-  may_stand = begun;
-  named = (h.split_name, h.worker_name);
-  known = (h.split, h.worker);
-  new = λ e. e;
-  in_range = λ e. e;
-  within_limit = λ e. e;
-  holders = tt;
-  once = h.new;
-  priced = tt;
-}
+fit-start : (k : Known) (splits workers started priced : List Word) (p : Word × Word) → IsBegun k
+    → HasNames k.rows splits workers started priced → IsStart splits workers started p → IsFit k (start_said p)
+fit-start k splits workers started priced p begun names h =
+    let split = has_split k.rows [] splits workers started priced names p.0 h.split in
+    let worker = has_worker k.rows [] splits workers started priced names p.1 h.worker in
+    record {
+      whole = tt;
+      may_stand = (in_body k Start begun refl, tt);
+      named = both_of (λ i w. Meets Name (place_at Start i) w) p.0 p.1 h.split_name h.worker_name;
+      known = both_of (λ i w. KeepsTo rule.Declared k.rows (place_at Start i) w) p.0 p.1 split worker;
+      new = record {
+        names = both_of (λ i w. KeepsTo rule.Free k.rows (place_at Start i) w) p.0 p.1 tt tt;
+        first = tt;
+      };
+      in_range = both_of (λ i w. Meets Range (place_at Start i) w) p.0 p.1 tt tt;
+      within_limit = record { room = tt; few = tt };
+      tail_apart = tt;
+      once = not_started k.rows [] splits workers started priced names p.0 h.new;
+      priced = tt;
+    }
 
-pub fit-starts : (k : Known) (ps : List (Word × Word)) → k.plan_begun ≡ true → k.is_ended ≡ false
-    → AreStarts k.splits k.workers k.started ps → AreFitLines k (map start_text ps) (map start_said ps)
-fit-starts k [] begun not_ended h = tt
-fit-starts k (p ∷ ps) begun not_ended h = (
-  fit-made k (codes "start") (p.0 ∷ p.1 ∷ []) (Start p.0 p.1)
-      (made-start p.0 p.1 h.0.split_name h.0.worker_name)
-      not_ended (fit-start k p begun h.0),
-  fit-starts (entered k (Start p.0 p.1)) ps begun not_ended h.1,
+pub fit-starts : (k : Known) (splits workers started priced : List Word) (ps : List (Word × Word)) → IsBegun k
+    → HasNames k.rows splits workers started priced → AreStarts splits workers started ps
+    → AreFitLines k (map start_text ps) (map start_said ps)
+fit-starts k splits workers started priced [] begun names h = tt
+fit-starts k splits workers started priced (p ∷ ps) begun names h = (
+  fit-line k Start (p.0 ∷ p.1 ∷ []) (made-start p.0 p.1 h.0.split_name h.0.worker_name) (open-body k begun)
+      (fit-start k splits workers started priced p begun names h.0),
+  fit-starts (entered k (start_said p)) splits workers (started ++ p.0 ∷ []) priced ps
+      (record { checking = begun.checking; body = refl })
+      (names-started k.rows (start_said p ∷ []) splits workers started priced names (p.0 ∷ []) refl refl refl refl)
+      h.1,
 )
-
--- the names with these starts too
-abbrev pub with_started : Known → List Word → Known
-with_started k names = record k { started = k.started ++ names }
-
-pub after-starts : (k : Known) (ps : List (Word × Word)) → k.is_first ≡ false
-    → names_after k (map start_said ps) ≡ with_started k (map (λ p. p.0) ps)
-after-starts k [] begun = rw (append-nil k.started) refl
-after-starts k (p ∷ ps) begun =
-    after-starts (entered k (Start p.0 p.1)) ps refl
-    ∙ (rw (append_assoc k.started (p.0 ∷ []) (map (λ q. q.0) ps), begun) refl)
 
 -- ---- prices
 
@@ -119,66 +224,75 @@ are_prices splits workers priced (x ∷ xs) (a ∷ amounts) known named new smal
       (All-tail IsName x xs named) (new-next priced x xs new) (All-tail (λ b. b < 2 ^ 64) a amounts small),
 )
 
-fit-price : (k : Known) (p : Word × ℕ) → k.plan_begun ≡ true → IsPrice k.splits k.workers k.priced p
-    → IsFit k (Price p.0 p.1)
-fit-price k p begun h = record {
-  may_stand = begun;
-  named = h.name;
-  known = h.known;
-  new = λ e. e;
-  in_range = λ big. let small : p.1 < 2 ^ 64 = h.amount in omega arith;
-  within_limit = λ e. e;
-  holders = tt;
-  once = h.new;
-  priced = tt;
-}
+fit-price : (k : Known) (splits workers started priced : List Word) (p : Word × ℕ) → IsBegun k
+    → HasNames k.rows splits workers started priced → IsPrice splits workers priced p → IsFit k (price_said p)
+fit-price k splits workers started priced p begun names h =
+    let known : HasRow k.rows Split p.0 ⊎ HasRow k.rows Worker p.0 = elim h.known [
+      | inl split ↦ inl (has_split k.rows [] splits workers started priced names p.0 split)
+      | inr worker ↦ inr (has_worker k.rows [] splits workers started priced names p.0 worker)
+    ] in
+    let is : number_of (decimal p.1) ≡ p.1 = number_of-decimal p.1 h.amount in
+    let small : number_of (decimal p.1) ≤ 18446744073709551615 =
+    let amount : p.1 < 2 ^ 64 = h.amount in omega arith in
+    record {
+      whole = tt;
+      may_stand = (in_body k Price begun refl, tt);
+      named = both_of (λ i w. Meets Name (place_at Price i) w) p.0 (decimal p.1) h.name tt;
+      known = both_of (λ i w. KeepsTo rule.Declared k.rows (place_at Price i) w) p.0 (decimal p.1) known tt;
+      new = record {
+        names = both_of (λ i w. KeepsTo rule.Free k.rows (place_at Price i) w) p.0 (decimal p.1) tt tt;
+        first = tt;
+      };
+      in_range = both_of (λ i w. Meets Range (place_at Price i) w) p.0 (decimal p.1) tt
+          (number-decimal p.1 h.amount, omega arith, small);
+      within_limit = record { room = tt; few = tt };
+      tail_apart = tt;
+      once = not_priced k.rows [] splits workers started priced names p.0 h.new;
+      priced = tt;
+    }
 
-pub fit-prices : (k : Known) (ps : List (Word × ℕ)) → k.plan_begun ≡ true → k.is_ended ≡ false
-    → ArePrices k.splits k.workers k.priced ps → AreFitLines k (map price_text ps) (map price_said ps)
-fit-prices k [] begun not_ended h = tt
-fit-prices k (p ∷ ps) begun not_ended h = (
-  fit-made k (codes "price") _ (Price p.0 p.1) (made-price p.0 p.1 h.0.name h.0.amount)
-      not_ended (fit-price k p begun h.0),
-  fit-prices (entered k (Price p.0 p.1)) ps begun not_ended h.1,
+pub fit-prices : (k : Known) (splits workers started priced : List Word) (ps : List (Word × ℕ)) → IsBegun k
+    → HasNames k.rows splits workers started priced → ArePrices splits workers priced ps
+    → AreFitLines k (map price_text ps) (map price_said ps)
+fit-prices k splits workers started priced [] begun names h = tt
+fit-prices k splits workers started priced (p ∷ ps) begun names h = (
+  fit-line k Price (p.0 ∷ decimal p.1 ∷ []) (made-price p.0 p.1 h.0.name h.0.amount) (open-body k begun)
+      (fit-price k splits workers started priced p begun names h.0),
+  fit-prices (entered k (price_said p)) splits workers started (priced ++ p.0 ∷ []) ps
+      (record { checking = begun.checking; body = refl })
+      (names-priced k.rows (price_said p ∷ []) splits workers started priced names (p.0 ∷ []) refl refl refl refl)
+      h.1,
 )
-
--- the names with these prices too
-abbrev pub with_priced : Known → List Word → Known
-with_priced k names = record k { priced = k.priced ++ names }
-
-pub after-prices : (k : Known) (ps : List (Word × ℕ)) → k.is_first ≡ false
-    → names_after k (map price_said ps) ≡ with_priced k (map (λ p. p.0) ps)
-after-prices k [] begun = rw (append-nil k.priced) refl
-after-prices k (p ∷ ps) begun =
-    after-prices (entered k (Price p.0 p.1)) ps refl
-    ∙ (rw (append_assoc k.priced (p.0 ∷ []) (map (λ q. q.0) ps), begun) refl)
 
 -- ---- the lines about them
 
-pub fit-plan : (k : Known) → k.purpose ≡ Checking → IsInHead k → k.is_ended ≡ false
-    → IsFitLine k (codes "plan") Plan
-fit-plan k checking in_head not_ended = fit-made k (codes "plan") [] Plan made-plan not_ended (record {
-  may_stand = (in_head, checking);
-  named = tt;
-  known = tt;
-  new = λ e. e;
-  in_range = λ e. e;
-  within_limit = λ e. e;
-  holders = tt;
-  once = λ e. e;
-  priced = tt;
-})
+pub fit-plan : (k : Known) → k.purpose ≡ Checking → k.section ≡ Head → (HasRow k.rows Plan [] → ⊥)
+    → IsFitLine k (codes "plan") (said Plan [])
+fit-plan k checking in_head once =
+    fit-line k Plan [] made-plan (λ ended. let both : Head ≡ Ended = sym in_head ∙ ended in cc) (record {
+      whole = tt;
+      may_stand = (ap (λ (p : Purpose). section_of p Plan) checking ∙ ap Some (sym in_head), tt);
+      named = none_of (λ i w. Meets Name (place_at Plan i) w);
+      known = none_of (λ i w. KeepsTo rule.Declared k.rows (place_at Plan i) w);
+      new = record { names = none_of (λ i w. KeepsTo rule.Free k.rows (place_at Plan i) w); first = tt };
+      in_range = none_of (λ i w. Meets Range (place_at Plan i) w);
+      within_limit = record { room = tt; few = tt };
+      tail_apart = tt;
+      once = once;
+      priced = tt;
+    })
 
-pub fit-end : (k : Known) → k.purpose ≡ Checking → k.plan_begun ≡ true → k.is_ended ≡ false
-    → All (Contains k.priced) k.splits × All (Contains k.priced) k.workers → IsFitLine k (codes "end") End
-fit-end k checking begun not_ended priced = fit-made k (codes "end") [] End made-end not_ended (record {
-  may_stand = rw checking begun;
-  named = tt;
-  known = tt;
-  new = λ e. e;
-  in_range = λ e. e;
-  within_limit = λ e. e;
-  holders = tt;
-  once = λ e. e;
-  priced = rw checking priced;
+pub fit-end : (k : Known) → IsBegun k → All (HasItsPrice k.rows) (keys_of k.rows)
+    → IsFitLine k (codes "end") (said End [])
+fit-end k begun priced = fit-line k End [] made-end (open-body k begun) (record {
+  whole = tt;
+  may_stand = (in_body k End begun refl, tt);
+  named = none_of (λ i w. Meets Name (place_at End i) w);
+  known = none_of (λ i w. KeepsTo rule.Declared k.rows (place_at End i) w);
+  new = record { names = none_of (λ i w. KeepsTo rule.Free k.rows (place_at End i) w); first = tt };
+  in_range = none_of (λ i w. Meets Range (place_at End i) w);
+  within_limit = record { room = tt; few = tt };
+  tail_apart = tt;
+  once = tt;
+  priced = subst (λ (p : Purpose). IsPriced p k.rows) (sym begun.checking) priced;
 })

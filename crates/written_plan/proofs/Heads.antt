@@ -1,17 +1,40 @@
 -- The head of a text to plan from: it fits a text to check as well, and its names are names, each once.
-use Rattle.std.proofs.Common.{ℕ, List, [], ◌∷◌, ◌++◌, ◌≡◌, ◌≢◌, ◌<◌, ◌∙◌, ◌⊎◌, inl, inr, true, false, codes, length, refl, sym, ap, subst, arith, get_or}
-use Rattle.std.specs.List.{All, AllPairs, Contains}
-use Rattle.std.proofs.lemmas.List.Elements.{All-cons, All-nil, All-push, Contains-get_or, Contains-push_cases}
-use Rattle.std.proofs.lemmas.List.Quantifiers.{all_pairs_push}
-use Rattle.text_lines.specs.Texts.{IsName, IsPrintable, Line, Word, words_of}
-use Rattle.plan_lines.specs.Statements.{Statement, Problem, Worker, Split, Plan, Start, Price, End, Say, Says}
-use Rattle.plan_lines.specs.Known.{Known, entered, known_at}
-use Rattle.plan_lines.specs.Faults.{EntersAgain, HasPrices, IsInHead, IsPastLimit, MayEnd, MayStand, Repeats, UsesKnown}
-use Rattle.plan_lines.specs.Fits.{IsFit}
-use Rattle.plan_lines.specs.declared.purpose.Purpose.TheVariants.{Checking, Planning}
-use Rattle.plan_text.specs.Draft.{AreFitLines, IsFitLine}
-use Rattle.plan_text.proofs.FitLines.{names_after}
+use Rattle.std.proofs.Common.{ℕ, List, [], ◌∷◌, ◌++◌, ◌≡◌, ◌≢◌, ◌≤◌, ◌<◌, ◌∙◌, ◌⊎◌, Option, Some, Bool}
+use Rattle.std.proofs.Common.{inl, inr, ap, arith, codes, cond, length, refl, subst, suc, sym, zero}
+use Rattle.std.specs.List.{All, Contains}
+use Rattle.std.proofs.lemmas.List.{map-append}
+use Rattle.std.proofs.lemmas.List.Elements.{All-cons, All-nil, Contains-append_cases, filter-append}
+use Rattle.text_lines.specs.Texts.{IsPrintable, Line, Word}
+use Rattle.line_shapes.specs.Demands.{Meets}
+use Rattle.line_shapes.specs.Lines.{Says, Statement, tail_of}
+use Rattle.line_shapes.specs.Places.{place_at, places_of}
+use Rattle.line_shapes.specs.declared.demand.Demand.TheVariants.{Shape}
+use Rattle.line_shapes.specs.declared.keyword.Keyword.{Keyword}
+use Rattle.line_shapes.specs.declared.keyword.Keyword.TheVariants.{Worker, Split, Start, Price, End}
+use Rattle.line_shapes.specs.declared.place.Place.{Place}
+use Rattle.line_shapes.specs.declared.place.Place.TheVariants.{New}
+use Rattle.line_rules.specs.Entering.{Key, entered_by, entered_of, entering_of, follow_of, key_of, most_of}
+use Rattle.line_rules.specs.Faults.{AreAsMany, HasRoom, IsFit, IsFreeIn, IsPricedBefore, Keep, counted_by}
+use Rattle.line_rules.specs.Faults.{counted_of, follows}
+use Rattle.line_rules.specs.declared.entering.Follow.{Follow}
+use Rattle.line_rules.specs.declared.entering.Follow.TheVariants.{Any, Centre, Counts}
+use Rattle.line_rules.specs.Known.{HasRow, IsTaken, Known, entered, is_of, keys_of, rows_of}
+use Rattle.line_rules.specs.Reading.{AreFitLines, IsFitLine}
+use Rattle.line_rules.specs.Sections.{section_of}
+use Rattle.line_rules.specs.declared.entering.Entering.{Entering}
+use Rattle.line_rules.specs.declared.entering.Entering.TheVariants.{Nothing, InTurn, Alone}
+use Rattle.line_rules.specs.declared.entering.Entering.TheVariants.{Word as ByWord, Pair as ByPair}
+use Rattle.line_rules.specs.declared.purpose.Purpose.{Purpose}
+use Rattle.line_rules.specs.declared.purpose.Purpose.TheVariants.{Checking, Planning}
+use Rattle.line_rules.specs.declared.rule.Rule.TheVariants as rule
+use Rattle.line_rules.specs.declared.section.Section.{Section}
+use Rattle.line_rules.specs.declared.section.Section.TheVariants.{Head, Ended}
+use Rattle.line_rules.proofs.FitLines.{names_after}
+use Rattle.plan_text.specs.Names.{word_at}
+use Rattle.plan_text.proofs.Named.{is_of-other, key_by_word}
+use Rattle.written_plan.proofs.HeadKinds.{IsOfHead, head_or_end}
 use Rattle.written_plan.proofs.Lines.{line-one_word}
+use Rattle.written_plan.proofs.Words.{said}
 
 -- ---- lines that fit
 
@@ -22,157 +45,144 @@ fit-printable k (l ∷ ls) [] f = absurd f
 fit-printable k (l ∷ ls) (s ∷ ss) f =
     All-cons (All IsPrintable) l ls f.0.printable (fit-printable (entered k s) ls ss f.1)
 
-none_after : (k : Known) (ls : List Line) (ss : List Statement) → k.is_ended ≡ true → AreFitLines k ls ss
+none_after : (k : Known) (ls : List Line) (ss : List Statement) → k.section ≡ Ended → AreFitLines k ls ss
     → (ls ≡ []) × (ss ≡ [])
 none_after k [] [] ended f = (refl, refl)
 none_after k [] (s ∷ ss) ended f = absurd f
 none_after k (l ∷ ls) [] ended f = absurd f
-none_after k (l ∷ ls) (s ∷ ss) ended f = let still : k.is_ended ≡ false = f.0.not_ended in cc
+none_after k (l ∷ ls) (s ∷ ss) ended f = absurd (f.0.not_ended ended)
 
--- ---- a statement of a head
+-- ---- the rows of one line more
 
--- neither of a plan nor the last
-abbrev pub IsOfHead : Statement → Type 0
-IsOfHead Plan = ⊥
-IsOfHead (Start _ _) = ⊥
-IsOfHead (Price _ _) = ⊥
-IsOfHead End = ⊥
-IsOfHead _ = Unit {0}
+pub one_element : {X : Type 0} (x y : X) → Contains (x ∷ []) y → x ≡ y
+one_element x y (zero, lt, is) = is
+one_element x y (suc i, lt, is) = absurd (omega arith)
 
-abbrev pub AreOfHead : List Statement → Type 0
-AreOfHead [] = Unit {0}
-AreOfHead (s ∷ ss) = IsOfHead s × AreOfHead ss
+row-entered : (s : Statement) (key : Key) → Contains (keys_of (entered_of s)) key → key_of s ≡ key
+row-entered s key = by (entering_of s.keyword)
+  where
+    by : (e : Entering) → Contains (keys_of (entered_by e s)) key → key_of s ≡ key
+    by Nothing h = absurd (let lt = h.1 in omega arith)
+    by InTurn h = absurd (let lt = h.1 in omega arith)
+    by Alone h = one_element (key_of s) key h
+    by ByWord h = one_element (key_of s) key h
+    by ByPair h = one_element (key_of s) key h
 
--- the same names, for a text to check
+-- a row stood before, or is of this line
+row_cases : (rows : List Statement) (s : Statement) (k : Keyword) (n : Word) → HasRow (rows ++ entered_of s) k n
+    → HasRow rows k n ⊎ (key_of s ≡ (k, n, []))
+row_cases rows s k n h =
+    let key : Key = (k, n, []) in
+    elim (Contains-append_cases (keys_of rows) (keys_of (entered_of s)) key
+    (subst (λ (ks : List Key). Contains ks key) (map-append key_of rows (entered_of s)) h)) [
+      | inl old ↦ inl old
+      | inr new ↦ inr (row-entered s key new)
+    ]
+
+rows_of-entered : (k : Keyword) (s : Statement) → (s.keyword ≡ k → ⊥) → rows_of k (entered_of s) ≡ []
+rows_of-entered k s other = by (entering_of s.keyword)
+  where
+    one : rows_of k (s ∷ []) ≡ []
+    one = ap (λ (b : Bool). cond b (s ∷ []) []) (is_of-other k s other)
+
+    by : (e : Entering) → rows_of k (entered_by e s) ≡ []
+    by Nothing = refl
+    by InTurn = refl
+    by Alone = one
+    by ByWord = one
+    by ByPair = one
+
+-- nothing of a plan stands in the rows
+pub record IsBare (rows : List Statement) : Type 0 where
+  pub no_starts : rows_of Start rows ≡ []
+  pub no_prices : rows_of Price rows ≡ []
+
+none-more : (k : Keyword) (rows : List Statement) (s : Statement) → (s.keyword ≡ k → ⊥) → rows_of k rows ≡ []
+    → rows_of k (rows ++ entered_of s) ≡ []
+none-more k rows s other none =
+    filter-append (is_of k) rows (entered_of s) ∙ ap (λ (l : List Statement). l ++ rows_of k (entered_of s)) none
+    ∙ rows_of-entered k s other
+
+bare-entered : (rows : List Statement) (s : Statement) → IsOfHead s.keyword → IsBare rows
+    → IsBare (rows ++ entered_of s)
+bare-entered rows s head bare = record {
+  no_starts = none-more Start rows s head.no_start bare.no_starts;
+  no_prices = none-more Price rows s head.no_price bare.no_prices;
+}
+
+-- no name is a split's and a worker's
+abbrev pub AreApart : List Statement → Type 0
+AreApart rows = (n : Word) → HasRow rows Split n → HasRow rows Worker n → ⊥
+
+-- what a line declares was not taken
+new_name : (j : Keyword) → place_at j 0 ≡ Some New → entering_of j ≡ ByWord → 0 < length (places_of j)
+    → (rows : List Statement) (s : Statement) (n : Word) → length (places_of s.keyword) ≤ length s.words
+    → Keep rule.Free rows s → key_of s ≡ (j, n, []) → IsTaken rows n → ⊥
+new_name j first by some rows s n whole free key =
+    let same : s.keyword ≡ j = ap (λ (q : Key). q.0) key in
+    let name : word_at 0 s ≡ n = ap (λ (q : Key). q.1) (sym (key_by_word j by s same) ∙ key) in
+    let many : length (places_of j) ≤ length s.words =
+    subst (λ (i : Keyword). length (places_of i) ≤ length s.words) same whole in
+    let placed : place_at s.keyword 0 ≡ Some New = ap (λ (i : Keyword). place_at i 0) same ∙ first in
+    subst (λ (w : Word). IsTaken rows w → ⊥) name
+    (subst (λ (p : Option Place). IsFreeIn rows p (word_at 0 s)) placed (free 0 (omega arith)))
+
+apart-entered : (rows : List Statement) (s : Statement) → length (places_of s.keyword) ≤ length s.words
+    → Keep rule.Free rows s → AreApart rows → AreApart (rows ++ entered_of s)
+apart-entered rows s whole free apart n split worker =
+    elim (row_cases rows s Split n split) [
+      | inl old ↦ elim (row_cases rows s Worker n worker) [
+        | inl still ↦ apart n old still
+        | inr new ↦ new_name Worker refl refl (omega arith) rows s n whole free new (inr (inr (inr (inl old))))
+      ]
+      | inr first ↦ elim (row_cases rows s Worker n worker) [
+        | inl still ↦ new_name Split refl refl (omega arith) rows s n whole free first (inr (inr (inl still)))
+        | inr new ↦ absurd (let both : Split ≡ Worker = ap (λ (q : Key). q.0) (sym first ∙ new) in cc)
+      ]
+    ]
+
+-- ---- a line of the head in a text to check
+
+-- the same lines, for a text to check
 abbrev pub checking : Known → Known
 checking k = record k { purpose = Checking }
 
--- read to plan from, and with nothing of a plan in it
-pub record IsBare (k : Known) : Type 0 where
-  pub planning : k.purpose ≡ Planning
-  pub no_plan : k.plan_begun ≡ false
-  pub not_ended : k.is_ended ≡ false
-  pub none_started : k.started ≡ []
-  pub none_priced : k.priced ≡ []
+same_follows : (k : Known) (f : Follow) → follows f (checking k) ≡ follows f k
+same_follows k Any = refl
+same_follows k Centre = refl
+same_follows k Counts = refl
 
-head_or_end : (k : Known) (s : Statement) → IsBare k → IsFit k s → IsOfHead s ⊎ (s ≡ End)
-head_or_end k Plan bare fit =
-    let may : k.purpose ≡ Checking = fit.may_stand.1 in
-    let planning : k.purpose ≡ Planning = bare.planning in
-    absurd cc
-head_or_end k (Start split worker) bare fit =
-    let may : k.plan_begun ≡ true = fit.may_stand in
-    let not_yet : k.plan_begun ≡ false = bare.no_plan in
-    absurd cc
-head_or_end k (Price name amount) bare fit =
-    let may : k.plan_begun ≡ true = fit.may_stand in
-    let not_yet : k.plan_begun ≡ false = bare.no_plan in
-    absurd cc
-head_or_end k End bare fit = inr refl
-head_or_end k s bare fit = inl tt
+same_count : (k : Known) (word : Keyword) (e : Entering) → counted_by e (checking k) word ≡ counted_by e k word
+same_count k word Nothing = refl
+same_count k word InTurn = refl
+same_count k word Alone = refl
+same_count k word ByWord = refl
+same_count k word ByPair = refl
 
-bare-entered : (k : Known) (s : Statement) → IsOfHead s → IsBare k → IsBare (entered k s)
-bare-entered k Plan head bare = absurd head
-bare-entered k (Start _ _) head bare = absurd head
-bare-entered k (Price _ _) head bare = absurd head
-bare-entered k End head bare = absurd head
-bare-entered k s head bare = record {
-  planning = bare.planning;
-  no_plan = bare.no_plan;
-  not_ended = bare.not_ended;
-  none_started = bare.none_started;
-  none_priced = bare.none_priced;
-}
-
-entered-checking : (k : Known) (s : Statement) → entered (checking k) s ≡ checking (entered k s)
-entered-checking k (Problem _) = refl
-entered-checking k s = refl
-
-in_head : (k : Known) → IsInHead k → IsInHead (checking k)
-in_head k h = record { begun = h.begun; no_plan = h.no_plan }
-
-stands : (k : Known) (s : Statement) → IsOfHead s → MayStand k s → MayStand (checking k) s
-stands k (Problem _) head h = h
-stands k Plan head h = absurd head
-stands k (Start _ _) head h = absurd head
-stands k (Price _ _) head h = absurd head
-stands k End head h = absurd head
-stands k s head h = in_head k h
-
-uses : (k : Known) (s : Statement) → UsesKnown k s → UsesKnown (checking k) s
-uses k (Problem _) h = h
-uses k s h = h
-
-repeats : (k : Known) (s : Statement) → Repeats (checking k) s → Repeats k s
-repeats k (Problem _) h = h
-repeats k s h = h
-
-past_limit : (k : Known) (s : Statement) → IsPastLimit (checking k) s → IsPastLimit k s
-past_limit k (Problem _) h = h
-past_limit k s h = h
-
-again : (k : Known) (s : Statement) → EntersAgain (checking k) s → EntersAgain k s
-again k (Problem _) h = h
-again k s h = h
-
-has_prices : (k : Known) (s : Statement) → IsOfHead s → HasPrices (checking k) s
-has_prices k End head = absurd head
-has_prices k s head = tt
-
-fit-checking : (k : Known) (s : Statement) → IsOfHead s → IsFit k s → IsFit (checking k) s
-fit-checking k s head fit = record {
-  may_stand = stands k s head fit.may_stand;
+fit-checking : (k : Known) (s : Statement) → k.purpose ≡ Planning → IsOfHead s.keyword → IsFit k s
+    → IsFit (checking k) s
+fit-checking k s planning head fit = record {
+  whole = subst (λ (o : Option ℕ). AreAsMany o (length (tail_of s))) (sym (same_follows k (follow_of s.keyword)))
+      fit.whole;
+  may_stand = (
+    head.same ∙ ap (λ (p : Purpose). section_of p s.keyword) (sym planning) ∙ fit.may_stand.0,
+    fit.may_stand.1,
+  );
   named = fit.named;
-  known = uses k s fit.known;
-  new = λ h. fit.new (repeats k s h);
+  known = fit.known;
+  new = fit.new;
   in_range = fit.in_range;
-  within_limit = λ h. fit.within_limit (past_limit k s h);
-  holders = fit.holders;
-  once = λ h. fit.once (again k s h);
-  priced = has_prices k s head;
+  within_limit = record {
+    room = subst (λ (most : Option ℕ). HasRoom most (counted_of (checking k) s.keyword))
+        (ap (λ (p : Purpose). most_of p s.keyword) planning ∙ head.limit)
+        (subst (HasRoom (most_of k.purpose s.keyword)) (sym (same_count k s.keyword (entering_of s.keyword)))
+        fit.within_limit.room);
+    few = fit.within_limit.few;
+  };
+  tail_apart = fit.tail_apart;
+  once = fit.once;
+  priced = subst (λ (after : Section). IsPricedBefore after (checking k)) (sym head.after) tt;
 }
-
--- ---- the names
-
--- these are names, and none stands twice, also not as a split and a worker
-pub record AreNames (splits workers : List Word) : Type 0 where
-  pub splits_named : All IsName splits
-  pub workers_named : All IsName workers
-  pub splits_differ : AllPairs (λ a b. a ≢ b) splits
-  pub workers_differ : AllPairs (λ a b. a ≢ b) workers
-  pub apart : (name : Word) → Contains splits name → Contains workers name → ⊥
-
--- a name that does not stand there differs from each
-new_differs : (names : List Word) (name : Word) → (Contains names name → ⊥) → (i : ℕ) (d : Word)
-    → i < length names
-    → get_or names i d ≢ name
-new_differs names name new i d lt e = new (subst (Contains names) e (Contains-get_or names i d lt))
-
-names-entered : (k : Known) (s : Statement) → IsFit k s → AreNames k.splits k.workers
-    → AreNames (entered k s).splits (entered k s).workers
-names-entered k (Worker name rack slots) fit names = record {
-  splits_named = names.splits_named;
-  workers_named = All-push IsName k.workers name names.workers_named fit.named.0;
-  splits_differ = names.splits_differ;
-  workers_differ = all_pairs_push (λ a b. a ≢ b) k.workers name names.workers_differ
-      (new_differs k.workers name (λ h. fit.new (inr (inl h))));
-  apart = λ n split worker. elim (Contains-push_cases k.workers name n worker) [
-    | inl old ↦ names.apart n split old
-    | inr e ↦ fit.new (inr (inr (subst (Contains k.splits) (sym e) split)))
-  ];
-}
-names-entered k (Split name bytes holders) fit names = record {
-  splits_named = All-push IsName k.splits name names.splits_named fit.named.0;
-  workers_named = names.workers_named;
-  splits_differ = all_pairs_push (λ a b. a ≢ b) k.splits name names.splits_differ
-      (new_differs k.splits name (λ h. fit.new (inr (inr h))));
-  workers_differ = names.workers_differ;
-  apart = λ n split worker. elim (Contains-push_cases k.splits name n split) [
-    | inl old ↦ names.apart n old worker
-    | inr e ↦ fit.new (inr (inl (subst (Contains k.workers) (sym e) worker)))
-  ];
-}
-names-entered k s fit names = names
 
 -- ---- the whole head
 
@@ -181,99 +191,98 @@ pub record IsHeadAndEnd (k : Known) (ls : List Line) (ss : List Statement) : Typ
   pub lines : List Line
   pub head : List Statement
   pub whole_lines : ls ≡ lines ++ codes "end" ∷ []
-  pub whole : ss ≡ head ++ End ∷ []
+  pub whole : ss ≡ head ++ said End [] ∷ []
   pub fit : AreFitLines (checking k) lines head
-  pub only_head : AreOfHead head
-  pub bare : IsBare (names_after k head)
-  pub in_head : IsInHead (names_after k head)
-  pub names : AreNames (names_after k head).splits (names_after k head).workers
+  pub in_head : (names_after k head).section ≡ Head
+  pub bare : IsBare (names_after k head).rows
+  pub apart : AreApart (names_after k head).rows
 
-end_word : (words : List Word) → Say words End → words ≡ codes "end" ∷ []
-end_word [] says = absurd says.filled
-end_word (w ∷ []) says = ap (λ v. v ∷ []) says.filled.0
-end_word (w ∷ v ∷ ws) says = absurd says.filled.1
+no_words : (s : Statement) (line : Line) → s.keyword ≡ End → Says line s → s.words ≡ []
+no_words s line same says = by s.words refl
+  where
+    by : (ws : List Word) → s.words ≡ ws → s.words ≡ []
+    by [] is = is
+    by (w ∷ ws) is =
+        let inside : 0 < length s.words = subst (λ (l : List Word). 0 < length l) (sym is) (omega arith) in
+        absurd (subst (λ (k : Keyword). Meets Shape (place_at k 0) (word_at 0 s)) same (says.shape 0 inside))
 
-end_line : (line : Line) → Says line End → line ≡ codes "end"
-end_line line says = line-one_word line (codes "end") (end_word (words_of line) says)
+end_said : (s : Statement) (line : Line) → s.keyword ≡ End → Says line s → s ≡ said End []
+end_said s line same says =
+    let none = no_words s line same says in
+    λ i. said (same i) (none i)
 
-at_end : (k : Known) (l : Line) (ls : List Line) (ss : List Statement) → IsBare k
-    → AreNames k.splits k.workers
-    → IsFitLine k l End → AreFitLines (entered k End) ls ss → IsHeadAndEnd k (l ∷ ls) (End ∷ ss)
-at_end k l ls ss bare names first rest =
-    let none = none_after (entered k End) ls ss refl rest in
+end_line : (line : Line) → Says line (said End []) → line ≡ codes "end"
+end_line line says = line-one_word line (codes "end") says.spelled
+
+at_end : (k : Known) (l : Line) (ls : List Line) (ss : List Statement) → k.purpose ≡ Planning → IsBare k.rows
+    → AreApart k.rows → IsFitLine k l (said End []) → AreFitLines (entered k (said End [])) ls ss
+    → IsHeadAndEnd k (l ∷ ls) (said End [] ∷ ss)
+at_end k l ls ss planning bare apart first rest =
+    let none = none_after (entered k (said End [])) ls ss refl rest in
     let line : l ≡ codes "end" = end_line l first.says in
+    let stands : Some Head ≡ Some k.section =
+    ap (λ (p : Purpose). section_of p End) (sym planning) ∙ first.fit.may_stand.0 in
     record {
       lines = [];
       head = [];
-      whole_lines = let e : ls ≡ [] = none.0 in rw (line, e) refl;
-      whole = ap (λ ts. End ∷ ts) none.1;
+      whole_lines = ap (λ (m : Line). m ∷ ls) line ∙ ap (λ (ms : List Line). codes "end" ∷ ms) none.0;
+      whole = ap (λ (ts : List Statement). said End [] ∷ ts) none.1;
       fit = tt;
-      only_head = tt;
+      in_head = let section : Head ≡ k.section = cc in sym section;
       bare = bare;
-      in_head = subst (λ p. MayEnd p k) bare.planning first.fit.may_stand;
-      names = names;
+      apart = apart;
     }
 
-before_end : (k : Known) (l : Line) (s : Statement) (ls : List Line) (ss : List Statement) → IsOfHead s
-    → IsFitLine k l s
-    → IsHeadAndEnd (entered k s) ls ss → IsHeadAndEnd k (l ∷ ls) (s ∷ ss)
-before_end k l s ls ss head first rest = record {
+before_end : (k : Known) (l : Line) (s : Statement) (ls : List Line) (ss : List Statement) → k.purpose ≡ Planning
+    → IsOfHead s.keyword → IsFitLine k l s → IsHeadAndEnd (entered k s) ls ss → IsHeadAndEnd k (l ∷ ls) (s ∷ ss)
+before_end k l s ls ss planning head first rest = record {
   lines = l ∷ rest.lines;
   head = s ∷ rest.head;
-  whole_lines = ap (λ ms. l ∷ ms) rest.whole_lines;
-  whole = ap (λ ts. s ∷ ts) rest.whole;
+  whole_lines = ap (λ (ms : List Line). l ∷ ms) rest.whole_lines;
+  whole = ap (λ (ts : List Statement). s ∷ ts) rest.whole;
   fit = (
     record {
       printable = first.printable;
       not_ended = first.not_ended;
       says = first.says;
-      fit = fit-checking k s head first.fit;
+      fit = fit-checking k s planning head first.fit;
     },
-    subst (λ j. AreFitLines j rest.lines rest.head) (sym (entered-checking k s)) rest.fit,
+    rest.fit,
   );
-  only_head = (head, rest.only_head);
-  bare = rest.bare;
   in_head = rest.in_head;
-  names = rest.names;
+  bare = rest.bare;
+  apart = rest.apart;
 }
 
-pub head_and_end : (k : Known) (ls : List Line) (ss : List Statement) → IsBare k → AreNames k.splits k.workers
-    → AreFitLines k ls ss → (names_after k ss).is_ended ≡ true → IsHeadAndEnd k ls ss
-head_and_end k [] [] bare names fit ended = let still : k.is_ended ≡ false = bare.not_ended in absurd cc
-head_and_end k [] (s ∷ ss) bare names fit ended = absurd fit
-head_and_end k (l ∷ ls) [] bare names fit ended = absurd fit
-head_and_end k (l ∷ ls) (s ∷ ss) bare names fit ended = elim (head_or_end k s bare fit.0.fit) [
-  | inl head ↦ before_end k l s ls ss head fit.0
-      (head_and_end (entered k s) ls ss (bare-entered k s head bare)
-      (names-entered k s fit.0.fit names) fit.1 ended)
-  | inr e ↦
-      let all : AreFitLines k (l ∷ ls) (End ∷ ss) = subst (λ t. AreFitLines k (l ∷ ls) (t ∷ ss)) e fit in
-      subst (λ t. IsHeadAndEnd k (l ∷ ls) (t ∷ ss)) (sym e) (at_end k l ls ss bare names all.0 all.1)
-]
+pub head_and_end : (k : Known) (ls : List Line) (ss : List Statement) → k.purpose ≡ Planning → IsBare k.rows
+    → AreApart k.rows → k.section ≢ Ended → AreFitLines k ls ss → (names_after k ss).section ≡ Ended
+    → IsHeadAndEnd k ls ss
+head_and_end k [] [] planning bare apart going fit ended = absurd (going ended)
+head_and_end k [] (s ∷ ss) planning bare apart going fit ended = absurd fit
+head_and_end k (l ∷ ls) [] planning bare apart going fit ended = absurd fit
+head_and_end k (l ∷ ls) (s ∷ ss) planning bare apart going fit ended =
+    let stands : section_of Planning s.keyword ≡ Some k.section =
+    ap (λ (p : Purpose). section_of p s.keyword) (sym planning) ∙ fit.0.fit.may_stand.0 in
+    elim (head_or_end s.keyword k.section stands) [
+      | inl head ↦ before_end k l s ls ss planning head fit.0
+          (head_and_end (entered k s) ls ss planning (bare-entered k.rows s head bare)
+          (apart-entered k.rows s fit.0.says.many fit.0.fit.new.names apart)
+          (λ e. let both : Head ≡ Ended = sym head.after ∙ e in cc) fit.1 ended)
+      | inr last ↦
+          let e = end_said s l last fit.0.says in
+          let all : AreFitLines k (l ∷ ls) (said End [] ∷ ss) =
+          subst (λ (t : Statement). AreFitLines k (l ∷ ls) (t ∷ ss)) e fit in
+          subst (λ (t : Statement). IsHeadAndEnd k (l ∷ ls) (t ∷ ss)) (sym e)
+          (at_end k l ls ss planning bare apart all.0 all.1)
+    ]
 
 pub after-checking : (k : Known) (ss : List Statement)
     → names_after (checking k) ss ≡ checking (names_after k ss)
 after-checking k [] = refl
-after-checking k (s ∷ ss) = ap (λ j. names_after j ss) (entered-checking k s) ∙ after-checking (entered k s) ss
+after-checking k (s ∷ ss) = after-checking (entered k s) ss
 
-pub bare-first : IsBare (known_at Planning 0 [])
-bare-first = record {
-  planning = refl;
-  no_plan = refl;
-  not_ended = refl;
-  none_started = refl;
-  none_priced = refl;
-}
+pub bare-none : IsBare []
+bare-none = record { no_starts = refl; no_prices = refl }
 
-pub names-none : AreNames [] []
-names-none = record {
-  splits_named = All-nil IsName;
-  workers_named = All-nil IsName;
-  splits_differ = λ i j d lt in_range. absurd (omega arith);
-  workers_differ = λ i j d lt in_range. absurd (omega arith);
-  apart = λ name split worker. absurd (let k = split.1 in omega arith);
-}
-
--- what is known after the head of a text to plan from
-abbrev pub after_head : List Statement → Known
-after_head head = names_after (known_at Planning 0 []) head
+pub apart-none : AreApart []
+apart-none n split worker = absurd (let lt = split.1 in omega arith)

@@ -1,14 +1,16 @@
 -- A text and its last line, and the text with a plan behind its head.
-use Rattle.std.proofs.Common.{ℕ, List, [], ◌∷◌, ◌++◌, ◌≡◌, ◌-◌, ◌∙◌, Option, true, false, codes, length, map, take, drop, refl, sym, ap, arith}
+use Rattle.std.proofs.Common.{ℕ, List, [], ◌∷◌, ◌++◌, ◌≡◌, ◌≢◌, ◌-◌, ◌∙◌, Option, codes, length, map, take, drop, refl, sym, ap, arith}
 use Rattle.std.proofs.lemmas.List.{append_assoc, length-append, length-drop, take-append-drop, take_at}
 use Rattle.price_certificate.specs.PriceList.{PriceList}
 use Rattle.text_lines.specs.Texts.{Line, Word, lines_of}
 use Rattle.text_lines.specs.declared.fault.Fault.{Fault}
 use Rattle.text_lines.specs.declared.fault.Fault.TheVariants.{Misplaced, NoFeed}
-use Rattle.plan_lines.specs.Statements.{Statement}
-use Rattle.plan_lines.specs.Known.{Known, known_at}
-use Rattle.plan_lines.specs.Faults.{FirstHas, Reads}
-use Rattle.plan_lines.specs.declared.purpose.Purpose.{Purpose}
+use Rattle.line_shapes.specs.Lines.{Statement}
+use Rattle.line_rules.specs.Known.{Known, known_at}
+use Rattle.line_rules.specs.Texts.{FirstHas, Reads}
+use Rattle.line_rules.specs.declared.purpose.Purpose.{Purpose}
+use Rattle.line_rules.specs.declared.section.Section.{Section}
+use Rattle.line_rules.specs.declared.section.Section.TheVariants.{First, Head, Body, Ended}
 use Rattle.plan_text.specs.Report.{lines_of_plan, price_lines_of}
 use Rattle.written_plan.specs.Joined.{IsPlanFor, end_line, head_of, with_plan}
 use Rattle.written_plan.proofs.Lines.{joined, joined-append}
@@ -17,26 +19,26 @@ use Rattle.written_plan.proofs.PlanPart.{plan_texts}
 
 -- ---- the last line
 
+ended : (section : Section) → (section ≢ Ended → ⊥) → section ≡ Ended
+ended First h = absurd (h (λ e. cc))
+ended Head h = absurd (h (λ e. cc))
+ended Body h = absurd (h (λ e. cc))
+ended Ended h = refl
+
 last_is : (k : Known) (rest : List Line) → length rest ≡ 1 → ((f : Fault) → FirstHas k rest f → ⊥)
-    → (rest ≡ [] ∷ []) × (k.is_ended ≡ true)
+    → (rest ≡ [] ∷ []) × (k.section ≡ Ended)
 last_is k [] one none = absurd (omega arith)
-last_is k ([] ∷ []) one none = (
-  refl,
-  elim k.is_ended as (λ b. (b ≡ false → ⊥) → b ≡ true) [
-    | true ↦ λ h. refl
-    | false ↦ λ h. absurd (h refl)
-  ] (none Misplaced),
-)
+last_is k ([] ∷ []) one none = (refl, ended k.section (none Misplaced))
 last_is k ((b ∷ bs) ∷ []) one none = absurd (none NoFeed tt)
 last_is k (l ∷ m ∷ ls) one none = absurd (omega arith)
 
 -- nothing follows the last line feed, and before it the last line is `end`
 pub last_line : (purpose : Purpose) (text : List ℕ) (ss : List Statement) → Reads purpose text ss
-    → (drop (length ss) (lines_of text) ≡ [] ∷ []) × ((known_at purpose (length ss) ss).is_ended ≡ true)
+    → (drop (length ss) (lines_of text) ≡ [] ∷ []) × ((known_at purpose ss).section ≡ Ended)
 last_line purpose text ss reads =
     let one : length (drop (length ss) (lines_of text)) ≡ 1 =
     omega (arith, length-drop (length ss) (lines_of text), reads.whole) in
-    last_is (known_at purpose (length ss) ss) (drop (length ss) (lines_of text)) one
+    last_is (known_at purpose ss) (drop (length ss) (lines_of text)) one
     (λ f h. reads.faultless.none (length ss) f (ss, reads.says, h))
 
 pub all_lines : (purpose : Purpose) (text : List ℕ) (ss : List Statement) → Reads purpose text ss

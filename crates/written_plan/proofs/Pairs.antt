@@ -5,7 +5,8 @@ use Rattle.std.specs.List.{AllPairs, Contains, flat_map, range_with_len}
 use Rattle.std.proofs.lemmas.List.{append_assoc}
 use Rattle.std.proofs.lemmas.List.Elements.{Contains-push_cases}
 use Rattle.text_lines.specs.Texts.{Line, Word}
-use Rattle.plan_lines.specs.Statements.{Statement, Start, Price}
+use Rattle.line_shapes.specs.Lines.{Statement}
+use Rattle.line_shapes.specs.declared.keyword.Keyword.TheVariants.{Start, Price}
 use Rattle.plan_text.specs.Report.{name_of, price_line, price_lines_of, start_line, start_lines}
 use Rattle.written_plan.proofs.Lines.{joined, spaced}
 
@@ -98,13 +99,13 @@ started_are_splits workers (s ∷ ss) (Some w ∷ os) name (suc k, lt, e) =
 -- ---- the lines and what they say
 
 abbrev pub start_said : Word × Word → Statement
-start_said p = Start p.0 p.1
+start_said p = record { keyword = Start; words = p.0 ∷ p.1 ∷ [] }
 
 abbrev pub start_text : Word × Word → Line
 start_text p = spaced (codes "start" ∷ p.0 ∷ p.1 ∷ [])
 
 abbrev pub price_said : Word × ℕ → Statement
-price_said p = Price p.0 p.1
+price_said p = record { keyword = Price; words = p.0 ∷ decimal p.1 ∷ [] }
 
 abbrev pub price_text : Word × ℕ → Line
 price_text p = spaced (codes "price" ∷ p.0 ∷ decimal p.1 ∷ [])

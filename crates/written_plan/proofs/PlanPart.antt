@@ -1,22 +1,37 @@
--- The lines of a plan, with `plan` before and `end` after them: they fit, and what they leave in names and
--- entries.
-use Rattle.std.proofs.Common.{ℕ, List, [], ◌∷◌, ◌++◌, ◌≡◌, ◌<◌, ◌^◌, ◌∙◌, ◌⊎◌, Option, inl, inr, true, false, codes, length, map, refl, sym, ap, subst}
-use Rattle.std.specs.List.{All, Contains, flat_map}
+-- The lines of a plan, with `plan` before and `end` after them: they fit, and what they leave in the rows.
+use Rattle.std.proofs.Common.{ℕ, List, [], ◌∷◌, ◌++◌, ◌≡◌, ◌≢◌, ◌<◌, ◌^◌, ◌∙◌, ◌⊎◌, Option, inl, inr}
+use Rattle.std.proofs.Common.{ap, append-nil, append_assoc, arith, codes, get_or, length, map, refl, subst, sym}
+use Rattle.std.specs.List.{All, AllPairs, Contains}
 use Rattle.std.proofs.lemmas.Grind.{flat_map-append}
-use Rattle.std.proofs.lemmas.List.{append-nil}
-use Rattle.std.proofs.lemmas.List.Elements.{All-contains_itself, All-weaker, Contains-append_cases, Contains-append_left, Contains-append_right}
+use Rattle.std.proofs.lemmas.List.Elements.{All-contains_itself, All-weaker, Contains-append_cases}
+use Rattle.std.proofs.lemmas.List.Elements.{Contains-append_left, Contains-append_right, Contains-get_or, filter-append}
+use Rattle.std.proofs.lemmas.List.{get_or-map, length-map, map-append}
 use Rattle.price_certificate.specs.PriceList.{PriceList}
 use Rattle.text_lines.specs.Texts.{IsName, Line, Word}
-use Rattle.plan_lines.specs.Statements.{Statement, Plan, End}
-use Rattle.plan_lines.specs.Known.{Known, entered}
-use Rattle.plan_lines.specs.Faults.{IsInHead}
-use Rattle.plan_lines.specs.declared.purpose.Purpose.TheVariants.{Checking}
-use Rattle.plan_text.specs.Draft.{AreFitLines}
-use Rattle.plan_text.proofs.FitLines.{fit-append, names_after}
+use Rattle.line_shapes.specs.Lines.{Statement}
+use Rattle.line_shapes.specs.declared.keyword.Keyword.{Keyword}
+use Rattle.line_shapes.specs.declared.keyword.Keyword.TheVariants.{Worker, Split, Plan, Start, Price, End}
+use Rattle.line_rules.specs.Entering.{Key, entered_by, entered_of, entering_of, key_of}
+use Rattle.line_rules.specs.Faults.{HasItsPrice}
+use Rattle.line_rules.specs.Known.{HasRow, Known, entered, is_of, keys_of, rows_of}
+use Rattle.line_rules.specs.Reading.{AreFitLines}
+use Rattle.line_rules.specs.declared.section.Section.TheVariants.{Head}
+use Rattle.line_rules.specs.declared.entering.Entering.{Entering}
+use Rattle.line_rules.specs.declared.entering.Entering.TheVariants.{Nothing, InTurn, Alone}
+use Rattle.line_rules.specs.declared.entering.Entering.TheVariants.{Word as ByWord, Pair as ByPair}
+use Rattle.line_rules.specs.declared.purpose.Purpose.TheVariants.{Checking}
+use Rattle.line_rules.proofs.FitLines.{names_after}
+use Rattle.plan_text.specs.Names.{names_in, names_of, rows_in, word_at}
+use Rattle.plan_text.proofs.Named.{at_element, key_by_word, row_named}
 use Rattle.written_plan.specs.Joined.{IsPlanFor}
-use Rattle.written_plan.proofs.Heads.{AreNames, IsBare, checking}
-use Rattle.written_plan.proofs.Pairs.{AreNew, new-none, price_pairs, price_said, price_text, priced_names, start_pairs, start_said, start_text}
-use Rattle.written_plan.proofs.Entered.{after-prices, after-starts, are_prices, are_starts, fit-end, fit-plan, fit-prices, fit-starts, with_priced, with_started}
+use Rattle.written_plan.proofs.Entered.{HasNames, IsBegun, are_prices, are_starts, fit-end, fit-plan, fit-prices}
+use Rattle.written_plan.proofs.Entered.{fit-starts, has_price, names-priced, names-started, with_rows}
+use Rattle.written_plan.proofs.FitText.{fit-append}
+use Rattle.written_plan.proofs.Heads.{one_element}
+use Rattle.written_plan.proofs.HeadKinds.{priced_kinds}
+use Rattle.written_plan.proofs.Pairs.{AreNew, new-none, price_pairs, price_said, price_text, priced_names}
+use Rattle.written_plan.proofs.Pairs.{start_pairs, start_said, start_text}
+use Rattle.written_plan.proofs.Words.{said}
 
 -- ---- the lines and what they say
 
@@ -25,41 +40,130 @@ plan_texts a b c =
     codes "plan" ∷ (map start_text a ++ (map price_text b ++ (map price_text c ++ codes "end" ∷ [])))
 
 abbrev pub plan_said : List (Word × Word) → List (Word × ℕ) → List (Word × ℕ) → List Statement
-plan_said a b c = Plan ∷ (map start_said a ++ (map price_said b ++ (map price_said c ++ End ∷ [])))
+plan_said a b c =
+    said Plan [] ∷ (map start_said a ++ (map price_said b ++ (map price_said c ++ said End [] ∷ [])))
 
--- ---- they fit
+-- these names are names, and none stands twice, also not as a split and a worker
+pub record AreNames (splits workers : List Word) : Type 0 where
+  pub splits_named : All IsName splits
+  pub workers_named : All IsName workers
+  pub splits_differ : AllPairs (λ a b. a ≢ b) splits
+  pub workers_differ : AllPairs (λ a b. a ≢ b) workers
+  pub apart : (name : Word) → Contains splits name → Contains workers name → ⊥
 
--- within a plan to check
-record IsBegun (k : Known) : Type 0 where
-  checking : k.purpose ≡ Checking
-  begun : k.plan_begun ≡ true
-  not_first : k.is_first ≡ false
-  not_ended : k.is_ended ≡ false
+-- ---- names of the lines of a plan
 
-begun-priced : (k : Known) (names : List Word) → IsBegun k → IsBegun (with_priced k names)
-begun-priced k names h = record {
-  checking = h.checking;
-  begun = h.begun;
-  not_first = h.not_first;
-  not_ended = h.not_ended;
-}
+no_name : {X : Type 0} (k : Keyword) (f : X → Statement) → ((x : X) (ss : List Statement)
+    → rows_of k (f x ∷ ss) ≡ rows_of k ss) → (xs : List X) → rows_of k (map f xs) ≡ []
+no_name k f none [] = refl
+no_name k f none (x ∷ xs) = none x (map f xs) ∙ no_name k f none xs
 
-begun-started : (k : Known) (names : List Word) → IsBegun k → IsBegun (with_started k names)
-begun-started k names h = record {
-  checking = h.checking;
-  begun = h.begun;
-  not_first = h.not_first;
-  not_ended = h.not_ended;
-}
+each_row : {X : Type 0} (k : Keyword) (f : X → Statement) → ((x : X) (ss : List Statement)
+    → rows_of k (f x ∷ ss) ≡ f x ∷ rows_of k ss) → (xs : List X) → rows_of k (map f xs) ≡ map f xs
+each_row k f same [] = refl
+each_row k f same (x ∷ xs) = same x (map f xs) ∙ ap (λ (l : List Statement). f x ∷ l) (each_row k f same xs)
 
-fit-last : (k : Known) → IsBegun k → All (Contains k.priced) k.splits → All (Contains k.priced) k.workers
-    → AreFitLines k (codes "end" ∷ []) (End ∷ [])
-fit-last k h splits workers = (fit-end k h.checking h.begun h.not_ended (splits, workers), tt)
+pub start_rows : (a : List (Word × Word)) → rows_of Start (map start_said a) ≡ map start_said a
+start_rows a = each_row Start start_said (λ x ss. refl) a
+
+pub price_rows : (b : List (Word × ℕ)) → rows_of Price (map price_said b) ≡ map price_said b
+price_rows b = each_row Price price_said (λ x ss. refl) b
+
+names-map : {X : Type 0} (f : X → Statement) (g : X → Word) → ((x : X) → word_at 0 (f x) ≡ g x) → (xs : List X)
+    → names_in (map f xs) ≡ map g xs
+names-map f g same [] = refl
+names-map f g same (x ∷ xs) =
+    ap (λ (w : Word). w ∷ names_in (map f xs)) (same x)
+    ∙ ap (λ (ws : List Word). g x ∷ ws) (names-map f g same xs)
+
+pub start_names : (a : List (Word × Word)) → names_in (map start_said a) ≡ map (λ p. p.0) a
+start_names a = names-map start_said (λ p. p.0) (λ p. refl) a
+
+pub price_names : (b : List (Word × ℕ)) → names_in (map price_said b) ≡ map (λ p. p.0) b
+price_names b = names-map price_said (λ p. p.0) (λ p. refl) b
+
+names-starts : (rows : List Statement) (splits workers started priced : List Word) (a : List (Word × Word))
+    → HasNames rows splits workers started priced
+    → HasNames (rows ++ map start_said a) splits workers (started ++ map (λ p. p.0) a) priced
+names-starts rows splits workers started priced a h =
+    names-started rows (map start_said a) splits workers started priced h (map (λ p. p.0) a)
+    (ap names_in (no_name Split start_said (λ x ss. refl) a)) (ap names_in (no_name Worker start_said (λ x ss. refl) a))
+    (ap names_in (start_rows a) ∙ start_names a) (ap names_in (no_name Price start_said (λ x ss. refl) a))
+
+names-prices : (rows : List Statement) (splits workers started priced : List Word) (b : List (Word × ℕ))
+    → HasNames rows splits workers started priced
+    → HasNames (rows ++ map price_said b) splits workers started (priced ++ map (λ p. p.0) b)
+names-prices rows splits workers started priced b h =
+    names-priced rows (map price_said b) splits workers started priced h (map (λ p. p.0) b)
+    (ap names_in (no_name Split price_said (λ x ss. refl) b)) (ap names_in (no_name Worker price_said (λ x ss. refl) b))
+    (ap names_in (no_name Start price_said (λ x ss. refl) b)) (ap names_in (price_rows b) ∙ price_names b)
+
+-- ---- what is known after them
+
+after-starts : (k : Known) (a : List (Word × Word)) → IsBegun k
+    → names_after k (map start_said a) ≡ with_rows k (map start_said a)
+after-starts k [] begun = λ i. record k { rows = sym (append-nil k.rows) i }
+after-starts k (p ∷ ps) begun =
+    after-starts (entered k (start_said p)) ps (record { checking = begun.checking; body = refl })
+    ∙ (λ i. record k {
+      section = sym begun.body i;
+      rows = append_assoc k.rows (start_said p ∷ []) (map start_said ps) i;
+      commands = append-nil k.commands i;
+    })
+
+after-prices : (k : Known) (b : List (Word × ℕ)) → IsBegun k
+    → names_after k (map price_said b) ≡ with_rows k (map price_said b)
+after-prices k [] begun = λ i. record k { rows = sym (append-nil k.rows) i }
+after-prices k (p ∷ ps) begun =
+    after-prices (entered k (price_said p)) ps (record { checking = begun.checking; body = refl })
+    ∙ (λ i. record k {
+      section = sym begun.body i;
+      rows = append_assoc k.rows (price_said p ∷ []) (map price_said ps) i;
+      commands = append-nil k.commands i;
+    })
+
+begun-rows : (k : Known) (more : List Statement) → IsBegun k → IsBegun (with_rows k more)
+begun-rows k more begun = record { checking = begun.checking; body = begun.body }
+
+-- ---- all have their price
+
+in_keys : (rows : List Statement) (key : Key) → Contains (keys_of rows) key
+    → (s : Statement) × (key_of s ≡ key)
+in_keys rows key (i, lt, is) =
+    let inside : i < length rows = rw length-map at lt in
+    let d : Statement = said key.0 [] in
+    (get_or rows i d, sym (get_or-map key_of rows i d key inside) ∙ is)
+
+key_named : (k : Keyword) → entering_of k ≡ ByWord → (rows : List Statement) (key : Key) → key.0 ≡ k
+    → Contains (keys_of rows) key → Contains (names_of k rows) key.1
+key_named k by rows key same has =
+    let (s, is) = in_keys rows key has in
+    let of_k : s.keyword ≡ k = ap (λ (q : Key). q.0) is ∙ same in
+    let whole : key ≡ (k, word_at 0 s, []) = sym is ∙ key_by_word k by s of_k in
+    let name : key.1 ≡ word_at 0 s = ap (λ (q : Key). q.1) whole in
+    subst (Contains (names_of k rows)) (sym name)
+    (row_named k by rows (word_at 0 s) (subst (Contains (keys_of rows)) whole has))
+
+all_priced : (rows : List Statement) (splits workers started priced : List Word)
+    → HasNames rows splits workers started priced → All (Contains priced) splits → All (Contains priced) workers
+    → All (HasItsPrice rows) (keys_of rows)
+all_priced rows splits workers started priced h split_prices worker_prices i d lt wants =
+    let key : Key = get_or (keys_of rows) i d in
+    let has : Contains (keys_of rows) key = Contains-get_or (keys_of rows) i d lt in
+    let of : (names : List Word) → All (Contains priced) names → Contains names key.1 → HasRow rows Price key.1 =
+    λ names all one. has_price rows [] splits workers started priced h key.1
+    (at_element (Contains priced) names key.1 all one) in
+    elim (priced_kinds key.0 wants) [
+      | inl split ↦ of splits split_prices
+          (subst (λ (l : List Word). Contains l key.1) h.splits_are (key_named Split refl rows key split has))
+      | inr worker ↦ of workers worker_prices
+          (subst (λ (l : List Word). Contains l key.1) h.workers_are (key_named Worker refl rows key worker has))
+    ]
 
 -- what has its price keeps it, and these names have it
-all_priced : (priced names : List Word) (amounts : List ℕ) → length amounts ≡ length names
+price_each : (priced names : List Word) (amounts : List ℕ) → length amounts ≡ length names
     → All (Contains (priced ++ map (λ p. p.0) (price_pairs names amounts))) names
-all_priced priced names amounts count =
+price_each priced names amounts count =
     All-weaker (Contains names) (Contains (priced ++ map (λ p. p.0) (price_pairs names amounts)))
     (λ name h. Contains-append_right priced (map (λ p. p.0) (price_pairs names amounts)) name
     (subst (λ ns. Contains ns name) (sym (priced_names names amounts count)) h)) names
@@ -70,127 +174,184 @@ still_priced : (priced more names : List Word) → All (Contains priced) names
 still_priced priced more names h = All-weaker (Contains priced) (Contains (priced ++ more))
     (Contains-append_left priced more) names h
 
-fit-worker_prices : (k : Known) (amounts : List ℕ) → IsBegun k → length amounts ≡ length k.workers
-    → All (λ a. a < 2 ^ 64) amounts → All IsName k.workers → AreNew k.priced k.workers
-    → All (Contains k.priced) k.splits
-    → AreFitLines k (map price_text (price_pairs k.workers amounts) ++ codes "end" ∷ [])
-    (map price_said (price_pairs k.workers amounts) ++ End ∷ [])
-fit-worker_prices k amounts h count small named new splits =
-    let ps = price_pairs k.workers amounts in
-    let known : All (λ x. Contains k.splits x ⊎ Contains k.workers x) k.workers =
-    All-weaker (Contains k.workers) (λ x. Contains k.splits x ⊎ Contains k.workers x) (λ x w. inr w) k.workers
-    (All-contains_itself k.workers) in
-    fit-append k (map price_text ps) (codes "end" ∷ []) (map price_said ps) (End ∷ [])
-    (fit-prices k ps h.begun h.not_ended (are_prices k.splits k.workers k.priced k.workers amounts known named
-    new small))
-    (subst (λ j. AreFitLines j (codes "end" ∷ []) (End ∷ [])) (sym (after-prices k ps h.not_first))
-    (fit-last (with_priced k (map (λ p. p.0) ps)) (begun-priced k (map (λ p. p.0) ps) h)
-    (still_priced k.priced (map (λ p. p.0) ps) k.splits splits) (all_priced k.priced k.workers amounts count)))
+-- ---- they fit
 
-fit-all_prices : (k : Known) (prices : PriceList) → IsBegun k → length prices.splits ≡ length k.splits
-    → length prices.workers ≡ length k.workers → All (λ a. a < 2 ^ 64) prices.splits
-    → All (λ a. a < 2 ^ 64) prices.workers
-    → AreNames k.splits k.workers → k.priced ≡ []
-    → AreFitLines k
-    (map price_text (price_pairs k.splits prices.splits)
-    ++ (map price_text (price_pairs k.workers prices.workers) ++ codes "end" ∷ []))
-    (map price_said (price_pairs k.splits prices.splits)
-    ++ (map price_said (price_pairs k.workers prices.workers) ++ End ∷ []))
-fit-all_prices k prices h count more_count small more_small names none =
-    let ps = price_pairs k.splits prices.splits in
-    let qs = price_pairs k.workers prices.workers in
-    let priced = map (λ p. p.0) ps in
-    let known : All (λ x. Contains k.splits x ⊎ Contains k.workers x) k.splits =
-    All-weaker (Contains k.splits) (λ x. Contains k.splits x ⊎ Contains k.workers x) (λ x s. inl s) k.splits
-    (All-contains_itself k.splits) in
-    let new : AreNew k.priced k.splits = new-none k.priced k.splits none names.splits_differ in
-    let later : AreNew (k.priced ++ priced) k.workers = record {
-      differ = names.workers_differ;
-      apart = λ x old w. elim (Contains-append_cases k.priced priced x old) [
-        | inl before ↦ (new-none k.priced k.workers none names.workers_differ).apart x before w
-        | inr split ↦ names.apart x (subst (λ ns. Contains ns x)
-            (priced_names k.splits prices.splits count) split) w
-      ];
-    } in
-    fit-append k (map price_text ps) (map price_text qs ++ codes "end" ∷ []) (map price_said ps)
-    (map price_said qs ++ End ∷ [])
-    (fit-prices k ps h.begun h.not_ended
-    (are_prices k.splits k.workers k.priced k.splits prices.splits known names.splits_named new small))
-    (subst (λ j. AreFitLines j (map price_text qs ++ codes "end" ∷ []) (map price_said qs ++ End ∷ []))
-    (sym (after-prices k ps h.not_first))
-    (fit-worker_prices (with_priced k priced) prices.workers (begun-priced k priced h) more_count more_small
-    names.workers_named later (all_priced k.priced k.splits prices.splits count)))
+module _ (splits workers : List Word) (names : AreNames splits workers) where
+  fit-worker_prices : (k : Known) (started priced : List Word) (amounts : List ℕ) → IsBegun k
+      → HasNames k.rows splits workers started priced → length amounts ≡ length workers
+      → All (λ a. a < 2 ^ 64) amounts → AreNew priced workers → All (Contains priced) splits
+      → AreFitLines k (map price_text (price_pairs workers amounts) ++ codes "end" ∷ [])
+      (map price_said (price_pairs workers amounts) ++ said End [] ∷ [])
+  fit-worker_prices k started priced amounts begun h count small new split_prices =
+      let ps = price_pairs workers amounts in
+      let more = map (λ p. p.0) ps in
+      let known : All (λ x. Contains splits x ⊎ Contains workers x) workers =
+      All-weaker (Contains workers) (λ x. Contains splits x ⊎ Contains workers x) (λ x w. inr w) workers
+      (All-contains_itself workers) in
+      let last : Known = with_rows k (map price_said ps) in
+      let all = all_priced last.rows splits workers started (priced ++ more)
+      (names-prices k.rows splits workers started priced ps h) (still_priced priced more splits split_prices)
+      (price_each priced workers amounts count) in
+      fit-append k (map price_text ps) (codes "end" ∷ []) (map price_said ps) (said End [] ∷ [])
+      (fit-prices k splits workers started priced ps begun h
+      (are_prices splits workers priced workers amounts known names.workers_named new small))
+      (subst (λ j. AreFitLines j (codes "end" ∷ []) (said End [] ∷ [])) (sym (after-prices k ps begun))
+      (fit-end last (begun-rows k (map price_said ps) begun) all, tt))
 
-pub fit-plan_part : (j : Known) (starts : List (Option ℕ)) (prices : PriceList) → IsBare j → IsInHead j
-    → AreNames j.splits j.workers → IsPlanFor j.splits j.workers starts prices
-    → AreFitLines (checking j)
-    (plan_texts (start_pairs j.workers j.splits starts) (price_pairs j.splits prices.splits)
-    (price_pairs j.workers prices.workers))
-    (plan_said (start_pairs j.workers j.splits starts) (price_pairs j.splits prices.splits)
-    (price_pairs j.workers prices.workers))
-fit-plan_part j starts prices bare in_head names plan =
-    let k = entered (checking j) Plan in
-    let ss = start_pairs j.workers j.splits starts in
-    let ps = price_pairs j.splits prices.splits in
-    let qs = price_pairs j.workers prices.workers in
-    let begun : IsBegun k = record {
-      checking = refl;
-      begun = refl;
-      not_first = refl;
-      not_ended = bare.not_ended;
-    } in (
-      fit-plan (checking j) refl (record { begun = in_head.begun; no_plan = in_head.no_plan }) bare.not_ended,
-      fit-append k (map start_text ss) (map price_text ps ++ (map price_text qs ++ codes "end" ∷ []))
-          (map start_said ss) (map price_said ps ++ (map price_said qs ++ End ∷ []))
-          (fit-starts k ss refl bare.not_ended (are_starts j.splits j.workers j.started j.splits starts
-          (All-contains_itself j.splits) names.splits_named names.workers_named
-          (new-none j.started j.splits bare.none_started names.splits_differ) plan.of_workers))
-          (subst (λ i. AreFitLines i (map price_text ps ++ (map price_text qs ++ codes "end" ∷ []))
-          (map price_said ps ++ (map price_said qs ++ End ∷ []))) (sym (after-starts k ss refl))
-          (fit-all_prices (with_started k (map (λ p. p.0) ss)) prices
-          (begun-started k (map (λ p. p.0) ss) begun)
-          plan.split_prices plan.worker_prices plan.split_amounts plan.worker_amounts names bare.none_priced)),
-    )
+  fit-all_prices : (k : Known) (started : List Word) (prices : PriceList) → IsBegun k
+      → HasNames k.rows splits workers started [] → length prices.splits ≡ length splits
+      → length prices.workers ≡ length workers → All (λ a. a < 2 ^ 64) prices.splits
+      → All (λ a. a < 2 ^ 64) prices.workers
+      → AreFitLines k
+      (map price_text (price_pairs splits prices.splits)
+      ++ (map price_text (price_pairs workers prices.workers) ++ codes "end" ∷ []))
+      (map price_said (price_pairs splits prices.splits)
+      ++ (map price_said (price_pairs workers prices.workers) ++ said End [] ∷ []))
+  fit-all_prices k started prices begun h count more_count small more_small =
+      let ps = price_pairs splits prices.splits in
+      let qs = price_pairs workers prices.workers in
+      let priced = map (λ p. p.0) ps in
+      let known : All (λ x. Contains splits x ⊎ Contains workers x) splits =
+      All-weaker (Contains splits) (λ x. Contains splits x ⊎ Contains workers x) (λ x s. inl s) splits
+      (All-contains_itself splits) in
+      let new : AreNew [] splits = new-none [] splits refl names.splits_differ in
+      let later : AreNew priced workers = record {
+        differ = names.workers_differ;
+        apart = λ x split w. names.apart x
+            (subst (λ ns. Contains ns x) (priced_names splits prices.splits count) split) w;
+      } in
+      fit-append k (map price_text ps) (map price_text qs ++ codes "end" ∷ []) (map price_said ps)
+      (map price_said qs ++ said End [] ∷ [])
+      (fit-prices k splits workers started [] ps begun h
+      (are_prices splits workers [] splits prices.splits known names.splits_named new small))
+      (subst (λ j. AreFitLines j (map price_text qs ++ codes "end" ∷ []) (map price_said qs ++ said End [] ∷ []))
+      (sym (after-prices k ps begun))
+      (fit-worker_prices (with_rows k (map price_said ps)) started priced prices.workers
+      (begun-rows k (map price_said ps) begun)
+      (names-prices k.rows splits workers started [] ps h) more_count more_small
+      later (price_each [] splits prices.splits count)))
 
--- ---- what they leave
+  pub fit-plan_part : (j : Known) (starts : List (Option ℕ)) (prices : PriceList) → j.purpose ≡ Checking
+      → j.section ≡ Head → (HasRow j.rows Plan [] → ⊥) → HasNames j.rows splits workers [] []
+      → IsPlanFor splits workers starts prices
+      → AreFitLines j
+      (plan_texts (start_pairs workers splits starts) (price_pairs splits prices.splits)
+      (price_pairs workers prices.workers))
+      (plan_said (start_pairs workers splits starts) (price_pairs splits prices.splits)
+      (price_pairs workers prices.workers))
+  fit-plan_part j starts prices checking in_head once h plan =
+      let k = entered j (said Plan []) in
+      let ss = start_pairs workers splits starts in
+      let ps = price_pairs splits prices.splits in
+      let qs = price_pairs workers prices.workers in
+      let begun : IsBegun k = record { checking = checking; body = refl } in
+      let named : HasNames k.rows splits workers [] [] =
+      subst (λ (rows : List Statement). HasNames rows splits workers [] []) (sym (append-nil j.rows)) h in (
+        fit-plan j checking in_head once,
+        fit-append k (map start_text ss) (map price_text ps ++ (map price_text qs ++ codes "end" ∷ []))
+            (map start_said ss) (map price_said ps ++ (map price_said qs ++ said End [] ∷ []))
+            (fit-starts k splits workers [] [] ss begun named
+            (are_starts splits workers [] splits starts (All-contains_itself splits) names.splits_named
+            names.workers_named (new-none [] splits refl names.splits_differ) plan.of_workers))
+            (subst (λ i. AreFitLines i (map price_text ps ++ (map price_text qs ++ codes "end" ∷ []))
+            (map price_said ps ++ (map price_said qs ++ said End [] ∷ []))) (sym (after-starts k ss begun))
+            (fit-all_prices (with_rows k (map start_said ss)) (map (λ p. p.0) ss) prices
+            (begun-rows k (map start_said ss) begun) (names-starts k.rows splits workers [] [] ss named)
+            plan.split_prices plan.worker_prices plan.split_amounts plan.worker_amounts)),
+      )
 
-pub after-append : (k : Known) (ss ts : List Statement)
-    → names_after k (ss ++ ts) ≡ names_after (names_after k ss) ts
-after-append k [] ts = refl
-after-append k (s ∷ ss) ts = after-append (entered k s) ss ts
+-- ---- the rows of the whole
 
--- the names with all of a plan entered
-abbrev pub all_entered : Known → List (Word × Word) → List (Word × ℕ) → List (Word × ℕ) → Known
-all_entered j a b c =
-    entered (with_priced (with_priced (with_started (entered (checking j) Plan) (map (λ p. p.0) a))
-    (map (λ p. p.0) b))
-    (map (λ p. p.0) c)) End
+-- a line that is not entered is no row
+pub not_entered : (k : Keyword) → entering_of k ≡ Nothing → (n : Word) (ss : List Statement)
+    → HasRow (rows_in ss) k n → ⊥
+not_entered k none n [] h = absurd (let lt = h.1 in omega arith)
+not_entered k none n (s ∷ ss) h =
+    elim (Contains-append_cases (keys_of (entered_of s)) (keys_of (rows_in ss)) (k, n, [])
+    (subst (λ (ks : List Key). Contains ks (k, n, [])) (map-append key_of (entered_of s) (rows_in ss)) h)) [
+      | inl here ↦ of (entering_of s.keyword) refl here
+      | inr later ↦ not_entered k none n ss later
+    ]
+  where
+    row : (e : Entering) → entering_of s.keyword ≡ e → e ≢ Nothing → Contains (key_of s ∷ []) (k, n, []) → ⊥
+    row e is some has =
+        let same : s.keyword ≡ k = ap (λ (q : Key). q.0) (one_element (key_of s) (k, n, []) has) in
+        some (sym is ∙ ap entering_of same ∙ none)
 
-pub after-plan_part : (j : Known) (a : List (Word × Word)) (b c : List (Word × ℕ))
-    → names_after (checking j) (plan_said a b c) ≡ all_entered j a b c
-after-plan_part j a b c =
-    let k = entered (checking j) Plan in
-    let started = with_started k (map (λ p. p.0) a) in
-    let priced = with_priced started (map (λ p. p.0) b) in
-    after-append k (map start_said a) (map price_said b ++ (map price_said c ++ End ∷ []))
-    ∙ ap (λ i. names_after i (map price_said b ++ (map price_said c ++ End ∷ []))) (after-starts k a refl)
-    ∙ after-append started (map price_said b) (map price_said c ++ End ∷ [])
-    ∙ ap (λ i. names_after i (map price_said c ++ End ∷ [])) (after-prices started b refl)
-    ∙ after-append priced (map price_said c) (End ∷ [])
-    ∙ ap (λ i. entered i End) (after-prices priced c refl)
+    of : (e : Entering) → entering_of s.keyword ≡ e → Contains (keys_of (entered_by e s)) (k, n, []) → ⊥
+    of Nothing is has = absurd (let lt = has.1 in omega arith)
+    of InTurn is has = absurd (let lt = has.1 in omega arith)
+    of Alone is has = row Alone is (λ e. cc) has
+    of ByWord is has = row ByWord is (λ e. cc) has
+    of ByPair is has = row ByPair is (λ e. cc) has
 
-flat_map-map : {X Y Z : Type 0} (f : Y → List Z) (g : X → Y) (xs : List X)
-    → flat_map f (map g xs) ≡ flat_map (λ x. f (g x)) xs
-flat_map-map f g [] = refl
-flat_map-map f g (x ∷ xs) = ap (λ more. f (g x) ++ more) (flat_map-map f g xs)
+rows-map : {X : Type 0} (f : X → Statement) → ((x : X) → entered_of (f x) ≡ f x ∷ []) → (xs : List X)
+    → rows_in (map f xs) ≡ map f xs
+rows-map f one [] = refl
+rows-map f one (x ∷ xs) =
+    ap (λ (l : List Statement). l ++ rows_in (map f xs)) (one x)
+    ∙ ap (λ (l : List Statement). f x ∷ l) (rows-map f one xs)
 
--- what is read of each of the lines, in a row
-pub flat_map-plan : {X : Type 0} (f : Statement → List X) (a : List (Word × Word)) (b c : List (Word × ℕ))
-    → f Plan ≡ [] → f End ≡ []
-    → flat_map f (plan_said a b c) ≡ flat_map (λ p. f (start_said p)) a
-    ++ (flat_map (λ p. f (price_said p)) b ++ flat_map (λ p. f (price_said p)) c)
-flat_map-plan f a b c first last = simp (first, flat_map-append, flat_map-map, last, append-nil)
+-- all rows of a plan
+abbrev pub plan_rows : List (Word × Word) → List (Word × ℕ) → List (Word × ℕ) → List Statement
+plan_rows a b c = map start_said a ++ (map price_said b ++ map price_said c)
 
-pub flat_map-none : {X Y : Type 0} (xs : List X) → flat_map {A = Y} (λ x. []) xs ≡ []
-flat_map-none [] = refl
-flat_map-none (x ∷ xs) = flat_map-none xs
+rows-append : (ss ts : List Statement) → rows_in (ss ++ ts) ≡ rows_in ss ++ rows_in ts
+rows-append ss ts = flat_map-append entered_of ss ts
+
+pub rows-plan : (head : List Statement) (a : List (Word × Word)) (b c : List (Word × ℕ))
+    → rows_in (head ++ plan_said a b c) ≡ rows_in head ++ plan_rows a b c
+rows-plan head a b c =
+    let starts = map start_said a in
+    let ps = map price_said b in
+    let qs = map price_said c in
+    let last : rows_in (qs ++ said End [] ∷ []) ≡ qs =
+    rows-append qs (said End [] ∷ []) ∙ append-nil (rows_in qs) ∙ rows-map price_said (λ x. refl) c in
+    let prices : rows_in (ps ++ (qs ++ said End [] ∷ [])) ≡ ps ++ qs =
+    rows-append ps (qs ++ said End [] ∷ [])
+    ∙ (λ i. rows-map price_said (λ x. refl) b i ++ last i) in
+    rows-append head (plan_said a b c)
+    ∙ ap (λ (l : List Statement). rows_in head ++ l)
+    (rows-append starts (ps ++ (qs ++ said End [] ∷ []))
+    ∙ (λ i. rows-map start_said (λ x. refl) a i ++ prices i))
+
+pub rows-end : (head : List Statement) → rows_in (head ++ said End [] ∷ []) ≡ rows_in head
+rows-end head = rows-append head (said End [] ∷ []) ∙ append-nil (rows_in head)
+
+-- rows of another keyword
+pub rows-other : (k : Keyword) (rows : List Statement) (a : List (Word × Word)) (b c : List (Word × ℕ))
+    → ((p : Word × Word) (ss : List Statement) → rows_of k (start_said p ∷ ss) ≡ rows_of k ss)
+    → ((p : Word × ℕ) (ss : List Statement) → rows_of k (price_said p ∷ ss) ≡ rows_of k ss)
+    → rows_of k (rows ++ plan_rows a b c) ≡ rows_of k rows
+rows-other k rows a b c no_start no_price =
+    let none : rows_of k (plan_rows a b c) ≡ [] =
+    filter-append (is_of k) (map start_said a) (map price_said b ++ map price_said c)
+    ∙ ap (λ (l : List Statement). l ++ rows_of k (map price_said b ++ map price_said c)) (no_name k start_said no_start a)
+    ∙ filter-append (is_of k) (map price_said b) (map price_said c)
+    ∙ ap (λ (l : List Statement). l ++ rows_of k (map price_said c)) (no_name k price_said no_price b)
+    ∙ no_name k price_said no_price c in
+    filter-append (is_of k) rows (plan_rows a b c) ∙ ap (λ (l : List Statement). rows_of k rows ++ l) none
+    ∙ append-nil (rows_of k rows)
+
+pub rows-start : (rows : List Statement) (a : List (Word × Word)) (b c : List (Word × ℕ)) → rows_of Start rows ≡ []
+    → rows_of Start (rows ++ plan_rows a b c) ≡ map start_said a
+rows-start rows a b c none =
+    filter-append (is_of Start) rows (plan_rows a b c)
+    ∙ ap (λ (l : List Statement). l ++ rows_of Start (plan_rows a b c)) none
+    ∙ filter-append (is_of Start) (map start_said a) (map price_said b ++ map price_said c)
+    ∙ (λ i. start_rows a i ++ rows_of Start (map price_said b ++ map price_said c))
+    ∙ ap (λ (l : List Statement). map start_said a ++ l)
+    (filter-append (is_of Start) (map price_said b) (map price_said c)
+    ∙ (λ i. no_name Start price_said (λ x ss. refl) b i ++ no_name Start price_said (λ x ss. refl) c i))
+    ∙ append-nil (map start_said a)
+
+pub rows-price : (rows : List Statement) (a : List (Word × Word)) (b c : List (Word × ℕ)) → rows_of Price rows ≡ []
+    → rows_of Price (rows ++ plan_rows a b c) ≡ map price_said b ++ map price_said c
+rows-price rows a b c none =
+    filter-append (is_of Price) rows (plan_rows a b c)
+    ∙ ap (λ (l : List Statement). l ++ rows_of Price (plan_rows a b c)) none
+    ∙ filter-append (is_of Price) (map start_said a) (map price_said b ++ map price_said c)
+    ∙ ap (λ (l : List Statement). l ++ rows_of Price (map price_said b ++ map price_said c))
+    (no_name Price start_said (λ x ss. refl) a)
+    ∙ filter-append (is_of Price) (map price_said b) (map price_said c)
+    ∙ (λ i. price_rows b i ++ price_rows c i)

@@ -1,5 +1,5 @@
 -- Words that a line can be put together from: names, numbers, and given words.
-use Rattle.std.proofs.Common.{ℕ, List, [], ◌∷◌, ◌≡◌, ◌<◌, ◌^◌, ◌∙◌, inl, inr, false, length, codes, refl, sym, ap, subst, arith, rules, get_or, suc}
+use Rattle.std.proofs.Common.{ℕ, List, [], ◌∷◌, ◌≡◌, ◌<◌, ◌^◌, ◌∙◌, inl, inr, length, codes, ap, arith, rules, get_or, suc, zero}
 use Rattle.std.specs.Fmt.{decimal}
 use Rattle.std.specs.List.{All}
 use Rattle.std.proofs.lemmas.Bool.{cases_lt}
@@ -7,11 +7,13 @@ use Rattle.std.proofs.lemmas.Fmt.{decimal_digit, decimal_nonempty, digits_decima
 use Rattle.std.proofs.lemmas.List.Elements.{All-append, All-cons, All-from_recursion, All-head, All-nil, All-tail, All-weaker}
 use Rattle.std.proofs.lemmas.Str.Parse.{IsDigitsTest, IsNumeralModel, numerals_by_fold}
 use Rattle.text_lines.specs.Texts.{IsDigit, IsName, IsNameByte, IsNumber, IsPrintable, Word, number_from, number_of}
-use Rattle.plan_lines.specs.Statements.{IsWord, Say, Says, Spells, Statement}
-use Rattle.plan_lines.specs.Statements as statement
-use Rattle.plan_lines.specs.Known.{Known}
-use Rattle.plan_lines.specs.Fits.{IsFit}
-use Rattle.plan_text.specs.Draft.{IsFitLine}
+use Rattle.line_shapes.specs.Demands.{Meets}
+use Rattle.line_shapes.specs.Keywords.{text_of}
+use Rattle.line_shapes.specs.Lines.{Says, Statement}
+use Rattle.line_shapes.specs.Places.{place_at}
+use Rattle.line_shapes.specs.declared.demand.Demand.TheVariants.{Shape}
+use Rattle.line_shapes.specs.declared.keyword.Keyword.{Keyword}
+use Rattle.line_shapes.specs.declared.keyword.Keyword.TheVariants.{Plan, Start, Price, End}
 use Rattle.written_plan.proofs.Lines.{IsPlain, spaced, words_of-spaced}
 
 -- ---- names and numbers
@@ -71,24 +73,30 @@ printable-spaced (w ∷ v ∷ ws) h =
     (All-cons IsPrintable 32 (spaced (v ∷ ws)) (omega arith, omega arith)
     (printable-spaced (v ∷ ws) (All-tail (All IsPlain) w (v ∷ ws) h)))
 
--- what a line that is put together from words is to keep to
-pub record IsMade (w : Word) (ws : List Word) (s : Statement) : Type 0 where
-  pub plain : All (All IsPlain) (w ∷ ws)
-  pub words : All IsWord (w ∷ ws)
-  pub spells : Spells (w ∷ ws) s
+-- ---- what holds of each word of a short line
 
-pub fit-made : (k : Known) (w : Word) (ws : List Word) (s : Statement) → IsMade w ws s → k.is_ended ≡ false
-    → IsFit k s
-    → IsFitLine k (spaced (w ∷ ws)) s
-fit-made k w ws s made not_ended fit = record {
-  printable = printable-spaced (w ∷ ws) made.plain;
-  not_ended = not_ended;
-  says = subst (λ words. Say words s) (sym (words_of-spaced w ws made.plain))
-      (record { words = made.words; filled = made.spells });
-  fit = fit;
-}
+pub none_of : (P : ℕ → Word → Type 0) (i : ℕ) → i < length {A = Word} [] → P i (get_or [] i [])
+none_of P i lt = absurd (omega arith)
+
+pub both_of : (P : ℕ → Word → Type 0) (a b : Word) → P 0 a → P 1 b
+    → (i : ℕ) → i < length (a ∷ b ∷ []) → P i (get_or (a ∷ b ∷ []) i [])
+both_of P a b p q zero lt = p
+both_of P a b p q (suc zero) lt = q
+both_of P a b p q (suc (suc i)) lt = absurd (omega arith)
 
 -- ---- the lines of a plan
+
+-- the line of a keyword and these words
+abbrev pub said : Keyword → List Word → Statement
+said k ws = record { keyword = k; words = ws }
+
+abbrev pub line_of : Keyword → List Word → List ℕ
+line_of k ws = spaced (text_of k ∷ ws)
+
+-- its bytes can be printed, and it says its words
+pub record IsMade (k : Keyword) (ws : List Word) : Type 0 where
+  pub printable : All IsPrintable (line_of k ws)
+  pub says : Says (line_of k ws) (said k ws)
 
 all_three : {X : Type 0} (P : X → Type 0) (a b c : X) → P a → P b → P c → All P (a ∷ b ∷ c ∷ [])
 all_three P a b c p q r = All-cons P a (b ∷ c ∷ []) p (All-cons P b (c ∷ []) q (All-cons P c [] r (All-nil P)))
@@ -108,35 +116,54 @@ plain-plan = All-from_recursion IsPlain (codes "plan") (search rules)
 plain-end : All IsPlain (codes "end")
 plain-end = All-from_recursion IsPlain (codes "end") (search rules)
 
-pub made-start : (split worker : Word) → IsName split → IsName worker
-    → IsMade (codes "start") (split ∷ worker ∷ []) (statement.Start split worker)
-made-start split worker s w = record {
-  plain = all_three (All IsPlain) (codes "start") split worker plain-start (plain-name split s)
-      (plain-name worker w);
-  words = all_three IsWord (codes "start") split worker (omega arith) s.0 w.0;
-  spells = (refl, (refl, (refl, tt)));
-}
+pub made-start : (split worker : Word) → IsName split → IsName worker → IsMade Start (split ∷ worker ∷ [])
+made-start split worker s w =
+    let plain = all_three (All IsPlain) (codes "start") split worker plain-start (plain-name split s)
+    (plain-name worker w) in
+    record {
+      printable = printable-spaced (codes "start" ∷ split ∷ worker ∷ []) plain;
+      says = record {
+        spelled = words_of-spaced (codes "start") (split ∷ worker ∷ []) plain;
+        many = omega arith;
+        shape = both_of (λ i v. Meets Shape (place_at Start i) v) split worker s.0 w.0;
+      };
+    }
 
 pub made-price : (name : Word) (amount : ℕ) → IsName name → amount < 2 ^ 64
-    → IsMade (codes "price") (name ∷ decimal amount ∷ []) (statement.Price name amount)
-made-price name amount n small = record {
-  plain = all_three (All IsPlain) (codes "price") name (decimal amount) plain-price (plain-name name n)
-      (plain-decimal amount small);
-  words = all_three IsWord (codes "price") name (decimal amount) (omega arith) n.0
-      (decimal_nonempty amount small);
-  spells = (refl, (refl, ((number-decimal amount small, number_of-decimal amount small), tt)));
-}
+    → IsMade Price (name ∷ decimal amount ∷ [])
+made-price name amount n small =
+    let plain = all_three (All IsPlain) (codes "price") name (decimal amount) plain-price (plain-name name n)
+    (plain-decimal amount small) in
+    record {
+      printable = printable-spaced (codes "price" ∷ name ∷ decimal amount ∷ []) plain;
+      says = record {
+        spelled = words_of-spaced (codes "price") (name ∷ decimal amount ∷ []) plain;
+        many = omega arith;
+        shape = both_of (λ i v. Meets Shape (place_at Price i) v) name (decimal amount) n.0
+            (number-decimal amount small);
+      };
+    }
 
-pub made-plan : IsMade (codes "plan") [] statement.Plan
-made-plan = record {
-  plain = all_one (All IsPlain) (codes "plan") plain-plan;
-  words = all_one IsWord (codes "plan") (omega arith);
-  spells = (refl, tt);
-}
+pub made-plan : IsMade Plan []
+made-plan =
+    let plain = all_one (All IsPlain) (codes "plan") plain-plan in
+    record {
+      printable = printable-spaced (codes "plan" ∷ []) plain;
+      says = record {
+        spelled = words_of-spaced (codes "plan") [] plain;
+        many = omega arith;
+        shape = none_of (λ i v. Meets Shape (place_at Plan i) v);
+      };
+    }
 
-pub made-end : IsMade (codes "end") [] statement.End
-made-end = record {
-  plain = all_one (All IsPlain) (codes "end") plain-end;
-  words = all_one IsWord (codes "end") (omega arith);
-  spells = (refl, tt);
-}
+pub made-end : IsMade End []
+made-end =
+    let plain = all_one (All IsPlain) (codes "end") plain-end in
+    record {
+      printable = printable-spaced (codes "end" ∷ []) plain;
+      says = record {
+        spelled = words_of-spaced (codes "end") [] plain;
+        many = omega arith;
+        shape = none_of (λ i v. Meets Shape (place_at End i) v);
+      };
+    }

@@ -5,9 +5,9 @@ use Rattle.wave_problem.specs.Wave.{Wave}
 use Rattle.wave_problem.specs.Assignment.{start_of}
 use Rattle.price_certificate.specs.PriceList.{PriceList}
 use Rattle.text_lines.specs.Texts.{Word}
-use Rattle.plan_lines.specs.Statements.{Statement}
-use Rattle.plan_lines.specs.Faults.{Reads, longest}
-use Rattle.plan_lines.specs.declared.purpose.Purpose.TheVariants.{Checking, Planning}
+use Rattle.line_shapes.specs.Lines.{Statement}
+use Rattle.line_rules.specs.Texts.{Reads, longest}
+use Rattle.line_rules.specs.declared.purpose.Purpose.TheVariants.{Checking, Planning}
 use Rattle.plan_text.specs.Reading.{HasFitLines, IsProblemOf}
 use Rattle.plan_text.specs.Report.{lines_of_plan}
 use Rattle.plan_text.specs.Value as value
@@ -40,7 +40,7 @@ pub record IsPlanFor (splits workers : List Word) (starts : List (Option ℕ)) (
 pub record ReadsBack (text : List ℕ) (wave : Wave) (starts : List (Option ℕ)) (prices : PriceList) : Type 0 where
   pub statements : List Statement
   pub reads : Reads Checking text statements
-  pub declared : DeclaresWave Checking statements wave
+  pub declared : DeclaresWave statements wave
   pub same_starts : value.starts statements ≡ starts
   pub same_prices : value.prices statements ≡ prices
 

@@ -2,7 +2,7 @@
 //!
 //! The head of a text to plan from, a line `plan`, the lines that are written for starts and prices, and
 //! `end` make a text without a fault, which declares the same wave, starts and prices. It stands on the
-//! lines of `plan_lines` and the texts of `plan_text`, for the program that writes plans.
+//! rows of `line_rules` and the texts of `plan_text`, for the program that writes plans.
 #![tactic(auto)]
 
 ghost use Rattle.written_plan.specs.Joined.{WrittenPlanReadsBack};

@@ -1,19 +1,70 @@
-use Rattle.std.proofs.Common.{◌<◌, ap, arith, length}
+use Rattle.std.proofs.Common.{List, [], ◌∷◌, ◌++◌, ◌≡◌, ◌∙◌, arith, subst, sym, take}
+use Rattle.std.specs.Prelude.{◌↔◌}
+use Rattle.node_ids.specs.Sets.{HasPair}
+use Rattle.text_lines.specs.Texts.{Word}
+use Rattle.line_shapes.specs.Lines.{Statement}
+use Rattle.line_shapes.specs.contracts.keyword.Keyword.{the_type}
+use Rattle.line_shapes.specs.declared.keyword.Keyword.TheVariants.{Barred, Split, Worker}
+use Rattle.line_rules.specs.Known.{rows_of}
+use Rattle.line_rules.specs.declared.rows.Row.{Row}
+use denote.Enum.Bare.{same_true, true_same}
+use Rattle.plan_text.specs.Names.{names_of, said_in}
+use Rattle.plan_text.specs.Tidy.{IsTidyBar}
+use Rattle.plan_text.specs.Value.{IsBarred}
+use Rattle.plan_text.proofs.Named.{at_element, row_of_keyword, rows_more, rows_same}
 use Rattle.plan_text.proofs.Numbers.{none_barred, one_more_barred}
+use Rattle.plan_text.proofs.Words.{tidy_bars}
 use Rattle.plan_text.proofs.built.build_barred.Goals as goal
+use Rattle.plan_text.proofs.built.build_barred.Goals.{in-None, in-Some+else-eq, in-Some+then-eq}
+
+pub bar-requires-clause-known : goal.bar-requires-clause-known
+bar-requires-clause-known c =
+    let rows = c.args.rows.now in
+    let row : Row = c.in-Some.row in
+    let found = c.in-Some.ensures in
+    let same : row.keyword ≡ Barred =
+    same_true the_type tt row.keyword Barred (sym c.eq.ensures ∙ c.if-eq.true) in
+    let bar = at_element (IsTidyBar (names_of Split rows) (names_of Worker rows)) (rows_of Barred rows) (said_in row)
+    (tidy_bars rows c.requires.tidy)
+    (row_of_keyword Barred rows c.loop-place.place (said_in row) found.0 found.1 same) in
+    subst (λ (splits : List Word). IsTidyBar splits c.args.workers.now (said_in row)) (sym c.requires.splits)
+    (subst (λ (workers : List Word). IsTidyBar (names_of Split rows) workers (said_in row))
+    (sym c.requires.workers) bar)
 
 pub loop-place-init : goal.loop-place-init
 loop-place-init c s w lt = (
   λ has. absurd (c.in_ok-set.ensures.members s w has),
-  λ barred. absurd (none_barred c.args.names.now.splits c.args.names.now.workers s w barred),
+  λ barred. absurd (none_barred c.args.splits.now c.args.workers.now s w barred),
 )
 
 pub loop-place-preserved : goal.loop-place-preserved
-loop-place-preserved c s w lt =
-    let k = c.args.names.now in
+loop-place-preserved c s n lt =
+    let rows = c.args.rows.now in
+    let splits = c.args.splits.now in
+    let workers = c.args.workers.now in
     let place = c.loop-place.place in
-    let same = ap length c.barred.ensures in
-    let inside : place < length k.barred =
-    omega (arith, same, c.len-place-end.ensures, c.loop-place-test.true) in
-    one_more_barred k.splits k.workers k.barred place s w _ _ inside (c.bar.ensures s w lt)
-    (c.loop-place.invariant s w lt)
+    let Bars : List Statement → Type 0 = λ lines. HasPair c.match-row.set s n ↔ IsBarred splits workers lines s n in
+    elim c.match-row.branch [
+      | in-Some+then-eq w ↦
+          let row : Row = w.in-Some.row in
+          let found = w.in-Some.ensures in
+          let same : row.keyword ≡ Barred =
+          same_true the_type tt row.keyword Barred (sym w.eq.ensures ∙ w.if-eq.true) in
+          let step = one_more_barred splits workers (rows_of Barred (take place rows)) (said_in row) s n _ _
+          (w.bar.ensures s n lt) (c.loop-place.invariant s n lt) in
+          subst Bars (sym (rows_more Barred rows place (said_in row) found.0 found.1 same))
+          (subst (λ set. HasPair set s n
+          ↔ IsBarred splits workers (rows_of Barred (take place rows) ++ said_in row ∷ []) s n) (sym w.set-is) step)
+      | in-Some+else-eq w ↦
+          let row : Row = w.in-Some.row in
+          let found = w.in-Some.ensures in
+          let other : row.keyword ≡ Barred → ⊥ =
+          λ e. let same = sym (true_same the_type row.keyword Barred e) ∙ sym w.eq.ensures ∙ w.if-eq.false in
+          absurd cc in
+          subst Bars (sym (rows_same Barred rows place (said_in row) found.0 found.1 other))
+          (subst (λ set. HasPair set s n ↔ IsBarred splits workers (rows_of Barred (take place rows)) s n)
+          (sym w.set-is) (c.loop-place.invariant s n lt))
+      | in-None w ↦
+          let past = w.in-None.ensures in
+          absurd (omega (arith, past, c.loop-place-test.true, c.len-place-end.ensures))
+    ]

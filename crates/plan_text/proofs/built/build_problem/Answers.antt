@@ -1,82 +1,62 @@
-use Rattle.std.proofs.Common.{◌≡◌, ◌∙◌, ◌↔◌, Err, List, ap, sym, subst, map, length}
+use Rattle.std.proofs.Common.{List, ◌∙◌, ◌↔◌, Err, ap, length, map, subst, sym}
 use Rattle.std.specs.List.{All}
 use Rattle.text_lines.specs.Texts.{Word}
+use Rattle.line_shapes.specs.Lines.{Statement}
+use Rattle.line_shapes.specs.declared.keyword.Keyword.TheVariants.{Barred, Split, Worker}
+use Rattle.line_rules.specs.Known.{rows_of}
 use Rattle.node_ids.specs.Sets.{HasPair}
-use Rattle.rack_tree.specs.Tree.{Tree}
 use Rattle.wave_problem.proofs.Made.{moved_held, moved_small}
-use Rattle.wave_problem.specs.Wave.{Split, Wave}
-use Rattle.wave_problem.specs.declared.lines.WorkerLine.{WorkerLine}
-use Rattle.plan_lines.specs.Rows.{entries_in, entry_of_split, entry_of_worker}
-use Rattle.plan_lines.specs.Tidy.{IsTidyWorker}
-use Rattle.plan_lines.specs.declared.rows.SplitRow.{SplitRow}
-use Rattle.plan_lines.specs.declared.rows.WorkerRow.{WorkerRow}
-use Rattle.plan_text.proofs.Parts.{all_held, all_small, each_of}
-use Rattle.plan_text.specs.Value.{split_line, tree_of, worker_line, IsBarred}
+use Rattle.wave_problem.specs.Wave.{Wave}
+use Rattle.plan_text.specs.Names.{names_of, said_in, word_at}
+use Rattle.plan_text.specs.Tidy.{IsAtMost}
+use Rattle.plan_text.specs.Value.{IsBarred, worker_line}
+use Rattle.plan_text.proofs.Parts.{all_held, all_small}
+use Rattle.plan_text.proofs.Words.{tidy_workers}
 use Rattle.plan_text.proofs.built.build_problem.Goals as goal
 
-same_workers : (dead seen : List Word) (rows held : List WorkerRow) (lines : List WorkerLine)
-    → dead ≡ seen → rows ≡ held → lines ≡ map (worker_line dead) (map entry_of_worker rows)
-    → map (worker_line seen) (map entry_of_worker held) ≡ lines
-same_workers dead seen rows held lines e f is =
-    sym (is ∙ ap (λ d. map (worker_line d) (map entry_of_worker rows)) e
-    ∙ ap (λ r. map (worker_line seen) (map entry_of_worker r)) f)
-
-same_splits : (workers known busy seen : List Word) (rows held : List SplitRow) (lines : List Split)
-    → workers ≡ known → busy ≡ seen → rows ≡ held
-    → lines ≡ map (split_line workers busy) (map entry_of_split rows)
-    → map (split_line known seen) (map entry_of_split held) ≡ lines
-same_splits workers known busy seen rows held lines d e f is =
-    sym (is ∙ ap (λ w. map (split_line w busy) (map entry_of_split rows)) d
-    ∙ ap (λ b. map (split_line known b) (map entry_of_split rows)) e
-    ∙ ap (λ r. map (split_line known seen) (map entry_of_split r)) f)
-
-same_tree : (racks known : List Word) (rows held : List WorkerRow) (tree : Tree)
-    → racks ≡ known → rows ≡ held → tree ≡ tree_of racks (map entry_of_worker rows)
-    → tree ≡ tree_of known (map entry_of_worker held)
-same_tree racks known rows held tree e f is =
-    is ∙ ap (λ r. tree_of r (map entry_of_worker rows)) e ∙ ap (λ r. tree_of known (map entry_of_worker r)) f
-
-pub build_tree-requires-clause-known : goal.build_tree-requires-clause-known
-build_tree-requires-clause-known c =
-    subst (λ racks. All (IsTidyWorker racks) (map entry_of_worker c.deref.result.now)) (sym c.racks.ensures)
-    (subst (λ rows. All (IsTidyWorker c.args.names.now.racks) (map entry_of_worker rows))
-    (sym c.deref.ensures.value) c.requires.tidy_workers)
-
 pub build_workers-requires : goal.build_workers-requires
-build_workers-requires c k d lt =
-    let tidy = each_of (IsTidyWorker c.args.names.now.racks) entry_of_worker c.deref-2.result.now
-    c.args.rows.now.workers.items c.deref-2.ensures.value c.requires.tidy_workers in
-    (tidy k d lt).slots
+build_workers-requires c =
+    let lines = ap (map said_in) c.deref.ensures.value ∙ c.in_ok-worker_rows.ensures in
+    subst (λ (l : List Statement). All (λ s. IsAtMost (word_at 2 s) 16) l) (sym lines)
+    (λ i d lt. (tidy_workers c.args.rows.now c.requires.tidy i d lt).slots)
+
+pub build_tree-requires-clause-workers : goal.build_tree-requires-clause-workers
+build_tree-requires-clause-workers c = ap (map said_in) c.deref-2.ensures.value ∙ c.in_ok-worker_rows.ensures
 
 pub unreachable-requires : goal.unreachable-requires
 unreachable-requires c =
-    let workers = same_workers _ _ _ _ _ c.dead.ensures c.deref-2.ensures.value c.in_ok-workers.ensures in
-    let splits = same_splits _ _ _ _ _ _ _ c.workers.ensures c.busy.ensures c.deref-3.ensures.value
-    c.in_ok-splits.ensures in
+    let lines = ap (map said_in) c.deref.ensures.value ∙ c.in_ok-worker_rows.ensures in
+    let workers = sym (c.in_ok-worker_lines.ensures
+    ∙ (λ i. map (worker_line (c.in_ok-dead.ensures i)) (lines i))) in
     c.new.ensures.limit.0 (c.in-Err-Limit.is ∙ ap Err c.in-Err-Limit.field-0-is)
-    (moved_small _ _ _ _ workers splits (all_small c.args.names.now (entries_in c.args.rows.now) c.requires))
+    (moved_small _ _ _ _ workers (sym c.in_ok-split_lines.ensures) (all_small c.args.rows.now c.requires.tidy))
 
 pub unreachable-requires-in-Err-Holder : goal.unreachable-requires-in-Err-Holder
 unreachable-requires-in-Err-Holder c =
-    let workers = same_workers _ _ _ _ _ c.dead.ensures c.deref-2.ensures.value c.in_ok-workers.ensures in
-    let splits = same_splits _ _ _ _ _ _ _ c.workers.ensures c.busy.ensures c.deref-3.ensures.value
-    c.in_ok-splits.ensures in
-    let held = all_held c.args.names.now (entries_in c.args.rows.now) c.requires in
+    let lines = ap (map said_in) c.deref.ensures.value ∙ c.in_ok-worker_rows.ensures in
+    let workers = sym (c.in_ok-worker_lines.ensures
+    ∙ (λ i. map (worker_line (c.in_ok-dead.ensures i)) (lines i))) in
+    let held = all_held c.args.rows.now c.requires.tidy in
     (c.new.ensures.holder.0 (c.in-Err-Holder.is ∙ ap Err c.in-Err-Holder.field-0-is)).1
-    (moved_held _ _ _ _ (ap length workers) splits held)
+    (moved_held _ _ _ _ (ap length workers) (sym c.in_ok-split_lines.ensures) held)
 
 pub returns-in-Ok : goal.returns-in-Ok
 returns-in-Ok c =
-    let names = c.args.names.now in
+    let rows = c.args.rows.now in
     let made = c.in-Ok.ensures.ok in
-    let tree = same_tree _ _ _ _ _ c.racks.ensures c.deref.ensures.value c.in_ok-tree.ensures in
-    let workers = same_workers _ _ _ _ _ c.dead.ensures c.deref-2.ensures.value c.in_ok-workers.ensures in
-    let splits = same_splits _ _ _ _ _ _ _ c.workers.ensures c.busy.ensures c.deref-3.ensures.value
-    c.in_ok-splits.ensures in
+    let lines = ap (map said_in) c.deref.ensures.value ∙ c.in_ok-worker_rows.ensures in
     record {
-      tree = ap (λ (w : Wave). w.tree) made ∙ tree;
-      workers = ap (λ (w : Wave). w.workers) made ∙ sym workers;
-      splits = ap (λ (w : Wave). w.splits) made ∙ sym splits;
-      barred = λ s w few. subst (λ set. HasPair set s w ↔ IsBarred names.splits names.workers names.barred s w)
-          (sym (ap (λ (w : Wave). w.barred) made)) (c.in_ok-barred.ensures s w few);
+      tree = ap (λ (w : Wave). w.tree) made ∙ c.in_ok-tree.ensures;
+      workers = ap (λ (w : Wave). w.workers) made ∙ c.in_ok-worker_lines.ensures
+          ∙ (λ i. map (worker_line (c.in_ok-dead.ensures i)) (lines i));
+      splits = ap (λ (w : Wave). w.splits) made ∙ c.in_ok-split_lines.ensures;
+      barred = λ s w few.
+          subst (λ set. HasPair set s w
+          ↔ IsBarred (names_of Split rows) (names_of Worker rows) (rows_of Barred rows) s w)
+          (sym (ap (λ (w : Wave). w.barred) made))
+          (subst (λ (ss : List Word). HasPair c.in_ok-barred.barred s w
+          ↔ IsBarred ss (names_of Worker rows) (rows_of Barred rows) s w) c.requires.splits
+          (subst (λ (ws : List Word). HasPair c.in_ok-barred.barred s w
+          ↔ IsBarred c.args.splits.now ws (rows_of Barred rows) s w) c.requires.workers
+          (c.in_ok-barred.ensures s w few)));
     }

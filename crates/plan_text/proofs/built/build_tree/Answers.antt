@@ -1,32 +1,17 @@
-use Rattle.std.proofs.Common.{ℕ, List, [], ◌∷◌, ◌++◌, ◌∙◌, Bor, ap, sym}
-use Rattle.std.specs.List.{slice_index_or}
-use Rattle.plan_lines.proofs.Mapped.{All-map_iff}
-use Rattle.plan_lines.specs.Rows.{entry_of_worker}
-use Rattle.plan_lines.specs.Tidy.{IsTidyWorker}
-use Rattle.plan_lines.specs.declared.rows.WorkerRow.{WorkerRow}
-use Rattle.plan_text.proofs.Parts.{mapped_more}
-use Rattle.plan_text.specs.Value.{number_in, rack_number}
+use Rattle.std.proofs.Common.{List, map, subst, sym}
+use Rattle.std.specs.List.{All}
+use Rattle.text_lines.specs.Texts.{Word}
+use Rattle.line_shapes.specs.Lines.{Statement}
+use Rattle.line_shapes.specs.declared.keyword.Keyword.TheVariants.{Rack}
+use Rattle.plan_text.specs.Names.{names_of, said_in}
+use Rattle.plan_text.specs.Tidy.{IsTidyWorker}
+use Rattle.plan_text.proofs.Words.{tidy_workers}
 use Rattle.plan_text.proofs.built.build_tree.Goals as goal
 
-abbrev nothing : Bor (List ℕ)
-nothing = record { ref_ptr = (0, 0); now = [] }
-
-abbrev no_row : WorkerRow
-no_row = record { name = nothing; rack = nothing; slots = 0 }
-
-pub add_worker-requires-clause-known : goal.add_worker-requires-clause-known
-add_worker-requires-clause-known c =
-    let tidy = All-map_iff (IsTidyWorker c.args.racks.now) entry_of_worker c.args.rows.now in
-    (tidy.1 c.requires.known c.loop-row.row-index no_row c.loop-row-test.true).rack
-
-pub loop-row-preserved : goal.loop-row-preserved
-loop-row-preserved c =
-    let racks = c.args.racks.now in
+pub add_workers-requires-clause-known : goal.add_workers-requires-clause-known
+add_workers-requires-clause-known c =
     let rows = c.args.rows.now in
-    let i = c.loop-row.row-index in (
-      c.in_ok-add_worker.ensures.centres ∙ c.loop-row.invariant.0,
-      c.in_ok-add_worker.ensures.racks ∙ c.loop-row.invariant.1,
-      c.in_ok-add_worker.ensures.workers
-          ∙ ap (λ l. l ++ number_in racks (slice_index_or rows i no_row).rack.now ∷ []) c.loop-row.invariant.2
-          ∙ sym (mapped_more (rack_number racks) entry_of_worker rows i no_row c.loop-row-test.true),
-    )
+    subst (λ (racks : List Word). All (IsTidyWorker racks) (map said_in c.args.worker_rows.now))
+    (sym c.in_ok-racks.ensures)
+    (subst (λ (l : List Statement). All (IsTidyWorker (names_of Rack rows)) l) (sym c.requires.workers)
+    (tidy_workers rows c.requires.tidy))

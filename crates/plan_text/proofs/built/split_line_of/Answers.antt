@@ -1,29 +1,27 @@
-use Rattle.std.proofs.Common.{ℕ, List, ◌≡◌, ◌∙◌, Bool, ap, map, not, sym}
-use Rattle.std.specs.List.{Contains}
+use Rattle.std.proofs.Common.{ℕ, List, ◌≡◌, ◌∙◌, ap, map, not, subst, sym}
+use Rattle.std.specs.List.{All, Contains}
 use Rattle.std.proofs.lemmas.Simd.{map-map}
-use Rattle.wave_problem.specs.Wave.{Split}
+use Rattle.text_lines.specs.Texts.{number_of}
+use Rattle.line_shapes.specs.Lines.{tail_of}
+use Rattle.plan_text.specs.Names.{said_in, word_at}
+use Rattle.plan_text.specs.Value.{number_in, stands_in}
 use Rattle.plan_text.proofs.Numbers.{stands_by}
-use Rattle.plan_text.proofs.Parts.{each_of}
-use Rattle.plan_text.specs.Value.{number_in}
+use Rattle.plan_text.proofs.Parts.{All-unmap}
 use Rattle.plan_text.proofs.built.split_line_of.Goals as goal
 
 pub worker_nos-requires-clause-known : goal.worker_nos-requires-clause-known
 worker_nos-requires-clause-known c =
-    each_of (Contains c.args.workers.now) (λ h. h.now) c.deref.result.now c.args.row.now.holders.items
-    c.deref.ensures.value c.requires.known.holders
+    All-unmap (Contains c.args.workers.now) (λ h. h.now) c.holders.result.now
+    (subst (All (Contains c.args.workers.now)) (sym c.holders.ensures) c.requires.known.holders)
 
 pub returns : goal.returns
 returns c =
     let number : List ℕ → ℕ = number_in c.args.workers.now in
-    let row = c.args.row.now in
-    let line : Bool → List ℕ → Split = λ stands holders. record {
-      bytes = row.bytes;
-      pending = not stands;
-      holders = holders;
-    } in
-    let holders : c.in_ok-holders.holders.items ≡ map number (map (λ h. h.now) row.holders.items) =
-    c.in_ok-holders.ensures ∙ ap (map (λ n. number n.now)) c.deref.ensures.value
-    ∙ sym (map-map number (λ h. h.now) row.holders.items) in
-    ap (λ stands. line stands c.in_ok-holders.holders.items)
-    (stands_by c.has.result c.args.busy.now row.name.now c.has.ensures)
-    ∙ ap (line _) holders
+    let busy = c.args.busy.now in
+    let bytes = c.number.ensures ∙ ap number_of c.word.ensures in
+    let stands : c.has.result ≡ stands_in busy (word_at 0 (said_in c.args.row.now)) =
+    stands_by c.has.result busy c.word-2.result.now c.has.ensures ∙ ap (stands_in busy) c.word-2.ensures in
+    let holders : c.in_ok-holders.holders.items ≡ map number (tail_of (said_in c.args.row.now)) =
+    c.in_ok-holders.ensures ∙ sym (map-map number (λ h. h.now) c.holders.result.now)
+    ∙ ap (map number) c.holders.ensures in
+    λ i. record { bytes = bytes i; pending = not (stands i); holders = holders i }

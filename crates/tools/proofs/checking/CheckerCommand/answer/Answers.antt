@@ -1,5 +1,5 @@
 use Rattle.std.proofs.Common.{string_bytes}
-use Rattle.plan_lines.specs.declared.purpose.Purpose.TheVariants.{Checking}
+use Rattle.line_rules.specs.declared.purpose.Purpose.TheVariants.{Checking}
 use Rattle.tools.proofs.LeastFault.{tells_least}
 use Rattle.tools.proofs.checking.CheckerCommand.answer.Goals as goal
 

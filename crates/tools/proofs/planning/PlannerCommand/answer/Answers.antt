@@ -1,5 +1,5 @@
 use Rattle.std.proofs.Common.{string_bytes}
-use Rattle.plan_lines.specs.declared.purpose.Purpose.TheVariants.{Planning}
+use Rattle.line_rules.specs.declared.purpose.Purpose.TheVariants.{Planning}
 use Rattle.tools.proofs.BestPlans.{plans_read}
 use Rattle.tools.proofs.LeastFault.{tells_least}
 use Rattle.tools.proofs.planning.PlannerCommand.answer.Goals as goal

@@ -1,0 +1,60 @@
+-- The lowest faults of a line that may stand where it does.
+use Rattle.std.proofs.Common.{◌≤◌, arith}
+use Rattle.text_lines.specs.Faults.{number_of_fault}
+use Rattle.text_lines.specs.declared.fault.Fault.{Fault}
+use Rattle.text_lines.specs.declared.fault.Fault.TheVariants.{Shape, Misnamed, Unknown, Repeated}
+use Rattle.text_lines.specs.declared.fault.Fault.TheVariants.{OutOfRange, PassesLimit, Misplaced}
+use Rattle.text_lines.specs.declared.fault.Fault.TheVariants.{RepeatedHolder, SecondEntry, NoPrice, TooLong}
+use Rattle.text_lines.specs.declared.fault.Fault.TheVariants.{NoFeed, Unprintable, AfterEnd}
+use Rattle.line_shapes.specs.Lines.{IsNamed, Statement}
+use Rattle.line_rules.specs.Faults.{Fails, IsLeastOf, IsNew, IsWhole, Keep, MayStand}
+use Rattle.line_rules.specs.Known.{Known}
+use Rattle.line_rules.specs.declared.rule.Rule.TheVariants as rule
+
+past_names : (k : Known) (s : Statement) → IsWhole k s → IsNamed s → (g : Fault) → Fails k s g
+    → 3 ≤ number_of_fault g
+past_names k s whole named Shape h = absurd (h whole)
+past_names k s whole named Misnamed h = absurd (h.2 named)
+past_names k s whole named Unknown h = omega arith
+past_names k s whole named Repeated h = omega arith
+past_names k s whole named OutOfRange h = omega arith
+past_names k s whole named PassesLimit h = omega arith
+past_names k s whole named Misplaced h = omega arith
+past_names k s whole named RepeatedHolder h = omega arith
+past_names k s whole named SecondEntry h = omega arith
+past_names k s whole named NoPrice h = omega arith
+past_names k s whole named TooLong h = omega arith
+past_names k s whole named NoFeed h = omega arith
+past_names k s whole named Unprintable h = omega arith
+past_names k s whole named AfterEnd h = omega arith
+
+past_known : (k : Known) (s : Statement) → IsWhole k s → IsNamed s → Keep rule.Declared k.rows s → (g : Fault)
+    → Fails k s g → 4 ≤ number_of_fault g
+past_known k s whole named known Shape h = absurd (h whole)
+past_known k s whole named known Misnamed h = absurd (h.2 named)
+past_known k s whole named known Unknown h = absurd (h.2 known)
+past_known k s whole named known Repeated h = omega arith
+past_known k s whole named known OutOfRange h = omega arith
+past_known k s whole named known PassesLimit h = omega arith
+past_known k s whole named known Misplaced h = omega arith
+past_known k s whole named known RepeatedHolder h = omega arith
+past_known k s whole named known SecondEntry h = omega arith
+past_known k s whole named known NoPrice h = omega arith
+past_known k s whole named known TooLong h = omega arith
+past_known k s whole named known NoFeed h = omega arith
+past_known k s whole named known Unprintable h = omega arith
+past_known k s whole named known AfterEnd h = omega arith
+
+pub least_unknown : (k : Known) (s : Statement) → IsWhole k s → MayStand k s → IsNamed s
+    → (Keep rule.Declared k.rows s → ⊥) → IsLeastOf (Fails k s) Unknown
+least_unknown k s whole may_stand named fails = record {
+  applies = (whole, may_stand, fails);
+  least = λ g h. past_names k s whole named g h;
+}
+
+pub least_repeated : (k : Known) (s : Statement) → IsWhole k s → MayStand k s → IsNamed s
+    → Keep rule.Declared k.rows s → (IsNew k.rows s → ⊥) → IsLeastOf (Fails k s) Repeated
+least_repeated k s whole may_stand named known fails = record {
+  applies = (whole, may_stand, fails);
+  least = λ g h. past_known k s whole named known g h;
+}

@@ -1,0 +1,148 @@
+-- A line says one statement: no two keywords are spelled alike, and the words of a line are those of its keyword.
+use Rattle.std.proofs.Common.{ℕ, List, [], ◌∷◌, ◌≡◌, ◌∙◌, Bool, true, false, Option, Some, None, ap, cond, refl, suc, sym}
+use Rattle.std.specs.Prelude.{if◌then◌else◌, length}
+use Rattle.std.specs.List.{after_first, before_first, position_or_len}
+use Rattle.std.specs.Str.{bytes_eq}
+use Rattle.std.proofs.lemmas.List.Splits.{slice_split_first}
+use Rattle.text_lines.specs.Texts.{Line, Word, words_of}
+use Rattle.text_lines.proofs.Splitting.{cut_none}
+use Rattle.line_shapes.specs.Keywords.{text_of}
+use Rattle.line_shapes.specs.Lines.{Says, Statement, first_words, has_space, is_space, pieces, words_in}
+use Rattle.line_shapes.specs.Places.{more_of, places_of}
+use Rattle.line_shapes.specs.declared.keyword.Keyword.{Keyword}
+use Rattle.line_shapes.specs.declared.keyword.Keyword.TheVariants.{Problem, Script, Job, Centre, Rack}
+use Rattle.line_shapes.specs.declared.keyword.Keyword.TheVariants.{Worker, Split, Barred, Dead, Busy, Parts}
+use Rattle.line_shapes.specs.declared.keyword.Keyword.TheVariants.{Target, Silence, Doc, Plan, Start, Price}
+use Rattle.line_shapes.specs.declared.keyword.Keyword.TheVariants.{Begin, Wave, Done, Fail, Withdraw, Die}
+use Rattle.line_shapes.specs.declared.keyword.Keyword.TheVariants.{Join, Add, Lose, Sweep, Reduce, Copies}
+use Rattle.line_shapes.specs.declared.keyword.Keyword.TheVariants.{Backup, End}
+use Rattle.line_shapes.specs.declared.place.Place.{Place}
+use Rattle.line_shapes.specs.declared.place.Place.TheVariants.{New, Used, Number, Text}
+use borrow.Author.Tests.{ltb-true}
+
+-- ---- the keyword that is spelled so
+
+abbrev keyword_told : Word → Keyword
+keyword_told w =
+    if bytes_eq w (text_of Problem) then Problem
+    else if bytes_eq w (text_of Script) then Script
+    else if bytes_eq w (text_of Job) then Job
+    else if bytes_eq w (text_of Centre) then Centre
+    else if bytes_eq w (text_of Rack) then Rack
+    else if bytes_eq w (text_of Worker) then Worker
+    else if bytes_eq w (text_of Split) then Split
+    else if bytes_eq w (text_of Barred) then Barred
+    else if bytes_eq w (text_of Dead) then Dead
+    else if bytes_eq w (text_of Busy) then Busy
+    else if bytes_eq w (text_of Parts) then Parts
+    else if bytes_eq w (text_of Target) then Target
+    else if bytes_eq w (text_of Silence) then Silence
+    else if bytes_eq w (text_of Doc) then Doc
+    else if bytes_eq w (text_of Plan) then Plan
+    else if bytes_eq w (text_of Start) then Start
+    else if bytes_eq w (text_of Price) then Price
+    else if bytes_eq w (text_of Begin) then Begin
+    else if bytes_eq w (text_of Wave) then Wave
+    else if bytes_eq w (text_of Done) then Done
+    else if bytes_eq w (text_of Fail) then Fail
+    else if bytes_eq w (text_of Withdraw) then Withdraw
+    else if bytes_eq w (text_of Die) then Die
+    else if bytes_eq w (text_of Join) then Join
+    else if bytes_eq w (text_of Add) then Add
+    else if bytes_eq w (text_of Lose) then Lose
+    else if bytes_eq w (text_of Sweep) then Sweep
+    else if bytes_eq w (text_of Reduce) then Reduce
+    else if bytes_eq w (text_of Copies) then Copies
+    else if bytes_eq w (text_of Backup) then Backup
+    else End
+
+told_back : (k : Keyword) → keyword_told (text_of k) ≡ k
+told_back Problem = refl
+told_back Script = refl
+told_back Job = refl
+told_back Centre = refl
+told_back Rack = refl
+told_back Worker = refl
+told_back Split = refl
+told_back Barred = refl
+told_back Dead = refl
+told_back Busy = refl
+told_back Parts = refl
+told_back Target = refl
+told_back Silence = refl
+told_back Doc = refl
+told_back Plan = refl
+told_back Start = refl
+told_back Price = refl
+told_back Begin = refl
+told_back Wave = refl
+told_back Done = refl
+told_back Fail = refl
+told_back Withdraw = refl
+told_back Die = refl
+told_back Join = refl
+told_back Add = refl
+told_back Lose = refl
+told_back Sweep = refl
+told_back Reduce = refl
+told_back Copies = refl
+told_back Backup = refl
+told_back End = refl
+
+-- ---- the words of a line
+
+abbrev first_word : List Word → Word
+first_word [] = []
+first_word (w ∷ ws) = w
+
+abbrev other_words : List Word → List Word
+other_words [] = []
+other_words (w ∷ ws) = ws
+
+-- what stands before the first space, or all
+abbrev front_of : Line → Word
+front_of line = cond (has_space line) (before_first is_space line) line
+
+front_words : (line : Line) → first_word (words_of line) ≡ front_of line
+front_words line = by (has_space line) refl
+  where
+    by : (b : Bool) → has_space line ≡ b → first_word (words_of line) ≡ cond b (before_first is_space line) line
+    by true e = ap first_word (slice_split_first is_space line 0 (ltb-true _ _ e))
+    by false e =
+        ap first_word (cut_none is_space line (ap (λ b. cond b (Some (position_or_len is_space line)) None) e))
+
+front_cut : (b : Bool) (w v : Word) (ws : List Word) → first_word (cond b (w ∷ ws) (v ∷ [])) ≡ cond b w v
+front_cut true w v ws = refl
+front_cut false w v ws = refl
+
+-- the first word of a line is the same however the others are cut
+front_pieces : (more : Option Place) (n : ℕ) (line : Line) → first_word (pieces more (suc n) line) ≡ front_of line
+front_pieces None n line = front_words line
+front_pieces (Some New) n line = front_words line
+front_pieces (Some (Used kind)) n line = front_words line
+front_pieces (Some (Number least most)) n line = front_words line
+front_pieces (Some Text) n line =
+    front_cut (has_space line) (before_first is_space line) line (first_words n (after_first is_space line))
+
+spelled_first : (line : Line) (k : Keyword) (ws : List Word) → words_in k line ≡ text_of k ∷ ws
+    → text_of k ≡ front_of line
+spelled_first line k ws cut =
+    sym (ap first_word cut) ∙ front_pieces (more_of k) (length (places_of k)) line
+
+-- the keyword and the words by which a line is cut are those of what it says
+pub stated_as : (line : Line) (k : Keyword) (ws : List Word) (s : Statement) → words_in k line ≡ text_of k ∷ ws
+    → Says line s → s ≡ record { keyword = k; words = ws }
+stated_as line k ws s cut says =
+    let text : text_of s.keyword ≡ text_of k =
+    spelled_first line s.keyword s.words says.spelled ∙ sym (spelled_first line k ws cut) in
+    let keyword : s.keyword ≡ k = sym (told_back s.keyword) ∙ ap keyword_told text ∙ told_back k in
+    let words : s.words ≡ ws =
+    ap other_words (sym says.spelled ∙ ap (λ j. words_in j line) keyword ∙ cut) in
+    λ i. record { keyword = keyword i; words = words i }
+
+pub says-unique : (line : Line) (s t : Statement) → Says line s → Says line t → s ≡ t
+says-unique line s t a b = stated_as line t.keyword t.words s b.spelled a
+
+-- no two keywords are spelled alike
+pub text_of-injective : (j k : Keyword) → text_of j ≡ text_of k → j ≡ k
+text_of-injective j k same = sym (told_back j) ∙ ap keyword_told same ∙ told_back k

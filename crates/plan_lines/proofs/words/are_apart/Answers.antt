@@ -1,9 +1,0 @@
-use Rattle.std.proofs.Common.{ℕ, List, ◌≢◌}
-use Rattle.plan_lines.proofs.Mapped.{AllPairs-map, AllPairs-unmap}
-use Rattle.plan_lines.proofs.words.are_apart.Goals as goal
-
-pub returns : goal.returns
-returns c = (
-  λ t. AllPairs-map (λ (a b : List ℕ). a ≢ b) (λ n. n.now) c.args.names.now (c.differ.ensures.0 t),
-  λ h. c.differ.ensures.1 (AllPairs-unmap (λ (a b : List ℕ). a ≢ b) (λ n. n.now) c.args.names.now h),
-)

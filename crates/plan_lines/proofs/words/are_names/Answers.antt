@@ -1,8 +1,0 @@
-use Rattle.text_lines.specs.Texts.{IsName}
-use Rattle.plan_lines.proofs.Mapped.{All-map_iff}
-use Rattle.plan_lines.proofs.words.are_names.Goals as goal
-
-pub returns : goal.returns
-returns c =
-    let mapped = All-map_iff IsName (λ w. w.now) c.args.words.now in
-    (λ t. mapped.0 (c.each_is_name.ensures.0 t), λ h. c.each_is_name.ensures.1 (mapped.1 h))

@@ -1,9 +1,0 @@
-pub mod Statements
-pub mod Known
-pub mod Faults
-pub mod Keywords
-pub mod Lines
-pub mod Entries
-pub mod Rows
-pub mod Tidy
-pub mod Fits

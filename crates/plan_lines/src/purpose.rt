@@ -1,8 +1,0 @@
-/// What a text is read for, which says whether a plan stands after its head.
-#[derive(Clone, Copy, Debug, PartialEq, Eq)]
-pub enum Purpose {
-    /// To check a plan and its prices, which stand after the head.
-    Checking,
-    /// To plan: the text is a head alone.
-    Planning,
-}

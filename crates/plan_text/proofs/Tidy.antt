@@ -1,0 +1,203 @@
+-- The rows of a text without a fault are tidy.
+use Rattle.std.proofs.Common.{ℕ, List, [], ◌∷◌, ◌++◌, ◌≡◌, ◌≢◌, ◌≤◌, ◌<◌, ◌+◌, ◌∙◌, Option, Some, None, Bool}
+use Rattle.std.proofs.Common.{true, false, inl, inr, ap, append-nil, arith, cond, get_or, length, length-append}
+use Rattle.std.proofs.Common.{refl, subst, sym, take}
+use Rattle.std.specs.List.{All, AllPairs, Contains}
+use Rattle.std.proofs.lemmas.List.{map-append}
+use Rattle.std.proofs.lemmas.List.Elements.{All-append, All-cons, All-nil, All-weaker, Contains-append_left}
+use Rattle.std.proofs.lemmas.List.Elements.{Contains-get_or, filter-append}
+use Rattle.std.proofs.lemmas.List.Quantifiers.{all_pairs_push}
+use Rattle.text_lines.specs.Texts.{Line, Word, lines_of}
+use Rattle.line_shapes.specs.Lines.{Statement}
+use Rattle.line_shapes.specs.Places.{place_at, places_of}
+use Rattle.line_shapes.specs.declared.keyword.Keyword.{Keyword}
+use Rattle.line_shapes.specs.declared.place.Kind.{Kind}
+use Rattle.line_shapes.specs.declared.keyword.Keyword.TheVariants as keyword
+use Rattle.line_shapes.specs.declared.place.Kind.TheVariants.{Centre, Rack, Worker, Split, Priced}
+use Rattle.line_shapes.specs.declared.place.Place.{Place}
+use Rattle.line_shapes.specs.declared.place.Place.TheVariants.{New, Used, Number, Text}
+use Rattle.line_rules.specs.Entering.{Key, entered_by, entered_of, entering_of, key_of, most_of, most_workers}
+use Rattle.line_rules.specs.Faults.{HasRoom, IsDeclaredIn, IsFew, IsFit, IsFirst, Keep, counted_by}
+use Rattle.line_rules.specs.Known.{HasRow, IsDeclared, Known, entered, is_of, keys_of, known_at, rows_of}
+use Rattle.line_rules.specs.Reading.{AreFitLines, IsAllRead}
+use Rattle.line_rules.specs.declared.entering.Entering.{Entering}
+use Rattle.line_rules.specs.declared.entering.Entering.TheVariants.{Nothing, InTurn, Alone}
+use Rattle.line_rules.specs.declared.entering.Entering.TheVariants.{Word as ByWord, Pair as ByPair}
+use Rattle.line_rules.specs.declared.purpose.Purpose.{Purpose}
+use Rattle.line_rules.specs.declared.purpose.Purpose.TheVariants.{Checking, Planning, Playing, Running}
+use Rattle.line_rules.specs.declared.rule.Rule.TheVariants as rule
+use Rattle.line_rules.proofs.FitLines.{known_after, names_after}
+use Rattle.line_rules.proofs.Fits.{fit_first}
+use Rattle.plan_text.specs.Names.{rows_in}
+use Rattle.plan_text.specs.Tidy.{AreTidy, IsTidyRow}
+use Rattle.plan_text.proofs.Named.{keyword_of}
+
+-- ---- what is declared stays declared
+
+module _ (rows more : List Statement) where
+  pub has_row-more : (k : Keyword) (n : Word) → HasRow rows k n → HasRow (rows ++ more) k n
+  has_row-more k n h =
+      subst (λ (ks : List Key). Contains ks (k, n, [])) (sym (map-append key_of rows more))
+      (Contains-append_left (keys_of rows) (keys_of more) (k, n, []) h)
+
+  declared-more : (kind : Kind) (n : Word) → IsDeclared rows kind n → IsDeclared (rows ++ more) kind n
+  declared-more Centre n h = has_row-more _ n h
+  declared-more Rack n h = has_row-more _ n h
+  declared-more Worker n h = has_row-more _ n h
+  declared-more Split n h = has_row-more _ n h
+  declared-more Priced n (inl h) = inl (has_row-more _ n h)
+  declared-more Priced n (inr h) = inr (has_row-more _ n h)
+
+  keeps-more : (place : Option Place) (w : Word) → IsDeclaredIn rows place w → IsDeclaredIn (rows ++ more) place w
+  keeps-more None w h = tt
+  keeps-more (Some New) w h = tt
+  keeps-more (Some (Used kind)) w h = declared-more kind w h
+  keeps-more (Some (Number least most)) w h = tt
+  keeps-more (Some Text) w h = tt
+
+  pub keep-more : (s : Statement) → Keep rule.Declared rows s → Keep rule.Declared (rows ++ more) s
+  keep-more s h i lt = keeps-more (place_at s.keyword i) (get_or s.words i []) (h i lt)
+
+  tidy-more : (s : Statement) → IsTidyRow rows s → IsTidyRow (rows ++ more) s
+  tidy-more s h = record {
+    whole = h.whole;
+    named = h.named;
+    known = keep-more s h.known;
+    in_range = h.in_range;
+    few = h.few;
+    tail_apart = h.tail_apart;
+  }
+
+-- no more lines of a keyword than there may be, and none entered twice
+record AreKept (purpose : Purpose) (rows : List Statement) : Type 0 where
+  few : (k : Keyword) → IsFew (most_of purpose k) (length (rows_of k rows))
+  differ : AllPairs (λ a b. a ≢ b) (keys_of rows)
+  each : All (IsTidyRow rows) rows
+
+-- ---- one line more
+
+few-one : (most : Option ℕ) (n m : ℕ) → HasRoom most n → m ≡ n + 1 → IsFew most m
+few-one None n m room is = tt
+few-one (Some most) n m room is = let room : n < most = room in omega arith
+
+few-none : (most : Option ℕ) (n m : ℕ) → IsFew most n → m ≡ n → IsFew most m
+few-none most n m few is = subst (IsFew most) (sym is) few
+
+abbrev count : Keyword → List Statement → ℕ
+count k rows = length (rows_of k rows)
+
+count-more : (k : Keyword) (rows : List Statement) (s : Statement) (b : Bool) → is_of k s ≡ b
+    → count k (rows ++ s ∷ []) ≡ count k rows + length (cond b (s ∷ []) [])
+count-more k rows s b is =
+    ap length (filter-append (is_of k) rows (s ∷ []))
+    ∙ length-append (rows_of k rows) (rows_of k (s ∷ []))
+    ∙ ap (λ (c : Bool). count k rows + length (cond c (s ∷ []) [])) is
+
+few-more : (purpose : Purpose) (k : Keyword) (rows : List Statement) (s : Statement)
+    → IsFew (most_of purpose k) (count k rows) → HasRoom (most_of purpose s.keyword) (count s.keyword rows)
+    → IsFew (most_of purpose k) (count k (rows ++ s ∷ []))
+few-more purpose k rows s few room = by (is_of k s) refl
+  where
+    by : (b : Bool) → is_of k s ≡ b → IsFew (most_of purpose k) (count k (rows ++ s ∷ []))
+    by true is =
+        let same : s.keyword ≡ k = keyword_of k s is in
+        few-one (most_of purpose k) (count k rows) _
+        (subst (λ (j : Keyword). HasRoom (most_of purpose j) (count j rows)) same room)
+        (count-more k rows s true is)
+    by false is =
+        few-none (most_of purpose k) (count k rows) _ few (count-more k rows s false is ∙ omega arith)
+
+fresh : (rows : List Statement) (s : Statement) → IsFirst rows s → (i : ℕ) (d : Key) → i < length (keys_of rows)
+    → get_or (keys_of rows) i d ≢ key_of s
+fresh rows s first i d lt same = first (subst (Contains (keys_of rows)) same (Contains-get_or (keys_of rows) i d lt))
+
+-- a line that is entered leaves the rows tidy
+tidy-row : (k : Known) (s : Statement) → length (places_of s.keyword) ≤ length s.words → IsFit k s
+    → HasRoom (most_of k.purpose s.keyword) (count s.keyword k.rows) → IsFirst k.rows s → AreKept k.purpose k.rows
+    → AreKept k.purpose (k.rows ++ s ∷ [])
+tidy-row k s whole fit room first kept =
+    let rows = k.rows in
+    let new : IsTidyRow rows s = record {
+      whole = whole;
+      named = fit.named;
+      known = fit.known;
+      in_range = fit.in_range;
+      few = fit.within_limit.few;
+      tail_apart = fit.tail_apart;
+    } in
+    let P = IsTidyRow (rows ++ s ∷ []) in
+    record {
+      few = λ j. few-more k.purpose j rows s (kept.few j) room;
+      differ = subst (AllPairs (λ a b. a ≢ b)) (sym (map-append key_of rows (s ∷ [])))
+          (all_pairs_push (λ a b. a ≢ b) (keys_of rows) (key_of s) kept.differ (fresh rows s first));
+      each = All-append P rows (s ∷ []) (All-weaker (IsTidyRow rows) P (tidy-more rows (s ∷ [])) rows kept.each)
+          (All-cons P s [] (tidy-more rows (s ∷ []) s new) (All-nil P));
+    }
+
+tidy-entered : (k : Known) (s : Statement) → length (places_of s.keyword) ≤ length s.words → IsFit k s
+    → AreKept k.purpose k.rows → AreKept k.purpose (k.rows ++ entered_of s)
+tidy-entered k s whole fit kept = by (entering_of s.keyword) refl
+  where
+    some : (e : Entering) → entering_of s.keyword ≡ e → e ≢ Nothing
+        → counted_by e k s.keyword ≡ count s.keyword k.rows → AreKept k.purpose (k.rows ++ s ∷ [])
+    some e is enters counted =
+        let room = subst (HasRoom (most_of k.purpose s.keyword))
+        (ap (λ (f : Entering). counted_by f k s.keyword) is ∙ counted) fit.within_limit.room in
+        tidy-row k s whole fit room (fit_first k s fit (λ none. enters (sym is ∙ none))) kept
+
+    by : (e : Entering) → entering_of s.keyword ≡ e → AreKept k.purpose (k.rows ++ entered_by e s)
+    by Nothing is = subst (AreKept k.purpose) (sym (append-nil k.rows)) kept
+    by InTurn is = subst (AreKept k.purpose) (sym (append-nil k.rows)) kept
+    by Alone is = some Alone is (λ e. cc) refl
+    by ByWord is = some ByWord is (λ e. cc) refl
+    by ByPair is = some ByPair is (λ e. cc) refl
+
+-- ---- all lines
+
+tidy-none : (purpose : Purpose) → AreKept purpose []
+tidy-none purpose = record {
+  few = λ k. by (most_of purpose k);
+  differ = λ i j d lt inside. absurd (omega arith);
+  each = All-nil (IsTidyRow []);
+}
+  where
+    by : (most : Option ℕ) → IsFew most 0
+    by None = tt
+    by (Some most) = omega arith
+
+kept-after : (k : Known) (ls : List Line) (ss : List Statement) → AreFitLines k ls ss → AreKept k.purpose k.rows
+    → AreKept k.purpose (names_after k ss).rows
+kept-after k [] [] fits kept = kept
+kept-after k [] (s ∷ ss) fits kept = absurd fits
+kept-after k (l ∷ ls) [] fits kept = absurd fits
+kept-after k (l ∷ ls) (s ∷ ss) fits kept =
+    kept-after (entered k s) ls ss fits.1 (tidy-entered k s fits.0.says.many fits.0.fit kept)
+
+workers_most : (purpose : Purpose) → most_workers purpose ≤ 256
+workers_most Checking = omega arith
+workers_most Planning = omega arith
+workers_most Playing = omega arith
+workers_most Running = omega arith
+
+tidy : (purpose : Purpose) (rows : List Statement) → AreKept purpose rows → AreTidy rows
+tidy purpose rows kept =
+    let workers : length (rows_of keyword.Worker rows) ≤ most_workers purpose = kept.few keyword.Worker in
+    record {
+      few_centres = kept.few keyword.Centre;
+      few_racks = kept.few keyword.Rack;
+      few_workers = omega (arith, workers, workers_most purpose);
+      few_splits = kept.few keyword.Split;
+      differ = kept.differ;
+      each = kept.each;
+    }
+
+pub tidy-rows : (purpose : Purpose) (ls : List Line) (ss : List Statement) → AreFitLines (known_at purpose []) ls ss
+    → AreTidy (rows_in ss)
+tidy-rows purpose ls ss fits =
+    tidy purpose (rows_in ss) (subst (λ (k : Known). AreKept purpose k.rows) (known_after purpose ss)
+    (kept-after (known_at purpose []) ls ss fits (tidy-none purpose)))
+
+pub tidy-read : (purpose : Purpose) (text : List ℕ) (k : Known) → IsAllRead purpose text k → AreTidy k.rows
+tidy-read purpose text k read =
+    subst (λ (j : Known). AreTidy j.rows) (sym read.known)
+    (tidy-rows purpose (take (length read.statements) (lines_of text)) read.statements read.fit)

@@ -1,0 +1,120 @@
+ghost use Rattle.std.specs.Prelude.{◌≡◌, ◌≤◌, ◌<◌, ◌^◌, ℕ, List, [], IfOk, length, map, slice_index_or};
+ghost use Rattle.text_lines.specs.Texts.{IsNumber, number_of};
+ghost use Rattle.line_shapes.specs.Lines.{tail_of};
+ghost use Rattle.line_shapes.specs.declared.keyword.Keyword.TheVariants.{Split};
+ghost use Rattle.line_rules.specs.Entering.{entering_of as entering};
+ghost use Rattle.line_rules.specs.Known.{rows_of as lines_of};
+ghost use Rattle.line_rules.specs.declared.entering.Entering.TheVariants.{Word as ByWord};
+ghost use Rattle.plan_text.specs.Names.{names_of as said_names, said_in, word_at};
+ghost use Rattle.plan_text.specs.Tidy.{AreTidy};
+
+use line_rules::entering::{Entering, entering_of};
+use line_rules::{Row, Rows};
+use line_shapes::Keyword;
+use std::alloc::{AllocError, Global};
+use text_lines::{NameTable, Number};
+
+/// The rows of a keyword, in their order.
+pub fn rows_of<'r, 't>(
+    alloc: Global,
+    rows: &'r Rows<'t>,
+    keyword: Keyword,
+) -> Result<Vec<Row<'r, 't>>, AllocError>
+    ensures { IfOk result (λ found. map said_in found.items ≡ lines_of keyword rows.now) }
+{
+    let mut found = Vec::new(alloc);
+    for place in 0..rows.len() {
+        match rows.row(place) {
+            Some(row) => {
+                if row.keyword == keyword {
+                    found.push(row)?;
+                }
+            }
+            None => {}
+        }
+    }
+    Ok(found)
+}
+
+/// The names of the rows of a keyword, numbered in their order.
+pub fn names_of<'t>(
+    alloc: Global,
+    rows: &Rows<'t>,
+    keyword: Keyword,
+) -> Result<NameTable<'t>, AllocError>
+    requires tidy { AreTidy rows.now }
+    requires by_word { entering keyword ≡ ByWord }
+    ensures { IfOk result (λ names. names ≡ said_names keyword rows.now) }
+{
+    let mut names = NameTable::new(alloc);
+    for place in 0..rows.len() {
+        match rows.key(place) {
+            Some((of, name)) => {
+                if of == keyword {
+                    names.declare(name)?;
+                }
+            }
+            None => {}
+        }
+    }
+    Ok(names)
+}
+
+/// The word at a place after the keyword of a row, counted from 0, empty past the last.
+pub fn word<'t>(row: &Row<'_, 't>, place: usize) -> &'t str
+    ensures { result.now ≡ word_at place (said_in row.now) }
+{
+    match entering_of(row.keyword) {
+        Entering::Nothing | Entering::InTurn | Entering::Alone => word_in(row.rest, place),
+        Entering::Word => match place {
+            0 => row.first,
+            _ => word_in(row.rest, place - 1),
+        },
+        Entering::Pair => match place {
+            0 => row.first,
+            1 => row.second,
+            _ => word_in(row.rest, place - 2),
+        },
+    }
+}
+
+// The word at a place, empty past the last.
+fn word_in<'t>(words: &[&'t str], place: usize) -> &'t str
+    ensures { result.now ≡ slice_index_or (map (λ w. w.now) words.now) place [] }
+{
+    match words.get(place) {
+        Some(word) => word,
+        None => "",
+    }
+}
+
+/// The holders of a split's row.
+pub fn holders<'r, 't>(row: &Row<'r, 't>) -> &'r [&'t str]
+    requires split { row.now.keyword ≡ Split }
+    requires whole { 2 ≤ length (said_in row.now).words }
+    ensures { map (λ w. w.now) result.now ≡ tail_of (said_in row.now) }
+{
+    &row.rest[1..]
+}
+
+/// The number that a word stands for.
+pub fn number(word: &str) -> u64
+    requires number { IsNumber word.now }
+    requires small { number_of word.now < 2 ^ 64 }
+    ensures { result ≡ number_of word.now }
+{
+    match Number::of(word) {
+        Some(number) => value(number),
+        None => unreachable!(),
+    }
+}
+
+fn value(number: Number<'_>) -> u64
+    requires { number_of number.digits.now < 2 ^ 64 }
+    ensures { result ≡ number_of number.entry.digits.now }
+{
+    match number.value() {
+        Some(value) => value,
+        None => unreachable!(),
+    }
+}

@@ -1,0 +1,179 @@
+use line_rules::{KnownLines, Purpose, ReadingError, Version, read_lines};
+use line_shapes::Keyword;
+use std::alloc::Global;
+use std::test::Fail;
+
+// The line and the number of a text's fault, None where it has none or memory ran out.
+fn fault_of(alloc: Global, purpose: Purpose, text: &str) -> Option<(u32, u8)> {
+    let read: Result<KnownLines<'_>, ReadingError> = read_lines(alloc, purpose, text.as_bytes());
+    match read {
+        Ok(_) => None,
+        Err(ReadingError::Text(fault)) => Some((fault.line, fault.number.number())),
+        Err(ReadingError::Memory) => None,
+    }
+}
+
+// What stands in a script after `script 1`, a rack r, the workers a and b and a split s: its lines from the
+// sixth on.
+const IN_SCRIPTS: [(&str, Option<(u32, u8)>); 30] = [
+    (
+        "parts 64\ntarget 8\nsilence 1000\ndoc d s \ndoc e s\nbegin\nend\n",
+        None,
+    ),
+    ("parts 0\nbegin\nend\n", Some((6, 5))),
+    ("parts 65\nbegin\nend\n", Some((6, 5))),
+    ("target 9\nbegin\nend\n", Some((6, 5))),
+    ("silence 1001\nbegin\nend\n", Some((6, 5))),
+    ("parts 2\nparts 3\nbegin\nend\n", Some((7, 4))),
+    ("doc s s one\nbegin\nend\n", Some((6, 4))),
+    ("doc d a one\nbegin\nend\n", Some((6, 3))),
+    ("doc d  s one\nbegin\nend\n", Some((6, 1))),
+    ("doc d\nbegin\nend\n", Some((6, 1))),
+    ("doc d s  one  two \nbegin\nend\n", None),
+    ("busy s\nbegin\nend\n", Some((6, 7))),
+    ("centre x\nbegin\nend\n", Some((6, 7))),
+    ("rack q r\nbegin\nend\n", Some((6, 1))),
+    ("wave\nbegin\nend\n", Some((6, 7))),
+    ("end\n", Some((6, 7))),
+    ("begin\nwave now\nend\n", Some((7, 1))),
+    ("begin\nwave\nwave\ndone 0\ndone 1000000\nend\n", None),
+    ("begin\nfail 1000001\nend\n", Some((7, 5))),
+    ("begin\nwithdraw a\nend\n", Some((7, 1))),
+    ("begin\ndie r\nend\n", Some((7, 3))),
+    ("begin\njoin a\njoin b s\nend\n", None),
+    ("begin\njoin a s s\nend\n", Some((7, 8))),
+    ("begin\nadd s a\nlose a s\nend\n", Some((8, 3))),
+    ("begin\nsweep 0 1099511627776\nend\n", None),
+    ("begin\nsweep 0 1099511627777\nend\n", Some((7, 5))),
+    ("begin\nsweep 0\nend\n", Some((7, 1))),
+    ("begin\nreduce\ncopies\nend\n", None),
+    ("begin\nbackup s a\nend\n", Some((7, 7))),
+    ("begin\ndoc d s one\nend\n", Some((7, 7))),
+];
+
+#[test]
+fn faults_of_scripts(rt: HostRuntime) -> Result<(), Fail> {
+    for (rest, fault) in IN_SCRIPTS {
+        let head = "script 1\nrack r\nworker a r 1\nworker b r 1\nsplit s 5 a\n";
+        let text = format!(in rt.alloc(); "{head}{rest}")?;
+        assert_eq!(rt;
+            fault_of(rt.alloc(), Purpose::Playing, &text),
+            fault,
+            "{rest}"
+        );
+    }
+    Ok(())
+}
+
+// Texts of each kind, with the fault that each has.
+const TEXTS: [(Purpose, &str, Option<(u32, u8)>); 20] = [
+    (
+        Purpose::Playing,
+        "script 1\nrack r\nworker a r 1\nbegin\nsweep 1 2\nend\n",
+        Some((5, 1)),
+    ),
+    (Purpose::Playing, "sweep 1\n", Some((1, 1))),
+    (Purpose::Playing, "sweep\n", Some((1, 7))),
+    (Purpose::Playing, "job 1\n", Some((1, 7))),
+    (Purpose::Playing, "script 3\n", Some((1, 5))),
+    (Purpose::Playing, "script 0\n", Some((1, 5))),
+    (Purpose::Playing, "script 2\nscript 9\n", Some((2, 7))),
+    (
+        Purpose::Playing,
+        "script 2\ncentre x\nrack r x\nworker a r 1\nsplit s 0\nbegin\nbackup s a\nend\n",
+        None,
+    ),
+    (Purpose::Playing, "script 2\nrack r\n", Some((2, 1))),
+    (Purpose::Playing, "script 2\nrack r r\n", Some((2, 3))),
+    (
+        Purpose::Playing,
+        "script 2\ncentre x\nrack x x\n",
+        Some((3, 4)),
+    ),
+    (Purpose::Running, "job 1\nparts 2\nend\n", None),
+    (Purpose::Running, "job 1\nbegin\nend\n", Some((2, 7))),
+    (Purpose::Running, "job 1\nwave\nend\n", Some((2, 7))),
+    (Purpose::Planning, "problem 2\nrack r\nend\n", Some((2, 1))),
+    (
+        Purpose::Planning,
+        "problem 1\ncentre x\nend\n",
+        Some((2, 7)),
+    ),
+    (
+        Purpose::Planning,
+        "problem 2\ncentre x\ncentre y\nrack r x\nrack q y\nworker a r 0\nworker b q 1\nsplit s 7 a\nend\n",
+        None,
+    ),
+    (Purpose::Planning, "problem 1\nwave\nend\n", Some((2, 7))),
+    (
+        Purpose::Planning,
+        "problem 1\ndoc d s  x\nend\n",
+        Some((2, 7)),
+    ),
+    (Purpose::Checking, "script 1\n", Some((1, 7))),
+];
+
+#[test]
+fn faults_of_each_kind(rt: HostRuntime) {
+    for (purpose, text, fault) in TEXTS {
+        assert_eq!(rt; fault_of(rt.alloc(), purpose, text), fault, "{text}");
+    }
+}
+
+#[test]
+fn a_job_has_at_most_thirty_two_workers(rt: HostRuntime) -> Result<(), Fail> {
+    let mut text = format!(in rt.alloc(); "job 1\nrack r\n")?;
+    for worker in 0..33 {
+        text.push_str(&format!(in rt.alloc(); "worker w{worker} r 1\n")?)?;
+    }
+    text.push_str("end\n")?;
+    assert_eq!(rt;
+        fault_of(rt.alloc(), Purpose::Running, &text),
+        Some((35, 6))
+    );
+    Ok(())
+}
+
+const PLAYED: &str = "script 1\nparts 2\nrack r\nworker a r 1\nworker b r 1\nsplit s 3 a\n\
+doc d1 s The cat\ndoc d2 s cat, THE dog\nbegin\nwave\ndone 1\nadd s b\ndie a\nwave\ndone 2\nreduce\n\
+reduce\ndone 3\nreduce\ndone 4\nend\n";
+
+#[test]
+fn each_front_of_a_script_has_a_fault(rt: HostRuntime) {
+    let bytes = PLAYED.as_bytes();
+    let mut line = 1;
+    for end in 0..bytes.len() {
+        let whole = end == 0 || bytes[end - 1] == b'\n';
+        let number = if whole { 7 } else { 12 };
+        match read_lines(rt.alloc(), Purpose::Playing, &bytes[..end]) {
+            Err(ReadingError::Text(fault)) => {
+                assert_eq!(rt;
+                    (fault.line, fault.number.number()),
+                    (line, number),
+                    "{end}"
+                );
+            }
+            Ok(_) | Err(ReadingError::Memory) => {
+                assert!(rt; false, "{end}");
+            }
+        }
+        if bytes[end] == b'\n' {
+            line = line.wrapping_add(1);
+        }
+    }
+    assert_eq!(rt; fault_of(rt.alloc(), Purpose::Playing, PLAYED), None);
+}
+
+// How many commands a script has, and of the second document the words after its name.
+fn read_of(alloc: Global, text: &str) -> Option<(usize, bool, Version)> {
+    let known = read_lines(alloc, Purpose::Playing, text.as_bytes()).ok()?;
+    let row = known.rows().row(6)?;
+    let is_text = row.rest.len() == 2 && row.rest[1] == "cat, THE dog";
+    let is_document = row.keyword == Keyword::Doc && row.first == "d2" && is_text;
+    Some((known.commands().len(), is_document, known.version()))
+}
+
+#[test]
+fn commands_and_documents_are_kept(rt: HostRuntime) {
+    assert_eq!(rt; read_of(rt.alloc(), PLAYED), Some((11, true, Version::One)));
+}
