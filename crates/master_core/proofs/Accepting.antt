@@ -12,7 +12,8 @@ use Rattle.master_state.specs.Tidy.{IsTidy}
 use Rattle.master_state.specs.Jobs.{Job, IsAccepted, event_of, added_by}
 use Rattle.master_state.proofs.Reasons.{room_left}
 use Rattle.master_core.specs.declared.master.Master.TheInside.{Inside}
-use Rattle.master_core.specs.Inside.{setup_of, state_of, job_of, IsMaster, HasRoom, AreOfSplits}
+use Rattle.master_core.specs.Inside.{setup_of, state_of, job_of, IsMaster, HasRoom}
+use Rattle.master_tables.specs.Kept.{AreOfSplits}
 use Rattle.master_state.proofs.Keeping.{calls_keep}
 
 -- a worker of the cluster stands in the table, and a split in the lists of holders

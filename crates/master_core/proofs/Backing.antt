@@ -14,10 +14,10 @@ use Rattle.master_state.specs.Refusals.{Backup, IsPair, refusal}
 use Rattle.master_state.specs.Changes.{split_started}
 use Rattle.master_state.specs.Jobs.{IsAccepted, event_of}
 use Rattle.master_core.specs.declared.master.Master.TheInside.{Inside}
-use Rattle.master_core.specs.Entries.{entry_with, shown_as}
+use Rattle.master_tables.specs.Entries.{entry_with, shown_as}
 use Rattle.master_core.specs.Inside.{setup_of, state_of, job_of}
 use Rattle.master_core.proofs.Accepting.{accepted, counted_from, one_more}
-use Rattle.master_core.proofs.Showing.{shown-started}
+use Rattle.master_tables.proofs.Showing.{shown-started}
 
 tables_are : (s : State) (workers now : Workers) (splits shown : List SplitState) (starts more : List Start) →
     workers ≡ now → splits ≡ shown → starts ≡ more →

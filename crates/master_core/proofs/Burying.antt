@@ -5,8 +5,6 @@ use Rattle.std.specs.List.{range_with_len}
 use Rattle.std.proofs.lemmas.List.{append-nil}
 use Rattle.std.proofs.lemmas.List.Elements.{filter_agree}
 use Rattle.node_ids.specs.Sets.{has_number}
-use Rattle.node_ids.proofs.Updating.{length-updated}
-use Rattle.worker_table.specs.declared.Worker.{Worker}
 use Rattle.worker_table.specs.Workers.{Workers, is_silent, swept}
 use Rattle.master_state.specs.declared.answers.Why.TheVariants.{HistoryFull}
 use Rattle.master_state.specs.declared.events.Event.TheVariants as events
@@ -14,27 +12,11 @@ use Rattle.master_state.specs.States.{State}
 use Rattle.master_state.specs.Refusals.{Sweep, first_of, has_no_sweep}
 use Rattle.master_state.specs.Changes.{died, with_sweep}
 use Rattle.master_state.specs.Jobs.{IsAccepted, event_of}
-use Rattle.master_state.proofs.Loops.{deaths_from, death_next}
 use Rattle.master_state.proofs.Sweeping.{heard_state}
 use Rattle.master_core.specs.declared.master.Master.TheInside.{Inside}
-use Rattle.master_core.specs.Entries.{shown_as}
+use Rattle.master_tables.specs.Entries.{shown_as}
 use Rattle.master_core.specs.Inside.{setup_of, state_of, job_of, IsMaster}
 use Rattle.master_core.proofs.Accepting.{accepted, counted_from, one_more}
-
--- worker i has died, and the others die after it
-pub dies_next : (dies : ℕ → Bool) (now next : State) (v i n : ℕ) → v ≡ i → i < n → dies i ≡ true →
-    died now v ≡ next →
-    fold died next (deaths_from dies (i + 1) n) ≡ fold died now (deaths_from dies i n)
-dies_next dies now next v i n at inside here buried =
-    sym (death_next now dies i n inside here
-    ∙ ap (λ (s : State). fold died s (deaths_from dies (i + 1) n)) (ap (died now) (sym at) ∙ buried))
-
--- the table keeps its length
-pub length-died : (now next : State) (v : ℕ) → died now v ≡ next →
-    length next.workers.each ≡ length now.workers.each
-length-died now next v buried =
-    sym (ap (λ (s : State). length s.workers.each) buried)
-    ∙ length-updated (λ (worker : Worker). record worker { live = false; taken = 0 }) now.workers.each v
 
 -- those that were silent too long have died, and no others
 swept_is : (s : State) (counts dead : List ℕ) (table : Workers) (next : State) →

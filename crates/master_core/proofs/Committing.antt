@@ -14,11 +14,12 @@ use Rattle.master_state.proofs.Reasons.{attempts_left}
 use Rattle.master_state.proofs.Waves.{are_starts}
 use Rattle.master_state.proofs.Keeping.{waves_keep}
 use Rattle.master_core.specs.declared.master.Master.TheInside.{Inside}
-use Rattle.master_core.specs.Entries.{shown_as}
-use Rattle.master_core.specs.Inside.{setup_of, state_of, job_of, IsMaster, HasRoom, AreOfSplits}
-use Rattle.master_core.specs.Starts.{MayStart}
+use Rattle.master_tables.specs.Entries.{shown_as}
+use Rattle.master_core.specs.Inside.{setup_of, state_of, job_of, IsMaster, HasRoom}
+use Rattle.master_tables.specs.Kept.{AreOfSplits}
+use Rattle.master_tables.specs.Starting.{MayStart}
 use Rattle.master_core.proofs.Accepting.{counted_from, one_more}
-use Rattle.master_core.proofs.Starts.{may_start_of}
+use Rattle.master_tables.proofs.Starts.{may_start_of}
 
 -- the pairs of a plan that is best may start
 pub best_may_start : (m : Inside) (pairs : List (ℕ × ℕ)) → IsMaster m →

@@ -30,17 +30,18 @@ use Rattle.master_state.proofs.Lists.{updated-agree}
 use Rattle.master_state.proofs.Places.{done_at, part_done_at, part_running_is, split_running_is, worker_in}
 use Rattle.master_state.proofs.Running.{TakesSlot, split_takes_slots}
 use Rattle.master_state.proofs.Slots.{taken_given}
-use Rattle.master_core.specs.declared.entries.SplitEntry.{SplitEntry}
-use Rattle.master_core.specs.declared.entries.SplitEntry.TheVariants.{Done}
+use Rattle.master_tables.specs.declared.entries.SplitEntry.{SplitEntry}
+use Rattle.master_tables.specs.declared.entries.SplitEntry.TheVariants.{Done}
 use Rattle.master_core.specs.declared.master.Master.TheInside.{Inside}
-use Rattle.master_core.specs.Entries.{shown_as}
-use Rattle.master_core.specs.Inside.{setup_of, state_of, job_of, AreOfSplits, IsMaster, IsOfSplit}
-use Rattle.master_core.specs.Places.{RunsPart, RunsSplit}
-use Rattle.master_core.specs.Slots.{AreTaken, with_slots_given}
+use Rattle.master_tables.specs.Entries.{shown_as}
+use Rattle.master_core.specs.Inside.{setup_of, state_of, job_of, IsMaster}
+use Rattle.master_tables.specs.Kept.{AreOfSplits, IsOfSplit}
+use Rattle.master_tables.specs.Places.{RunsPart, RunsSplit}
+use Rattle.master_tables.specs.Slots.{AreTaken, with_slots_given}
 use Rattle.master_core.proofs.Accepting.{accepted, counted_from, one_more}
 use Rattle.master_core.proofs.Ended.{no_reason}
 use Rattle.master_core.proofs.Failing.{parts_are, tables_are}
-use Rattle.master_core.proofs.Showing.{shown-updated}
+use Rattle.master_tables.proofs.Showing.{shown-updated}
 
 -- the attempt that has the number a, on the worker that its start tells
 abbrev pub numbered : ℕ → ℕ → Attempt

@@ -18,7 +18,7 @@ use Rattle.master_state.specs.Changes.{without_attempts, part_without, without_a
 use Rattle.master_state.specs.Tidy.{IsTidy, IsToldAs}
 use Rattle.master_state.proofs.Places.{split_running_is, without_at, part_without_at}
 use Rattle.master_state.proofs.Running.{TakesSlot, split_takes_slots, part_takes_slot}
-use Rattle.master_core.specs.Places.{RunsSplit, RunsPart}
+use Rattle.master_tables.specs.Places.{RunsSplit, RunsPart}
 
 abbrev on_worker : Option Start → ℕ
 on_worker start = option_map_or (λ one. one.worker) start 0

@@ -14,11 +14,11 @@ use Rattle.master_state.specs.Changes.{with_map_failed, without_attempt, without
 use Rattle.master_state.specs.Jobs.{IsAccepted, event_of}
 use Rattle.master_state.proofs.Problems.{length-each}
 use Rattle.master_core.specs.declared.master.Master.TheInside.{Inside}
-use Rattle.master_core.specs.Entries.{shown_as, entry_without}
+use Rattle.master_tables.specs.Entries.{shown_as, entry_without}
 use Rattle.master_core.specs.Inside.{setup_of, state_of, job_of, IsMaster}
-use Rattle.master_core.specs.Places.{RunsSplit, RunsPart}
+use Rattle.master_tables.specs.Places.{RunsSplit, RunsPart}
 use Rattle.master_core.proofs.Accepting.{accepted, counted_from, one_more}
-use Rattle.master_core.proofs.Showing.{shown-ended}
+use Rattle.master_tables.proofs.Showing.{shown-ended}
 use Rattle.master_core.proofs.Ended.{failed_is, ended_is, part_ended_is, split_takes, no_reason}
 use Rattle.master_state.proofs.Places.{no_split_is, no_part_is}
 use Rattle.master_state.specs.Tests.{runs}

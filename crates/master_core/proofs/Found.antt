@@ -15,11 +15,11 @@ use Rattle.master_state.specs.Tidy.{IsTidy}
 use Rattle.master_state.specs.Jobs.{Job}
 use Rattle.master_state.proofs.Places.{none_unstarted, no_split_is, no_part_is, no_split_of_part, no_part_of_split}
 use Rattle.master_state.proofs.Running.{start_known}
-use Rattle.master_core.specs.declared.entries.SplitEntry.{SplitEntry}
+use Rattle.master_tables.specs.declared.entries.SplitEntry.{SplitEntry}
 use Rattle.master_core.specs.declared.master.Master.TheInside.{Inside}
-use Rattle.master_core.specs.Entries.{shown_as}
+use Rattle.master_tables.specs.Entries.{shown_as}
 use Rattle.master_core.specs.Inside.{state_of, job_of, IsMaster}
-use Rattle.master_core.specs.Places.{split_of, part_of}
+use Rattle.master_tables.specs.Places.{split_of, part_of}
 
 pub tidy_at : (m : Inside) (j : Job) → IsMaster m → job_of m ≡ j → IsTidy j.setup j.state
 tidy_at m j was is = subst (λ (i : Job). IsTidy i.setup i.state) is was.kept.tidy

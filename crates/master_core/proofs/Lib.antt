@@ -1,5 +1,4 @@
 pub mod Whole
-pub mod Showing
 pub mod Ended
 pub mod Found
 pub mod Failing
@@ -10,9 +9,6 @@ pub mod ResultRoom
 pub mod Handed
 pub mod Burying
 pub mod Backing
-pub mod WaveLines
-pub mod Starts
-pub mod Counting
 pub mod Committing
 pub mod Present
 pub mod Replying

@@ -13,10 +13,10 @@ use Rattle.master_state.specs.declared.events.Event.{Event}
 use Rattle.master_state.specs.States.{Setup, State, IsWhole, AreSmall, opening}
 use Rattle.master_state.specs.Jobs.{IsKept}
 use Rattle.shuffle_reduce.specs.Merged.{PartView}
-use Rattle.master_core.specs.declared.entries.SplitEntry.{SplitEntry}
-use Rattle.master_core.specs.declared.entries.SplitEntry.TheVariants.{Pending, Done}
-use Rattle.master_core.specs.Entries.{shown_as}
-use Rattle.master_core.specs.Inside.{AreOfSplits}
+use Rattle.master_tables.specs.declared.entries.SplitEntry.{SplitEntry}
+use Rattle.master_tables.specs.declared.entries.SplitEntry.TheVariants.{Pending, Done}
+use Rattle.master_tables.specs.Entries.{shown_as}
+use Rattle.master_tables.specs.Kept.{AreOfSplits}
 use Rattle.master_state.proofs.Keeping.{opening_is_kept}
 
 all_pending : (splits : List Split) →

@@ -22,7 +22,7 @@ use Rattle.master_state.proofs.Lists.{any_inside, any_found}
 use Rattle.master_state.proofs.Slots.{nobody, live-inside}
 use Rattle.master_state.proofs.Starting.{free_parts}
 use Rattle.master_core.specs.declared.master.Master.TheInside.{Inside}
-use Rattle.master_core.specs.Entries.{shown_as}
+use Rattle.master_tables.specs.Entries.{shown_as}
 use Rattle.master_core.specs.Inside.{setup_of, state_of, job_of, IsMaster}
 use Rattle.master_core.proofs.Accepting.{accepted, counted_from, one_more}
 use Rattle.master_core.proofs.Ended.{no_reason}

@@ -7,9 +7,9 @@ use Rattle.master_state.specs.Steps.{problem_of, worker_line}
 use Rattle.master_state.specs.Jobs.{Job}
 use Rattle.master_state.proofs.Problems.{within_limits, length-splits}
 use Rattle.master_core.specs.declared.master.Master.TheInside.{Inside}
-use Rattle.master_core.specs.Entries.{shown_as}
+use Rattle.master_tables.specs.Entries.{shown_as}
 use Rattle.master_core.specs.Inside.{setup_of, state_of, job_of, IsMaster}
-use Rattle.master_core.specs.Lines.{split_lines}
+use Rattle.master_tables.specs.Lines.{split_lines}
 
 -- its parts, as a master's tables have them
 pub record AreParts (m : Inside) (tree : Tree) (workers : List WorkerLine) (splits : List Split)

@@ -15,10 +15,10 @@ use Rattle.master_state.specs.declared.states.Attempt.{Attempt}
 use Rattle.master_state.specs.declared.states.Limits.{Limits}
 use Rattle.master_state.specs.States.{Cluster}
 use Rattle.master_state.specs.Tests.{is_done}
-use Rattle.master_core.specs.declared.entries.SplitEntry.{SplitEntry}
-use Rattle.master_core.specs.declared.entries.SplitEntry.TheVariants.{Pending, Running, Done}
-use Rattle.master_core.specs.Entries.{shown_as}
-use Rattle.master_core.specs.Inside.{AreOfSplits, IsOfSplit}
+use Rattle.master_tables.specs.declared.entries.SplitEntry.{SplitEntry}
+use Rattle.master_tables.specs.declared.entries.SplitEntry.TheVariants.{Pending, Running, Done}
+use Rattle.master_tables.specs.Entries.{shown_as}
+use Rattle.master_tables.specs.Kept.{AreOfSplits, IsOfSplit}
 
 abbrev pub AreMadeFor : Cluster → List SplitEntry → Type 0
 AreMadeFor cluster entries =

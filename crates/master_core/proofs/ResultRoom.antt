@@ -14,7 +14,7 @@ use Rattle.master_state.specs.Jobs.{AreResults}
 use Rattle.master_state.proofs.Places.{part_inside}
 use Rattle.master_core.specs.declared.master.Master.TheInside.{Inside}
 use Rattle.master_core.specs.Inside.{setup_of, state_of, IsMaster}
-use Rattle.master_core.specs.Places.{RunsPart}
+use Rattle.master_tables.specs.Places.{RunsPart}
 
 abbrev one_if : Bool → ℕ
 one_if b = cond b 1 0

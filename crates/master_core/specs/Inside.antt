@@ -1,16 +1,12 @@
 -- What a cluster and a master keep.
-use Rattle.std.specs.Prelude.{ℕ, ◌≡◌, ◌≤◌, List, length, map, Some, slice_get, vec_capacity}
-use Rattle.word_map.specs.Runs.{MapView}
-use Rattle.master_state.specs.declared.states.Attempt.{Attempt}
+use Rattle.std.specs.Prelude.{◌≤◌, length, map, vec_capacity}
 use Rattle.master_state.specs.States.{Cluster, Setup, State}
-use Rattle.master_state.specs.Refusals.{text_of}
 use Rattle.master_state.specs.Jobs.{Job, IsKept}
 use Rattle.master_core.specs.declared.cluster.Cluster.TheInside as cluster
-use Rattle.master_core.specs.declared.entries.SplitEntry.{SplitEntry}
-use Rattle.master_core.specs.declared.entries.SplitEntry.TheVariants.{Done}
 use Rattle.master_core.specs.declared.master.Master.TheInside.{Inside}
 use Rattle.master_core.specs.Clusters.{cluster_from}
-use Rattle.master_core.specs.Entries.{shown_as}
+use Rattle.master_tables.specs.Entries.{shown_as}
+use Rattle.master_tables.specs.Kept.{AreOfSplits}
 
 -- the fields of a cluster as contracts see them
 abbrev pub cluster_of : cluster.Inside → Cluster
@@ -45,18 +41,6 @@ pub record HasRoom (m : Inside) : Type 0 where
   pub attempts : m.limits.attempts ≤ vec_capacity m.starts
   pub sweeps : m.limits.sweeps ≤ vec_capacity m.sweeps
   pub results : m.cluster.parts ≤ vec_capacity m.results
-
--- the result is of the split's text and of the job's number of parts
-pub record IsOfSplit (setup : Setup) (split : ℕ) (result : MapView) : Type 0 where
-  pub text : result.text ≡ text_of setup split
-  pub parts : result.parts ≡ setup.cluster.parts
-
--- so is the kept result of each done split
-abbrev pub AreOfSplits : Setup → List SplitEntry → Type 0
-AreOfSplits setup entries =
-    (split : ℕ) (attempt : Attempt) (result : MapView) →
-    slice_get entries split ≡ Some (Done attempt result) →
-    IsOfSplit setup split result
 
 -- what every master keeps
 pub record IsMaster (m : Inside) : Type 0 where

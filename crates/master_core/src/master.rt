@@ -51,30 +51,32 @@ ghost use Rattle.master_state.specs.Jobs.{
   IsReady,
   present,
 };
-ghost use Rattle.master_core.specs.Places.{RunsPart, RunsSplit};
+ghost use Rattle.master_tables.specs.Places.{RunsPart, RunsSplit};
 ghost use Rattle.master_core.specs.Starts.{HasSizesOf};
 
-use crate::backups::{has_free_slot, is_any_live, is_any_pending, run_attempt, takes_backup};
 use crate::cluster::Cluster;
-use crate::completions::{finish_part, finish_split, give_slots};
-use crate::counts::{open_parts, open_splits, running_maps, running_parts};
-use crate::deaths::{bury, bury_all};
-use crate::entries::{SplitEntry, pending_entries, shown};
-use crate::holders::{add_holder, drop_holder, first_holders};
+use crate::holders::first_holders;
 use crate::inputs::{is_wrong_map, is_wrong_part};
-use crate::lines::{all_split_lines, may_any_start, worker_line_table, worker_lines};
-use crate::log::{record_counts, record_event, record_result, record_start};
-use crate::reducing::{NextPart, are_done, first_pending, runs_of, start_part};
-use crate::running::{
-    RunningPart, RunningSplit, end_attempt, end_part_attempt, part_of, part_runs, runs, split_of,
-};
-use crate::starting::start_each;
+use crate::reducing::{NextPart, runs_of};
 use block_map::{BlockMap, CopyOrder};
 use certificate_checker::{Certified, certify};
 use master_state::{
     Answer, AnswerWith, Attempt, BackupAnswer, CommitError, Event, Glance, Limits, PartState,
     ReduceAnswer, Reply, SplitState, Start, Swept, Wave, Why, Work,
 };
+use master_tables::backups::{has_free_slot, is_any_live, run_attempt, takes_backup};
+use master_tables::completions::{finish_part, finish_split, give_slots};
+use master_tables::counts::{open_parts, open_splits, running_maps, running_parts};
+use master_tables::deaths::{bury, bury_all};
+use master_tables::entries::{SplitEntry, are_done, is_any_pending, pending_entries, shown};
+use master_tables::holders::{add_holder, drop_holder};
+use master_tables::lines::{all_split_lines, may_any_start, worker_line_table, worker_lines};
+use master_tables::log::{record_counts, record_event, record_result, record_start};
+use master_tables::parts::{first_pending, start_part};
+use master_tables::running::{
+    RunningPart, RunningSplit, end_attempt, end_part_attempt, part_of, part_runs, runs, split_of,
+};
+use master_tables::starting::start_each;
 use node_ids::{AttemptNo, PartNo, SplitNo, SplitSet, WorkerNo, WorkerSet};
 use price_certificate::Prices;
 use shuffle_reduce::PartResult;

@@ -1,5 +1,7 @@
-use crate::jobs::{AMPLE, Call, Job, SplitRow, answer, make_job, text_of};
-use master_state::{Answer, CommitError, Limits, SplitState, Wave, Why};
+use crate::jobs::{AMPLE, Call, Job, Shape, SplitRow, answers, make_job, make_shaped, text_of};
+use crate::seen::seen;
+use block_map::CopyOrder;
+use master_state::{Answer, CommitError, Event, Limits, SplitState, Start, Wave, Why, Work};
 use node_ids::{AttemptNo, SplitNo, WorkerNo};
 use price_certificate::Condition;
 use std::alloc::Global;
@@ -8,20 +10,6 @@ use std::sync::Arc;
 use std::test::Fail;
 use wave_planner::{Planned, plan};
 use word_map::map_split;
-
-// One call after another, each with its answer.
-fn answers(
-    rt: &impl Abort,
-    alloc: Global,
-    job: &mut Job,
-    rows: &[(Call, Answer)],
-) -> Result<(), Fail> {
-    for (row, want) in rows {
-        let told = answer(rt, alloc, job, *row).ok_or("no answer")?;
-        assert_eq!(rt; told, *want, "{row:?}");
-    }
-    Ok(())
-}
 
 // A master of two workers with a slot each, and of this split.
 fn two_workers(rt: &impl Abort, alloc: Global, holders: &[u16]) -> Result<Job, Fail> {
@@ -84,48 +72,6 @@ fn silence_is_a_death(rt: HostRuntime) -> Result<(), Fail> {
 }
 
 #[test]
-fn the_first_of_two_attempts_wins(rt: HostRuntime) -> Result<(), Fail> {
-    let mut job = two_workers(&rt, rt.alloc(), &[0])?;
-    answers(
-        &rt,
-        rt.alloc(),
-        &mut job,
-        &[
-            (Call::Backup(0, 1), Answer::Ignored(Why::NoBackup)),
-            (Call::Wave, Answer::Accepted(1)),
-            (Call::Backup(0, 0), Answer::Ignored(Why::NoBackup)),
-            (Call::Backup(0, 1), Answer::Accepted(2)),
-            (Call::Done(2), Answer::Accepted(3)),
-            (Call::Done(1), Answer::Ignored(Why::OldAttempt)),
-            (Call::Reduce, Answer::Accepted(4)),
-            (Call::Fail(3), Answer::Accepted(5)),
-            (Call::Reduce, Answer::Accepted(6)),
-            (Call::Done(4), Answer::Accepted(7)),
-        ],
-    )
-}
-
-#[test]
-fn the_other_of_two_attempts_goes_on(rt: HostRuntime) -> Result<(), Fail> {
-    let mut job = two_workers(&rt, rt.alloc(), &[0])?;
-    answers(
-        &rt,
-        rt.alloc(),
-        &mut job,
-        &[
-            (Call::Wave, Answer::Accepted(1)),
-            (Call::Backup(0, 1), Answer::Accepted(2)),
-            (Call::Withdraw(1), Answer::Accepted(3)),
-            (Call::Backup(0, 0), Answer::Accepted(4)),
-            (Call::Fail(3), Answer::Accepted(5)),
-            (Call::Backup(0, 0), Answer::Ignored(Why::Barred)),
-            (Call::Die(0), Answer::Accepted(6)),
-            (Call::Done(2), Answer::Accepted(7)),
-        ],
-    )
-}
-
-#[test]
 fn a_full_history_is_told(rt: HostRuntime) -> Result<(), Fail> {
     let alloc = rt.alloc();
     let limits = Limits {
@@ -154,8 +100,8 @@ fn a_full_history_is_told(rt: HostRuntime) -> Result<(), Fail> {
     )
 }
 
-// Hands in a plan that may be an old one.
-fn commit(
+/// Hands in a plan that may be an old one.
+pub fn commit(
     rt: &impl Abort,
     alloc: Global,
     job: &mut Job,
@@ -195,14 +141,30 @@ fn with_an_old_plan(rt: &impl Abort, alloc: Global) -> Result<(Job, Planned), Fa
     Ok((job, old))
 }
 
+// The first condition that an old plan fails, whose one start costs 20: a start of split 1 on worker 0 costs
+// nothing now, and the reward is 81.
+fn fails(rt: &impl Abort, planned: &Planned) -> Condition {
+    let (a, s) = (WorkerNo::new(0), SplitNo::new(1));
+    let (prices, certified) = (planned.prices(), planned.certified());
+    assert_eq!(rt; (certified.count, certified.cost), (1, 20));
+    assert!(rt; prices.splits() == 2 && prices.workers() == 2);
+    let (for_split, for_worker) = (prices.split(s), prices.worker(a));
+    assert!(rt; for_split <= 81 && for_worker <= 81);
+    if for_split + for_worker < 81 {
+        Condition::Priced(s, a)
+    } else {
+        Condition::Spare(a)
+    }
+}
+
 #[test]
 fn an_old_plan_is_stale(rt: HostRuntime) -> Result<(), Fail> {
-    let (a, s) = (WorkerNo::new(0), SplitNo::new(1));
     let (mut job, old) = with_an_old_plan(&rt, rt.alloc())?;
+    let before = seen(rt.alloc(), &job.master)?;
     let told = commit(&rt, rt.alloc(), &mut job, &old);
-    let priced = Err(CommitError::Stale(Condition::Priced(s, a)));
-    let spare = Err(CommitError::Stale(Condition::Spare(a)));
-    assert!(rt; told == priced || told == spare, "{told:?}");
+    assert_eq!(rt; told, Err(CommitError::Stale(fails(&rt, &old))));
+    let after = seen(rt.alloc(), &job.master)?;
+    assert_eq!(rt; after.as_slice(), before.as_slice());
     Ok(())
 }
 
@@ -222,6 +184,47 @@ fn a_new_plan_is_committed_once(rt: HostRuntime) -> Result<(), Fail> {
         commit(&rt, rt.alloc(), &mut job, &new),
         Err(CommitError::Stale(open))
     );
+    Ok(())
+}
+
+// Worker 0 alone holds the one split; worker 2 is in the other rack.
+const FAR: Shape<'static> = Shape {
+    racks: &[2, 1],
+    slots: &[1, 1, 1],
+    splits: &[(5, &[0], "one")],
+    parts: 1,
+};
+
+#[test]
+fn a_copy_and_a_failure(rt: HostRuntime) -> Result<(), Fail> {
+    let alloc = rt.alloc();
+    let mut job = make_shaped(&rt, alloc, &FAR, AMPLE).ok_or("no master")?;
+    let (a, c, split) = (WorkerNo::new(0), WorkerNo::new(2), SplitNo::new(0));
+    let orders = job.master.copy_orders(alloc, 2)?;
+    let order = CopyOrder {
+        split,
+        from: a,
+        to: c,
+    };
+    assert_eq!(rt; orders.as_slice(), [order].as_slice());
+    let rows = [
+        (Call::Wave, Answer::Accepted(1)),
+        (Call::Fail(1), Answer::Accepted(2)),
+        (Call::Wave, Answer::Accepted(3)),
+    ];
+    answers(&rt, alloc, &mut job, &rows)?;
+    let wave = Event::Wave {
+        first: AttemptNo::new(2),
+        count: 1,
+        cost: 10,
+    };
+    assert!(rt; job.master.history().last() == Some(&wave));
+    let start = Start {
+        work: Work::Split(split),
+        worker: WorkerNo::new(1),
+    };
+    assert_eq!(rt; job.master.start(AttemptNo::new(2)), Some(start));
+    assert!(rt; !job.master.glance().ready);
     Ok(())
 }
 

@@ -3,7 +3,7 @@ ghost use Rattle.std.specs.Prelude.{◌≡◌, IfSome, length, map};
 ghost use Rattle.std.specs.List.{range_with_len};
 ghost use Rattle.shuffle_reduce.specs.Gather.{values_of};
 
-use master_core::{Cluster, Master};
+use master_core::{Cluster, ClusterError, Master};
 use master_state::{
     Answer, AnswerWith, BackupAnswer, CommitError, Limits, ReduceAnswer, Why, Work,
 };
@@ -14,12 +14,23 @@ use shuffle_reduce::{are_of_part, merge};
 use std::alloc::Global;
 use std::process::Abort;
 use std::sync::Arc;
+use std::test::Fail;
 use wave_planner::plan;
 use wave_problem::SplitLine;
 use word_map::{Document, Run, SplitText, Text, map_split};
 
 /// A split: its bytes, its first holders, and the words of its one document.
 pub type SplitRow<'r> = (u64, &'r [u16], &'r str);
+
+/// What a cluster is made of: how many workers each rack has, the slots of each worker, the splits, and the
+/// number of parts.
+#[derive(Clone, Copy)]
+pub struct Shape<'r> {
+    pub racks: &'r [usize],
+    pub slots: &'r [u8],
+    pub splits: &'r [SplitRow<'r>],
+    pub parts: usize,
+}
 
 /// Room for whatever a test does.
 pub const AMPLE: Limits = Limits {
@@ -51,14 +62,20 @@ pub enum Call {
     Reduce,
 }
 
-fn one_rack(rt: &impl Abort, alloc: Global, workers: usize) -> Option<RackTree> {
+/// A call, and its answer.
+pub type Row = (Call, Answer);
+
+// Racks of so many workers each, in one data centre.
+fn racks_of(rt: &impl Abort, alloc: Global, racks: &[usize]) -> Option<RackTree> {
     let mut tree = RackTree::new(alloc);
     let centre = tree.add_centre().ok()?;
-    assert!(rt; centre.index() < tree.centres());
-    let rack = tree.add_rack(centre).ok()?;
-    for _ in 0..workers {
-        assert!(rt; rack.index() < tree.racks());
-        tree.add_worker(rack).ok()?;
+    for workers in racks {
+        assert!(rt; centre.index() < tree.centres());
+        let rack = tree.add_rack(centre).ok()?;
+        for _ in 0..*workers {
+            assert!(rt; rack.index() < tree.racks());
+            tree.add_worker(rack).ok()?;
+        }
     }
     Some(tree)
 }
@@ -110,19 +127,27 @@ fn texts_of(rt: &impl Abort, alloc: Global, rows: &[SplitRow<'_>]) -> Option<Vec
     Some(texts)
 }
 
-/// A master of workers in one rack with so many slots, of these splits, and of two parts.
-pub fn make_job(
+/// The cluster of a job, where there is memory for what it is made of.
+pub fn make_cluster(
     rt: &impl Abort,
     alloc: Global,
-    slots: &[u8],
-    rows: &[SplitRow<'_>],
+    of: &Shape<'_>,
+) -> Option<Result<Cluster, ClusterError>> {
+    let tree = racks_of(rt, alloc, of.racks)?;
+    let lines = lines_of(alloc, of.splits)?;
+    let texts = texts_of(rt, alloc, of.splits)?;
+    assert!(rt; tree.workers() == of.slots.len() && lines.len() == of.splits.len());
+    assert!(rt; of.parts >= 1);
+    Some(Cluster::new(alloc, tree, of.slots, lines, texts, of.parts, 3))
+}
+
+/// A master of a cluster.
+pub fn make_master(
+    rt: &impl Abort,
+    alloc: Global,
+    cluster: Cluster,
     limits: Limits,
 ) -> Option<Job> {
-    let tree = one_rack(rt, alloc, slots.len())?;
-    let lines = lines_of(alloc, rows)?;
-    let texts = texts_of(rt, alloc, rows)?;
-    assert!(rt; tree.workers() == slots.len() && lines.len() == rows.len());
-    let cluster = Cluster::new(alloc, tree, slots, lines, texts, 2, 3).ok()?;
     assert!(rt;
         limits.events <= 65_536 && limits.attempts <= 1_000_000 && limits.sweeps <= limits.events
     );
@@ -131,6 +156,37 @@ pub fn make_job(
         master,
         runs: Vec::new(alloc),
     })
+}
+
+/// A master of workers in one rack with so many slots, of these splits, and of two parts.
+pub fn make_job(
+    rt: &impl Abort,
+    alloc: Global,
+    slots: &[u8],
+    splits: &[SplitRow<'_>],
+    limits: Limits,
+) -> Option<Job> {
+    let shape = Shape {
+        racks: &[slots.len()],
+        slots,
+        splits,
+        parts: 2,
+    };
+    make_shaped(rt, alloc, &shape, limits)
+}
+
+/// A master of a cluster that is made of this.
+pub fn make_shaped(rt: &impl Abort, alloc: Global, of: &Shape<'_>, limits: Limits) -> Option<Job> {
+    make_master(rt, alloc, make_cluster(rt, alloc, of)?.ok()?, limits)
+}
+
+/// One call after another, each with its answer.
+pub fn answers(rt: &impl Abort, alloc: Global, job: &mut Job, rows: &[Row]) -> Result<(), Fail> {
+    for (row, want) in rows {
+        let told = answer(rt, alloc, job, *row).ok_or("no answer")?;
+        assert_eq!(rt; told, *want, "{row:?}");
+    }
+    Ok(())
 }
 
 /// What the call answers: its place, or why it is ignored.

@@ -5,10 +5,16 @@
 #![tactic(auto)]
 
 #[cfg(test)]
+mod backups;
+#[cfg(test)]
 mod block_rows;
 #[cfg(test)]
 mod histories;
 #[cfg(test)]
 mod jobs;
+#[cfg(test)]
+mod refusals;
+#[cfg(test)]
+mod seen;
 #[cfg(test)]
 mod worker_rows;

@@ -4,8 +4,8 @@ use Rattle.std.specs.declared.sync.Arc.{Arc}
 use Rattle.std.specs.declared.vec.Vec.{Vec}
 use Rattle.word_map.specs.Runs.{RunView}
 use Rattle.master_state.specs.Tests.{is_done}
-use Rattle.master_core.specs.Entries.{shown_as}
-use Rattle.master_core.proofs.Counting.{all_at}
+use Rattle.master_tables.specs.Entries.{shown_as}
+use Rattle.master_tables.proofs.Counting.{all_at}
 use Rattle.master_core.proofs.Replying.{made_for, run_replied, not_done}
 use Rattle.master_core.proofs.reducing.runs_of.Goals as goal
 use Rattle.master_core.proofs.reducing.runs_of.Goals.{in-Done+in_ok-clone+in_ok-push, in_default}

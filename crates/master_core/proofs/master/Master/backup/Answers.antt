@@ -4,11 +4,11 @@ use Rattle.master_state.specs.States.{next_attempt}
 use Rattle.master_state.specs.Refusals.{Call, Backup, refusal}
 use Rattle.master_state.specs.Jobs.{IsAccepted, Job}
 use Rattle.master_core.specs.declared.master.Master.TheInside.{Inside}
-use Rattle.master_core.specs.Entries.{entry_with}
+use Rattle.master_tables.specs.Entries.{entry_with}
 use Rattle.master_core.specs.Inside.{job_of, setup_of, state_of}
 use Rattle.master_core.proofs.Accepting.{accepted_at, known_at, master_after, refusal_of}
 use Rattle.master_core.proofs.Backing.{backup_accepted}
-use Rattle.master_core.proofs.Showing.{made_updated, start_makes_none}
+use Rattle.master_tables.proofs.Showing.{made_updated, start_makes_none}
 use Rattle.master_core.proofs.master.Master.backup.Goals as goal
 
 abbrev new_of : goal.After-record_event-place → Inside

@@ -4,7 +4,7 @@ use Rattle.master_state.specs.declared.answers.Why.TheVariants.{WrongInput, Hist
 use Rattle.master_state.specs.Jobs.{IsAccepted, Job}
 use Rattle.master_core.specs.declared.master.Master.TheInside.{Inside}
 use Rattle.master_core.specs.Inside.{job_of, setup_of, state_of}
-use Rattle.master_core.specs.Places.{RunsSplit}
+use Rattle.master_tables.specs.Places.{RunsSplit}
 use Rattle.master_core.proofs.Accepting.{accepted_at, master_after}
 use Rattle.master_core.proofs.Ended.{is_false}
 use Rattle.master_core.proofs.Found.{entry_at, text_known, tidy_at}

@@ -4,7 +4,7 @@ use Rattle.wave_problem.specs.Wave.{Split}
 use Rattle.worker_table.specs.Workers.{opening_workers}
 use Rattle.master_state.specs.declared.states.PartState.TheVariants as part
 use Rattle.master_state.specs.States.{Setup}
-use Rattle.master_core.specs.declared.entries.SplitEntry.TheVariants.{Pending}
+use Rattle.master_tables.specs.declared.entries.SplitEntry.TheVariants.{Pending}
 use Rattle.master_core.proofs.Opening.{opening_is, made_from, kept_from}
 use Rattle.master_core.proofs.master.Master.new.Goals as goal
 

@@ -3,7 +3,7 @@ use Rattle.master_state.specs.Refusals.{PartDone, is_full, is_wrong_part, no_par
 use Rattle.master_state.specs.Jobs.{IsAccepted, Job}
 use Rattle.master_core.specs.declared.master.Master.TheInside.{Inside}
 use Rattle.master_core.specs.Inside.{job_of, setup_of, state_of}
-use Rattle.master_core.specs.Places.{RunsPart}
+use Rattle.master_tables.specs.Places.{RunsPart}
 use Rattle.master_core.proofs.Accepting.{accepted_at, master_after}
 use Rattle.master_core.proofs.Ended.{is_false, part_takes}
 use Rattle.master_core.proofs.Found.{part_in_list, tidy_at}

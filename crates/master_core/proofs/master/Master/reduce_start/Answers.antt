@@ -41,29 +41,35 @@ start_part-requires-clause-part c =
     c.self.view_is (is_false _ c.in-Some.ensures.ready) c.in-Some.ensures.part c.in-Some.ensures.worker in
     next.part
 
-pub invariant_of-self : goal.invariant_of-self
-invariant_of-self c =
+abbrev new_of : goal.After-record_event-place → Inside
+new_of c = record c.self.inside {
+  workers = c.start_part.new.workers;
+  parts = c.start_part.new.parts;
+  starts = c.start_part.new.starts;
+  history = c.record_event-place.new.history;
+}
+
+number_is : (c : goal.After-record_event-place) → c.new-attempt.result ≡ length c.self.inside.starts.items + 1
+number_is c = omega (arith, c.new-attempt.ensures, c.len.ensures)
+
+accepted_here : (c : goal.After-record_event-place) →
+    IsAccepted (job_of c.self.inside) ReduceStart c.record_event-place.result (job_of (new_of c))
+accepted_here c =
     let old = c.self.inside in
     let next = next_in old c.args.self.now c.in-Some.next.part c.in-Some.next.worker c.self.invariant
     c.self.view_is (is_false _ c.in-Some.ensures.ready) c.in-Some.ensures.part c.in-Some.ensures.worker in
-    let part = c.in-Some.next.part in
-    let worker = c.in-Some.next.worker in
-    let place = c.record_event-place.result in
-    let new : Inside = record old {
-      workers = c.start_part.new.workers;
-      parts = c.start_part.new.parts;
-      starts = c.start_part.new.starts;
-      history = c.record_event-place.new.history;
-    } in
     let free : has_no_room (setup_of old) (state_of old) 1 ≡ false =
     ap (λ (i : Job). has_no_room i.setup i.state 1) c.self.view_is ∙ sym c.has_no_room.ensures
     ∙ c.if-has_no_room.false in
-    let number : c.new-attempt.result ≡ length old.starts.items + 1 =
-    omega (arith, c.new-attempt.ensures, c.len.ensures) in
-    let done = reduce_accepted old new part c.new-attempt.result worker place next.ready free number
-    next.part_is next.worker_is refl c.start_part.ensures.taken c.start_part.ensures.running c.start_part.ensures.told refl
-    c.record_event-place.ensures.items refl c.record_event-place.ensures.place in
-    master_after old new ReduceStart place c.self.invariant done
+    reduce_accepted old (new_of c) c.in-Some.next.part c.new-attempt.result c.in-Some.next.worker
+    c.record_event-place.result next.ready free (number_is c) next.part_is next.worker_is refl
+    c.start_part.ensures.taken c.start_part.ensures.running c.start_part.ensures.told refl
+    c.record_event-place.ensures.items refl c.record_event-place.ensures.place
+
+pub invariant_of-self : goal.invariant_of-self
+invariant_of-self c =
+    master_after c.self.inside (new_of c) ReduceStart c.record_event-place.result c.self.invariant
+    (accepted_here c)
     (record {
       events = rw c.record_event-place.ensures.capacity c.self.invariant.room.events;
       attempts = rw c.start_part.ensures.capacity c.self.invariant.room.attempts;
@@ -74,39 +80,22 @@ invariant_of-self c =
 
 pub returns : goal.returns
 returns c =
-    let old = c.self.inside in
-    let next = next_in old c.args.self.now c.in-Some.next.part c.in-Some.next.worker c.self.invariant
+    let next = next_in c.self.inside c.args.self.now c.in-Some.next.part c.in-Some.next.worker c.self.invariant
     c.self.view_is (is_false _ c.in-Some.ensures.ready) c.in-Some.ensures.part c.in-Some.ensures.worker in
-    let part = c.in-Some.next.part in
-    let worker = c.in-Some.next.worker in
-    let place = c.record_event-place.result in
-    let new : Inside = record old {
-      workers = c.start_part.new.workers;
-      parts = c.start_part.new.parts;
-      starts = c.start_part.new.starts;
-      history = c.record_event-place.new.history;
-    } in
-    let free : has_no_room (setup_of old) (state_of old) 1 ≡ false =
-    ap (λ (i : Job). has_no_room i.setup i.state 1) c.self.view_is ∙ sym c.has_no_room.ensures
-    ∙ c.if-has_no_room.false in
-    let number : c.new-attempt.result ≡ length old.starts.items + 1 =
-    omega (arith, c.new-attempt.ensures, c.len.ensures) in
-    let done = reduce_accepted old new part c.new-attempt.result worker place next.ready free number
-    next.part_is next.worker_is refl c.start_part.ensures.taken c.start_part.ensures.running c.start_part.ensures.told refl
-    c.record_event-place.ensures.items refl c.record_event-place.ensures.place in
     let reply : Reply = record {
       attempt = c.new-attempt.result;
-      part = part;
-      worker = worker;
+      part = c.in-Some.next.part;
+      worker = c.in-Some.next.worker;
       runs = c.in-Ok.runs;
     } in
-    subst (λ (i : Job). IsReply i reply × IsAccepted i ReduceStart place (job_of new)) c.self.view_is (
+    subst (λ (i : Job). IsReply i reply × IsAccepted i ReduceStart c.record_event-place.result
+    (job_of (new_of c))) c.self.view_is (
       record {
-        attempt = number;
+        attempt = number_is c;
         part = next.part_is;
         worker = next.worker_is;
         of_part = c.in-Ok.ensures.of_part;
         texts = c.in-Ok.ensures.texts;
       },
-      done,
+      accepted_here c,
     )

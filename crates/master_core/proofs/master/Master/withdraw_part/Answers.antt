@@ -1,9 +1,9 @@
 use Rattle.std.proofs.Common.{◌≡◌, refl, ap, sym, ◌∙◌, subst, false}
 use Rattle.master_state.specs.Refusals.{Withdraw, is_full}
-use Rattle.master_state.specs.Jobs.{Job}
+use Rattle.master_state.specs.Jobs.{IsAccepted, Job}
 use Rattle.master_core.specs.declared.master.Master.TheInside.{Inside}
-use Rattle.master_core.specs.Inside.{setup_of, state_of}
-use Rattle.master_core.specs.Places.{RunsPart}
+use Rattle.master_core.specs.Inside.{job_of, setup_of, state_of}
+use Rattle.master_tables.specs.Places.{RunsPart}
 use Rattle.master_core.proofs.Accepting.{accepted_at, master_after}
 use Rattle.master_core.proofs.Ended.{part_takes}
 use Rattle.master_core.proofs.Failing.{part_withdrawn}
@@ -18,25 +18,32 @@ give_slot-requires c =
     c.self.invariant.kept.tidy run in
     record { known = takes.known; taken = takes.taken }
 
-pub invariant_of-self : goal.invariant_of-self
-invariant_of-self c =
+abbrev new_of : goal.After-record_event → Inside
+new_of c = record c.self.inside {
+  workers = c.give_slot.new.self;
+  parts = c.end_part_attempt.new.parts;
+  history = c.record_event.new.history;
+}
+
+accepted_here : (c : goal.After-record_event) →
+    IsAccepted (job_of c.self.inside) (Withdraw c.args.attempt) c.record_event.result (job_of (new_of c))
+accepted_here c =
     let old = c.self.inside in
     let a = c.args.attempt in
     let r = c.args.found.part in
     let w = c.args.found.worker in
-    let new : Inside = record old {
-      workers = c.give_slot.new.self;
-      parts = c.end_part_attempt.new.parts;
-      history = c.record_event.new.history;
-    } in
     let run = subst (λ (i : Job). RunsPart i.state a r w) (sym c.self.view_is) c.requires in
     let free : is_full (setup_of old) (state_of old) ≡ false =
     ap (λ (i : Job). is_full i.setup i.state) c.self.view_is ∙ sym c.has_no_place.ensures
     ∙ c.if-has_no_place.false in
-    master_after old new (Withdraw a) c.record_event.result c.self.invariant
-    (part_withdrawn old new a r w c.record_event.result c.self.invariant run free refl
+    part_withdrawn old (new_of c) a r w c.record_event.result c.self.invariant run free refl
     c.give_slot.ensures c.end_part_attempt.ensures refl
-    c.record_event.ensures.items refl c.record_event.ensures.place)
+    c.record_event.ensures.items refl c.record_event.ensures.place
+
+pub invariant_of-self : goal.invariant_of-self
+invariant_of-self c =
+    let old = c.self.inside in
+    master_after old (new_of c) (Withdraw c.args.attempt) c.record_event.result c.self.invariant (accepted_here c)
     (record {
       events = rw c.record_event.ensures.capacity c.self.invariant.room.events;
       attempts = c.self.invariant.room.attempts;
@@ -47,20 +54,5 @@ invariant_of-self c =
 
 pub returns : goal.returns
 returns c =
-    let old = c.self.inside in
-    let a = c.args.attempt in
-    let r = c.args.found.part in
-    let w = c.args.found.worker in
-    let new : Inside = record old {
-      workers = c.give_slot.new.self;
-      parts = c.end_part_attempt.new.parts;
-      history = c.record_event.new.history;
-    } in
-    let run = subst (λ (i : Job). RunsPart i.state a r w) (sym c.self.view_is) c.requires in
-    let free : is_full (setup_of old) (state_of old) ≡ false =
-    ap (λ (i : Job). is_full i.setup i.state) c.self.view_is ∙ sym c.has_no_place.ensures
-    ∙ c.if-has_no_place.false in
-    accepted_at old new c.args.self.now (Withdraw a) c.record_event.result c.self.view_is
-    (part_withdrawn old new a r w c.record_event.result c.self.invariant run free refl
-    c.give_slot.ensures c.end_part_attempt.ensures refl
-    c.record_event.ensures.items refl c.record_event.ensures.place)
+    accepted_at c.self.inside (new_of c) c.args.self.now (Withdraw c.args.attempt) c.record_event.result c.self.view_is
+    (accepted_here c)

@@ -1,9 +1,0 @@
-use Rattle.std.proofs.Common.{◌≡◌, take, drop, ◌++◌, map}
-use Rattle.master_core.specs.Entries.{entry_after_death}
-use Rattle.master_core.proofs.deaths.lose_entries.Given as goal
-
-abbrev pub invariant-loop-entry : goal.invariant-loop-entry
-invariant-loop-entry l =
-    take l.entry-index l.entry-items ++ map (entry_after_death l.stays l.worker) (drop l.entry-index
-    l.entry-items)
-    ≡ map (entry_after_death l.stays l.worker) l.fn.entries.items

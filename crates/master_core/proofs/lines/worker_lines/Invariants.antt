@@ -1,6 +1,0 @@
-use Rattle.std.proofs.Common.{◌≡◌, take, map}
-use Rattle.master_state.specs.Steps.{worker_line}
-use Rattle.master_core.proofs.lines.worker_lines.Given as goal
-
-abbrev pub invariant-loop-worker : goal.invariant-loop-worker
-invariant-loop-worker l = l.lines.items ≡ map worker_line (take l.worker-index l.workers)

@@ -1,8 +1,0 @@
-use Rattle.std.proofs.Common.{◌≡◌, take, map, true}
-use Rattle.std.specs.List.{list_all}
-use Rattle.master_state.specs.Tests.{is_done}
-use Rattle.master_core.specs.Entries.{shown_as}
-use Rattle.master_core.proofs.reducing.are_done.Given as goal
-
-abbrev pub invariant-loop-entry : goal.invariant-loop-entry
-invariant-loop-entry l = list_all is_done (take l.entry-index (map shown_as l.entries)) ≡ true

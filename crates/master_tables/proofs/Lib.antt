@@ -1,0 +1,5 @@
+pub mod Showing
+pub mod Counting
+pub mod OneDeath
+pub mod WaveLines
+pub mod Starts

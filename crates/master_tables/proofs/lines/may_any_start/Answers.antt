@@ -1,0 +1,41 @@
+use Rattle.std.proofs.Common.{◌≡◌, ℕ, sym, ◌∙◌, arith, refl, inl, inr, subst}
+use Rattle.std.proofs.lemmas.Bool.{cases_lt, false≢true}
+use Rattle.wave_problem.specs.Wave.{IsAdmissible}
+use Rattle.master_tables.proofs.WaveLines.{seen_at, split_among}
+use Rattle.master_tables.proofs.lines.may_any_start.Goals as goal
+
+pub returns-then-may_start : goal.returns-then-may_start
+returns-then-may_start c wave workers barred splits =
+    let here = seen_at wave c.args.lines.now c.args.entries.now c.args.holders.now c.loop-i.i
+    c.new-split.result c.index-lines-i.result c.split_line-line.result c.index-entries-i.result c.holders.result.now splits
+    c.new-split.ensures (omega arith) c.requires.entries c.requires.holders c.index-lines-i.is
+    c.index-entries-i.is c.holders.ensures.value c.split_line-line.ensures in
+    let some = (c.may_start.ensures wave workers barred here).0 c.if-may_start.true in
+    (λ _. (c.new-split.result, some.0, some.1), λ _. refl)
+
+pub loop-i-preserved : goal.loop-i-preserved
+loop-i-preserved c wave split w workers barred splits below admissible =
+    elim (cases_lt split c.loop-i.i) [
+      | inl before ↦ c.loop-i.invariant wave split w workers barred splits before admissible
+      | inr past ↦
+          let here = seen_at wave c.args.lines.now c.args.entries.now c.args.holders.now c.loop-i.i
+          c.new-split.result c.index-lines-i.result c.split_line-line.result c.index-entries-i.result
+          c.holders.result.now splits c.new-split.ensures (omega arith) c.requires.entries c.requires.holders
+          c.index-lines-i.is c.index-entries-i.is c.holders.ensures.value c.split_line-line.ensures in
+          let same : split ≡ c.new-split.result = omega (arith, past, below, c.new-split.ensures) in
+          false≢true
+          (sym c.if-may_start.false ∙ (c.may_start.ensures wave workers barred here).1
+          (w, subst (λ (k : ℕ). IsAdmissible wave k w) same admissible))
+    ]
+
+pub returns : goal.returns
+returns c wave workers barred splits = (
+  λ no. absurd (false≢true no),
+  λ found. absurd (c.loop-i.invariant wave found.0 found.1 workers barred splits
+      (omega (
+        arith,
+        c.loop-i-test.false,
+        split_among wave c.args.lines.now c.args.entries.now
+            c.args.holders.now found.0 found.1 splits c.requires.entries c.requires.holders found.2,
+      )) found.2),
+)

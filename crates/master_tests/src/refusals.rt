@@ -1,0 +1,115 @@
+//! Allocations that are refused: they hold whichever is, one or none.
+use crate::histories;
+use crate::jobs::{AMPLE, Call, Job, Shape, answer, make_cluster, make_master};
+use crate::seen::seen;
+use master_core::ClusterError;
+use master_state::{CommitError, ReduceAnswer, Why};
+use std::alloc::Global;
+use std::process::Abort;
+use wave_planner::plan;
+
+const SHAPE: Shape<'static> = Shape {
+    racks: &[2, 1],
+    slots: &[1, 1, 1],
+    splits: &[(10, &[0], "one"), (20, &[0, 1], "two one")],
+    parts: 2,
+};
+
+// A master of two splits and three workers, unless an allocation is refused.
+fn a_master(rt: &impl Abort, alloc: Global) -> Option<Job> {
+    match make_cluster(rt, alloc, &SHAPE)? {
+        Ok(cluster) => make_master(rt, alloc, cluster, AMPLE),
+        Err(why) => {
+            assert_eq!(rt; why, ClusterError::Memory);
+            None
+        }
+    }
+}
+
+// Whether what is seen now is what was seen before, where both could be told.
+fn is_as_before(rt: &impl Abort, alloc: Global, job: &Job, before: Option<Vec<usize>>) {
+    if let (Some(before), Some(after)) = (before, seen(alloc, &job.master).ok()) {
+        assert_eq!(rt; before.as_slice(), after.as_slice());
+    }
+}
+
+// Commits a plan of the present state, at the second call where the first is refused.
+fn commit(rt: &impl Abort, alloc: Global, job: &mut Job) -> Option<u32> {
+    let problem = job.master.problem(alloc).ok()?;
+    let planned = plan(alloc, &problem).ok()?;
+    let before = seen(alloc, &job.master).ok();
+    match histories::commit(rt, alloc, job, &planned) {
+        Ok(wave) => Some(wave.place),
+        Err(why) => {
+            assert_eq!(rt; why, CommitError::Memory);
+            is_as_before(rt, alloc, job, before);
+            None
+        }
+    }
+}
+
+#[test]
+fn a_refused_commit_changes_nothing(rt: HostRuntime) {
+    let Some(mut job) = a_master(&rt, rt.alloc()) else {
+        return;
+    };
+    let first = commit(&rt, rt.alloc(), &mut job);
+    let second = commit(&rt, rt.alloc(), &mut job);
+    assert!(rt; first == Some(1) || (first, second) == (None, Some(1)));
+}
+
+// Starts a reduce attempt, at the second call where the first is refused.
+fn reduce(rt: &impl Abort, alloc: Global, job: &mut Job) -> Option<u32> {
+    let before = seen(alloc, &job.master).ok();
+    match job.master.reduce_start(alloc) {
+        ReduceAnswer::Accepted(place, reply) => {
+            assert_eq!(rt; reply.runs.len(), 2);
+            Some(place)
+        }
+        ReduceAnswer::Ignored(why) => {
+            assert_eq!(rt; why, Why::Memory);
+            is_as_before(rt, alloc, job, before);
+            None
+        }
+    }
+}
+
+// A master whose splits are done, unless an allocation is refused.
+fn a_mapped_master(rt: &impl Abort, alloc: Global) -> Option<Job> {
+    let mut job = a_master(rt, alloc)?;
+    for call in [Call::Wave, Call::Done(1), Call::Done(2)] {
+        answer(rt, alloc, &mut job, call)?;
+    }
+    Some(job)
+}
+
+#[test]
+fn a_refused_reduce_start_changes_nothing(rt: HostRuntime) {
+    let Some(mut job) = a_mapped_master(&rt, rt.alloc()) else {
+        return;
+    };
+    let first = reduce(&rt, rt.alloc(), &mut job);
+    let second = reduce(&rt, rt.alloc(), &mut job);
+    assert!(rt; first == Some(4) || (first, second) == (None, Some(4)));
+}
+
+// Whether a problem is made, and how many copies are ordered.
+fn read(alloc: Global, job: &Job) -> (bool, Option<usize>) {
+    let orders = job.master.copy_orders(alloc, 2).ok();
+    (
+        job.master.problem(alloc).is_ok(),
+        orders.map(|orders| orders.len()),
+    )
+}
+
+#[test]
+fn refused_readers_change_nothing(rt: HostRuntime) {
+    let Some(job) = a_master(&rt, rt.alloc()) else {
+        return;
+    };
+    let before = seen(rt.alloc(), &job.master).ok();
+    let first = read(rt.alloc(), &job);
+    let second = read(rt.alloc(), &job);
+    is_as_before(&rt, rt.alloc(), &job, before);
+    assert!(rt; first == (true, Some(1)) || second == (true, Some(1)));
+}

@@ -1,0 +1,104 @@
+//! All that a master shows, as numbers that can be compared.
+use master_core::Master;
+use master_state::{Attempt, PartState, SplitState};
+use node_ids::{PartNo, SplitNo, WorkerNo};
+use std::alloc::{AllocError, Global};
+use wave_problem::Problem;
+
+/// All that the master shows beside its events and starts, of which it shows how many there are.
+pub fn seen(alloc: Global, master: &Master) -> Result<Vec<usize>, AllocError> {
+    let mut numbers = Vec::new(alloc);
+    numbers.push(master.history().len())?;
+    numbers.push(master.starts().len())?;
+    numbers.push(master.sweeps().len())?;
+    numbers.push(master.results().len())?;
+    add_splits(master, &mut numbers)?;
+    add_parts(master, &mut numbers)?;
+    let problem = master.problem(alloc)?;
+    add_workers(&problem, &mut numbers)?;
+    add_holders(&problem, &mut numbers)?;
+    add_bars(&problem, &mut numbers)?;
+    Ok(numbers)
+}
+
+fn add_attempt(attempt: Attempt, numbers: &mut Vec<usize>) -> Result<(), AllocError> {
+    numbers.push(attempt.number.index())?;
+    numbers.push(attempt.worker.index())?;
+    Ok(())
+}
+
+fn add_split(state: SplitState, numbers: &mut Vec<usize>) -> Result<(), AllocError> {
+    match state {
+        SplitState::Pending => {}
+        SplitState::Running(attempt, other) => {
+            add_attempt(attempt, numbers)?;
+            if let Some(other) = other {
+                add_attempt(other, numbers)?;
+            }
+        }
+        SplitState::Done(attempt) => {
+            numbers.push(2000)?;
+            add_attempt(attempt, numbers)?;
+        }
+    }
+    numbers.push(1000)?;
+    Ok(())
+}
+
+fn add_splits(master: &Master, numbers: &mut Vec<usize>) -> Result<(), AllocError> {
+    for number in 0..master.cluster().splits().len() {
+        if number < 1024 {
+            add_split(master.state(SplitNo::new(number as u16)), numbers)?;
+        }
+    }
+    Ok(())
+}
+
+fn add_part(state: PartState, numbers: &mut Vec<usize>) -> Result<(), AllocError> {
+    match state {
+        PartState::Pending => {}
+        PartState::Running(attempt) => add_attempt(attempt, numbers)?,
+        PartState::Done => numbers.push(2000)?,
+    }
+    numbers.push(1000)?;
+    Ok(())
+}
+
+fn add_parts(master: &Master, numbers: &mut Vec<usize>) -> Result<(), AllocError> {
+    for number in 0..master.cluster().parts() {
+        if number < 64 {
+            add_part(master.part_state(PartNo::new(number as u8)), numbers)?;
+        }
+    }
+    Ok(())
+}
+
+fn add_workers(problem: &Problem, numbers: &mut Vec<usize>) -> Result<(), AllocError> {
+    for number in 0..problem.workers() {
+        let worker = WorkerNo::new(number as u16);
+        numbers.push(usize::from(problem.is_live(worker)))?;
+        numbers.push(usize::from(problem.free(worker)))?;
+    }
+    Ok(())
+}
+
+fn add_holders(problem: &Problem, numbers: &mut Vec<usize>) -> Result<(), AllocError> {
+    for number in 0..problem.splits() {
+        for holder in problem.holders(SplitNo::new(number as u16)) {
+            numbers.push(holder.index())?;
+        }
+        numbers.push(1000)?;
+    }
+    Ok(())
+}
+
+// Which pairs of a split and a worker are barred.
+fn add_bars(problem: &Problem, numbers: &mut Vec<usize>) -> Result<(), AllocError> {
+    for number in 0..problem.splits() {
+        for worker in 0..problem.workers() {
+            let (split, worker) = (SplitNo::new(number as u16), WorkerNo::new(worker as u16));
+            numbers.push(usize::from(problem.is_barred(split, worker)))?;
+        }
+    }
+    Ok(())
+}
