@@ -242,6 +242,10 @@ first_false a b c d e f le = grind (arith, nat_tests)
 pub second_false : (a b c d e f : ℕ) → a < b → d < c → false ≡ (nat_lt a b && nat_le c d && nat_le e f)
 second_false a b c d e f lt le = grind (arith, nat_tests)
 
+-- more elements fit where they are within what is left
+pub fits_rest : (l s r : ℕ) → l ≤ r → nat_le s (r - l) ≡ nat_le (l + s) r
+fits_rest l s r le = grind (arith, nat_tests)
+
 pub third_is : (a b c d e f : ℕ) → a < b → c ≤ d → nat_le e f ≡ (nat_lt a b && nat_le c d && nat_le e f)
 third_is a b c d e f lt le = grind (arith, nat_tests)
 

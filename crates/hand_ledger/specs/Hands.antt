@@ -1,8 +1,6 @@
 -- What a hand keeps of the calls of its thread.
 use Rattle.std.specs.Prelude.{ℕ, ◌+◌, ◌&&◌, ◌||◌, nat_le, nat_lt, Bool, true, List, [], ◌∷◌, ◌++◌, length, Option, Some, None}
 use Rattle.std.specs.List.{sum_by}
-use Rattle.master_state.specs.declared.answers.Answer.{Answer}
-use Rattle.master_state.specs.declared.answers.Answer.TheVariants.{Accepted, Ignored}
 use Rattle.master_state.specs.declared.answers.Why.{Why}
 use Rattle.master_state.specs.declared.answers.Why.TheVariants.{HistoryFull, StrangeHand}
 use Rattle.master_state.specs.declared.events.Event.{Event}
@@ -59,11 +57,6 @@ abbrev pub noted : HandValue → Bool → Why → HandValue
 noted hand had_room StrangeHand = record hand { strange = true }
 noted hand had_room HistoryFull = record hand { full = hand.full || had_room }
 noted hand had_room why = hand
-
--- the hand after the answer to a call with this event
-abbrev pub answered : HandValue → Event → Answer → HandValue
-answered hand event (Accepted place) = with_call hand (kept place event [] [])
-answered hand event (Ignored why) = noted hand (has_room hand 0 0) why
 
 -- the event of the last call
 abbrev pub last_event : List Kept → Option Event

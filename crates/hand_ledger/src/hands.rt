@@ -112,16 +112,16 @@ impl<L: Ledger> Hand<L> {
     }
 
     /// Whether it has room for a call more, with so many counts and starts.
-    pub fn has_room(&self, counts: u32, starts: u32) -> bool
+    pub fn has_room(&self, counts: usize, starts: usize) -> bool
         ensures { result ≡ has_room self.now counts starts }
     {
         if self.entries.len() >= self.room.events as usize {
             return false;
         }
-        if self.counts.len() as u64 + counts as u64 > self.room.sweeps as u64 {
+        if counts > self.room.sweeps as usize - self.counts.len() {
             return false;
         }
-        self.starts.len() as u64 + starts as u64 <= self.room.attempts as u64
+        starts <= self.room.attempts as usize - self.starts.len()
     }
 
     /// Notes why a call was ignored, and whether the hand had room for it.

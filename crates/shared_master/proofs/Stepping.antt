@@ -1,38 +1,300 @@
--- What a step under the lock says to the caller.
-use Rattle.std.proofs.Common.{◌≡◌, ℕ, zero, suc, ◌≤◌, List, [], ◌∷◌, length, Some, arith, inl, inr}
-use Rattle.std.proofs.lemmas.Option.{slice_get_within}
+-- What a step under the lock says of the hand, of the book and to the caller.
+use Rattle.std.proofs.Common.{◌≡◌, ℕ, zero, suc, ◌+◌, ◌<◌, ◌≤◌, ◌-◌, get_or, Bool, true, false, ◌++◌, None, List, [], ◌∷◌, length, Some, refl, sym, ap, subst, ◌∙◌, arith, inl, inr}
+use Rattle.std.specs.Prelude.{slice_get}
+use Rattle.std.proofs.lemmas.Option.{slice_get_read, slice_get_within}
+use Rattle.std.proofs.lemmas.List.{length-append}
 use Rattle.master_state.specs.declared.answers.Answer.{Answer}
 use Rattle.master_state.specs.declared.answers.Answer.TheVariants.{Accepted, Ignored}
+use Rattle.master_state.specs.declared.answers.AnswerWith.{AnswerWith}
+use Rattle.master_state.specs.declared.answers.AnswerWith.TheVariants as handed
+use Rattle.master_state.specs.declared.answers.BackupAnswer.{BackupAnswer}
+use Rattle.master_state.specs.declared.answers.BackupAnswer.TheVariants as backup
+use Rattle.master_state.specs.declared.answers.ReduceAnswer.{ReduceAnswer}
+use Rattle.master_state.specs.declared.answers.ReduceAnswer.TheVariants as reduced
+use Rattle.master_state.specs.declared.answers.Reply.{Reply}
+use Rattle.master_state.specs.declared.answers.Why.{Why}
 use Rattle.master_state.specs.declared.events.Event.{Event}
-use Rattle.master_state.specs.Jobs.{Job, event_of}
-use Rattle.master_state.specs.Refusals.{Call}
-use Rattle.hand_ledger.specs.Hands.{HandValue, Kept, last_place}
+use Rattle.master_state.specs.declared.events.Event.TheVariants as events
+use Rattle.master_state.specs.Jobs.{Job, died_in, Answers, AnswersBackup, AnswersReduce, AnswersWith, IsAccepted, IsReply, event_of}
+use Rattle.master_state.specs.Refusals.{Call, Add, Backup, Die, IsKnown, Join, Lose, MapFailed, PartFailed, ReduceStart, Sweep, Withdraw}
+use Rattle.hand_ledger.specs.Hands.{HandValue, Kept, counts_in, has_room, kept, last_place, starts_in, with_call}
 use Rattle.hand_ledger.specs.Settling.{Stands, event_at}
+use Rattle.shared_master.specs.declared.calls.PlainCall.{PlainCall}
+use Rattle.shared_master.specs.declared.calls.PlainCall.TheVariants as plain
 use Rattle.shared_master.specs.declared.sizes.Sizes.{Sizes}
-use Rattle.shared_master.specs.Steps.{AnswersBehind, IsStep, IsNextOf, IsKeptAs}
+use Rattle.shared_master.specs.Steps.{answered, HasCounts, IsAt, IsBarrier, IsBehind, IsHandedBack, IsKeptAs, IsKeptBackup, IsKeptReduce, IsKnownTo, IsLast, IsNextOf, IsOwn, IsReduceStep, IsStep, NamesNext, call_of, plain_backup, plain_reduce, plain_with, total_after}
 
--- an event stands within the history
+-- the call was accepted, or the master is unchanged
+abbrev pub Takes : Job → Call → Answer → Job → Type 0
+Takes old call (Accepted place) new = IsAccepted old call place new
+Takes old call (Ignored why) new = new ≡ old
+
+pub takes : (old : Job) (call : Call) (given : Answer) (new : Job) → Answers old call given new →
+    Takes old call given new
+takes old call (Accepted place) new accepted = accepted
+takes old call (Ignored why) new ignored = ignored.same
+
+-- an answer with more is that of a plain one
+pub answers_with : {R : Type 0} (old : Job) (call : Call) (made : R) (given : AnswerWith R) (new : Job) →
+    AnswersWith old call made given new → Answers old call (plain_with given) new × IsHandedBack made given
+answers_with old call made (handed.Accepted place) new accepted = (accepted, tt)
+answers_with old call made (handed.Ignored why back) new ignored = (ignored.1, ignored.0)
+
+pub answers_backup : (old : Job) (split w : ℕ) (given : BackupAnswer) (new : Job) →
+    AnswersBackup old split w given new →
+    Answers old (Backup split w) (plain_backup given) new × NamesNext old given
+answers_backup old split w (backup.Accepted place a) new accepted = (accepted.1, accepted.0)
+answers_backup old split w (backup.Ignored why) new ignored = (ignored, tt)
+
+pub takes_reduce : (old : Job) (given : ReduceAnswer) (new : Job) → AnswersReduce old given new →
+    Takes old ReduceStart (plain_reduce given) new
+takes_reduce old (reduced.Accepted place reply) new accepted = accepted.1
+takes_reduce old (reduced.Ignored why) new (inl ignored) = ignored.same
+takes_reduce old (reduced.Ignored why) new (inr memory) = memory.2
+
+-- the last event of a history
+last_at : (history : List Event) (event : Event) →
+    slice_get (history ++ event ∷ []) (length history) ≡ Some event
+last_at [] event = refl
+last_at (e ∷ history) event = last_at history event
+
+at_end : (history : List Event) (event : Event) →
+    event_at (history ++ event ∷ []) (length history + 1) ≡ Some event
+at_end history event =
+    let next : length history + 1 ≡ suc (length history) = omega arith in
+    ap (event_at (history ++ event ∷ [])) next ∙ last_at history event
+
+-- an accepted call's event is the last of the history, and stands at the place that was answered
+pub is_last : (old : Job) (call : Call) (given : Answer) (new : Job) → Takes old call given new →
+    IsLast new.history given
+is_last old call (Accepted place) new accepted = (
+  omega (arith, accepted.next.place_is),
+  omega (
+    arith,
+    accepted.next.place_is,
+    ap length accepted.next.history,
+    length-append old.history (event_of old.state call ∷ []),
+  ),
+)
+is_last old call (Ignored why) new same = tt
+
+pub is_at : (old : Job) (call : Call) (given : Answer) (new : Job) → Takes old call given new →
+    IsAt new.history given (event_of old.state call)
+is_at old call (Accepted place) new accepted =
+    (λ k. event_at (accepted.next.history k) (accepted.next.place_is k))
+    ∙ at_end old.history (event_of old.state call)
+is_at old call (Ignored why) new same = tt
+
+-- no other event stands there
+pub has_counts : (old : Job) (call : Call) (given : Answer) (new : Job) (n : ℕ) → Takes old call given new →
+    counts_in (event_of old.state call) ≡ n → starts_in (event_of old.state call) ≡ 0 →
+    HasCounts new.history given n
+has_counts old call (Accepted place) new n accepted counts starts = λ event at.
+    let is : Some (event_of old.state call) ≡ Some event =
+    sym (is_at old call (Accepted place) new accepted) ∙ at in
+    let same : event_of old.state call ≡ event = cc in
+    (ap counts_in (sym same) ∙ counts, ap starts_in (sym same) ∙ starts)
+has_counts old call (Ignored why) new n same counts starts = tt
+
+-- a plain call has neither
+pub plain_counts : (old : Job) (call : PlainCall) (given : Answer) (new : Job) →
+    Takes old (call_of call) given new → HasCounts new.history given 0
+plain_counts old (plain.Add split w) given new taken = has_counts old (Add split w) given new 0 taken refl refl
+plain_counts old (plain.Lose split w) given new taken = has_counts old (Lose split w) given new 0 taken refl refl
+plain_counts old (plain.Join w set) given new taken = has_counts old (Join w set) given new 0 taken refl refl
+plain_counts old (plain.Die w) given new taken = has_counts old (Die w) given new 0 taken refl refl
+plain_counts old (plain.MapFailed a) given new taken = has_counts old (MapFailed a) given new 0 taken refl refl
+plain_counts old (plain.Withdraw a) given new taken = has_counts old (Withdraw a) given new 0 taken refl refl
+plain_counts old (plain.PartFailed a) given new taken = has_counts old (PartFailed a) given new 0 taken refl refl
+
+-- what is known of the sizes is known of the cluster
+pub known_of : (sizes : Sizes) (job : Job) (hand : HandValue) (call : PlainCall) → IsOwn sizes job hand →
+    IsKnownTo sizes (call_of call) → IsKnown job.setup (call_of call)
+known_of sizes job hand (plain.Add split w) own known = (subst (λ n. split < n) own.splits known.0, subst (λ n. w < n) own.workers known.1)
+known_of sizes job hand (plain.Lose split w) own known = (subst (λ n. split < n) own.splits known.0, subst (λ n. w < n) own.workers known.1)
+known_of sizes job hand (plain.Join w set) own known = (subst (λ n. w < n) own.workers known.0, λ split has. subst (λ n. split < n) own.splits (known.1 split has))
+known_of sizes job hand (plain.Die w) own known = subst (λ n. w < n) own.workers known
+known_of sizes job hand (plain.MapFailed a) own known = tt
+known_of sizes job hand (plain.Withdraw a) own known = tt
+known_of sizes job hand (plain.PartFailed a) own known = tt
+
+-- the book counts it
+pub total_is : (old : Job) (call : Call) (given : Answer) (new : Job) (total : ℕ) → Takes old call given new →
+    total ≡ length old.history → total_after total given ≡ length new.history
+total_is old call (Accepted place) new total accepted is =
+    omega (
+      arith,
+      is,
+      ap length accepted.next.history,
+      length-append old.history (event_of old.state call ∷ []),
+    )
+total_is old call (Ignored why) new total same is = is ∙ ap (λ (job : Job). length job.history) (sym same)
+
+-- a step that reached the master
+pub stepped : (sizes : Sizes) (old : Job) (hand : HandValue) (call : Call) (counts : List (List ℕ))
+    (given : Answer) (new : Job) (after : HandValue) → IsOwn sizes old hand → has_room hand (length counts) 0 ≡ true →
+    Answers old call given new →
+    ((event : Event) → IsAt new.history given event → after ≡ answered hand event counts given) →
+    IsStep sizes old hand call counts given new after
+stepped sizes old hand call counts given new after own room is entered = record {
+  answer = inr ((own, room), is);
+  hand_is = entered (event_of old.state call) (is_at old call given new (takes old call given new is));
+}
+
+-- the same, where the answer has more
+pub stepped_with : {R : Type 0} (sizes : Sizes) (inside old : Job) (hand : HandValue) (call : Call) (made : R)
+    (given : AnswerWith R) (told : Answer) (new : Job) (after : HandValue) → inside ≡ old →
+    IsBarrier sizes old hand 0 0 None → AnswersWith inside call made given new → told ≡ plain_with given →
+    ((event : Event) → IsAt new.history told event → after ≡ answered hand event [] told) →
+    IsStep sizes old hand call [] (plain_with given) new after
+stepped_with sizes inside old hand call made given told new after same barrier is told_is entered =
+    stepped sizes old hand call [] (plain_with given) new after barrier.0 barrier.1
+    (subst (λ j. Answers j call (plain_with given) new) same (answers_with inside call made given new is).0)
+    (subst (λ t. (event : Event) → IsAt new.history t event → after ≡ answered hand event [] t) told_is entered)
+
+pub stepped_backup : (sizes : Sizes) (inside old : Job) (hand : HandValue) (split w : ℕ) (given : BackupAnswer)
+    (told : Answer) (new : Job) (after : HandValue) → inside ≡ old → IsBarrier sizes old hand 0 0 None →
+    AnswersBackup inside split w given new → told ≡ plain_backup given →
+    ((event : Event) → IsAt new.history told event → after ≡ answered hand event [] told) →
+    IsStep sizes old hand (Backup split w) [] (plain_backup given) new after
+stepped_backup sizes inside old hand split w given told new after same barrier is told_is entered =
+    stepped sizes old hand (Backup split w) [] (plain_backup given) new after barrier.0 barrier.1
+    (subst (λ j. Answers j (Backup split w) (plain_backup given) new) same
+    (answers_backup inside split w given new is).0)
+    (subst (λ t. (event : Event) → IsAt new.history t event → after ≡ answered hand event [] t) told_is entered)
+
+pub stepped_reduce : (sizes : Sizes) (inside old : Job) (hand : HandValue) (given : ReduceAnswer) (told : Answer)
+    (new : Job) (after : HandValue) → inside ≡ old → IsBarrier sizes old hand 0 0 None →
+    AnswersReduce inside given new → told ≡ plain_reduce given →
+    ((event : Event) → IsAt new.history told event → after ≡ answered hand event [] told) →
+    IsReduceStep sizes old hand given new after
+stepped_reduce sizes inside old hand given told new after same barrier is told_is entered =
+    let reached : AnswersReduce old given new = subst (λ j. AnswersReduce j given new) same is in
+    let keeps : (event : Event) → IsAt new.history (plain_reduce given) event →
+    after ≡ answered hand event [] (plain_reduce given) =
+    subst (λ t. (event : Event) → IsAt new.history t event → after ≡ answered hand event [] t) told_is entered in
+    record {
+      answer = inr (barrier, reached);
+      hand_is = keeps (event_of old.state ReduceStart)
+          (is_at old ReduceStart (plain_reduce given) new (takes_reduce old given new reached));
+    }
+
+-- the event that is read at the last place
+pub event_read : (history : List Event) (place : ℕ) (event : Event) → 0 < place → place ≡ length history →
+    event ≡ get_or history (place - 1) event → event_at history place ≡ Some event
+event_read history zero event some last is = absurd (omega arith)
+event_read history (suc k) event some last is =
+    let same : suc k - 1 ≡ k = omega arith in
+    slice_get_read history (suc k) k event last (omega arith)
+    (is ∙ ap (λ i. get_or history i event) same)
+
+pub last_event : (history : List Event) (given : Answer) (place : ℕ) (event : Event) →
+    given ≡ Accepted place → IsLast history given → event ≡ get_or history (place - 1) event → event_at history place ≡ Some event
+last_event history given place event accepted last is =
+    let there : IsLast history (Accepted place) = subst (λ a. IsLast history a) accepted last in
+    event_read history place event there.0 there.1 is
+
+pub last_is : (history : List Event) (given : Answer) (place : ℕ) → given ≡ Accepted place →
+    IsLast history given → place ≡ length history
+last_is history given place accepted last =
+    let there : IsLast history (Accepted place) = subst (λ a. IsLast history a) accepted last in there.1
+
+-- it has the counts that were asked for, and so the hand has room for it
+pub last_counts : (history : List Event) (given : Answer) (place n : ℕ) (event : Event) →
+    given ≡ Accepted place → HasCounts history given n → event_at history place ≡ Some event →
+    (counts_in event ≡ n) × (starts_in event ≡ 0)
+last_counts history given place n event accepted has at =
+    let there : HasCounts history (Accepted place) n = subst (λ a. HasCounts history a n) accepted has in
+    there event at
+
+pub last_room : (hand : HandValue) (n : ℕ) (event : Event) → (counts_in event ≡ n) × (starts_in event ≡ 0) →
+    has_room hand n 0 ≡ true → has_room hand (counts_in event) (starts_in event) ≡ true
+last_room hand n event fits room = (λ k. has_room hand (fits.0 k) (fits.1 k)) ∙ room
+
+-- and is the event of the answer
+pub last_kept : (history : List Event) (given : Answer) (place : ℕ) (event e : Event) (hand : HandValue)
+    (counts : List (List ℕ)) → given ≡ Accepted place → event_at history place ≡ Some event →
+    IsAt history given e → with_call hand (kept place event counts []) ≡ answered hand e counts given
+last_kept history given place event e hand counts accepted stands at =
+    let there : IsAt history (Accepted place) e = subst (λ a. IsAt history a e) accepted at in
+    let is : Some event ≡ Some e = sym stands ∙ there in
+    let same : event ≡ e = cc in
+    (λ k. answered hand (same k) counts (sym accepted k))
+
+-- what the caller sees of it
 event_within : (history : List Event) (place : ℕ) (event : Event) → event_at history place ≡ Some event →
     place ≤ length history
 event_within history zero event at = omega arith
 event_within history (suc k) event at = omega (arith, slice_get_within history k event at)
 
-last_within : (history : List Event) (calls : List Kept) → Stands history calls → last_place calls ≤ length history
+pub last_within : (history : List Event) (calls : List Kept) → Stands history calls →
+    last_place calls ≤ length history
 last_within history [] stands = omega arith
 last_within history (call ∷ []) stands = event_within history call.place call.event stands
 last_within history (call ∷ next ∷ calls) stands = last_within history (next ∷ calls) stands
 
 -- an accepted call is the next of its hand
-next_of : (sizes : Sizes) (old : Job) (hand : HandValue) (call : Call) (given : Answer) (new : Job) →
-    AnswersBehind sizes old hand call given new → IsNextOf hand given
-next_of sizes old hand call (Accepted place) new (inl ignored) = absurd (cc ignored.2)
-next_of sizes old hand call (Accepted place) new (inr reached) =
+next_of : (sizes : Sizes) (old : Job) (hand : HandValue) (call : Call) (counts : List (List ℕ))
+    (given : Answer) (new : Job) →
+    IsBehind sizes old hand (length counts) given new (Takes old call given new) → IsNextOf hand counts given
+next_of sizes old hand call counts (Accepted place) new (inl ignored) = absurd (cc ignored.2)
+next_of sizes old hand call counts (Accepted place) new (inr reached) =
     (omega (arith, last_within old.history hand.calls reached.0.0.stands, reached.1.next.place_is), reached.0.1)
-next_of sizes old hand call (Ignored why) new is = tt
+next_of sizes old hand call counts (Ignored why) new is = tt
 
-pub kept_as : (sizes : Sizes) (old : Job) (hand : HandValue) (call : Call) (given : Answer) (new : Job) (after : HandValue) →
-    IsStep sizes old hand call given new after → IsKeptAs hand (event_of old.state call) given after
-kept_as sizes old hand call given new after step = record {
+behind_takes : (sizes : Sizes) (old : Job) (hand : HandValue) (call : Call) (n : ℕ) (given : Answer)
+    (new : Job) →
+    IsBehind sizes old hand n given new (Answers old call given new) →
+    IsBehind sizes old hand n given new (Takes old call given new)
+behind_takes sizes old hand call n given new (inl ignored) = inl ignored
+behind_takes sizes old hand call n given new (inr reached) = inr (reached.0, takes old call given new reached.1)
+
+behind_reduce : (sizes : Sizes) (old : Job) (hand : HandValue) (given : ReduceAnswer) (new : Job) →
+    IsBehind sizes old hand 0 (plain_reduce given) new (AnswersReduce old given new) →
+    IsBehind sizes old hand 0 (plain_reduce given) new (Takes old ReduceStart (plain_reduce given) new)
+behind_reduce sizes old hand given new (inl ignored) = inl ignored
+behind_reduce sizes old hand given new (inr reached) = inr (reached.0, takes_reduce old given new reached.1)
+
+pub kept_as : (sizes : Sizes) (old : Job) (hand : HandValue) (call : Call) (counts : List (List ℕ))
+    (given : Answer) (new : Job) (after : HandValue) → IsStep sizes old hand call counts given new after →
+    IsKeptAs hand (event_of old.state call) counts given after
+kept_as sizes old hand call counts given new after step = record {
   hand_is = step.hand_is;
-  next = next_of sizes old hand call given new step.answer;
+  next = next_of sizes old hand call counts given new
+      (behind_takes sizes old hand call (length counts) given new step.answer);
 }
+
+pub kept_backup : (sizes : Sizes) (old : Job) (hand : HandValue) (split w : ℕ) (given : BackupAnswer)
+    (new : Job) (after : HandValue) → IsStep sizes old hand (Backup split w) [] (plain_backup given) new after →
+    NamesNext old given → IsKeptBackup hand split w given after
+kept_backup sizes old hand split w (backup.Accepted place a) new after step names =
+    subst (λ n. IsKeptAs hand (events.Backup n split w) [] (Accepted place) after) (sym names)
+    (kept_as sizes old hand (Backup split w) [] (Accepted place) new after step)
+kept_backup sizes old hand split w (backup.Ignored why) new after step names = step.hand_is
+
+replied : (sizes : Sizes) (old : Job) (hand : HandValue) (place : ℕ) (reply : Reply) (new : Job) →
+    IsBehind sizes old hand 0 (Accepted place) new (AnswersReduce old (reduced.Accepted place reply) new) →
+    IsReply old reply
+replied sizes old hand place reply new (inl ignored) = absurd (cc ignored.2)
+replied sizes old hand place reply new (inr reached) = reached.1.0
+
+pub kept_reduce : (sizes : Sizes) (old : Job) (hand : HandValue) (given : ReduceAnswer) (new : Job)
+    (after : HandValue) → IsReduceStep sizes old hand given new after → IsKeptReduce hand given after
+kept_reduce sizes old hand (reduced.Accepted place reply) new after step =
+    let told = replied sizes old hand place reply new step.answer in
+    let event : event_of old.state ReduceStart ≡ events.ReduceStart reply.attempt reply.part reply.worker =
+    (λ k. events.ReduceStart (sym told.attempt k) (sym told.part k) (sym told.worker k)) in
+    subst (λ e. IsKeptAs hand e [] (Accepted place) after) event (record {
+      hand_is = step.hand_is;
+      next = next_of sizes old hand ReduceStart [] (Accepted place) new
+          (behind_reduce sizes old hand (reduced.Accepted place reply) new step.answer);
+    })
+kept_reduce sizes old hand (reduced.Ignored why) new after step = step.hand_is
+
+-- nobody dies in a sweep that is ignored
+pub none_dead : (sizes : Sizes) (old : Job) (hand : HandValue) (counts : List ℕ) (given : Answer) (new : Job)
+    (after : HandValue) (w : ℕ) (dead : Bool) (why : Why) →
+    IsStep sizes old hand (Sweep counts) (counts ∷ []) given new after →
+    dead ≡ died_in old counts given w → given ≡ Ignored why → dead ≡ false
+none_dead sizes old hand counts given new after w dead why step is ignored =
+    is ∙ ap (λ g. died_in old counts g w) ignored

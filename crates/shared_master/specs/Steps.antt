@@ -1,15 +1,25 @@
 -- What a call of a hand does under the lock, and what its caller sees of it.
-use Rattle.std.specs.Prelude.{ℕ, ◌≡◌, ◌+◌, ◌<◌, ◌⊎◌, true, false, Option, Some, None, length}
+use Rattle.std.specs.Prelude.{ℕ, ◌≡◌, ◌+◌, ◌<◌, ◌⊎◌, true, false, List, [], ◌∷◌, Option, Some, None, length}
 use Rattle.node_ids.specs.Sets.{Has}
 use Rattle.master_state.specs.declared.answers.Answer.{Answer}
 use Rattle.master_state.specs.declared.answers.Answer.TheVariants.{Accepted, Ignored}
+use Rattle.master_state.specs.declared.answers.AnswerWith.{AnswerWith}
+use Rattle.master_state.specs.declared.answers.AnswerWith.TheVariants as handed
+use Rattle.master_state.specs.declared.answers.BackupAnswer.{BackupAnswer}
+use Rattle.master_state.specs.declared.answers.BackupAnswer.TheVariants as backup
+use Rattle.master_state.specs.declared.answers.ReduceAnswer.{ReduceAnswer}
+use Rattle.master_state.specs.declared.answers.ReduceAnswer.TheVariants as reduced
 use Rattle.master_state.specs.declared.answers.Why.{Why}
 use Rattle.master_state.specs.declared.answers.Why.TheVariants.{HistoryFull, StrangeHand}
 use Rattle.master_state.specs.declared.events.Event.{Event}
-use Rattle.master_state.specs.Jobs.{Job, Answers, event_of}
-use Rattle.master_state.specs.Refusals.{Call, Die, Join, Add, Lose, Backup}
-use Rattle.hand_ledger.specs.Hands.{HandValue, answered, has_room, last_place}
-use Rattle.hand_ledger.specs.Settling.{Stands}
+use Rattle.master_state.specs.declared.events.Event.TheVariants as events
+use Rattle.master_state.specs.States.{next_attempt}
+use Rattle.master_state.specs.Jobs.{Job, Answers, AnswersReduce, event_of}
+use Rattle.master_state.specs.Refusals.{Call, MapFailed, Withdraw, Die, Join, Add, Lose, ReduceStart, PartFailed, Backup}
+use Rattle.hand_ledger.specs.Hands.{HandValue, counts_in, has_room, kept, last_place, noted, starts_in, with_call}
+use Rattle.hand_ledger.specs.Settling.{Stands, event_at}
+use Rattle.shared_master.specs.declared.calls.PlainCall.{PlainCall}
+use Rattle.shared_master.specs.declared.calls.PlainCall.TheVariants as plain
 use Rattle.shared_master.specs.declared.sizes.Sizes.{Sizes}
 
 -- what a call asks for: its splits and workers are within the sizes that stand beside the lock
@@ -21,6 +31,29 @@ IsKnownTo sizes (Add split w) = (split < sizes.splits) × (w < sizes.workers)
 IsKnownTo sizes (Lose split w) = (split < sizes.splits) × (w < sizes.workers)
 IsKnownTo sizes (Backup split w) = (split < sizes.splits) × (w < sizes.workers)
 IsKnownTo sizes call = Unit {0}
+
+-- the master's call of a plain one
+abbrev pub call_of : PlainCall → Call
+call_of (plain.Add split w) = Add split w
+call_of (plain.Lose split w) = Lose split w
+call_of (plain.Join w set) = Join w set
+call_of (plain.Die w) = Die w
+call_of (plain.MapFailed a) = MapFailed a
+call_of (plain.Withdraw a) = Withdraw a
+call_of (plain.PartFailed a) = PartFailed a
+
+-- the place or the reason in an answer that has more
+abbrev pub plain_with : {R : Type 0} → AnswerWith R → Answer
+plain_with (handed.Accepted place) = Accepted place
+plain_with (handed.Ignored why back) = Ignored why
+
+abbrev pub plain_backup : BackupAnswer → Answer
+plain_backup (backup.Accepted place a) = Accepted place
+plain_backup (backup.Ignored why) = Ignored why
+
+abbrev pub plain_reduce : ReduceAnswer → Answer
+plain_reduce (reduced.Accepted place reply) = Accepted place
+plain_reduce (reduced.Ignored why) = Ignored why
 
 -- The hand is this master's: the sizes beside the lock are the master's, and the hand's last call stands in
 -- the history at its place.
@@ -37,29 +70,85 @@ IsBarrier sizes job hand counts starts (Some why) =
     ((IsOwn sizes job hand → ⊥) × (why ≡ StrangeHand))
     ⊎ (IsOwn sizes job hand × (has_room hand counts starts ≡ false) × (why ≡ HistoryFull))
 
--- What the answer to a call says: it does not reach the master, which is unchanged then, or the master
--- answers.
-abbrev pub AnswersBehind : Sizes → Job → HandValue → Call → Answer → Job → Type 0
-AnswersBehind sizes old hand call given new =
-    ((why : Why) × IsBarrier sizes old hand 0 0 (Some why) × (given ≡ Ignored why) × (new ≡ old))
-    ⊎ (IsBarrier sizes old hand 0 0 None × Answers old call given new)
+-- A call with so many counts does not reach the master, which is unchanged then, or it does.
+abbrev pub IsBehind : Sizes → Job → HandValue → ℕ → Answer → Job → Type 0 → Type 0
+IsBehind sizes old hand counts given new Reached =
+    ((why : Why) × IsBarrier sizes old hand counts 0 (Some why) × (given ≡ Ignored why) × (new ≡ old))
+    ⊎ (IsBarrier sizes old hand counts 0 None × Reached)
 
--- what a call under the lock does to the master and to the hand
+-- the hand after the answer to a call with this event and these counts
+abbrev pub answered : HandValue → Event → List (List ℕ) → Answer → HandValue
+answered hand event counts (Accepted place) = with_call hand (kept place event counts [])
+answered hand event counts (Ignored why) = noted hand (has_room hand (length counts) 0) why
+
+-- what a call with these counts does under the lock to the master and to the hand
 pub record IsStep
-    (sizes : Sizes) (old : Job) (hand : HandValue) (call : Call) (given : Answer) (new : Job) (after : HandValue)
+    (sizes : Sizes) (old : Job) (hand : HandValue) (call : Call) (counts : List (List ℕ)) (given : Answer)
+    (new : Job) (after : HandValue) : Type 0 where
+  pub answer : IsBehind sizes old hand (length counts) given new (Answers old call given new)
+  pub hand_is : after ≡ answered hand (event_of old.state call) counts given
+
+-- the same of a reduce start, whose answer may be want of memory
+pub record IsReduceStep
+    (sizes : Sizes) (old : Job) (hand : HandValue) (given : ReduceAnswer) (new : Job) (after : HandValue)
     : Type 0 where
-  pub answer : AnswersBehind sizes old hand call given new
-  pub hand_is : after ≡ answered hand (event_of old.state call) given
+  pub answer : IsBehind sizes old hand 0 (plain_reduce given) new (AnswersReduce old given new)
+  pub hand_is : after ≡ answered hand (event_of old.state ReduceStart) [] (plain_reduce given)
+
+-- what was handed in comes back where the call was ignored
+abbrev pub IsHandedBack : {R : Type 0} → R → AnswerWith R → Type 0
+IsHandedBack made (handed.Accepted place) = Unit {0}
+IsHandedBack made (handed.Ignored why back) = back ≡ made
+
+-- the attempt that was answered is the next one
+abbrev pub NamesNext : Job → BackupAnswer → Type 0
+NamesNext old (backup.Accepted place a) = a ≡ next_attempt old.state
+NamesNext old (backup.Ignored why) = Unit {0}
 
 -- an accepted call stands above the hand's last one, and the hand had room for it
-abbrev pub IsNextOf : HandValue → Answer → Type 0
-IsNextOf hand (Accepted place) = (last_place hand.calls < place) × (has_room hand 0 0 ≡ true)
-IsNextOf hand (Ignored why) = Unit {0}
+abbrev pub IsNextOf : HandValue → List (List ℕ) → Answer → Type 0
+IsNextOf hand counts (Accepted place) =
+    (last_place hand.calls < place) × (has_room hand (length counts) 0 ≡ true)
+IsNextOf hand counts (Ignored why) = Unit {0}
 
 -- what the caller sees: the event is kept at the place that was answered, or only the notes may change
-pub record IsKeptAs (hand : HandValue) (event : Event) (given : Answer) (after : HandValue) : Type 0 where
-  pub hand_is : after ≡ answered hand event given
-  pub next : IsNextOf hand given
+pub record IsKeptAs
+    (hand : HandValue) (event : Event) (counts : List (List ℕ)) (given : Answer) (after : HandValue)
+    : Type 0 where
+  pub hand_is : after ≡ answered hand event counts given
+  pub next : IsNextOf hand counts given
+
+-- a backup is kept with the attempt that was answered
+abbrev pub IsKeptBackup : HandValue → ℕ → ℕ → BackupAnswer → HandValue → Type 0
+IsKeptBackup hand split w (backup.Accepted place a) after =
+    IsKeptAs hand (events.Backup a split w) [] (Accepted place) after
+IsKeptBackup hand split w (backup.Ignored why) after = after ≡ noted hand (has_room hand 0 0) why
+
+-- a reduce start with the attempt, the part and the worker of its reply
+abbrev pub IsKeptReduce : HandValue → ReduceAnswer → HandValue → Type 0
+IsKeptReduce hand (reduced.Accepted place reply) after =
+    IsKeptAs hand (events.ReduceStart reply.attempt reply.part reply.worker) [] (Accepted place) after
+IsKeptReduce hand (reduced.Ignored why) after = after ≡ noted hand (has_room hand 0 0) why
+
+-- a sweep with its counts, by the place that these have among all sweeps
+abbrev pub IsKeptSweep : HandValue → List ℕ → Answer → HandValue → Type 0
+IsKeptSweep hand counts given after = (n : ℕ) × IsKeptAs hand (events.Sweep n) (counts ∷ []) given after
+
+-- an accepted call has the last place of the history
+abbrev pub IsLast : List Event → Answer → Type 0
+IsLast history (Accepted place) = (0 < place) × (place ≡ length history)
+IsLast history (Ignored why) = Unit {0}
+
+-- the event stands at the place that was answered, if one was
+abbrev pub IsAt : List Event → Answer → Event → Type 0
+IsAt history (Accepted place) event = event_at history place ≡ Some event
+IsAt history (Ignored why) event = Unit {0}
+
+-- the event that stands there has so many counts, and no starts
+abbrev pub HasCounts : List Event → Answer → ℕ → Type 0
+HasCounts history (Accepted place) n =
+    (event : Event) → event_at history place ≡ Some event → (counts_in event ≡ n) × (starts_in event ≡ 0)
+HasCounts history (Ignored why) n = Unit {0}
 
 -- the total of the book after an answer
 abbrev pub total_after : ℕ → Answer → ℕ

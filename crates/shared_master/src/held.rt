@@ -1,19 +1,42 @@
-ghost use Rattle.std.specs.Prelude.{◌≡◌, ℕ, ◌+◌, ◌<◌, ◌≤◌, ◌↔◌, [], true, false, length, IsTrue, IfErr, IfOk, OnErr, OnOk};
+ghost use Rattle.std.specs.Prelude.{◌≡◌, ℕ, ◌+◌, ◌<◌, ◌↔◌, [], ◌∷◌, true, false, length, IsTrue, IfOk, OnErr, OnOk, Err};
+ghost use Rattle.node_ids.specs.Sets.{has_number};
+ghost use Rattle.block_map.specs.Copies.{AreCopies, holdings};
+ghost use Rattle.master_state.specs.Jobs.{died_in, IsGlance, IsKept};
 ghost use Rattle.master_state.specs.Refusals.{Call};
-ghost use Rattle.master_state.specs.declared.answers.Answer.{Answer};
-ghost use Rattle.hand_ledger.specs.Hands.{answered, counts_in, has_room, starts_in};
-ghost use Rattle.shared_master.specs.Steps.{IsBarrier, IsKnownTo, IsOwn, IsStep, total_after};
+ghost use Rattle.master_state.specs.declared.events.Event.{Event};
+ghost use Rattle.hand_ledger.specs.Hands.{has_room, noted};
+ghost use Rattle.shared_master.specs.Steps.{
+  answered,
+  call_of,
+  HasCounts,
+  IsAt,
+  IsBarrier,
+  IsHandedBack,
+  IsKnownTo,
+  IsLast,
+  IsOwn,
+  IsReduceStep,
+  IsStep,
+  NamesNext,
+  plain_backup,
+  plain_with,
+  total_after,
+};
 ghost use Rattle.shared_master.specs.declared.shared.HandError.{HandError};
 
+use crate::calls::{PlainCall, plain_backup, plain_reduce, plain_with};
 use crate::shared::HandError;
 use crate::sizes::Sizes;
+use block_map::CopyOrder;
 use hand_ledger::Hand;
 use master_core::Master;
-use master_state::{Answer, Event, Limits, Why};
-use node_ids::{AttemptNo, SplitNo, SplitSet, WorkerNo};
-use std::alloc::Global;
+use master_state::{Answer, AnswerWith, BackupAnswer, Glance, Limits, ReduceAnswer, Swept, Why};
+use node_ids::{AttemptNo, SplitNo, WorkerNo, WorkerSet};
+use shuffle_reduce::PartResult;
+use std::alloc::{AllocError, Global};
 use std::marker::Model;
 use std::sync::ledger::{Book, Ledger, Share};
+use word_map::MapResult;
 
 // What lies under the lock: a master, the book of all hands' calls, and the share of the hands that are
 // still to come.
@@ -56,7 +79,7 @@ impl<L: Ledger> Held<L> {
     }
 
     // Whether the sizes are the master's, and the hand's last call stands in the history.
-    fn is_own(&self, sizes: Sizes, hand: &Hand<L>) -> bool
+    pub(crate) fn is_own(&self, sizes: Sizes, hand: &Hand<L>) -> bool
         ensures { IsTrue result ↔ IsOwn sizes self.now.job hand.now }
     {
         if self.master.cluster().splits().len() != sizes.splits {
@@ -69,202 +92,184 @@ impl<L: Ledger> Held<L> {
     }
 
     // Why a call does not reach the master, if it does not.
-    fn why_not(&self, sizes: Sizes, hand: &Hand<L>, counts: u32, starts: u32) -> Option<Why>
-        ensures { IsBarrier sizes self.now.job hand.now counts starts result }
+    fn why_not(&self, sizes: Sizes, hand: &Hand<L>, counts: usize) -> Option<Why>
+        ensures { IsBarrier sizes self.now.job hand.now counts 0 result }
     {
         if !self.is_own(sizes, hand) {
             Some(Why::StrangeHand)
-        } else if !hand.has_room(counts, starts) {
+        } else if !hand.has_room(counts, 0) {
             Some(Why::HistoryFull)
         } else {
             None
         }
     }
 
-    pub(crate) fn add(
+    // A call that hands in numbers alone.
+    pub(crate) fn step(&mut self, sizes: Sizes, hand: &mut Hand<L>, call: PlainCall) -> Answer
+        requires { IsKnownTo sizes (call_of call) }
+        ensures { IsStep sizes self.old.job hand.old (call_of call) [] result self.new.job hand.new }
+    {
+        if let Some(why) = self.why_not(sizes, hand, 0) {
+            ignore(hand, 0, why);
+            return Answer::Ignored(why);
+        }
+        let answer = call.ask(&mut self.master);
+        enter(&self.master, &mut self.book, hand, &[], answer);
+        answer
+    }
+
+    pub(crate) fn map_done(
+        &mut self,
+        sizes: Sizes,
+        hand: &mut Hand<L>,
+        attempt: AttemptNo,
+        made: MapResult,
+    ) -> AnswerWith<MapResult>
+        ensures step { IsStep sizes self.old.job hand.old (Call.MapDone attempt made) [] (plain_with result)
+            self.new.job hand.new }
+        ensures back { IsHandedBack made result }
+    {
+        if let Some(why) = self.why_not(sizes, hand, 0) {
+            ignore(hand, 0, why);
+            return AnswerWith::Ignored(why, made);
+        }
+        let answer = self.master.map_done(attempt, made);
+        let plain = plain_with(&answer);
+        enter(&self.master, &mut self.book, hand, &[], plain);
+        answer
+    }
+
+    pub(crate) fn part_done(
+        &mut self,
+        sizes: Sizes,
+        hand: &mut Hand<L>,
+        attempt: AttemptNo,
+        made: PartResult,
+    ) -> AnswerWith<PartResult>
+        ensures step { IsStep sizes self.old.job hand.old (Call.PartDone attempt made) [] (plain_with result)
+            self.new.job hand.new }
+        ensures back { IsHandedBack made result }
+    {
+        if let Some(why) = self.why_not(sizes, hand, 0) {
+            ignore(hand, 0, why);
+            return AnswerWith::Ignored(why, made);
+        }
+        let answer = self.master.part_done(attempt, made);
+        let plain = plain_with(&answer);
+        enter(&self.master, &mut self.book, hand, &[], plain);
+        answer
+    }
+
+    pub(crate) fn backup(
         &mut self,
         sizes: Sizes,
         hand: &mut Hand<L>,
         split: SplitNo,
         worker: WorkerNo,
-    ) -> Answer
+    ) -> BackupAnswer
         requires split { split < sizes.splits }
         requires worker { worker < sizes.workers }
-        ensures { IsStep sizes self.old.job hand.old (Call.Add split worker) result self.new.job hand.new }
+        ensures step { IsStep sizes self.old.job hand.old (Call.Backup split worker) [] (plain_backup result)
+            self.new.job hand.new }
+        ensures attempt { NamesNext self.old.job result }
     {
-        if let Some(why) = self.why_not(sizes, hand, 0, 0) {
-            return ignored(hand, why);
+        if let Some(why) = self.why_not(sizes, hand, 0) {
+            ignore(hand, 0, why);
+            return BackupAnswer::Ignored(why);
         }
-        let answer = self.master.add(split, worker);
-        enter(
-            &self.master,
-            &mut self.book,
-            hand,
-            Event::Add(split, worker),
-            answer,
-        )
+        let answer = self.master.backup(split, worker);
+        let plain = plain_backup(&answer);
+        enter(&self.master, &mut self.book, hand, &[], plain);
+        answer
     }
 
-    pub(crate) fn lose(
+    pub(crate) fn reduce_start(
         &mut self,
+        alloc: Global,
         sizes: Sizes,
         hand: &mut Hand<L>,
-        split: SplitNo,
-        worker: WorkerNo,
-    ) -> Answer
-        requires split { split < sizes.splits }
-        requires worker { worker < sizes.workers }
-        ensures { IsStep sizes self.old.job hand.old (Call.Lose split worker) result self.new.job hand.new }
+    ) -> ReduceAnswer
+        ensures { IsReduceStep sizes self.old.job hand.old result self.new.job hand.new }
     {
-        if let Some(why) = self.why_not(sizes, hand, 0, 0) {
-            return ignored(hand, why);
+        if let Some(why) = self.why_not(sizes, hand, 0) {
+            ignore(hand, 0, why);
+            return ReduceAnswer::Ignored(why);
         }
-        let answer = self.master.lose(split, worker);
-        enter(
-            &self.master,
-            &mut self.book,
-            hand,
-            Event::Lose(split, worker),
-            answer,
-        )
+        let answer = self.master.reduce_start(alloc);
+        let plain = plain_reduce(&answer);
+        enter(&self.master, &mut self.book, hand, &[], plain);
+        answer
     }
 
-    pub(crate) fn join(
-        &mut self,
-        sizes: Sizes,
-        hand: &mut Hand<L>,
-        worker: WorkerNo,
-        set: &SplitSet,
-    ) -> Answer
-        requires { IsKnownTo sizes (Call.Join worker set.now) }
-        ensures { IsStep sizes self.old.job hand.old (Call.Join worker set.now) result self.new.job hand.new }
+    pub(crate) fn sweep(&mut self, sizes: Sizes, hand: &mut Hand<L>, counts: &[u64; 256]) -> Swept
+        ensures step { IsStep sizes self.old.job hand.old (Call.Sweep counts.now) (counts.now ∷ [])
+            result.answer self.new.job hand.new }
+        ensures dead { (w : ℕ) → has_number result.dead w ≡ died_in self.old.job counts.now result.answer w }
     {
-        if let Some(why) = self.why_not(sizes, hand, 0, 0) {
-            return ignored(hand, why);
+        if let Some(why) = self.why_not(sizes, hand, 1) {
+            ignore(hand, 1, why);
+            return Swept {
+                answer: Answer::Ignored(why),
+                dead: WorkerSet::new(),
+            };
         }
-        let answer = self.master.join(worker, set);
-        enter(
-            &self.master,
-            &mut self.book,
-            hand,
-            Event::Join(worker, *set),
-            answer,
-        )
+        let swept = self.master.sweep(counts);
+        enter(&self.master, &mut self.book, hand, &[*counts], swept.answer);
+        swept
     }
 
-    pub(crate) fn die(&mut self, sizes: Sizes, hand: &mut Hand<L>, worker: WorkerNo) -> Answer
-        requires { worker < sizes.workers }
-        ensures { IsStep sizes self.old.job hand.old (Call.Die worker) result self.new.job hand.new }
+    pub(crate) fn glance(&self) -> Glance
+        ensures kept { IsKept self.now.job }
+        ensures glance { IsGlance self.now.job result }
     {
-        if let Some(why) = self.why_not(sizes, hand, 0, 0) {
-            return ignored(hand, why);
-        }
-        let answer = self.master.die(worker);
-        enter(
-            &self.master,
-            &mut self.book,
-            hand,
-            Event::Die(worker),
-            answer,
-        )
+        let _history = self.master.history();
+        self.master.glance()
     }
 
-    pub(crate) fn map_failed(
-        &mut self,
-        sizes: Sizes,
-        hand: &mut Hand<L>,
-        attempt: AttemptNo,
-    ) -> Answer
-        ensures { IsStep sizes self.old.job hand.old (Call.MapFailed attempt) result self.new.job hand.new }
+    pub(crate) fn copy_orders(
+        &self,
+        alloc: Global,
+        target: usize,
+    ) -> Result<Vec<CopyOrder>, AllocError>
+        ensures kept { IsKept self.now.job }
+        ensures copies { IfOk result (λ orders. AreCopies (holdings self.now.job.state.workers
+            self.now.job.setup.cluster.tree self.now.job.state.holders target) orders.items) }
     {
-        if let Some(why) = self.why_not(sizes, hand, 0, 0) {
-            return ignored(hand, why);
-        }
-        let answer = self.master.map_failed(attempt);
-        enter(
-            &self.master,
-            &mut self.book,
-            hand,
-            Event::MapFailed(attempt),
-            answer,
-        )
-    }
-
-    pub(crate) fn withdraw(
-        &mut self,
-        sizes: Sizes,
-        hand: &mut Hand<L>,
-        attempt: AttemptNo,
-    ) -> Answer
-        ensures { IsStep sizes self.old.job hand.old (Call.Withdraw attempt) result self.new.job hand.new }
-    {
-        if let Some(why) = self.why_not(sizes, hand, 0, 0) {
-            return ignored(hand, why);
-        }
-        let answer = self.master.withdraw(attempt);
-        enter(
-            &self.master,
-            &mut self.book,
-            hand,
-            Event::Withdraw(attempt),
-            answer,
-        )
-    }
-
-    pub(crate) fn part_failed(
-        &mut self,
-        sizes: Sizes,
-        hand: &mut Hand<L>,
-        attempt: AttemptNo,
-    ) -> Answer
-        ensures { IsStep sizes self.old.job hand.old (Call.PartFailed attempt) result self.new.job hand.new }
-    {
-        if let Some(why) = self.why_not(sizes, hand, 0, 0) {
-            return ignored(hand, why);
-        }
-        let answer = self.master.part_failed(attempt);
-        enter(
-            &self.master,
-            &mut self.book,
-            hand,
-            Event::PartFailed(attempt),
-            answer,
-        )
+        let _history = self.master.history();
+        self.master.copy_orders(alloc, target)
     }
 }
 
-// Notes why a call was ignored.
-fn ignored<L: Ledger>(hand: &mut Hand<L>, why: Why) -> Answer
-    ensures answer { result ≡ Answer.Ignored why }
-    ensures hand { (event : Event) → hand.new ≡ answered hand.old event result }
+// Notes why a call that has so many counts was ignored.
+fn ignore<L: Ledger>(hand: &mut Hand<L>, counts: usize, why: Why)
+    ensures { hand.new ≡ noted hand.old (has_room hand.old counts 0) why }
 {
-    let had_room = hand.has_room(0, 0);
+    let had_room = hand.has_room(counts, 0);
     hand.note(had_room, why);
-    Answer::Ignored(why)
 }
 
-// Keeps the event of an accepted call in the hand, and counts it in the book; or notes why the call was
-// ignored.
+// Keeps the event of an accepted call in the hand, with its counts, and adds it to the book; or notes why the
+// call was ignored.
 fn enter<L: Ledger>(
     master: &Master,
     book: &mut Book<L>,
     hand: &mut Hand<L>,
-    event: Event,
+    counts: &[[u64; 256]],
     answer: Answer,
-) -> Answer
-    requires place { (place : ℕ) → answer ≡ Answer.Accepted place → place ≡ length master.now.history }
-    requires room { has_room hand.old 0 0 ≡ true }
-    requires counts { counts_in event ≡ 0 }
-    requires starts { starts_in event ≡ 0 }
-    ensures answer { result ≡ answer }
-    ensures hand { hand.new ≡ answered hand.old event answer }
+)
+    requires place { IsLast master.now.history answer }
+    requires counts { HasCounts master.now.history answer (length counts.now) }
+    requires room { has_room hand.old (length counts.now) 0 ≡ true }
+    ensures hand { (event : Event) → IsAt master.now.history answer event
+        → hand.new ≡ answered hand.old event counts.now answer }
     ensures total { book.new.total ≡ total_after book.old.total answer }
 {
     match answer {
-        Answer::Accepted(_) => hand.keep(book, master.events(), event, &[], &[]),
-        Answer::Ignored(why) => {
-            ignored(hand, why);
+        Answer::Accepted(place) => {
+            let _events = master.events();
+            let event = master.history()[place as usize - 1];
+            hand.keep(book, place, event, counts, &[]);
         }
+        Answer::Ignored(why) => ignore(hand, counts.len(), why),
     }
-    answer
 }

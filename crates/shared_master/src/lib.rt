@@ -1,18 +1,22 @@
 //! A master that threads share.
 //!
 //! One lock keeps the master, with the book of a ledger that counts its events; each thread calls with a
-//! hand of its own, which keeps what was accepted of it. Upward the layer promises that each call under the
+//! hand of its own, which keeps what was accepted of it. Waves are planned while the lock is free, and
+//! certified in the state in which they are committed. Upward the layer promises that each call under the
 //! lock is one of the master's, that a hand keeps just the events of its accepted calls, and that `settle`
 //! says exactly whether a history is made of the calls of the hands that it is given. It stands on
-//! `master_core` and `hand_ledger`, and on the ledgers of std.
+//! `master_core`, `wave_planner` and `hand_ledger`, and on the ledgers of std.
 #![tactic(auto)]
 
+mod calls;
 pub mod closed;
 mod held;
 pub mod shared;
 pub mod sizes;
+pub mod waves;
 
 pub use closed::{Closed, Settled, Torn, settle};
 pub use hand_ledger::Hand;
 pub use shared::{HandError, SharedMaster};
 pub use sizes::Sizes;
+pub use waves::{Between, Nothing, SharedWave, WaveError};

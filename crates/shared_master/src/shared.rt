@@ -1,19 +1,38 @@
-ghost use Rattle.std.specs.Prelude.{◌≡◌, ◌<◌, [], true, false, length, IfOk};
+ghost use Rattle.std.specs.Prelude.{◌≡◌, ℕ, ◌<◌, [], false, length, IfOk};
+ghost use Rattle.node_ids.specs.Sets.{has_number};
+ghost use Rattle.block_map.specs.Copies.{AreCopies, holdings};
+ghost use Rattle.master_state.specs.declared.answers.Answer.{Answer};
+ghost use Rattle.master_state.specs.declared.answers.Why.{Why};
 ghost use Rattle.master_state.specs.declared.events.Event.{Event};
-ghost use Rattle.shared_master.specs.Steps.{IsKeptAs, IsKnownTo};
+ghost use Rattle.master_state.specs.Jobs.{IsGlance, IsKept, Job};
 ghost use Rattle.master_state.specs.Refusals.{Call};
+ghost use Rattle.shared_master.specs.Steps.{
+  IsHandedBack,
+  IsKeptAs,
+  IsKeptBackup,
+  IsKeptReduce,
+  IsKeptSweep,
+  IsKnownTo,
+  plain_with,
+};
+ghost use Rattle.shared_master.specs.Waves.{TurnsAs, WavesAs};
 
+use crate::calls::PlainCall;
 use crate::closed::Closed;
 use crate::held::Held;
 use crate::sizes::Sizes;
+use crate::waves::{Between, Nothing, SharedWave, Uncommitted, WaveError, solve};
+use block_map::CopyOrder;
 use hand_ledger::Hand;
 use master_core::Master;
-use master_state::{Answer, Event, Limits};
+use master_state::{Answer, AnswerWith, BackupAnswer, Glance, Limits, ReduceAnswer, Swept};
 use node_ids::{AttemptNo, SplitNo, SplitSet, WorkerNo};
-use std::alloc::Global;
+use shuffle_reduce::PartResult;
+use std::alloc::{AllocError, Global};
 use std::marker::Model;
 use std::sync::ledger::{Blank, Ledger};
 use std::sync::{Mutex, Wait};
+use word_map::MapResult;
 
 /// Why no hand was made. It is tested in this order.
 #[derive(Clone, Copy, Debug, PartialEq, Eq)]
@@ -88,9 +107,11 @@ impl<L: Ledger> SharedMaster<L> {
     ) -> Answer
         requires split { split < self.now.splits }
         requires worker { worker < self.now.workers }
-        ensures { IsKeptAs hand.old (Event.Add split worker) result hand.new }
+        ensures { IsKeptAs hand.old (Event.Add split worker) [] result hand.new }
     {
-        self.lock.lock(rt).add(self.sizes, hand, split, worker)
+        self.lock
+            .lock(rt)
+            .step(self.sizes, hand, PlainCall::Add(split, worker))
     }
 
     /// `Master::lose` under the lock.
@@ -103,9 +124,11 @@ impl<L: Ledger> SharedMaster<L> {
     ) -> Answer
         requires split { split < self.now.splits }
         requires worker { worker < self.now.workers }
-        ensures { IsKeptAs hand.old (Event.Lose split worker) result hand.new }
+        ensures { IsKeptAs hand.old (Event.Lose split worker) [] result hand.new }
     {
-        self.lock.lock(rt).lose(self.sizes, hand, split, worker)
+        self.lock
+            .lock(rt)
+            .step(self.sizes, hand, PlainCall::Lose(split, worker))
     }
 
     /// `Master::join` under the lock.
@@ -117,38 +140,182 @@ impl<L: Ledger> SharedMaster<L> {
         set: &SplitSet,
     ) -> Answer
         requires { IsKnownTo self.now (Call.Join worker set.now) }
-        ensures { IsKeptAs hand.old (Event.Join worker set.now) result hand.new }
+        ensures { IsKeptAs hand.old (Event.Join worker set.now) [] result hand.new }
     {
-        self.lock.lock(rt).join(self.sizes, hand, worker, set)
+        self.lock
+            .lock(rt)
+            .step(self.sizes, hand, PlainCall::Join(worker, *set))
     }
 
     /// `Master::die` under the lock.
     pub fn die<R: Wait>(&self, rt: &R, hand: &mut Hand<L>, worker: WorkerNo) -> Answer
         requires { worker < self.now.workers }
-        ensures { IsKeptAs hand.old (Event.Die worker) result hand.new }
+        ensures { IsKeptAs hand.old (Event.Die worker) [] result hand.new }
     {
-        self.lock.lock(rt).die(self.sizes, hand, worker)
+        self.lock
+            .lock(rt)
+            .step(self.sizes, hand, PlainCall::Die(worker))
     }
 
     /// `Master::map_failed` under the lock.
     pub fn map_failed<R: Wait>(&self, rt: &R, hand: &mut Hand<L>, attempt: AttemptNo) -> Answer
-        ensures { IsKeptAs hand.old (Event.MapFailed attempt) result hand.new }
+        ensures { IsKeptAs hand.old (Event.MapFailed attempt) [] result hand.new }
     {
-        self.lock.lock(rt).map_failed(self.sizes, hand, attempt)
+        self.lock
+            .lock(rt)
+            .step(self.sizes, hand, PlainCall::MapFailed(attempt))
     }
 
     /// `Master::withdraw` under the lock.
     pub fn withdraw<R: Wait>(&self, rt: &R, hand: &mut Hand<L>, attempt: AttemptNo) -> Answer
-        ensures { IsKeptAs hand.old (Event.Withdraw attempt) result hand.new }
+        ensures { IsKeptAs hand.old (Event.Withdraw attempt) [] result hand.new }
     {
-        self.lock.lock(rt).withdraw(self.sizes, hand, attempt)
+        self.lock
+            .lock(rt)
+            .step(self.sizes, hand, PlainCall::Withdraw(attempt))
     }
 
     /// `Master::part_failed` under the lock.
     pub fn part_failed<R: Wait>(&self, rt: &R, hand: &mut Hand<L>, attempt: AttemptNo) -> Answer
-        ensures { IsKeptAs hand.old (Event.PartFailed attempt) result hand.new }
+        ensures { IsKeptAs hand.old (Event.PartFailed attempt) [] result hand.new }
     {
-        self.lock.lock(rt).part_failed(self.sizes, hand, attempt)
+        self.lock
+            .lock(rt)
+            .step(self.sizes, hand, PlainCall::PartFailed(attempt))
+    }
+
+    /// `Master::map_done` under the lock.
+    pub fn map_done<R: Wait>(
+        &self,
+        rt: &R,
+        hand: &mut Hand<L>,
+        attempt: AttemptNo,
+        made: MapResult,
+    ) -> AnswerWith<MapResult>
+        ensures kept { IsKeptAs hand.old (Event.MapDone attempt) [] (plain_with result) hand.new }
+        ensures back { IsHandedBack made result }
+    {
+        self.lock.lock(rt).map_done(self.sizes, hand, attempt, made)
+    }
+
+    /// `Master::part_done` under the lock.
+    pub fn part_done<R: Wait>(
+        &self,
+        rt: &R,
+        hand: &mut Hand<L>,
+        attempt: AttemptNo,
+        made: PartResult,
+    ) -> AnswerWith<PartResult>
+        ensures kept { IsKeptAs hand.old (Event.PartDone attempt) [] (plain_with result) hand.new }
+        ensures back { IsHandedBack made result }
+    {
+        self.lock
+            .lock(rt)
+            .part_done(self.sizes, hand, attempt, made)
+    }
+
+    /// `Master::backup` under the lock.
+    pub fn backup<R: Wait>(
+        &self,
+        rt: &R,
+        hand: &mut Hand<L>,
+        split: SplitNo,
+        worker: WorkerNo,
+    ) -> BackupAnswer
+        requires split { split < self.now.splits }
+        requires worker { worker < self.now.workers }
+        ensures { IsKeptBackup hand.old split worker result hand.new }
+    {
+        self.lock.lock(rt).backup(self.sizes, hand, split, worker)
+    }
+
+    /// `Master::reduce_start` under the lock.
+    pub fn reduce_start<R: Wait>(&self, rt: &R, alloc: Global, hand: &mut Hand<L>) -> ReduceAnswer
+        ensures { IsKeptReduce hand.old result hand.new }
+    {
+        self.lock.lock(rt).reduce_start(alloc, self.sizes, hand)
+    }
+
+    /// `Master::sweep` under the lock. The hand keeps the counts.
+    pub fn sweep<R: Wait>(&self, rt: &R, hand: &mut Hand<L>, counts: &[u64; 256]) -> Swept
+        ensures kept { IsKeptSweep hand.old counts.now result.answer hand.new }
+        ensures none_dead { (why : Why) (w : ℕ) → result.answer ≡ Answer.Ignored why
+            → has_number result.dead w ≡ false }
+    {
+        self.lock.lock(rt).sweep(self.sizes, hand, counts)
+    }
+
+    /// What a master shows at a glance that the lock kept at some time in this call.
+    pub fn glance<R: Wait>(&self, rt: &R) -> Glance
+        ensures { (job : Job) × IsKept job × IsGlance job result }
+    {
+        self.lock.lock(rt).glance()
+    }
+
+    /// The copies that bring each split of such a master nearer to so many replicas.
+    pub fn copy_orders<R: Wait>(
+        &self,
+        rt: &R,
+        alloc: Global,
+        target: usize,
+    ) -> Result<Vec<CopyOrder>, AllocError>
+        ensures { IfOk result (λ orders. (job : Job) × IsKept job × AreCopies (holdings job.state.workers
+            job.setup.cluster.tree job.state.holders target) orders.items) }
+    {
+        self.lock.lock(rt).copy_orders(alloc, target)
+    }
+
+    /// Plans a wave and commits it. It is planned while the lock is free, at most three times, until its
+    /// prices certify it in the state that it is committed in; then once under the lock.
+    pub fn plan_wave<R: Wait>(
+        &self,
+        rt: &R,
+        alloc: Global,
+        hand: &mut Hand<L>,
+    ) -> Result<SharedWave, WaveError>
+        ensures { WavesAs self.now hand.old result hand.new }
+    {
+        self.plan_wave_with(rt, alloc, hand, &Nothing)
+    }
+
+    /// The same, with something done after each solution made while the lock is free.
+    pub fn plan_wave_with<R: Wait, B: Between>(
+        &self,
+        rt: &R,
+        alloc: Global,
+        hand: &mut Hand<L>,
+        between: &B,
+    ) -> Result<SharedWave, WaveError>
+        ensures { WavesAs self.now hand.old result hand.new }
+    {
+        for turn in 1..=3 {
+            if let Some(shared) = self.turn(rt, alloc, hand, between, turn)? {
+                return Ok(shared);
+            }
+        }
+        self.lock.lock(rt).plan_wave(alloc, self.sizes, hand)
+    }
+
+    // Plans a wave while the lock is free, and commits it; none where it is stale by then.
+    fn turn<R: Wait, B: Between>(
+        &self,
+        rt: &R,
+        alloc: Global,
+        hand: &mut Hand<L>,
+        between: &B,
+        turn: u32,
+    ) -> Result<Option<SharedWave>, WaveError>
+        ensures { TurnsAs self.now hand.old result hand.new }
+    {
+        let problem = self.lock.lock(rt).problem(alloc, self.sizes, hand)?;
+        let solved = solve(alloc, &problem)?;
+        between.solved(turn);
+        let committed = self.lock.lock(rt).commit(alloc, self.sizes, hand, solved);
+        match committed {
+            Ok(shared) => Ok(Some(shared)),
+            Err(Uncommitted::Stale(_)) => Ok(None),
+            Err(Uncommitted::Refused(error)) => Err(error),
+        }
     }
 
     /// The master that the lock kept, with its book.

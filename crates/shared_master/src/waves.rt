@@ -1,0 +1,234 @@
+ghost use Rattle.std.specs.Prelude.{◌≡◌, ◌+◌, ◌-◌, ◌<◌, ◌≤◌, [], ◌++◌, drop, length, vec_capacity, vec_len, Err, IfOk, MatchResult};
+ghost use Rattle.wave_problem.specs.Assignment.{IsBest, pairs_of};
+ghost use Rattle.price_certificate.specs.Certificate.{claim, Certifies, HasOneSize};
+ghost use Rattle.shared_master.specs.declared.waves.WaveError.{WaveError};
+ghost use Rattle.shared_master.specs.Waves.{
+  CommitsAs,
+  FitsSizes,
+  has_place,
+  IsAsked,
+  IsUnasked,
+  noted_wave,
+  PlansAs,
+  why_of,
+};
+
+use crate::held::Held;
+use crate::sizes::Sizes;
+use hand_ledger::Hand;
+use master_core::Master;
+use master_state::{CommitError, Event, Start, Wave, Why};
+use node_ids::AttemptNo;
+use price_certificate::Condition;
+use std::alloc::Global;
+use std::sync::ledger::Ledger;
+use wave_planner::{Planned, plan};
+use wave_problem::Problem;
+
+/// A wave that was committed, and its starts by rising split.
+#[derive(Drop)]
+pub struct SharedWave {
+    pub wave: Wave,
+    pub starts: Vec<Start>,
+}
+
+/// Why no wave was committed. It is tested in the order StrangeHand, HistoryFull for want of a place for an
+/// event, Memory, HistoryFull for want of room for the starts, and again Memory.
+#[derive(Clone, Copy, Debug, PartialEq, Eq)]
+pub enum WaveError {
+    /// No memory for the problem, the plan or the starts.
+    Memory = 1,
+    /// No place is left for the event or the starts, in the history or in the hand.
+    HistoryFull = 2,
+    /// The hand is of another shared master.
+    StrangeHand = 3,
+}
+
+/// What is done between the solution of a wave and its commit, while the lock is free.
+pub trait Between {
+    /// After the solution of this turn, from 1 to 3.
+    fn solved(&self, turn: u32);
+}
+
+/// Nothing is done.
+#[derive(Clone, Copy, Debug)]
+pub struct Nothing;
+
+impl Between for Nothing {
+    fn solved(&self, _turn: u32) {}
+}
+
+// A plan with its prices, and room for its starts.
+#[derive(Drop)]
+pub(crate) struct Solved {
+    pub(crate) planned: Planned,
+    pub(crate) starts: Vec<Start>,
+}
+
+// Why a plan was not committed.
+pub(crate) enum Uncommitted {
+    Refused(WaveError),
+    Stale(Condition),
+}
+
+// Plans a wave.
+pub(crate) fn solve(alloc: Global, problem: &Problem) -> Result<Solved, WaveError>
+    ensures certifies { IfOk result (λ s. Certifies (claim problem.now s.planned.plan.starts s.planned.prices)) }
+    ensures best { IfOk result (λ s. IsBest problem.now (pairs_of s.planned.plan.starts)) }
+    ensures sizes { IfOk result (λ s. HasOneSize (claim problem.now s.planned.plan.starts s.planned.prices)
+        s.planned.plan.workers) }
+    ensures starts { IfOk result (λ s. s.starts.items ≡ []) }
+    ensures room { IfOk result (λ s. length (pairs_of s.planned.plan.starts) ≤ vec_capacity s.starts) }
+    ensures err { (e : WaveError) → result ≡ Err e → e ≡ WaveError.Memory }
+{
+    let Ok(planned) = plan(alloc, problem) else {
+        return Err(WaveError::Memory);
+    };
+    let Ok(starts) = Vec::with_capacity(alloc, planned.plan().count()) else {
+        return Err(WaveError::Memory);
+    };
+    Ok(Solved { planned, starts })
+}
+
+impl<L: Ledger> Held<L> {
+    // The problem of the present state, where the hand is this master's and a place is left for an event.
+    pub(crate) fn problem(
+        &self,
+        alloc: Global,
+        sizes: Sizes,
+        hand: &mut Hand<L>,
+    ) -> Result<Problem, WaveError>
+        ensures asked { MatchResult result
+            (λ problem. IsAsked sizes self.now.job hand.old problem × (hand.new ≡ hand.old))
+            (λ e. IsUnasked sizes self.now.job hand.old e × (hand.new ≡ noted_wave sizes hand.old e)) }
+        ensures splits { IfOk result (λ problem. length problem.splits ≡ sizes.splits) }
+        ensures workers { IfOk result (λ problem. length problem.workers ≡ sizes.workers) }
+    {
+        if !self.is_own(sizes, hand) {
+            return Err(refused(hand, sizes, WaveError::StrangeHand));
+        }
+        if !self.has_place(hand) {
+            return Err(refused(hand, sizes, WaveError::HistoryFull));
+        }
+        let Ok(problem) = self.master.problem(alloc) else {
+            return Err(WaveError::Memory);
+        };
+        Ok(problem)
+    }
+
+    // Whether a place is left for an event, in the hand and in the history.
+    fn has_place(&self, hand: &Hand<L>) -> bool
+        ensures { result ≡ has_place self.now.job hand.now }
+    {
+        hand.has_room(0, 0) && self.master.events() < self.master.limits().events
+    }
+
+    // Commits a plan.
+    pub(crate) fn commit(
+        &mut self,
+        alloc: Global,
+        sizes: Sizes,
+        hand: &mut Hand<L>,
+        solved: Solved,
+    ) -> Result<SharedWave, Uncommitted>
+        requires sizes { FitsSizes sizes solved.planned.plan solved.planned.prices }
+        requires starts { solved.starts.items ≡ [] }
+        requires room { length (pairs_of solved.planned.plan.starts) ≤ vec_capacity solved.starts }
+        ensures { CommitsAs sizes self.old.job hand.old solved.planned.plan.starts solved.planned.prices
+            result self.new.job hand.new }
+    {
+        let Solved { planned, starts } = solved;
+        if !self.is_own(sizes, hand) {
+            let error = refused(hand, sizes, WaveError::StrangeHand);
+            return Err(Uncommitted::Refused(error));
+        }
+        if !hand.has_room(0, planned.plan().count()) {
+            let error = refused(hand, sizes, WaveError::HistoryFull);
+            return Err(Uncommitted::Refused(error));
+        }
+        let wave = match self.master.commit(alloc, &planned) {
+            Ok(wave) => wave,
+            Err(CommitError::Stale(condition)) => return Err(Uncommitted::Stale(condition)),
+            Err(CommitError::HistoryFull) => {
+                let error = refused(hand, sizes, WaveError::HistoryFull);
+                return Err(Uncommitted::Refused(error));
+            }
+            Err(CommitError::Memory) => return Err(Uncommitted::Refused(WaveError::Memory)),
+        };
+        let _events = self.master.events();
+        let Wave {
+            place,
+            first,
+            count,
+            cost,
+        } = wave;
+        let starts = with_all(starts, starts_from(&self.master, first));
+        hand.keep(
+            &mut self.book,
+            place,
+            Event::Wave { first, count, cost },
+            &[],
+            &starts,
+        );
+        Ok(SharedWave { wave, starts })
+    }
+
+    // Plans a wave and commits it in one hold of the lock.
+    pub(crate) fn plan_wave(
+        &mut self,
+        alloc: Global,
+        sizes: Sizes,
+        hand: &mut Hand<L>,
+    ) -> Result<SharedWave, WaveError>
+        ensures { PlansAs sizes self.old.job hand.old result self.new.job hand.new }
+    {
+        let problem = self.problem(alloc, sizes, hand)?;
+        let solved = solve(alloc, &problem)?;
+        match self.commit(alloc, sizes, hand, solved) {
+            Ok(shared) => Ok(shared),
+            Err(Uncommitted::Refused(error)) => Err(error),
+            Err(Uncommitted::Stale(_)) => unreachable!(),
+        }
+    }
+}
+
+// Notes why a wave came to nothing.
+fn refused<L: Ledger>(hand: &mut Hand<L>, sizes: Sizes, error: WaveError) -> WaveError
+    ensures error { result ≡ error }
+    ensures hand { hand.new ≡ noted_wave sizes hand.old error }
+{
+    let had_room = hand.has_room(0, sizes.splits);
+    hand.note(had_room, why_of(error));
+    error
+}
+
+fn why_of(error: WaveError) -> Why
+    ensures { result ≡ why_of error }
+{
+    match error {
+        WaveError::Memory => Why::Memory,
+        WaveError::HistoryFull => Why::HistoryFull,
+        WaveError::StrangeHand => Why::StrangeHand,
+    }
+}
+
+// The starts from this attempt on.
+fn starts_from(master: &Master, first: AttemptNo) -> &[Start]
+    requires some { 0 < first }
+    requires within { first - 1 ≤ length master.now.state.starts }
+    ensures { result.now ≡ drop (first - 1) master.now.state.starts }
+{
+    let (_, last) = master.starts().split_at(first.index() - 1);
+    last
+}
+
+// A list with room for them, and these starts behind its own.
+fn with_all(mut list: Vec<Start>, more: &[Start]) -> Vec<Start>
+    requires { vec_len list + length more.now ≤ vec_capacity list }
+    ensures { result.items ≡ list.items ++ more.now }
+{
+    for start in more {
+        list.push_reserved(*start);
+    }
+    list
+}
