@@ -1,0 +1,10 @@
+pub mod Writing
+pub mod Kept
+pub mod Played
+pub mod Telling
+pub mod Known
+pub mod Numbers
+pub mod Finished
+pub mod Started
+pub mod Handed
+pub mod Growth

@@ -1,1 +1,5 @@
 pub mod Reports
+pub mod Playing
+pub mod Given
+pub mod Handing
+pub mod Rooms

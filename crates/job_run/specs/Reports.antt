@@ -20,7 +20,6 @@ use Rattle.master_state.specs.Tests.{all_parts_done, next_part, next_worker}
 use Rattle.master_state.specs.Refusals.{Call, MapDone, MapFailed, Withdraw, Die, Join, Add, Lose, Sweep, ReduceStart, PartDone, PartFailed, Backup, has_no_room, text_of}
 use Rattle.master_state.specs.Steps.{IsLegal, problem_of}
 use Rattle.master_state.specs.Jobs.{Job, Answers, IsCommitted, died_in}
-use Rattle.text_lines.specs.Texts.{Word}
 use Rattle.script_text.specs.declared.script.Names.{Names}
 use Rattle.script_text.specs.declared.script.Script.{Script}
 use Rattle.script_text.specs.declared.script.Command.{Command}
@@ -168,19 +167,23 @@ pub record IsReport (setup : Setup) (script : Script) (finish : PlayEnd) (out : 
   pub ends : Ends script.names last finish ending
   pub out_is : out ≡ answers ++ ending
 
--- the command names workers and splits of the job
-abbrev pub IsKnownCommand : Setup → Command → Type 0
-IsKnownCommand setup (command.Backup s w) = (s < length setup.cluster.splits) × (w < length setup.cluster.slots)
-IsKnownCommand setup (command.Die w) = w < length setup.cluster.slots
-IsKnownCommand setup (command.Join w splits) =
-    (w < length setup.cluster.slots) × All (λ s. s < length setup.cluster.splits) splits.items
-IsKnownCommand setup (command.Add s w) = (s < length setup.cluster.splits) × (w < length setup.cluster.slots)
-IsKnownCommand setup (command.Lose s w) = (s < length setup.cluster.splits) × (w < length setup.cluster.slots)
-IsKnownCommand setup (command.Sweep counts) = length counts.items ≤ 256
-IsKnownCommand setup c = Unit {0}
+-- the command names workers and splits below these numbers, and gives no more counts than there may be workers
+abbrev pub IsKnownIn : ℕ → ℕ → Command → Type 0
+IsKnownIn workers splits (command.Backup s w) = (s < splits) × (w < workers)
+IsKnownIn workers splits (command.Die w) = w < workers
+IsKnownIn workers splits (command.Join w set) = (w < workers) × All (λ s. s < splits) set.items
+IsKnownIn workers splits (command.Add s w) = (s < splits) × (w < workers)
+IsKnownIn workers splits (command.Lose s w) = (s < splits) × (w < workers)
+IsKnownIn workers splits (command.Sweep counts) = length counts.items ≤ 256
+IsKnownIn workers splits c = Unit {0}
 
--- a best plan of the state starts more than the job has room for
+-- so of the cluster of the job
+abbrev pub IsKnownCommand : Setup → Command → Type 0
+IsKnownCommand setup c = IsKnownIn (length setup.cluster.slots) (length setup.cluster.splits) c
+
+-- the state is one of a legal history, and a best plan of it starts more than the job has room for
 pub record LacksRoom (old : Job) : Type 0 where
+  pub legal : IsLegal old.setup old.history old.state
   pub plan : List (Option ℕ)
   pub best : IsBest (problem_of old.setup old.state) (pairs_of plan)
   pub full : has_no_room old.setup old.state (length (pairs_of plan)) ≡ true

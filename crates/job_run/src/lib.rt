@@ -1,12 +1,22 @@
 //! Playing a script on a new master, from the script to its report.
 //!
 //! What a report may be stands in `specs/Reports.antt`: some legal history answers the commands by these lines,
-//! one command after another, and the last lines tell the index, or what is not done. Below stand the machine of
-//! `master_state` and the lines of `report_lines`.
+//! one command after another, and the last lines tell the index, or what is not done. `play_script` makes such a
+//! report of a script and a cluster. Below stand the master of `master_core`, the planner and the lines of
+//! `report_lines`.
 #![tactic(auto)]
 
+mod ending;
+mod fitting;
+mod given;
+mod handing;
+mod performing;
 mod player;
+mod rooms;
 mod tables;
+mod waves;
 
-pub use player::PlayEnd;
+pub use fitting::fits;
+pub use player::{PlayEnd, PlayError, Report, play_script};
+pub use rooms::{MAX_ATTEMPTS, MAX_COMMANDS, limits_for};
 pub use tables::{counts_of, set_of};

@@ -1,0 +1,223 @@
+-- The lines of one command, written after what stood there.
+use Rattle.std.proofs.Common.{◌≡◌, ◌≢◌, ℕ, List, ◌++◌, Option, Some, None, refl, sym, ap, ◌∙◌, inl, inr, subst, append_assoc}
+use Rattle.std.proofs.lemmas.List.{append-nil}
+use Rattle.master_state.specs.declared.answers.Answer.{Answer}
+use Rattle.master_state.specs.declared.answers.Answer.TheVariants as answer
+use Rattle.master_state.specs.declared.answers.AnswerWith.{AnswerWith}
+use Rattle.master_state.specs.declared.answers.AnswerWith.TheVariants as handed
+use Rattle.master_state.specs.declared.answers.BackupAnswer.TheVariants as backup
+use Rattle.master_state.specs.declared.answers.ReduceAnswer.TheVariants as reduced
+use Rattle.master_state.specs.declared.answers.Reply.{Reply}
+use Rattle.master_state.specs.declared.answers.Why.{Why}
+use Rattle.master_state.specs.declared.answers.Why.TheVariants.{OldAttempt, Memory}
+use Rattle.master_state.specs.declared.states.Start.{Start}
+use Rattle.master_state.specs.declared.states.Work.TheVariants as works
+use Rattle.master_state.specs.States.{start_of, next_attempt}
+use Rattle.master_state.specs.Tests.{next_part, next_worker}
+use Rattle.master_state.specs.Refusals.{Call, MapDone, MapFailed, PartDone, PartFailed, ReduceStart, Sweep}
+use Rattle.master_state.specs.Jobs.{Job, Answers, AnswersWith, AnswersBackup, AnswersReduce, AnswersSweep, IsAccepted, IsReply, died_in}
+use Rattle.node_ids.specs.Sets.{has_number}
+use Rattle.script_text.specs.declared.script.Names.{Names}
+use Rattle.script_text.specs.declared.script.Command.{Command}
+use Rattle.script_text.specs.declared.script.Command.TheVariants as command
+use Rattle.report_lines.specs.Lines.{accepted_line, answer_line, backup_line, dead_line, dead_lines, ignored_line, numbers_of, reduce_line}
+use Rattle.job_run.specs.Reports.{IsTold, Does, DoesSplit, DoesPart, Fails, Performs, alone, deaths, told}
+use Rattle.job_run.specs.Handing.{HandsSplit, HandsPart, answer_from}
+use Rattle.job_run.specs.Playing.{IsAnswered, Performed}
+use Rattle.job_run.proofs.Telling.{those_agree}
+
+told_alone : (given : Answer) → answer_line given ≡ told given (alone given)
+told_alone (answer.Accepted place) = sym (append-nil (answer_line (answer.Accepted place)))
+told_alone (answer.Ignored why) = refl
+
+is_told : (old new : Job) (call : Call) (given : Answer) → Answers old call given new →
+    IsTold old call alone (answer_line given) new
+is_told old new call given answers = record { answer = given; answers = answers; out_is = told_alone given }
+
+-- the line of an answer is all that is told of a call that wants no more
+pub answered : (old new : Job) (call : Call) (given : Answer) (before now : List ℕ) → Answers old call given new →
+    now ≡ before ++ answer_line given → IsAnswered old call alone before now new
+answered old new call given before now answers written =
+    record { out = answer_line given; is_told = is_told old new call given answers; written = written }
+
+pub answers_from : {R : Type 0} (old new : Job) (call : Call) (result : R) (given : AnswerWith R) →
+    AnswersWith old call result given new → Answers old call (answer_from given) new
+answers_from old new call result (handed.Accepted place) answers = answers
+answers_from old new call result (handed.Ignored why back) answers = answers.1
+
+-- ---- an attempt is done
+
+pub done_unknown : (names : Names) (target : ℕ) (old : Job) (a : ℕ) (before now : List ℕ) →
+    start_of old.state a ≡ None → now ≡ before ++ ignored_line OldAttempt →
+    Performed names target old (command.Done a) before now old
+done_unknown names target old a before now none written = record {
+  out = ignored_line OldAttempt;
+  performs = subst (λ (start : Option Start). Does old a start (ignored_line OldAttempt) old) (sym none)
+      (record { out_is = refl; unchanged = refl });
+  written = written;
+}
+
+pub done_split : (names : Names) (target : ℕ) (old new : Job) (a split w : ℕ) (given : Answer)
+    (before now : List ℕ) → start_of old.state a ≡ Some (record { work = works.Split split; worker = w }) →
+    HandsSplit old a split given new → now ≡ before ++ answer_line given →
+    Performed names target old (command.Done a) before now new
+done_split names target old new a split w given before now start hands written =
+    let does : DoesSplit old a split (answer_line given) new = record {
+      result = hands.result;
+      text = hands.text;
+      parts = hands.parts;
+      is_told = is_told old new (MapDone a hands.result) given hands.answers;
+    } in record {
+      out = answer_line given;
+      performs = subst (λ (one : Option Start). Does old a one (answer_line given) new) (sym start) does;
+      written = written;
+    }
+
+pub done_part : (names : Names) (target : ℕ) (old new : Job) (a part w : ℕ) (given : Answer)
+    (before now : List ℕ) → start_of old.state a ≡ Some (record { work = works.Part part; worker = w }) →
+    HandsPart old a part given new → now ≡ before ++ answer_line given →
+    Performed names target old (command.Done a) before now new
+done_part names target old new a part w given before now start hands written =
+    let does : DoesPart old a part (answer_line given) new = record {
+      result = hands.result;
+      part_is = hands.part_is;
+      parts = hands.parts;
+      texts = hands.texts;
+      is_told = is_told old new (PartDone a hands.result) given hands.answers;
+    } in record {
+      out = answer_line given;
+      performs = subst (λ (one : Option Start). Does old a one (answer_line given) new) (sym start) does;
+      written = written;
+    }
+
+-- ---- an attempt fails
+
+pub fail_unknown : (names : Names) (target : ℕ) (old : Job) (a : ℕ) (before now : List ℕ) →
+    start_of old.state a ≡ None → now ≡ before ++ ignored_line OldAttempt →
+    Performed names target old (command.Fail a) before now old
+fail_unknown names target old a before now none written = record {
+  out = ignored_line OldAttempt;
+  performs = subst (λ (start : Option Start). Fails old a start (ignored_line OldAttempt) old) (sym none)
+      (record { out_is = refl; unchanged = refl });
+  written = written;
+}
+
+pub fail_split : (names : Names) (target : ℕ) (old new : Job) (a split w : ℕ) (given : Answer)
+    (before now : List ℕ) → start_of old.state a ≡ Some (record { work = works.Split split; worker = w }) →
+    Answers old (MapFailed a) given new → now ≡ before ++ answer_line given →
+    Performed names target old (command.Fail a) before now new
+fail_split names target old new a split w given before now start answers written = record {
+  out = answer_line given;
+  performs = subst (λ (one : Option Start). Fails old a one (answer_line given) new) (sym start)
+      (is_told old new (MapFailed a) given answers);
+  written = written;
+}
+
+pub fail_part : (names : Names) (target : ℕ) (old new : Job) (a part w : ℕ) (given : Answer)
+    (before now : List ℕ) → start_of old.state a ≡ Some (record { work = works.Part part; worker = w }) →
+    Answers old (PartFailed a) given new → now ≡ before ++ answer_line given →
+    Performed names target old (command.Fail a) before now new
+fail_part names target old new a part w given before now start answers written = record {
+  out = answer_line given;
+  performs = subst (λ (one : Option Start). Fails old a one (answer_line given) new) (sym start)
+      (is_told old new (PartFailed a) given answers);
+  written = written;
+}
+
+-- ---- an answer with lines of its own
+
+pub written_more : (before mid now xs ys : List ℕ) → mid ≡ before ++ xs → now ≡ mid ++ ys →
+    now ≡ before ++ (xs ++ ys)
+written_more before mid now xs ys first next =
+    next ∙ ap (λ (text : List ℕ). text ++ ys) first ∙ append_assoc before xs ys
+
+pub backup_ignored : (names : Names) (target : ℕ) (old new : Job) (split w : ℕ) (why : Why)
+    (before now : List ℕ) → AnswersBackup old split w (backup.Ignored why) new →
+    now ≡ before ++ ignored_line why → Performed names target old (command.Backup split w) before now new
+backup_ignored names target old new split w why before now answers written = record {
+  out = ignored_line why;
+  performs = record { answer = answer.Ignored why; answers = answers; out_is = refl };
+  written = written;
+}
+
+pub backup_accepted : (names : Names) (target : ℕ) (old new : Job) (split w place a : ℕ)
+    (before mid now : List ℕ) → AnswersBackup old split w (backup.Accepted place a) new →
+    mid ≡ before ++ accepted_line place → now ≡ mid ++ backup_line names.splits names.workers a split w →
+    Performed names target old (command.Backup split w) before now new
+backup_accepted names target old new split w place a before mid now answers first next =
+    let line = λ (n : ℕ). backup_line names.splits names.workers n split w in
+    record {
+      out = accepted_line place ++ line (next_attempt old.state);
+      performs = record { answer = answer.Accepted place; answers = answers.1; out_is = refl };
+      written = written_more before mid now (accepted_line place) (line (next_attempt old.state)) first
+          (next ∙ ap (λ (n : ℕ). mid ++ line n) answers.0);
+    }
+
+pub reduce_accepted : (names : Names) (target : ℕ) (old new : Job) (place : ℕ) (reply : Reply)
+    (before mid now : List ℕ) → IsReply old reply → IsAccepted old ReduceStart place new →
+    mid ≡ before ++ accepted_line place →
+    now ≡ mid ++ reduce_line names.workers reply.attempt reply.part reply.worker →
+    Performed names target old command.Reduce before now new
+reduce_accepted names target old new place reply before mid now is accepted first next =
+    let s = old.state in
+    let line = reduce_line names.workers (next_attempt s) (next_part s) (next_worker s) in
+    record {
+      out = accepted_line place ++ line;
+      performs = record { answer = answer.Accepted place; answers = accepted; out_is = refl };
+      written = written_more before mid now (accepted_line place) line first
+          (next ∙ ap (λ (n : ℕ). mid ++ reduce_line names.workers n reply.part reply.worker) is.attempt
+          ∙ ap (λ (n : ℕ). mid ++ reduce_line names.workers (next_attempt s) n reply.worker) is.part
+          ∙ ap (λ (n : ℕ). mid ++ reduce_line names.workers (next_attempt s) (next_part s) n) is.worker);
+    }
+
+pub reduce_ignored : (names : Names) (target : ℕ) (old new : Job) (why : Why) (before now : List ℕ) →
+    AnswersReduce old (reduced.Ignored why) new → why ≢ Memory → now ≡ before ++ ignored_line why →
+    Performed names target old command.Reduce before now new
+reduce_ignored names target old new why before now answers other written = elim answers [
+  | inl ignored ↦ record {
+    out = ignored_line why;
+    performs = record { answer = answer.Ignored why; answers = ignored; out_is = refl };
+    written = written;
+  }
+  | inr want ↦ absurd (other want.0)
+]
+
+pub sweep_accepted : (names : Names) (old new : Job) (counts dead : List ℕ) (place : ℕ)
+    (before mid now : List ℕ) → AnswersSweep old counts (answer.Accepted place) dead new →
+    mid ≡ before ++ accepted_line place → now ≡ mid ++ dead_lines names.workers dead →
+    IsAnswered old (Sweep counts) (deaths names old counts) before now new
+sweep_accepted names old new counts dead place before mid now answers first next =
+    let told = deaths names old counts (answer.Accepted place) in
+    record {
+      out = accepted_line place ++ told;
+      is_told = record { answer = answer.Accepted place; answers = answers.answer; out_is = refl };
+      written = written_more before mid now (accepted_line place) told first
+          (next ∙ ap (λ (lines : List ℕ). mid ++ lines)
+          (those_agree (has_number dead) (died_in old counts (answer.Accepted place))
+          (dead_line names.workers) (numbers_of names.workers) answers.dead_are));
+    }
+
+pub sweep_ignored : (names : Names) (old new : Job) (counts dead : List ℕ) (why : Why) (before now : List ℕ) →
+    AnswersSweep old counts (answer.Ignored why) dead new → now ≡ before ++ ignored_line why →
+    IsAnswered old (Sweep counts) (deaths names old counts) before now new
+sweep_ignored names old new counts dead why before now answers written = record {
+  out = ignored_line why;
+  is_told = record { answer = answer.Ignored why; answers = answers.answer; out_is = refl };
+  written = written;
+}
+
+pub performed_answered : (names : Names) (target : ℕ) (old new : Job) (c : Command) (call : Call)
+    (after : Answer → List ℕ) (before now : List ℕ) → IsAnswered old call after before now new →
+    ((out : List ℕ) → IsTold old call after out new → Performs names target old c out new) →
+    Performed names target old c before now new
+performed_answered names target old new c call after before now answered reads =
+    record { out = answered.out; performs = reads answered.out answered.is_told; written = answered.written }
+
+-- a command whose call is answered by one line
+pub performed_plain : (names : Names) (target : ℕ) (old new : Job) (c : Command) (call : Call) (given : Answer)
+    (before now : List ℕ) →
+    ((out : List ℕ) → IsTold old call alone out new → Performs names target old c out new) →
+    Answers old call given new → now ≡ before ++ answer_line given → Performed names target old c before now new
+performed_plain names target old new c call given before now reads answers written =
+    performed_answered names target old new c call alone before now
+    (answered old new call given before now answers written) reads

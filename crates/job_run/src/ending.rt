@@ -1,0 +1,79 @@
+ghost use Rattle.std.specs.Prelude.{◌≡◌, IfOk, IfSome, length, string_bytes};
+ghost use Rattle.shuffle_reduce.specs.Gather.{values_of};
+ghost use Rattle.shuffle_reduce.specs.Indexed.{IsIndexOf};
+ghost use Rattle.master_state.specs.Jobs.{IsKept};
+ghost use Rattle.master_state.specs.Tests.{all_parts_done};
+ghost use Rattle.job_run.specs.Playing.{Ended};
+
+use crate::player::{PlayEnd, PlayError};
+use master_core::Master;
+use master_state::{Attempt, SplitState};
+use node_ids::SplitNo;
+use report_lines::{add_index, add_stuck};
+use script_text::Names;
+use shuffle_reduce::{Index, finish};
+use std::alloc::{AllocError, Global};
+
+// What every master keeps.
+pub(crate) fn know(master: &Master)
+    ensures { IsKept master.now }
+{
+    master.history();
+}
+
+/// The lines after the last command, and how the script has ended.
+pub(crate) fn add_end(
+    alloc: Global,
+    master: &Master,
+    names: &Names<'_>,
+    lines: &mut String,
+) -> Result<PlayEnd, AllocError>
+    requires { length names.now.splits ≡ length master.now.setup.cluster.splits }
+    ensures { IfOk result (λ finish. Ended names.now master.now finish
+        (string_bytes lines.old) (string_bytes lines.new)) }
+{
+    know(master);
+    if are_parts_done(master) {
+        let index = index_of(alloc, master)?;
+        add_index(lines, &names.documents, index.entries())?;
+        Ok(PlayEnd::Done)
+    } else {
+        let Some(states) = states_of(alloc, master) else {
+            return Err(AllocError);
+        };
+        add_stuck(lines, &names.splits, states.as_slice())?;
+        Ok(PlayEnd::Stuck)
+    }
+}
+
+// Whether every part is done.
+fn are_parts_done(master: &Master) -> bool
+    ensures { result ≡ all_parts_done master.now.state }
+{
+    master.glance().open_parts == 0
+}
+
+// The index of all documents, every part being done.
+fn index_of(alloc: Global, master: &Master) -> Result<Index, AllocError>
+    ensures { IfOk result (λ index. IsIndexOf master.now.setup.cluster.texts index) }
+{
+    know(master);
+    let parts = master.cluster().parts();
+    // each part has one result, so nothing but memory can be wanting
+    finish(alloc, parts, master.texts(), master.results()).map_err(|_| AllocError)
+}
+
+// What has become of each split, or nothing where memory is wanting.
+fn states_of(alloc: Global, master: &Master) -> Option<Vec<SplitState>>
+    ensures { IfSome result (λ states. states.items ≡ master.now.state.splits) }
+{
+    know(master);
+    let count = master.cluster().splits().len();
+    let mut states = Vec::with_capacity(alloc, count).ok()?;
+    // names what a state holds, which the proof of the loop asks for
+    let _none: Option<Attempt> = None;
+    for number in 0..count {
+        states.push_reserved(master.state(SplitNo::new(number as u16)));
+    }
+    Some(states)
+}

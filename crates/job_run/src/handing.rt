@@ -1,0 +1,136 @@
+ghost use Rattle.std.specs.Prelude.{◌≡◌, ℕ, ◌<◌, OnOk, IfOk, length, string_bytes};
+ghost use Rattle.master_state.specs.Tests.{part_runs, runs};
+ghost use Rattle.master_state.specs.declared.states.Work.TheVariants as works;
+ghost use Rattle.script_text.specs.declared.script.Names.{Names};
+ghost use Rattle.script_text.specs.declared.script.Command.TheVariants as command;
+ghost use Rattle.job_run.specs.Given.{AreRunsFor, HoldsRuns};
+ghost use Rattle.job_run.specs.Handing.{HandsPart, HandsSplit, IsStartedFor, answer_from};
+ghost use Rattle.job_run.specs.Playing.{Performed};
+
+use crate::ending::know;
+use crate::given::GivenRuns;
+use master_core::Master;
+use master_state::{Answer, AnswerWith, PartState, SplitState, Why, Work};
+use node_ids::{AttemptNo, PartNo, SplitNo};
+use report_lines::{add_answer, add_ignored};
+use shuffle_reduce::merge;
+use std::alloc::{AllocError, Global};
+use std::sync::Arc;
+use word_map::map_split;
+
+/// Makes what the attempt was started for, and hands it in.
+pub(crate) fn done(
+    alloc: Global,
+    master: &mut Master,
+    given: &GivenRuns,
+    attempt: AttemptNo,
+    lines: &mut String,
+) -> Result<(), AllocError>
+    requires { HoldsRuns given.now master.old }
+    ensures { (names : Names) (target : ℕ) → OnOk result (Performed names target master.old (command.Done attempt)
+        (string_bytes lines.old) (string_bytes lines.new) master.new) }
+{
+    match master.start(attempt) {
+        None => add_ignored(lines, Why::OldAttempt),
+        Some(start) => match &start.work {
+            Work::Split(split) => {
+                let answer = hand_split(alloc, master, attempt, *split)?;
+                add_answer(lines, answer)
+            }
+            Work::Part(part) => {
+                let answer = hand_part(alloc, master, given, attempt, *part)?;
+                add_answer(lines, answer)
+            }
+        },
+    }
+}
+
+// Maps the text of the split, if it runs the attempt, and hands in what is made.
+fn hand_split(
+    alloc: Global,
+    master: &mut Master,
+    attempt: AttemptNo,
+    split: SplitNo,
+) -> Result<Answer, AllocError>
+    requires { IsStartedFor master.old.state attempt (works.Split split) }
+    ensures { IfOk result (λ answer. HandsSplit master.old attempt split answer master.new) }
+{
+    know(master);
+    if !split_runs(&master.state(split), attempt) {
+        return Ok(Answer::Ignored(Why::OldAttempt));
+    }
+    let text = Arc::try_clone(&master.texts()[split.index()])?;
+    let made = map_split(alloc, text, master.cluster().parts())?;
+    Ok(answer_from(master.map_done(attempt, made)))
+}
+
+// Merges the runs that the part was given, if it runs the attempt, and hands in what is made.
+fn hand_part(
+    alloc: Global,
+    master: &mut Master,
+    given: &GivenRuns,
+    attempt: AttemptNo,
+    part: PartNo,
+) -> Result<Answer, AllocError>
+    requires started { IsStartedFor master.old.state attempt (works.Part part) }
+    requires given { HoldsRuns given.now master.old }
+    ensures { IfOk result (λ answer. HandsPart master.old attempt part answer master.new) }
+{
+    know(master);
+    if !part_runs(&master.part_state(part), attempt) {
+        return Ok(Answer::Ignored(Why::OldAttempt));
+    }
+    let made = merge(alloc, master.cluster().parts(), part, given.of(part))?;
+    Ok(answer_from(master.part_done(attempt, made)))
+}
+
+// Whether the split runs the attempt.
+fn split_runs(split: &SplitState, attempt: AttemptNo) -> bool
+    ensures { result ≡ runs attempt split.now }
+{
+    match split {
+        SplitState::Pending => false,
+        SplitState::Running(one, None) => one.number == attempt,
+        SplitState::Running(one, Some(other)) => one.number == attempt || other.number == attempt,
+        SplitState::Done(_) => false,
+    }
+}
+
+// Whether the part runs the attempt.
+fn part_runs(part: &PartState, attempt: AttemptNo) -> bool
+    ensures { result ≡ part_runs attempt part.now }
+{
+    match part {
+        PartState::Pending => false,
+        PartState::Running(one) => one.number == attempt,
+        PartState::Done => false,
+    }
+}
+
+// The answer without the value that came back.
+fn answer_from<R: Drop>(answer: AnswerWith<R>) -> Answer
+    ensures { result ≡ answer_from answer }
+{
+    match answer {
+        AnswerWith::Accepted(place) => Answer::Accepted(place),
+        AnswerWith::Ignored(why, _) => Answer::Ignored(why),
+    }
+}
+
+/// Sets the attempt back, of a split or of a part.
+pub(crate) fn fail(
+    master: &mut Master,
+    attempt: AttemptNo,
+    lines: &mut String,
+) -> Result<(), AllocError>
+    ensures { (names : Names) (target : ℕ) → OnOk result (Performed names target master.old (command.Fail attempt)
+        (string_bytes lines.old) (string_bytes lines.new) master.new) }
+{
+    match master.start(attempt) {
+        None => add_ignored(lines, Why::OldAttempt),
+        Some(start) => match &start.work {
+            Work::Split(_) => add_answer(lines, master.map_failed(attempt)),
+            Work::Part(_) => add_answer(lines, master.part_failed(attempt)),
+        },
+    }
+}
