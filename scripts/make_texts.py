@@ -1,13 +1,16 @@
 #!/usr/bin/env python3
-"""Makes texts of problems with plans and prices for tests, the same ones for the same seed.
+"""Makes texts for tests, the same ones for the same seed: problems, with plans and prices or without, and scripts.
 
-    make_texts.py KIND SEED        writes one text; KIND is best, changed, faulty, problem, faulty_problem or large
+    make_texts.py KIND SEED        writes one text; KIND is best, changed, faulty, problem, faulty_problem, script,
+                                   faulty_script or large
 """
 import random
 import sys
 
 MOST = {"rack": 32, "worker": 256, "split": 1024}
-KEYWORDS = ["problem", "rack", "worker", "split", "barred", "dead", "busy", "plan", "start", "price", "end"]
+KEYWORDS = ["problem", "script", "job", "centre", "rack", "worker", "split", "barred", "dead", "busy", "plan", "start"]
+KEYWORDS += ["price", "end", "parts", "target", "silence", "doc", "begin", "wave", "done", "fail", "withdraw", "die"]
+KEYWORDS += ["join", "add", "lose", "sweep", "reduce", "copies", "backup"]
 
 
 def assign(costs):
@@ -49,6 +52,9 @@ class Scenario:
 
     def __init__(self, rnd):
         racks = rnd.randint(1, 3)
+        # (a text of version 1 has one centre, without a name)
+        self.version, self.centres = rnd.choice([(1, 1), (1, 1), (2, 1), (2, 2), (2, 3)])
+        self.centre_of = [rnd.randrange(self.centres) for _ in range(racks)]
         self.workers = rnd.choice([0, *[2, 3, 4, 5] * 3])
         self.splits = rnd.choice([0, *[2, 3, 5, 8] * 3])
         w, s = range(self.workers), range(self.splits)
@@ -62,7 +68,7 @@ class Scenario:
         near = range(rnd.choice([min(self.workers, 2), self.workers]))
         self.holders = [rnd.sample(near, min(len(near), rnd.choice([0, 1, 1, 1, 2, 3, 8]))) for _ in s]
         self.barred = [(i, j) for i in s for j in w if rnd.random() < 0.1]
-        self.reward = 1 + 4 * sum(self.bytes)
+        self.reward = 1 + (6 if self.centres > 1 else 4) * sum(self.bytes)
         self.starts, self.split_price, self.worker_price = [None] * self.splits, [0] * self.splits, [0] * self.workers
 
     def cost(self, s, w):
@@ -70,8 +76,13 @@ class Scenario:
         held = [h for h in self.holders[s] if self.live[h]]
         if not (self.pending[s] and held and self.live[w]) or (s, w) in self.barred:
             return None
-        steps = min(0 if h == w else 2 if self.rack_of[h] == self.rack_of[w] else 4 for h in held)
-        return self.bytes[s] * steps
+        return self.bytes[s] * min(self.distance(h, w) for h in held)
+
+    def distance(self, a, b):
+        if a == b:
+            return 0
+        one, other = self.rack_of[a], self.rack_of[b]
+        return 2 if one == other else 4 if self.centre_of[one] == self.centre_of[other] else 6
 
     def plan(self):
         """Gives a best plan and prices that certify it: a column for each slot, and the rest for no start."""
@@ -106,13 +117,21 @@ class Scenario:
             near = [min(prices[at] + 1, 2**64 - 1), max(prices[at] - 1, 0)]
             prices[at] = rnd.choice([*near * 2, 0, self.reward, self.reward + 1, 2**64 - 1])
 
-    def lines(self, rnd):
-        """The lines of the text; head lines stand in one of the orders that declare names before their use."""
+    def cluster(self):
+        """The lines of racks and centres, of workers and of splits."""
         racks = [f"rack r{i}" for i in range(self.racks)]
+        if self.version == 2:
+            racks = [f"{rack} c{centre}" for rack, centre in zip(racks, self.centre_of)]
+            racks = [f"centre c{i}" for i in range(self.centres)] + racks
         workers = [f"worker w{i} r{self.rack_of[i]} {self.free[i]}" for i in range(self.workers)]
         splits = []
         for s in range(self.splits):
             splits.append(" ".join([f"split s{s} {self.bytes[s]}", *(f"w{h}" for h in self.holders[s])]))
+        return racks, workers, splits
+
+    def lines(self, rnd):
+        """The lines of the text; head lines stand in one of the orders that declare names before their use."""
+        racks, workers, splits = self.cluster()
         marks = [f"dead w{w}" for w in range(self.workers) if not self.live[w]]
         marks += [f"busy s{s}" for s in range(self.splits) if not self.pending[s]]
         marks += [f"barred s{s} w{w}" for s, w in self.barred]
@@ -121,7 +140,7 @@ class Scenario:
         prices += [f"price w{w} {self.worker_price[w]}" for w in range(self.workers)]
         plan = [f"start s{s} w{w}" for s, w in enumerate(self.starts) if w is not None] + prices
         rnd.shuffle(plan)
-        return ["problem 1", *racks, *workers, *splits, *marks, "plan", *plan, "end"]
+        return [f"problem {self.version}", *racks, *workers, *splits, *marks, "plan", *plan, "end"]
 
 
 def text_of(lines):
@@ -199,6 +218,63 @@ def faulty_problem(rnd):
     return spoiled(rnd, head(rnd))
 
 
+def command(rnd, scenario, attempts):
+    """A command that may say something, with numbers of attempts up to these."""
+    w, s = lambda: f"w{rnd.randrange(scenario.workers)}", lambda: f"s{rnd.randrange(scenario.splits)}"
+    names = [f"s{split}" for split in range(scenario.splits)]
+    some = lambda: " ".join(rnd.sample(names, min(len(names), rnd.choice([0, 0, 1, 2]))))
+    pair = lambda word: lambda: f"{word} {s()} {w()}"
+    number = lambda word: lambda: f"{word} {rnd.randint(0, attempts)}"
+    counts = lambda: " ".join(str(rnd.choice([0, 1, rnd.randrange(9)])) for _ in range(scenario.workers))
+    kinds = [lambda: "wave", lambda: "reduce", lambda: "copies"]
+    kinds += [number("done")] * 3 + [number("fail"), number("withdraw")]
+    if scenario.workers:
+        kinds += [lambda: f"die {w()}", lambda: f"sweep {counts()}", lambda: f"join {w()} {some()}".strip()] * 2
+        if scenario.splits:
+            kinds += [pair("add"), pair("add"), pair("lose")] + [pair("backup")] * 3 * (scenario.version == 2)
+    return rnd.choice(kinds)()
+
+
+def script_lines(rnd):
+    """The lines of a script: commands in any order, and then, in most, such as bring the job to its end."""
+    scenario = Scenario(rnd)
+    scenario.splits = min(scenario.splits, 5)
+    racks, workers, splits = scenario.cluster()
+    settings = [(f"parts {rnd.randint(1, 4)}", 0.8), (f"target {rnd.randint(1, 8)}", 0.5), ("silence 2", 0.5)]
+    settings = [line for line, share in settings if rnd.random() < share]
+    words = ["cat", "dog", "the", "The", "one", "two", "two,", "x1y", "--", ""]
+    documents = []
+    for number in range(rnd.randint(0, 6) if scenario.splits else 0):
+        text = " ".join(rnd.choice(words) for _ in range(rnd.randint(0, 5)))
+        documents.append(f"doc d{number} s{rnd.randrange(scenario.splits)}{rnd.choice(['', ' ' + text, ' ' + text])}")
+    commands, attempts = [], 4 + 2 * scenario.splits
+    for _ in range(rnd.choice([0, 5, 15, 30])):
+        commands.append(command(rnd, scenario, attempts))
+    if rnd.random() < 0.8 and scenario.workers:
+        commands += [f"join w{w}" for w in range(scenario.workers)]
+        commands += [f"add s{s} w{rnd.randrange(scenario.workers)}" for s in range(scenario.splits)]
+        for _ in range(rnd.randint(1, 5)):
+            commands += ["wave", *(f"done {attempt}" for attempt in range(1, attempts))]
+        for _ in range(rnd.randint(1, 8)):
+            commands += ["reduce", *(f"done {attempt}" for attempt in range(1, attempts))]
+            if rnd.random() < 0.3:
+                commands.append(command(rnd, scenario, attempts))
+    head = [*racks, *workers, *splits, *documents]
+    for line in settings:
+        head.insert(rnd.randint(0, len(head)), line)
+    return [f"script {scenario.version}", *head, "begin", *commands, "end"]
+
+
+def script(rnd):
+    """A script without a fault."""
+    return text_of(script_lines(rnd))
+
+
+def faulty_script(rnd):
+    """A script in which a line or a byte was spoiled."""
+    return spoiled(rnd, script_lines(rnd))
+
+
 def spoiled(rnd, lines):
     for _ in range(rnd.choice([0, 1, 1, 1, 2, 3])):
         if lines:
@@ -242,6 +318,8 @@ KINDS = {
     "changed": changed,
     "faulty": faulty,
     "problem": problem,
+    "script": script,
+    "faulty_script": faulty_script,
     "faulty_problem": faulty_problem,
     "large": large,
 }

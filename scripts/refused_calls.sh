@@ -89,6 +89,10 @@ sweep_test() { # TESTS NAME
 
 sweep_test crates/network_tests/out/network_tests_tests flows::refused_arcs_leave_no_trace
 sweep_test crates/word_tests/out/word_tests_tests indexes::a_refused_allocation_is_told
+for name in commit_changes_nothing reduce_start_changes_nothing; do
+    sweep_test crates/master_tests/out/master_tests_tests "refusals::a_refused_$name"
+done
+sweep_test crates/master_tests/out/master_tests_tests refusals::refused_readers_change_nothing
 sweep_test crates/thread_tests/out/thread_tests_tests boards::a_refused_board_leaves_no_trace
 sweep_test crates/thread_tests/out/thread_tests_tests lanes::a_refused_close_gives_all_back
 

@@ -1,0 +1,292 @@
+"""What a text declares, or its least fault: an independent reference for tests, of the three kinds of text.
+
+It is written from the definitions of docs/MODEL.md, the plain way, and shares nothing with the program. A text is read
+for a command: check, plan, play or run.
+"""
+import re
+
+NAME = re.compile(rb"[A-Za-z][A-Za-z0-9._-]{0,31}")
+NUMBER = re.compile(rb"0|[1-9][0-9]*")
+MAX_TEXT_BYTES = 16_777_216
+MAX_HOLDERS = 8
+MAX_COMMANDS = 65_536
+# How many of a kind a text declares at most; a job has fewer workers.
+MOST = {"centre": 8, "rack": 32, "worker": 256, "split": 1024, "doc": 65_536}
+MOST_WORKERS_OF_A_JOB = 32
+FIRST = {"check": b"problem", "plan": b"problem", "play": b"script", "run": b"job"}
+# The places after a keyword: a name, a number, any count of names or of numbers, or a name and a free text. A rack has
+# its centre in version 2.
+SHAPES = {
+    b"problem": "9",
+    b"script": "9",
+    b"job": "9",
+    b"centre": "n",
+    b"rack": "n",
+    b"worker": "nn9",
+    b"split": "n9*",
+    b"barred": "nn",
+    b"dead": "n",
+    b"busy": "n",
+    b"parts": "9",
+    b"target": "9",
+    b"silence": "9",
+    b"doc": "nnt",
+    b"plan": "",
+    b"start": "nn",
+    b"price": "n9",
+    b"begin": "",
+    b"wave": "",
+    b"done": "9",
+    b"fail": "9",
+    b"withdraw": "9",
+    b"die": "n",
+    b"join": "n*",
+    b"add": "nn",
+    b"lose": "nn",
+    b"sweep": "+",
+    b"reduce": "",
+    b"copies": "",
+    b"backup": "nn",
+    b"end": "",
+}
+ANY_HEAD = (b"centre", b"rack", b"worker", b"split")
+HEAD = {
+    "check": (*ANY_HEAD, b"barred", b"dead", b"busy", b"plan"),
+    "plan": (*ANY_HEAD, b"barred", b"dead", b"busy", b"end"),
+    "play": (*ANY_HEAD, b"parts", b"target", b"silence", b"doc", b"begin"),
+    "run": (*ANY_HEAD, b"parts", b"target", b"silence", b"doc", b"end"),
+}
+COMMANDS = (
+    b"wave", b"done", b"fail", b"withdraw", b"die", b"join", b"add", b"lose", b"sweep", b"reduce", b"copies", b"backup",
+)
+BODY = {"check": (b"start", b"price", b"end"), "play": (*COMMANDS, b"end")}
+SECOND_VERSION = (b"centre", b"backup")
+SETTINGS = (b"parts", b"target", b"silence")
+# The least and the greatest number of a line.
+RANGES = {
+    b"problem": (1, 2),
+    b"script": (1, 2),
+    b"job": (1, 2),
+    b"worker": (0, 16),
+    b"split": (0, 67_108_864),
+    b"price": (0, 2**64 - 1),
+    b"parts": (1, 64),
+    b"target": (1, 8),
+    b"silence": (1, 1000),
+    b"done": (0, 1_000_000),
+    b"fail": (0, 1_000_000),
+    b"withdraw": (0, 1_000_000),
+    b"sweep": (0, 2**40),
+}
+# The kinds of the names that a line uses, after the name that it declares.
+USES = {
+    b"worker": ("rack",),
+    b"barred": ("split", "worker"),
+    b"dead": ("worker",),
+    b"busy": ("split",),
+    b"doc": ("split",),
+    b"start": ("split", "worker"),
+    b"die": ("worker",),
+    b"add": ("split", "worker"),
+    b"lose": ("split", "worker"),
+    b"backup": ("split", "worker"),
+}
+
+
+class Fault(Exception):
+    def __init__(self, line, number):
+        super().__init__(f"line {line}: fault {number}")
+
+
+class Given:
+    """What the lines so far declare. Names of a kind are numbered in order of declaration."""
+
+    def __init__(self, command):
+        self.command = command
+        self.lines = 0
+        self.version = 1
+        self.section = "head"
+        self.numbers = {"centre": {}, "rack": {}, "worker": {}, "split": {}, "doc": {}}
+        self.centre_of, self.rack_of = [], []
+        self.slots, self.bytes, self.holders = [], [], []
+        self.barred, self.dead, self.busy = set(), set(), set()
+        self.settings = {}
+        self.documents = []
+        self.starts, self.prices = {}, {}
+        self.commands = []
+
+    def knows(self, kind, name):
+        return name in self.numbers[kind]
+
+    def is_taken(self, name):
+        return any(name in names for names in self.numbers.values())
+
+    def most(self, kind):
+        return MOST_WORKERS_OF_A_JOB if (kind, self.command) == ("worker", "run") else MOST[kind]
+
+    def setting(self, name, otherwise):
+        return self.settings.get(name, otherwise)
+
+
+def shape_of(given, keyword):
+    if keyword == b"rack" and given.version == 2:
+        return "nn"
+    return SHAPES.get(keyword)
+
+
+def cut(line, shape):
+    """The keyword and the words after it, and the free text of a document, which may hold any spaces."""
+    if not shape.endswith("t"):
+        keyword, *words = line.split(b" ")
+        return words, None
+    keyword, *words = line.split(b" ", len(shape))
+    return words[: len(shape) - 1], words[len(shape) - 1] if len(words) == len(shape) else b""
+
+
+def spelled(given, line):
+    """The keyword, the words after it and their places, and the free text; None where the line has not its shape."""
+    keyword = line.split(b" ", 1)[0]
+    shape = shape_of(given, keyword)
+    if shape is None:
+        return None
+    words, text = cut(line, shape)
+    if b"" in words:
+        return None
+    shape = shape.rstrip("t")
+    if shape.endswith("*"):
+        shape = shape[:-1] + "n" * (len(words) - len(shape) + 1)
+    if shape == "+":
+        shape = "9" * len(given.numbers["worker"])
+    if len(words) != len(shape):
+        return None
+    if any(place == "9" and not NUMBER.fullmatch(word) for place, word in zip(shape, words)):
+        return None
+    return keyword, words, shape, text
+
+
+def value(word):
+    """The number that digits stand for; past twenty digits, some number above every range."""
+    return int(word) if len(word) <= 20 else 10**20
+
+
+def may_stand(given, keyword):
+    first = FIRST[given.command]
+    if given.lines == 0 or keyword in FIRST.values():
+        return given.lines == 0 and keyword == first
+    if keyword in SECOND_VERSION and given.version == 1:
+        return False
+    places = HEAD if given.section == "head" else BODY
+    return keyword in places[given.command]
+
+
+def uses_of(given, keyword, names):
+    """The kind and name of each use."""
+    if keyword == b"split":
+        return [("worker", name) for name in names[1:]]
+    if keyword == b"join":
+        return [("worker", names[0])] + [("split", name) for name in names[1:]]
+    if keyword == b"rack":
+        return [("centre", name) for name in names[1:]]
+    declares = 1 if keyword.decode() in given.numbers else 0
+    return list(zip(USES.get(keyword, ()), names[declares:]))
+
+
+def faults(given, keyword, words, shape):
+    """The faults 2 to 6 and 8 to 10 of a line that may stand where it does."""
+    found = set()
+    names = [word for word, place in zip(words, shape) if place == "n"]
+    numbers = [value(word) for word, place in zip(words, shape) if place == "9"]
+    if not all(NAME.fullmatch(name) for name in names):
+        found.add(2)
+    if not all(given.knows(kind, name) for kind, name in uses_of(given, keyword, names)):
+        found.add(3)
+    if keyword == b"price" and not (given.knows("split", names[0]) or given.knows("worker", names[0])):
+        found.add(3)
+    kind = keyword.decode()
+    if kind in MOST:
+        if given.is_taken(names[0]):
+            found.add(4)
+        if len(given.numbers[kind]) >= given.most(kind):
+            found.add(6)
+    declared = {b"barred": given.barred, b"dead": given.dead, b"busy": given.busy}
+    if tuple(names) in declared.get(keyword, ()) or keyword in given.settings:
+        found.add(4)
+    if keyword in RANGES:
+        least, greatest = RANGES[keyword]
+        if not all(least <= number <= greatest for number in numbers):
+            found.add(5)
+    if keyword == b"split" and len(names) - 1 > MAX_HOLDERS:
+        found.add(6)
+    if keyword in COMMANDS and len(given.commands) >= MAX_COMMANDS:
+        found.add(6)
+    if keyword in (b"split", b"join") and len(set(names[1:])) < len(names) - 1:
+        found.add(8)
+    if keyword == b"start" and names[0] in given.starts or keyword == b"price" and names[0] in given.prices:
+        found.add(9)
+    if keyword == b"end" and given.command == "check":
+        wanted = [*given.numbers["split"], *given.numbers["worker"]]
+        if any(name not in given.prices for name in wanted):
+            found.add(10)
+    return found
+
+
+def enter(given, keyword, words, text):
+    """Takes a line without a fault."""
+    given.lines += 1
+    kind = keyword.decode()
+    if kind in given.numbers:
+        given.numbers[kind][words[0]] = len(given.numbers[kind])
+    if keyword in FIRST.values():
+        given.version = int(words[0])
+    elif keyword == b"rack":
+        given.centre_of.append(given.numbers["centre"][words[1]] if given.version == 2 else 0)
+    elif keyword == b"worker":
+        given.rack_of.append(given.numbers["rack"][words[1]])
+        given.slots.append(int(words[2]))
+    elif keyword == b"split":
+        given.bytes.append(int(words[1]))
+        given.holders.append([given.numbers["worker"][name] for name in words[2:]])
+    elif keyword in (b"barred", b"dead", b"busy"):
+        {b"barred": given.barred, b"dead": given.dead, b"busy": given.busy}[keyword].add(tuple(words))
+    elif keyword in SETTINGS:
+        given.settings[keyword] = int(words[0])
+    elif keyword == b"doc":
+        given.documents.append((given.numbers["split"][words[1]], text))
+    elif keyword in (b"plan", b"begin"):
+        given.section = "body"
+    elif keyword == b"start":
+        given.starts[words[0]] = words[1]
+    elif keyword == b"price":
+        given.prices[words[0]] = int(words[1])
+    elif keyword in COMMANDS:
+        given.commands.append((kind, words))
+    elif keyword == b"end":
+        given.section = "ended"
+
+
+def read(text, command):
+    """What a text declares; raises its least fault, by line and then by number."""
+    if len(text) > MAX_TEXT_BYTES:
+        raise Fault(0, 11)
+    *lines, rest = text.split(b"\n")
+    given = Given(command)
+    for at, line in enumerate(lines, 1):
+        if any(not 32 <= byte <= 126 for byte in line):
+            raise Fault(at, 13)
+        if given.section == "ended":
+            raise Fault(at, 14)
+        said = spelled(given, line)
+        if said is None:
+            raise Fault(at, 1)
+        keyword, words, shape, free = said
+        if not may_stand(given, keyword):
+            raise Fault(at, 7)
+        found = faults(given, keyword, words, shape)
+        if found:
+            raise Fault(at, min(found))
+        enter(given, keyword, words, free)
+    if rest:
+        raise Fault(len(lines) + 1, 12)
+    if given.section != "ended":
+        raise Fault(len(lines) + 1, 7)
+    return given
