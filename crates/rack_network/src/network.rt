@@ -45,30 +45,7 @@ pub fn build(alloc: Global, problem: &Problem) -> Result<Network<RackLayout>, Al
 fn know_tree(problem: &Problem)
     ensures { IsTree problem.now }
 {
-    know_racks(problem);
-    know_centres(problem);
-}
-
-// That each rack stands in one of the centres, which the tree says of one rack at a time.
-fn know_centres(problem: &Problem)
-    ensures { (r : ℕ) → r < length problem.now.tree.centre_of
-        → centre_of problem.now r < problem.now.tree.centres }
-{
-    let tree = problem.tree();
-    for i in 0..tree.racks() {
-        let _centre = tree.centre_of(RackNo::new(i as u16));
-    }
-}
-
-// That each worker stands in one of the racks.
-fn know_racks(problem: &Problem)
-    ensures { (w : ℕ) → w < length problem.now.workers
-        → rack_of problem.now w < length problem.now.tree.centre_of }
-{
-    let tree = problem.tree();
-    for i in 0..problem.workers() {
-        let _rack = tree.rack_of(WorkerNo::new(i as u16));
-    }
+    problem.limits();
 }
 
 // Adds the rows of the splits.

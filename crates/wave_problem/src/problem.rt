@@ -4,6 +4,7 @@ ghost use Rattle.rack_tree.specs.Tree.{distance};
 ghost use Rattle.rack_tree.specs.declared.TheConstants.{MAX_DISTANCE, MAX_WORKERS};
 ghost use Rattle.wave_problem.specs.declared.TheConstants.{MAX_SPLITS, MAX_HOLDERS, MAX_SLOTS, MAX_BYTES};
 ghost use Rattle.wave_problem.specs.Sums.{least};
+ghost use Rattle.rack_tree.specs.View as tree;
 ghost use Rattle.wave_problem.specs.Wave.{cost, live_among, live_holders, reward, split_at, wave_from, worker_at, worker_in, AreHeldWell, AreSmall, IsAdmissible, IsWithinLimits};
 
 use crate::lines::{SplitLine, SplitRef, WorkerLine, are_held_well, are_small};
@@ -155,6 +156,14 @@ impl Problem {
             splits,
             barred,
         })
+    }
+
+    /// What holds of every problem, and of its tree.
+    pub fn limits(&self)
+        ensures problem { IsWithinLimits self.now }
+        ensures tree { tree.IsWithinLimits self.now.tree }
+    {
+        self.tree.limits();
     }
 
     /// The racks and the rack of each worker.
