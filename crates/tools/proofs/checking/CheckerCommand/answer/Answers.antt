@@ -1,6 +1,6 @@
 use Rattle.std.proofs.Common.{string_bytes}
 use Rattle.line_rules.specs.declared.purpose.Purpose.TheVariants.{Checking}
-use Rattle.tools.proofs.LeastFault.{tells_least}
+use Rattle.fault_answers.proofs.LeastFault.{tells_least}
 use Rattle.tools.proofs.checking.CheckerCommand.answer.Goals as goal
 
 pub returns-in_ok-line-in-Err : goal.returns-in_ok-line-in-Err
