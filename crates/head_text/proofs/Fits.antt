@@ -20,7 +20,6 @@ use Rattle.plan_text.proofs.Parts.{all_held, all_small}
 use Rattle.plan_text.proofs.Words.{tidy_workers}
 use Rattle.head_text.specs.Documents.{documents_of, text_of}
 use Rattle.head_text.specs.Heads.{IsFitHead, MakesHead, slots_told}
-use Rattle.head_text.specs.Settings.{setting}
 use Rattle.head_text.specs.declared.heads.Head.{Head}
 use Rattle.head_text.proofs.Lines.{parts_within, silence_within, told_within}
 

@@ -1,6 +1,6 @@
 -- The documents of each split, one line more.
-use Rattle.std.proofs.Common.{ℕ, List, [], ◌∷◌, ◌++◌, ◌≡◌, ◌≢◌, ◌<◌, ◌≤◌, ◌+◌, ◌∙◌, Bool, true, false, Vec, inl, inr}
-use Rattle.std.proofs.Common.{ap, append-nil, arith, cond, get_or, length, map, refl, set, suc, sym, replicate, take}
+use Rattle.std.proofs.Common.{ℕ, List, [], ◌∷◌, ◌++◌, ◌≡◌, ◌≢◌, ◌<◌, ◌+◌, ◌∙◌, Bool, true, false, Vec, inl, inr}
+use Rattle.std.proofs.Common.{ap, append-nil, arith, cond, get_or, length, map, refl, set, sym, replicate}
 use Rattle.std.specs.List.{AllPairs, Contains, enumerate_from, filter}
 use Rattle.std.specs.Str.{bytes_eq}
 use Rattle.std.specs.declared.alloc.Global.{Global}
@@ -20,13 +20,10 @@ use Rattle.head_text.specs.Documents.{document_of, documents_of, is_in}
 abbrev pub items_of : List (Vec Document Global) → List (List Document)
 items_of lists = map (λ list. list.items) lists
 
-enumerate_push : {X : Type 0} (n : ℕ) (xs : List X) (x : X)
-    → enumerate_from n (xs ++ x ∷ []) ≡ enumerate_from n xs ++ (n + length xs, x) ∷ []
-enumerate_push {X = X} n [] x = let here : n ≡ n + 0 = omega arith in ap (λ (i : ℕ). (i, x) ∷ []) here
-enumerate_push {X = X} n (y ∷ ys) x =
-    let next : (n + 1) + length ys ≡ n + suc (length ys) = omega arith in
-    ap (λ l. (n, y) ∷ l) (enumerate_push (n + 1) ys x
-    ∙ ap (λ (i : ℕ). enumerate_from (n + 1) ys ++ (i, x) ∷ []) next)
+enumerate_push : {X : Type 0} (n j : ℕ) (xs : List X) (x : X) → n + length xs ≡ j
+    → enumerate_from n (xs ++ x ∷ []) ≡ enumerate_from n xs ++ (j, x) ∷ []
+enumerate_push n j [] x is = let here : n ≡ j = omega (arith, is) in ap (λ i. (i, x) ∷ []) here
+enumerate_push n j (y ∷ ys) x is = ap (λ l. (n, y) ∷ l) (enumerate_push (n + 1) j ys x (omega (arith, is)))
 
 -- the line's document goes to the split that it names
 documents_more : (lines : List Statement) (line : Statement) (split : Word) (b : Bool)
@@ -34,17 +31,17 @@ documents_more : (lines : List Statement) (line : Statement) (split : Word) (b :
     → documents_of (lines ++ line ∷ []) split
     ≡ documents_of lines split ++ cond b (document_of (length lines, line) ∷ []) []
 documents_more lines line split b is =
-    ap (λ l. map document_of (filter (is_in split) l)) (enumerate_push 0 lines line)
-    ∙ ap (map document_of) (filter-append (is_in split) (enumerate_from 0 lines) ((0 + length lines, line) ∷ []))
-    ∙ map-append document_of (filter (is_in split) (enumerate_from 0 lines))
-    (filter (is_in split) ((0 + length lines, line) ∷ []))
+    let last : List (ℕ × Statement) = (length lines, line) ∷ [] in
+    ap (λ l. map document_of (filter (is_in split) l)) (enumerate_push 0 (length lines) lines line (omega arith))
+    ∙ ap (map document_of) (filter-append (is_in split) (enumerate_from 0 lines) last)
+    ∙ map-append document_of (filter (is_in split) (enumerate_from 0 lines)) (filter (is_in split) last)
     ∙ ap (λ l. documents_of lines split ++ l) (one b is)
   where
     one : (b : Bool) → bytes_eq split (word_at 1 line) ≡ b
-        → map document_of (filter (is_in split) ((0 + length lines, line) ∷ []))
+        → map document_of (filter (is_in split) ((length lines, line) ∷ []))
         ≡ cond b (document_of (length lines, line) ∷ []) []
-    one true is = ap (λ c. map document_of (cond c ((0 + length lines, line) ∷ []) [])) is
-    one false is = ap (λ c. map document_of (cond c ((0 + length lines, line) ∷ []) [])) is
+    one true is = ap (λ c. map document_of (cond c ((length lines, line) ∷ []) [])) is
+    one false is = ap (λ c. map document_of (cond c ((length lines, line) ∷ []) [])) is
 
 apart : (names : List Word) → AllPairs (λ a b. a ≢ b) names → (i j : ℕ) (d : Word) → i < length names
     → j < length names → i ≢ j → get_or names i d ≢ get_or names j d

@@ -1,6 +1,7 @@
 -- What the rows of a text without a fault come to, for documents and settings.
-use Rattle.std.proofs.Common.{ℕ, List, [], ◌∷◌, ◌≡◌, ◌≢◌, ◌≤◌, ◌∙◌, ap, arith, get_or, length, refl, sym}
-use Rattle.std.specs.List.{All, AllPairs, Contains}
+use Rattle.std.proofs.Common.{ℕ, List, [], ◌∷◌, ◌≡◌, ◌≢◌, ◌≤◌, ◌<◌, ◌∙◌, Some, ap, arith, get_or, length, map, refl}
+use Rattle.std.proofs.Common.{subst, sym}
+use Rattle.std.specs.List.{All, AllPairs, Contains, slice_get}
 use Rattle.std.proofs.lemmas.List.Elements.{filter_passes}
 use Rattle.std.proofs.lemmas.List.Kept.{AllPairs-filter}
 use Rattle.text_lines.specs.Texts.{Word}
@@ -12,7 +13,8 @@ use Rattle.line_shapes.proofs.Mapped.{AllPairs-map, AllPairs-unmap}
 use Rattle.line_rules.specs.Entering.{entering_of, key_of}
 use Rattle.line_rules.specs.Known.{is_of, keys_of, rows_of}
 use Rattle.line_rules.specs.declared.entering.Entering.TheVariants.{Word as ByWord}
-use Rattle.plan_text.specs.Names.{names_of, word_at}
+use Rattle.line_rules.specs.declared.rows.Row.{Row}
+use Rattle.plan_text.specs.Names.{names_of, said_in, word_at}
 use Rattle.plan_text.specs.Tidy.{AreTidy, IsTidyRow}
 use Rattle.plan_text.proofs.Named.{key_by_word, keyword_of, row_named}
 use Rattle.plan_text.proofs.Words.{each_of_keyword, line}
@@ -78,3 +80,17 @@ told_within least most n [] within low high = (low, high)
 told_within least most n (s ∷ ss) within low high =
     let here = within 0 s (omega arith) in
     (here.1, here.2)
+
+-- the first of these rows, as the line that it is
+module _ (rows : List Row) (lines : List Statement) (row : Row) (same : map said_in rows ≡ lines)
+    (first : Some row ≡ slice_get rows 0) where
+  pub first_is_setting : All IsSetting lines → IsSetting (said_in row)
+  first_is_setting settings = by rows same first
+    where
+      by : (rs : List Row) → map said_in rs ≡ lines → Some row ≡ slice_get rs 0 → IsSetting (said_in row)
+      by [] is found = absurd cc
+      by (r ∷ rs) is found =
+          let here : r ≡ row = cc in
+          let some : 0 < length lines = omega (arith, ap length is) in
+          subst IsSetting (ap (λ l. get_or l 0 (said_in r)) (sym is) ∙ ap said_in here)
+          (settings 0 (said_in r) some)

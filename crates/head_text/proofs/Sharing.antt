@@ -1,6 +1,6 @@
 -- A text for each list of documents, one list more.
-use Rattle.std.proofs.Common.{ℕ, List, [], ◌∷◌, ◌++◌, ◌≡◌, ◌<◌, ◌≤◌, ◌+◌, ◌∙◌, Vec, ap, append_assoc, arith, length, map}
-use Rattle.std.proofs.Common.{length-append, subst, sym}
+use Rattle.std.proofs.Common.{ℕ, List, [], ◌∷◌, ◌++◌, ◌≡◌, ◌≤◌, ◌+◌, ◌∙◌, Vec, ap, append_assoc, arith, length, map}
+use Rattle.std.proofs.Common.{length-append}
 use Rattle.std.specs.Arc.{arc_value}
 use Rattle.std.specs.List.{enumerate_from}
 use Rattle.std.specs.declared.alloc.Global.{Global}

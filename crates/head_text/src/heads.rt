@@ -41,13 +41,17 @@ pub fn build_head(alloc: Global, rows: &Rows<'_>) -> Result<Head, AllocError>
 {
     let worker_rows = rows_of(alloc, rows, Keyword::Worker)?;
     let workers = names_of(alloc, rows, Keyword::Worker)?;
+    let tree = build_tree(alloc, rows, &worker_rows)?;
+    let slots = build_slots(alloc, &worker_rows)?;
+    let splits = build_split_lines(alloc, rows, &workers)?;
+    let texts = build_texts(alloc, rows)?;
     let parts = setting_of(alloc, rows, Keyword::Parts, 1)?;
     let silence = setting_of(alloc, rows, Keyword::Silence, 3)?;
     Ok(Head {
-        tree: build_tree(alloc, rows, &worker_rows)?,
-        slots: build_slots(alloc, &worker_rows)?,
-        splits: build_split_lines(alloc, rows, &workers)?,
-        texts: build_texts(alloc, rows)?,
+        tree,
+        slots,
+        splits,
+        texts,
         parts: parts as usize,
         silence: silence as u32,
     })
