@@ -1,4 +1,4 @@
-ghost use Rattle.std.specs.Prelude.{◌≡◌, ⊤, IfOk, string_bytes};
+ghost use Rattle.std.specs.Prelude.{◌≡◌, ◌≢◌, ⊤, Err, IfOk, string_bytes};
 ghost use Rattle.std.specs.Thread.{IsSync};
 ghost use Rattle.price_certificate.specs.Certificate.{HasOneSize, claim};
 ghost use Rattle.certificate_checker.specs.Verdict.{IsVerdict};
@@ -27,6 +27,7 @@ pub fn check<R: Read, W: Write>(
 ) -> Result<CheckEnd, ToolError>
     ensures ran { HasRun CheckAnswer NoText (R.remaining reader.old) (R.remaining reader.new)
         (W.contents writer.old) (W.contents writer.new) result }
+    ensures never_full { result ≢ Err ToolError.HistoryFull }
 {
     run_command(&Checker(OneThread), alloc, reader, writer)
 }
@@ -41,6 +42,7 @@ pub fn check_on<R: Read, W: Write>(
 ) -> Result<CheckEnd, ToolError>
     ensures ran { HasRun CheckAnswer NoText (R.remaining reader.old) (R.remaining reader.new)
         (W.contents writer.old) (W.contents writer.new) result }
+    ensures never_full { result ≢ Err ToolError.HistoryFull }
 
     // The answer to a text is the only one.
     ensures same { WroteItsAnswer CheckAnswer (λ end other. end ≡ other) (λ written line. written ≡ line)

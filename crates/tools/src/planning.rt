@@ -1,4 +1,4 @@
-ghost use Rattle.std.specs.Prelude.{◌≡◌, IfOk, length, string_bytes};
+ghost use Rattle.std.specs.Prelude.{◌≡◌, ◌≢◌, Err, IfOk, length, string_bytes};
 ghost use Rattle.text_reading.specs.Running.{HasRun, NoText};
 ghost use Rattle.tools.specs.PlanAnswer.{AnyLines, PlanAnswer, PlansProblem};
 ghost use Rattle.tools.specs.OneAnswer.{one_plan_answer};
@@ -24,9 +24,10 @@ pub fn plan<R: Read, W: Write>(
     writer: &mut W,
     options: PlanOptions,
 ) -> Result<PlanEnd, ToolError>
-    ensures { HasRun (λ text. PlanAnswer text options.prices) NoText
+    ensures ran { HasRun (λ text. PlanAnswer text options.prices) NoText
         (R.remaining reader.old) (R.remaining reader.new)
         (W.contents writer.old) (W.contents writer.new) result }
+    ensures never_full { result ≢ Err ToolError.HistoryFull }
 {
     run_command(&Planner(options), alloc, reader, writer)
 }
