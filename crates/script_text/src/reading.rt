@@ -13,7 +13,7 @@ use crate::commands::commands_of;
 use crate::heads::{all_names, target_of};
 use crate::script::{JobText, Script, ScriptText};
 use head_text::build_head;
-use line_rules::{KnownLines, Purpose, ReadingError, Rows, read_lines};
+use line_rules::{KnownLines, Purpose, ReadingError, read_lines};
 use std::alloc::{AllocError, Global};
 
 /// The head and the script that a text declares, or the text's least fault. It borrows its names from the
@@ -37,7 +37,7 @@ pub fn read_job(alloc: Global, text: &[u8]) -> Result<JobText<'_>, ReadingError>
     ensures err { IfErr result (IsReadingError Running text.entry.now) }
 {
     let known = read_lines(alloc, Purpose::Running, text)?;
-    match job_of(alloc, known.rows()) {
+    match job_of(alloc, &known) {
         Ok(job) => Ok(job),
         Err(_) => Err(ReadingError::Memory),
     }
@@ -64,17 +64,17 @@ fn script_of<'t>(alloc: Global, known: &KnownLines<'t>) -> Result<ScriptText<'t>
 }
 
 // What the lines of a job declare.
-fn job_of<'t>(alloc: Global, rows: &Rows<'t>) -> Result<JobText<'t>, AllocError>
-    requires tidy { AreTidy rows.now }
-    requires few_documents { length (rows_of Doc rows.now) ≤ 65536 }
-    ensures names { IfOk result (λ job. AreNames rows.now job.names) }
-    ensures target { IfOk result (λ job. job.target ≡ setting Target 3 rows.now) }
-    ensures head { IfOk result (λ job. MakesHead rows.now job.head) }
+fn job_of<'t>(alloc: Global, known: &KnownLines<'t>) -> Result<JobText<'t>, AllocError>
+    requires tidy { AreTidy known.now.rows }
+    requires few_documents { length (rows_of Doc known.now.rows) ≤ 65536 }
+    ensures names { IfOk result (λ job. AreNames known.now.rows job.names) }
+    ensures target { IfOk result (λ job. job.target ≡ setting Target 3 known.now.rows) }
+    ensures head { IfOk result (λ job. MakesHead known.now.rows job.head) }
     ensures fit { IfOk result (λ job. IsFitHead job.head) }
 {
-    let names = all_names(alloc, rows)?;
-    let target = target_of(alloc, rows)?;
-    let head = build_head(alloc, rows)?;
+    let names = all_names(alloc, known.rows())?;
+    let target = target_of(alloc, known.rows())?;
+    let head = build_head(alloc, known.rows())?;
     Ok(JobText {
         names,
         target,
