@@ -111,6 +111,7 @@ fn cluster_of(alloc: Global, head: Head) -> Result<Cluster, AllocError>
     match Cluster::new(alloc, tree, slots.as_slice(), splits, texts, parts, silence) {
         Ok(cluster) => Ok(cluster),
         Err(ClusterError::Memory) => Err(AllocError),
-        Err(ClusterError::Limit | ClusterError::Holder) => unreachable!(),
+        Err(ClusterError::Limit) => unreachable!(),
+        Err(ClusterError::Holder) => unreachable!(),
     }
 }
