@@ -7,7 +7,7 @@ ghost use Rattle.plan_text.specs.Tidy.{AreTidy};
 ghost use Rattle.head_text.specs.Heads.{IsFitHead, MakesHead};
 ghost use Rattle.head_text.specs.Settings.{setting};
 ghost use Rattle.script_text.specs.Heads.{AreNames};
-ghost use Rattle.script_text.specs.Scripts.{Declares, IsJobOf, IsScriptOf};
+ghost use Rattle.script_text.specs.Scripts.{Declares, IsJobOf, IsOfHead, IsScriptOf};
 
 use crate::commands::commands_of;
 use crate::heads::{all_names, target_of};
@@ -21,6 +21,7 @@ use std::alloc::{AllocError, Global};
 pub fn read_script(alloc: Global, text: &[u8]) -> Result<ScriptText<'_>, ReadingError>
     ensures ok { IfOk result (IsScriptOf text.entry.now) }
     ensures fit { IfOk result (λ value. IsFitHead value.head) }
+    ensures known { IfOk result (λ value. IsOfHead value.head value.script) }
     ensures err { IfErr result (IsReadingError Playing text.entry.now) }
 {
     let known = read_lines(alloc, Purpose::Playing, text)?;
