@@ -1,6 +1,7 @@
 #!/usr/bin/env python3
 """Shows the main job on two splits that want the same worker: the best plan with its prices, a check of prices, and
-what the check says of each split on its nearest free worker in turn. Then a program that plans by the library's calls.
+what the check says of each split on its nearest free worker in turn. Then a job whose worker dies, from its script to
+its index, and a program that plans by the library's calls.
 
 Where `make` has left bin/mrjob, and no source is younger, that is run, else the program built without its proofs.
 """
@@ -19,6 +20,7 @@ RUNS = [
     ("plan_swap", ["plan", "--prices"], 0, "t starts on its data, and s beside its own: 2 for each of its 10 bytes"),
     ("swap", ["check"], 0, "the same plan with other prices: they show that no plan is better"),
     ("nearest_first", ["check"], 1, "each split on its nearest free worker in turn costs 40, and no prices certify it"),
+    ("play_death", ["play"], 0, "a dies after its map was done: b maps the split again, reduces, and the index is whole"),
 ]
 
 

@@ -1,12 +1,13 @@
 #!/usr/bin/env python3
-"""Compares what built programs answer to made texts with what reference_check.py says of them.
+"""Compares what built programs answer to made texts with what reference_check.py and reference_play.py say of them.
 
     differential.py PROGRAM..
 
 The texts are the same in each run: those of `make_texts.py KIND SEED` for the seeds from 1, each front of one
 example, and texts at the limits on counts. A check's answer has to be the reference's. A plan with its prices, over
 either network, has to start as many splits at as little cost as any choice of starts, and to be certified by the
-reference; without prices its lines are the same up to them. The last line counts the groups of texts that agree.
+reference; without prices its lines are the same up to them. A script's report is followed command by command. The last
+line counts the groups of texts that agree.
 """
 import os
 import random
@@ -17,9 +18,11 @@ from concurrent.futures import ThreadPoolExecutor
 sys.dont_write_bytecode = True
 import make_texts
 from reference_check import answer, misplanned
+from reference_play import misplayed
 
 CHECKED = {"best": 120, "changed": 200, "faulty": 320}
 PLANNED = {"problem": 300, "faulty_problem": 200}
+PLAYED = {"script": 300, "faulty_script": 300}
 EXAMPLE = os.path.join(os.path.dirname(os.path.abspath(__file__)), "..", "examples", "swap.txt")
 
 
@@ -34,6 +37,8 @@ def groups():
         yield kind, wrong_check, made(kind, count)
     for kind, count in PLANNED.items():
         yield kind, wrong_plan, made(kind, count)
+    for kind, count in PLAYED.items():
+        yield kind, wrong_play, made(kind, count)
     with open(EXAMPLE, "rb") as file:
         text = file.read()
     yield "front", wrong_check, [(f"the first {n} bytes of swap.txt", text[:n]) for n in range(len(text))]
@@ -67,6 +72,12 @@ def wrong_plan_over(program, words, text):
 def wrong_plan(program, text):
     # (racks is what is taken where no network is named)
     return wrong_plan_over(program, ["plan"], text) or wrong_plan_over(program, ["plan", "--network", "direct"], text)
+
+
+def wrong_play(program, text):
+    said = said_by(program, ["play"], text)
+    wrong = misplayed(text, *said)
+    return f"it says {said}, but {wrong}" if wrong else None
 
 
 def main():

@@ -2,7 +2,7 @@
 """Makes texts for tests, the same ones for the same seed: problems, with plans and prices or without, and scripts.
 
     make_texts.py KIND SEED        writes one text; KIND is best, changed, faulty, problem, faulty_problem, script,
-                                   faulty_script or large
+                                   faulty_script, full or large
 """
 import random
 import sys
@@ -313,6 +313,18 @@ def large(rnd):
     return text_of(lines)
 
 
+def full(rnd):
+    """A script whose last wave starts more splits than the million attempts of a history leave: before each wave
+    every worker falls silent and joins again."""
+    workers, splits = [f"w{w}" for w in range(64)], [f"s{s}" for s in range(1024)]
+    head = ["script 1", "silence 1", "rack r", *(f"worker {name} r 16" for name in workers)]
+    head += [f"split {name} 1 w0" for name in splits]
+    again = [f"sweep {' '.join('0' for _ in workers)}", f"join w0 {' '.join(splits)}"]
+    again += [f"join {name}" for name in workers[1:]]
+    waves = 10**6 // len(splits) + 1
+    return text_of([*head, "begin", *["wave", *again] * (waves - 1), "wave", "end"])
+
+
 KINDS = {
     "best": best,
     "changed": changed,
@@ -321,6 +333,7 @@ KINDS = {
     "script": script,
     "faulty_script": faulty_script,
     "faulty_problem": faulty_problem,
+    "full": full,
     "large": large,
 }
 

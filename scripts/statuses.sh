@@ -47,10 +47,16 @@ for program in "$@"; do
     expect "help" "$(given --help < "$text")" 0 words nothing
     expect "help on a command" "$(given check --help < "$text")" 0 words nothing
     expect "help on planning" "$(given plan --help < "$text")" 0 words nothing
+    expect "help on playing" "$(given play --help < "$text")" 0 words nothing
     expect "an unknown option" "$(given plan --price < "$text")" 64 nothing words
     expect "an unknown network" "$(given plan --network ring < "$text")" 64 nothing words
     expect "a network for a check" "$(given check --network racks < "$text")" 64 nothing words
     expect "a plan in a text to plan from" "$(given plan < "$text")" 2 "line 7: fault 7" nothing
+    expect "a problem in place of a script" "$(given play < "$text")" 2 "line 1: fault 7" nothing
+    expect "an option for playing" "$(given play --prices < "$text")" 64 nothing words
+    expect "a script that is stuck" "$(given play < examples/play_no_commands.txt)" 1 "stuck 0" nothing
+    expect "a script that is done" "$(given play < examples/play_first.txt)" 0 "$(cat examples/play_first.out)" nothing
+    expect "more starts than the most attempts" "$(scripts/make_texts.py full 1 | given play)" 5 nothing "mrjob: history full"
     expect "a text that is too long" "$(head -c 16777217 /dev/zero | given check)" 2 "line 0: fault 11" nothing
     expect "a text that is far too long" "$(head -c 100000000 /dev/zero | given check)" 2 "line 0: fault 11" nothing
     for network in direct racks; do
@@ -60,6 +66,7 @@ for program in "$@"; do
         expect "a thousand splits far from their one host, $network" "$status" 0 "wave 1024 274877906944" nothing
     done
     expect "an input that cannot be read" "$(given check < /)" 4 nothing "mrjob: read fault"
+    expect "a script that cannot be read" "$(given play < /)" 4 nothing "mrjob: read fault"
     status=0
     "$program" check < "$text" > /dev/full 2> "$room/err" || status=$?
     : > "$room/out"

@@ -10,7 +10,7 @@ use Rattle.clap.specs.Kinds.{IsAmong, Kinds}
 use Rattle.clap.specs.declared.error.kind.ErrorKind.{ErrorKind}
 use Rattle.clap.specs.declared.error.kind.ErrorKind.TheVariants.{InvalidValue}
 use Rattle.command_line.specs.declared.asked.Ask.{Ask}
-use Rattle.command_line.specs.declared.asked.Ask.TheVariants.{Check, Plan}
+use Rattle.command_line.specs.declared.asked.Ask.TheVariants.{Check, Plan, Play}
 use Rattle.command_line.specs.declared.asked.AskError.{AskError}
 use Rattle.command_line.specs.declared.asked.AskError.TheVariants.{Fault, Memory}
 use Rattle.flow_network.specs.declared.NetworkKind.{NetworkKind}
@@ -39,13 +39,16 @@ check = new_app (codes "check")
 abbrev pub plan : App
 plan = with_rule (with_rule (new_app (codes "plan")) prices) network
 
+abbrev pub play : App
+play = new_app (codes "play")
+
 -- the program before it has commands; one of them has to be named
 abbrev pub program : App
 program = on_top (λ s. record s { subcommand_required = true }) (new_app (codes "mrjob"))
 
 -- the program with its commands, as clap is told of it
 abbrev pub mrjob : App
-mrjob = with_subcommand (with_subcommand program check.top) plan.top
+mrjob = with_subcommand (with_subcommand (with_subcommand program check.top) plan.top) play.top
 
 -- the command that clap finds in the words
 abbrev pub command_in : List Text → Option Text
@@ -74,6 +77,7 @@ faults_in words = fault_of mrjob words
 abbrev pub name_of : Ask → Text
 name_of Check = codes "check"
 name_of (Plan options) = codes "plan"
+name_of Play = codes "play"
 
 -- the words have a fault of this kind: one that clap finds, or a network that is none
 abbrev pub HasFault : List Text → ErrorKind → Type 0

@@ -7,6 +7,8 @@ pub enum Ask {
     Check,
     /// Plan a job's map starts.
     Plan(PlanOptions),
+    /// Play a script of a job.
+    Play,
 }
 
 /// How a plan is to be made and what is written of it.

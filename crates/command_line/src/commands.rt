@@ -1,25 +1,28 @@
 ghost use Rattle.std.specs.Prelude.{◌≡◌, IfOk};
 ghost use Rattle.clap.specs.Words.{app_of};
-ghost use Rattle.command_line.specs.Commands.{check, mrjob, plan};
+ghost use Rattle.command_line.specs.Commands.{check, mrjob, plan, play};
 
 use clap::{Arg, ArgAction, Command};
 use std::alloc::{AllocError, Global};
 
 const ABOUT: &str = "\
-Plans the map starts of a MapReduce job at the least byte-distance, and certifies plans by prices";
+Plans the map starts of a MapReduce job at the least byte-distance, certifies plans by prices, and plays
+scripts of a job";
 
 const STATUSES: &str = "\
 Statuses:
-  0   certified or planned, or help was asked for
-  1   refused by a condition
+  0   certified, planned or played until every part is done, or help was asked for
+  1   refused by a condition, or stuck: a script ended before every part was done
   2   the text has a fault
   3   no memory
   4   a read or a write failed
+  5   a wave of a script starts more splits than there are attempts left
   64  the words of the command line are wrong
 
 Examples:
   mrjob plan --prices < job.txt
-  mrjob check < plan.txt";
+  mrjob check < plan.txt
+  mrjob play < script.txt";
 
 const CHECK_ABOUT: &str = "Certifies a plan by its prices, or says which condition fails";
 
@@ -65,12 +68,53 @@ With --prices it is answered by:
   price s 41
   price a 0";
 
+const PLAY_ABOUT: &str = "Plays a script of a job's commands, and reports what each one did";
+
+const PLAY_TEXTS: &str = "\
+Input:   a script, as text on standard input: a cluster, its documents, and commands
+Output:  `accepted PLACE` or `ignored WHY` for each command, with the lines of what it did; at last
+         the index of the documents, or the splits that are not done; or `line LINE: fault NUMBER`
+Status:  0 every part is done, 1 stuck, 2 fault, 5 history full; `mrjob --help` has the others
+
+Example of an input:
+  script 1
+  rack r
+  worker a r 1
+  split s 10 a
+  doc d s The cat
+  begin
+  wave
+  done 1
+  reduce
+  done 2
+  end
+
+It is answered by:
+  accepted 1
+  wave 1 0
+  start 1 s a
+  accepted 2
+  accepted 3
+  reduce 2 0 a
+  accepted 4
+  index 2
+  word cat d
+  word the d";
+
 fn check_command<'a>(alloc: Global) -> Command<'a>
     ensures { app_of result ≡ check }
 {
     Command::new(alloc, "check")
         .about(CHECK_ABOUT)
         .after_help(CHECK_TEXTS)
+}
+
+fn play_command<'a>(alloc: Global) -> Command<'a>
+    ensures { app_of result ≡ play }
+{
+    Command::new(alloc, "play")
+        .about(PLAY_ABOUT)
+        .after_help(PLAY_TEXTS)
 }
 
 /// The command that plans.
@@ -103,5 +147,6 @@ pub(crate) fn all_commands<'a>(alloc: Global) -> Result<Command<'a>, AllocError>
         .after_help(STATUSES)
         .subcommand_required(true)
         .subcommand(check_command(alloc))?
-        .subcommand(plan)
+        .subcommand(plan)?
+        .subcommand(play_command(alloc))
 }

@@ -57,6 +57,7 @@ pub fn ask<'a>(alloc: Global, words: &'a [&'a str]) -> Result<Ask, AskError>
                     })),
                     None => Err(unknown_network(alloc)),
                 },
+                "play" => Ok(Ask::Play),
                 _ => unreachable!(),
             }
         }

@@ -3,3 +3,5 @@ pub mod Playing
 pub mod Given
 pub mod Handing
 pub mod Rooms
+pub mod PlayAnswer
+pub mod OneAnswer

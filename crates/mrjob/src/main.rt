@@ -1,12 +1,16 @@
 //! `mrjob`: plans the map starts of a MapReduce job, and proves each plan best.
 //!
-//! The commands stand in `tools`, whose contracts say what is written for what was read. `main` hands them
-//! the standard streams and turns how they end into a status and words on standard error, by the table of
-//! `tools::Ending`.
+//! The commands stand in `tools` and `job_run`, whose contracts say what is written for what was read. `main`
+//! hands them the standard streams and turns how they end into a status and words on standard error, by the
+//! table of `tools::Ending`.
 #![tactic(auto)]
+
+ghost use Rattle.std.specs.Prelude.{◌≡◌};
+ghost use Rattle.mrjob.specs.Ending.{ending_of_play};
 
 use command_line::ask;
 use command_line::asked::{Ask, AskError};
+use job_run::{PlayEnd, play};
 use std::process::ExitCode;
 use std::thread::Threads;
 use std::{env, io};
@@ -61,6 +65,18 @@ fn run_command(rt: &HostRuntime, threads: &(impl Threads + Sync), ask: Ask) -> E
     match ask {
         Ask::Check => Ending::of_check(check_on(threads, rt.alloc(), &mut input, &mut output)),
         Ask::Plan(options) => Ending::of_plan(plan(rt.alloc(), &mut input, &mut output, options)),
+        Ask::Play => of_play(play(rt.alloc(), &mut input, &mut output)),
+    }
+}
+
+// The end of a program whose playing ended so.
+fn of_play(end: Result<PlayEnd, ToolError>) -> Ending
+    ensures { result ≡ ending_of_play end }
+{
+    match end {
+        Ok(PlayEnd::Done) => Ending::Well,
+        Ok(PlayEnd::Stuck) => Ending::Stuck,
+        Err(error) => Ending::Failed(error),
     }
 }
 

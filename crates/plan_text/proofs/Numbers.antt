@@ -41,7 +41,7 @@ pub number_within : (names : List Word) (name : Word) → Contains names name
 number_within names name has = rw (number_is_first names name has) (first_within names name has)
 
 -- a number gives its name back
-name_of_number : (names : List Word) (name d : Word) → Contains names name
+pub name_of_number : (names : List Word) (name d : Word) → Contains names name
     → slice_index_or names (number_in names name) d ≡ name
 name_of_number names name d has =
     let passes = passes_at_first (bytes_eq name) names d (first_within names name has) in

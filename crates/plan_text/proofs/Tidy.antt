@@ -69,8 +69,8 @@ module _ (rows more : List Statement) where
   }
 
 -- no more lines of a keyword than there may be, and none entered twice
-record AreKept (purpose : Purpose) (rows : List Statement) : Type 0 where
-  few : (k : Keyword) → IsFew (most_of purpose k) (length (rows_of k rows))
+pub record AreKept (purpose : Purpose) (rows : List Statement) : Type 0 where
+  pub few : (k : Keyword) → IsFew (most_of purpose k) (length (rows_of k rows))
   differ : AllPairs (λ a b. a ≢ b) (keys_of rows)
   each : All (IsTidyRow rows) rows
 
@@ -154,7 +154,7 @@ tidy-entered k s whole fit kept = by (entering_of s.keyword) refl
 
 -- ---- all lines
 
-tidy-none : (purpose : Purpose) → AreKept purpose []
+pub tidy-none : (purpose : Purpose) → AreKept purpose []
 tidy-none purpose = record {
   few = λ k. by (most_of purpose k);
   differ = λ i j d lt inside. absurd (omega arith);
@@ -165,7 +165,7 @@ tidy-none purpose = record {
     by None = tt
     by (Some most) = omega arith
 
-kept-after : (k : Known) (ls : List Line) (ss : List Statement) → AreFitLines k ls ss → AreKept k.purpose k.rows
+pub kept-after : (k : Known) (ls : List Line) (ss : List Statement) → AreFitLines k ls ss → AreKept k.purpose k.rows
     → AreKept k.purpose (names_after k ss).rows
 kept-after k [] [] fits kept = kept
 kept-after k [] (s ∷ ss) fits kept = absurd fits

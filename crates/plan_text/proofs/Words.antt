@@ -14,11 +14,11 @@ use Rattle.plan_text.specs.Tidy.{IsTidyWorker}
 use Rattle.plan_text.proofs.Named.{keyword_of, row_named}
 
 -- the line of this keyword and these words
-abbrev line : Keyword → List Word → Statement
+abbrev pub line : Keyword → List Word → Statement
 line k words = record { keyword = k; words = words }
 
 -- what holds of each tidy row of a keyword holds of its lines
-each_of_keyword : (k : Keyword) (P : Statement → Type 0) (rows : List Statement) → AreTidy rows
+pub each_of_keyword : (k : Keyword) (P : Statement → Type 0) (rows : List Statement) → AreTidy rows
     → ((words : List Word) → IsTidyRow rows (line k words) → P (line k words)) → All P (rows_of k rows)
 each_of_keyword k P rows tidy each i d lt =
     let s : Statement = get_or (rows_of k rows) i d in

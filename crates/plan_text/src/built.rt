@@ -104,7 +104,8 @@ fn build_problem(
     }
 }
 
-fn build_split_lines(
+/// The lines of the splits, each with its holders by number. The only error is want of memory.
+pub fn build_split_lines(
     alloc: Global,
     rows: &Rows<'_>,
     workers: &NameTable<'_>,
@@ -163,7 +164,7 @@ pub(crate) fn name_at<'t>(names: &NameTable<'t>, number: usize) -> &'t str
 }
 
 /// The number of a name that the table has.
-fn number_of(names: &NameTable<'_>, name: &str) -> usize
+pub fn number_of(names: &NameTable<'_>, name: &str) -> usize
     requires { Contains names.now name.now }
     ensures value { result ≡ number_in names.now name.now }
     ensures within { result < length names.now }
@@ -183,7 +184,8 @@ fn worker_no(workers: &NameTable<'_>, name: &str) -> WorkerNo
     WorkerNo::new(number_of(workers, name) as u16)
 }
 
-fn build_tree(
+/// The racks, and the rack of each worker. The only error is want of memory.
+pub fn build_tree(
     alloc: Global,
     rows: &Rows<'_>,
     worker_rows: &[Row<'_, '_>],

@@ -11,7 +11,7 @@ pub mod built;
 pub mod check_report;
 pub mod plan_report;
 pub mod reader;
-mod row_lists;
+pub mod row_lists;
 
 pub use built::{PlanText, ProblemText};
 pub use line_rules::ReadingError;

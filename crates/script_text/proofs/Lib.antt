@@ -1,2 +1,3 @@
 pub mod Growing
-pub mod Picking
+pub mod Bounds
+pub mod OfHead

@@ -1,5 +1,5 @@
 -- The command that a line says: its names by number, and its numbers.
-use Rattle.std.specs.Prelude.{ℕ, List, [], ◌≡◌, ◌+◌, ◌<◌, Some, length, position, slice_index_or}
+use Rattle.std.specs.Prelude.{ℕ, List, All, [], ◌≡◌, ◌+◌, ◌<◌, ◌≤◌, Some, length, position, slice_index_or}
 use Rattle.std.specs.Str.{bytes_eq}
 use Rattle.text_lines.specs.Texts.{IsNumber, Word, number_of}
 use Rattle.line_shapes.specs.Lines.{Statement}
@@ -58,3 +58,13 @@ pub record SayCommands (names : Names) (lines : List Statement) (commands : List
   pub many : length lines ≡ length commands
   pub each : (k : ℕ) (s : Statement) (c : Command) → k < length commands
       → SaysCommand names (slice_index_or lines k s) (slice_index_or commands k c)
+
+-- the command names workers and splits below these numbers, and gives no more counts than there may be workers
+abbrev pub IsKnownIn : ℕ → ℕ → Command → Type 0
+IsKnownIn workers splits (command.Backup s w) = (s < splits) × (w < workers)
+IsKnownIn workers splits (command.Die w) = w < workers
+IsKnownIn workers splits (command.Join w set) = (w < workers) × All (λ s. s < splits) set.items
+IsKnownIn workers splits (command.Add s w) = (s < splits) × (w < workers)
+IsKnownIn workers splits (command.Lose s w) = (s < splits) × (w < workers)
+IsKnownIn workers splits (command.Sweep counts) = length counts.items ≤ 256
+IsKnownIn workers splits c = Unit {0}

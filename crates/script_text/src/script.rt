@@ -1,3 +1,4 @@
+use head_text::Head;
 use node_ids::{AttemptNo, SplitNo, WorkerNo};
 use text_lines::NameTable;
 
@@ -39,4 +40,20 @@ pub struct Script<'t> {
     pub names: Names<'t>,
     pub target: usize,
     pub commands: Vec<Command>,
+}
+
+/// What a text to play declares: what the new master's cluster is made of, and what is played on it.
+#[derive(Drop)]
+pub struct ScriptText<'t> {
+    pub head: Head,
+    pub script: Script<'t>,
+}
+
+/// What a text of a job declares: what its cluster is made of, the names of what its lines speak of, and how
+/// many replicas of a split copies are ordered for.
+#[derive(Drop)]
+pub struct JobText<'t> {
+    pub names: Names<'t>,
+    pub target: usize,
+    pub head: Head,
 }

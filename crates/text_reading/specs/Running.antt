@@ -6,7 +6,9 @@ use Rattle.text_lines.specs.Streams.{AppendsFront, ConsumesAtMost}
 use Rattle.text_lines.specs.declared.fault.TextFault.{TextFault}
 use Rattle.text_lines.specs.declared.streams.TheConstants.{MAX_READ_BYTES}
 use Rattle.text_reading.specs.declared.tool_error.ToolError.{ToolError}
-use Rattle.text_reading.specs.declared.tool_error.ToolError.TheVariants.{Memory, Read, Text, Write}
+use Rattle.text_reading.specs.declared.tool_error.ToolError.TheVariants.{HistoryFull, Memory, Read, Text, Write}
+use Rattle.text_reading.specs.declared.tool_error.NoAnswer.{NoAnswer}
+use Rattle.text_reading.specs.declared.tool_error.NoAnswer.TheVariants as none
 
 -- all of an answer
 pub record Wrote (old new : Option (List ℕ)) (IsAnswer : List ℕ → Type 0) : Type 0 where
@@ -25,6 +27,22 @@ abbrev pub outcome : {End : Type 0} → Result End TextFault → Result End Tool
 outcome (Ok end) = Ok end
 outcome (Err fault) = Err (Text fault)
 
+-- a command that has no answer to the text ends so
+abbrev pub error_of_answering : NoAnswer → ToolError
+error_of_answering none.Memory = Memory
+error_of_answering none.HistoryFull = HistoryFull
+
+-- the text that was read is one to which a command has no answer for want of attempts; nothing is written
+pub record RanOut (IsFull : List ℕ → Type 0) (unread old new : Option (List ℕ)) : Type 0 where
+  pub text : List ℕ
+  pub read : IfSome unread (λ input. text ≡ take MAX_READ_BYTES input)
+  pub full : IsFull text
+  pub kept : Keeps old new
+
+-- of no text, where a command has an answer to each
+abbrev pub NoText : List ℕ → Type 0
+NoText text = ⊥
+
 -- the lines are some with which a command ends
 pub record IsSomeAnswer {End : Type 0} (Answers : Result End TextFault → List ℕ → Type 0) (lines : List ℕ) : Type 0 where
   pub end : Result End TextFault
@@ -32,24 +50,27 @@ pub record IsSomeAnswer {End : Type 0} (Answers : Result End TextFault → List 
 
 -- a command of these answers read one text from a reader, wrote its answer to a writer, and ended so
 pub record HasRun {End : Type 0} (Answers : List ℕ → Result End TextFault → List ℕ → Type 0)
-    (unread left old new : Option (List ℕ)) (result : Result End ToolError) : Type 0 where
+    (IsFull : List ℕ → Type 0) (unread left old new : Option (List ℕ)) (result : Result End ToolError)
+    : Type 0 where
   pub answered : (end : Result End TextFault) → result ≡ outcome end
       → IfSome unread (λ input. Wrote old new (Answers (take MAX_READ_BYTES input) end))
   pub memory : result ≡ Err Memory → Keeps old new
   pub read : result ≡ Err Read → Keeps old new
   pub write : result ≡ Err Write
       → IfSome unread (λ input. WroteFront old new (IsSomeAnswer (Answers (take MAX_READ_BYTES input))))
+  pub full : result ≡ Err HistoryFull → RanOut IsFull unread old new
   pub few : ConsumesAtMost unread left MAX_READ_BYTES
 
--- each text has one end, and answers that are alike
+-- each text has ends that are the same, and answers that are alike
 abbrev pub HasOneAnswer : {End : Type 0} → (List ℕ → Result End TextFault → List ℕ → Type 0)
-    → (List ℕ → List ℕ → Type 0) → Type 0
-HasOneAnswer {End} Answers Alike = (text : List ℕ) (a b : Result End TextFault) (x y : List ℕ) → Answers text a x
-    → Answers text b y → (a ≡ b) × Alike x y
+    → (Result End TextFault → Result End TextFault → Type 0) → (List ℕ → List ℕ → Type 0) → Type 0
+HasOneAnswer {End} Answers SameEnd Alike = (text : List ℕ) (a b : Result End TextFault) (x y : List ℕ)
+    → Answers text a x → Answers text b y → SameEnd a b × Alike x y
 
 -- what was written is the answer of the text: any other answer has the same end, and is alike
 abbrev pub WroteItsAnswer : {End : Type 0} → (List ℕ → Result End TextFault → List ℕ → Type 0)
-    → (List ℕ → List ℕ → Type 0) → Option (List ℕ) → Option (List ℕ) → Option (List ℕ) → Result End ToolError → Type 0
-WroteItsAnswer {End} Answers Alike unread old new result = (end : Result End TextFault) → result ≡ outcome end
+    → (Result End TextFault → Result End TextFault → Type 0) → (List ℕ → List ℕ → Type 0)
+    → Option (List ℕ) → Option (List ℕ) → Option (List ℕ) → Result End ToolError → Type 0
+WroteItsAnswer {End} Answers SameEnd Alike unread old new result = (end : Result End TextFault) → result ≡ outcome end
     → IfSome unread (λ input. (other : Result End TextFault) (line : List ℕ) → Answers (take MAX_READ_BYTES input) other line
-    → (end ≡ other) × Wrote old new (λ written. Alike written line))
+    → SameEnd end other × Wrote old new (λ written. Alike written line))

@@ -1,15 +1,17 @@
-ghost use Rattle.std.specs.Prelude.{◌≡◌, ⊤, ℕ, List, IfOk, string_bytes};
+ghost use Rattle.std.specs.Prelude.{◌≡◌, ⊤, ℕ, List, Err, IfOk, string_bytes};
 ghost use Rattle.std.specs.declared.result.Result.{Result};
 ghost use Rattle.text_lines.specs.declared.fault.TextFault.{TextFault};
-ghost use Rattle.text_reading.specs.Running.{HasOneAnswer, HasRun, WroteItsAnswer, outcome};
+ghost use Rattle.text_reading.specs.Running.{HasOneAnswer, HasRun, NoText, WroteItsAnswer, outcome};
 
-use crate::tool_error::ToolError;
-use std::alloc::{AllocError, Global};
+use crate::tool_error::{NoAnswer, ToolError};
+use std::alloc::Global;
 use std::io::{Read, Write};
 use text_lines::{TextFault, read_text, write_text};
 
 /// What answers a text. `Answers` says which lines, by what the command ends with; no text has two
-/// ends, nor two answers that are not `Alike`: the same, where a command doesn't say otherwise.
+/// ends that are not the `SameEnd`, nor two answers that are not `Alike`: where a command doesn't say
+/// otherwise, both are equal. `IsFull` says to which texts it may have no answer for want of attempts: to
+/// none, where it doesn't say otherwise.
 pub trait Command {
     /// How the command ends that was answered without a fault of its text.
     type End: Drop;
@@ -18,18 +20,23 @@ pub trait Command {
 
     ghost Answers: { Self → List ℕ → Result Self.End TextFault → List ℕ → Type 0 };
 
+    ghost SameEnd: { Result Self.End TextFault → Result Self.End TextFault → Type 0 } = { λ a b. a ≡ b };
+
     ghost Alike: { List ℕ → List ℕ → Type 0 } = { λ x y. x ≡ y };
+
+    ghost IsFull: { Self → List ℕ → Type 0 } = { λ _. NoText };
 
     /// The lines that answer a text, and how the command ends with them.
     fn answer(
         &self,
         alloc: Global,
         text: &[u8],
-    ) -> Result<(String, Result<Self::End, TextFault>), AllocError>
+    ) -> Result<(String, Result<Self::End, TextFault>), NoAnswer>
         requires { ready self.now }
-        ensures { IfOk result (λ given. Answers self.now text.now given.1 (string_bytes given.0)) };
+        ensures answers { IfOk result (λ given. Answers self.now text.now given.1 (string_bytes given.0)) }
+        ensures full { result ≡ Err NoAnswer.HistoryFull → IsFull self.now text.now };
 
-    ghost one_answer: { (command : Self) → HasOneAnswer (Answers command) Alike };
+    ghost one_answer: { (command : Self) → HasOneAnswer (Answers command) SameEnd Alike };
 }
 
 /// Reads a text, and writes the command's answer to it. All lines are made before their first byte is
@@ -41,9 +48,9 @@ pub fn run_command<C: Command, R: Read, W: Write>(
     writer: &mut W,
 ) -> Result<C::End, ToolError>
     requires { C.ready command.now }
-    ensures ran { HasRun (C.Answers command.now) (R.remaining reader.old) (R.remaining reader.new)
-        (W.contents writer.old) (W.contents writer.new) result }
-    ensures same { WroteItsAnswer (C.Answers command.now) C.Alike (R.remaining reader.old)
+    ensures ran { HasRun (C.Answers command.now) (C.IsFull command.now) (R.remaining reader.old)
+        (R.remaining reader.new) (W.contents writer.old) (W.contents writer.new) result }
+    ensures same { WroteItsAnswer (C.Answers command.now) C.SameEnd C.Alike (R.remaining reader.old)
         (W.contents writer.old) (W.contents writer.new) result }
 {
     let text = read_text(alloc, reader)?;

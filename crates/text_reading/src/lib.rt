@@ -12,4 +12,4 @@ pub mod tool_error;
 
 pub use command::{Command, run_command};
 pub use fault_line::faulty;
-pub use tool_error::ToolError;
+pub use tool_error::{NoAnswer, ToolError};

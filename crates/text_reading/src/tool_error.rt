@@ -18,6 +18,44 @@ pub enum ToolError {
     /// The writer failed, or took nothing; it may have taken a front of what was to be written.
     #[error("write fault")]
     Write,
+    /// A wave starts more splits than there are attempts left; nothing is written.
+    #[error("history full")]
+    HistoryFull,
+}
+
+/// Why a command has no answer to a text.
+#[derive(Clone, Copy, Debug, PartialEq, Eq, Error)]
+pub enum NoAnswer {
+    #[error("no memory")]
+    Memory,
+    /// A wave starts more splits than there are attempts left.
+    #[error("history full")]
+    HistoryFull,
+}
+
+impl From<AllocError> for NoAnswer {
+    ghost use Rattle.std.specs.Prelude.{◌≡◌};
+    ghost use Rattle.text_reading.specs.declared.tool_error.NoAnswer.TheVariants.{Memory};
+
+    ghost from_gives = { λ _ result. result ≡ Memory };
+
+    fn from(_: AllocError) -> Self {
+        NoAnswer::Memory
+    }
+}
+
+impl From<NoAnswer> for ToolError {
+    ghost use Rattle.std.specs.Prelude.{◌≡◌};
+    ghost use Rattle.text_reading.specs.Running.{error_of_answering};
+
+    ghost from_gives = { λ error result. result ≡ error_of_answering error };
+
+    fn from(error: NoAnswer) -> Self {
+        match error {
+            NoAnswer::Memory => ToolError::Memory,
+            NoAnswer::HistoryFull => ToolError::HistoryFull,
+        }
+    }
 }
 
 impl From<AllocError> for ToolError {

@@ -9,6 +9,8 @@
 #[cfg(test)]
 mod faults;
 #[cfg(test)]
+mod heads;
+#[cfg(test)]
 mod readers;
 #[cfg(test)]
 mod reading;

@@ -21,7 +21,7 @@ fn told(command: &Command) -> (u8, usize, usize, usize) {
 }
 
 fn command_told(alloc: Global, text: &str, place: usize) -> Option<(u8, usize, usize, usize)> {
-    let script: Script<'_> = read_script(alloc, text.as_bytes()).ok()?;
+    let script: Script<'_> = read_script(alloc, text.as_bytes()).ok()?.script;
     Some(told(script.commands.get(place)?))
 }
 
@@ -57,7 +57,7 @@ fn commands_have_numbers(rt: HostRuntime) {
 
 // The target, and the numbers of a worker, a split and a document.
 fn head_of(alloc: Global, text: &str) -> Option<(usize, usize, usize, usize)> {
-    let script = read_script(alloc, text.as_bytes()).ok()?;
+    let script = read_script(alloc, text.as_bytes()).ok()?.script;
     let worker = script.names.workers.number("b")?;
     let split = script.names.splits.number("t")?;
     let document = script.names.documents.number("d")?;

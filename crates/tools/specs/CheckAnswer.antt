@@ -9,14 +9,11 @@ use Rattle.price_certificate.specs.Certificate.{Claim, Certifies, IsFirstFailure
 use Rattle.price_certificate.specs.declared.Condition.{Condition}
 use Rattle.line_shapes.specs.Lines.{Statement}
 use Rattle.plan_text.specs.Names.{splits, workers}
-use Rattle.line_rules.specs.Texts.{IsLeastFault, Reads}
-use Rattle.line_rules.specs.declared.purpose.Purpose.{Purpose}
+use Rattle.line_rules.specs.Texts.{Reads}
 use Rattle.line_rules.specs.declared.purpose.Purpose.TheVariants.{Checking}
 use Rattle.plan_text.specs.Value.{DeclaresWave, prices, starts}
 use Rattle.plan_text.specs.Report.{certified_line, refused_line}
-use Rattle.text_reading.specs.FaultLine.{fault_line}
-use Rattle.line_rules.specs.declared.reading.ReadingError.{ReadingError}
-use Rattle.line_rules.specs.declared.reading.ReadingError.TheVariants as reading
+use Rattle.fault_answers.specs.Faulty.{IsFaulty}
 use Rattle.tools.specs.declared.ending.CheckEnd.{CheckEnd}
 use Rattle.tools.specs.declared.ending.CheckEnd.TheVariants.{Certified, Refused}
 
@@ -47,16 +44,6 @@ pub record AnswersRead (text : List ℕ) (end : CheckEnd) (line : List ℕ) : Ty
   pub reads : Reads Checking text statements
   pub declared : DeclaresWave statements wave
   pub judges : Judges end (claim_of wave statements) (splits statements) (workers statements) line
-
--- the line names the least fault of the text
-pub record IsFaulty (purpose : Purpose) (text : List ℕ) (fault : TextFault) (line : List ℕ) : Type 0 where
-  pub least : IsLeastFault purpose text fault.line fault.number
-  pub said : line ≡ fault_line fault
-
--- the line names the fault for which a text could not be read
-abbrev pub TellsFault : ReadingError → TextFault → List ℕ → Type 0
-TellsFault (reading.Text fault) told line = (told ≡ fault) × (line ≡ fault_line fault)
-TellsFault reading.Memory told line = ⊥
 
 -- the line with which a check ends so
 abbrev pub CheckAnswer : List ℕ → Result CheckEnd TextFault → List ℕ → Type 0

@@ -7,11 +7,11 @@ use Rattle.clap.specs.declared.error.kind.ErrorKind.TheVariants.{DisplayHelp, Di
 use Rattle.command_line.specs.declared.asked.AskError.{AskError}
 use Rattle.command_line.specs.declared.asked.AskError.TheVariants as asked
 use Rattle.text_reading.specs.declared.tool_error.ToolError.{ToolError}
-use Rattle.text_reading.specs.declared.tool_error.ToolError.TheVariants.{Memory, Read, Text, Write}
+use Rattle.text_reading.specs.declared.tool_error.ToolError.TheVariants.{HistoryFull, Memory, Read, Text, Write}
 use Rattle.tools.specs.declared.ending.CheckEnd.{CheckEnd}
 use Rattle.tools.specs.declared.ending.CheckEnd.TheVariants as check
 use Rattle.tools.specs.declared.ending.Ending.{Ending}
-use Rattle.tools.specs.declared.ending.Ending.TheVariants.{Failed, Misused, Refused, Well}
+use Rattle.tools.specs.declared.ending.Ending.TheVariants.{Failed, Misused, Refused, Stuck, Well}
 use Rattle.tools.specs.declared.ending.PlanEnd.{PlanEnd}
 
 abbrev pub ending_of_check : Result CheckEnd ToolError → Ending
@@ -36,17 +36,21 @@ ending_of_asking asked.Memory = Failed Memory
 abbrev pub status_of : Ending → ℕ
 status_of Well = 0
 status_of Refused = 1
+status_of Stuck = 1
 status_of (Failed (Text fault)) = 2
 status_of (Failed Memory) = 3
 status_of (Failed Read) = 4
 status_of (Failed Write) = 4
+status_of (Failed HistoryFull) = 5
 status_of Misused = 64
 
 abbrev pub words_of : Ending → Option (List ℕ)
 words_of (Failed Memory) = Some (codes "mrjob: no memory")
 words_of (Failed Read) = Some (codes "mrjob: read fault")
 words_of (Failed Write) = Some (codes "mrjob: write fault")
+words_of (Failed HistoryFull) = Some (codes "mrjob: history full")
 words_of (Failed (Text fault)) = None
 words_of Well = None
 words_of Refused = None
+words_of Stuck = None
 words_of Misused = None

@@ -4,17 +4,15 @@ use Rattle.price_certificate.specs.Certificate.{Claim}
 use Rattle.price_certificate.proofs.SameBars.{HaveSamePairs, barring, have_same_pairs-sym}
 use Rattle.price_certificate.proofs.SameBars.{certified-faultless, first_failures-equal}
 use Rattle.text_lines.specs.Texts.{Word}
-use Rattle.text_lines.specs.declared.fault.TextFault.{TextFault}
 use Rattle.plan_text.specs.Names.{rows_in, splits, workers}
-use Rattle.line_rules.specs.declared.purpose.Purpose.{Purpose}
 use Rattle.line_rules.specs.declared.purpose.Purpose.TheVariants.{Checking, Planning}
-use Rattle.line_rules.proofs.OneReading.{least_fault-unique, reads-faultless, reads-unique}
+use Rattle.line_rules.proofs.OneReading.{reads-faultless, reads-unique}
 use Rattle.plan_text.specs.Report.{refused_line}
 use Rattle.plan_text.specs.Value.{DeclaresWave}
-use Rattle.text_reading.specs.FaultLine.{fault_line}
 use Rattle.text_reading.specs.Running.{HasOneAnswer}
+use Rattle.fault_answers.proofs.OneFault.{one_fault}
 use Rattle.plan_text.proofs.OneWave.{same_bars, same_parts}
-use Rattle.tools.specs.CheckAnswer.{AnswersRead, CheckAnswer, IsFaulty, Judges, claim_of}
+use Rattle.tools.specs.CheckAnswer.{AnswersRead, CheckAnswer, Judges, claim_of}
 use Rattle.tools.specs.PlanAnswer.{AnyLines, PlanAnswer}
 use Rattle.tools.specs.declared.ending.CheckEnd.{CheckEnd}
 use Rattle.tools.specs.declared.ending.CheckEnd.TheVariants.{Certified, Refused}
@@ -49,15 +47,8 @@ one_answer_read text a b x y g h =
     (same_bars rows g.wave h.wave g.declared made) a b x y g.judges
     (subst (λ w. Judges b (claim_of w ss) (splits ss) (workers ss) y) parts judges)
 
-one_fault : (purpose : Purpose) (text : List ℕ) (f g : TextFault) (x y : List ℕ) → IsFaulty purpose text f x
-    → IsFaulty purpose text g y → (f ≡ g) × (x ≡ y)
-one_fault purpose text f g x y p q =
-    let same = least_fault-unique purpose text f.line g.line f.number g.number p.least q.least in
-    let faults : f ≡ g = λ i. record { line = same.0 i; number = same.1 i } in
-    (faults, p.said ∙ ap fault_line faults ∙ sym q.said)
-
 -- at most one end of a check and one line answer a text
-pub one_check_answer : HasOneAnswer CheckAnswer (λ x y. x ≡ y)
+pub one_check_answer : HasOneAnswer CheckAnswer (λ a b. a ≡ b) (λ x y. x ≡ y)
 one_check_answer text (Ok a) (Ok b) x y g h =
     let one = one_answer_read text a b x y g h in (ap Ok one.0, one.1)
 one_check_answer text (Ok a) (Err f) x y g h =
@@ -68,7 +59,7 @@ one_check_answer text (Err f) (Err g) x y p q =
     let one = one_fault Checking text f g x y p q in (ap Err one.0, one.1)
 
 -- at most one end of planning answers a text
-pub one_plan_answer : (with_prices : Bool) → HasOneAnswer (λ text. PlanAnswer text with_prices) AnyLines
+pub one_plan_answer : (with_prices : Bool) → HasOneAnswer (λ text. PlanAnswer text with_prices) (λ a b. a ≡ b) AnyLines
 one_plan_answer with_prices text (Ok Planned) (Ok Planned) x y g h = (refl, tt)
 one_plan_answer with_prices text (Ok a) (Err f) x y g h =
     absurd (reads-faultless Planning text g.statements f.line f.number g.reads h.least)

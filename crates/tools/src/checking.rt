@@ -1,14 +1,14 @@
-ghost use Rattle.std.specs.Prelude.{◌≡◌, ⊤, IfOk, string_bytes};
+ghost use Rattle.std.specs.Prelude.{◌≡◌, ◌≢◌, ⊤, Err, IfOk, string_bytes};
 ghost use Rattle.std.specs.Thread.{IsSync};
 ghost use Rattle.price_certificate.specs.Certificate.{HasOneSize, claim};
 ghost use Rattle.certificate_checker.specs.Verdict.{IsVerdict};
-ghost use Rattle.text_reading.specs.Running.{HasRun, WroteItsAnswer};
+ghost use Rattle.text_reading.specs.Running.{HasRun, NoText, WroteItsAnswer};
 ghost use Rattle.tools.specs.CheckAnswer.{CheckAnswer, Judges};
 ghost use Rattle.tools.specs.OneAnswer.{one_check_answer};
 
 use crate::ending::CheckEnd;
-use crate::faults::fault_answer;
 use certificate_checker::{Certified, CheckError, certify, certify_on};
+use fault_answers::fault_answer;
 use plan_text::check_report::{certified, refused};
 use plan_text::{PlanText, read_plan};
 use price_certificate::Condition;
@@ -16,7 +16,7 @@ use std::alloc::{AllocError, Global};
 use std::io::{Read, Write};
 use std::thread::Threads;
 use text_lines::TextFault;
-use text_reading::{Command, ToolError, run_command};
+use text_reading::{Command, NoAnswer, ToolError, run_command};
 
 /// Reads a problem, a plan and prices, and writes whether the prices certify the plan, or the text's
 /// least fault. All of the line is made before its first byte is written.
@@ -25,8 +25,9 @@ pub fn check<R: Read, W: Write>(
     reader: &mut R,
     writer: &mut W,
 ) -> Result<CheckEnd, ToolError>
-    ensures ran { HasRun CheckAnswer (R.remaining reader.old) (R.remaining reader.new)
+    ensures ran { HasRun CheckAnswer NoText (R.remaining reader.old) (R.remaining reader.new)
         (W.contents writer.old) (W.contents writer.new) result }
+    ensures never_full { result ≢ Err ToolError.HistoryFull }
 {
     run_command(&Checker(OneThread), alloc, reader, writer)
 }
@@ -39,12 +40,13 @@ pub fn check_on<R: Read, W: Write>(
     reader: &mut R,
     writer: &mut W,
 ) -> Result<CheckEnd, ToolError>
-    ensures ran { HasRun CheckAnswer (R.remaining reader.old) (R.remaining reader.new)
+    ensures ran { HasRun CheckAnswer NoText (R.remaining reader.old) (R.remaining reader.new)
         (W.contents writer.old) (W.contents writer.new) result }
+    ensures never_full { result ≢ Err ToolError.HistoryFull }
 
     // The answer to a text is the only one.
-    ensures same { WroteItsAnswer CheckAnswer (λ written line. written ≡ line) (R.remaining reader.old)
-        (W.contents writer.old) (W.contents writer.new) result }
+    ensures same { WroteItsAnswer CheckAnswer (λ end other. end ≡ other) (λ written line. written ≡ line)
+        (R.remaining reader.old) (W.contents writer.old) (W.contents writer.new) result }
 {
     run_command(&Checker(ManyThreads(rt)), alloc, reader, writer)
 }
@@ -115,7 +117,7 @@ impl<C: Certifier> Command for Checker<C> {
         &self,
         alloc: Global,
         text: &[u8],
-    ) -> Result<(String, Result<CheckEnd, TextFault>), AllocError> {
+    ) -> Result<(String, Result<CheckEnd, TextFault>), NoAnswer> {
         match read_plan(alloc, text) {
             Ok(read) => {
                 let verdict = self.0.verdict(alloc, &read)?;

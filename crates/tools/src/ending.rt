@@ -20,10 +20,12 @@ pub enum PlanEnd {
 /// How the program ends.
 #[derive(Clone, Copy, Debug, PartialEq, Eq)]
 pub enum Ending {
-    /// A plan was certified or made, or help was given.
+    /// A plan was certified or made, a script's parts are all done, or help was given.
     Well,
     /// A condition refuses the plan.
     Refused,
+    /// A script ended with splits or parts that are not done.
+    Stuck,
     /// The words of the command line ask for nothing.
     Misused,
     /// The command has no answer of its own.
@@ -74,10 +76,11 @@ impl Ending {
     {
         match self {
             Ending::Well => 0,
-            Ending::Refused => 1,
+            Ending::Refused | Ending::Stuck => 1,
             Ending::Failed(ToolError::Text(_)) => 2,
             Ending::Failed(ToolError::Memory) => 3,
             Ending::Failed(ToolError::Read | ToolError::Write) => 4,
+            Ending::Failed(ToolError::HistoryFull) => 5,
             Ending::Misused => 64,
         }
     }
@@ -90,8 +93,9 @@ impl Ending {
             Ending::Failed(ToolError::Memory) => Some("mrjob: no memory"),
             Ending::Failed(ToolError::Read) => Some("mrjob: read fault"),
             Ending::Failed(ToolError::Write) => Some("mrjob: write fault"),
+            Ending::Failed(ToolError::HistoryFull) => Some("mrjob: history full"),
             Ending::Failed(ToolError::Text(_)) => None,
-            Ending::Well | Ending::Refused | Ending::Misused => None,
+            Ending::Well | Ending::Refused | Ending::Stuck | Ending::Misused => None,
         }
     }
 }

@@ -8,7 +8,6 @@
 
 pub mod checking;
 pub mod ending;
-mod faults;
 pub mod planning;
 
 pub use checking::{check, check_on};

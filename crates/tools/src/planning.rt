@@ -1,17 +1,17 @@
-ghost use Rattle.std.specs.Prelude.{◌≡◌, IfOk, length, string_bytes};
-ghost use Rattle.text_reading.specs.Running.{HasRun};
+ghost use Rattle.std.specs.Prelude.{◌≡◌, ◌≢◌, Err, IfOk, length, string_bytes};
+ghost use Rattle.text_reading.specs.Running.{HasRun, NoText};
 ghost use Rattle.tools.specs.PlanAnswer.{AnyLines, PlanAnswer, PlansProblem};
 ghost use Rattle.tools.specs.OneAnswer.{one_plan_answer};
 
 use crate::ending::PlanEnd;
-use crate::faults::fault_answer;
 use command_line::asked::PlanOptions;
+use fault_answers::fault_answer;
 use plan_text::plan_report::{add_prices, planned};
 use plan_text::{ProblemText, read_problem};
 use std::alloc::{AllocError, Global};
 use std::io::{Read, Write};
 use text_lines::TextFault;
-use text_reading::{Command, ToolError, run_command};
+use text_reading::{Command, NoAnswer, ToolError, run_command};
 use wave_planner::{PlanError, plan_with};
 
 /// Reads a problem, and writes a best plan of its map starts, with prices if the options ask for them,
@@ -24,9 +24,10 @@ pub fn plan<R: Read, W: Write>(
     writer: &mut W,
     options: PlanOptions,
 ) -> Result<PlanEnd, ToolError>
-    ensures { HasRun (λ text. PlanAnswer text options.prices)
+    ensures ran { HasRun (λ text. PlanAnswer text options.prices) NoText
         (R.remaining reader.old) (R.remaining reader.new)
         (W.contents writer.old) (W.contents writer.new) result }
+    ensures never_full { result ≢ Err ToolError.HistoryFull }
 {
     run_command(&Planner(options), alloc, reader, writer)
 }
@@ -48,7 +49,7 @@ impl Command for Planner {
         &self,
         alloc: Global,
         text: &[u8],
-    ) -> Result<(String, Result<PlanEnd, TextFault>), AllocError> {
+    ) -> Result<(String, Result<PlanEnd, TextFault>), NoAnswer> {
         match read_problem(alloc, text) {
             Ok(read) => Ok((plan_lines(alloc, &read, self.0)?, Ok(PlanEnd::Planned))),
             Err(error) => {

@@ -46,8 +46,19 @@ unreachable-requires-in_default-name c =
     c.in-Ok-try_get_matches_from.matches c.in-Ok-try_get_matches_from.ensures.matches c.in-Ok-try_get_matches_from.ensures.kinds) [
       | inl check ↦ c.in_default-name.not-check (is _ check)
       | inr (inl plan) ↦ c.in_default-name.not-plan (is _ plan)
-      | inr (inr none) ↦ none
+      | inr (inr (inl play)) ↦ c.in_default-name.not-play (is _ play)
+      | inr (inr (inr none)) ↦ none
     ]
+
+pub returns-in-play-clause-command : goal.returns-in-play-clause-command
+returns-in-play-clause-command c =
+    named_in c.in-Ok.commands _ c.in-Ok.ensures
+    c.in-Ok-try_get_matches_from.matches c.in-Ok-try_get_matches_from.ensures.matches
+    _ (codes "play") c.in-Some.ensures.name (search rules)
+
+pub returns-in-play-clause-ok : goal.returns-in-play-clause-ok
+returns-in-play-clause-ok c ok =
+    unfaulted c.in-Ok.commands _ c.in-Ok.ensures c.in-Ok-try_get_matches_from.ensures.kinds
 
 pub returns-in-Some-network_named-clause-command : goal.returns-in-Some-network_named-clause-command
 returns-in-Some-network_named-clause-command c =

@@ -1,7 +1,7 @@
 use Rattle.std.proofs.Common.{rules, refl, ◌≡◌}
 use Rattle.std.proofs.lemmas.Result.{IfOk-weaker}
 use Rattle.clap.specs.Words.{app_of}
-use Rattle.command_line.specs.Commands.{check, plan, program}
+use Rattle.command_line.specs.Commands.{check, plan, play, program}
 use Rattle.command_line.proofs.Build.{added}
 use Rattle.command_line.proofs.commands.all_commands.Goals as goal
 
@@ -9,5 +9,6 @@ pub returns : goal.returns
 returns c =
     let is_program : app_of c.subcommand_required.result ≡ program = search rules in
     let with_check = added _ _ _ program check c.in_ok-subcommand.ensures is_program c.check_command.ensures refl in
-    IfOk-weaker c.subcommand-2.result _ _ (λ commands adds. added _ _ _ _ plan adds with_check c.in_ok-plan.ensures refl)
-    c.subcommand-2.ensures
+    let with_plan = added _ _ _ _ plan c.in_ok-subcommand-2.ensures with_check c.in_ok-plan.ensures refl in
+    IfOk-weaker c.subcommand-3.result _ _
+    (λ commands adds. added _ _ _ _ play adds with_plan c.play_command.ensures refl) c.subcommand-3.ensures

@@ -1,10 +1,20 @@
-use Rattle.std.proofs.Common.{string_bytes}
+use Rattle.std.proofs.Common.{Err, ap, string_bytes}
 use Rattle.text_reading.proofs.OneAnswer.{wrote_its_answer}
+use Rattle.text_reading.proofs.Unanswered.{unanswered}
 use Rattle.text_reading.proofs.command.run_command.Goals as goal
 
 pub returns-clause-same : goal.returns-clause-same
 returns-clause-same g c =
-    wrote_its_answer (g.C.Command.Answers c.args.command.now) g.C.Command.Alike _ _ _ c.in_ok-text.text.items
-    c.as_slice.result.now (string_bytes c.in_ok-lines.lines) c.as_bytes.result.now c.in_ok-lines.end c.ended.result
-    (g.met.C.Command.one_answer c.args.command.now) c.ended.ensures c.in_ok-text.ensures.read c.as_slice.ensures.value
-    c.in_ok-lines.ensures c.as_bytes.ensures.value c.in_ok-write_text.ensures.ok
+    wrote_its_answer (g.C.Command.Answers c.args.command.now) g.C.Command.SameEnd g.C.Command.Alike _ _ _
+    c.in_ok-text.text.items c.as_slice.result.now (string_bytes c.in_ok-lines.lines) c.as_bytes.result.now
+    c.in_ok-lines.end c.ended.result (g.met.C.Command.one_answer c.args.command.now) c.ended.ensures
+    c.in_ok-text.ensures.read c.as_slice.ensures.value c.in_ok-lines.ensures.answers c.as_bytes.ensures.value
+    c.in_ok-write_text.ensures.ok
+
+pub returns-in_err-lines-clause-ran : goal.returns-in_err-lines-clause-ran
+returns-in_err-lines-clause-ran g c =
+    let command = c.args.command.now in
+    unanswered (g.C.Command.Answers command) (g.C.Command.IsFull command) _ _ _ c.in_ok-text.text.items
+    c.as_slice.result.now c.in_err-lines.field-0.0 c.from_residual-in_err-lines.result
+    c.from_residual-in_err-lines.ensures.1 c.in_ok-text.ensures.read c.as_slice.ensures.value
+    (λ full. c.in_err-lines.ensures.full (ap Err full)) c.in_ok-text.ensures.unread

@@ -1,0 +1,70 @@
+ghost use Rattle.std.specs.Prelude.{◌≡◌, ◌≤◌, IfOk, length, map, All};
+ghost use Rattle.line_shapes.specs.declared.keyword.Keyword.TheVariants.{Doc};
+ghost use Rattle.line_rules.specs.Known.{rows_of as lines_of};
+ghost use Rattle.plan_text.specs.Names.{said_in, word_at};
+ghost use Rattle.plan_text.specs.Tidy.{AreTidy, IsAtMost};
+ghost use Rattle.head_text.specs.Heads.{IsFitHead, MakesHead, slots_told};
+
+use crate::documents::build_texts;
+use crate::settings::setting_of;
+use line_rules::{Row, Rows};
+use line_shapes::Keyword;
+use plan_text::built::{build_split_lines, build_tree};
+use plan_text::row_lists::{names_of, number, rows_of, word};
+use rack_tree::RackTree;
+use std::alloc::{AllocError, Global};
+use std::sync::Arc;
+use wave_problem::SplitLine;
+use word_map::SplitText;
+
+/// What a master's cluster is made of. Slots and texts stand by the numbers of their workers and splits.
+#[derive(Drop)]
+pub struct Head {
+    pub tree: RackTree,
+    pub slots: Vec<u8>,
+    /// The splits with their first holders.
+    pub splits: Vec<SplitLine>,
+    /// The documents of each split.
+    pub texts: Vec<Arc<SplitText>>,
+    /// How many parts the words are divided into.
+    pub parts: usize,
+    /// The sweeps without a new beat after which a worker is dead.
+    pub silence: u32,
+}
+
+/// What the rows of a head make. The only error is want of memory.
+pub fn build_head(alloc: Global, rows: &Rows<'_>) -> Result<Head, AllocError>
+    requires tidy { AreTidy rows.now }
+    requires few_documents { length (lines_of Doc rows.now) ≤ 65536 }
+    ensures value { IfOk result (MakesHead rows.now) }
+    ensures fit { IfOk result IsFitHead }
+{
+    let worker_rows = rows_of(alloc, rows, Keyword::Worker)?;
+    let workers = names_of(alloc, rows, Keyword::Worker)?;
+    let tree = build_tree(alloc, rows, &worker_rows)?;
+    let slots = build_slots(alloc, &worker_rows)?;
+    let splits = build_split_lines(alloc, rows, &workers)?;
+    let texts = build_texts(alloc, rows)?;
+    let parts = setting_of(alloc, rows, Keyword::Parts, 1)?;
+    let silence = setting_of(alloc, rows, Keyword::Silence, 3)?;
+    Ok(Head {
+        tree,
+        slots,
+        splits,
+        texts,
+        parts: parts as usize,
+        silence: silence as u32,
+    })
+}
+
+// The slots of each worker, by number.
+fn build_slots(alloc: Global, rows: &[Row<'_, '_>]) -> Result<Vec<u8>, AllocError>
+    requires { All (λ s. IsAtMost (word_at 2 s) 16) (map said_in rows.now) }
+    ensures { IfOk result (λ slots. slots.items ≡ map slots_told (map said_in rows.now)) }
+{
+    let mut slots = Vec::new(alloc);
+    for row in rows {
+        slots.push(number(word(row, 2)) as u8)?;
+    }
+    Ok(slots)
+}

@@ -1,0 +1,64 @@
+-- What is said of the script and the head that were read is said of the text.
+use Rattle.std.proofs.Common.{ℕ, List, Result, Ok, Err, ◌≡◌, refl, subst}
+use Rattle.std.specs.Result.{IsErrAnd}
+use Rattle.line_shapes.specs.Lines.{Statement}
+use Rattle.text_reading.specs.declared.tool_error.NoAnswer.{NoAnswer}
+use Rattle.text_reading.specs.declared.tool_error.NoAnswer.TheVariants as none
+use Rattle.head_text.specs.Heads.{IsFitHead, MakesHead}
+use Rattle.head_text.specs.declared.heads.Head.{Head}
+use Rattle.master_state.specs.States.{Cluster}
+use Rattle.master_core.specs.Clusters.{AreFewAndSmall}
+use Rattle.script_text.specs.Scripts.{IsScriptOf}
+use Rattle.script_text.specs.declared.script.ScriptText.{ScriptText}
+use Rattle.job_run.specs.Reports.{IsReport}
+use Rattle.job_run.specs.Rooms.{RunsOut, setup_for}
+use Rattle.job_run.specs.PlayAnswer.{PlaysRead, RunsOutIn, cluster_in, cluster_of, want_of}
+use Rattle.job_run.specs.declared.player.PlayEnd.{PlayEnd}
+use Rattle.job_run.specs.declared.player.PlayError.{PlayError}
+use Rattle.job_run.specs.declared.player.PlayError.TheVariants.{HistoryFull, Memory}
+
+-- a head makes the cluster that its rows declare
+pub same_cluster : (rows : List Statement) (head : Head) → MakesHead rows head → cluster_in head ≡ cluster_of rows
+same_cluster rows head makes = λ i. record {
+  tree = makes.tree i;
+  slots = makes.slots i;
+  splits = makes.splits i;
+  texts = makes.texts i;
+  parts = makes.parts i;
+  silence = makes.silence i;
+}
+
+pub plays_read : (text : List ℕ) (v : ScriptText) (end : PlayEnd) (lines : List ℕ) → IsScriptOf text v
+    → IsReport (setup_for (cluster_in v.head) v.script) v.script end lines → PlaysRead text end lines
+plays_read text v end lines is report = record {
+  known = is.known;
+  script = v.script;
+  read = is.read;
+  declares = is.declares;
+  report = subst (λ (c : Cluster). IsReport (setup_for c v.script) v.script end lines)
+      (same_cluster is.known.rows v.head is.head) report;
+}
+
+pub runs_out_in : (text : List ℕ) (v : ScriptText) → IsScriptOf text v → RunsOut (cluster_in v.head) v.script
+    → RunsOutIn text
+runs_out_in text v is out = record {
+  known = is.known;
+  script = v.script;
+  read = is.read;
+  declares = is.declares;
+  runs_out = subst (λ (c : Cluster). RunsOut c v.script) (same_cluster is.known.rows v.head is.head) out;
+}
+
+-- the room of a history is wanting where it was so in playing
+pub full_in_playing : {T : Type 0} (why : PlayError) (result : Result T NoAnswer)
+    → IsErrAnd result (λ e. e ≡ want_of why) → result ≡ Err none.HistoryFull → why ≡ HistoryFull
+full_in_playing why (Ok x) is full = absurd is
+full_in_playing Memory (Err e) is full = cc
+full_in_playing HistoryFull (Err e) is full = refl
+
+pub few_and_small : (head : Head) → IsFitHead head → AreFewAndSmall head.slots.items head.splits.items head.parts
+few_and_small head is = record {
+  few_slots = is.few_slots;
+  small_splits = is.small_splits;
+  few_parts = is.few_parts;
+}

@@ -1,0 +1,117 @@
+ghost use Rattle.std.specs.Prelude.{◌≡◌, Err, IfOk, string_bytes};
+ghost use Rattle.text_reading.specs.Running.{HasRun};
+ghost use Rattle.head_text.specs.Heads.{IsFitHead};
+ghost use Rattle.job_run.specs.Reports.{IsReport};
+ghost use Rattle.job_run.specs.Rooms.{RunsOut, setup_for};
+ghost use Rattle.job_run.specs.PlayAnswer.{AnyLines, AreEnds, PlayAnswer, RunsOutIn, cluster_in};
+ghost use Rattle.job_run.specs.OneAnswer.{one_play_answer};
+
+use crate::fitting::fits;
+use crate::player::{PlayEnd, PlayError, Report, play_script};
+use fault_answers::fault_answer;
+use head_text::Head;
+use master_core::{Cluster, ClusterError};
+use script_text::{Script, ScriptText, read_script};
+use std::alloc::{AllocError, Global};
+use std::io::{Read, Write};
+use text_lines::TextFault;
+use text_reading::{Command, NoAnswer, ToolError, run_command};
+
+/// Reads a script, plays it on a new master of its cluster, and writes its report, or the text's least
+/// fault. All lines are made before their first byte is written.
+pub fn play<R: Read, W: Write>(
+    alloc: Global,
+    reader: &mut R,
+    writer: &mut W,
+) -> Result<PlayEnd, ToolError>
+    ensures { HasRun PlayAnswer RunsOutIn (R.remaining reader.old) (R.remaining reader.new)
+        (W.contents writer.old) (W.contents writer.new) result }
+{
+    run_command(&Player, alloc, reader, writer)
+}
+
+/// Playing of scripts.
+#[derive(Drop)]
+pub struct Player;
+
+impl Command for Player {
+    type End = PlayEnd;
+
+    ghost Answers = { λ _. PlayAnswer };
+
+    ghost SameEnd = { AreEnds };
+
+    ghost Alike = { AnyLines };
+
+    ghost IsFull = { λ _. RunsOutIn };
+
+    ghost one_answer = { λ _. one_play_answer };
+
+    fn answer(
+        &self,
+        alloc: Global,
+        text: &[u8],
+    ) -> Result<(String, Result<PlayEnd, TextFault>), NoAnswer> {
+        match read_script(alloc, text) {
+            Ok(read) => {
+                let ScriptText { head, script } = read;
+                let report = play_on(alloc, head, &script)?;
+                Ok((report.lines, Ok(report.end)))
+            }
+            Err(error) => {
+                let (line, fault) = fault_answer(alloc, error)?;
+                Ok((line, Err(fault)))
+            }
+        }
+    }
+}
+
+impl From<PlayError> for NoAnswer {
+    ghost use Rattle.std.specs.Prelude.{◌≡◌};
+    ghost use Rattle.job_run.specs.PlayAnswer.{want_of};
+
+    ghost from_gives = { λ error result. result ≡ want_of error };
+
+    fn from(error: PlayError) -> Self {
+        match error {
+            PlayError::Memory => NoAnswer::Memory,
+            PlayError::HistoryFull => NoAnswer::HistoryFull,
+        }
+    }
+}
+
+// Plays the script on a new master of the cluster that the head makes.
+fn play_on(alloc: Global, head: Head, script: &Script<'_>) -> Result<Report, PlayError>
+    requires { IsFitHead head }
+    ensures report { IfOk result (λ report. IsReport (setup_for (cluster_in head) script.now) script.now
+        report.end (string_bytes report.lines)) }
+    ensures full { result ≡ Err PlayError.HistoryFull → RunsOut (cluster_in head) script.now }
+{
+    let cluster = cluster_of(alloc, head)?;
+    if !fits(&cluster, script) {
+        // (no script of a text without a fault)
+        return Err(PlayError::Memory);
+    }
+    play_script(alloc, cluster, script)
+}
+
+// The cluster that a head makes.
+fn cluster_of(alloc: Global, head: Head) -> Result<Cluster, AllocError>
+    requires { IsFitHead head }
+    ensures { IfOk result (λ cluster. cluster ≡ cluster_in head) }
+{
+    let Head {
+        tree,
+        slots,
+        splits,
+        texts,
+        parts,
+        silence,
+    } = head;
+    match Cluster::new(alloc, tree, slots.as_slice(), splits, texts, parts, silence) {
+        Ok(cluster) => Ok(cluster),
+        Err(ClusterError::Memory) => Err(AllocError),
+        Err(ClusterError::Limit) => unreachable!(),
+        Err(ClusterError::Holder) => unreachable!(),
+    }
+}

@@ -1,0 +1,125 @@
+-- The commands of a text without a fault are not too many, and none gives more counts than there may be workers.
+use Rattle.std.proofs.Common.{ℕ, List, [], ◌∷◌, ◌++◌, ◌≡◌, ◌≤◌, ◌<◌, ◌∙◌, Option, Some, append-nil, arith, length}
+use Rattle.std.proofs.Common.{length-append, refl, subst, sym, ap, take}
+use Rattle.std.specs.List.{All}
+use Rattle.std.proofs.lemmas.List.{length_push}
+use Rattle.std.proofs.lemmas.List.Elements.{All-append, All-cons, All-nil, filter-append}
+use Rattle.text_lines.specs.Texts.{Line, lines_of}
+use Rattle.line_shapes.specs.Lines.{Statement}
+use Rattle.line_shapes.specs.declared.keyword.Keyword.{Keyword}
+use Rattle.line_shapes.specs.declared.keyword.Keyword.TheVariants as keyword
+use Rattle.line_rules.specs.Entering.{command_of, entered_of, entering_of, in_turn, most_of}
+use Rattle.line_rules.specs.Faults.{HasRoom, IsFit, IsWhole, counted_by}
+use Rattle.line_rules.specs.Known.{Known, entered, is_of, known_at, rows_of}
+use Rattle.line_rules.specs.Reading.{AreFitLines, IsAllRead}
+use Rattle.line_rules.specs.declared.entering.Entering.{Entering}
+use Rattle.line_rules.specs.declared.entering.Entering.TheVariants.{Nothing, InTurn, Alone}
+use Rattle.line_rules.specs.declared.entering.Entering.TheVariants.{Word as ByWord, Pair as ByPair}
+use Rattle.line_rules.specs.declared.purpose.Purpose.{Purpose}
+use Rattle.line_rules.proofs.FitLines.{known_after, names_after}
+use Rattle.plan_text.proofs.Tidy.{tidy-read}
+
+-- a sweep has no more counts than this
+abbrev pub IsShort : ℕ → Statement → Type 0
+IsShort n s = s.keyword ≡ keyword.Sweep → length s.words ≤ n
+
+pub record AreBounded (n : ℕ) (commands : List Statement) : Type 0 where
+  pub few : length commands ≤ 65536
+  pub short : All (IsShort n) commands
+
+most_of_command : (purpose : Purpose) (k : Keyword) → entering_of k ≡ InTurn → most_of purpose k ≡ Some 65536
+most_of_command purpose keyword.Problem is = absurd cc
+most_of_command purpose keyword.Script is = absurd cc
+most_of_command purpose keyword.Job is = absurd cc
+most_of_command purpose keyword.Centre is = absurd cc
+most_of_command purpose keyword.Rack is = absurd cc
+most_of_command purpose keyword.Worker is = absurd cc
+most_of_command purpose keyword.Split is = absurd cc
+most_of_command purpose keyword.Barred is = absurd cc
+most_of_command purpose keyword.Dead is = absurd cc
+most_of_command purpose keyword.Busy is = absurd cc
+most_of_command purpose keyword.Parts is = absurd cc
+most_of_command purpose keyword.Target is = absurd cc
+most_of_command purpose keyword.Silence is = absurd cc
+most_of_command purpose keyword.Doc is = absurd cc
+most_of_command purpose keyword.Plan is = absurd cc
+most_of_command purpose keyword.Start is = absurd cc
+most_of_command purpose keyword.Price is = absurd cc
+most_of_command purpose keyword.Begin is = absurd cc
+most_of_command purpose keyword.Wave is = refl
+most_of_command purpose keyword.Done is = refl
+most_of_command purpose keyword.Fail is = refl
+most_of_command purpose keyword.Withdraw is = refl
+most_of_command purpose keyword.Die is = refl
+most_of_command purpose keyword.Join is = refl
+most_of_command purpose keyword.Add is = refl
+most_of_command purpose keyword.Lose is = refl
+most_of_command purpose keyword.Sweep is = refl
+most_of_command purpose keyword.Reduce is = refl
+most_of_command purpose keyword.Copies is = refl
+most_of_command purpose keyword.Backup is = refl
+most_of_command purpose keyword.End is = absurd cc
+
+abbrev workers_in : Known → ℕ
+workers_in k = length (rows_of keyword.Worker k.rows)
+
+workers_grow : (k : Known) (ss : List Statement) → workers_in k ≤ workers_in (names_after k ss)
+workers_grow k [] = omega arith
+workers_grow k (s ∷ ss) =
+    omega (
+      arith,
+      workers_grow (entered k s) ss,
+      ap length (filter-append (is_of keyword.Worker) k.rows (entered_of s)),
+      length-append (rows_of keyword.Worker k.rows) (rows_of keyword.Worker (entered_of s)),
+    )
+
+bounded_more : (n : ℕ) (k : Known) (s : Statement) → IsFit k s → workers_in k ≤ n → AreBounded n k.commands
+    → AreBounded n (k.commands ++ command_of s)
+bounded_more n k s fit few bounded = by (entering_of s.keyword) refl
+  where
+    none : AreBounded n (k.commands ++ [])
+    none = subst (AreBounded n) (sym (append-nil k.commands)) bounded
+
+    short : IsShort n s
+    short same =
+        let whole : length s.words ≡ workers_in k =
+        subst (λ (j : Keyword). IsWhole k (record { keyword = j; words = s.words })) same fit.whole in
+        omega (arith, whole, few)
+
+    one : entering_of s.keyword ≡ InTurn → AreBounded n (k.commands ++ s ∷ [])
+    one is =
+        let counted = subst (λ (e : Entering). HasRoom (most_of k.purpose s.keyword) (counted_by e k s.keyword)) is
+        fit.within_limit.room in
+        let room : length k.commands < 65536 =
+        subst (λ (m : Option ℕ). HasRoom m (length k.commands)) (most_of_command k.purpose s.keyword is) counted in
+        record {
+          few = omega (arith, room, length_push k.commands s);
+          short = All-append (IsShort n) k.commands (s ∷ []) bounded.short
+              (All-cons (IsShort n) s [] short (All-nil (IsShort n)));
+        }
+
+    by : (e : Entering) → entering_of s.keyword ≡ e → AreBounded n (k.commands ++ in_turn e s)
+    by Nothing is = none
+    by InTurn is = one is
+    by Alone is = none
+    by ByWord is = none
+    by ByPair is = none
+
+bounded_after : (n : ℕ) (k : Known) (ls : List Line) (ss : List Statement) → AreFitLines k ls ss
+    → workers_in (names_after k ss) ≤ n → AreBounded n k.commands → AreBounded n (names_after k ss).commands
+bounded_after n k [] [] fits few bounded = bounded
+bounded_after n k [] (s ∷ ss) fits few bounded = absurd fits
+bounded_after n k (l ∷ ls) [] fits few bounded = absurd fits
+bounded_after n k (l ∷ ls) (s ∷ ss) fits few bounded =
+    bounded_after n (entered k s) ls ss fits.1 few
+    (bounded_more n k s fits.0.fit (omega (arith, few, workers_grow k (s ∷ ss))) bounded)
+
+pub bounded-read : (purpose : Purpose) (text : List ℕ) (k : Known) → IsAllRead purpose text k
+    → AreBounded 256 k.commands
+bounded-read purpose text k read =
+    let same = known_after purpose read.statements ∙ sym read.known in
+    let few : workers_in k ≤ 256 = (tidy-read purpose text k read).few_workers in
+    subst (λ (j : Known). AreBounded 256 j.commands) same
+    (bounded_after 256 (known_at purpose []) (take (length read.statements) (lines_of text)) read.statements read.fit
+    (subst (λ (j : Known). workers_in j ≤ 256) (sym same) few)
+    (record { few = omega arith; short = All-nil (IsShort 256) }))

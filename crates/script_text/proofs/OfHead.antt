@@ -1,0 +1,80 @@
+-- The script that a text declares is one for the head that it makes.
+use Rattle.std.proofs.Common.{ℕ, List, [], ◌≡◌, ◌<◌, ◌∙◌, ap, arith, get_or, length, subst, sym}
+use Rattle.std.specs.List.{All}
+use Rattle.std.specs.Str.{bytes_eq}
+use Rattle.std.proofs.lemmas.List.{length-map}
+use Rattle.std.proofs.lemmas.List.Quantifiers.{position-Some}
+use Rattle.text_lines.specs.Texts.{Word}
+use Rattle.line_shapes.specs.Lines.{Statement}
+use Rattle.line_shapes.specs.declared.keyword.Keyword.TheVariants.{Busy, End, Split, Worker}
+use Rattle.line_rules.specs.Known.{rows_of}
+use Rattle.line_rules.specs.declared.purpose.Purpose.TheVariants.{Playing}
+use Rattle.plan_text.specs.Names.{names_of, word_at}
+use Rattle.plan_text.specs.Value.{split_line}
+use Rattle.head_text.specs.Heads.{slots_told}
+use Rattle.script_text.specs.Commands.{IsKnownIn, IsNumbered, SaysCommand}
+use Rattle.script_text.specs.Scripts.{IsOfHead, IsScriptOf}
+use Rattle.script_text.specs.declared.script.Command.{Command}
+use Rattle.script_text.specs.declared.script.Command.TheVariants as command
+use Rattle.script_text.specs.declared.script.Names.{Names}
+use Rattle.script_text.specs.declared.script.ScriptText.{ScriptText}
+use Rattle.script_text.proofs.Bounds.{IsShort, bounded-read}
+
+below : (names : List Word) (name : Word) (n : ℕ) → IsNumbered names name n → n < length names
+below names name n is = (position-Some (λ m. bytes_eq name m) names n name is).0
+
+-- the command that a line says is known
+is_known : (names : Names) (s : Statement) (c : Command) → IsShort 256 s → SaysCommand names s c
+    → IsKnownIn (length names.workers) (length names.splits) c
+is_known names s command.Wave short says = tt
+is_known names s (command.Done attempt) short says = tt
+is_known names s (command.Fail attempt) short says = tt
+is_known names s (command.Withdraw attempt) short says = tt
+is_known names s (command.Backup split worker) short says =
+    (below names.splits _ split says.1.0, below names.workers _ worker says.1.1)
+is_known names s (command.Die worker) short says = below names.workers _ worker says.1
+is_known names s (command.Join worker splits) short says = (
+  below names.workers _ worker says.1,
+  λ i d lt. below names.splits _ (get_or splits.items i d) (says.2.each i d lt),
+)
+is_known names s (command.Add split worker) short says =
+    (below names.splits _ split says.1.0, below names.workers _ worker says.1.1)
+is_known names s (command.Lose split worker) short says =
+    (below names.splits _ split says.1.0, below names.workers _ worker says.1.1)
+is_known names s (command.Sweep counts) short says = omega (arith, says.1.many, short says.0)
+is_known names s command.Reduce short says = tt
+is_known names s command.Copies short says = tt
+
+module _ (text : List ℕ) (value : ScriptText) (is : IsScriptOf text value) where
+  abbrev rows : List Statement
+  rows = is.known.rows
+
+  workers_size : length value.script.names.workers ≡ length value.head.slots.items
+  workers_size =
+      ap length is.declares.names.workers ∙ length-map (rows_of Worker rows) (word_at 0)
+      ∙ sym (ap length is.head.slots ∙ length-map (rows_of Worker rows) slots_told)
+
+  splits_size : length value.script.names.splits ≡ length value.head.splits.items
+  splits_size =
+      ap length is.declares.names.splits ∙ length-map (rows_of Split rows) (word_at 0)
+      ∙ sym (ap length is.head.splits
+      ∙ length-map (rows_of Split rows) (split_line (names_of Worker rows) (names_of Busy rows)))
+
+  known : All (IsKnownIn (length value.script.names.workers) (length value.script.names.splits))
+      value.script.commands.items
+  known i d lt =
+      let bounded = bounded-read Playing text is.known is.read in
+      let nowhere : Statement = record { keyword = End; words = [] } in
+      let says = is.declares.commands in
+      is_known value.script.names (get_or is.known.commands i nowhere) (get_or value.script.commands.items i d)
+      (bounded.short i nowhere (omega (arith, says.many, lt))) (says.each i nowhere d lt)
+
+  pub is_of_head : IsOfHead value.head value.script
+  is_of_head = record {
+    workers = workers_size;
+    splits = splits_size;
+    known = subst (λ n. All (IsKnownIn n (length value.head.splits.items)) value.script.commands.items) workers_size
+        (subst (λ n. All (IsKnownIn (length value.script.names.workers) n) value.script.commands.items) splits_size
+        known);
+    few = omega (arith, is.declares.commands.many, (bounded-read Playing text is.known is.read).few);
+  }
