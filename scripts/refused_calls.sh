@@ -71,6 +71,11 @@ for program in "$@"; do
     done
     sweep "$program" read "mrjob: read fault (4)" "$room/nothing"
     sweep "$program" write "mrjob: write fault (4)" "$room/nothing"
+    example=examples/play_death
+    words=(play)
+    sweep "$program" alloc "mrjob: no memory (3)" "$room/nothing"
+    sweep "$program" read "mrjob: read fault (4)" "$room/nothing"
+    sweep "$program" write "mrjob: write fault (4)" "$room/nothing"
 done
 
 # Refuses each allocation of a built test that holds whichever of them is refused.

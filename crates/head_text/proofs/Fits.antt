@@ -76,7 +76,8 @@ module _ (rows : List Statement) (tidy : AreTidy rows) (head : Head) (makes : Ma
   fit_head = record {
     workers = workers_size ∙ sym slots_size;
     texts = in_order;
-    few_slots = subst (All (λ n. n ≤ 16)) (sym makes.slots) (All-map (λ n. n ≤ 16) slots_told (rows_of Worker rows)
+    few_slots = subst (All (λ n. n ≤ 16)) (sym makes.slots)
+        (All-map (λ n. n ≤ 16) slots_told (rows_of Worker rows)
         (λ i d lt. (tidy_workers rows tidy i d lt).slots.most));
     small_splits = small;
     held_well = held;

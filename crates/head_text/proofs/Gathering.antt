@@ -1,12 +1,13 @@
 -- The documents of each split, one line more.
-use Rattle.std.proofs.Common.{ℕ, List, [], ◌∷◌, ◌++◌, ◌≡◌, ◌≢◌, ◌<◌, ◌+◌, ◌∙◌, Bool, true, false, Vec, inl, inr}
-use Rattle.std.proofs.Common.{ap, append-nil, arith, cond, get_or, length, map, refl, set, sym, replicate}
+use Rattle.std.proofs.Common.{ℕ, List, [], ◌∷◌, ◌++◌, ◌≡◌, ◌≢◌, ◌<◌, ◌+◌, ◌∙◌, Bool, true, false}
+use Rattle.std.proofs.Common.{Vec, inl, inr, ap, append-nil, arith, cond, get_or, length, map, refl, replicate}
+use Rattle.std.proofs.Common.{set, sym}
 use Rattle.std.specs.List.{AllPairs, Contains, enumerate_from, filter}
 use Rattle.std.specs.Str.{bytes_eq}
 use Rattle.std.specs.declared.alloc.Global.{Global}
 use Rattle.std.proofs.lemmas.Bool.{cases_eq, cases_lt}
-use Rattle.std.proofs.lemmas.List.{get_or-map, get_or-set_other, get_or-set_same, length-map, length-set, map-append}
-use Rattle.std.proofs.lemmas.List.{map-set, same_lists}
+use Rattle.std.proofs.lemmas.List.{get_or-map, get_or-set_other, get_or-set_same, length-map, length-set}
+use Rattle.std.proofs.lemmas.List.{map-append, map-set, same_lists}
 use Rattle.std.proofs.lemmas.List.Elements.{filter-append}
 use Rattle.std.proofs.lemmas.Slice.Eq.{bytes_eq-Decides}
 use Rattle.text_lines.specs.Texts.{Word}
@@ -32,7 +33,8 @@ documents_more : (lines : List Statement) (line : Statement) (split : Word) (b :
     ≡ documents_of lines split ++ cond b (document_of (length lines, line) ∷ []) []
 documents_more lines line split b is =
     let last : List (ℕ × Statement) = (length lines, line) ∷ [] in
-    ap (λ l. map document_of (filter (is_in split) l)) (enumerate_push 0 (length lines) lines line (omega arith))
+    ap (λ l. map document_of (filter (is_in split) l))
+    (enumerate_push 0 (length lines) lines line (omega arith))
     ∙ ap (map document_of) (filter-append (is_in split) (enumerate_from 0 lines) last)
     ∙ map-append document_of (filter (is_in split) (enumerate_from 0 lines)) (filter (is_in split) last)
     ∙ ap (λ l. documents_of lines split ++ l) (one b is)
@@ -73,7 +75,8 @@ module _ (names : List Word) (lines : List Statement) (line : Statement) (lists 
   others : (k : ℕ) → k < length names → k ≢ split
       → documents_of (lines ++ line ∷ []) (get_or names k []) ≡ documents_of lines (get_or names k [])
   others k lt other =
-      documents_more lines line (get_or names k []) false (by (bytes_eq (get_or names k []) (word_at 1 line)) refl)
+      documents_more lines line (get_or names k []) false
+      (by (bytes_eq (get_or names k []) (word_at 1 line)) refl)
       ∙ append-nil (documents_of lines (get_or names k []))
     where
       by : (b : Bool) → bytes_eq (get_or names k []) (word_at 1 line) ≡ b → b ≡ false
@@ -96,7 +99,13 @@ module _ (names : List Word) (lines : List Statement) (line : Statement) (lists 
       → get_or (items_of (set lists split now)) k d ≡ get_or (map (documents_of (lines ++ line ∷ [])) names) k d
   at_each k d low =
       let lt : k < length names =
-      omega (arith, low, size, length-map (set lists split now) (λ list. list.items), length-set lists split now) in
+      omega (
+        arith,
+        low,
+        size,
+        length-map (set lists split now) (λ list. list.items),
+        length-set lists split now,
+      ) in
       let told = get_or-map (documents_of (lines ++ line ∷ [])) names k [] d lt in
       let write = ap (λ l. get_or l k d) (map-set (λ (list : Vec Document Global). list.items) lists split now
       ∙ ap (λ l. set l split now.items) before) in

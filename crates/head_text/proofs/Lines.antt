@@ -1,6 +1,6 @@
 -- What the rows of a text without a fault come to, for documents and settings.
-use Rattle.std.proofs.Common.{ℕ, List, [], ◌∷◌, ◌≡◌, ◌≢◌, ◌≤◌, ◌<◌, ◌∙◌, Some, ap, arith, get_or, length, map, refl}
-use Rattle.std.proofs.Common.{subst, sym}
+use Rattle.std.proofs.Common.{ℕ, List, [], ◌∷◌, ◌≡◌, ◌≢◌, ◌≤◌, ◌<◌, ◌∙◌, Some, ap, arith, get_or}
+use Rattle.std.proofs.Common.{length, map, refl, subst, sym}
 use Rattle.std.specs.List.{All, AllPairs, Contains, slice_get}
 use Rattle.std.proofs.lemmas.List.Elements.{filter_passes}
 use Rattle.std.proofs.lemmas.List.Kept.{AllPairs-filter}
@@ -15,8 +15,9 @@ use Rattle.line_rules.specs.Known.{is_of, keys_of, rows_of}
 use Rattle.line_rules.specs.declared.entering.Entering.TheVariants.{Word as ByWord}
 use Rattle.line_rules.specs.declared.rows.Row.{Row}
 use Rattle.plan_text.specs.Names.{names_of, said_in, word_at}
-use Rattle.plan_text.specs.Tidy.{AreTidy, IsTidyRow}
+use Rattle.plan_text.specs.Tidy.{AreTidy, IsAtMost, IsTidyRow}
 use Rattle.plan_text.proofs.Named.{key_by_word, keyword_of, row_named}
+use Rattle.plan_text.proofs.Parts.{All-unmap, no_row}
 use Rattle.plan_text.proofs.Words.{each_of_keyword, line}
 use Rattle.head_text.specs.Settings.{IsSetting, number_or}
 
@@ -47,7 +48,8 @@ tidy_doc rows words row =
 -- each line of a document names a split
 pub tidy_docs : (rows : List Statement) → AreTidy rows
     → All (λ s. Contains (names_of Split rows) (word_at 1 s)) (rows_of Doc rows)
-tidy_docs rows tidy = each_of_keyword Doc (λ s. Contains (names_of Split rows) (word_at 1 s)) rows tidy (tidy_doc rows)
+tidy_docs rows tidy =
+    each_of_keyword Doc (λ s. Contains (names_of Split rows) (word_at 1 s)) rows tidy (tidy_doc rows)
 
 -- ---- settings
 
@@ -94,3 +96,8 @@ module _ (rows : List Row) (lines : List Statement) (row : Row) (same : map said
           let some : 0 < length lines = omega (arith, ap length is) in
           subst IsSetting (ap (λ l. get_or l 0 (said_in r)) (sym is) ∙ ap said_in here)
           (settings 0 (said_in r) some)
+
+-- the slots that the row of a worker tells
+pub slots_at : (rows : List Row) → All (λ s. IsAtMost (word_at 2 s) 16) (map said_in rows) → (i : ℕ)
+    → i < length rows → IsAtMost (word_at 2 (said_in (get_or rows i no_row))) 16
+slots_at rows slots i lt = All-unmap (λ s. IsAtMost (word_at 2 s) 16) said_in rows slots i no_row lt

@@ -13,5 +13,5 @@ pub few-read : (purpose : Purpose) (text : List ℕ) (k : Known) → IsAllRead p
 few-read purpose text k read =
     let kept = kept-after (known_at purpose []) (take (length read.statements) (lines_of text)) read.statements
     read.fit (tidy-none purpose) in
-    subst (λ (j : Known). length (rows_of Doc j.rows) ≤ 65536) (known_after purpose read.statements ∙ sym read.known)
-    (kept.few Doc)
+    subst (λ (j : Known). length (rows_of Doc j.rows) ≤ 65536)
+    (known_after purpose read.statements ∙ sym read.known) (kept.few Doc)

@@ -1,6 +1,6 @@
 -- A text for each list of documents, one list more.
-use Rattle.std.proofs.Common.{ℕ, List, [], ◌∷◌, ◌++◌, ◌≡◌, ◌≤◌, ◌+◌, ◌∙◌, Vec, ap, append_assoc, arith, length, map}
-use Rattle.std.proofs.Common.{length-append}
+use Rattle.std.proofs.Common.{ℕ, List, [], ◌∷◌, ◌++◌, ◌≡◌, ◌≤◌, ◌+◌, ◌∙◌, Vec, ap, append_assoc, arith, length}
+use Rattle.std.proofs.Common.{length-append, map}
 use Rattle.std.specs.Arc.{arc_value}
 use Rattle.std.specs.List.{enumerate_from}
 use Rattle.std.specs.declared.alloc.Global.{Global}
@@ -17,17 +17,19 @@ use Rattle.head_text.proofs.Gathering.{items_of}
 abbrev pub texts_from : ℕ → List (Vec Document Global) → List SplitDocuments
 texts_from n lists = map text_of (enumerate_from n (items_of lists))
 
-pub length-texts_from : (n : ℕ) (lists : List (Vec Document Global)) → length (texts_from n lists) ≡ length lists
+pub length-texts_from : (n : ℕ) (lists : List (Vec Document Global))
+    → length (texts_from n lists) ≡ length lists
 length-texts_from n lists =
     length-map (enumerate_from n (items_of lists)) text_of ∙ length-enumerate_from n (items_of lists)
     ∙ length-map lists (λ list. list.items)
 
 -- the texts that are made are those of the lists but for those that are left
-abbrev pub AreShared : List (Arc SplitDocuments Global) → List (Vec Document Global) → List (Vec Document Global)
-    → Type 0
+abbrev pub AreShared : List (Arc SplitDocuments Global) → List (Vec Document Global)
+    → List (Vec Document Global) → Type 0
 AreShared made left lists = values_of made ++ texts_from (length made) left ≡ texts_from 0 lists
 
-pub shared_few : (made : List (Arc SplitDocuments Global)) (left lists : List (Vec Document Global)) → AreShared made left lists → length made ≤ length lists
+pub shared_few : (made : List (Arc SplitDocuments Global)) (left lists : List (Vec Document Global))
+    → AreShared made left lists → length made ≤ length lists
 shared_few made left lists shared =
     omega (
       arith,
@@ -38,7 +40,8 @@ shared_few made left lists shared =
     )
 
 pub shared_more : (made : List (Arc SplitDocuments Global)) (left lists : List (Vec Document Global))
-    (documents : Vec Document Global) (text : Arc SplitDocuments Global) → AreShared made (documents ∷ left) lists
+    (documents : Vec Document Global) (text : Arc SplitDocuments Global)
+    → AreShared made (documents ∷ left) lists
     → arc_value text ≡ text_of (length made, documents.items) → AreShared (made ++ text ∷ []) left lists
 shared_more made left lists documents text shared is =
     ap (λ l. l ++ texts_from (length (made ++ text ∷ [])) left)

@@ -23,7 +23,8 @@ slots_told s = number_of (word_at 2 s)
 pub record MakesHead (rows : List Statement) (head : Head) : Type 0 where
   pub tree : head.tree ≡ tree_of (names_of Centre rows) (rows_of Rack rows) (rows_of Worker rows)
   pub slots : head.slots.items ≡ map slots_told (rows_of Worker rows)
-  pub splits : head.splits.items ≡ map (split_line (names_of Worker rows) (names_of Busy rows)) (rows_of Split rows)
+  pub splits : head.splits.items
+      ≡ map (split_line (names_of Worker rows) (names_of Busy rows)) (rows_of Split rows)
   pub texts : values_of head.texts.items ≡ texts_of rows
   pub parts : head.parts ≡ setting Parts 1 rows
   pub silence : head.silence ≡ setting Silence 3 rows
@@ -31,7 +32,8 @@ pub record MakesHead (rows : List Statement) (head : Head) : Type 0 where
 -- all that is asked of the parts of a cluster
 pub record IsFitHead (head : Head) : Type 0 where
   pub workers : length head.tree.rack_of ≡ length head.slots.items
-  pub texts : map (λ text. text.split) (values_of head.texts.items) ≡ range_with_len 0 (length head.splits.items)
+  pub texts : map (λ text. text.split) (values_of head.texts.items)
+      ≡ range_with_len 0 (length head.splits.items)
   pub few_slots : All (λ n. n ≤ MAX_SLOTS) head.slots.items
   pub small_splits : AreSmallSplits head.splits.items
   pub held_well : AreHeldWell (length head.slots.items) head.splits.items

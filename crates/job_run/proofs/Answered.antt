@@ -1,5 +1,5 @@
 -- What is said of the script and the head that were read is said of the text.
-use Rattle.std.proofs.Common.{ℕ, List, Result, Ok, Err, ◌≡◌, refl, subst}
+use Rattle.std.proofs.Common.{ℕ, List, Result, Ok, Err, ◌≡◌, refl, subst, sym}
 use Rattle.std.specs.Result.{IsErrAnd}
 use Rattle.line_shapes.specs.Lines.{Statement}
 use Rattle.text_reading.specs.declared.tool_error.NoAnswer.{NoAnswer}
@@ -8,10 +8,11 @@ use Rattle.head_text.specs.Heads.{IsFitHead, MakesHead}
 use Rattle.head_text.specs.declared.heads.Head.{Head}
 use Rattle.master_state.specs.States.{Cluster}
 use Rattle.master_core.specs.Clusters.{AreFewAndSmall}
-use Rattle.script_text.specs.Scripts.{IsScriptOf}
+use Rattle.script_text.specs.Scripts.{IsOfHead, IsScriptOf}
+use Rattle.script_text.specs.declared.script.Script.{Script}
 use Rattle.script_text.specs.declared.script.ScriptText.{ScriptText}
 use Rattle.job_run.specs.Reports.{IsReport}
-use Rattle.job_run.specs.Rooms.{RunsOut, setup_for}
+use Rattle.job_run.specs.Rooms.{IsScriptFor, RunsOut, setup_for}
 use Rattle.job_run.specs.PlayAnswer.{PlaysRead, RunsOutIn, cluster_in, cluster_of, want_of}
 use Rattle.job_run.specs.declared.player.PlayEnd.{PlayEnd}
 use Rattle.job_run.specs.declared.player.PlayError.{PlayError}
@@ -62,3 +63,14 @@ few_and_small head is = record {
   small_splits = is.small_splits;
   few_parts = is.few_parts;
 }
+
+-- a script of a head is one for the cluster that the head makes
+pub script_for : (head : Head) (script : Script) (cluster : Cluster) → IsOfHead head script
+    → cluster ≡ cluster_in head → IsScriptFor (setup_for cluster script) script
+script_for head script cluster is made =
+    subst (λ (c : Cluster). IsScriptFor (setup_for c script) script) (sym made) (record {
+      workers = is.workers;
+      splits = is.splits;
+      known = is.known;
+      few = is.few;
+    })

@@ -20,6 +20,7 @@ use Rattle.master_state.specs.Tests.{all_parts_done, next_part, next_worker}
 use Rattle.master_state.specs.Refusals.{Call, MapDone, MapFailed, Withdraw, Die, Join, Add, Lose, Sweep, ReduceStart, PartDone, PartFailed, Backup, has_no_room, text_of}
 use Rattle.master_state.specs.Steps.{IsLegal, problem_of}
 use Rattle.master_state.specs.Jobs.{Job, Answers, IsCommitted, died_in}
+use Rattle.script_text.specs.Commands.{IsKnownIn}
 use Rattle.script_text.specs.declared.script.Names.{Names}
 use Rattle.script_text.specs.declared.script.Script.{Script}
 use Rattle.script_text.specs.declared.script.Command.{Command}
@@ -167,17 +168,7 @@ pub record IsReport (setup : Setup) (script : Script) (finish : PlayEnd) (out : 
   pub ends : Ends script.names last finish ending
   pub out_is : out ≡ answers ++ ending
 
--- the command names workers and splits below these numbers, and gives no more counts than there may be workers
-abbrev pub IsKnownIn : ℕ → ℕ → Command → Type 0
-IsKnownIn workers splits (command.Backup s w) = (s < splits) × (w < workers)
-IsKnownIn workers splits (command.Die w) = w < workers
-IsKnownIn workers splits (command.Join w set) = (w < workers) × All (λ s. s < splits) set.items
-IsKnownIn workers splits (command.Add s w) = (s < splits) × (w < workers)
-IsKnownIn workers splits (command.Lose s w) = (s < splits) × (w < workers)
-IsKnownIn workers splits (command.Sweep counts) = length counts.items ≤ 256
-IsKnownIn workers splits c = Unit {0}
-
--- so of the cluster of the job
+-- the command names workers and splits of the cluster of the job, and gives no more counts than there may be workers
 abbrev pub IsKnownCommand : Setup → Command → Type 0
 IsKnownCommand setup c = IsKnownIn (length setup.cluster.slots) (length setup.cluster.splits) c
 

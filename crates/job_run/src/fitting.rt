@@ -1,5 +1,5 @@
 ghost use Rattle.std.specs.Prelude.{◌↔◌, ◌<◌, All, IsTrue, length};
-ghost use Rattle.job_run.specs.Reports.{IsKnownIn};
+ghost use Rattle.script_text.specs.Commands.{IsKnownIn};
 ghost use Rattle.job_run.specs.Rooms.{IsScriptFor, setup_for};
 
 use crate::rooms::MAX_COMMANDS;

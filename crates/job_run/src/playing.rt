@@ -1,12 +1,12 @@
 ghost use Rattle.std.specs.Prelude.{◌≡◌, Err, IfOk, string_bytes};
 ghost use Rattle.text_reading.specs.Running.{HasRun};
 ghost use Rattle.head_text.specs.Heads.{IsFitHead};
+ghost use Rattle.script_text.specs.Scripts.{IsOfHead};
 ghost use Rattle.job_run.specs.Reports.{IsReport};
 ghost use Rattle.job_run.specs.Rooms.{RunsOut, setup_for};
 ghost use Rattle.job_run.specs.PlayAnswer.{AnyLines, AreEnds, PlayAnswer, RunsOutIn, cluster_in};
 ghost use Rattle.job_run.specs.OneAnswer.{one_play_answer};
 
-use crate::fitting::fits;
 use crate::player::{PlayEnd, PlayError, Report, play_script};
 use fault_answers::fault_answer;
 use head_text::Head;
@@ -82,16 +82,13 @@ impl From<PlayError> for NoAnswer {
 
 // Plays the script on a new master of the cluster that the head makes.
 fn play_on(alloc: Global, head: Head, script: &Script<'_>) -> Result<Report, PlayError>
-    requires { IsFitHead head }
+    requires fit { IsFitHead head }
+    requires known { IsOfHead head script.now }
     ensures report { IfOk result (λ report. IsReport (setup_for (cluster_in head) script.now) script.now
         report.end (string_bytes report.lines)) }
     ensures full { result ≡ Err PlayError.HistoryFull → RunsOut (cluster_in head) script.now }
 {
     let cluster = cluster_of(alloc, head)?;
-    if !fits(&cluster, script) {
-        // (no script of a text without a fault)
-        return Err(PlayError::Memory);
-    }
     play_script(alloc, cluster, script)
 }
 

@@ -1,4 +1,4 @@
--- The commands of a text without a fault are not too many, and none gives more counts than there may be workers.
+-- Commands of a text without a fault are not too many, and none gives more counts than there may be workers.
 use Rattle.std.proofs.Common.{ℕ, List, [], ◌∷◌, ◌++◌, ◌≡◌, ◌≤◌, ◌<◌, ◌∙◌, Option, Some, append-nil, arith, length}
 use Rattle.std.proofs.Common.{length-append, refl, subst, sym, ap, take}
 use Rattle.std.specs.List.{All}
@@ -88,10 +88,11 @@ bounded_more n k s fit few bounded = by (entering_of s.keyword) refl
 
     one : entering_of s.keyword ≡ InTurn → AreBounded n (k.commands ++ s ∷ [])
     one is =
-        let counted = subst (λ (e : Entering). HasRoom (most_of k.purpose s.keyword) (counted_by e k s.keyword)) is
-        fit.within_limit.room in
+        let Room : Entering → Type 0 = λ e. HasRoom (most_of k.purpose s.keyword) (counted_by e k s.keyword) in
+        let counted = subst Room is fit.within_limit.room in
         let room : length k.commands < 65536 =
-        subst (λ (m : Option ℕ). HasRoom m (length k.commands)) (most_of_command k.purpose s.keyword is) counted in
+        subst (λ (m : Option ℕ). HasRoom m (length k.commands)) (most_of_command k.purpose s.keyword is)
+        counted in
         record {
           few = omega (arith, room, length_push k.commands s);
           short = All-append (IsShort n) k.commands (s ∷ []) bounded.short
@@ -120,6 +121,6 @@ bounded-read purpose text k read =
     let same = known_after purpose read.statements ∙ sym read.known in
     let few : workers_in k ≤ 256 = (tidy-read purpose text k read).few_workers in
     subst (λ (j : Known). AreBounded 256 j.commands) same
-    (bounded_after 256 (known_at purpose []) (take (length read.statements) (lines_of text)) read.statements read.fit
-    (subst (λ (j : Known). workers_in j ≤ 256) (sym same) few)
+    (bounded_after 256 (known_at purpose []) (take (length read.statements) (lines_of text)) read.statements
+    read.fit (subst (λ (j : Known). workers_in j ≤ 256) (sym same) few)
     (record { few = omega arith; short = All-nil (IsShort 256) }))

@@ -73,8 +73,9 @@ module _ (text : List ℕ) (value : ScriptText) (is : IsScriptOf text value) whe
   is_of_head = record {
     workers = workers_size;
     splits = splits_size;
-    known = subst (λ n. All (IsKnownIn n (length value.head.splits.items)) value.script.commands.items) workers_size
-        (subst (λ n. All (IsKnownIn (length value.script.names.workers) n) value.script.commands.items) splits_size
-        known);
+    known =
+        let commands = value.script.commands.items in
+        subst (λ n. All (IsKnownIn n (length value.head.splits.items)) commands) workers_size
+        (subst (λ n. All (IsKnownIn (length value.script.names.workers) n) commands) splits_size known);
     few = omega (arith, is.declares.commands.many, (bounded-read Playing text is.known is.read).few);
   }

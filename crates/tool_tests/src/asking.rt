@@ -9,7 +9,7 @@ use wave_planner::NetworkKind;
 fn options_in(alloc: Global, words: &[&str]) -> Option<PlanOptions> {
     match ask(alloc, words) {
         Ok(Ask::Plan(options)) => Some(options),
-        Ok(Ask::Check) | Err(_) => None,
+        Ok(Ask::Check | Ask::Play) | Err(_) => None,
     }
 }
 
@@ -42,6 +42,12 @@ fn check_is_asked_for(rt: HostRuntime) {
 }
 
 #[test]
+fn play_is_asked_for(rt: HostRuntime) {
+    let asked = ask(rt.alloc(), ["mrjob", "play"].as_slice());
+    assert!(&rt; matches!(asked, Ok(Ask::Play)));
+}
+
+#[test]
 fn plan_is_asked_for(rt: HostRuntime) {
     let plans: [(&[&str], bool, NetworkKind); 4] = [
         (&["mrjob", "plan"], false, NetworkKind::Racks),
@@ -65,11 +71,12 @@ fn plan_is_asked_for(rt: HostRuntime) {
 
 #[test]
 fn wrong_words_are_usage(rt: HostRuntime) {
-    let wrong: [(&[&str], &str); 8] = [
+    let wrong: [(&[&str], &str); 9] = [
         (&["mrjob"], "requires a subcommand"),
         (&["mrjob", "fly"], "unrecognized subcommand 'fly'"),
         (&["mrjob", "--version"], "unexpected argument '--version'"),
         (&["mrjob", "check", "x"], "unexpected argument 'x'"),
+        (&["mrjob", "play", "-p"], "unexpected argument '-p'"),
         (
             &["mrjob", "plan", "--price"],
             "unexpected argument '--price'",
@@ -94,11 +101,12 @@ fn wrong_words_are_usage(rt: HostRuntime) {
 
 #[test]
 fn help_is_no_usage(rt: HostRuntime) {
-    let helps: [(&[&str], &str); 4] = [
+    let helps: [(&[&str], &str); 5] = [
         (&["mrjob", "--help"], "Statuses:"),
         (&["mrjob", "help", "check"], "Input:"),
         (&["mrjob", "plan", "--help"], "[default: racks]"),
         (&["mrjob", "help", "plan"], "price a 0"),
+        (&["mrjob", "help", "play"], "word the d"),
     ];
     for (words, part) in helps {
         shows(&rt, rt.alloc(), words, 0, part);

@@ -1,4 +1,5 @@
 use command_line::asked::PlanOptions;
+use job_run::{PlayEnd, play};
 use std::alloc::Global;
 use std::io;
 use std::io::{ErrorKind, Read, Write};
@@ -21,6 +22,33 @@ price t 91
 price a 30
 price b 0
 end
+";
+
+const SCRIPT: &str = "\
+script 1
+rack r
+worker a r 1
+split s 10 a
+doc d s The cat
+begin
+wave
+done 1
+reduce
+done 2
+end
+";
+
+const REPORT: &str = "\
+accepted 1
+wave 1 0
+start 1 s a
+accepted 2
+accepted 3
+reduce 2 0 a
+accepted 4
+index 2
+word cat d
+word the d
 ";
 
 const PROBLEM: &str = "problem 1\nrack r\nworker a r 2\nsplit s 10 a\nend\n";
@@ -114,6 +142,28 @@ fn planning_reads_and_writes_a_byte_a_call(rt: HostRuntime) {
     assert_eq!(&rt; end, Ok(PlanEnd::Planned));
     let lines = b"wave 1 0\nstart s a\nprice s 41\nprice a 0\n";
     assert_eq!(&rt; sink.taken.as_slice(), lines.as_slice());
+}
+
+#[test]
+fn playing_reads_and_writes_a_byte_a_call(rt: HostRuntime) {
+    let mut sink = writer_of(rt.alloc(), 200);
+    let end = play(rt.alloc(), &mut reader_of(SCRIPT, 0), &mut sink);
+    assert_eq!(&rt; end, Ok(PlayEnd::Done));
+    assert_eq!(&rt; sink.taken.as_slice(), REPORT.as_bytes());
+}
+
+#[test]
+fn a_script_whose_writer_fails_has_the_front(rt: HostRuntime) {
+    for room in 0..REPORT.len() {
+        let mut sink = writer_of(rt.alloc(), room);
+        let end = play(rt.alloc(), &mut reader_of(SCRIPT, 0), &mut sink);
+        assert_eq!(&rt; end, Err(ToolError::Write), "room for {room}");
+        assert_eq!(&rt; sink.taken.len(), room);
+        assert!(&rt;
+            REPORT.as_bytes().starts_with(sink.taken.as_slice()),
+            "room for {room}"
+        );
+    }
 }
 
 #[test]

@@ -1,4 +1,5 @@
-use Rattle.std.proofs.Common.{ℕ, List, [], ◌∷◌, ◌++◌, ◌≡◌, ◌∙◌, ap, arith, get_or, length, map, replicate, subst, sym, take}
+use Rattle.std.proofs.Common.{ℕ, List, [], ◌∷◌, ◌++◌, ◌≡◌, ◌∙◌, ap, arith, get_or}
+use Rattle.std.proofs.Common.{length, map, replicate, subst, sym, take}
 use Rattle.std.specs.List.{Contains}
 use Rattle.std.proofs.lemmas.List.{length-map, length-take-le, map_more}
 use Rattle.line_shapes.specs.Lines.{Statement}
@@ -17,9 +18,10 @@ loop-number-init c =
 
 pub number_of-split-requires : goal.number_of-split-requires
 number_of-split-requires c =
-    let known = All-unmap (λ s. Contains c.args.splits.now (word_at 1 s)) said_in c.args.lines.now c.requires.known
+    let splits = c.args.splits.now in
+    let known = All-unmap (λ s. Contains splits (word_at 1 s)) said_in c.args.lines.now c.requires.known
     c.loop-number.number no_row c.loop-number-test.true in
-    subst (Contains c.args.splits.now) (sym c.word.ensures) known
+    subst (Contains splits) (sym c.word.ensures) known
 
 pub loop-number-preserved : goal.loop-number-preserved
 loop-number-preserved c =
@@ -39,4 +41,5 @@ loop-number-preserved c =
     gathered_more splits before line lists c.number_of-split.result c.index_mut.result.now c.push.new.self
     c.requires.differ known (c.number_of-split.ensures.value ∙ ap (number_in splits) c.word.ensures)
     c.loop-number.invariant c.index_mut.ensures.value now_is
-    ∙ ap (λ (l : List Statement). map (documents_of l) splits) (sym (map_more said_in rows n no_row c.loop-number-test.true))
+    ∙ ap (λ (l : List Statement). map (documents_of l) splits)
+    (sym (map_more said_in rows n no_row c.loop-number-test.true))

@@ -19,11 +19,13 @@ build_slots-requires c =
 
 pub setting_of-requires : goal.setting_of-requires
 setting_of-requires c =
-    are_settings 1 64 (rows_of Parts c.args.rows.now) (omega arith) (parts_within c.args.rows.now c.requires.tidy)
+    let rows = c.args.rows.now in
+    are_settings 1 64 (rows_of Parts rows) (omega arith) (parts_within rows c.requires.tidy)
 
 pub setting_of-requires-2 : goal.setting_of-requires-2
 setting_of-requires-2 c =
-    are_settings 1 1000 (rows_of Silence c.args.rows.now) (omega arith) (silence_within c.args.rows.now c.requires.tidy)
+    let rows = c.args.rows.now in
+    are_settings 1 1000 (rows_of Silence rows) (omega arith) (silence_within rows c.requires.tidy)
 
 pub overflow_cast-result : goal.overflow_cast-result
 overflow_cast-result c =

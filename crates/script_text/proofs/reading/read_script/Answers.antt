@@ -5,7 +5,8 @@ use Rattle.script_text.proofs.OfHead.{is_of_head}
 use Rattle.script_text.proofs.reading.read_script.Goals as goal
 
 pub script_of-requires-clause-tidy : goal.script_of-requires-clause-tidy
-script_of-requires-clause-tidy c = tidy-read Playing c.args.text.now c.in_ok-known.known c.in_ok-known.ensures.ok
+script_of-requires-clause-tidy c =
+    tidy-read Playing c.args.text.now c.in_ok-known.known c.in_ok-known.ensures.ok
 
 pub script_of-requires-clause-few_documents : goal.script_of-requires-clause-few_documents
 script_of-requires-clause-few_documents c =
