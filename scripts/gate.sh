@@ -60,6 +60,7 @@ else
     start scripts/refused_calls.sh "${programs[@]}"
     start scripts/differential.py "${programs[@]}"
 fi
+start scripts/another_ledger.py
 start scripts/edits.py
 count_all
 echo "$passed passed, $failed failed"

@@ -98,6 +98,8 @@ for name in commit_changes_nothing reduce_start_changes_nothing; do
     sweep_test crates/master_tests/out/master_tests_tests "refusals::a_refused_$name"
 done
 sweep_test crates/master_tests/out/master_tests_tests refusals::refused_readers_change_nothing
+sweep_test crates/shared_tests/out/shared_tests_tests refusals::a_refused_hand_changes_nothing
+sweep_test crates/shared_tests/out/shared_tests_tests refusals::a_refused_wave_changes_nothing
 sweep_test crates/thread_tests/out/thread_tests_tests boards::a_refused_board_leaves_no_trace
 sweep_test crates/thread_tests/out/thread_tests_tests lanes::a_refused_close_gives_all_back
 

@@ -177,6 +177,26 @@ impl<L: Ledger> Hand<L> {
     }
 }
 
+/// A law of the hands that exist at one time: with the parts of a share that is no hand's, they are no more
+/// than the parts of their ledger. Nothing changes.
+pub fn are_few<L: Ledger>(hands: &mut [Hand<L>], rest: &mut Share<L>)
+    requires { 1 ≤ rest.old.parts }
+    ensures few { length hands.old + rest.old.parts ≤ L.parts }
+    ensures hands { hands.new ≡ hands.old }
+    ensures parts { rest.new.parts ≡ rest.old.parts }
+    ensures amount { rest.new.amount ≡ rest.old.amount }
+{
+    let Some((hand, others)) = hands.split_first_mut() else {
+        let mut none = rest.empty();
+        rest.give(&mut none, 0, 0);
+        return;
+    };
+    let calls = hand.entries.len() as u64;
+    hand.share.give(rest, 1, calls);
+    are_few(others, rest);
+    rest.give(&mut hand.share, 1, calls);
+}
+
 // Puts elements behind those of a list with room for them.
 fn add_all<T: Copy>(list: &mut Vec<T>, more: &[T])
     requires { vec_len list.old + length more.now ≤ vec_capacity list.old }

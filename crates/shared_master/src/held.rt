@@ -1,4 +1,4 @@
-ghost use Rattle.std.specs.Prelude.{◌≡◌, ℕ, ◌+◌, ◌<◌, ◌↔◌, [], ◌∷◌, true, false, length, IsTrue, IfOk, OnErr, OnOk, Err};
+ghost use Rattle.std.specs.Prelude.{◌≡◌, ℕ, ◌+◌, ◌<◌, ◌≤◌, ◌↔◌, [], ◌∷◌, true, false, length, IsTrue, IfOk, OnErr, OnOk, Err};
 ghost use Rattle.node_ids.specs.Sets.{has_number};
 ghost use Rattle.block_map.specs.Copies.{AreCopies, holdings};
 ghost use Rattle.master_state.specs.Jobs.{died_in, IsGlance, IsKept};
@@ -28,7 +28,7 @@ use crate::calls::{PlainCall, plain_backup, plain_reduce, plain_with};
 use crate::shared::HandError;
 use crate::sizes::Sizes;
 use block_map::CopyOrder;
-use hand_ledger::Hand;
+use hand_ledger::{Hand, are_few};
 use master_core::Master;
 use master_state::{Answer, AnswerWith, BackupAnswer, Glance, Limits, ReduceAnswer, Swept, Why};
 use node_ids::{AttemptNo, SplitNo, WorkerNo, WorkerSet};
@@ -76,6 +76,17 @@ impl<L: Ledger> Held<L> {
         };
         self.made += 1;
         Ok(hand)
+    }
+
+    // Hands that exist at one time are no more than were made.
+    pub(crate) fn are_few(&mut self, hands: &mut [Hand<L>])
+        requires { L.parts ≡ 4096 }
+        ensures made { length hands.old ≤ self.old.made }
+        ensures few { length hands.old ≤ 4095 }
+        ensures hands { hands.new ≡ hands.old }
+        ensures held { self.new ≡ self.old }
+    {
+        are_few(hands, &mut self.rest);
     }
 
     // Whether the sizes are the master's, and the hand's last call stands in the history.

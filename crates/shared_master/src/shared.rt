@@ -1,4 +1,4 @@
-ghost use Rattle.std.specs.Prelude.{◌≡◌, ℕ, ◌<◌, [], false, length, IfOk};
+ghost use Rattle.std.specs.Prelude.{◌≡◌, ℕ, ◌<◌, ◌≤◌, [], false, length, IfOk};
 ghost use Rattle.node_ids.specs.Sets.{has_number};
 ghost use Rattle.block_map.specs.Copies.{AreCopies, holdings};
 ghost use Rattle.master_state.specs.declared.answers.Answer.{Answer};
@@ -95,6 +95,16 @@ impl<L: Ledger> SharedMaster<L> {
         ensures { IfOk result (λ h. h ≡ record { calls = []; room = room; strange = false; full = false }) }
     {
         self.lock.lock(rt).hand(alloc, room)
+    }
+
+    /// A law of the hands that exist at one time: they are at most 4,095. So where one caller has so many,
+    /// `hand` answers no Ok.
+    pub fn are_few<R: Wait>(&self, rt: &R, hands: &mut [Hand<L>])
+        requires { L.parts ≡ 4096 }
+        ensures few { length hands.old ≤ 4095 }
+        ensures hands { hands.new ≡ hands.old }
+    {
+        self.lock.lock(rt).are_few(hands);
     }
 
     /// `Master::add` under the lock.

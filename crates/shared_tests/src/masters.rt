@@ -1,4 +1,4 @@
-//! Masters made from rows.
+//! Shared masters made from rows, and what becomes of them.
 ghost use Rattle.std.specs.Prelude.{◌≡◌, [], IfSome, length, map};
 ghost use Rattle.std.specs.List.{range_with_len};
 ghost use Rattle.shuffle_reduce.specs.Gather.{values_of};
@@ -7,11 +7,13 @@ use master_core::{Cluster, Master};
 use master_state::Limits;
 use node_ids::{DocNo, SplitNo, WorkerNo};
 use rack_tree::RackTree;
+use shared_master::{Hand, Settled, SharedMaster, settle};
 use std::alloc::Global;
 use std::process::Abort;
 use std::sync::Arc;
+use std::sync::ledger::{Blank, Ledger};
 use wave_problem::SplitLine;
-use word_map::{Document, SplitText, Text};
+use word_map::{Document, MapResult, SplitText, Text, map_split};
 
 /// How many workers the first rack has, and how many the second; each has a slot.
 pub type Racks = (usize, usize);
@@ -60,8 +62,8 @@ fn line_of(alloc: Global, row: &SplitRow<'_>) -> Option<SplitLine> {
     })
 }
 
-/// The text of a split that has these words.
-pub fn text_of(alloc: Global, split: SplitNo, words: &str) -> Option<SplitText>
+// The text of a split that has these words.
+fn text_of(alloc: Global, split: SplitNo, words: &str) -> Option<SplitText>
     ensures { IfSome result (λ text. text.split ≡ split) }
 {
     let mut documents = Vec::new(alloc);
@@ -87,8 +89,8 @@ fn texts_of(rt: &impl Abort, alloc: Global, rows: &[SplitRow<'_>]) -> Option<Vec
     Some(texts)
 }
 
-/// A master of these workers and splits, of two parts, of which nothing has happened.
-pub fn make_master(
+// A master of these workers and splits, of two parts, of which nothing has happened.
+fn make_master(
     rt: &impl Abort,
     alloc: Global,
     racks: Racks,
@@ -108,4 +110,40 @@ pub fn make_master(
         limits.events <= 65_536 && limits.attempts <= 1_000_000 && limits.sweeps <= limits.events
     );
     Master::new(alloc, cluster, limits).ok()
+}
+
+/// Such a master, shared.
+pub fn share<L: Ledger>(
+    rt: &impl Abort,
+    alloc: Global,
+    blank: Blank,
+    racks: Racks,
+    rows: &[SplitRow<'_>],
+    limits: Limits,
+) -> Option<SharedMaster<L>>
+    requires { (blank.name ≡ L.name) × (blank.parts ≡ L.parts) × (blank.parts ≡ 4096) }
+{
+    let master = make_master(rt, alloc, racks, rows, limits)?;
+    Some(SharedMaster::new(blank, master))
+}
+
+/// What a split's words make.
+pub fn made_of(alloc: Global, split: SplitNo, words: &str) -> Option<MapResult> {
+    let text = text_of(alloc, split, words)?;
+    map_split(alloc, Arc::new(alloc, text).ok()?, 2).ok()
+}
+
+/// A list of one hand.
+pub fn list_of<L: Ledger>(alloc: Global, hand: Hand<L>) -> Option<Vec<Hand<L>>> {
+    let mut hands = Vec::new(alloc);
+    hands.push(hand).ok()?;
+    Some(hands)
+}
+
+/// The master, where its history is made of these hands.
+pub fn settled<L: Ledger>(shared: SharedMaster<L>, hands: Vec<Hand<L>>) -> Option<Master> {
+    match settle(shared.into_master(), hands) {
+        Ok(Settled { master }) => Some(master),
+        Err(_) => None,
+    }
 }

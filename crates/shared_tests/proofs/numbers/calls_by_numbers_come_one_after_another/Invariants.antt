@@ -1,4 +1,4 @@
-use Rattle.shared_tests.proofs.jobs.calls_by_numbers_come_one_after_another.Given as goal
+use Rattle.shared_tests.proofs.numbers.calls_by_numbers_come_one_after_another.Given as goal
 
 -- the ledger of the blank
 abbrev pub ghosts-call_by_numbers : goal.ghosts-call_by_numbers

@@ -1,4 +1,4 @@
-use Rattle.shared_tests.proofs.hands.a_copy_is_ordered_under_the_lock.Given as goal
+use Rattle.shared_tests.proofs.numbers.a_copy_is_ordered_under_the_lock.Given as goal
 
 -- the ledger of the blank
 abbrev pub ghosts-order_copies : goal.ghosts-order_copies
