@@ -1,15 +1,15 @@
 #!/usr/bin/env python3
 """Tries the wrong edits of edits/CRATE/*.edit: the prover must refuse each, by a goal of the function it changes.
 
-    edits.py [CRATE..]      (each crate that has edits, where none is named)
+    edits.py [CRATE[/NAME]..]      (each crate that has edits, where none is named; or one edit of a crate)
 
 An edit has the form of a must-fail edit: a line 'file: src/lib.rt', and then pairs of lines 'old: TEXT' and
 'new: TEXT', each old TEXT standing once in that file. Edits of different functions of a crate stand in one copy of it
 and are tried by one check. An edit is refused where the check names a goal of its own function that is not proved: a
 clause, an invariant, a safety goal, or what a callee requires. That a callee is no longer proved, that a proof file
 names what is gone, or that a text cannot be read, refuses nothing. What a group leaves open is tried among fewer
-others, and last alone. An edit that stands in no function's body, or in several, is tried alone, and a goal of any
-function of the crate refuses it.
+others; a group of which nothing is told, as where one edit cannot be compiled, is halved. An edit that stands in no
+function's body, or in several, is tried alone, and a goal of any function of the crate refuses it.
 
 A crate counts as proved without its edits, as `rt ci` or `rt check` says. Its libraries are taken from out/, as
 either leaves them, and are built where they are missing or older than their sources. The checkout stays as it is.
@@ -241,14 +241,19 @@ class Trial:
             group = {}
             for edit in left:
                 group.setdefault(edit.function, edit)
-            self.judge([*group.values()], told)
-            if not any(it in told for it in group.values()):
-                # (as where one cannot be compiled)
-                alone += group.values()
-            left = [it for it in left if it not in told and it not in alone]
+            self.judge_in_halves([*group.values()], told)
+            left = [it for it in left if it not in told]
         for edit in alone:
             self.judge([edit], told)
         return told
+
+    def judge_in_halves(self, group, told):
+        """Tells of at least one edit of the group."""
+        self.judge(group, told)
+        if not any(it in told for it in group):
+            middle = len(group) // 2
+            for half in (group[:middle], group[middle:]):
+                self.judge_in_halves(half, told)
 
 
 def gist(said):
@@ -290,14 +295,16 @@ def main(names):
     strays = [it for name, paths in found.items() for it in paths if name not in crates or it.suffix != ".edit"]
     for it in strays:
         print(f"{it.relative_to(ROOT)}: BAD EDIT: an edit is a file edits/CRATE/NAME.edit, of a crate of crates.txt")
-    names = names or [it for it in found if it in crates]
-    for name in names:
-        if name not in crates or not found.get(name):
-            sys.exit(f"{name} is no crate with edits")
-    build_libraries(crates, names)
-    edits = {name: [it for it in found[name] if it not in strays] for name in names}
+    edits = {}
+    for asked in names or [it for it in found if it in crates]:
+        name, _, wanted = asked.partition("/")
+        paths = [it for it in found.get(name, []) if it not in strays and wanted in ("", it.stem)]
+        if name not in crates or not paths:
+            sys.exit(f"{asked} is no crate with edits, and no edit of one")
+        edits.setdefault(name, []).extend(it for it in paths if it not in edits.get(name, []))
+    build_libraries(crates, edits)
     # (what takes longest begins first)
-    names = sorted(names, key=lambda it: -sum(path.stat().st_size for path in crates[it].folder.rglob("*.rt")))
+    names = sorted(edits, key=lambda it: -sum(path.stat().st_size for path in crates[it].folder.rglob("*.rt")))
     with ThreadPoolExecutor(int(os.environ.get("JOBS", 0)) or places(CHECK_MEMORY)) as pool:
         refused = sum(pool.map(lambda it: try_crate(crates[it], crates, edits[it]), names))
     failed = sum(map(len, edits.values())) - refused + len(strays)
