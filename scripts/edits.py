@@ -9,7 +9,7 @@ and are tried by one check. An edit is refused where the check names a goal of i
 clause, an invariant, a safety goal, or what a callee requires. That a callee is no longer proved, that a proof file
 names what is gone, or that a text cannot be read, refuses nothing. What a group leaves open is tried among fewer
 others; a group of which nothing is told, as where one edit cannot be compiled, is halved. An edit that stands in no
-function's body, or in several, is tried alone, and a goal of any function of the crate refuses it.
+function's body, or in several, is tried alone, and a goal of any function that the check reaches refuses it.
 
 A crate counts as proved without its edits, as `rt ci` or `rt check` says. Its libraries are taken from out/, as
 either leaves them, and are built where they are missing or older than their sources. The checkout stays as it is.
@@ -138,7 +138,10 @@ class Edit:
                 raise Unfit(f"this line has no place in it: {line}")
         if not self.changes:
             raise Unfit("it has no 'old:' and 'new:' pair")
-        self.function = self.place(crate)
+        bodies = self.bodies(crate)
+        # what `rattle check --only` names the functions by whose bodies it changes
+        self.asked = [it.asked for it in bodies if it]
+        self.function = bodies.pop() if len(bodies) == 1 else None
 
     def change(self, crate, file, old, new):
         if file not in self.texts:
@@ -153,15 +156,15 @@ class Edit:
         self.changes.append((file, self.texts[file].count("\n", 0, at) + 1))
         self.texts[file] = self.texts[file].replace(old, new)
 
-    def place(self, crate):
-        """The function whose body has all that the edit changes, or None."""
+    def bodies(self, crate):
+        """The functions in whose bodies its changes stand, and None where one stands in no body."""
         found = set()
         for file, line in self.changes:
             text = (crate.folder / file).read_text(encoding="utf-8")
             functions = functions_of(file, text) if file.endswith(".rt") else []
             holders = [it for it in functions if it.opens < line < it.last]
             found.add(holders[-1] if holders else None)
-        return found.pop() if len(found) == 1 else None
+        return found
 
 
 @dataclass(frozen=True)
@@ -198,8 +201,8 @@ class Trial:
                 lines = (copy / file).read_text(encoding="utf-8").split("\n")
                 lines[line - 1] = edit.texts[file].split("\n")[line - 1]
                 (copy / file).write_text("\n".join(lines), encoding="utf-8")
-        asked = [it.function.asked if it.function else "" for it in edits]
-        only = [word for it in dict.fromkeys(asked) for word in ("--only", it)] if all(asked) else []
+        asked = dict.fromkeys(word for it in edits for word in it.asked)
+        only = [word for it in asked for word in ("--only", it)] if all(it.asked for it in edits) else []
         said, status = self.run([*self.words, "--incremental", str(self.room / "kept"), *only], copy)
         shutil.rmtree(copy)
         if status != 1 or not re.search(r"^(logic=not-proved|only=).*\n\Z", said, re.M):
