@@ -1,15 +1,15 @@
 #!/usr/bin/env python3
 """Tries the wrong edits of edits/CRATE/*.edit: the prover must refuse each, by a goal of the function it changes.
 
-    edits.py [CRATE..]      (each crate that has edits, where none is named)
+    edits.py [CRATE[/NAME]..]      (each crate that has edits, where none is named; or one edit of a crate)
 
 An edit has the form of a must-fail edit: a line 'file: src/lib.rt', and then pairs of lines 'old: TEXT' and
 'new: TEXT', each old TEXT standing once in that file. Edits of different functions of a crate stand in one copy of it
 and are tried by one check. An edit is refused where the check names a goal of its own function that is not proved: a
 clause, an invariant, a safety goal, or what a callee requires. That a callee is no longer proved, that a proof file
 names what is gone, or that a text cannot be read, refuses nothing. What a group leaves open is tried among fewer
-others, and last alone. An edit that stands in no function's body, or in several, is tried alone, and a goal of any
-function of the crate refuses it.
+others; a group of which nothing is told, as where one edit cannot be compiled, is halved. An edit that stands in no
+function's body, or in several, is tried alone, and a goal of any function that the check reaches refuses it.
 
 A crate counts as proved without its edits, as `rt ci` or `rt check` says. Its libraries are taken from out/, as
 either leaves them, and are built where they are missing or older than their sources. The checkout stays as it is.
@@ -138,7 +138,10 @@ class Edit:
                 raise Unfit(f"this line has no place in it: {line}")
         if not self.changes:
             raise Unfit("it has no 'old:' and 'new:' pair")
-        self.function = self.place(crate)
+        bodies = self.bodies(crate)
+        # what `rattle check --only` names the functions by whose bodies it changes
+        self.asked = [it.asked for it in bodies if it]
+        self.function = bodies.pop() if len(bodies) == 1 else None
 
     def change(self, crate, file, old, new):
         if file not in self.texts:
@@ -153,15 +156,15 @@ class Edit:
         self.changes.append((file, self.texts[file].count("\n", 0, at) + 1))
         self.texts[file] = self.texts[file].replace(old, new)
 
-    def place(self, crate):
-        """The function whose body has all that the edit changes, or None."""
+    def bodies(self, crate):
+        """The functions in whose bodies its changes stand, and None where one stands in no body."""
         found = set()
         for file, line in self.changes:
             text = (crate.folder / file).read_text(encoding="utf-8")
             functions = functions_of(file, text) if file.endswith(".rt") else []
             holders = [it for it in functions if it.opens < line < it.last]
             found.add(holders[-1] if holders else None)
-        return found.pop() if len(found) == 1 else None
+        return found
 
 
 @dataclass(frozen=True)
@@ -198,8 +201,8 @@ class Trial:
                 lines = (copy / file).read_text(encoding="utf-8").split("\n")
                 lines[line - 1] = edit.texts[file].split("\n")[line - 1]
                 (copy / file).write_text("\n".join(lines), encoding="utf-8")
-        asked = [it.function.asked if it.function else "" for it in edits]
-        only = [word for it in dict.fromkeys(asked) for word in ("--only", it)] if all(asked) else []
+        asked = dict.fromkeys(word for it in edits for word in it.asked)
+        only = [word for it in asked for word in ("--only", it)] if all(it.asked for it in edits) else []
         said, status = self.run([*self.words, "--incremental", str(self.room / "kept"), *only], copy)
         shutil.rmtree(copy)
         if status != 1 or not re.search(r"^(logic=not-proved|only=).*\n\Z", said, re.M):
@@ -241,14 +244,19 @@ class Trial:
             group = {}
             for edit in left:
                 group.setdefault(edit.function, edit)
-            self.judge([*group.values()], told)
-            if not any(it in told for it in group.values()):
-                # (as where one cannot be compiled)
-                alone += group.values()
-            left = [it for it in left if it not in told and it not in alone]
+            self.judge_in_halves([*group.values()], told)
+            left = [it for it in left if it not in told]
         for edit in alone:
             self.judge([edit], told)
         return told
+
+    def judge_in_halves(self, group, told):
+        """Tells of at least one edit of the group."""
+        self.judge(group, told)
+        if not any(it in told for it in group):
+            middle = len(group) // 2
+            for half in (group[:middle], group[middle:]):
+                self.judge_in_halves(half, told)
 
 
 def gist(said):
@@ -290,14 +298,16 @@ def main(names):
     strays = [it for name, paths in found.items() for it in paths if name not in crates or it.suffix != ".edit"]
     for it in strays:
         print(f"{it.relative_to(ROOT)}: BAD EDIT: an edit is a file edits/CRATE/NAME.edit, of a crate of crates.txt")
-    names = names or [it for it in found if it in crates]
-    for name in names:
-        if name not in crates or not found.get(name):
-            sys.exit(f"{name} is no crate with edits")
-    build_libraries(crates, names)
-    edits = {name: [it for it in found[name] if it not in strays] for name in names}
+    edits = {}
+    for asked in names or [it for it in found if it in crates]:
+        name, _, wanted = asked.partition("/")
+        paths = [it for it in found.get(name, []) if it not in strays and wanted in ("", it.stem)]
+        if name not in crates or not paths:
+            sys.exit(f"{asked} is no crate with edits, and no edit of one")
+        edits.setdefault(name, []).extend(it for it in paths if it not in edits.get(name, []))
+    build_libraries(crates, edits)
     # (what takes longest begins first)
-    names = sorted(names, key=lambda it: -sum(path.stat().st_size for path in crates[it].folder.rglob("*.rt")))
+    names = sorted(edits, key=lambda it: -sum(path.stat().st_size for path in crates[it].folder.rglob("*.rt")))
     with ThreadPoolExecutor(int(os.environ.get("JOBS", 0)) or places(CHECK_MEMORY)) as pool:
         refused = sum(pool.map(lambda it: try_crate(crates[it], crates, edits[it]), names))
     failed = sum(map(len, edits.values())) - refused + len(strays)

@@ -1,19 +1,45 @@
 //! Plans one wave, and has the plan checked by its prices.
 #![tactic(auto)]
 
-ghost use Rattle.std.specs.Prelude.{◌≡◌, true, IfSome};
+ghost use Rattle.std.specs.Prelude.{◌≡◌, true, length, IfSome};
 
 use certificate_checker::certify;
 use node_ids::{PairSet, SplitNo, WorkerNo};
 use rack_tree::RackTree;
 use std::alloc::Global;
 use std::io;
-use wave_planner::plan;
-use wave_problem::{Problem, SplitLine, WorkerLine};
+use std::io::Print;
+use wave_planner::{Planned, plan};
+use wave_problem::{Plan, Problem, SplitLine, WorkerLine};
 
-fn split(alloc: Global, bytes: u64, holder: WorkerNo) -> Option<SplitLine> {
+// Two workers in one rack.
+fn tree(alloc: Global) -> Option<RackTree>
+    ensures { IfSome result (λ tree. length tree.rack_of ≡ 2) }
+{
+    let mut tree = RackTree::new(alloc);
+    let centre = tree.add_centre().ok()?;
+    let rack = tree.add_rack(centre).ok()?;
+    tree.add_worker(rack).ok()?;
+    tree.add_worker(rack).ok()?;
+    Some(tree)
+}
+
+fn workers(alloc: Global) -> Option<Vec<WorkerLine>>
+    ensures { IfSome result (λ workers. length workers.items ≡ 2) }
+{
+    let worker = WorkerLine {
+        live: true,
+        free: 1,
+    };
+    let mut workers = Vec::new(alloc);
+    workers.push(worker).ok()?;
+    workers.push(worker).ok()?;
+    Some(workers)
+}
+
+fn split(alloc: Global, bytes: u64) -> Option<SplitLine> {
     let mut holders = Vec::new(alloc);
-    holders.push(holder).ok()?;
+    holders.push(WorkerNo::new(0)).ok()?;
     Some(SplitLine {
         bytes,
         pending: true,
@@ -21,29 +47,19 @@ fn split(alloc: Global, bytes: u64, holder: WorkerNo) -> Option<SplitLine> {
     })
 }
 
-// Two workers in one rack, and two splits that both lie on the first worker.
-fn problem(alloc: Global) -> Option<Problem> {
-    let mut tree = RackTree::new(alloc);
-    let centre = tree.add_centre().ok()?;
-    let rack = tree.add_rack(centre).ok()?;
-    let a = tree.add_worker(rack).ok()?;
-    tree.add_worker(rack).ok()?;
-    let mut workers = Vec::new(alloc);
-    workers
-        .push(WorkerLine {
-            live: true,
-            free: 1,
-        })
-        .ok()?;
-    workers
-        .push(WorkerLine {
-            live: true,
-            free: 1,
-        })
-        .ok()?;
+// Two splits, that both lie on the first worker.
+fn splits(alloc: Global) -> Option<Vec<SplitLine>> {
     let mut splits = Vec::new(alloc);
-    splits.push(split(alloc, 10, a)?).ok()?;
-    splits.push(split(alloc, 20, a)?).ok()?;
+    for bytes in [10, 20] {
+        splits.push(split(alloc, bytes)?).ok()?;
+    }
+    Some(splits)
+}
+
+fn problem(alloc: Global) -> Option<Problem> {
+    let tree = tree(alloc)?;
+    let workers = workers(alloc)?;
+    let splits = splits(alloc)?;
     let barred = PairSet::new(alloc).ok()?;
     Problem::new(alloc, tree, workers, splits, barred).ok()
 }
@@ -56,26 +72,39 @@ pub fn passes(alloc: Global, problem: &Problem) -> Option<bool>
     Some(certify(problem, planned.plan(), planned.prices()).is_ok())
 }
 
-fn main(rt: HostRuntime) -> io::Result<()> {
-    let Some(problem) = problem(rt.alloc()) else {
-        return Ok(());
-    };
-    let Ok(planned) = plan(rt.alloc(), &problem) else {
-        return Ok(());
-    };
+fn print_starts(rt: &impl Print, plan: &Plan) -> io::Result<()> {
+    for i in 0..plan.splits() {
+        if let Some(worker) = plan.of(SplitNo::new(i as u16)) {
+            println!(rt; "split {i} on worker {}", worker.index())?;
+        }
+    }
+    Ok(())
+}
+
+fn print_plan(rt: &impl Print, planned: &Planned) -> io::Result<()> {
     let said = planned.certified();
     println!(rt;
         "{} splits start, at byte-distance {}",
         said.count, said.cost
     )?;
-    for i in 0..planned.plan().splits() {
-        if let Some(worker) = planned.plan().of(SplitNo::new(i as u16)) {
-            println!(rt; "split {i} on worker {}", worker.index())?;
-        }
-    }
-    match certify(&problem, planned.plan(), planned.prices()) {
-        Ok(_) => println!(rt; "certified")?,
-        Err(condition) => println!(rt; "{condition:?}")?,
+    print_starts(rt, planned.plan())
+}
+
+fn print_wave(rt: &impl Print, alloc: Global, problem: &Problem) -> io::Result<()> {
+    let Ok(planned) = plan(alloc, problem) else {
+        return Ok(());
+    };
+    let verdict = certify(problem, planned.plan(), planned.prices());
+    print_plan(rt, &planned)?;
+    if verdict.is_ok() {
+        println!(rt; "certified")?;
     }
     Ok(())
+}
+
+fn main(rt: HostRuntime) -> io::Result<()> {
+    let Some(problem) = problem(rt.alloc()) else {
+        return Ok(());
+    };
+    print_wave(&rt, rt.alloc(), &problem)
 }

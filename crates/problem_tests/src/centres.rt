@@ -49,12 +49,7 @@ fn assert_certified(rt: &impl Abort, alloc: Global, row: Row<'_>) -> Result<(), 
         count: row.certified.0,
         cost: row.certified.1,
     };
-    assert_eq!(rt;
-        certify(&problem, &plan, &prices),
-        Ok(want),
-        "reward {}",
-        row.reward
-    );
+    assert_eq!(rt; certify(&problem, &plan, &prices), Ok(want));
     Ok(())
 }
 

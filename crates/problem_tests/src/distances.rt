@@ -1,6 +1,8 @@
 use crate::clusters::{tree, tree_in};
 use node_ids::{CentreNo, RackNo, WorkerNo};
 use rack_tree::{MAX_CENTRES, MAX_RACKS, MAX_WORKERS, RackTree, TreeError};
+use std::alloc::Global;
+use std::process::Abort;
 use std::test::Fail;
 
 #[test]
@@ -17,7 +19,7 @@ fn distances(rt: HostRuntime) -> Result<(), Fail> {
         (2, 2, 0),
     ] {
         let distance = tree.distance(WorkerNo::new(from), WorkerNo::new(to));
-        assert_eq!(rt; distance, steps, "from {from} to {to}");
+        assert_eq!(rt; (from, to, distance), (from, to, steps));
     }
     Ok(())
 }
@@ -37,7 +39,7 @@ fn distances_between_centres(rt: HostRuntime) -> Result<(), Fail> {
         (2, 3, 6),
     ] {
         let distance = tree.distance(WorkerNo::new(from), WorkerNo::new(to));
-        assert_eq!(rt; distance, steps, "from {from} to {to}");
+        assert_eq!(rt; (from, to, distance), (from, to, steps));
     }
     Ok(())
 }
@@ -46,7 +48,7 @@ fn distances_between_centres(rt: HostRuntime) -> Result<(), Fail> {
 fn reaches(rt: HostRuntime) -> Result<(), Fail> {
     for (centres, reach) in [(0, 4), (1, 4), (2, 6), (8, 6)] {
         let tree = tree_in(&rt, rt.alloc(), (centres, &[]), &[]).ok_or("no tree")?;
-        assert_eq!(rt; tree.reach(), reach, "{centres} centres");
+        assert_eq!(rt; (centres, tree.reach()), (centres, reach));
     }
     Ok(())
 }
@@ -55,32 +57,51 @@ fn reaches(rt: HostRuntime) -> Result<(), Fail> {
 fn a_copy_has_the_same_racks(rt: HostRuntime) -> Result<(), Fail> {
     let tree = tree(&rt, rt.alloc(), &[(0, true, 1), (1, true, 1)]).ok_or("no tree")?;
     let copied = tree.copy(rt.alloc())?;
-    assert!(rt; copied.workers() == 2);
-    assert!(rt; copied.racks() == 2 && copied.centres() == 1);
-    assert_eq!(rt; copied.centre_of(RackNo::new(1)), CentreNo::new(0));
-    assert_eq!(rt; copied.rack_of(WorkerNo::new(1)), RackNo::new(1));
+    assert!(rt; copied.workers() == 2 && copied.racks() == 2 && copied.centres() == 1);
+    let above = (
+        copied.centre_of(RackNo::new(1)),
+        copied.rack_of(WorkerNo::new(1)),
+    );
+    assert_eq!(rt; above, (CentreNo::new(0), RackNo::new(1)));
     Ok(())
 }
 
-#[test]
-fn a_tree_has_its_limits(rt: HostRuntime) -> Result<(), Fail> {
-    let mut tree = RackTree::new(rt.alloc());
+fn full_of_centres(alloc: Global) -> Result<RackTree, TreeError> {
+    let mut tree = RackTree::new(alloc);
     for _ in 0..MAX_CENTRES {
         tree.add_centre()?;
     }
-    assert_eq!(rt; tree.add_centre(), Err(TreeError::Limit));
-    let centre = CentreNo::new(7);
+    Ok(tree)
+}
+
+fn full_of_racks(rt: &impl Abort, alloc: Global) -> Result<RackTree, TreeError> {
+    let mut tree = full_of_centres(alloc)?;
     for _ in 0..MAX_RACKS {
         assert!(rt; tree.centres() > 7);
-        tree.add_rack(centre)?;
+        tree.add_rack(CentreNo::new(7))?;
     }
-    assert!(rt; tree.centres() > 7);
-    assert_eq!(rt; tree.add_rack(centre), Err(TreeError::Limit));
+    Ok(tree)
+}
+
+fn full_of_workers(rt: &impl Abort, alloc: Global) -> Result<RackTree, TreeError> {
+    let mut tree = full_of_racks(rt, alloc)?;
     for _ in 0..MAX_WORKERS {
         assert!(rt; tree.racks() > 7);
         tree.add_worker(RackNo::new(7))?;
     }
-    assert!(rt; tree.racks() > 7);
-    assert_eq!(rt; tree.add_worker(RackNo::new(7)), Err(TreeError::Limit));
+    Ok(tree)
+}
+
+#[test]
+fn a_tree_has_its_limits(rt: HostRuntime) -> Result<(), Fail> {
+    let mut tree = full_of_workers(&rt, rt.alloc())?;
+    assert!(rt; tree.centres() > 7 && tree.racks() > 7);
+    let refused = (
+        tree.add_centre().err(),
+        tree.add_rack(CentreNo::new(7)).err(),
+        tree.add_worker(RackNo::new(7)).err(),
+    );
+    let limit = Some(TreeError::Limit);
+    assert_eq!(rt; refused, (limit, limit, limit));
     Ok(())
 }

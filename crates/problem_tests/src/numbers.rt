@@ -7,23 +7,29 @@ use std::test::Fail;
 #[test]
 fn a_layout_numbers_its_nodes(rt: HostRuntime) {
     let layout = Numbered { nodes: 3 };
-    assert_eq!(rt; layout.size(), 3);
     for index in 0..3usize {
         let node = layout.node(index);
-        assert!(rt; layout.holds(node), "at {index}");
-        assert_eq!(rt; layout.index(node), index);
+        let told = (layout.holds(node), layout.index(node));
+        assert_eq!(rt; told, (true, index));
     }
-    assert!(rt; !layout.holds(3));
+    assert_eq!(rt; (layout.size(), layout.holds(3)), (3, false));
 }
 
 #[test]
 fn numbers_are_indexes(rt: HostRuntime) {
-    assert_eq!(rt; SplitNo::new(1023).index(), 1023);
-    assert_eq!(rt; WorkerNo::new(255).index(), 255);
-    assert_eq!(rt; RackNo::new(31).index(), 31);
-    assert_eq!(rt; PartNo::new(63).index(), 63);
-    assert_eq!(rt; DocNo::new(65_535).index(), 65_535);
-    assert_eq!(rt; AttemptNo::new(1_000_000).index(), 1_000_000);
+    let indexes = [
+        SplitNo::new(1023).index(),
+        WorkerNo::new(255).index(),
+        RackNo::new(31).index(),
+        PartNo::new(63).index(),
+        DocNo::new(65_535).index(),
+        AttemptNo::new(1_000_000).index(),
+    ];
+    assert_eq!(rt; indexes, [1023, 255, 31, 63, 65_535, 1_000_000]);
+}
+
+#[test]
+fn numbers_stand_in_order(rt: HostRuntime) {
     assert!(rt; WorkerNo::new(1) < WorkerNo::new(2));
 }
 
@@ -33,13 +39,17 @@ fn sets_have_what_was_put(rt: HostRuntime) {
     let mut splits = SplitSet::new();
     workers.put(WorkerNo::new(64));
     splits.put(SplitNo::new(1023));
-    for (number, is_worker) in [(0, false), (63, false), (64, true), (255, false)] {
-        assert_eq!(rt;
+    for (number, is_worker, is_split) in [
+        (0, false, false),
+        (63, false, false),
+        (64, true, false),
+        (255, false, false),
+    ] {
+        let told = (
             workers.has(WorkerNo::new(number)),
-            is_worker,
-            "worker {number}"
+            splits.has(SplitNo::new(number)),
         );
-        assert!(rt; !splits.has(SplitNo::new(number)), "split {number}");
+        assert_eq!(rt; (number, told), (number, (is_worker, is_split)));
     }
     assert!(rt; splits.has(SplitNo::new(1023)));
 }
@@ -49,7 +59,10 @@ fn a_copy_has_the_same_pairs(rt: HostRuntime) -> Result<(), Fail> {
     let mut pairs = PairSet::new(rt.alloc())?;
     pairs.put(SplitNo::new(1), WorkerNo::new(0));
     let copied = pairs.copy(rt.alloc())?;
-    assert!(rt; copied.has(SplitNo::new(1), WorkerNo::new(0)));
-    assert!(rt; !copied.has(SplitNo::new(0), WorkerNo::new(255)));
+    let told = (
+        copied.has(SplitNo::new(1), WorkerNo::new(0)),
+        copied.has(SplitNo::new(0), WorkerNo::new(255)),
+    );
+    assert_eq!(rt; told, (true, false));
     Ok(())
 }

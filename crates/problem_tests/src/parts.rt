@@ -18,8 +18,8 @@ fn splits_are_told_by_limits_and_holders(rt: HostRuntime) -> Result<(), Fail> {
     ];
     for (bytes, holders, is_small, is_held_well) in rows {
         let splits = split_lines(rt.alloc(), &[(bytes, true, holders)]).ok_or("no splits")?;
-        assert_eq!(rt; are_small_splits(&splits), is_small, "{bytes} bytes");
-        assert_eq!(rt; are_held_well(3, &splits), is_held_well, "{holders:?}");
+        let told = (are_small_splits(&splits), are_held_well(3, &splits));
+        assert_eq!(rt; (bytes, told), (bytes, (is_small, is_held_well)));
     }
     Ok(())
 }
@@ -31,8 +31,7 @@ fn first_may_start(
     barred: &PairSet,
     splits: &[SplitLine],
 ) -> bool {
-    assert!(rt; workers.len() <= 256);
-    assert!(rt; splits.len() == 1);
+    assert!(rt; workers.len() <= 256 && splits.len() == 1);
     assert!(rt; are_held_well(workers.len(), splits));
     let line = splits[0].lent();
     may_start(workers, barred, SplitNo::new(0), &line)
@@ -53,7 +52,7 @@ fn a_split_may_start_where_a_worker_may_take_it(rt: HostRuntime) -> Result<(), F
         let splits = split_lines(alloc, &[(10, pending, &[holder])]).ok_or("no splits")?;
         let barred = pairs(&rt, alloc, &[(0, barred)]).ok_or("no pairs")?;
         let told = first_may_start(&rt, &workers, &barred, &splits);
-        assert_eq!(rt; told, want, "pending {pending}, held by {holder}");
+        assert_eq!(rt; (pending, holder, told), (pending, holder, want));
     }
     Ok(())
 }

@@ -9,9 +9,12 @@ fn a_plan_counts_its_starts(rt: HostRuntime) -> Result<(), Fail> {
     assert!(rt; plan.splits() == 3 && plan.workers() == 3);
     plan.set(SplitNo::new(0), Some(WorkerNo::new(1)));
     plan.set(SplitNo::new(1), Some(WorkerNo::new(0)));
-    assert_eq!(rt; plan.of(SplitNo::new(0)), Some(WorkerNo::new(1)));
-    assert_eq!(rt; plan.count(), 2);
-    assert_eq!(rt; plan.load(WorkerNo::new(0)), 1);
+    let told = (
+        plan.of(SplitNo::new(0)),
+        plan.count(),
+        plan.load(WorkerNo::new(0)),
+    );
+    assert_eq!(rt; told, (Some(WorkerNo::new(1)), 2, 1));
     Ok(())
 }
 

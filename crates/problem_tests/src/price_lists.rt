@@ -8,8 +8,11 @@ fn prices_are_as_set(rt: HostRuntime) -> Result<(), Fail> {
     assert!(rt; prices.splits() == 2 && prices.workers() == 1);
     prices.set_split(SplitNo::new(1), 91);
     prices.set_worker(WorkerNo::new(0), 30);
-    assert_eq!(rt; prices.split(SplitNo::new(0)), 0);
-    assert_eq!(rt; prices.split(SplitNo::new(1)), 91);
-    assert_eq!(rt; prices.worker(WorkerNo::new(0)), 30);
+    let told = [
+        prices.split(SplitNo::new(0)),
+        prices.split(SplitNo::new(1)),
+        prices.worker(WorkerNo::new(0)),
+    ];
+    assert_eq!(rt; told, [0, 91, 30]);
     Ok(())
 }

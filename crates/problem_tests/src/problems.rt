@@ -42,11 +42,7 @@ fn errors_in_order(rt: HostRuntime) {
     ];
     for (free, bytes, holders, want) in rows {
         let error = told(&rt, rt.alloc(), free, bytes, holders);
-        assert_eq!(rt;
-            error,
-            want,
-            "{free} slots, {bytes} bytes, holders {holders:?}"
-        );
+        assert_eq!(rt; (free, bytes, error), (free, bytes, want));
     }
 }
 
@@ -91,7 +87,10 @@ fn costs(rt: HostRuntime) -> Result<(), Fail> {
         (2, 2, None, false),
     ] {
         let told = costs_of(&rt, &problem, split, worker);
-        assert_eq!(rt; told, [(cost, admissible); 2], "{split} on {worker}");
+        assert_eq!(rt;
+            (split, worker, told),
+            (split, worker, [(cost, admissible); 2])
+        );
     }
     Ok(())
 }
@@ -101,11 +100,15 @@ fn splits(rt: HostRuntime) -> Result<(), Fail> {
     let problem = three_splits(&rt, rt.alloc()).ok_or("no problem")?;
     let split = SplitNo::new(1);
     assert!(rt; problem.splits() == 3);
-    assert_eq!(rt; problem.bytes(split), 20);
-    assert!(rt; problem.is_pending(split) && problem.has_live_holder(split));
+    let told = (
+        problem.bytes(split),
+        problem.is_pending(split),
+        problem.has_live_holder(split),
+        SplitCosts::new(&problem, split).is_open(),
+        SplitCosts::new(&problem, SplitNo::new(2)).is_open(),
+    );
+    assert_eq!(rt; told, (20, true, true, true, false));
     assert_eq!(rt; problem.holders(split), [WorkerNo::new(0)].as_slice());
-    let held_by_the_dead = SplitCosts::new(&problem, SplitNo::new(2));
-    assert!(rt; SplitCosts::new(&problem, split).is_open() && !held_by_the_dead.is_open());
     Ok(())
 }
 
@@ -114,10 +117,14 @@ fn workers(rt: HostRuntime) -> Result<(), Fail> {
     let problem = three_splits(&rt, rt.alloc()).ok_or("no problem")?;
     let worker = WorkerNo::new(1);
     assert!(rt; problem.splits() == 3 && problem.workers() == 3);
-    assert_eq!(rt; problem.tree().racks(), 2);
-    assert!(rt; problem.is_live(worker) && !problem.is_live(WorkerNo::new(2)));
-    assert_eq!(rt; problem.free(worker), 1);
-    let barred = problem.is_barred(SplitNo::new(1), worker);
-    assert!(rt; barred && !problem.is_barred(SplitNo::new(0), worker));
+    let told = (problem.tree().racks(), problem.free(worker));
+    assert_eq!(rt; told, (2, 1));
+    let told = [
+        problem.is_live(worker),
+        problem.is_live(WorkerNo::new(2)),
+        problem.is_barred(SplitNo::new(1), worker),
+        problem.is_barred(SplitNo::new(0), worker),
+    ];
+    assert_eq!(rt; told, [true, false, true, false]);
     Ok(())
 }

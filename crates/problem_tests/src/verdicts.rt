@@ -89,9 +89,8 @@ fn certified(rt: HostRuntime) {
         };
         let want = Certified { count: 2, cost: 20 };
         assert_eq!(rt;
-            answers_to(&rt, rt.alloc(), row),
-            Some((Ok(want), Ok(want))),
-            "prices {splits:?}"
+            (splits, answers_to(&rt, rt.alloc(), row)),
+            (splits, Some((Ok(want), Ok(want))))
         );
     }
 }
@@ -112,11 +111,7 @@ fn refused_prices(rt: HostRuntime) {
             workers,
             ..CERTIFIED
         };
-        assert_eq!(rt;
-            answers_to(&rt, rt.alloc(), row),
-            Some(refused(&want)),
-            "prices {splits:?}"
-        );
+        assert_eq!(rt; answers_to(&rt, rt.alloc(), row), Some(refused(&want)));
     }
 }
 
@@ -132,11 +127,7 @@ fn refused_starts(rt: HostRuntime) {
             starts,
             ..CERTIFIED
         };
-        assert_eq!(rt;
-            answers_to(&rt, rt.alloc(), row),
-            Some(refused(&want)),
-            "starts {starts:?}"
-        );
+        assert_eq!(rt; answers_to(&rt, rt.alloc(), row), Some(refused(&want)));
     }
 }
 
@@ -155,11 +146,7 @@ fn refused_where_nothing_starts(rt: HostRuntime) {
             workers,
             ..CERTIFIED
         };
-        assert_eq!(rt;
-            answers_to(&rt, rt.alloc(), row),
-            Some(refused(&want)),
-            "prices {splits:?}"
-        );
+        assert_eq!(rt; answers_to(&rt, rt.alloc(), row), Some(refused(&want)));
     }
 }
 
@@ -175,11 +162,7 @@ fn refused_in_another_problem(rt: HostRuntime) {
             b_live,
             ..CERTIFIED
         };
-        assert_eq!(rt;
-            answers_to(&rt, rt.alloc(), row),
-            Some(refused(&want)),
-            "{want:?}"
-        );
+        assert_eq!(rt; answers_to(&rt, rt.alloc(), row), Some(refused(&want)));
     }
 }
 
