@@ -2,11 +2,10 @@
 use crate::clusters::{Centres, SplitRow, WorkerRow, made_in};
 use certificate_checker::{Certified, certify};
 use node_ids::{SplitNo, WorkerNo};
-use price_certificate::{Prices, are_of_one_size};
+use price_certificate::{Condition, Prices, are_of_one_size};
 use rack_tree::MAX_WORKERS;
 use std::alloc::Global;
 use std::process::Abort;
-use std::test::Fail;
 use wave_problem::{MAX_SPLITS, Plan, Problem};
 
 // A problem, its reward, and a plan with prices that certify it, which starts so many splits at this cost.
@@ -38,23 +37,27 @@ fn plan(rt: &impl Abort, alloc: Global, row: Row<'_>) -> Option<Plan> {
     Some(plan)
 }
 
-fn assert_certified(rt: &impl Abort, alloc: Global, row: Row<'_>) -> Result<(), Fail> {
-    let problem = problem(rt, alloc, row).ok_or("no problem")?;
-    assert_eq!(rt; problem.reward(), row.reward);
-    let plan = plan(rt, alloc, row).ok_or("no plan")?;
-    let splits = row.split_prices.to_vec(alloc)?;
-    let prices = Prices::from_lists(splits, row.worker_prices.to_vec(alloc)?);
+fn prices(alloc: Global, row: Row<'_>) -> Option<Prices> {
+    let splits = row.split_prices.to_vec(alloc).ok()?;
+    let workers = row.worker_prices.to_vec(alloc).ok()?;
+    Some(Prices::from_lists(splits, workers))
+}
+
+// The reward, and what is answered.
+fn told(
+    rt: &impl Abort,
+    alloc: Global,
+    row: Row<'_>,
+) -> Option<(u64, Result<Certified, Condition>)> {
+    let problem = problem(rt, alloc, row)?;
+    let plan = plan(rt, alloc, row)?;
+    let prices = prices(alloc, row)?;
     assert!(rt; are_of_one_size(&problem, &plan, &prices));
-    let want = Certified {
-        count: row.certified.0,
-        cost: row.certified.1,
-    };
-    assert_eq!(rt; certify(&problem, &plan, &prices), Ok(want));
-    Ok(())
+    Some((problem.reward(), certify(&problem, &plan, &prices)))
 }
 
 #[test]
-fn rows(rt: HostRuntime) -> Result<(), Fail> {
+fn rows(rt: HostRuntime) {
     let far: &[WorkerRow] = &[(0, true, 0), (1, true, 1)];
     let near_and_far: &[WorkerRow] = &[(0, true, 0), (1, true, 1), (2, true, 1)];
     let one: &[SplitRow<'_>] = &[(7, true, &[0])];
@@ -87,7 +90,10 @@ fn rows(rt: HostRuntime) -> Result<(), Fail> {
         certified: (2, 34),
     };
     for row in [other_centre, other_rack, both] {
-        assert_certified(&rt, rt.alloc(), row)?;
+        let want = Certified {
+            count: row.certified.0,
+            cost: row.certified.1,
+        };
+        assert_eq!(rt; told(&rt, rt.alloc(), row), Some((row.reward, Ok(want))));
     }
-    Ok(())
 }

@@ -67,11 +67,16 @@ fn answers<R: Abort + Threads + Sync>(
     )
 }
 
+fn prices(alloc: Global, row: Row) -> Option<Prices> {
+    let splits = row.splits.to_vec(alloc).ok()?;
+    let workers = row.workers.to_vec(alloc).ok()?;
+    Some(Prices::from_lists(splits, workers))
+}
+
 fn answers_to<R: Abort + Threads + Sync>(rt: &R, alloc: Global, row: Row) -> Option<Answers> {
     let problem = problem(rt, alloc, row)?;
     let plan = plan(rt, alloc, row.starts)?;
-    let splits = row.splits.to_vec(alloc).ok()?;
-    let prices = Prices::from_lists(splits, row.workers.to_vec(alloc).ok()?);
+    let prices = prices(alloc, row)?;
     Some(answers(rt, alloc, &problem, &plan, &prices))
 }
 
