@@ -15,6 +15,7 @@ ghost use Rattle.std.specs.Prelude.{
   OnOk,
   Some,
   slice_get,
+  vec_capacity,
 };
 ghost use Rattle.wave_problem.specs.Assignment.{IsBest, pairs_of};
 ghost use Rattle.price_certificate.specs.declared.Condition.{Condition};
@@ -103,6 +104,38 @@ pub struct Master {
     history: Vec<Event>,
 }
 
+// The lists that a master fills, as its history grows.
+#[derive(Drop)]
+struct Lists {
+    results: Vec<PartResult>,
+    starts: Vec<Start>,
+    sweeps: Vec<[u64; 256]>,
+    history: Vec<Event>,
+}
+
+// Empty lists, with room for a result of each part and for all that the limits allow.
+fn empty_lists(alloc: Global, parts: usize, limits: Limits) -> Result<Lists, AllocError>
+    ensures results { IfOk result (λ lists. lists.results.items ≡ []) }
+    ensures starts { IfOk result (λ lists. lists.starts.items ≡ []) }
+    ensures sweeps { IfOk result (λ lists. lists.sweeps.items ≡ []) }
+    ensures history { IfOk result (λ lists. lists.history.items ≡ []) }
+    ensures parts { IfOk result (λ lists. vec_capacity lists.results ≡ parts) }
+    ensures attempts { IfOk result (λ lists. vec_capacity lists.starts ≡ limits.attempts) }
+    ensures counts { IfOk result (λ lists. vec_capacity lists.sweeps ≡ limits.sweeps) }
+    ensures events { IfOk result (λ lists. vec_capacity lists.history ≡ limits.events) }
+{
+    let results = Vec::with_capacity(alloc, parts)?;
+    let starts = Vec::with_capacity(alloc, limits.attempts as usize)?;
+    let sweeps = Vec::with_capacity(alloc, limits.sweeps as usize)?;
+    let history = Vec::with_capacity(alloc, limits.events as usize)?;
+    Ok(Lists {
+        results,
+        starts,
+        sweeps,
+        history,
+    })
+}
+
 impl Model for Master {
     ghost use Rattle.master_state.specs.Jobs.{Job};
 
@@ -124,14 +157,11 @@ impl Master {
         ensures state { IfOk result (λ m. m.state ≡ opening m.setup) }
         ensures results { IfOk result (λ m. m.results ≡ []) }
     {
-        let workers = WorkerTable::new(alloc, cluster.slots(), cluster.silence())?;
-        let holders = first_holders(alloc, &cluster)?;
-        let splits = pending_entries(alloc, cluster.splits())?;
+        let lists = empty_lists(alloc, cluster.parts(), limits)?;
         let parts = vec![in alloc; PartState::Pending; cluster.parts()]?;
-        let results = Vec::with_capacity(alloc, cluster.parts())?;
-        let starts = Vec::with_capacity(alloc, limits.attempts as usize)?;
-        let sweeps = Vec::with_capacity(alloc, limits.sweeps as usize)?;
-        let history = Vec::with_capacity(alloc, limits.events as usize)?;
+        let splits = pending_entries(alloc, cluster.splits())?;
+        let holders = first_holders(alloc, &cluster)?;
+        let workers = WorkerTable::new(alloc, cluster.slots(), cluster.silence())?;
         Ok(Master {
             cluster,
             limits,
@@ -139,10 +169,10 @@ impl Master {
             holders,
             splits,
             parts,
-            results,
-            starts,
-            sweeps,
-            history,
+            results: lists.results,
+            starts: lists.starts,
+            sweeps: lists.sweeps,
+            history: lists.history,
         })
     }
 

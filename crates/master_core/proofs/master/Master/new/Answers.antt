@@ -12,28 +12,28 @@ pub returns-clause-state : goal.returns-clause-state
 returns-clause-state c =
     let setup : Setup = record { cluster = c.args.cluster; limits = c.args.limits } in
     opening_is setup c.in_ok-workers.workers c.in_ok-holders.holders c.in_ok-splits.splits.items
-    c.in_ok-parts.parts.items c.in_ok-starts.starts.items c.in_ok-sweeps.sweeps.items
-    (length c.in_ok-history.history.items)
+    c.in_ok-parts.parts.items c.in_ok-lists.lists.starts.items c.in_ok-lists.lists.sweeps.items
+    (length c.in_ok-lists.lists.history.items)
     (c.in_ok-workers.ensures
     ∙ ap (λ (slots : List ℕ). opening_workers slots c.silence.result) c.slots.ensures.value
     ∙ ap (opening_workers c.args.cluster.slots) c.silence.ensures.count)
     c.in_ok-holders.ensures
     (c.in_ok-splits.ensures ∙ ap (map (λ (split : Split). Pending)) c.splits.ensures.value)
     (c.in_ok-parts.ensures.items_if_clones_equal (λ _ e. e)
-    ∙ ap (λ (n : ℕ). replicate n part.Pending) c.parts.ensures.count)
-    c.in_ok-starts.ensures.items c.in_ok-sweeps.ensures.items (ap length c.in_ok-history.ensures.items)
+    ∙ ap (λ (n : ℕ). replicate n part.Pending) c.parts-2.ensures.count)
+    c.in_ok-lists.ensures.starts c.in_ok-lists.ensures.sweeps (ap length c.in_ok-lists.ensures.history)
 
 pub invariant_of-result : goal.invariant_of-result
 invariant_of-result c =
     let setup : Setup = record { cluster = c.args.cluster; limits = c.args.limits } in
     record {
-      kept = kept_from setup _ _ _ c.in_ok-history.ensures.items (returns-clause-state c)
-          c.in_ok-results.ensures.items c.splits.ensures.whole c.requires;
+      kept = kept_from setup _ _ _ c.in_ok-lists.ensures.history (returns-clause-state c)
+          c.in_ok-lists.ensures.results c.splits.ensures.whole c.requires;
       room = record {
-        events = omega (arith, c.in_ok-history.ensures.exact);
-        attempts = omega (arith, c.in_ok-starts.ensures.exact);
-        sweeps = omega (arith, c.in_ok-sweeps.ensures.exact);
-        results = omega (arith, c.in_ok-results.ensures.exact, c.parts-2.ensures.count);
+        events = omega (arith, c.in_ok-lists.ensures.events);
+        attempts = omega (arith, c.in_ok-lists.ensures.attempts);
+        sweeps = omega (arith, c.in_ok-lists.ensures.counts);
+        results = omega (arith, c.in_ok-lists.ensures.parts, c.parts.ensures.count);
       };
       made = made_from setup c.in_ok-splits.splits.items
           (c.in_ok-splits.ensures ∙ ap (map (λ (split : Split). Pending)) c.splits.ensures.value);
