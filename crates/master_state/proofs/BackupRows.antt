@@ -51,6 +51,11 @@ wins = refl
 abbrev pub won : State
 won = played job (both ++ Ask (MapDone 2 made) ∷ [])
 
+-- which changes nothing
+rival_changes_nothing : played job (both ++ Ask (MapDone 2 made) ∷ Ask (MapDone 1 made) ∷ []) ≡ won
+rival_changes_nothing = refl
+
+-- the slots of both are free
 won_splits : won.splits ≡ Done second ∷ []
 won_splits = refl
 
@@ -108,6 +113,9 @@ again = refl
 
 withdrawn_splits : (played job (both ++ Ask (Withdraw 1) ∷ [])).splits ≡ Running second None ∷ []
 withdrawn_splits = refl
+
+withdrawn_not_barred : is_barred (played job (both ++ Ask (Withdraw 1) ∷ [])).workers 0 0 ≡ false
+withdrawn_not_barred = refl
 
 -- without one the split is pending
 both_gone : (played job (both ++ Ask (Withdraw 1) ∷ Ask (MapFailed 2) ∷ [])).splits ≡ Pending ∷ []

@@ -78,6 +78,7 @@ pair_answers : answers pair (Start ((0, 1) ∷ []) ∷ Ask (MapDone 1 (mapped on
     ≡ None ∷ None ∷ None ∷ None ∷ None ∷ []
 pair_answers = refl
 
+-- a death before every part is done takes the done split back
 split_is_lost : (played pair to_death).splits ≡ Pending ∷ []
 split_is_lost = refl
 

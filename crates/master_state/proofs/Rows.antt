@@ -1,12 +1,13 @@
--- The late result of a dead worker, and its return.
-use Rattle.std.proofs.Common.{◌≡◌, ℕ, List, [], ◌∷◌, ◌++◌, Some, None, refl, replicate, true}
+-- A wave of two, the late result of a dead worker and its return, and a history that is full.
+use Rattle.std.proofs.Common.{◌≡◌, ℕ, List, [], ◌∷◌, ◌++◌, Some, None, refl, replicate, map, true}
 use Rattle.word_map.specs.Runs.{MapView}
 use Rattle.wave_problem.specs.Assignment.{total}
 use Rattle.worker_table.specs.Workers.{is_live, is_silent, swept}
 use Rattle.master_state.specs.declared.answers.Why.TheVariants.{OldAttempt, LiveWorker, HistoryFull}
 use Rattle.master_state.specs.declared.states.SplitState.TheVariants.{Running, Pending}
 use Rattle.master_state.specs.declared.states.Limits.{Limits}
-use Rattle.master_state.specs.States.{Setup, opening, start_of}
+use Rattle.master_state.specs.declared.states.Work.TheVariants as works
+use Rattle.master_state.specs.States.{Setup, State, opening, start_of}
 use Rattle.master_state.specs.Refusals.{MapDone, Join, Sweep, Add, Lose}
 use Rattle.master_state.specs.Steps.{problem_of}
 use Rattle.master_state.proofs.Scripts.{Move, Ask, Start, played, answers}
@@ -60,12 +61,18 @@ lives_still = refl
 dies_now : is_silent (swept (played job three_sweeps).workers one_beat) 0 ≡ true
 dies_now = refl
 
+-- the sweep in which it dies takes the split back, and its replica is gone
 nothing_left : (played job silent).splits ≡ Pending ∷ []
 nothing_left = refl
 
 holds_nothing : (played job silent).holders ≡ [] ∷ []
 holds_nothing = refl
 
+-- its late result is ignored, which changes nothing
+late_changes_nothing : played job (silent ++ Ask (MapDone 1 made) ∷ []) ≡ played job silent
+late_changes_nothing = refl
+
+-- back with its replica it runs a second attempt
 second_attempt : (played job script).splits ≡ Running (record { number = 2; worker = 0 }) None ∷ []
 second_attempt = refl
 
@@ -75,9 +82,9 @@ told = refl
 events_are : (played job script).events ≡ 7
 events_are = refl
 
--- two workers with a slot each, two splits on the first; room for one event, one attempt and no sweep
-abbrev pub small : Setup
-small = record {
+-- two workers with a slot each, two splits on the first
+abbrev pub two_with : Limits → Setup
+two_with limits = record {
   cluster = record {
     tree = record { centres = 1; centre_of = 0 ∷ []; rack_of = 0 ∷ 0 ∷ [] };
     slots = 1 ∷ 1 ∷ [];
@@ -91,10 +98,45 @@ small = record {
     parts = 1;
     silence = 3;
   };
-  limits = record { events = 1; attempts = 1; sweeps = 0 };
+  limits = limits;
 }
 
-full_answers : answers small (Start ((0, 1) ∷ (1, 0) ∷ []) ∷ Ask (Sweep one_beat) ∷ Ask (Add 0 1) ∷ Ask
+-- a wave starts the lesser split on the other worker, and numbers the attempts by rising split
+abbrev pub two : Setup
+two = two_with (record { events = 9; attempts = 9; sweeps = 0 })
+
+abbrev pub wave : List (ℕ × ℕ)
+wave = (0, 1) ∷ (1, 0) ∷ []
+
+abbrev pub started : State
+started = played two (Start wave ∷ [])
+
+wave_splits : started.splits
+    ≡ Running (record { number = 1; worker = 1 }) None ∷ Running (record { number = 2; worker = 0 }) None ∷ []
+wave_splits = refl
+
+wave_slots : map (λ worker. worker.taken) started.workers.each ≡ 1 ∷ 1 ∷ []
+wave_slots = refl
+
+wave_starts : started.starts
+    ≡ record { work = works.Split 0; worker = 1 } ∷ record { work = works.Split 1; worker = 0 } ∷ []
+wave_starts = refl
+
+-- it is one event, of cost 20; by the nearest worker for each split in turn it would be 40
+wave_is_one : started.events ≡ 1
+wave_is_one = refl
+
+wave_costs : total (problem_of two (opening two)) wave ≡ 20
+wave_costs = refl
+
+in_turn_costs : total (problem_of two (opening two)) ((0, 0) ∷ (1, 1) ∷ []) ≡ 40
+in_turn_costs = refl
+
+-- room for one event, one attempt and no sweep
+abbrev pub small : Setup
+small = two_with (record { events = 1; attempts = 1; sweeps = 0 })
+
+full_answers : answers small (Start wave ∷ Ask (Sweep one_beat) ∷ Ask (Add 0 1) ∷ Ask
     (Lose 0 1) ∷ [])
     ≡ Some HistoryFull ∷ Some HistoryFull ∷ None ∷ Some HistoryFull ∷ []
 full_answers = refl
