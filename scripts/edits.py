@@ -103,7 +103,10 @@ def functions_of(file, text):
             first -= 1
         block = next((it for it in reversed(lines[:at]) if it and it[0] not in " }{"), "") if indent else ""
         impl = IMPL.match(block)
-        path = (*module, *([impl["type"]] if impl else []), name)
+        # (a method goes by the module of its type, wherever its impl stands)
+        home = re.search(rf"^use crate::([\w:]+)::{impl['type']};$", text, re.M) if impl else None
+        holder = tuple(home[1].split("::")) if home else module
+        path = (*holder, *([impl["type"]] if impl else []), name)
         # (of an impl of a trait, whose name is rattle's own, the whole module is asked for)
         asked = path if not block or impl and not impl["trait"] else module
         found.append(Function(file, first + 1, opens + 1, last + 1, path, "::".join(asked)))
