@@ -1,16 +1,16 @@
 -- Floors of slot prices settle a row of pairs.
-use Rattle.std.proofs.Common.{◌≡◌, ℕ, ◌+◌, ◌*◌, ◌<◌, ◌≤◌, Bool, true, false, List, [], ◌∷◌, length, filter, All, Option, refl, sym, ap, ◌∙◌, subst, inl, inr, arith, unwrap_or}
+use Rattle.std.proofs.Common.{◌≡◌, ℕ, ◌*◌, ◌<◌, Bool, true, List, [], ◌∷◌, length, filter, All, Option, refl, ap, ◌∙◌, subst, inl, inr, arith, unwrap_or}
 use Rattle.std.specs.Prelude.{◌==◌, slice_index}
 use Rattle.std.specs.List.{list_any}
 use Rattle.std.specs.Option.{option_map}
 use Rattle.std.proofs.lemmas.Bool.{cases_Bool, eqb-true, false≢true, or_cases}
 use Rattle.std.proofs.lemmas.List.Elements.{All-head, All-tail}
 use Rattle.rack_tree.specs.Tree.{centre_at}
-use Rattle.wave_problem.specs.Wave.{Wave, cost, live_holders, reward, split_at, worker_at}
+use Rattle.wave_problem.specs.Wave.{Wave, cost, live_holders, split_at, worker_at}
 use Rattle.wave_problem.proofs.Bound.{live_known}
 use Rattle.wave_problem.proofs.Gathered.{least_near, steps_to}
 use Rattle.price_certificate.specs.declared.Condition.TheVariants.{Priced}
-use Rattle.price_certificate.specs.Certificate.{Claim, Holds, split_price, worker_price}
+use Rattle.price_certificate.specs.Certificate.{Claim, Holds}
 use Rattle.certificate_checker.specs.declared.floors.Floors.{Floors}
 use Rattle.certificate_checker.specs.Floors.{AreFloors, IsPricedFar, IsPricedNear, IsUsable}
 
