@@ -1,12 +1,14 @@
-ghost use Rattle.std.specs.Prelude.{◌≡◌, ℕ, ◌+◌, ◌*◌, ◌<◌, ◌≤◌, ◌↔◌, length, slice_index, slice_index_or, unwrap_or, IsTrue, OnOk, Err, IfErr, IfOk, IfSome, None};
+ghost use Rattle.std.specs.Prelude.{◌≡◌, ℕ, ◌+◌, ◌*◌, ◌<◌, ◌≤◌, ◌↔◌, length, slice_index, slice_index_or, unwrap_or, All, IsTrue, OnOk, Err, IfErr, IfOk, IfSome, None};
 ghost use Rattle.rack_tree.specs.Tree.{IsWithinReach};
 ghost use Rattle.rack_tree.specs.declared.TheConstants.{MAX_DISTANCE, MAX_WORKERS};
 ghost use Rattle.wave_problem.specs.declared.TheConstants.{MAX_BYTES, MAX_SPLITS};
-ghost use Rattle.wave_problem.specs.Wave.{cost, reward, worker_at};
+ghost use Rattle.wave_problem.specs.Wave.{cost, reward, split_at, worker_at};
 ghost use Rattle.wave_problem.specs.Assignment.{load, pairs_of, start_of, total};
 ghost use Rattle.price_certificate.specs.Certificate.{AllHold, claim, Certifies, HasOneSize, Holds, IsFirstFailure, IsFirstOf, MayTake, priced_at, split_price, worker_price};
 ghost use Rattle.certificate_checker.specs.Verdict.{IfFailed, IsFirstUnderpriced, MayComparePairs};
+ghost use Rattle.certificate_checker.specs.Floors.{AreFloors, IsPricedFar, IsPricedNear, IsUsable};
 
+use crate::floors::Floors;
 use crate::{Certified, CheckError};
 use node_ids::{SplitNo, WorkerNo};
 use price_certificate::{Condition, Prices};
@@ -366,13 +368,115 @@ impl<'a> Checker<'a> {
         ensures ok { OnOk result (AllHold self.now 6) }
         ensures err { IfErr result (IsFirstOf self.now 6) }
     {
+        let floors = self.floors();
         for i in 0..self.splits() {
             let split = SplitNo::new(i as u16);
-            if let Some(worker) = self.first_underpriced(split) {
+            if let Some(worker) = self.first_underpriced_past(&floors, split) {
                 return Err(Condition::Priced(split, worker));
             }
         }
         Ok(())
+    }
+
+    // The floors of the slots of all workers.
+    fn floors(&self) -> Floors
+        ensures { AreFloors self.now result (length self.now.wave.workers) }
+    {
+        let mut floors = Floors::new(self.reward());
+        for i in 0..self.workers() {
+            let worker = WorkerNo::new(i as u16);
+            if self.is_usable(worker) {
+                floors.add(
+                    self.problem.tree().rack_of(worker),
+                    self.worker_price(worker),
+                );
+            }
+        }
+        floors
+    }
+
+    fn is_usable(&self, worker: WorkerNo) -> bool
+        requires { worker < length self.now.wave.workers }
+        ensures { IsTrue result ↔ IsUsable self.now.wave worker }
+    {
+        self.problem.is_live(worker) && self.problem.free(worker) > 0
+    }
+
+    // As `first_underpriced`, which is asked only where the floors do not tell that there is none.
+    fn first_underpriced_past(&self, floors: &Floors, split: SplitNo) -> Option<WorkerNo>
+        requires split { split < length self.now.wave.splits }
+        requires split_prices { AllHold self.now 4 }
+        requires worker_prices { AllHold self.now 5 }
+        requires floors { AreFloors self.now floors.now (length self.now.wave.workers) }
+        ensures { IsFirstUnderpriced self.now split result }
+    {
+        if self.is_settled(floors, split) {
+            return None;
+        }
+        self.first_underpriced(split)
+    }
+
+    // Whether the floors tell that each pair of the split is priced.
+    fn is_settled(&self, floors: &Floors, split: SplitNo) -> bool
+        requires split { split < length self.now.wave.splits }
+        requires split_prices { AllHold self.now 4 }
+        requires worker_prices { AllHold self.now 5 }
+        requires floors { AreFloors self.now floors.now (length self.now.wave.workers) }
+        ensures { IsTrue result → (w : ℕ) → Holds self.now (Condition.Priced split w) }
+    {
+        if !self.is_priced_far(floors, split) {
+            return false;
+        }
+        self.are_priced_near(floors, split)
+    }
+
+    // Whether the floors tell it of the workers that are further than a rack from each live holder.
+    fn is_priced_far(&self, floors: &Floors, split: SplitNo) -> bool
+        requires split { split < length self.now.wave.splits }
+        requires split_prices { AllHold self.now 4 }
+        requires floors { AreFloors self.now floors.now (length self.now.wave.workers) }
+        ensures { IsTrue result → IsPricedFar self.now floors.now split }
+    {
+        let wanted = self.reward();
+        let worth = self.split_price(split) + floors.all + 4 * self.problem.bytes(split);
+        worth >= wanted
+    }
+
+    // Whether the floors tell it of the live holders of the split and of their neighbours.
+    fn are_priced_near(&self, floors: &Floors, split: SplitNo) -> bool
+        requires split { split < length self.now.wave.splits }
+        requires split_prices { AllHold self.now 4 }
+        requires worker_prices { AllHold self.now 5 }
+        requires floors { AreFloors self.now floors.now (length self.now.wave.workers) }
+        ensures { IsTrue result → All (IsPricedNear self.now floors.now split) (split_at self.now.wave split).holders }
+    {
+        let holders = self.problem.holders(split);
+        for i in 0..holders.len() {
+            if !self.is_priced_near(floors, split, holders[i]) {
+                return false;
+            }
+        }
+        true
+    }
+
+    // Whether the floors tell it of a holder, if it lives, and of the others of its rack.
+    fn is_priced_near(&self, floors: &Floors, split: SplitNo, holder: WorkerNo) -> bool
+        requires split { split < length self.now.wave.splits }
+        requires holder { holder < length self.now.wave.workers }
+        requires split_prices { AllHold self.now 4 }
+        requires worker_prices { AllHold self.now 5 }
+        requires floors { AreFloors self.now floors.now (length self.now.wave.workers) }
+        ensures { IsTrue result → IsPricedNear self.now floors.now split holder }
+    {
+        if !self.problem.is_live(holder) {
+            return true;
+        }
+        let wanted = self.reward();
+        let rack = self.problem.tree().rack_of(holder);
+        let near = self.split_price(split)
+            + floors.racks[rack.index()]
+            + 2 * self.problem.bytes(split);
+        near >= wanted && (self.problem.free(holder) == 0 || self.price(split, holder) >= wanted)
     }
 
     // The first worker with which the split is admissible and priced below the reward.

@@ -72,6 +72,7 @@ impl Search {
     }
 
     /// Looks at a residual arc that leaves a settled node of the level; which node is to be entered next.
+    #[inline(always)]
     fn look<L: Layout>(
         &mut self,
         meter: &mut Meter<L>,

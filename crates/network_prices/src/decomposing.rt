@@ -1,5 +1,5 @@
 //! A flow is taken apart into the ways of its units.
-ghost use Rattle.std.specs.Prelude.{◌≤◌, length};
+ghost use Rattle.std.specs.Prelude.{◌≡◌, ℕ, ◌<◌, ◌≤◌, ◌↔◌, length, slice_index, IsTrue};
 ghost use Rattle.network_prices.specs.HandOn.{standing, CanHandOn, IsHandedOn, IsMoved};
 
 use flow_network::FlowArc;
@@ -20,8 +20,37 @@ pub fn decompose_flow(places: &mut [usize], arcs: &[FlowArc], flows: &[u64], sin
     }
 }
 
-// Moves so many of the units that are at a node to another.
+// Moves so many of the units that are at a node to another. The unit of the place that is numbered as the
+// node, as each split's is at first, is moved alone where one is to go.
 fn move_units(places: &mut [usize], from: usize, to: usize, units: u64)
+    requires { units ≤ standing places.old from }
+    ensures { IsMoved places.old places.new from to units }
+{
+    if units == 1 && is_at(places, from) {
+        move_one(places, from, to);
+    } else {
+        move_first_units(places, from, to, units);
+    }
+}
+
+// Whether the unit of the place that is numbered as a node is at that node.
+fn is_at(places: &[usize], node: usize) -> bool
+    ensures { IsTrue result ↔ ((node < length places.now) × (slice_index places.now node ≡ node)) }
+{
+    node < places.len() && places[node] == node
+}
+
+// Moves that unit.
+fn move_one(places: &mut [usize], from: usize, to: usize)
+    requires place { from < length places.old }
+    requires at { slice_index places.old from ≡ from }
+    ensures { (units : ℕ) → units ≡ 1 → IsMoved places.old places.new from to units }
+{
+    places[from] = to;
+}
+
+// The same, of the units of the first places.
+fn move_first_units(places: &mut [usize], from: usize, to: usize, units: u64)
     requires { units ≤ standing places.old from }
     ensures { IsMoved places.old places.new from to units }
 {

@@ -42,6 +42,7 @@ pub enum RackArc {
 
 impl RackArc {
     /// The node that the arc leaves in the network of a problem.
+    #[inline(always)]
     pub fn start(&self, problem: &Problem) -> RackNode
         requires { IsWanted problem.now self.now }
         ensures place { place_of (length problem.now.splits) problem.now.tree.centres
@@ -63,6 +64,7 @@ impl RackArc {
     }
 
     /// The node to which the arc leads in the network of a problem.
+    #[inline(always)]
     pub fn end(&self, problem: &Problem) -> RackNode
         requires { IsWanted problem.now self.now }
         ensures place { place_of (length problem.now.splits) problem.now.tree.centres
@@ -84,6 +86,7 @@ impl RackArc {
     }
 
     /// How many units the arc takes in the network of a problem.
+    #[inline(always)]
     pub fn capacity(&self, problem: &Problem) -> u64
         requires { IsWanted problem.now self.now }
         ensures capacity { result ≡ (arc_of problem.now self.now).capacity }

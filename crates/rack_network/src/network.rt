@@ -189,6 +189,7 @@ fn add_top(
 }
 
 // Adds those to the nodes of one level, the first of which is told, each once, by rising node.
+#[inline(always)]
 fn add_level(
     network: &mut Network<RackLayout>,
     problem: &Problem,
@@ -219,6 +220,7 @@ fn add_level(
 }
 
 // The first of the nodes of a level from a place on that stand above a live holder, by such a holder.
+#[inline(always)]
 fn next_reached(
     problem: &Problem,
     holders: &[WorkerNo],
@@ -238,6 +240,7 @@ fn next_reached(
 
 // The holder where it is reached and the node above it is no earlier than the place, and earlier than that
 // above the next one so far; else that one.
+#[inline(always)]
 fn nearer_of(
     problem: &Problem,
     level: u8,
@@ -417,6 +420,7 @@ fn add_slots(network: &mut Network<RackLayout>, problem: &Problem) -> Result<(),
 }
 
 // Adds one arc.
+#[inline(always)]
 fn add(
     network: &mut Network<RackLayout>,
     problem: &Problem,

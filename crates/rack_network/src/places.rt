@@ -32,6 +32,7 @@ pub fn first_worker(problem: &Problem) -> usize
 }
 
 /// The place of the node at a level above a worker: 0 its own, 1 its rack's, 2 its centre's, 3 the cluster's.
+#[inline(always)]
 pub fn place_above(problem: &Problem, level: u8, worker: WorkerNo) -> usize
     requires level { level < LEVELS }
     requires worker { worker < length problem.now.workers }
