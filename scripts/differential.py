@@ -3,11 +3,11 @@
 
     differential.py PROGRAM..
 
-The texts are the same in each run: those of `make_texts.py KIND SEED` for the seeds from 1, each front of one
-example, and texts at the limits on counts. A check's answer has to be the reference's. A plan with its prices, over
-either network, has to start as many splits at as little cost as any choice of starts, and to be certified by the
-reference; without prices its lines are the same up to them. A script's report is followed command by command. The last
-line counts the groups of texts that agree.
+The texts are the same in each run: those of `make_texts.py KIND SEED` for the seeds from 1, each front of two examples, a
+script with a death more at each of its places, and texts at the limits on counts. A check's answer has to be the
+reference's. A plan with its prices, over either network, has to start as many splits at as little cost as any choice of
+starts, and to be certified by the reference; without prices its lines are the same up to them. A script's report is
+followed command by command. The last line counts the groups of texts that agree.
 """
 import os
 import random
@@ -22,8 +22,8 @@ from reference_play import misplayed
 
 CHECKED = {"best": 120, "changed": 200, "faulty": 320}
 PLANNED = {"problem": 300, "faulty_problem": 200}
-PLAYED = {"script": 300, "faulty_script": 300}
-EXAMPLE = os.path.join(os.path.dirname(os.path.abspath(__file__)), "..", "examples", "swap.txt")
+PLAYED = {"script": 1000, "faulty_script": 500}
+EXAMPLES = os.path.join(os.path.dirname(os.path.abspath(__file__)), "..", "examples")
 
 
 def made(kind, count):
@@ -39,12 +39,33 @@ def groups():
         yield kind, wrong_plan, made(kind, count)
     for kind, count in PLAYED.items():
         yield kind, wrong_play, made(kind, count)
-    with open(EXAMPLE, "rb") as file:
-        text = file.read()
-    yield "front", wrong_check, [(f"the first {n} bytes of swap.txt", text[:n]) for n in range(len(text))]
+    yield "front", wrong_check, fronts("swap.txt")
+    yield "front", wrong_play, fronts("play_death.txt")
+    yield "death", wrong_death, deaths("play_death.txt", [b"a", b"b"])
     limits = [(kind, over) for kind in make_texts.MOST for over in (0, 1)]
     yield "limit", wrong_check, [
         (f"{over} past the most {kind}s", make_texts.limit(kind, over)) for kind, over in limits
+    ]
+
+
+def example(name):
+    with open(os.path.join(EXAMPLES, name), "rb") as file:
+        return file.read()
+
+
+def fronts(name):
+    text = example(name)
+    return [(f"the first {n} bytes of {name}", text[:n]) for n in range(len(text))]
+
+
+def deaths(name, workers):
+    """The script with one worker's death more, at each place of its commands."""
+    lines = example(name).splitlines(True)
+    places = range(lines.index(b"begin\n") + 1, len(lines))
+    return [
+        (f"{name} with {worker.decode()} dead before line {at + 1}",
+         b"".join([*lines[:at], b"die " + worker + b"\n", *lines[at:]]))
+        for worker in workers for at in places
     ]
 
 
@@ -78,6 +99,15 @@ def wrong_play(program, text):
     said = said_by(program, ["play"], text)
     wrong = misplayed(text, *said)
     return f"it says {said}, but {wrong}" if wrong else None
+
+
+def wrong_death(program, text):
+    # (where every part is done all the same, the index is that of the script without the death)
+    lines, index = said_by(program, ["play"], text)[0], example("play_death.out")
+    index = index[index.index(b"index ") :]
+    if b"\nindex " in lines and not lines.endswith(b"\n" + index):
+        return f"it says {lines}, and the index is {index}"
+    return wrong_play(program, text)
 
 
 def main():
