@@ -42,7 +42,6 @@ settled claim floors s low far near w admissible =
     let bytes : ℕ = (split_at wave s).bytes in
     let P = IsPricedNear claim floors s in
     let lives : ℕ → Bool = λ h. (worker_at wave h).live in
-    let rack : ℕ → ℕ = slice_index wave.tree.rack_of in
     let usable : IsUsable wave w = (admissible.live, admissible.has_slot) in
     let known = live_known wave w admissible.live in
     let same = cost_by wave s w admissible.held in
@@ -54,13 +53,14 @@ settled claim floors s low far near w admissible =
           let n = subst P (eqb-true f.0 w f.3) f.1 admissible.live in
           omega (arith, n.1 admissible.has_slot)
       | inr apart ↦
-          elim (cases_Bool (list_any (λ h. rack h == rack w) live)) [
+          elim (cases_Bool (list_any (λ h. slice_index wave.tree.rack_of h == slice_index wave.tree.rack_of w) live)) [
             | inl two ↦
-                let f = found lives (λ h. rack h == rack w) P
+                let f = found lives (λ h. slice_index wave.tree.rack_of h == slice_index wave.tree.rack_of w) P
                 (split_at wave s).holders near two in
                 let n = f.1 f.2 in
-                let same_rack = ap (slice_index floors.racks) (eqb-true (rack f.0) (rack w) f.3) in
-                omega (arith, n.0, same_rack, low.racks w known usable, paid 2 (rw (apart, two) refl))
+                let rack = ap (slice_index floors.racks)
+                (eqb-true (slice_index wave.tree.rack_of f.0) (slice_index wave.tree.rack_of w) f.3) in
+                omega (arith, n.0, rack, low.racks w known usable, paid 2 (rw (apart, two) refl))
             | inr off ↦ elim (cases_Bool (list_any (λ h. centre_at wave.tree h == centre_at wave.tree w) live)) [
               | inl near_by ↦ omega (arith, far, low.all w known usable, paid 4 (rw (apart, off, near_by) refl))
               | inr away ↦ omega (arith, far, low.all w known usable, paid 6 (rw (apart, off, away) refl))

@@ -448,8 +448,7 @@ impl<'a> Checker<'a> {
         requires split_prices { AllHold self.now 4 }
         requires worker_prices { AllHold self.now 5 }
         requires floors { AreFloors self.now floors.now (length self.now.wave.workers) }
-        ensures { IsTrue result
-            → All (IsPricedNear self.now floors.now split) (split_at self.now.wave split).holders }
+        ensures { IsTrue result → All (IsPricedNear self.now floors.now split) (split_at self.now.wave split).holders }
     {
         let holders = self.problem.holders(split);
         for i in 0..holders.len() {
