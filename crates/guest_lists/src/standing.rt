@@ -30,6 +30,7 @@ impl Standing {
         }
     }
 
+    /// The numbers of the arcs, counted from 0 as in the network.
     pub fn all(&self) -> &[usize]
         ensures { result.now ≡ self.now }
     {

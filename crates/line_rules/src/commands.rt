@@ -10,7 +10,7 @@ pub struct Commands<'t> {
     lines: Vec<CommandLine<'t>>,
 }
 
-// A command's keyword and the words after it. One without words takes no list.
+/// A command's keyword and the words after it. One without words takes no list.
 #[derive(Drop)]
 pub struct CommandLine<'t> {
     keyword: Keyword,
