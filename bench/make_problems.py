@@ -1,9 +1,10 @@
 #!/usr/bin/env python3
 """Writes the problems on which plans are timed, the same ones each time: 1,024 splits and up to 256 workers, or fewer.
 
-    make_problems.py SHAPE [SPLITS [CENTRES]]    writes the text of one shape, with a worker for each four splits where SPLITS,
-                                                 a multiple of 128, is given, and its racks in so many data centres, of one
-                                                 where none is given; without an argument it writes the names of the shapes
+    make_problems.py SHAPE [SPLITS [CENTRES [WORKERS]]]    writes the text of one shape, with so many splits, a multiple of 128, its
+                                                           racks in so many data centres, and so many workers, a multiple of 16;
+                                                           with 1,024, 1 and a worker for each four splits where these are not
+                                                           given. Without an argument it writes the names of the shapes
 """
 import random
 import sys
@@ -20,7 +21,34 @@ SHAPES = {
     "barred": "as few_hosts; each fourth split has a barred pair",
     "crowded": "256 workers of 3 slots, so too few; holders among 64 workers, splits of three sizes",
     "scarce": "256 workers of 0 to 2 slots, so that most splits wait; holders among 32 workers, splits of all sizes",
+    "all_barred": "as few_hosts, with splits of all sizes, and three barred pairs of each split",
+    "many_barred": "the same, with three barred pairs of 300 of the splits",
+    "some_barred": "the same, with three barred pairs of 100 of them",
+    "half_wait": "256 workers of 2 slots, so that half of the splits wait; holders among 64 workers, splits of all sizes",
+    "half_wait_barred": "the same, with three barred pairs of each split",
+    "just_enough": "256 workers of 4 slots, as many as splits; one holder each among 64 workers, splits of all sizes",
+    "ties": "256 workers of 4 slots, as many as splits; 3 holders each among 64 workers, splits of three sizes",
 }
+
+# One of so many workers may hold a replica, where not each may.
+APART = {
+    "few_hosts": 16,
+    "barred": 16,
+    "crowded": 4,
+    "scarce": 8,
+    "all_barred": 16,
+    "many_barred": 16,
+    "some_barred": 16,
+    "half_wait": 4,
+    "half_wait_barred": 4,
+    "just_enough": 4,
+    "ties": 4,
+}
+HOLDERS = {"eight_holders": 8, "just_enough": 1}
+THREE_SIZES = {"crowded", "ties"}
+ALL_SIZES = {"scarce", "all_barred", "many_barred", "some_barred", "half_wait", "half_wait_barred", "just_enough"}
+# How many of 1,024 splits have three barred pairs.
+BARRED = {"all_barred": 1024, "many_barred": 300, "some_barred": 100, "half_wait_barred": 1024}
 
 
 def workers(shape, count, rnd):
@@ -31,6 +59,10 @@ def workers(shape, count, rnd):
         "one_of_many": lambda: 4,
         "crowded": lambda: 3,
         "scarce": lambda: rnd.randint(0, 2),
+        "half_wait": lambda: 2,
+        "half_wait_barred": lambda: 2,
+        "just_enough": lambda: 4,
+        "ties": lambda: 4,
     }.get(shape, lambda: rnd.randint(4, 16))
     return [(w // 8, slots()) for w in range(count)]
 
@@ -39,11 +71,20 @@ def split(shape, count, rnd):
     """The bytes and the holders of a split."""
     if shape in ("one_host", "one_of_many"):
         return BLOCK, [0]
-    apart = {"few_hosts": 16, "barred": 16, "crowded": 4, "scarce": 8}.get(shape, 1)
-    size = {"crowded": lambda: BLOCK >> rnd.randrange(3), "scarce": lambda: rnd.randint(0, BLOCK)}.get(
-        shape, lambda: BLOCK
-    )()
-    return size, rnd.sample(range(0, count, apart), 8 if shape == "eight_holders" else 3)
+    size = BLOCK
+    if shape in THREE_SIZES:
+        size = BLOCK >> rnd.randrange(3)
+    elif shape in ALL_SIZES:
+        size = rnd.randint(0, BLOCK)
+    held = min(HOLDERS.get(shape, 3), count // APART.get(shape, 1))
+    return size, rnd.sample(range(0, count, APART.get(shape, 1)), held)
+
+
+def bars(shape, number, splits, count, holders, rnd):
+    """The workers on which a split may not start."""
+    if shape == "barred":
+        return [rnd.choice(holders)] if number % 4 == 0 else []
+    return rnd.sample(range(count), 3) if number * SPLITS < BARRED.get(shape, 0) * splits else []
 
 
 def main():
@@ -52,7 +93,7 @@ def main():
         return
     shape, splits = sys.argv[1], int(sys.argv[2]) if len(sys.argv) > 2 else SPLITS
     centres = int(sys.argv[3]) if len(sys.argv) > 3 else 1
-    count = splits // 4
+    count = int(sys.argv[4]) if len(sys.argv) > 4 else splits // 4
     rnd = random.Random(shape)
     stand = workers(shape, count, rnd)
     racks = 1 + max(rack for rack, _ in stand)
@@ -64,8 +105,7 @@ def main():
     for s in range(splits):
         size, holders = split(shape, count, rnd)
         lines.append(" ".join([f"split s{s} {size}"] + [f"w{w}" for w in holders]))
-        if shape == "barred" and s % 4 == 0:
-            lines.append(f"barred s{s} w{rnd.choice(holders)}")
+        lines += [f"barred s{s} w{w}" for w in bars(shape, s, splits, count, holders, rnd)]
     lines.append("end")
     sys.stdout.write("\n".join(lines) + "\n")
 

@@ -46,8 +46,8 @@ ratio() { # OURS THEIRS
 }
 
 declare -A spent
-printf '%-14s %17s %17s %17s %13s %13s\n' "" mrjob LEMON plain mrjob/LEMON mrjob/plain
-line='%-14s %8s %8s %8s %8s %8s %8s %6s %6s %6s %6s   %s\n'
+printf '%-16s %17s %17s %17s %13s %13s\n' "" mrjob LEMON plain mrjob/LEMON mrjob/plain
+line='%-16s %8s %8s %8s %8s %8s %8s %6s %6s %6s %6s   %s\n'
 printf "$line" problem racks direct racks direct racks direct racks direct racks direct answer
 for shape in $(bench/make_problems.py); do
     bench/make_problems.py "$shape" 1024 "${1:-1}" > "$room/text"

@@ -1,6 +1,6 @@
 #!/usr/bin/env bash
-# Times `mrjob plan` over racks beside LEMON's NetworkSimplex over the same network, by size: splits from 128 to 1,024, a worker for
-# each four of them. As in plan.sh each is a whole process, the time is the least of five in microseconds, and both must answer the
+# Times `mrjob plan` over racks beside LEMON's NetworkSimplex over the same network, by size: splits from 128 to 1,024, and workers
+# from 16 to 256. As in plan.sh each is a whole process, the time is the least of five in microseconds, and both must answer the
 # same count and cost. It needs a C++ compiler and LEMON (Debian's liblemon-dev).
 set -euo pipefail
 cd "$(dirname "$0")/.."
@@ -23,14 +23,17 @@ least() { # NAME COMMAND..
     echo "$least"
 }
 
-line='%-14s %8s %8s %8s %13s\n'
-printf "$line" problem splits mrjob LEMON mrjob/LEMON
+line='%-14s %8s %8s %8s %8s %13s\n'
+printf "$line" problem splits workers mrjob LEMON mrjob/LEMON
 for shape in spread crowded; do
     for splits in 128 256 512 1024; do
-        bench/make_problems.py $shape $splits > "$room/text"
-        ours=$(least ours bin/mrjob plan --network racks)
-        theirs=$(least theirs "$room/plan_by_lemon" racks)
-        cmp "$room/ours" "$room/theirs"
-        printf "$line" $shape $splits "$ours" "$theirs" "$(awk -v a="$ours" -v b="$theirs" 'BEGIN { printf "%.2f", a / b }')"
+        for workers in 16 64 256; do
+            bench/make_problems.py $shape $splits 1 $workers > "$room/text"
+            ours=$(least ours bin/mrjob plan --network racks)
+            theirs=$(least theirs "$room/plan_by_lemon" racks)
+            cmp "$room/ours" "$room/theirs"
+            printf "$line" $shape $splits $workers "$ours" "$theirs" \
+                "$(awk -v a="$ours" -v b="$theirs" 'BEGIN { printf "%.2f", a / b }')"
+        done
     done
 done

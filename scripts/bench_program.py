@@ -46,15 +46,19 @@ def lay_out(program):
 
 def main(name):
     crates = read_crates()
-    crates.update(read_crates(listed=PROGRAMS / "crates.txt.in"))
+    measuring = read_crates(listed=PROGRAMS / "crates.txt.in")
+    crates.update(measuring)
     program = crates[name]
     libraries = program.below(crates)
     for library in libraries:
-        subprocess.run(["rt", "lib"], cwd=library.folder, stdout=subprocess.DEVNULL, check=True)
-        copy_library(library)
+        if library.name in measuring:
+            lay_out(library)
+        else:
+            subprocess.run(["rt", "lib"], cwd=library.folder, stdout=subprocess.DEVNULL, check=True)
+            copy_library(library)
     folder = lay_out(program)
     (WORKSPACE / "crates.txt").write_text("".join(f"{it.line}\n" for it in [*libraries, program]))
-    # (rt run proves and builds the program, and runs it on the text that stands beside it)
+    # (rt run proves what of the workspace is not, builds the program, and runs it on the text that stands beside it)
     with open(folder / "stdin") as text:
         ran = subprocess.run(["rt", "run"], cwd=folder, stdin=text, capture_output=True)
     if ran.returncode or ran.stdout != (folder / "stdout").read_bytes():

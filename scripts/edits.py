@@ -214,7 +214,8 @@ class Trial:
         for folder, goal, why in OPEN_ANSWER.findall(said):
             # (a proof file may have lemmas beside its answers)
             answers = (self.crate.folder / "proofs" / folder / "Answers.antt").read_text(encoding="utf-8")
-            if f"pub {goal} : goal.{goal}" in answers and not NAMES.search(why):
+            is_answer = re.search(rf"^pub {re.escape(goal)} :\s+goal\.{re.escape(goal)}$", answers, re.M)
+            if is_answer and not NAMES.search(why):
                 goals.append(((folder, 0), f"{goal} by its answer"))
         return Verdict(tuple(goals), said)
 

@@ -1,3 +1,4 @@
 pub mod Shipped
 pub mod Orders
 pub mod Starts
+pub mod Straight

@@ -1,5 +1,7 @@
 -- The order in which units are shipped may be any.
-use Rattle.std.proofs.Common.{◌≡◌, ℕ, zero, suc, ◌+◌, ◌*◌, ◌<◌, ◌≤◌, Bool, true, false, List, [], ◌∷◌, ◌++◌, length, get_or, set, take, drop, map, replicate, refl, sym, ap, ◌∙◌, subst, inl, inr, ◌⊎◌, arith, get_or-set_same, get_or-set_other, Contains}
+use Rattle.std.proofs.Common.{◌≡◌, ℕ, zero, suc, ◌+◌, ◌*◌, ◌<◌, Bool, true, false, List, [], ◌∷◌, ◌++◌}
+use Rattle.std.proofs.Common.{length, get_or, set, take, drop, map, replicate, refl, sym, ap, ◌∙◌, subst, inl}
+use Rattle.std.proofs.Common.{inr, arith, get_or-set_same, get_or-set_other, Contains}
 use Rattle.std.specs.Prelude.{nat_eq}
 use Rattle.std.specs.List.{IsDistinct, sum_by}
 use Rattle.std.specs.List.Sorted.{IsPermutation}
@@ -9,11 +11,13 @@ use Rattle.std.proofs.lemmas.Bool.{cases_eq, cases_lt, cases_Bool, ne_eqb, eq-eq
 use Rattle.std.proofs.lemmas.List.{get_or_default, take-append-drop}
 use Rattle.std.proofs.lemmas.List.Elements.{Contains-append_left, Contains-push, Contains-push_cases}
 use Rattle.std.proofs.lemmas.List.Sums.{sum_by-cons}
-use Rattle.std.proofs.lemmas.List.Sorted.{IsPermutation-sym, IsPermutation-trans, IsPermutation-append_left, IsPermutation-map, Contains-permutation, length_permutation, sum_by-IsPermutation}
+use Rattle.std.proofs.lemmas.List.Sorted.{IsPermutation-sym, IsPermutation-trans, IsPermutation-append_left}
+use Rattle.std.proofs.lemmas.List.Sorted.{IsPermutation-map, Contains-permutation, length_permutation}
+use Rattle.std.proofs.lemmas.List.Sorted.{sum_by-IsPermutation}
 use Rattle.std.proofs.lemmas.Map.Keys.{IsDistinct-IsPermutation, IsDistinct-from_apart, apart_from_distinct}
 use Rattle.flow_network.specs.declared.arcs.FlowArc.{FlowArc}
 use Rattle.flow_network.specs.Flows.{arc_at, unit_at}
-use Rattle.augmenting_paths.specs.Shipping.{times_in, HasWay, CanShip, HasShipped, AreMarked, OrderLaw}
+use Rattle.augmenting_paths.specs.Shipping.{times_in, CanShip, HasShipped, AreMarked, OrderLaw}
 
 times_sum : (w : ℕ) (xs : List ℕ) → times_in w xs ≡ sum_by (λ s. unit_at s w) xs
 times_sum w [] = refl
@@ -63,7 +67,11 @@ module _ (nodes : ℕ) (arcs : List FlowArc) (xs ys : List ℕ) (sink : ℕ) (p 
         });
     distinct = λ j k l m e. elim (cases_lt j k) [
       | inl before ↦ absurd (differ j k before m e)
-      | inr past ↦ elim (cases_lt k j) [ inl after ↦ absurd (differ k j after l (sym e)) | inr same ↦ omega arith ]
+      | inr past ↦ elim (cases_lt k j) [
+        | inl after ↦ absurd (differ k j after l (sym e))
+        | inr same ↦
+            omega arith
+      ]
     ];
     not_sink = λ k l e. (let at = place xs ys p k l in can.not_sink at.0 at.1 (at.2 ∙ e));
     no_entry = λ k j l m e. (let at = place xs ys p k l in can.no_entry at.0 j at.1 m (e ∙ sym at.2));
@@ -88,7 +96,8 @@ order_shipped arcs xs ys sink flows h p t =
           let all = ap (times_in w) (take-length xs) in
           let all_ys = ap (times_in w) (take-length ys) in
           let same = times_in-permutation w xs ys p in
-          let units : length ys * unit_at sink w ≡ length xs * unit_at sink w = ap (λ n. n * unit_at sink w) size in
+          let units : length ys * unit_at sink w ≡ length xs * unit_at sink w =
+          ap (λ n. n * unit_at sink w) size in
           omega arith);
     }
 
@@ -102,7 +111,8 @@ pub order_made : (keys sorted : List (ℕ × ℕ)) (sources order first last : L
     → IsPermutation (take m order) first → last ≡ first ++ drop m order → IsPermutation sources last
 order_made keys sorted sources order first last m e p f q l =
     let all : IsPermutation sources order = subst (λ xs. IsPermutation xs order) e
-    (subst (λ ys. IsPermutation (map (λ p. p.1) keys) ys) (sym f) (IsPermutation-map (λ p. p.1) keys sorted p)) in
+    (subst (λ ys. IsPermutation (map (λ p. p.1) keys) ys) (sym f)
+    (IsPermutation-map (λ p. p.1) keys sorted p)) in
     let turned : IsPermutation order (first ++ drop m order) =
     subst (λ ys. IsPermutation ys (first ++ drop m order)) (take-append-drop m order)
     (IsPermutation-append_left (drop m order) (take m order) first q) in
@@ -156,7 +166,9 @@ module _ (nodes : ℕ) (arcs : List FlowArc) (sources : List ℕ) (sink : ℕ) (
   pub ends_unmarked : (j : ℕ) → j < length arcs → get_or marks (arc_at arcs j).to false ≡ false
   ends_unmarked j l = unmarked (arc_at arcs j).to (λ k i e. can.no_entry k j i l (sym e))
 
-pub sources_in : (nodes : ℕ) (arcs : List FlowArc) (sources : List ℕ) (sink : ℕ) → CanShip nodes arcs sources sink
+pub sources_in : (nodes : ℕ) (arcs : List FlowArc) (sources : List ℕ) (sink : ℕ) →
+    CanShip nodes arcs sources sink
     → (k : ℕ) → k < length sources → get_or sources k 0 < nodes
 sources_in nodes arcs sources sink can k l =
-    let w = can.ways k l in let inside = (can.arcs_in w.out w.out_in).from_in in let e = w.leaves in omega arith
+    let w = can.ways k l in let inside = (can.arcs_in w.out w.out_in).from_in in let e = w.leaves in
+    omega arith

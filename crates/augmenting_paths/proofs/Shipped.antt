@@ -1,23 +1,30 @@
 -- Why each unit finds a path, and what it leaves.
-use Rattle.std.proofs.Common.{◌≡◌, ◌*◌, ℕ, zero, suc, ◌+◌, ◌-◌, ◌^◌, ◌<◌, ◌≤◌, Bool, true, false, cond, eqb, List, [], ◌∷◌, ◌++◌, length, get_or, take, map, replicate, Option, Some, None, refl, sym, ap, ◌∙◌, subst, inl, inr, ◌⊎◌, arith, get_or-set_same, get_or-set_other}
+use Rattle.std.proofs.Common.{◌≡◌, ◌*◌, ℕ, zero, suc, ◌+◌, ◌-◌, ◌^◌, ◌<◌, ◌≤◌, Bool, true, false, cond, eqb}
+use Rattle.std.proofs.Common.{List, [], ◌∷◌, ◌++◌, length, get_or, take, map, replicate, Option, Some, None}
+use Rattle.std.proofs.Common.{refl, sym, ap, ◌∙◌, subst, inl, inr, ◌⊎◌, arith, get_or-set_same}
+use Rattle.std.proofs.Common.{get_or-set_other}
 use Rattle.std.proofs.Math.Seq.{take-length}
 use Rattle.std.specs.Prelude.{is_some, IsSome}
 use Rattle.std.proofs.lemmas.Bool.{cases_eq, cases_lt}
-use Rattle.std.proofs.lemmas.List.{take_more, get_or_past, set_past}
+use Rattle.std.proofs.lemmas.List.{take_more, set_past}
 use Rattle.flow_network.specs.declared.arcs.FlowArc.{FlowArc}
 use Rattle.flow_network.specs.declared.arcs.ArcNo.{ArcNo}
 use Rattle.flow_network.specs.declared.arcs.ArcNo.TheVariants.{Forward, Reverse}
-use Rattle.flow_network.specs.Flows.{arc_at, tail_of, head_of, IsResidual, IsPath, Lacks, IsDistinct, path_cost, shifted, pushed, inflow, outflow, unit_at, path_start, path_end, arc_index, NoNegative, AreArcs, WithinCapacities}
+use Rattle.flow_network.specs.Flows.{arc_at, tail_of, head_of, IsResidual, IsPath, Lacks, IsDistinct}
+use Rattle.flow_network.specs.Flows.{path_cost, shifted, pushed, inflow, outflow, unit_at, path_start}
+use Rattle.flow_network.specs.Flows.{path_end, arc_index, NoNegative, AreArcs, WithinCapacities}
 use Rattle.flow_network.proofs.Balance.{push_balance, length-shifted}
 use Rattle.flow_network.proofs.Cheapest.{no_negative_is_cheapest}
 use Rattle.flow_network.specs.Leaving.{IsIn}
 use Rattle.guest_search.specs.Finding.{Finding, IsTotal, total_of}
 use Rattle.guest_search.specs.Lowering.{lowered}
 use Rattle.guest_search.specs.Searching.{distance_at}
+use Rattle.guest_lists.specs.Standing.{GoesOnce}
 use Rattle.guest_search.specs.ToSink.{far, IsSearched, IsTrace}
 use Rattle.guest_search.proofs.Lowering.{lift_law}
 use Rattle.guest_search.proofs.ToSink.{searched_is_least, unit_over_trace}
-use Rattle.augmenting_paths.specs.Shipping.{times_in, CanShip, HasShipped, ShippingLaw, IsLifted, AreMembers, IsShipment, IsCheapest}
+use Rattle.augmenting_paths.specs.Shipping.{times_in, CanShip, HasShipped, ShippingLaw, IsLifted, AreMembers}
+use Rattle.augmenting_paths.specs.Shipping.{IsShipment, IsCheapest}
 
 -- a unit over an arc raises no other flow, and its own by at most one
 raise : (flows : List ℕ) (a : ArcNo) (j : ℕ) → get_or (shifted flows a) j 0 ≤ get_or flows j 0 + 1
@@ -36,8 +43,10 @@ raise flows (Reverse i) j = elim (cases_eq j i) [
   ])
 ]
 
-no_raise : (flows : List ℕ) (a : ArcNo) (j : ℕ) → (Forward j ≡ a → ⊥) → get_or (shifted flows a) j 0 ≤ get_or flows j 0
-no_raise flows (Forward i) j n = rw (get_or-set_other flows i j (get_or flows i 0 + 1) 0 (λ e. n (ap Forward e))) (omega arith)
+no_raise : (flows : List ℕ) (a : ArcNo) (j : ℕ) → (Forward j ≡ a → ⊥) →
+    get_or (shifted flows a) j 0 ≤ get_or flows j 0
+no_raise flows (Forward i) j n =
+    rw (get_or-set_other flows i j (get_or flows i 0 + 1) 0 (λ e. n (ap Forward e))) (omega arith)
 no_raise flows (Reverse i) j n = elim (cases_eq j i) [
   | inr d ↦ rw (get_or-set_other flows i j (get_or flows i 0 - 1) 0 d) (omega arith)
   | inl e ↦ rw e (elim (cases_lt i (length flows)) [
@@ -46,7 +55,8 @@ no_raise flows (Reverse i) j n = elim (cases_eq j i) [
   ])
 ]
 
-pub not_raised : (path : List ArcNo) (flows : List ℕ) (j : ℕ) → Lacks (Forward j) path → get_or (pushed path flows) j 0 ≤ get_or flows j 0
+pub not_raised : (path : List ArcNo) (flows : List ℕ) (j : ℕ) → Lacks (Forward j) path →
+    get_or (pushed path flows) j 0 ≤ get_or flows j 0
 not_raised [] flows j n = omega arith
 not_raised (a ∷ path) flows j n =
     let rest = not_raised path (shifted flows a) j n.1 in
@@ -57,12 +67,14 @@ same_arc : (a : ArcNo) (j : ℕ) → (Forward j ≡ a) ⊎ (Forward j ≡ a → 
 same_arc (Forward i) j = elim (cases_eq j i) [ inl e ↦ inl (ap Forward e) | inr n ↦ inr (λ q. n (cc)) ]
 same_arc (Reverse i) j = inr (λ q. cc)
 
-pub raised_once : (path : List ArcNo) (flows : List ℕ) (j : ℕ) → IsDistinct path → get_or (pushed path flows) j 0 ≤ get_or flows j 0 + 1
+pub raised_once : (path : List ArcNo) (flows : List ℕ) (j : ℕ) → IsDistinct path →
+    get_or (pushed path flows) j 0 ≤ get_or flows j 0 + 1
 raised_once [] flows j d = omega arith
 raised_once (a ∷ path) flows j d = elim (same_arc a j) [
   | inl e ↦ (let here : Lacks (Forward j) path = subst (λ b. Lacks b path) (sym e) d.0 in
       let rest = not_raised path (shifted flows a) j here in let first = raise flows a j in omega arith)
-  | inr n ↦ (let rest = raised_once path (shifted flows a) j d.1 in let first = no_raise flows a j n in omega arith)
+  | inr n ↦ (let rest = raised_once path (shifted flows a) j d.1 in let first = no_raise flows a j n in
+      omega arith)
 ]
 
 pub length-pushed : (path : List ArcNo) (flows : List ℕ) → length (pushed path flows) ≡ length flows
@@ -70,12 +82,14 @@ length-pushed [] flows = refl
 length-pushed (a ∷ path) flows = length-pushed path (shifted flows a) ∙ length-shifted flows a
 
 -- a node that no residual arc enters is on no path but its own
-module _ (arcs : List FlowArc) (flows : List ℕ) (s : ℕ) (closed : (a : ArcNo) → IsResidual arcs flows a → head_of arcs a ≡ s → ⊥) where
+module _ (arcs : List FlowArc) (flows : List ℕ) (s : ℕ) (closed : (a : ArcNo) → IsResidual arcs flows a →
+    head_of arcs a ≡ s → ⊥) where
   pub not_reached : (path : List ArcNo) (u : ℕ) → (u ≡ s → ⊥) → IsPath arcs flows path u s → ⊥
   not_reached [] u n p = n p
   not_reached (a ∷ path) u n p = not_reached path (head_of arcs a) (closed a p.0) p.2
 
-  pub not_left : (path : List ArcNo) (u v j : ℕ) → (u ≡ s → ⊥) → (arc_at arcs j).from ≡ s → IsPath arcs flows path u v → Lacks (Forward j) path
+  pub not_left : (path : List ArcNo) (u v j : ℕ) → (u ≡ s → ⊥) → (arc_at arcs j).from ≡ s →
+      IsPath arcs flows path u v → Lacks (Forward j) path
   not_left [] u v j n f p = tt
   not_left (a ∷ path) u v j n f p = (
     (λ e. n (sym p.1 ∙ ap (tail_of arcs) (sym e) ∙ f)),
@@ -87,11 +101,13 @@ times_in-push w [] s = omega arith
 times_in-push w (x ∷ xs) s = let rest = times_in-push w xs s in omega arith
 
 -- the state does not depend on how the depths are computed
-same_depths : (arcs : List FlowArc) (sources : List ℕ) (sink count : ℕ) (flows : List ℕ) (h h' : ℕ → ℕ) → ((v : ℕ) → h' v ≡ h v)
+pub same_depths : (arcs : List FlowArc) (sources : List ℕ) (sink count : ℕ) (flows : List ℕ) (h h' : ℕ → ℕ) →
+    ((v : ℕ) → h' v ≡ h v)
     → HasShipped arcs sources sink count flows h → HasShipped arcs sources sink count flows h'
 same_depths arcs sources sink count flows h h' same t = record {
   sizes = t.sizes;
-  reduced = λ k l. (let a = same (arc_at arcs k).from in let b = same (arc_at arcs k).to in let old = t.reduced k l in
+  reduced = λ k l. (let a = same (arc_at arcs k).from in let b = same (arc_at arcs k).to in
+      let old = t.reduced k l in
       ((λ room. (let o = old.0 room in omega arith)), (λ unit. (let o = old.1 unit in omega arith))));
   at_sink = same sink ∙ t.at_sink;
   depth = λ v. (let a = same v in let old = t.depth v in omega arith);
@@ -101,43 +117,61 @@ same_depths arcs sources sink count flows h h' same t = record {
   balance = t.balance;
 }
 
-path_ends : (arcs : List FlowArc) (flows : List ℕ) (a : ArcNo) (path : List ArcNo) (u v : ℕ) → IsPath arcs flows (a ∷ path) u v → path_end arcs (a ∷ path) ≡ v
+path_ends : (arcs : List FlowArc) (flows : List ℕ) (a : ArcNo) (path : List ArcNo) (u v : ℕ) →
+    IsPath arcs flows (a ∷ path) u v → path_end arcs (a ∷ path) ≡ v
 path_ends arcs flows a [] u v p = p.2
 path_ends arcs flows a (b ∷ path) u v p = path_ends arcs flows b path (head_of arcs a) v p.2
 
-by_ends : (arcs : List FlowArc) (flows : List ℕ) (path : List ArcNo) (u v : ℕ) → (u ≡ v → ⊥) → IsPath arcs flows path u v
+by_ends : (arcs : List FlowArc) (flows : List ℕ) (path : List ArcNo) (u v : ℕ) → (u ≡ v → ⊥) →
+    IsPath arcs flows path u v
     → (0 < length path) × IsPath arcs flows path (path_start arcs path) (path_end arcs path)
 by_ends arcs flows [] u v n p = absurd (n p)
-by_ends arcs flows (a ∷ path) u v n p = (omega arith, (p.0, refl, subst (λ w. IsPath arcs flows path (head_of arcs a) w) (sym (path_ends arcs flows a path u v p)) p.2))
+by_ends arcs flows (a ∷ path) u v n p = (
+  omega arith,
+  (
+    p.0,
+    refl,
+    subst (λ w. IsPath arcs flows path (head_of arcs a) w)
+        (sym (path_ends arcs flows a path u v p)) p.2,
+  ),
+)
 
 -- a path of listed arcs
-pub path_listed : (arcs : List FlowArc) (flows : List ℕ) (path : List ArcNo) (u v : ℕ) → IsPath arcs flows path u v
+pub path_listed : (arcs : List FlowArc) (flows : List ℕ) (path : List ArcNo) (u v : ℕ) →
+    IsPath arcs flows path u v
     → (a : ArcNo) → IsIn a path → arc_index a < length arcs
 path_listed arcs flows [] u v p a i = absurd i
 path_listed arcs flows (b ∷ path) u v p a (inl e) = subst (λ c. arc_index c < length arcs) (sym e) p.0.listed
 path_listed arcs flows (b ∷ path) u v p a (inr i) = path_listed arcs flows path (head_of arcs b) v p.2 a i
 
 module _ (nodes : ℕ) (arcs : List FlowArc) (sources : List ℕ) (sink count : ℕ) (flows : List ℕ) (h : ℕ → ℕ)
-    (can : CanShip nodes arcs sources sink) (left : count < length sources) (state : HasShipped arcs sources sink count flows h) where
+    (can : CanShip nodes arcs sources sink) (left : count < length sources)
+    (state : HasShipped arcs sources sink count flows h) where
   -- nothing enters a source that has not shipped
-  closed_source : (k : ℕ) → count ≤ k → k < length sources → (a : ArcNo) → IsResidual arcs flows a → head_of arcs a ≡ get_or sources k 0 → ⊥
+  closed_source : (k : ℕ) → count ≤ k → k < length sources → (a : ArcNo) → IsResidual arcs flows a →
+      head_of arcs a ≡ get_or sources k 0 → ⊥
   closed_source k c l (Forward j) r e = can.no_entry k j l r.listed e
-  closed_source k c l (Reverse j) r e = let none = state.unused k j c l r.listed e in let some = r.room in absurd (omega arith)
+  closed_source k c l (Reverse j) r e = let none = state.unused k j c l r.listed e in let some = r.room in
+      absurd (omega arith)
 
-  other_source : (k : ℕ) → count + 1 ≤ k → k < length sources → get_or sources count 0 ≡ get_or sources k 0 → ⊥
+  other_source : (k : ℕ) → count + 1 ≤ k → k < length sources → get_or sources count 0 ≡ get_or sources k 0 →
+      ⊥
   other_source k c l e = let same = can.distinct count k left l e in absurd (omega arith)
 
   pub start_in : get_or sources count 0 < nodes
-  start_in = let w = can.ways count left in let inside = (can.arcs_in w.out w.out_in).from_in in let e = w.leaves in omega arith
+  start_in = let w = can.ways count left in let inside = (can.arcs_in w.out w.out_in).from_in in
+      let e = w.leaves in omega arith
 
   pub sink_in : sink < nodes
-  sink_in = let w = can.ways count left in let inside = (can.arcs_in w.on w.on_in).to_in in let e = w.arrives in omega arith
+  sink_in = let w = can.ways count left in let inside = (can.arcs_in w.on w.on_in).to_in in
+      let e = w.arrives in omega arith
 
   pub start_level : h (get_or sources count 0) ≡ 0
   start_level = state.untouched count (omega arith) left
 
   -- the way of the source's own, and what it comes to
-  pub own_way : (k : ℕ) × (k < length arcs) × ((arc_at arcs k).from ≡ get_or sources count 0) × (0 < (arc_at arcs k).capacity)
+  pub own_way : (k : ℕ) × (k < length arcs) × ((arc_at arcs k).from ≡ get_or sources count 0)
+      × (0 < (arc_at arcs k).capacity)
       × ((arc_at arcs k).cost + h (arc_at arcs k).to ≤ 2 ^ 40)
   own_way =
       let w = can.ways count left in
@@ -153,7 +187,8 @@ module _ (nodes : ℕ) (arcs : List FlowArc) (sources : List ℕ) (sink count : 
   module _ (h' : ℕ → ℕ) (up : IsLifted arcs h h' (get_or sources count 0)) where
     pub lift_keeps : NoNegative arcs flows h'
     lift_keeps = lift_law arcs flows h h' (get_or sources count 0) state.reduced up.others
-        (λ k l e. can.no_entry count k left l e) (λ k l e. state.unused count k (omega arith) left l e) up.allowed
+        (λ k l e. can.no_entry count k left l e) (λ k l e. state.unused count k (omega arith) left l e)
+        up.allowed
 
     lifted_start : h' (get_or sources count 0) ≤ 2 ^ 40
     lifted_start = let w = own_way in let most = up.allowed w.0 w.1 w.2 w.3 in let low = w.4 in omega arith
@@ -170,20 +205,26 @@ module _ (nodes : ℕ) (arcs : List FlowArc) (sources : List ℕ) (sink count : 
       near =
           let s : ℕ = get_or sources count 0 in
           let w = can.ways count left in
-          let own : get_or flows w.out 0 ≡ 0 = state.unused count w.out (omega arith) left w.out_in w.leaves in
+          let own : get_or flows w.out 0 ≡ 0 = state.unused count w.out (omega arith) left w.out_in w.leaves
+          in
           let few = state.few w.on in
           let own_room = w.own_room in
           let on_room = w.room in
-          let first : IsResidual arcs flows (Forward w.out) = record { listed = w.out_in; room = omega arith } in
-          let second : IsResidual arcs flows (Forward w.on) = record { listed = w.on_in; room = omega arith } in
-          let p : IsPath arcs flows (Forward w.out ∷ (Forward w.on ∷ [])) s sink = (first, w.leaves, (second, sym w.meets, w.arrives)) in
+          let first : IsResidual arcs flows (Forward w.out) =
+          record { listed = w.out_in; room = omega arith } in
+          let second : IsResidual arcs flows (Forward w.on) = record { listed = w.on_in; room = omega arith }
+          in
+          let p : IsPath arcs flows (Forward w.out ∷ (Forward w.on ∷ [])) s sink =
+          (first, w.leaves, (second, sym w.meets, w.arrives)) in
           let best : d sink ≤ path_cost arcs h' (Forward w.out ∷ (Forward w.on ∷ [])) =
           (searched_is_least arcs flows h' s sink d found).1 (Forward w.out ∷ (Forward w.on ∷ [])) p in
           let most = up.allowed w.out w.out_in w.leaves w.own_room in
           let c1 = (can.arcs_in w.out w.out_in).cost_in in
           let c2 = (can.arcs_in w.on w.on_in).cost_in in
-          let middle : h' (arc_at arcs w.out).to ≡ h (arc_at arcs w.out).to = up.others _ (λ e. can.no_entry count w.out left w.out_in e) in
-          let end : h' (arc_at arcs w.on).to ≡ h (arc_at arcs w.on).to = up.others _ (λ e. can.not_sink count left (sym e ∙ w.arrives)) in
+          let middle : h' (arc_at arcs w.out).to ≡ h (arc_at arcs w.out).to =
+          up.others _ (λ e. can.no_entry count w.out left w.out_in e) in
+          let end : h' (arc_at arcs w.on).to ≡ h (arc_at arcs w.on).to =
+          up.others _ (λ e. can.not_sink count left (sym e ∙ w.arrives)) in
           let at_sink : h (arc_at arcs w.on).to ≡ 0 = ap h w.arrives ∙ state.at_sink in
           let on = (state.reduced w.on w.on_in).0 (omega arith) in
           let meets : h (arc_at arcs w.out).to ≡ h (arc_at arcs w.on).from = ap h w.meets in
@@ -200,7 +241,8 @@ module _ (nodes : ℕ) (arcs : List FlowArc) (sources : List ℕ) (sink count : 
       unreached : (k : ℕ) → count + 1 ≤ k → k < length sources → d sink - d (get_or sources k 0) ≡ 0
       unreached k c l = elim (cases_lt (d (get_or sources k 0)) far) [
         | inl reached ↦ absurd (let r = found.traced (get_or sources k 0) reached in
-            not_reached arcs flows (get_or sources k 0) (closed_source k (omega arith) l) r.0 (get_or sources count 0) (other_source k c l) r.1)
+            not_reached arcs flows (get_or sources k 0) (closed_source k (omega arith) l) r.0
+            (get_or sources count 0) (other_source k c l) r.1)
         | inr past ↦ (let low = near in omega arith)
       ]
 
@@ -208,20 +250,26 @@ module _ (nodes : ℕ) (arcs : List FlowArc) (sources : List ℕ) (sink count : 
           → HasShipped arcs sources sink (count + 1) (pushed path flows) (lowered h' d (d sink))
       shipped path t = record {
         sizes = length-pushed path flows ∙ state.sizes;
-        reduced = unit_over_trace arcs flows h' d (get_or sources count 0) sink path lift_keeps found.covered t;
-        at_sink = (let same = up.others sink (λ e. can.not_sink count left (sym e)) in let z = state.at_sink in omega arith);
+        reduced = unit_over_trace arcs flows h' d (get_or sources count 0) sink path lift_keeps found.covered
+            t;
+        at_sink = (let same = up.others sink (λ e. can.not_sink count left (sym e)) in
+            let z = state.at_sink in omega arith);
         depth = λ v. (let low = depth_low v in omega arith);
         few = λ j. (let old = state.few j in let more = raised_once path flows j t.distinct in omega arith);
         untouched = λ k c l. (let old = state.untouched k (omega arith) l in
-            let same = up.others (get_or sources k 0) (λ e. other_source k c l (sym e)) in let none = unreached k c l in omega arith);
+            let same = up.others (get_or sources k 0) (λ e. other_source k c l (sym e)) in
+            let none = unreached k c l in omega arith);
         unused = λ k j c l m f.
             (let old = state.unused k j (omega arith) l m f in
-            let lacks = not_left arcs flows (get_or sources k 0) (closed_source k (omega arith) l) path (get_or sources count 0) sink j (other_source k c l) f t.leads in
+            let lacks = not_left arcs flows (get_or sources k 0) (closed_source k (omega arith) l) path
+            (get_or sources count 0) sink j (other_source k c l) f t.leads in
             let still = not_raised path flows j lacks in omega arith);
         balance = λ w.
-            (let moved = push_balance arcs flows path (get_or sources count 0) sink w state.sizes t.distinct t.leads in
+            (let moved = push_balance arcs flows path (get_or sources count 0) sink w state.sizes t.distinct
+            t.leads in
             let old = state.balance w in
-            let more : take (count + 1) sources ≡ take count sources ++ get_or sources count 0 ∷ [] = take_more sources count 0 left in
+            let more : take (count + 1) sources ≡ take count sources ++ get_or sources count 0 ∷ [] =
+            take_more sources count 0 left in
             let sum = times_in-push w (take count sources) (get_or sources count 0) in
             rw more (omega arith));
       }
@@ -229,7 +277,8 @@ module _ (nodes : ℕ) (arcs : List FlowArc) (sources : List ℕ) (sink count : 
     -- the same, of what a search tells
     module _ (f : Finding) (total : IsTotal f.total (distance_at f.distances sink))
         (found : IsSearched arcs flows h' (get_or sources count 0) sink (distance_at f.distances))
-        (path : IsSome f.total → IsTrace arcs flows h' (get_or sources count 0) sink (distance_at f.distances) f.path) where
+        (path : IsSome f.total →
+        IsTrace arcs flows h' (get_or sources count 0) sink (distance_at f.distances) f.path) where
       told : (t : ℕ) × (f.total ≡ Some t) × (t ≡ distance_at f.distances sink)
       told = by f.total refl total
         where
@@ -244,11 +293,16 @@ module _ (nodes : ℕ) (arcs : List FlowArc) (sources : List ℕ) (sink count : 
       trace : IsTrace arcs flows h' (get_or sources count 0) sink (distance_at f.distances) f.path
       trace = path (ap is_some told.1)
 
-      pub unit_path : (0 < length f.path) × IsPath arcs flows f.path (path_start arcs f.path) (path_end arcs f.path)
-      unit_path = by_ends arcs flows f.path (get_or sources count 0) sink (can.not_sink count left) trace.leads
+      pub unit_path : (0 < length f.path) × IsPath arcs flows f.path (path_start arcs f.path)
+          (path_end arcs f.path)
+      unit_path = by_ends arcs flows f.path (get_or sources count 0) sink
+          (can.not_sink count left) trace.leads
 
       pub unit_distinct : IsDistinct f.path
       unit_distinct = trace.distinct
+
+      pub unit_once : GoesOnce f.path
+      unit_once = trace.once
 
       pub unit_listed : (a : ArcNo) → IsIn a f.path → arc_index a < length arcs
       unit_listed = path_listed arcs flows f.path (get_or sources count 0) sink trace.leads
@@ -257,9 +311,11 @@ module _ (nodes : ℕ) (arcs : List FlowArc) (sources : List ℕ) (sink count : 
       total_told = ap total_of told.1 ∙ told.2
 
       pub total_low : length sources ≤ 4096 → (v : ℕ) → h' v + total_of f.total ≤ 2 ^ 52
-      total_low limit v = let low = depth_low (distance_at f.distances) found v in let t = total_told in omega arith
+      total_low limit v = let low = depth_low (distance_at f.distances) found v in let t = total_told in
+          omega arith
 
-      pub unit_shipped : (h'' : ℕ → ℕ) → ((v : ℕ) → h'' v ≡ lowered h' (distance_at f.distances) (total_of f.total) v)
+      pub unit_shipped : (h'' : ℕ → ℕ) →
+          ((v : ℕ) → h'' v ≡ lowered h' (distance_at f.distances) (total_of f.total) v)
           → HasShipped arcs sources sink (count + 1) (pushed f.path flows) h''
       unit_shipped h'' same = same_depths arcs sources sink (count + 1) (pushed f.path flows)
           (lowered h' (distance_at f.distances) (distance_at f.distances sink)) h''
@@ -278,27 +334,36 @@ none_more : (b : Bool) (f x : ℕ) → f ≡ 0 → x ≡ 0 → cond b f 0 + x �
 none_more true f x e z = omega arith
 none_more false f x e z = omega arith
 
-inflow_zero : (arcs : List FlowArc) (flows : List ℕ) (w : ℕ) → ((k : ℕ) → get_or flows k 0 ≡ 0) → inflow arcs flows w ≡ 0
+inflow_zero : (arcs : List FlowArc) (flows : List ℕ) (w : ℕ) → ((k : ℕ) → get_or flows k 0 ≡ 0) →
+    inflow arcs flows w ≡ 0
 inflow_zero [] flows w z = refl
 inflow_zero (a ∷ arcs) [] w z = refl
-inflow_zero (a ∷ arcs) (f ∷ flows) w z = let rest = inflow_zero arcs flows w (λ k. z (suc k)) in let first : f ≡ 0 = z 0 in none_more (eqb a.to w) f _ first rest
+inflow_zero (a ∷ arcs) (f ∷ flows) w z = let rest = inflow_zero arcs flows w (λ k. z (suc k)) in
+    let first : f ≡ 0 = z 0 in none_more (eqb a.to w) f _ first rest
 
-outflow_zero : (arcs : List FlowArc) (flows : List ℕ) (w : ℕ) → ((k : ℕ) → get_or flows k 0 ≡ 0) → outflow arcs flows w ≡ 0
+outflow_zero : (arcs : List FlowArc) (flows : List ℕ) (w : ℕ) → ((k : ℕ) → get_or flows k 0 ≡ 0) →
+    outflow arcs flows w ≡ 0
 outflow_zero [] flows w z = refl
 outflow_zero (a ∷ arcs) [] w z = refl
-outflow_zero (a ∷ arcs) (f ∷ flows) w z = let rest = outflow_zero arcs flows w (λ k. z (suc k)) in let first : f ≡ 0 = z 0 in none_more (eqb a.from w) f _ first rest
+outflow_zero (a ∷ arcs) (f ∷ flows) w z = let rest = outflow_zero arcs flows w (λ k. z (suc k)) in
+    let first : f ≡ 0 = z 0 in none_more (eqb a.from w) f _ first rest
 
-pub begin_state : (arcs : List FlowArc) (sources : List ℕ) (sink : ℕ) (flows : List ℕ) (h : ℕ → ℕ) → length flows ≡ length arcs
+pub begin_state : (arcs : List FlowArc) (sources : List ℕ) (sink : ℕ) (flows : List ℕ) (h : ℕ → ℕ) →
+    length flows ≡ length arcs
     → ((k : ℕ) → get_or flows k 0 ≡ 0) → ((v : ℕ) → h v ≡ 0) → HasShipped arcs sources sink 0 flows h
 begin_state arcs sources sink flows h size none zero_depth = record {
   sizes = size;
-  reduced = λ k l. ((λ room. (let a = zero_depth (arc_at arcs k).from in omega arith)), (λ unit. absurd (let n = none k in omega arith)));
+  reduced = λ k l. (
+    (λ room. (let a = zero_depth (arc_at arcs k).from in omega arith)),
+    (λ unit. absurd (let n = none k in omega arith)),
+  );
   at_sink = zero_depth sink;
   depth = λ v. (let z = zero_depth v in omega arith);
   few = λ j. (let z = none j in omega arith);
   untouched = λ k c l. zero_depth (get_or sources k 0);
   unused = λ k j c l m f. none j;
-  balance = λ w. (let i = inflow_zero arcs flows w none in let o = outflow_zero arcs flows w none in omega arith);
+  balance = λ w. (let i = inflow_zero arcs flows w none in let o = outflow_zero arcs flows w none in
+      omega arith);
 }
 
 pub zeros : (n v : ℕ) → get_or (replicate {A = ℕ} n 0) v 0 ≡ 0
@@ -307,12 +372,14 @@ zeros (suc n) zero = let z : 0 ≡ 0 = refl in z
 zeros (suc n) (suc v) = zeros n v
 
 -- sources by their indices
-pub index_read : {X : Type 0} (f : X → ℕ) (xs : List X) (i : ℕ) (x : X) → i < length xs → x ≡ get_or xs i x → get_or (map f xs) i 0 ≡ f x
+pub index_read : {X : Type 0} (f : X → ℕ) (xs : List X) (i : ℕ) (x : X) → i < length xs → x ≡ get_or xs i x →
+    get_or (map f xs) i 0 ≡ f x
 index_read f [] i x l e = absurd (omega arith)
 index_read f (y ∷ xs) zero x l e = ap f (sym e)
 index_read f (y ∷ xs) (suc i) x l e = index_read f xs i x (omega arith) e
 
-pub member_read : {X : Type 0} (test : X → Bool) (xs : List X) (i : ℕ) (x : X) → i < length xs → x ≡ get_or xs i x → AreMembers test xs → test x ≡ true
+pub member_read : {X : Type 0} (test : X → Bool) (xs : List X) (i : ℕ) (x : X) → i < length xs →
+    x ≡ get_or xs i x → AreMembers test xs → test x ≡ true
 member_read test [] i x l e m = absurd (omega arith)
 member_read test (y ∷ xs) zero x l e m = ap test e ∙ m.0
 member_read test (y ∷ xs) (suc i) x l e m = member_read test xs i x (omega arith) e m.1
@@ -322,7 +389,8 @@ length-indices f [] = refl
 length-indices f (x ∷ xs) = ap suc (length-indices f xs)
 
 -- what was shipped is a shipment, and none costs less
-pub shipment : (nodes : ℕ) (arcs : List FlowArc) (sources : List ℕ) (sink count : ℕ) (flows : List ℕ) (h : ℕ → ℕ) → count ≡ length sources → WithinCapacities arcs flows
+pub shipment : (nodes : ℕ) (arcs : List FlowArc) (sources : List ℕ) (sink count : ℕ) (flows : List ℕ) (h : ℕ
+    → ℕ) → count ≡ length sources → WithinCapacities arcs flows
     → HasShipped arcs sources sink count flows h → IsShipment arcs sources sink flows
 shipment nodes arcs sources sink count flows h e within t = record {
   sizes = t.sizes;
@@ -334,11 +402,14 @@ shipment nodes arcs sources sink count flows h e within t = record {
       omega arith);
 }
 
-pub cheapest : (nodes : ℕ) (arcs : List FlowArc) (sources : List ℕ) (sink count : ℕ) (flows : List ℕ) (h : ℕ → ℕ) → count ≡ length sources → AreArcs nodes arcs
-    → WithinCapacities arcs flows → HasShipped arcs sources sink count flows h → IsCheapest arcs sources sink flows
+pub cheapest : (nodes : ℕ) (arcs : List FlowArc) (sources : List ℕ) (sink count : ℕ) (flows : List ℕ) (h : ℕ
+    → ℕ) → count ≡ length sources → AreArcs nodes arcs
+    → WithinCapacities arcs flows → HasShipped arcs sources sink count flows h →
+    IsCheapest arcs sources sink flows
 cheapest nodes arcs sources sink count flows h e are within t =
     let own = shipment nodes arcs sources sink count flows h e within t in
     record {
       shipment = own;
-      least = λ other s. no_negative_is_cheapest nodes arcs flows other h are t.sizes s.sizes t.reduced s.within (λ w. (let a = own.balance w in let b = s.balance w in omega arith));
+      least = λ other s. no_negative_is_cheapest nodes arcs flows other h are t.sizes s.sizes t.reduced
+          s.within (λ w. (let a = own.balance w in let b = s.balance w in omega arith));
     }

@@ -1,8 +1,10 @@
 -- One unit after the other is shipped from its source to the sink.
-use Rattle.std.specs.Prelude.{◌≡◌, ℕ, ◌+◌, ◌*◌, ◌^◌, ◌<◌, ◌≤◌, Bool, true, false, List, [], ◌∷◌, length, map, slice_index, slice_index_or, take, Contains, IsPermutation, ◌↔◌}
+use Rattle.std.specs.Prelude.{◌≡◌, ℕ, ◌+◌, ◌*◌, ◌^◌, ◌<◌, ◌≤◌, Bool, true, false, List, [], ◌∷◌, length, map}
+use Rattle.std.specs.Prelude.{slice_index, slice_index_or, take, Contains, IsPermutation, ◌↔◌}
 use Rattle.flow_network.specs.declared.arcs.FlowArc.{FlowArc}
 use Rattle.flow_network.specs.declared.arcs.ArcNo.{ArcNo}
-use Rattle.flow_network.specs.Flows.{arc_at, AreArcs, WithinCapacities, NoNegative, pushed, inflow, outflow, unit_at}
+use Rattle.flow_network.specs.Flows.{arc_at, AreArcs, WithinCapacities, NoNegative, pushed, inflow, outflow}
+use Rattle.flow_network.specs.Flows.{unit_at}
 use Rattle.flow_network.specs.Laws.{flow_cost}
 use Rattle.guest_lists.specs.Guests.{GuestLists, source_at}
 use Rattle.guest_lists.specs.Standing.{AreStanding}
@@ -69,6 +71,13 @@ pub record IsLifted (arcs : List FlowArc) (h h' : ℕ → ℕ) (s : ℕ) : Type 
   pub others : (v : ℕ) → (v ≡ s → ⊥) → h' v ≡ h v
   pub allowed : (k : ℕ) → k < length arcs → (arc_at arcs k).from ≡ s → 0 < (arc_at arcs k).capacity
       → h' s ≤ (arc_at arcs k).cost + h (arc_at arcs k).to
+
+-- the next source is lifted
+pub record IsReady (arcs : List FlowArc) (sources : List ℕ) (sink count : ℕ) (flows : List ℕ)
+    (h' : ℕ → ℕ) : Type 0 where
+  pub h : ℕ → ℕ
+  pub state : HasShipped arcs sources sink count flows h
+  pub up : IsLifted arcs h h' (slice_index sources count)
 
 -- A search from the next source, whose depth was lifted, finds the sink near enough, and the unit that goes
 -- over its path, with the depths lowered by the distances, keeps the state.

@@ -1,11 +1,14 @@
 //! One unit after the other along least paths.
-ghost use Rattle.std.specs.Prelude.{◌≡◌, ℕ, ◌+◌, ◌*◌, ◌<◌, ◌≤◌, ◌^◌, List, length, map, slice_index, true, false, IfOk, IsSome};
-ghost use Rattle.flow_network.specs.Flows.{arc_at, arc_index, AreArcs};
+ghost use Rattle.std.specs.Prelude.{◌≡◌, ℕ, ◌+◌, ◌*◌, ◌<◌, ◌≤◌, ◌^◌, List, length, map, slice_index, true};
+ghost use Rattle.std.specs.Prelude.{false, IfOk, IfSome, IsSome, IsTrue};
+ghost use Rattle.flow_network.specs.Flows.{arc_at, arc_index, tail_of, AreArcs};
 ghost use Rattle.guest_search.specs.Finding.{IsTotal};
 ghost use Rattle.guest_search.specs.Search.{MaySearch};
 ghost use Rattle.guest_search.specs.Searching.{distance_at};
 ghost use Rattle.guest_search.specs.ToSink.{IsSearched, IsTrace};
-ghost use Rattle.augmenting_paths.specs.Shipping.{CanShip, HasShipped, IsCheapest, AreMembers, IsLifted, KeepsGuests, AreMarked};
+ghost use Rattle.augmenting_paths.specs.Shipping.{CanShip, HasShipped, IsCheapest, AreMembers, IsLifted};
+ghost use Rattle.augmenting_paths.specs.Shipping.{IsReady, KeepsGuests, AreMarked};
+ghost use Rattle.augmenting_paths.specs.Straight.{IsOpen, IsStraight};
 
 use crate::order::shipping_order;
 use crate::ways::indices;
@@ -70,7 +73,8 @@ pub fn saturate<L: Layout>(
 }
 
 /// Ships the unit of the source that stands at this place of the order along a least path, and lowers the
-/// potentials. The source is lifted first, so that an arc of reduced cost 0 leaves it.
+/// potentials. The source is lifted first, so that an arc of reduced cost 0 leaves it; often it leads to a
+/// node from which another one goes on to the sink.
 fn ship<L: Layout>(
     alloc: Global,
     network: &mut Network<L>,
@@ -99,12 +103,104 @@ fn ship<L: Layout>(
 {
     let Shipping {
         mut potentials,
-        mut guests,
+        guests,
         buffers,
     } = shipping;
     network.limits();
     let start = order[count];
     lift(network, &mut potentials, start);
+    let straight = straight_way(network, &potentials, &guests, start, sink);
+    let lifted = Shipping {
+        potentials,
+        guests,
+        buffers,
+    };
+    match straight {
+        Some((out, on)) => ship_straight(network, lifted, order, sink, count, out, on),
+        None => ship_found(alloc, network, lifted, order, sink, count),
+    }
+}
+
+/// Ships the unit of the next source, which is lifted, over an arc of its own and one to the sink.
+fn ship_straight<L: Layout>(
+    network: &mut Network<L>,
+    shipping: Shipping,
+    order: &[usize],
+    sink: usize,
+    count: usize,
+    out: usize,
+    on: usize,
+) -> Result<Shipping, AllocError>
+    requires limit { length order.now ≤ 4096 }
+    requires count { count < length order.now }
+    requires size { length shipping.potentials ≡ L.node_count network.old.layout }
+    requires buffers { shipping.buffers ≡ L.node_count network.old.layout }
+    requires can { CanShip (L.node_count network.old.layout) network.old.arcs order.now sink }
+    requires lifted { IsReady network.old.arcs order.now sink count network.old.flows
+        (slice_index shipping.potentials) }
+    requires straight { IsStraight network.old.arcs network.old.flows (slice_index shipping.potentials)
+        (slice_index order.now count) sink out on }
+    requires guests { KeepsGuests (L.node_count network.old.layout) network.old.arcs network.old.flows sink
+        shipping.guests }
+    ensures size { IfOk result (λ s. length s.potentials ≡ L.node_count network.old.layout) }
+    ensures buffers { IfOk result (λ s. s.buffers ≡ L.node_count network.old.layout) }
+    ensures state { IfOk result (λ s. HasShipped network.old.arcs order.now sink (count + 1) network.new.flows
+        (slice_index s.potentials)) }
+    ensures guests { IfOk result (λ s. KeepsGuests (L.node_count network.old.layout) network.old.arcs
+        network.new.flows sink s.guests) }
+    ensures arcs { network.new.arcs ≡ network.old.arcs }
+    ensures layout { network.new.layout ≡ network.old.layout }
+{
+    let Shipping {
+        potentials,
+        mut guests,
+        buffers,
+    } = shipping;
+    network.limits();
+    let path = [ArcNo::Forward(out), ArcNo::Forward(on)];
+    network.push(&path);
+    guests.follow(network, &path)?;
+    Ok(Shipping {
+        potentials,
+        guests,
+        buffers,
+    })
+}
+
+/// Ships the unit of the next source, which is lifted, along the path that a search finds.
+fn ship_found<L: Layout>(
+    alloc: Global,
+    network: &mut Network<L>,
+    shipping: Shipping,
+    order: &[usize],
+    sink: usize,
+    count: usize,
+) -> Result<Shipping, AllocError>
+    requires limit { length order.now ≤ 4096 }
+    requires count { count < length order.now }
+    requires size { length shipping.potentials ≡ L.node_count network.old.layout }
+    requires buffers { shipping.buffers ≡ L.node_count network.old.layout }
+    requires can { CanShip (L.node_count network.old.layout) network.old.arcs order.now sink }
+    requires lifted { IsReady network.old.arcs order.now sink count network.old.flows
+        (slice_index shipping.potentials) }
+    requires guests { KeepsGuests (L.node_count network.old.layout) network.old.arcs network.old.flows sink
+        shipping.guests }
+    ensures size { IfOk result (λ s. length s.potentials ≡ L.node_count network.old.layout) }
+    ensures buffers { IfOk result (λ s. s.buffers ≡ L.node_count network.old.layout) }
+    ensures state { IfOk result (λ s. HasShipped network.old.arcs order.now sink (count + 1) network.new.flows
+        (slice_index s.potentials)) }
+    ensures guests { IfOk result (λ s. KeepsGuests (L.node_count network.old.layout) network.old.arcs
+        network.new.flows sink s.guests) }
+    ensures arcs { network.new.arcs ≡ network.old.arcs }
+    ensures layout { network.new.layout ≡ network.old.layout }
+{
+    let Shipping {
+        mut potentials,
+        mut guests,
+        buffers,
+    } = shipping;
+    network.limits();
+    let start = order[count];
     let found = find(buffers, network, &potentials, &guests, start, sink)?;
     let path = match found.path(alloc)? {
         Some(path) => path,
@@ -120,6 +216,71 @@ fn ship<L: Layout>(
     })
 }
 
+/// An arc of a node's own and one from there to the sink, both with room and at no reduced cost.
+fn straight_way<L: Layout>(
+    network: &Network<L>,
+    potentials: &Potentials,
+    guests: &Guests,
+    node: usize,
+    sink: usize,
+) -> Option<(usize, usize)>
+    requires may { MaySearch (L.node_count network.now.layout) network.now.arcs network.now.flows
+        potentials.now guests.now sink }
+    requires node { node < length potentials.now }
+    ensures { IfSome result (λ way. IsStraight network.now.arcs network.now.flows
+        (slice_index potentials.now) node sink way.0 way.1) }
+{
+    network.limits();
+    let meter = Meter::new(network);
+    for arc in leaving(&meter, node) {
+        if let Some(way) = straight_on(network, potentials, guests, *arc, sink) {
+            return Some(way);
+        }
+    }
+    None
+}
+
+/// The same, by one residual arc.
+fn straight_on<L: Layout>(
+    network: &Network<L>,
+    potentials: &Potentials,
+    guests: &Guests,
+    arc: ArcNo,
+    sink: usize,
+) -> Option<(usize, usize)>
+    requires may { MaySearch (L.node_count network.now.layout) network.now.arcs network.now.flows
+        potentials.now guests.now sink }
+    requires listed { arc_index arc < length network.now.arcs }
+    ensures { IfSome result (λ way. IsStraight network.now.arcs network.now.flows
+        (slice_index potentials.now) (tail_of network.now.arcs arc) sink way.0 way.1) }
+{
+    match arc {
+        ArcNo::Forward(out) => {
+            if !is_open(network, potentials, out) {
+                return None;
+            }
+            let on = guests.exit(network.all_arcs()[out].to)?;
+            if is_open(network, potentials, on) {
+                return Some((out, on));
+            }
+            None
+        }
+        ArcNo::Reverse(_) => None,
+    }
+}
+
+/// Whether an arc has room and costs nothing under the potentials.
+fn is_open<L: Layout>(network: &Network<L>, potentials: &Potentials, number: usize) -> bool
+    requires size { length potentials.now ≡ L.node_count network.now.layout }
+    requires listed { number < length network.now.arcs }
+    ensures { IsTrue result → IsOpen network.now.arcs network.now.flows (slice_index potentials.now) number }
+{
+    network.limits();
+    let arc = network.all_arcs()[number];
+    let depths = potentials.depths();
+    depths[arc.from] == arc.cost + depths[arc.to] && network.all_flows()[number] < arc.capacity
+}
+
 /// Lowers the potential of a source, which is 0, by the least of what an arc of its own costs together with
 /// the depth of its end.
 fn lift<L: Layout>(network: &Network<L>, potentials: &mut Potentials, source: usize)
@@ -128,9 +289,11 @@ fn lift<L: Layout>(network: &Network<L>, potentials: &mut Potentials, source: us
     requires level { slice_index potentials.old source ≡ 0 }
     requires way { (k : ℕ) × (k < length network.now.arcs) × ((arc_at network.now.arcs k).from ≡ source)
         × (0 < (arc_at network.now.arcs k).capacity)
-        × ((arc_at network.now.arcs k).cost + slice_index potentials.old (arc_at network.now.arcs k).to ≤ 2 ^ 52) }
+        × ((arc_at network.now.arcs k).cost + slice_index potentials.old (arc_at network.now.arcs k).to
+        ≤ 2 ^ 52) }
     ensures size { length potentials.new ≡ length potentials.old }
-    ensures lifted { IsLifted network.now.arcs (slice_index potentials.old) (slice_index potentials.new) source }
+    ensures lifted { IsLifted network.now.arcs (slice_index potentials.old)
+        (slice_index potentials.new) source }
 {
     let way = least_way(network, potentials.depths(), source);
     potentials.lower(source, way);

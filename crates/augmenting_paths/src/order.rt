@@ -37,7 +37,8 @@ pub fn shipping_order<L: Layout>(
     sources: &[usize],
     sink: usize,
 ) -> Result<Vec<usize>, AllocError>
-    requires { (k : ℕ) → k < length sources.now → slice_index sources.now k < L.node_count network.now.layout }
+    requires { (k : ℕ) → k < length sources.now →
+        slice_index sources.now k < L.node_count network.now.layout }
     ensures { IfOk result (λ v. IsPermutation sources.now v.items) }
 {
     let costs = costs_of(alloc, network)?;

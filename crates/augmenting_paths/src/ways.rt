@@ -1,7 +1,8 @@
 //! The test of what `saturate` asks of a network and its sources.
 ghost use Rattle.std.specs.Prelude.{◌≡◌, ℕ, ◌<◌, ◌≤◌, length, map, slice_index, true, IsTrue, ◌↔◌, IfOk};
 ghost use Rattle.flow_network.specs.Flows.{arc_at};
-ghost use Rattle.augmenting_paths.specs.Shipping.{CanShip, HasWay, LeadsOn, IsEntered, IsStart, AreStarts, AreMembers, MayShip};
+ghost use Rattle.augmenting_paths.specs.Shipping.{CanShip, HasWay, LeadsOn, IsEntered, IsStart, AreStarts};
+ghost use Rattle.augmenting_paths.specs.Shipping.{AreMembers, MayShip};
 
 use flow_network::{FlowArc, Network};
 use node_ids::Layout;

@@ -1,7 +1,9 @@
 -- The maker takes in the seats and the readers, the last first, and reads the words.
-use Rattle.std.proofs.Common.{◌≡◌, ℕ, zero, suc, set, slice_index, length-append, get_or-set_same, get_or-set_other, ◌+◌, ◌<◌, ◌≤◌, ◌==◌, cond, List, [], ◌∷◌, ◌++◌, length, refl, sym, ap, ◌∙◌, subst, arith}
+use Rattle.std.proofs.Common.{◌≡◌, ℕ, zero, suc, set, slice_index, length-append, get_or-set_same}
+use Rattle.std.proofs.Common.{get_or-set_other, ◌+◌, ◌<◌, ◌≤◌, ◌==◌, cond, List, [], ◌∷◌, ◌++◌, length, refl}
+use Rattle.std.proofs.Common.{sym, ap, ◌∙◌, subst, arith}
 use Rattle.std.proofs.lemmas.List.{append-nil, get_or_append_left, length-set, ext_get_or}
-use Rattle.std.proofs.lemmas.List.Elements.{All-nil, All-push}
+use Rattle.std.proofs.lemmas.List.Elements.{All-push}
 use Rattle.std.proofs.lemmas.List.Sums.{sum_by-append}
 use Rattle.std.specs.List.{sum_by, All}
 use mathlib.Core.Option.{some, some-injective, some-ne-none}

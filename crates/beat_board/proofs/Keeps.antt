@@ -1,9 +1,12 @@
 -- Each step keeps the rule of the board.
-use Rattle.std.proofs.Common.{◌≡◌, ◌≢◌, ℕ, zero, suc, ◌+◌, ◌*◌, ◌%◌, ◌^◌, ◌<◌, ◌≤◌, ◌==◌, Bool, true, false, cond, List, [], ◌∷◌, ◌++◌, map, length, length-append, set, slice_index, refl, sym, ap, ◌∙◌, subst, ⊎_elim, arith, get_or-set_same, get_or-set_other}
+use Rattle.std.proofs.Common.{◌≡◌, ◌≢◌, ℕ, zero, suc, ◌+◌, ◌*◌, ◌%◌, ◌^◌, ◌<◌, ◌≤◌, ◌==◌, Bool, true, false}
+use Rattle.std.proofs.Common.{cond, List, [], ◌∷◌, ◌++◌, length, length-append, set, slice_index, refl}
+use Rattle.std.proofs.Common.{sym, ap, ◌∙◌, subst, ⊎_elim, arith, get_or-set_same, get_or-set_other}
 use Rattle.std.proofs.Math.Nat.{mod-eq_of_lt}
 use Rattle.std.proofs.lemmas.Bool.Decides.{nat_tests}
 use Rattle.std.proofs.lemmas.List.{append-nil, length-set, set-get_or}
-use Rattle.std.proofs.lemmas.List.Elements.{All-nil, All-cons, All-head, All-tail, All-append, All-map, All-weaker}
+use Rattle.std.proofs.lemmas.List.Elements.{All-nil, All-cons, All-head, All-tail, All-append, All-map}
+use Rattle.std.proofs.lemmas.List.Elements.{All-weaker}
 use Rattle.std.proofs.lemmas.List.Sums.{sum_by-cons, sum_by-append, sum_by-le-sum_by}
 use Rattle.std.specs.List.{sum_by, All}
 use mathlib.Core.Option.{none, some, some-injective, some-ne-none}
@@ -18,7 +21,7 @@ use Rattle.beat_board.specs.declared.view.View.{View}
 use Rattle.beat_board.specs.declared.view.Tally.{Tally}
 use Rattle.beat_board.specs.declared.view.Look.{Look}
 use Rattle.beat_board.specs.Values.{look, last_seen, AreWithin, down_from}
-use Rattle.beat_board.specs.Views.{tally, seated, reading, making, spent, answers}
+use Rattle.beat_board.specs.Views.{tally, seated, reading, making, spent}
 use Rattle.beat_board.specs.Rule.{beats_of, told_of, seats_in, Fits, Counted, Rule}
 use Rattle.beat_board.specs.Steps.{Beats, Looks, Turns, more, shown, gathers}
 
@@ -521,7 +524,8 @@ no_told k f v e = none_of v.tallies e
     none_of [] e = refl
     none_of (t ∷ ts) e = absurd (omega arith)
 
--- The maker never has more than was made. Where it has all, each word is the sum of what it has, and what that was told are
+-- The maker never has more than was made. Where it has all, each word is the sum of what it has, and what
+-- that was told are
 -- the numbers up to the word; and what it saw is within the words
 pub record Gathered (words : List ℕ) (ts : List Tally) (xs : List Look) (made : ℕ) : Type 0 where
   pub few : length ts ≤ made

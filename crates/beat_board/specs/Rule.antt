@@ -25,7 +25,8 @@ pub record Fits (words : List ℕ) (v : View) : Type 0 where
   pub told : All (λ t. All (λ n. n ≤ slice_index words t.worker) t.told) v.tallies
   pub seen : AreWithin words v.looks
 
--- the first view is the maker's, which knows how many seats were made; a worker's beats are told the numbers up to its
+-- the first view is the maker's, which knows how many seats were made; a worker's beats are told the numbers
+-- up to its
 -- word, each once
 pub record Counted (words : List ℕ) (views : List View) : Type 0 where
   pub width : length words ≡ 256

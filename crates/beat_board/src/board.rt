@@ -1,4 +1,5 @@
-ghost use Rattle.std.specs.Prelude.{◌≡◌, ◌≢◌, ◌+◌, ◌<◌, ◌≤◌, ℕ, List, [], ◌∷◌, ◌++◌, ◌↔◌, map, length, slice_index};
+ghost use Rattle.std.specs.Prelude.{◌≡◌, ◌≢◌, ◌+◌, ◌<◌, ◌≤◌, ℕ, List, [], ◌∷◌, ◌++◌, ◌↔◌, map, length};
+ghost use Rattle.std.specs.Prelude.{slice_index};
 ghost use Rattle.std.specs.Prelude.{IfOk, IfErr, OnOk, OnErr, IsOk, IsErr};
 ghost use Rattle.std.specs.List.{All};
 ghost use Rattle.std.specs.Slots.{slots_items, slots_len, IsFull};
@@ -33,7 +34,8 @@ impl Model for Board {
 
     ghost view = { λ b. record { board = b.table.shared.table_id; workers = b.workers } };
 
-    ghost invariant = { λ b. (b.table.shared.table_id.words ≡ 256) × (b.table.shared.table_id.slots ≡ 0) × (b.workers ≤ 256) };
+    ghost invariant = { λ b. (b.table.shared.table_id.words ≡ 256) × (b.table.shared.table_id.slots ≡ 0)
+        × (b.workers ≤ 256) };
 }
 
 /// Why no seat or reader was made.
@@ -275,9 +277,11 @@ fn words_of(closed: &Closed<u8, Global>) -> [u64; MAX_WORKERS]
 // Joins all seats to the maker's token.
 fn gather_seats(shared: &Shared<u8, View, (), Sums>, token: &mut Token, mut seats: Vec<Seat>)
     requires board { (token.old.table_id ≡ shared.now.table_id) × (shared.now.table_id.words ≡ 256) }
-    requires maker { (token.old.id ≡ 0) × (token.old.me.0 ≡ making [] [] token.old.me.0.next token.old.me.0.made) }
+    requires maker { (token.old.id ≡ 0)
+        × (token.old.me.0 ≡ making [] [] token.old.me.0.next token.old.me.0.made) }
     requires seats { All (λ s. s.board ≡ shared.now.table_id) seats.items }
-    ensures same { (token.new.table_id ≡ token.old.table_id) × (token.new.id ≡ 0) × (token.new.me.1 ≡ token.old.me.1) }
+    ensures same { (token.new.table_id ≡ token.old.table_id) × (token.new.id ≡ 0)
+        × (token.new.me.1 ≡ token.old.me.1) }
     ensures view { token.new.me.0 ≡ making token.new.me.0.tallies [] token.new.me.0.next token.old.me.0.made }
     ensures count { length token.new.me.0.tallies ≡ length seats.items }
     ensures sums { (w : ℕ) → beats_of w token.new.me.0.tallies ≡ beats_by w seats.items }
@@ -298,8 +302,10 @@ fn gather_seats(shared: &Shared<u8, View, (), Sums>, token: &mut Token, mut seat
 fn gather_readers(shared: &Shared<u8, View, (), Sums>, token: &mut Token, mut readers: Vec<Reader>)
     requires board { (token.old.table_id ≡ shared.now.table_id) × (shared.now.table_id.words ≡ 256) }
     requires readers { All (λ r. r.board ≡ shared.now.table_id) readers.items }
-    ensures same { (token.new.table_id ≡ token.old.table_id) × (token.new.id ≡ token.old.id) × (token.new.me.1 ≡ token.old.me.1) }
-    ensures view { token.new.me.0 ≡ making token.old.me.0.tallies token.new.me.0.looks token.old.me.0.next token.old.me.0.made }
+    ensures same { (token.new.table_id ≡ token.old.table_id) × (token.new.id ≡ token.old.id)
+        × (token.new.me.1 ≡ token.old.me.1) }
+    ensures view { token.new.me.0 ≡ making token.old.me.0.tallies token.new.me.0.looks token.old.me.0.next
+        token.old.me.0.made }
     ensures looks { (words : List ℕ) → AreWithin words token.new.me.0.looks
         → All (λ r. AreWithin words r.looks) readers.items }
 {

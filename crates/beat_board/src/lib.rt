@@ -21,12 +21,14 @@
 //! struct SeatOf<'a> { board: &'a Board, worker: WorkerNo, beats: u64 }
 //!
 //! impl<'a> thread::Promise<Seat> for SeatOf<'a> {
-//!     ghost kept_by = { λ p s. (s.board ≡ p.board.now.board) × (s.worker ≡ p.worker) × (s.beats ≡ p.beats) };
+//!     ghost kept_by =
+//!         { λ p s. (s.board ≡ p.board.now.board) × (s.worker ≡ p.worker) × (s.beats ≡ p.beats) };
 //! }
 //!
 //! // in thread::scope, for each seat:
 //! scope.spawn_with(SeatOf { board, worker, beats: times }, move || -> Seat
-//!     requires { (seat.board ≡ board.now.board) × (seat.worker ≡ worker) × (seat.beats ≡ 0) × (times ≤ MAX_BEATS) }
+//!     requires { (seat.board ≡ board.now.board) × (seat.worker ≡ worker) × (seat.beats ≡ 0)
+//!         × (times ≤ MAX_BEATS) }
 //!     ensures { (result.board ≡ board.entry.now.board) × (result.worker ≡ worker) × (result.beats ≡ times) }
 //! { beat_often(board, seat, times) })?
 //! ```

@@ -61,7 +61,8 @@ impl Model for Seat {
       told = answers s.token.me.0.tallies;
     } };
 
-    ghost invariant = { λ s. (s.token.me.1 ≡ []) × (s.token.me.0 ≡ seated s.worker s.beats (answers s.token.me.0.tallies))
+    ghost invariant = { λ s. (s.token.me.1 ≡ [])
+        × (s.token.me.0 ≡ seated s.worker s.beats (answers s.token.me.0.tallies))
         × (s.beats ≤ 2 ^ 40) × (s.worker < 256) };
 }
 

@@ -1,5 +1,7 @@
 -- The worker to which a split is copied.
-use Rattle.std.proofs.Common.{◌≡◌, ℕ, ◌+◌, ◌<◌, ◌≤◌, Bool, true, false, List, length, get_or, take, Option, Some, None, ◌⊎◌, inl, inr, sym, ap, ◌∙◌, subst, arith, replicate, get_or-set_same, get_or-set_other}
+use Rattle.std.proofs.Common.{◌≡◌, ℕ, ◌+◌, ◌<◌, ◌≤◌, Bool, true, false, List, length, get_or, take, Option}
+use Rattle.std.proofs.Common.{Some, None, ◌⊎◌, inl, inr, sym, ap, ◌∙◌, subst, arith, replicate}
+use Rattle.std.proofs.Common.{get_or-set_same, get_or-set_other}
 use Rattle.std.proofs.Math.ListN.{set}
 use Rattle.std.specs.Prelude.{◌==◌, MatchOption, slice_index}
 use Rattle.std.proofs.lemmas.Bool.{cases_lt, cases_eq, false≢true, eq-eqb, ne_eqb}

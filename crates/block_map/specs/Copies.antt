@@ -1,5 +1,6 @@
 -- Which copies are to be made, so that each split comes nearer to its target.
-use Rattle.std.specs.Prelude.{ℕ, ◌≡◌, ◌<◌, ◌≤◌, ◌⊎◌, ◌==◌, ◌&&◌, Bool, true, not, min, List, map, length, slice_index, count_by, All, Contains}
+use Rattle.std.specs.Prelude.{ℕ, ◌≡◌, ◌<◌, ◌≤◌, ◌⊎◌, ◌==◌, ◌&&◌, Bool, true, not, min, List, map, length}
+use Rattle.std.specs.Prelude.{slice_index, count_by, All, Contains}
 use Rattle.std.specs.List.Sorted.{IsStrictlyIncreasing}
 use Rattle.rack_tree.specs.Tree.{Tree}
 use Rattle.worker_table.specs.Workers.{Workers, is_live}

@@ -1,5 +1,6 @@
 -- The holders of each split, in the order in which they were added.
-use Rattle.std.specs.Prelude.{ℕ, ◌==◌, ◌&&◌, Bool, not, nat_le, if◌then◌else◌, List, [], ◌∷◌, ◌++◌, length, map, filter, slice_index_or}
+use Rattle.std.specs.Prelude.{ℕ, ◌==◌, ◌&&◌, Bool, not, nat_le, if◌then◌else◌, List, [], ◌∷◌, ◌++◌, length}
+use Rattle.std.specs.Prelude.{map, filter, slice_index_or}
 use Rattle.std.specs.List.{list_any, enumerate_from}
 use Rattle.node_ids.specs.Sets.{has_number}
 use Rattle.node_ids.specs.Updates.{updated}

@@ -1,6 +1,8 @@
-ghost use Rattle.std.specs.Prelude.{◌≡◌, ℕ, ◌<◌, ◌≤◌, ◌⊎◌, true, length, All, Contains, slice_index, IfOk, IfSome, MatchOption};
+ghost use Rattle.std.specs.Prelude.{◌≡◌, ℕ, ◌<◌, ◌≤◌, ◌⊎◌, true, length, All, Contains, slice_index, IfOk};
+ghost use Rattle.std.specs.Prelude.{IfSome, MatchOption};
 ghost use Rattle.block_map.specs.Holdings.{holders_of};
-ghost use Rattle.block_map.specs.Copies.{AreCopies, IsCopy, IsNoWorse, WantsCopy, holdings, live_count, may_hold, replicas_at, replicas_in};
+ghost use Rattle.block_map.specs.Copies.{AreCopies, IsCopy, IsNoWorse, WantsCopy, holdings, live_count};
+ghost use Rattle.block_map.specs.Copies.{may_hold, replicas_at, replicas_in};
 ghost use Rattle.rack_tree.specs.Tree.{Tree};
 
 use crate::{BlockMap, CopyOrder};

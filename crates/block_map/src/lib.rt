@@ -9,7 +9,8 @@
 mod copies;
 mod holders;
 
-ghost use Rattle.std.specs.Prelude.{◌≡◌, ◌≢◌, ◌<◌, ◌≤◌, ◌↔◌, [], ◌∷◌, ◌++◌, ◌&&◌, true, false, if◌then◌else◌, length, replicate, All, IfOk, OnOk, OnErr};
+ghost use Rattle.std.specs.Prelude.{◌≡◌, ◌≢◌, ◌<◌, ◌≤◌, ◌↔◌, [], ◌∷◌, ◌++◌, ◌&&◌, true, false, if◌then◌else◌};
+ghost use Rattle.std.specs.Prelude.{length, replicate, All, IfOk, OnOk, OnErr};
 ghost use Rattle.block_map.specs.Holdings.{
   are_eight,
   has_eight_among,

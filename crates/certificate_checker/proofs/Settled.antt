@@ -1,5 +1,6 @@
 -- Floors of slot prices settle a row of pairs.
-use Rattle.std.proofs.Common.{◌≡◌, ℕ, ◌*◌, ◌<◌, Bool, true, List, [], ◌∷◌, length, filter, All, Option, refl, ap, ◌∙◌, subst, inl, inr, arith, unwrap_or}
+use Rattle.std.proofs.Common.{◌≡◌, ℕ, ◌*◌, ◌<◌, Bool, true, List, [], ◌∷◌, length, filter, All, Option, refl}
+use Rattle.std.proofs.Common.{ap, ◌∙◌, subst, inl, inr, arith, unwrap_or}
 use Rattle.std.specs.Prelude.{◌==◌, slice_index}
 use Rattle.std.specs.List.{list_any}
 use Rattle.std.specs.Option.{option_map}
@@ -53,17 +54,21 @@ settled claim floors s low far near w admissible =
           let n = subst P (eqb-true f.0 w f.3) f.1 admissible.live in
           omega (arith, n.1 admissible.has_slot)
       | inr apart ↦
-          elim (cases_Bool (list_any (λ h. slice_index wave.tree.rack_of h == slice_index wave.tree.rack_of w) live)) [
+          elim (cases_Bool
+          (list_any (λ h. slice_index wave.tree.rack_of h == slice_index wave.tree.rack_of w) live)) [
             | inl two ↦
-                let f = found lives (λ h. slice_index wave.tree.rack_of h == slice_index wave.tree.rack_of w) P
+                let f = found lives (λ h. slice_index wave.tree.rack_of h == slice_index wave.tree.rack_of w)
+                P
                 (split_at wave s).holders near two in
                 let n = f.1 f.2 in
                 let rack = ap (slice_index floors.racks)
                 (eqb-true (slice_index wave.tree.rack_of f.0) (slice_index wave.tree.rack_of w) f.3) in
                 omega (arith, n.0, rack, low.racks w known usable, paid 2 (rw (apart, two) refl))
-            | inr off ↦ elim (cases_Bool (list_any (λ h. centre_at wave.tree h == centre_at wave.tree w) live)) [
-              | inl near_by ↦ omega (arith, far, low.all w known usable, paid 4 (rw (apart, off, near_by) refl))
-              | inr away ↦ omega (arith, far, low.all w known usable, paid 6 (rw (apart, off, away) refl))
-            ]
+            | inr off ↦ elim
+                (cases_Bool (list_any (λ h. centre_at wave.tree h == centre_at wave.tree w) live)) [
+                  | inl near_by ↦
+                      omega (arith, far, low.all w known usable, paid 4 (rw (apart, off, near_by) refl))
+                  | inr away ↦ omega (arith, far, low.all w known usable, paid 6 (rw (apart, off, away) refl))
+                ]
           ]
     ]

@@ -16,7 +16,8 @@ same_parts x y e f =
     ap (λ (n : ℕ). let z : Certified = record { count = n; cost = x.cost } in z) e
     ∙ ap (λ (n : ℕ). let z : Certified = record { count = y.count; cost = n } in z) f
 
-pub verdict-unique : (claim : Claim) (a b : Result Certified Condition) → IsVerdict claim a → IsVerdict claim b →
+pub verdict-unique : (claim : Claim) (a b : Result Certified Condition) → IsVerdict claim a →
+    IsVerdict claim b →
     a ≡ b
 verdict-unique claim (Ok x) (Ok y) p q = ap Ok (same_parts x y (p.count ∙ sym q.count) (p.cost ∙ sym q.cost))
 verdict-unique claim (Ok x) (Err d) p q = absurd (q.fails (p.certifies d))

@@ -4,7 +4,8 @@ use Rattle.std.specs.declared.result.Result.{Result}
 use Rattle.wave_problem.specs.Assignment.{pairs_of, total}
 use Rattle.price_certificate.specs.declared.Condition.{Condition}
 use Rattle.price_certificate.specs.declared.Condition.TheVariants.{Priced}
-use Rattle.price_certificate.specs.Certificate.{AllHold, Claim, Certifies, Holds, IsFirstFailure}
+use Rattle.price_certificate.specs.Certificate.{AllHold, Claim, Certifies, Holds, IsFirstFailure, of_allowed}
+use Rattle.price_certificate.specs.Certificate.{of_open, of_room, of_split_price, of_worker_price}
 use Rattle.certificate_checker.specs.declared.Certified.{Certified}
 use Rattle.certificate_checker.specs.declared.CheckError.{CheckError}
 use Rattle.certificate_checker.specs.declared.CheckError.TheVariants.{Failed, Memory}
@@ -33,11 +34,11 @@ IfFailed (Err (Failed c)) P = P c
 
 -- the conditions that are tested before any pair is: with them no sum of a pair's prices and cost wraps
 pub record MayComparePairs (claim : Claim) : Type 0 where
-  pub opened : AllHold claim 1
-  pub allowed : AllHold claim 2
-  pub room : AllHold claim 3
-  pub split_prices : AllHold claim 4
-  pub worker_prices : AllHold claim 5
+  pub opened : AllHold claim of_open
+  pub allowed : AllHold claim of_allowed
+  pub room : AllHold claim of_room
+  pub split_prices : AllHold claim of_split_price
+  pub worker_prices : AllHold claim of_worker_price
 
 -- what is found among the pairs of the split s: the first worker at which the prices are too low, or none
 abbrev pub IsFirstUnderpriced : Claim → ℕ → Option ℕ → Type 0

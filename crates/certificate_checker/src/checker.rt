@@ -1,10 +1,15 @@
-ghost use Rattle.std.specs.Prelude.{◌≡◌, ℕ, ◌+◌, ◌*◌, ◌<◌, ◌≤◌, ◌↔◌, length, slice_index, slice_index_or, unwrap_or, All, IsTrue, OnOk, Err, IfErr, IfOk, IfSome, None};
+ghost use Rattle.std.specs.Prelude.{◌≡◌, ℕ, ◌+◌, ◌*◌, ◌<◌, ◌≤◌, ◌↔◌, length, slice_index, slice_index_or};
+ghost use Rattle.std.specs.Prelude.{unwrap_or, All, IsTrue, OnOk, Err, IfErr, IfOk, IfSome, None};
 ghost use Rattle.rack_tree.specs.Tree.{IsWithinReach};
 ghost use Rattle.rack_tree.specs.declared.TheConstants.{MAX_DISTANCE, MAX_WORKERS};
 ghost use Rattle.wave_problem.specs.declared.TheConstants.{MAX_BYTES, MAX_SPLITS};
 ghost use Rattle.wave_problem.specs.Wave.{cost, reward, split_at, worker_at};
 ghost use Rattle.wave_problem.specs.Assignment.{load, pairs_of, start_of, total};
-ghost use Rattle.price_certificate.specs.Certificate.{AllHold, claim, Certifies, HasOneSize, Holds, IsFirstFailure, IsFirstOf, MayTake, priced_at, split_price, worker_price};
+ghost use Rattle.price_certificate.specs.Certificate.{AllHold, claim, Certifies, HasOneSize, Holds};
+ghost use Rattle.price_certificate.specs.Certificate.{IsFirstFailure, IsFirstOf, MayTake, priced_at};
+ghost use Rattle.price_certificate.specs.Certificate.{split_price, worker_price, of_allowed, of_open};
+ghost use Rattle.price_certificate.specs.Certificate.{of_priced, of_room, of_spare, of_split_price, of_tight};
+ghost use Rattle.price_certificate.specs.Certificate.{of_unstarted, of_worker_price};
 ghost use Rattle.certificate_checker.specs.Verdict.{IfFailed, IsFirstUnderpriced, MayComparePairs};
 ghost use Rattle.certificate_checker.specs.Floors.{AreFloors, IsPricedFar, IsPricedNear, IsUsable};
 
@@ -52,6 +57,7 @@ impl<'a> Checker<'a> {
         ensures near { IsWithinReach result.wave.tree }
     {
         let workers = problem.workers();
+        // (bounds the reward)
         let _reach = problem.tree().reach();
         Checker {
             problem,
@@ -126,11 +132,12 @@ impl<'a> Checker<'a> {
     fn price(&self, split: SplitNo, worker: WorkerNo) -> u64
         requires split { split < length self.now.wave.splits }
         requires worker { worker < length self.now.wave.workers }
-        requires split_prices { AllHold self.now 4 }
-        requires worker_prices { AllHold self.now 5 }
+        requires split_prices { AllHold self.now of_split_price }
+        requires worker_prices { AllHold self.now of_worker_price }
         ensures sum { result ≡ split_price self.now.prices split + worker_price self.now.prices worker }
         ensures limit { result ≤ 2 * (1 + MAX_DISTANCE * MAX_SPLITS * MAX_BYTES) }
     {
+        // (bounds the prices)
         let _reward = self.reward();
         self.split_price(split) + self.worker_price(worker)
     }
@@ -212,8 +219,8 @@ impl<'a> Checker<'a> {
         requires split { costs.now.split < length self.now.wave.splits }
         requires worker { worker < length self.now.wave.workers }
         requires wave { costs.now.wave ≡ self.now.wave }
-        requires split_prices { AllHold self.now 4 }
-        requires worker_prices { AllHold self.now 5 }
+        requires split_prices { AllHold self.now of_split_price }
+        requires worker_prices { AllHold self.now of_worker_price }
         ensures { IsTrue result ↔ Holds self.now (Condition.Priced costs.now.split worker) }
     {
         let sum = self.price(costs.split(), worker) + costs.cost(worker).unwrap_or(0);
@@ -223,9 +230,10 @@ impl<'a> Checker<'a> {
     fn is_tight(&self, split: SplitNo, worker: WorkerNo) -> bool
         requires split { split < length self.now.wave.splits }
         requires worker { worker < length self.now.wave.workers }
-        requires split_prices { AllHold self.now 4 }
-        requires worker_prices { AllHold self.now 5 }
-        ensures { IsTrue result ↔ (priced_at self.now.wave self.now.prices split worker ≡ reward self.now.wave) }
+        requires split_prices { AllHold self.now of_split_price }
+        requires worker_prices { AllHold self.now of_worker_price }
+        ensures { IsTrue result ↔ (priced_at self.now.wave self.now.prices split worker
+            ≡ reward self.now.wave) }
     {
         self.price(split, worker) + self.cost(split, worker) == self.reward()
     }
@@ -285,7 +293,7 @@ impl<'a> Checker<'a> {
 
     fn check_after_pairs(&self) -> Result<(), Condition>
         requires before { MayComparePairs self.now }
-        requires pairs { AllHold self.now 6 }
+        requires pairs { AllHold self.now of_priced }
         ensures ok { OnOk result (Certifies self.now) }
         ensures err { IfErr result (IsFirstFailure self.now) }
     {
@@ -295,8 +303,8 @@ impl<'a> Checker<'a> {
     }
 
     fn check_open(&self) -> Result<(), Condition>
-        ensures ok { OnOk result (AllHold self.now 1) }
-        ensures err { IfErr result (IsFirstOf self.now 1) }
+        ensures ok { OnOk result (AllHold self.now of_open) }
+        ensures err { IfErr result (IsFirstOf self.now of_open) }
     {
         for i in 0..self.splits() {
             let split = SplitNo::new(i as u16);
@@ -308,8 +316,8 @@ impl<'a> Checker<'a> {
     }
 
     fn check_allowed(&self) -> Result<(), Condition>
-        ensures ok { OnOk result (AllHold self.now 2) }
-        ensures err { IfErr result (IsFirstOf self.now 2) }
+        ensures ok { OnOk result (AllHold self.now of_allowed) }
+        ensures err { IfErr result (IsFirstOf self.now of_allowed) }
     {
         for i in 0..self.splits() {
             let split = SplitNo::new(i as u16);
@@ -323,9 +331,9 @@ impl<'a> Checker<'a> {
     }
 
     fn check_room(&self) -> Result<(), Condition>
-        requires { AllHold self.now 2 }
-        ensures ok { OnOk result (AllHold self.now 3) }
-        ensures err { IfErr result (IsFirstOf self.now 3) }
+        requires { AllHold self.now of_allowed }
+        ensures ok { OnOk result (AllHold self.now of_room) }
+        ensures err { IfErr result (IsFirstOf self.now of_room) }
     {
         for i in 0..self.workers() {
             let worker = WorkerNo::new(i as u16);
@@ -337,8 +345,8 @@ impl<'a> Checker<'a> {
     }
 
     fn check_split_prices(&self) -> Result<(), Condition>
-        ensures ok { OnOk result (AllHold self.now 4) }
-        ensures err { IfErr result (IsFirstOf self.now 4) }
+        ensures ok { OnOk result (AllHold self.now of_split_price) }
+        ensures err { IfErr result (IsFirstOf self.now of_split_price) }
     {
         for i in 0..self.splits() {
             let split = SplitNo::new(i as u16);
@@ -350,8 +358,8 @@ impl<'a> Checker<'a> {
     }
 
     fn check_worker_prices(&self) -> Result<(), Condition>
-        ensures ok { OnOk result (AllHold self.now 5) }
-        ensures err { IfErr result (IsFirstOf self.now 5) }
+        ensures ok { OnOk result (AllHold self.now of_worker_price) }
+        ensures err { IfErr result (IsFirstOf self.now of_worker_price) }
     {
         for i in 0..self.workers() {
             let worker = WorkerNo::new(i as u16);
@@ -363,10 +371,10 @@ impl<'a> Checker<'a> {
     }
 
     fn check_priced(&self) -> Result<(), Condition>
-        requires split_prices { AllHold self.now 4 }
-        requires worker_prices { AllHold self.now 5 }
-        ensures ok { OnOk result (AllHold self.now 6) }
-        ensures err { IfErr result (IsFirstOf self.now 6) }
+        requires split_prices { AllHold self.now of_split_price }
+        requires worker_prices { AllHold self.now of_worker_price }
+        ensures ok { OnOk result (AllHold self.now of_priced) }
+        ensures err { IfErr result (IsFirstOf self.now of_priced) }
     {
         let floors = self.floors();
         for i in 0..self.splits() {
@@ -405,8 +413,8 @@ impl<'a> Checker<'a> {
     // As `first_underpriced`, which is asked only where the floors do not tell that there is none.
     fn first_underpriced_past(&self, floors: &Floors, split: SplitNo) -> Option<WorkerNo>
         requires split { split < length self.now.wave.splits }
-        requires split_prices { AllHold self.now 4 }
-        requires worker_prices { AllHold self.now 5 }
+        requires split_prices { AllHold self.now of_split_price }
+        requires worker_prices { AllHold self.now of_worker_price }
         requires floors { AreFloors self.now floors.now (length self.now.wave.workers) }
         ensures { IsFirstUnderpriced self.now split result }
     {
@@ -419,8 +427,8 @@ impl<'a> Checker<'a> {
     // Whether the floors tell that each pair of the split is priced.
     fn is_settled(&self, floors: &Floors, split: SplitNo) -> bool
         requires split { split < length self.now.wave.splits }
-        requires split_prices { AllHold self.now 4 }
-        requires worker_prices { AllHold self.now 5 }
+        requires split_prices { AllHold self.now of_split_price }
+        requires worker_prices { AllHold self.now of_worker_price }
         requires floors { AreFloors self.now floors.now (length self.now.wave.workers) }
         ensures { IsTrue result → (w : ℕ) → Holds self.now (Condition.Priced split w) }
     {
@@ -433,7 +441,7 @@ impl<'a> Checker<'a> {
     // Whether the floors tell it of the workers that are further than a rack from each live holder.
     fn is_priced_far(&self, floors: &Floors, split: SplitNo) -> bool
         requires split { split < length self.now.wave.splits }
-        requires split_prices { AllHold self.now 4 }
+        requires split_prices { AllHold self.now of_split_price }
         requires floors { AreFloors self.now floors.now (length self.now.wave.workers) }
         ensures { IsTrue result → IsPricedFar self.now floors.now split }
     {
@@ -445,10 +453,11 @@ impl<'a> Checker<'a> {
     // Whether the floors tell it of the live holders of the split and of their neighbours.
     fn are_priced_near(&self, floors: &Floors, split: SplitNo) -> bool
         requires split { split < length self.now.wave.splits }
-        requires split_prices { AllHold self.now 4 }
-        requires worker_prices { AllHold self.now 5 }
+        requires split_prices { AllHold self.now of_split_price }
+        requires worker_prices { AllHold self.now of_worker_price }
         requires floors { AreFloors self.now floors.now (length self.now.wave.workers) }
-        ensures { IsTrue result → All (IsPricedNear self.now floors.now split) (split_at self.now.wave split).holders }
+        ensures { IsTrue result →
+            All (IsPricedNear self.now floors.now split) (split_at self.now.wave split).holders }
     {
         let holders = self.problem.holders(split);
         for i in 0..holders.len() {
@@ -463,8 +472,8 @@ impl<'a> Checker<'a> {
     fn is_priced_near(&self, floors: &Floors, split: SplitNo, holder: WorkerNo) -> bool
         requires split { split < length self.now.wave.splits }
         requires holder { holder < length self.now.wave.workers }
-        requires split_prices { AllHold self.now 4 }
-        requires worker_prices { AllHold self.now 5 }
+        requires split_prices { AllHold self.now of_split_price }
+        requires worker_prices { AllHold self.now of_worker_price }
         requires floors { AreFloors self.now floors.now (length self.now.wave.workers) }
         ensures { IsTrue result → IsPricedNear self.now floors.now split holder }
     {
@@ -482,8 +491,8 @@ impl<'a> Checker<'a> {
     // The first worker with which the split is admissible and priced below the reward.
     fn first_underpriced(&self, split: SplitNo) -> Option<WorkerNo>
         requires split { split < length self.now.wave.splits }
-        requires split_prices { AllHold self.now 4 }
-        requires worker_prices { AllHold self.now 5 }
+        requires split_prices { AllHold self.now of_split_price }
+        requires worker_prices { AllHold self.now of_worker_price }
         ensures { IsFirstUnderpriced self.now split result }
     {
         let costs = SplitCosts::new(self.problem, split);
@@ -501,10 +510,10 @@ impl<'a> Checker<'a> {
 
     // As `check_priced`: the rows of pairs are looked at on many threads, and their answers in order.
     fn check_priced_on(&self, rt: &(impl Threads + Sync), alloc: Global) -> Result<(), CheckError>
-        requires split_prices { AllHold self.now 4 }
-        requires worker_prices { AllHold self.now 5 }
-        ensures ok { OnOk result (AllHold self.now 6) }
-        ensures failed { IfFailed result (IsFirstOf self.now 6) }
+        requires split_prices { AllHold self.now of_split_price }
+        requires worker_prices { AllHold self.now of_worker_price }
+        ensures ok { OnOk result (AllHold self.now of_priced) }
+        ensures failed { IfFailed result (IsFirstOf self.now of_priced) }
     {
         let rows = self.underpriced_on(rt, alloc)?;
         for i in 0..self.splits() {
@@ -522,8 +531,8 @@ impl<'a> Checker<'a> {
         rt: &(impl Threads + Sync),
         alloc: Global,
     ) -> Result<Vec<Option<WorkerNo>>, AllocError>
-        requires split_prices { AllHold self.now 4 }
-        requires worker_prices { AllHold self.now 5 }
+        requires split_prices { AllHold self.now of_split_price }
+        requires worker_prices { AllHold self.now of_worker_price }
         ensures one_each { IfOk result (λ rows. length rows.items ≡ length self.now.wave.splits) }
         ensures first { IfOk result (λ rows. (s : ℕ) → s < length self.now.wave.splits
             → IsFirstUnderpriced self.now s (slice_index_or rows.items s None)) }
@@ -533,7 +542,7 @@ impl<'a> Checker<'a> {
             .map(
                 |i: usize| -> Option<WorkerNo>
                     requires { (i < length self.now.wave.splits) × (i < MAX_SPLITS)
-                        × AllHold self.now 4 × AllHold self.now 5 }
+                        × AllHold self.now of_split_price × AllHold self.now of_worker_price }
                     ensures { IsFirstUnderpriced self.entry.now i result }
                 { self.first_underpriced(SplitNo::new(i as u16)) },
             )
@@ -542,10 +551,10 @@ impl<'a> Checker<'a> {
     }
 
     fn check_tight(&self) -> Result<(), Condition>
-        requires split_prices { AllHold self.now 4 }
-        requires worker_prices { AllHold self.now 5 }
-        ensures ok { OnOk result (AllHold self.now 7) }
-        ensures err { IfErr result (IsFirstOf self.now 7) }
+        requires split_prices { AllHold self.now of_split_price }
+        requires worker_prices { AllHold self.now of_worker_price }
+        ensures ok { OnOk result (AllHold self.now of_tight) }
+        ensures err { IfErr result (IsFirstOf self.now of_tight) }
     {
         for i in 0..self.splits() {
             let split = SplitNo::new(i as u16);
@@ -559,8 +568,8 @@ impl<'a> Checker<'a> {
     }
 
     fn check_unstarted(&self) -> Result<(), Condition>
-        ensures ok { OnOk result (AllHold self.now 8) }
-        ensures err { IfErr result (IsFirstOf self.now 8) }
+        ensures ok { OnOk result (AllHold self.now of_unstarted) }
+        ensures err { IfErr result (IsFirstOf self.now of_unstarted) }
     {
         for i in 0..self.splits() {
             let split = SplitNo::new(i as u16);
@@ -572,8 +581,8 @@ impl<'a> Checker<'a> {
     }
 
     fn check_spare(&self) -> Result<(), Condition>
-        ensures ok { OnOk result (AllHold self.now 9) }
-        ensures err { IfErr result (IsFirstOf self.now 9) }
+        ensures ok { OnOk result (AllHold self.now of_spare) }
+        ensures err { IfErr result (IsFirstOf self.now of_spare) }
     {
         for i in 0..self.workers() {
             let worker = WorkerNo::new(i as u16);

@@ -1,12 +1,17 @@
 -- What clap finds in words that have no fault: one of the commands, and its options.
-use Rattle.std.proofs.Common.{◌≡◌, ◌∙◌, ℕ, cond, inl, inr, subst, Bool, true, false, List, [], ◌∷◌, Option, Some, None, codes, option_map, refl, sym, ap, true≢false}
+use Rattle.std.proofs.Common.{◌≡◌, ◌∙◌, ℕ, cond, inl, inr, subst, Bool, true, false, List, [], ◌∷◌, Option}
+use Rattle.std.proofs.Common.{Some, None, codes, option_map, refl, sym, ap, true≢false}
 use Rattle.std.specs.Box.{box_value}
 use Rattle.std.specs.Prelude.{Box, IfSome, ◌⊎◌, ◌||◌, ◌++◌, find, is_some, length, map, option_and_then, take}
 use Rattle.std.specs.Str.{bytes_eq}
 use Rattle.std.proofs.lemmas.Slice.Eq.{bytes_eq-Decides}
-use Rattle.clap.specs.Faults.{check_fault, defaults_fault, entered_fault, fault_of, is_simple_and_free, settle_fault, walk_fault}
-use Rattle.clap.specs.Simple.{HasMatchesOf, Shape, label_of, app_of, argument_words, built, built_leaf, help_shape, entered, is_simple, names_of, rows_at, subcommand_of, subcommand_rows, subcommand_rows_of}
-use Rattle.clap.specs.Walk.{Row, Text, answers_to, finished, nothing_held, first_of, rows_of, settled, walk, walk_from}
+use Rattle.clap.specs.Faults.{check_fault, defaults_fault, entered_fault, fault_of, is_simple_and_free}
+use Rattle.clap.specs.Faults.{settle_fault, walk_fault}
+use Rattle.clap.specs.Simple.{HasMatchesOf, Shape, label_of, app_of, argument_words, built, built_leaf}
+use Rattle.clap.specs.Simple.{help_shape, entered, is_simple, names_of, rows_at, subcommand_of}
+use Rattle.clap.specs.Simple.{subcommand_rows, subcommand_rows_of}
+use Rattle.clap.specs.Walk.{Row, Text, answers_to, finished, nothing_held, first_of, rows_of, settled, walk}
+use Rattle.clap.specs.Walk.{walk_from}
 use Rattle.clap.specs.declared.error.kind.ErrorKind.TheVariants.{MissingSubcommand, OutOfMemory}
 use Rattle.clap.specs.Kinds.{HasKind, IsAmong}
 use Rattle.clap.specs.Matches.{first_value, found_of, subcommand_name_of}
@@ -82,7 +87,8 @@ named : (stop : Option (Text × List Text)) → is_some (entered (built mrjob) s
     → IsOneOf (option_map (λ p. p.0) (entered (built mrjob) stop)) (map (λ s. s.name) mrjob.subs)
 named None some other = cc
 named (Some p) some other =
-    named_before p.0 p.1 commands (built_leaf help_shape) (ap (λ b. b || false) (same_from_other p.0 (codes "help") other)) some
+    named_before p.0 p.1 commands (built_leaf help_shape)
+    (ap (λ b. b || false) (same_from_other p.0 (codes "help") other)) some
 
 -- the last checks pass only where a subcommand was met
 has_command : (rows : List Row) (has : Bool) → check_fault (built mrjob).top rows has ≡ [] → has ≡ true

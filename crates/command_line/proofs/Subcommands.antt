@@ -1,12 +1,16 @@
 -- A parse in which no step fails does not stop at `help`.
-use Rattle.std.proofs.Common.{◌≡◌, ℕ, Bool, true, false, List, [], ◌∷◌, Option, Some, None, codes, refl, sym, subst, inl, inr}
+use Rattle.std.proofs.Common.{◌≡◌, ℕ, Bool, true, false, List, [], ◌∷◌, Option, Some, None, codes, refl, sym}
+use Rattle.std.proofs.Common.{subst, inl, inr}
 use Rattle.std.specs.Prelude.{◌⊎◌, ◌&&◌, IfSome, fold, if◌then◌else◌, not}
 use Rattle.std.specs.Str.{bytes_eq}
 use Rattle.clap.specs.Faults.{other_fault, turn_fault, walk_fault, word_fault}
 use Rattle.clap.specs.Kinds.{Kinds, or_else}
 use Rattle.clap.specs.Lexer.{long_of, short_of}
 use Rattle.clap.specs.Simple.{Shape}
-use Rattle.clap.specs.Walk.{Held, Names, Outcome, Rule, Step, Text, Waiting, Walk, done, waits, plain, refused, idle, option, positional, next, trailing, subcommand, value, after_flag, after_step, arg_by_index, long_or_other, plain_word, short_or_plain, subcommand_met, subcommand_or_other, to_positional, walked, word_met}
+use Rattle.clap.specs.Walk.{Held, Names, Outcome, Rule, Step, Text, Waiting, Walk, done, waits, plain}
+use Rattle.clap.specs.Walk.{refused, idle, option, positional, next, trailing, subcommand, value, after_flag}
+use Rattle.clap.specs.Walk.{after_step, arg_by_index, long_or_other, plain_word, short_or_plain}
+use Rattle.clap.specs.Walk.{subcommand_met, subcommand_or_other, to_positional, walked, word_met}
 use Rattle.clap.proofs.WalkLemmas.{walk_stopped}
 
 -- where the first step or the next has no fault, neither has one

@@ -9,7 +9,8 @@
 ghost use Rattle.std.specs.Prelude.{◌≡◌, [], Err, IfOk, IsOk, MatchOption, Ok, Some, codes};
 ghost use Rattle.clap.specs.Walk.{texts};
 ghost use Rattle.clap.specs.Words.{first_value, found_of, kind_of};
-ghost use Rattle.command_line.specs.Commands.{HasFault, NamesNoNetwork, command_in, faults_in, flag_in, name_of};
+ghost use Rattle.command_line.specs.Commands.{HasFault, NamesNoNetwork, command_in, faults_in, flag_in};
+ghost use Rattle.command_line.specs.Commands.{name_of};
 ghost use Rattle.command_line.specs.Commands.{RefusesNetwork, is_set, value_in, word_of};
 
 pub mod asked;

@@ -18,7 +18,8 @@ pub record IsSized (wave : Wave) (layout : DirectLayout) : Type 0 where
   pub splits : layout.splits ≡ length wave.splits
   pub workers : layout.workers ≡ length wave.workers
 
--- the nodes: a split has its own number; then the workers, the node of the splits that are not started, and the sink
+-- the nodes: a split has its own number; then the workers, the node of the splits that are not started, and
+-- the sink
 abbrev pub worker_node : Wave → ℕ → ℕ
 worker_node wave w = length wave.splits + w
 
@@ -45,7 +46,13 @@ arc_of wave (Wait s) = record { from = s; to = unstarted_node wave; capacity = 1
 arc_of wave (Slot w) =
     record { from = worker_node wave w; to = sink_node wave; capacity = (worker_at wave w).free; cost = 0 }
 arc_of wave Rest =
-    record { from = unstarted_node wave; to = sink_node wave; capacity = length (pending_splits wave); cost = 0 }
+    record {
+      from = unstarted_node wave;
+      to = sink_node wave;
+      capacity = length (pending_splits wave);
+      cost =
+          0;
+    }
 
 -- whether the wave has it
 abbrev pub IsWanted : Wave → DirectArc → Type 0
@@ -54,7 +61,8 @@ IsWanted wave (Wait s) = (split_at wave s).pending ≡ true
 IsWanted wave (Slot w) = w < length wave.workers
 IsWanted wave Rest = Unit {0}
 
--- the arcs of the direct network of a wave: each of them once, and no others, by rising start and then by rising end
+-- the arcs of the direct network of a wave: each of them once, and no others, by rising start and then by
+-- rising end
 abbrev pub IsDirect : Wave → List FlowArc → Type 0
 IsDirect wave arcs = AreRows (IsWanted wave) (arc_of wave) arcs
 
@@ -62,17 +70,21 @@ IsDirect wave arcs = AreRows (IsWanted wave) (arc_of wave) arcs
 -- the plan
 abbrev pub DirectPricesCertify : Type 0
 DirectPricesCertify =
-    (wave : Wave) (arcs : List FlowArc) (flows : List ℕ) (h : ℕ → ℕ) (starts : List (Option ℕ)) (prices : PriceList)
+    (wave : Wave) (arcs : List FlowArc) (flows : List ℕ) (h : ℕ → ℕ) (starts : List (Option ℕ))
+    (prices : PriceList)
     → IsDirect wave arcs → IsShipped wave (direct_nodes wave) arcs flows
     → NoNegative arcs flows h → h (sink_node wave) ≡ 0
-    → IsPlanOf wave (direct_nodes wave) arcs flows starts → ArePricesOf wave (direct_nodes wave) h starts prices
+    → IsPlanOf wave (direct_nodes wave) arcs flows starts →
+    ArePricesOf wave (direct_nodes wave) h starts prices
     → Certifies (claim wave starts prices)
 
 -- and the flow costs what the plan does
 abbrev pub DirectFlowCostsAsPlan : Type 0
 DirectFlowCostsAsPlan =
-    (wave : Wave) (arcs : List FlowArc) (flows : List ℕ) (h : ℕ → ℕ) (starts : List (Option ℕ)) (prices : PriceList)
+    (wave : Wave) (arcs : List FlowArc) (flows : List ℕ) (h : ℕ → ℕ) (starts : List (Option ℕ))
+    (prices : PriceList)
     → IsDirect wave arcs → IsShipped wave (direct_nodes wave) arcs flows
     → NoNegative arcs flows h → h (sink_node wave) ≡ 0
-    → IsPlanOf wave (direct_nodes wave) arcs flows starts → ArePricesOf wave (direct_nodes wave) h starts prices
+    → IsPlanOf wave (direct_nodes wave) arcs flows starts →
+    ArePricesOf wave (direct_nodes wave) h starts prices
     → CostsAsMuch wave arcs flows starts

@@ -13,7 +13,8 @@ place_of s w Sink = s + w + 1
 -- the node at a place
 abbrev pub node_of : ℕ → ℕ → ℕ → DirectNode
 node_of s w i =
-    if nat_lt i s then Split i else (if nat_lt i (s + w) then Worker (i - s) else (if i == s + w then Unstarted else Sink))
+    if nat_lt i s then Split i else (if nat_lt i (s + w) then Worker (i - s) else
+    (if i == s + w then Unstarted else Sink))
 
 -- whether there is such a node
 abbrev pub is_node : ℕ → ℕ → DirectNode → Bool

@@ -1,5 +1,7 @@
--- The laws of the numbering, proved here since an impl cites them: each node has a place of its own, each place a node.
-use Rattle.std.proofs.Common.{◌≡◌, ℕ, ◌+◌, ◌-◌, ◌<◌, true, false, eqb, ltb, inl, inr, refl, sym, ap, ◌∙◌, arith}
+-- The laws of the numbering, proved here since an impl cites them: each node has a place of its own, each
+-- place a node.
+use Rattle.std.proofs.Common.{◌≡◌, ℕ, ◌+◌, ◌-◌, ◌<◌, true, false, eqb, ltb, inl, inr, refl, sym, ap, ◌∙◌}
+use Rattle.std.proofs.Common.{arith}
 use Rattle.std.proofs.lemmas.Bool.Decides.{eqb_tells}
 use Rattle.std.proofs.lemmas.Bool.{cases_lt, lt-ltb, le-ltb, ltb-true, eq-eqb}
 use Rattle.direct_network.specs.declared.layout.DirectNode.{DirectNode}
@@ -27,7 +29,11 @@ at_sink : (s w : ℕ) → node_of s w (s + w + 1) ≡ Sink
 at_sink s w =
     let past : ltb (s + w + 1) s ≡ false = le-ltb (s + w + 1) s (omega arith) in
     let none : ltb (s + w + 1) (s + w) ≡ false = le-ltb (s + w + 1) (s + w) (omega arith) in
-    let other : eqb (s + w + 1) (s + w) ≡ false = elim (eqb_tells (s + w + 1) (s + w)) [ inl t ↦ absurd (omega (arith, t.1)) | inr f ↦ f.0 ] in
+    let other : eqb (s + w + 1) (s + w) ≡ false = elim (eqb_tells (s + w + 1) (s + w)) [
+      | inl t ↦
+          absurd (omega (arith, t.1))
+      | inr f ↦ f.0
+    ] in
     rw (past, none, other) refl
 
 pub node_at_place : (s w : ℕ) (n : DirectNode) → is_node s w n ≡ true → node_of s w (place_of s w n) ≡ n
@@ -49,16 +55,22 @@ node_for s w i h =
       | inl a ↦ (Split i, lt-ltb i s a, refl)
       | inr a ↦ elim (cases_lt i (s + w)) [
         | inl b ↦ (Worker (i - s), lt-ltb (i - s) w (omega arith), omega arith)
-        | inr b ↦ elim (cases_lt (s + w) i) [ inl d ↦ (Sink, refl, omega arith) | inr d ↦ (Unstarted, refl, omega arith) ]
+        | inr b ↦ elim (cases_lt (s + w) i) [
+          | inl d ↦ (Sink, refl, omega arith)
+          | inr d ↦
+              (Unstarted, refl, omega arith)
+        ]
       ]
     ]
 
 pub member_at : (s w i : ℕ) → i < s + w + 2 → is_node s w (node_of s w i) ≡ true
 member_at s w i h =
     let found = node_for s w i h in
-    ap (λ (k : ℕ). is_node s w (node_of s w k)) (sym found.2) ∙ ap (is_node s w) (node_at_place s w found.0 found.1) ∙ found.1
+    ap (λ (k : ℕ). is_node s w (node_of s w k)) (sym found.2)
+    ∙ ap (is_node s w) (node_at_place s w found.0 found.1) ∙ found.1
 
 pub place_at : (s w i : ℕ) → i < s + w + 2 → place_of s w (node_of s w i) ≡ i
 place_at s w i h =
     let found = node_for s w i h in
-    ap (λ (k : ℕ). place_of s w (node_of s w k)) (sym found.2) ∙ ap (place_of s w) (node_at_place s w found.0 found.1) ∙ found.2
+    ap (λ (k : ℕ). place_of s w (node_of s w k)) (sym found.2)
+    ∙ ap (place_of s w) (node_at_place s w found.0 found.1) ∙ found.2

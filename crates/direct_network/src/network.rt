@@ -1,5 +1,6 @@
 //! Builds the direct network of a problem.
-ghost use Rattle.std.specs.Prelude.{◌≡◌, ℕ, ◌+◌, ◌*◌, ◌<◌, ◌≤◌, ◌^◌, ◌∷◌, ◌++◌, [], length, IfOk, OnOk, slice_index};
+ghost use Rattle.std.specs.Prelude.{◌≡◌, ℕ, ◌+◌, ◌*◌, ◌<◌, ◌≤◌, ◌^◌, ◌∷◌, ◌++◌, [], length, IfOk, OnOk};
+ghost use Rattle.std.specs.Prelude.{slice_index};
 ghost use Rattle.wave_problem.specs.Wave.{reward};
 ghost use Rattle.wave_problem.specs.declared.TheConstants.{MAX_SPLITS};
 ghost use Rattle.direct_network.specs.declared.arcs.TheConstants.{MAX_ARCS};
@@ -75,7 +76,8 @@ fn add_pairs(
     requires few { split < MAX_SPLITS }
     requires built { IsBuilt problem.now split 0 (257 * split) network.old }
     ensures built { OnOk result
-        (IsBuilt problem.now split (worker_node problem.now (length problem.now.workers)) (257 * split + 256) network.new) }
+        (IsBuilt problem.now split (worker_node problem.now (length problem.now.workers))
+        (257 * split + 256) network.new) }
 {
     let costs = SplitCosts::new(problem, split);
     for i in 0..problem.workers() {
@@ -90,10 +92,12 @@ fn add_pairs(
 
 // Adds the arcs that leave workers.
 fn add_workers(network: &mut Network<DirectLayout>, problem: &Problem) -> Result<(), AllocError>
-    requires { IsBuilt problem.now (length problem.now.splits) 0 (257 * length problem.now.splits) network.old }
+    requires { IsBuilt problem.now (length problem.now.splits) 0
+        (257 * length problem.now.splits) network.old }
     ensures { OnOk result (IsBuilt problem.now (worker_node problem.now (length problem.now.workers)) 0
         (257 * length problem.now.splits + length problem.now.workers) network.new) }
 {
+    // (there are few splits)
     let _splits = problem.splits();
     for i in 0..problem.workers() {
         add(

@@ -23,7 +23,8 @@ pub fn prices_of(
     requires workers { plan.now.workers ≡ length problem.now.workers }
     requires nodes { length potentials.now ≡ length problem.now.splits + length problem.now.workers + 2 }
     ensures { IfOk result (λ prices.
-        ArePricesOf problem.now (direct_nodes problem.now) (slice_index potentials.now) plan.now.starts prices) }
+        ArePricesOf problem.now (direct_nodes problem.now) (slice_index potentials.now)
+        plan.now.starts prices) }
 {
     let workers = slot_prices(alloc, problem, potentials.depths())?;
     let splits = split_prices(alloc, problem, plan, &workers)?;

@@ -6,7 +6,8 @@ use Rattle.line_rules.proofs.OneReading.{least_fault-unique}
 use Rattle.text_reading.specs.FaultLine.{fault_line}
 use Rattle.fault_answers.specs.Faulty.{IsFaulty}
 
-pub one_fault : (purpose : Purpose) (text : List ℕ) (f g : TextFault) (x y : List ℕ) → IsFaulty purpose text f x
+pub one_fault : (purpose : Purpose) (text : List ℕ) (f g : TextFault) (x y : List ℕ) →
+    IsFaulty purpose text f x
     → IsFaulty purpose text g y → (f ≡ g) × (x ≡ y)
 one_fault purpose text f g x y p q =
     let same = least_fault-unique purpose text f.line g.line f.number g.number p.least q.least in

@@ -1,10 +1,13 @@
 -- What one unit over a path changes: rooms, lengths, balance.
-use Rattle.std.proofs.Common.{◌≡◌, ℕ, zero, suc, ◌+◌, ◌-◌, ◌<◌, Bool, true, false, cond, eqb, List, [], ◌∷◌, length, get_or, set, refl, sym, ap, ◌∙◌, inl, inr, arith, get_or-set_same, get_or-set_other, length-set}
+use Rattle.std.proofs.Common.{◌≡◌, ℕ, zero, suc, ◌+◌, ◌-◌, ◌<◌, Bool, true, false, cond, eqb, List, [], ◌∷◌}
+use Rattle.std.proofs.Common.{length, get_or, set, refl, sym, ap, ◌∙◌, inl, inr, arith, get_or-set_same}
+use Rattle.std.proofs.Common.{get_or-set_other, length-set}
 use Rattle.std.proofs.lemmas.Bool.{cases_eq}
 use Rattle.flow_network.specs.declared.arcs.FlowArc.{FlowArc}
 use Rattle.flow_network.specs.declared.arcs.ArcNo.{ArcNo}
 use Rattle.flow_network.specs.declared.arcs.ArcNo.TheVariants.{Forward, Reverse}
-use Rattle.flow_network.specs.Flows.{arc_at, tail_of, head_of, residual_of, IsResidual, IsPath, shifted, inflow, outflow, unit_at, Lacks}
+use Rattle.flow_network.specs.Flows.{arc_at, tail_of, head_of, residual_of, IsResidual, IsPath, shifted}
+use Rattle.flow_network.specs.Flows.{inflow, outflow, unit_at, Lacks}
 use Rattle.flow_network.specs.Laws.{PushKeepsConservation}
 
 pub length-shifted : (flows : List ℕ) (a : ArcNo) → length (shifted flows a) ≡ length flows
@@ -12,7 +15,8 @@ length-shifted flows (Forward k) = length-set flows k _
 length-shifted flows (Reverse k) = length-set flows k _
 
 -- a sum over two cases of one test
-over_test : (b : Bool) (f g x y : ℕ) → x + cond b f 0 ≡ y + cond b g 0 → (z : ℕ) → (z + x) + cond b f 0 ≡ (z + y) + cond b g 0
+over_test : (b : Bool) (f g x y : ℕ) → x + cond b f 0 ≡ y + cond b g 0 → (z : ℕ) →
+    (z + x) + cond b f 0 ≡ (z + y) + cond b g 0
 over_test true f g x y h z = omega arith
 over_test false f g x y h z = omega arith
 
@@ -29,9 +33,11 @@ inflow-set (a ∷ arcs) (f ∷ flows) zero g w e l = own_test (eqb a.to w) f g (
 inflow-set (a ∷ arcs) (f ∷ flows) (suc k) g w e l =
     let e' : length flows ≡ length arcs = omega arith in
     let l' : k < length arcs = omega arith in
-    over_test (eqb (arc_at arcs k).to w) (get_or flows k 0) g _ _ (inflow-set arcs flows k g w e' l') (cond (eqb a.to w) f 0)
+    over_test (eqb (arc_at arcs k).to w) (get_or flows k 0) g _ _ (inflow-set arcs flows k g w e' l')
+    (cond (eqb a.to w) f 0)
 
-outflow-set : (arcs : List FlowArc) (flows : List ℕ) (k g w : ℕ) → length flows ≡ length arcs → k < length arcs
+outflow-set : (arcs : List FlowArc) (flows : List ℕ) (k g w : ℕ) → length flows ≡ length arcs →
+    k < length arcs
     → outflow arcs (set flows k g) w + cond (eqb (arc_at arcs k).from w) (get_or flows k 0) 0
     ≡ outflow arcs flows w + cond (eqb (arc_at arcs k).from w) g 0
 outflow-set [] flows k g w e l = absurd (omega arith)
@@ -40,10 +46,12 @@ outflow-set (a ∷ arcs) (f ∷ flows) zero g w e l = own_test (eqb a.from w) f 
 outflow-set (a ∷ arcs) (f ∷ flows) (suc k) g w e l =
     let e' : length flows ≡ length arcs = omega arith in
     let l' : k < length arcs = omega arith in
-    over_test (eqb (arc_at arcs k).from w) (get_or flows k 0) g _ _ (outflow-set arcs flows k g w e' l') (cond (eqb a.from w) f 0)
+    over_test (eqb (arc_at arcs k).from w) (get_or flows k 0) g _ _ (outflow-set arcs flows k g w e' l')
+    (cond (eqb a.from w) f 0)
 
 -- one unit more
-one_more : (b c : Bool) (f i i' o o' : ℕ) → i' + cond b f 0 ≡ i + cond b (f + 1) 0 → o' + cond c f 0 ≡ o + cond c (f + 1) 0
+one_more : (b c : Bool) (f i i' o o' : ℕ) → i' + cond b f 0 ≡ i + cond b (f + 1) 0 →
+    o' + cond c f 0 ≡ o + cond c (f + 1) 0
     → i' + o + cond c 1 0 ≡ i + o' + cond b 1 0
 one_more true true f i i' o o' p q = omega arith
 one_more true false f i i' o o' p q = omega arith
@@ -51,7 +59,8 @@ one_more false true f i i' o o' p q = omega arith
 one_more false false f i i' o o' p q = omega arith
 
 -- one unit less
-one_less : (b c : Bool) (f i i' o o' : ℕ) → 0 < f → i' + cond b f 0 ≡ i + cond b (f - 1) 0 → o' + cond c f 0 ≡ o + cond c (f - 1) 0
+one_less : (b c : Bool) (f i i' o o' : ℕ) → 0 < f → i' + cond b f 0 ≡ i + cond b (f - 1) 0 →
+    o' + cond c f 0 ≡ o + cond c (f - 1) 0
     → i' + o + cond b 1 0 ≡ i + o' + cond c 1 0
 one_less true true f i i' o o' l p q = omega arith
 one_less true false f i i' o o' l p q = omega arith
@@ -59,7 +68,8 @@ one_less false true f i i' o o' l p q = omega arith
 one_less false false f i i' o o' l p q = omega arith
 
 -- a unit over one residual arc
-pub balance_of_shift : (arcs : List FlowArc) (flows : List ℕ) (a : ArcNo) (w : ℕ) → length flows ≡ length arcs → IsResidual arcs flows a
+pub balance_of_shift : (arcs : List FlowArc) (flows : List ℕ) (a : ArcNo) (w : ℕ) →
+    length flows ≡ length arcs → IsResidual arcs flows a
     → inflow arcs (shifted flows a) w + outflow arcs flows w + unit_at (tail_of arcs a) w
     ≡ inflow arcs flows w + outflow arcs (shifted flows a) w + unit_at (head_of arcs a) w
 balance_of_shift arcs flows (Forward k) w e r =
@@ -70,7 +80,8 @@ balance_of_shift arcs flows (Reverse k) w e r =
     (inflow-set arcs flows k _ w e r.listed) (outflow-set arcs flows k _ w e r.listed)
 
 -- a unit over one arc takes no room from another
-pub room_stays : (arcs : List FlowArc) (flows : List ℕ) (a b : ArcNo) → length flows ≡ length arcs → IsResidual arcs flows a → (a ≡ b → ⊥)
+pub room_stays : (arcs : List FlowArc) (flows : List ℕ) (a b : ArcNo) → length flows ≡ length arcs →
+    IsResidual arcs flows a → (a ≡ b → ⊥)
     → 0 < residual_of arcs flows b → 0 < residual_of arcs (shifted flows a) b
 room_stays arcs flows (Forward i) (Forward j) e r n l =
     rw (get_or-set_other flows i j (get_or flows i 0 + 1) 0 (λ s. n (ap Forward (sym s)))) l
@@ -85,18 +96,24 @@ room_stays arcs flows (Forward i) (Reverse j) e r n l =
 room_stays arcs flows (Reverse i) (Forward j) e r n l =
     let inside : i < length flows = rw e r.listed in
     elim (cases_eq j i) [
-      | inl s ↦ let l' : 0 < (arc_at arcs i).capacity - get_or flows i 0 = (rw s at l) in rw (s, get_or-set_same flows i (get_or flows i 0 - 1) 0 inside) (omega arith)
+      | inl s ↦ let l' : 0 < (arc_at arcs i).capacity - get_or flows i 0 = (rw s at l) in
+          rw (s, get_or-set_same flows i (get_or flows i 0 - 1) 0 inside) (omega arith)
       | inr s ↦ rw (get_or-set_other flows i j (get_or flows i 0 - 1) 0 s) l
     ]
 
 -- so the rest of a path stays a path
-pub IsPath-shifted : (arcs : List FlowArc) (flows : List ℕ) (a : ArcNo) (path : List ArcNo) (u v : ℕ) → length flows ≡ length arcs → IsResidual arcs flows a
+pub IsPath-shifted : (arcs : List FlowArc) (flows : List ℕ) (a : ArcNo) (path : List ArcNo) (u v : ℕ) →
+    length flows ≡ length arcs → IsResidual arcs flows a
     → Lacks a path → IsPath arcs flows path u v → IsPath arcs (shifted flows a) path u v
 IsPath-shifted arcs flows a [] u v e r n p = p
-IsPath-shifted arcs flows a (b ∷ path) u v e r n p =
-    (record { listed = p.0.listed; room = room_stays arcs flows a b e r n.0 p.0.room }, p.1, IsPath-shifted arcs flows a path _ v e r n.1 p.2)
+IsPath-shifted arcs flows a (b ∷ path) u v e r n p = (
+  record { listed = p.0.listed; room = room_stays arcs flows a b e r n.0 p.0.room },
+  p.1,
+  IsPath-shifted arcs flows a path _ v e r n.1 p.2,
+)
 
-step_balance : (i o i1 o1 i2 o2 x y z : ℕ) → i1 + o + x ≡ i + o1 + y → i2 + o1 + y ≡ i1 + o2 + z → i2 + o + x ≡ i + o2 + z
+step_balance : (i o i1 o1 i2 o2 x y z : ℕ) → i1 + o + x ≡ i + o1 + y → i2 + o1 + y ≡ i1 + o2 + z →
+    i2 + o + x ≡ i + o2 + z
 step_balance i o i1 o1 i2 o2 x y z p q = omega arith
 
 pub push_balance : PushKeepsConservation
@@ -104,5 +121,6 @@ push_balance arcs flows [] u v w e d p = rw p refl
 push_balance arcs flows (a ∷ path) u v w e d p =
     let e' : length (shifted flows a) ≡ length arcs = length-shifted flows a ∙ e in
     let first = balance_of_shift arcs flows a w e p.0 in
-    let rest = push_balance arcs (shifted flows a) path (head_of arcs a) v w e' d.1 (IsPath-shifted arcs flows a path _ v e p.0 d.0 p.2) in
+    let rest = push_balance arcs (shifted flows a) path (head_of arcs a) v w e' d.1
+    (IsPath-shifted arcs flows a path _ v e p.0 d.0 p.2) in
     step_balance _ _ _ _ _ _ _ _ _ (rw p.1 at first) rest

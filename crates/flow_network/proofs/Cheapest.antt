@@ -1,5 +1,6 @@
 -- A flow without a negative reduced cost costs no more than any other with its balances.
-use Rattle.std.proofs.Common.{◌≡◌, ℕ, zero, suc, ◌+◌, ◌-◌, ◌*◌, ◌<◌, ◌≤◌, cond, eqb, List, [], ◌∷◌, length, refl, ap, inl, inr, arith}
+use Rattle.std.proofs.Common.{◌≡◌, ℕ, zero, suc, ◌+◌, ◌-◌, ◌*◌, ◌<◌, ◌≤◌, cond, eqb, List, [], ◌∷◌, length}
+use Rattle.std.proofs.Common.{refl, ap, inl, inr, arith}
 use Rattle.std.proofs.Math.Nat.{mul-le-mul_left, add-mul, mul-add, mul_comm, mul-zero}
 use Rattle.std.proofs.lemmas.Bool.{cases_eq, cases_lt, eq-eqb, ne_eqb}
 use Rattle.flow_network.specs.declared.arcs.FlowArc.{FlowArc}
@@ -37,7 +38,8 @@ cheaper g e c s t l =
     let x = mul-add e c t in
     omega arith
 
-one_arc : (c s t cap f g : ℕ) → (f < cap → s ≤ c + t) → (0 < f → c + t ≤ s) → g ≤ cap → f * c + f * t + g * s ≤ g * c + g * t + f * s
+one_arc : (c s t cap f g : ℕ) → (f < cap → s ≤ c + t) → (0 < f → c + t ≤ s) → g ≤ cap →
+    f * c + f * t + g * s ≤ g * c + g * t + f * s
 one_arc c s t cap f g room unit within = elim (cases_lt f g) [
   | inl l ↦ (let e : f + (g - f) ≡ g = omega arith in
       let d = dearer f (g - f) c s t (room (omega arith)) in
@@ -50,9 +52,11 @@ one_arc c s t cap f g room unit within = elim (cases_lt f g) [
   ]
 ]
 
-arc_by_arc : (arcs : List FlowArc) (flows other : List ℕ) (h : ℕ → ℕ) → length flows ≡ length arcs → length other ≡ length arcs
+arc_by_arc : (arcs : List FlowArc) (flows other : List ℕ) (h : ℕ → ℕ) → length flows ≡ length arcs →
+    length other ≡ length arcs
     → NoNegative arcs flows h → WithinCapacities arcs other
-    → flow_cost arcs flows + into h arcs flows + out_of h arcs other ≤ flow_cost arcs other + into h arcs other + out_of h arcs flows
+    → flow_cost arcs flows + into h arcs flows + out_of h arcs other ≤ flow_cost arcs other
+    + into h arcs other + out_of h arcs flows
 unfolding into out_of
 arc_by_arc [] flows other h e d n w = omega arith
 arc_by_arc (a ∷ arcs) [] other h e d n w = absurd (omega arith)
@@ -60,7 +64,8 @@ arc_by_arc (a ∷ arcs) (f ∷ flows) [] h e d n w = absurd (omega arith)
 arc_by_arc (a ∷ arcs) (f ∷ flows) (g ∷ other) h e d n w =
     let first = n 0 (omega arith) in
     let here = one_arc a.cost (h a.from) (h a.to) a.capacity f g first.0 first.1 (w 0 (omega arith)) in
-    let rest = arc_by_arc arcs flows other h (omega arith) (omega arith) (λ k l. n (suc k) (omega arith)) (λ k l. w (suc k) (omega arith)) in
+    let rest = arc_by_arc arcs flows other h (omega arith) (omega arith) (λ k l. n (suc k) (omega arith))
+    (λ k l. w (suc k) (omega arith)) in
     omega arith
 
 -- a sum over the first nodes
@@ -81,7 +86,8 @@ sum_add (suc n) f g h e = let rest = sum_add n f g h e in let here = e n in omeg
 sum_none : (n : ℕ) (f : ℕ → ℕ) → ((v : ℕ) → v < n → f v ≡ 0) → sum_to n f ≡ 0
 unfolding sum_to
 sum_none zero f e = refl
-sum_none (suc n) f e = let rest = sum_none n f (λ v l. e v (omega arith)) in let here = e n (omega arith) in omega arith
+sum_none (suc n) f e = let rest = sum_none n f (λ v l. e v (omega arith)) in let here = e n (omega arith) in
+    omega arith
 
 point_at : (x v f : ℕ) (h : ℕ → ℕ) → x ≡ v → h v * cond (eqb x v) f 0 ≡ f * h x
 point_at x v f h e = rw (eq-eqb x v e, e) (mul_comm (h v) f)
@@ -93,41 +99,49 @@ sum_point : (n x f : ℕ) (h : ℕ → ℕ) → x < n → sum_to n (λ v. h v * 
 unfolding sum_to
 sum_point zero x f h l = absurd (omega arith)
 sum_point (suc n) x f h l = elim (cases_eq x n) [
-  | inl e ↦ (let rest = sum_none n (λ v. h v * cond (eqb x v) f 0) (λ v m. point_off x v f h (λ q. absurd (omega arith))) in
+  | inl e ↦ (let rest =
+      sum_none n (λ v. h v * cond (eqb x v) f 0) (λ v m. point_off x v f h (λ q. absurd (omega arith))) in
       let here = point_at x n f h e in omega arith)
   | inr d ↦ (let rest = sum_point n x f h (omega arith) in let here = point_off x n f h d in omega arith)
 ]
 
-weighted_in : (n : ℕ) (arcs : List FlowArc) (flows : List ℕ) (h : ℕ → ℕ) → AreArcs n arcs → sum_to n (λ v. h v * inflow arcs flows v) ≡ into h arcs flows
+weighted_in : (n : ℕ) (arcs : List FlowArc) (flows : List ℕ) (h : ℕ → ℕ) → AreArcs n arcs →
+    sum_to n (λ v. h v * inflow arcs flows v) ≡ into h arcs flows
 unfolding into
 weighted_in n [] flows h are = sum_none n (λ v. h v * 0) (λ v l. mul-zero (h v))
 weighted_in n (a ∷ arcs) [] h are = sum_none n (λ v. h v * 0) (λ v l. mul-zero (h v))
 weighted_in n (a ∷ arcs) (f ∷ flows) h are =
     let rest = weighted_in n arcs flows h (λ k l. are (suc k) (omega arith)) in
     let here = sum_point n a.to f h (are 0 (omega arith)).to_in in
-    let both = sum_add n (λ v. h v * inflow (a ∷ arcs) (f ∷ flows) v) (λ v. h v * cond (eqb a.to v) f 0) (λ v. h v * inflow arcs flows v)
+    let both = sum_add n (λ v. h v * inflow (a ∷ arcs) (f ∷ flows) v) (λ v. h v * cond (eqb a.to v) f 0)
+    (λ v. h v * inflow arcs flows v)
     (λ v. mul-add (h v) (cond (eqb a.to v) f 0) (inflow arcs flows v)) in
     omega arith
 
-weighted_out : (n : ℕ) (arcs : List FlowArc) (flows : List ℕ) (h : ℕ → ℕ) → AreArcs n arcs → sum_to n (λ v. h v * outflow arcs flows v) ≡ out_of h arcs flows
+weighted_out : (n : ℕ) (arcs : List FlowArc) (flows : List ℕ) (h : ℕ → ℕ) → AreArcs n arcs →
+    sum_to n (λ v. h v * outflow arcs flows v) ≡ out_of h arcs flows
 unfolding out_of
 weighted_out n [] flows h are = sum_none n (λ v. h v * 0) (λ v l. mul-zero (h v))
 weighted_out n (a ∷ arcs) [] h are = sum_none n (λ v. h v * 0) (λ v l. mul-zero (h v))
 weighted_out n (a ∷ arcs) (f ∷ flows) h are =
     let rest = weighted_out n arcs flows h (λ k l. are (suc k) (omega arith)) in
     let here = sum_point n a.from f h (are 0 (omega arith)).from_in in
-    let both = sum_add n (λ v. h v * outflow (a ∷ arcs) (f ∷ flows) v) (λ v. h v * cond (eqb a.from v) f 0) (λ v. h v * outflow arcs flows v)
+    let both = sum_add n (λ v. h v * outflow (a ∷ arcs) (f ∷ flows) v) (λ v. h v * cond (eqb a.from v) f 0)
+    (λ v. h v * outflow arcs flows v)
     (λ v. mul-add (h v) (cond (eqb a.from v) f 0) (outflow arcs flows v)) in
     omega arith
 
 pub no_negative_is_cheapest : NoNegativeIsCheapest
 no_negative_is_cheapest nodes arcs flows other h are e d none within balance =
     let arcwise = arc_by_arc arcs flows other h e d none within in
-    let left = sum_add nodes (λ v. h v * (inflow arcs flows v + outflow arcs other v)) (λ v. h v * inflow arcs flows v) (λ v. h v * outflow arcs other v)
+    let left = sum_add nodes (λ v. h v * (inflow arcs flows v + outflow arcs other v))
+    (λ v. h v * inflow arcs flows v) (λ v. h v * outflow arcs other v)
     (λ v. mul-add (h v) (inflow arcs flows v) (outflow arcs other v)) in
-    let right = sum_add nodes (λ v. h v * (inflow arcs other v + outflow arcs flows v)) (λ v. h v * inflow arcs other v) (λ v. h v * outflow arcs flows v)
+    let right = sum_add nodes (λ v. h v * (inflow arcs other v + outflow arcs flows v))
+    (λ v. h v * inflow arcs other v) (λ v. h v * outflow arcs flows v)
     (λ v. mul-add (h v) (inflow arcs other v) (outflow arcs flows v)) in
-    let same = sum_same nodes (λ v. h v * (inflow arcs flows v + outflow arcs other v)) (λ v. h v * (inflow arcs other v + outflow arcs flows v)) (λ v. ap (λ m. h v * m) (balance v)) in
+    let same = sum_same nodes (λ v. h v * (inflow arcs flows v + outflow arcs other v))
+    (λ v. h v * (inflow arcs other v + outflow arcs flows v)) (λ v. ap (λ m. h v * m) (balance v)) in
     let a = weighted_in nodes arcs flows h are in
     let b = weighted_out nodes arcs other h are in
     let c = weighted_in nodes arcs other h are in

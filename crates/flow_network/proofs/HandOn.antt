@@ -1,12 +1,14 @@
 -- Sums of flows over the first arcs.
-use Rattle.std.proofs.Common.{◌≡◌, ℕ, zero, suc, ◌+◌, ◌<◌, ◌≤◌, cond, eqb, List, [], ◌∷◌, length, get_or, take, refl, sym, arith}
+use Rattle.std.proofs.Common.{◌≡◌, ℕ, zero, suc, ◌+◌, ◌<◌, ◌≤◌, cond, eqb, List, [], ◌∷◌, length, get_or}
+use Rattle.std.proofs.Common.{take, refl, sym, arith}
 use Rattle.std.proofs.lemmas.Bool.{eq-eqb, ne_eqb}
 use Rattle.flow_network.specs.declared.arcs.FlowArc.{FlowArc}
 use Rattle.flow_network.specs.Flows.{arc_at, inflow, outflow}
 use Rattle.flow_network.specs.Laws.{EnoughWait}
 
 -- no arc leads to the node
-inflow_none : (arcs : List FlowArc) (flows : List ℕ) (u : ℕ) → ((i : ℕ) → i < length arcs → (arc_at arcs i).to ≡ u → ⊥) → inflow arcs flows u ≡ 0
+inflow_none : (arcs : List FlowArc) (flows : List ℕ) (u : ℕ) →
+    ((i : ℕ) → i < length arcs → (arc_at arcs i).to ≡ u → ⊥) → inflow arcs flows u ≡ 0
 inflow_none [] flows u n = refl
 inflow_none (a ∷ arcs) [] u n = refl
 inflow_none (a ∷ arcs) (f ∷ flows) u n =
@@ -14,21 +16,25 @@ inflow_none (a ∷ arcs) (f ∷ flows) u n =
     rw (ne_eqb a.to u (λ e. n 0 (omega arith) e)) (omega arith)
 
 -- no arc from number j on leads to the node
-inflow-take : (arcs : List FlowArc) (flows : List ℕ) (u j : ℕ) → length flows ≡ length arcs → ((i : ℕ) → j ≤ i → i < length arcs → (arc_at arcs i).to ≡ u → ⊥)
+inflow-take : (arcs : List FlowArc) (flows : List ℕ) (u j : ℕ) → length flows ≡ length arcs →
+    ((i : ℕ) → j ≤ i → i < length arcs → (arc_at arcs i).to ≡ u → ⊥)
     → inflow (take j arcs) (take j flows) u ≡ inflow arcs flows u
 inflow-take arcs flows u zero e n = sym (inflow_none arcs flows u (λ i l q. n i (omega arith) l q))
 inflow-take [] flows u (suc j) e n = refl
 inflow-take (a ∷ arcs) [] u (suc j) e n = absurd (omega arith)
 inflow-take (a ∷ arcs) (f ∷ flows) u (suc j) e n =
-    let rest = inflow-take arcs flows u j (omega arith) (λ i m l q. n (suc i) (omega arith) (omega arith) q) in omega arith
+    let rest = inflow-take arcs flows u j (omega arith) (λ i m l q. n (suc i) (omega arith) (omega arith) q)
+    in omega arith
 
 -- the arcs before j and arc j give no more than all
-outflow-take : (arcs : List FlowArc) (flows : List ℕ) (u j : ℕ) → length flows ≡ length arcs → j < length arcs → (arc_at arcs j).from ≡ u
+outflow-take : (arcs : List FlowArc) (flows : List ℕ) (u j : ℕ) → length flows ≡ length arcs →
+    j < length arcs → (arc_at arcs j).from ≡ u
     → outflow (take j arcs) (take j flows) u + get_or flows j 0 ≤ outflow arcs flows u
 outflow-take [] flows u j e l at = absurd (omega arith)
 outflow-take (a ∷ arcs) [] u j e l at = absurd (omega arith)
 outflow-take (a ∷ arcs) (f ∷ flows) u zero e l at = rw (eq-eqb a.from u at) (omega arith)
-outflow-take (a ∷ arcs) (f ∷ flows) u (suc j) e l at = let rest = outflow-take arcs flows u j (omega arith) (omega arith) at in omega arith
+outflow-take (a ∷ arcs) (f ∷ flows) u (suc j) e l at = let rest =
+    outflow-take arcs flows u j (omega arith) (omega arith) at in omega arith
 
 pub enough_wait : EnoughWait
 enough_wait arcs flows u j extra waiting e l at none balance now =
@@ -38,23 +44,33 @@ enough_wait arcs flows u j extra waiting e l at none balance now =
 
 -- one arc more of the first ones
 inflow-suc : (arcs : List FlowArc) (flows : List ℕ) (v k : ℕ) → length flows ≡ length arcs → k < length arcs
-    → inflow (take (suc k) arcs) (take (suc k) flows) v ≡ inflow (take k arcs) (take k flows) v + cond (eqb (arc_at arcs k).to v) (get_or flows k 0) 0
+    → inflow (take (suc k) arcs) (take (suc k) flows) v ≡ inflow (take k arcs) (take k flows) v
+    + cond (eqb (arc_at arcs k).to v) (get_or flows k 0) 0
 inflow-suc [] flows v k e l = absurd (omega arith)
 inflow-suc (a ∷ arcs) [] v k e l = absurd (omega arith)
 inflow-suc (a ∷ arcs) (f ∷ flows) v zero e l = omega arith
-inflow-suc (a ∷ arcs) (f ∷ flows) v (suc k) e l = let rest = inflow-suc arcs flows v k (omega arith) (omega arith) in omega arith
+inflow-suc (a ∷ arcs) (f ∷ flows) v (suc k) e l = let rest =
+    inflow-suc arcs flows v k (omega arith) (omega arith) in omega arith
 
 outflow-suc : (arcs : List FlowArc) (flows : List ℕ) (v k : ℕ) → length flows ≡ length arcs → k < length arcs
-    → outflow (take (suc k) arcs) (take (suc k) flows) v ≡ outflow (take k arcs) (take k flows) v + cond (eqb (arc_at arcs k).from v) (get_or flows k 0) 0
+    → outflow (take (suc k) arcs) (take (suc k) flows) v ≡ outflow (take k arcs) (take k flows) v
+    + cond (eqb (arc_at arcs k).from v) (get_or flows k 0) 0
 outflow-suc [] flows v k e l = absurd (omega arith)
 outflow-suc (a ∷ arcs) [] v k e l = absurd (omega arith)
 outflow-suc (a ∷ arcs) (f ∷ flows) v zero e l = omega arith
-outflow-suc (a ∷ arcs) (f ∷ flows) v (suc k) e l = let rest = outflow-suc arcs flows v k (omega arith) (omega arith) in omega arith
+outflow-suc (a ∷ arcs) (f ∷ flows) v (suc k) e l = let rest =
+    outflow-suc arcs flows v k (omega arith) (omega arith) in omega arith
 
-pub inflow-more : (arcs : List FlowArc) (flows : List ℕ) (v k : ℕ) → length flows ≡ length arcs → k < length arcs
-    → inflow (take (k + 1) arcs) (take (k + 1) flows) v ≡ inflow (take k arcs) (take k flows) v + cond (eqb (arc_at arcs k).to v) (get_or flows k 0) 0
-inflow-more arcs flows v k e l = let next : k + 1 ≡ suc k = omega arith in rw next (inflow-suc arcs flows v k e l)
+pub inflow-more : (arcs : List FlowArc) (flows : List ℕ) (v k : ℕ) → length flows ≡ length arcs →
+    k < length arcs
+    → inflow (take (k + 1) arcs) (take (k + 1) flows) v ≡ inflow (take k arcs) (take k flows) v
+    + cond (eqb (arc_at arcs k).to v) (get_or flows k 0) 0
+inflow-more arcs flows v k e l = let next : k + 1 ≡ suc k = omega arith in
+    rw next (inflow-suc arcs flows v k e l)
 
-pub outflow-more : (arcs : List FlowArc) (flows : List ℕ) (v k : ℕ) → length flows ≡ length arcs → k < length arcs
-    → outflow (take (k + 1) arcs) (take (k + 1) flows) v ≡ outflow (take k arcs) (take k flows) v + cond (eqb (arc_at arcs k).from v) (get_or flows k 0) 0
-outflow-more arcs flows v k e l = let next : k + 1 ≡ suc k = omega arith in rw next (outflow-suc arcs flows v k e l)
+pub outflow-more : (arcs : List FlowArc) (flows : List ℕ) (v k : ℕ) → length flows ≡ length arcs →
+    k < length arcs
+    → outflow (take (k + 1) arcs) (take (k + 1) flows) v ≡ outflow (take k arcs) (take k flows) v
+    + cond (eqb (arc_at arcs k).from v) (get_or flows k 0) 0
+outflow-more arcs flows v k e l = let next : k + 1 ≡ suc k = omega arith in
+    rw next (outflow-suc arcs flows v k e l)

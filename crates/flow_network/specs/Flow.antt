@@ -9,7 +9,8 @@ pub record Flow (L : Type 0) : Type 0 where
   pub arcs : List FlowArc
   pub flows : List ℕ
 
--- arcs between so many nodes, one flow for each arc, within its capacity, and for each node the arcs that leave it
+-- arcs between so many nodes, one flow for each arc, within its capacity, and for each node the arcs that
+-- leave it
 pub record IsFlow (nodes : ℕ) (arcs : List FlowArc) (flows : List ℕ)
     (leaving : List (List ArcNo)) : Type 0 where
   pub node_limit : nodes ≤ 4096

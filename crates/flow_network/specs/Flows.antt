@@ -1,6 +1,7 @@
 -- Flows on a list of arcs: residual arcs, paths, what a push does, balance, reduced costs.
 -- arcs : List FlowArc is fixed; flows : List ℕ has the flow of each arc, by the arc's number.
-use Rattle.std.specs.Prelude.{◌≡◌, ℕ, ◌+◌, ◌-◌, ◌<◌, ◌≤◌, ◌==◌, ◌^◌, cond, List, [], ◌∷◌, length, slice_index_or, slice_index, slice_set, suc, ◌++◌, ℤ, pos, neg_ℤ}
+use Rattle.std.specs.Prelude.{◌≡◌, ℕ, ◌+◌, ◌-◌, ◌<◌, ◌≤◌, ◌==◌, ◌^◌, cond, List, [], ◌∷◌, length}
+use Rattle.std.specs.Prelude.{slice_index_or, slice_index, slice_set, suc, ◌++◌, ℤ, pos, neg_ℤ}
 use Rattle.flow_network.specs.declared.arcs.FlowArc.{FlowArc}
 use Rattle.flow_network.specs.declared.arcs.ArcNo.{ArcNo}
 use Rattle.flow_network.specs.declared.arcs.ArcNo.TheVariants.{Forward, Reverse}

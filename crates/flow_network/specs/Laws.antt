@@ -1,8 +1,10 @@
 -- What the network's laws say.
-use Rattle.std.specs.Prelude.{◌≡◌, ℕ, ◌+◌, ◌-◌, ◌*◌, ◌<◌, ◌≤◌, List, [], ◌∷◌, length, cond, ◌==◌, slice_index, take, Option, Some, None, ◌⊎◌}
+use Rattle.std.specs.Prelude.{◌≡◌, ℕ, ◌+◌, ◌-◌, ◌*◌, ◌<◌, ◌≤◌, List, [], ◌∷◌, length, cond, ◌==◌, slice_index}
+use Rattle.std.specs.Prelude.{take, Option, Some, None, ◌⊎◌}
 use Rattle.flow_network.specs.declared.arcs.FlowArc.{FlowArc}
 use Rattle.flow_network.specs.declared.arcs.ArcNo.{ArcNo}
-use Rattle.flow_network.specs.Flows.{arc_at, AreArcs, WithinCapacities, IsPath, IsDistinct, pushed, inflow, outflow, unit_at, NoNegative, path_cost}
+use Rattle.flow_network.specs.Flows.{arc_at, AreArcs, WithinCapacities, IsPath, IsDistinct, pushed, inflow}
+use Rattle.flow_network.specs.Flows.{outflow, unit_at, NoNegative, path_cost}
 
 -- a unit leaves u and comes to v; the balance of every other node stays
 abbrev pub PushKeepsConservation : Type 0
@@ -18,7 +20,8 @@ PushKeepsConservation =
 abbrev pub IsWithin : (ℕ → Option ℕ) → ℕ → ℕ → Type 0
 IsWithin d v most = (c : ℕ) × (d v ≡ Some c) × (c ≤ most)
 
--- d is the least cost of a path from u, up to the cost of the sink: a path that is cheaper than what d says of
+-- d is the least cost of a path from u, up to the cost of the sink: a path that is cheaper than what d says
+-- of
 -- its end costs no less than the sink. What d says is the cost of a path.
 pub record IsLeast (arcs : List FlowArc) (flows : List ℕ) (h : ℕ → ℕ) (u sink : ℕ)
     (d : ℕ → Option ℕ) : Type 0 where
@@ -50,7 +53,8 @@ abbrev pub outroom : List FlowArc → ℕ → ℕ
 outroom [] v = 0
 outroom (a ∷ arcs) v = cond (a.from == v) a.capacity 0 + outroom arcs v
 
--- an arc j leads to a node v whose own arcs can carry just as much. Where one of those has room, or another arc
+-- an arc j leads to a node v whose own arcs can carry just as much. Where one of those has room, or another
+-- arc
 -- i brings v a unit, arc j has room.
 abbrev pub RoomBelowIsRoomAbove : Type 0
 RoomBelowIsRoomAbove =
@@ -63,7 +67,8 @@ RoomBelowIsRoomAbove =
     × ((i : ℕ) → i < length arcs → (arc_at arcs i).to ≡ v → (i ≡ j → ⊥) → 0 < slice_index flows i
     → slice_index flows j < (arc_at arcs j).capacity)
 
--- Units are handed on arc by arc, in an order in which no later arc leads back to a node that gave: at each arc
+-- Units are handed on arc by arc, in an order in which no later arc leads back to a node that gave: at each
+-- arc
 -- enough units wait at its start. extra is 1 at a source, else 0.
 abbrev pub EnoughWait : Type 0
 EnoughWait =

@@ -1,5 +1,6 @@
 //! Laws of flows, paths and potentials (Ahuja, Magnanti and Orlin, Network Flows), for the layers above.
-ghost use Rattle.flow_network.specs.Laws.{PushKeepsConservation, PushKeepsOptimality, NoNegativeIsCheapest, RoomBelowIsRoomAbove, EnoughWait};
+ghost use Rattle.flow_network.specs.Laws.{PushKeepsConservation, PushKeepsOptimality, NoNegativeIsCheapest};
+ghost use Rattle.flow_network.specs.Laws.{RoomBelowIsRoomAbove, EnoughWait};
 ghost use Rattle.flow_network.specs.Leaving.{ListsHoldEachArc, LooksAreFew};
 
 /// Along a path every node but its ends keeps what it takes in less what it gives out.

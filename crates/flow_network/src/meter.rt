@@ -55,7 +55,8 @@ impl<'a, L: Layout> Meter<'a, L> {
 
     /// What holds of every network.
     pub fn limits(&self)
-        ensures { IsNetwork (L.node_count self.now.network.layout) self.now.network.arcs self.now.network.flows }
+        ensures { IsNetwork (L.node_count self.now.network.layout) self.now.network.arcs
+            self.now.network.flows }
     {
         self.network.limits();
     }

@@ -1,6 +1,10 @@
 //! The network: a layout of nodes, arcs between them, and the flow of each arc.
-ghost use Rattle.std.specs.Prelude.{◌≡◌, ℕ, ◌+◌, ◌-◌, ◌*◌, ◌<◌, ◌≤◌, ◌^◌, List, [], ◌∷◌, ◌++◌, length, pos, ◌-ℤ◌, OnOk, OnErr, ◌↔◌, IfOk, IfErr, slice_index, true, vec_len};
-ghost use Rattle.flow_network.specs.Flows.{tail_of, head_of, residual_of, arc_index, arc_at, IsResidual, IsPath, IsDistinct, pushed, inflow, outflow, unit_at, opposite, WithinCapacities, AllResidual, AreArcs, path_start, path_end, leaving_of, cost_of, IsNetwork};
+ghost use Rattle.std.specs.Prelude.{◌≡◌, ℕ, ◌+◌, ◌-◌, ◌*◌, ◌<◌, ◌≤◌, ◌^◌, List, [], ◌∷◌, ◌++◌, length, pos};
+ghost use Rattle.std.specs.Prelude.{◌-ℤ◌, OnOk, OnErr, ◌↔◌, IfOk, IfErr, slice_index, true, vec_len};
+ghost use Rattle.flow_network.specs.Flows.{tail_of, head_of, residual_of, arc_index, arc_at, IsResidual};
+ghost use Rattle.flow_network.specs.Flows.{IsPath, IsDistinct, pushed, inflow, outflow, unit_at, opposite};
+ghost use Rattle.flow_network.specs.Flows.{WithinCapacities, AllResidual, AreArcs, path_start, path_end};
+ghost use Rattle.flow_network.specs.Flows.{leaving_of, cost_of, IsNetwork};
 
 use crate::leaving::{Leaving, list_arc, none_leaving};
 use crate::{ArcNo, FlowArc, Look};
@@ -171,6 +175,7 @@ impl<L: Layout> Network<L> {
     pub fn limits(&self)
         ensures { IsNetwork (L.node_count self.now.layout) self.now.arcs self.now.flows }
     {
+        // (reads the fields, of which the invariant speaks)
         let _nodes = self.leaving.len();
     }
 
@@ -182,7 +187,8 @@ impl<L: Layout> Network<L> {
             (path_end self.old.arcs path.now) }
         ensures pushed { self.new ≡ record self.old { flows = pushed path.now self.old.flows } }
         // a unit leaves the start and comes to the end; each other node keeps its balance
-        ensures balance { (w : ℕ) → inflow self.old.arcs self.new.flows w + outflow self.old.arcs self.old.flows w + unit_at (path_start self.old.arcs path.now) w
+        ensures balance { (w : ℕ) → inflow self.old.arcs self.new.flows w
+            + outflow self.old.arcs self.old.flows w + unit_at (path_start self.old.arcs path.now) w
             ≡ inflow self.old.arcs self.old.flows w + outflow self.old.arcs self.new.flows w + unit_at
             (path_end self.old.arcs path.now) w }
     {
@@ -200,7 +206,18 @@ impl<L: Layout> Network<L> {
         push_units(&self.arcs, &mut self.flows, path);
     }
 
+    /// Takes memory for so many arcs more that leave a node or lead to it, at once. That changes nothing.
+    pub fn make_room(&mut self, node: L::Node, arcs: usize) -> Result<(), AllocError>
+        requires { L.is_member self.old.layout node ≡ true }
+        ensures { self.new ≡ self.old }
+    {
+        let index = self.layout.index(node);
+        self.leaving[index].make_room(arcs)?;
+        Ok(())
+    }
+
     /// Adds an arc, which carries nothing at first. A refused call leaves the network as it was.
+    #[inline(always)]
     pub fn add_arc(
         &mut self,
         from: L::Node,
@@ -214,7 +231,12 @@ impl<L: Layout> Network<L> {
         requires cost { cost < 2 ^ 39 }
         ensures arc { IfOk result (λ a. a ≡ ArcNo.Forward (length self.old.arcs)) }
         ensures arcs { OnOk result (self.new ≡ record self.old {
-          arcs = self.old.arcs ++ record { from = L.index_of self.old.layout from; to = L.index_of self.old.layout to; capacity = capacity; cost = cost } ∷ [];
+          arcs = self.old.arcs ++ record {
+            from = L.index_of self.old.layout from;
+            to = L.index_of self.old.layout to;
+            capacity = capacity;
+            cost = cost;
+          } ∷ [];
           flows = self.old.flows ++ 0 ∷ [];
         }) }
         ensures err { OnErr result (self.new ≡ self.old) }

@@ -1,21 +1,21 @@
 -- Lists that are kept are the residual arcs by which a search goes on.
-use Rattle.std.proofs.Common.{◌≡◌, ℕ, zero, suc, ◌+◌, ◌<◌, ◌≤◌, Bool, true, false, cond, List, [], ◌∷◌, ◌++◌, length, map, get_or, None, refl, sym, ap, ◌∙◌, subst, inl, inr, ◌⊎◌, arith, length-append, Contains}
-use Rattle.std.specs.Prelude.{nat_eq}
-use Rattle.std.specs.List.{IsDistinct}
+use Rattle.std.proofs.Common.{◌≡◌, ℕ, zero, suc, ◌<◌, ◌≤◌, Bool, true, false, cond, List, [], ◌∷◌, ◌++◌}
+use Rattle.std.proofs.Common.{length, map, get_or, refl, sym, ap, ◌∙◌, subst, inl, inr, ◌⊎◌, arith}
+use Rattle.std.proofs.Common.{length-append, Contains}
 use Rattle.std.specs.Cmp.{nat_eq_equiv}
-use Rattle.std.proofs.lemmas.Bool.{cases_lt}
+use Rattle.std.proofs.lemmas.Bool.{cases_Bool, false≢true}
 use Rattle.std.proofs.lemmas.Bool.Decides.{Decides-eqb}
-use Rattle.std.proofs.lemmas.List.{get_or_past}
 use Rattle.std.proofs.lemmas.List.Elements.{Contains-append_right}
 use Rattle.std.proofs.lemmas.Map.Made.{length-le_from_is_member, is_member-Decides}
 use Rattle.flow_network.specs.declared.arcs.FlowArc.{FlowArc}
 use Rattle.flow_network.specs.declared.arcs.ArcNo.{ArcNo}
 use Rattle.flow_network.specs.declared.arcs.ArcNo.TheVariants.{Forward, Reverse}
-use Rattle.flow_network.specs.Flows.{arc_at, arc_index, tail_of, leaving_of, AreArcs, IsResidual}
+use Rattle.flow_network.specs.Flows.{arc_at, arc_index, tail_of, leaving_of, IsResidual}
 use Rattle.flow_network.specs.Leaving.{IsIn}
 use Rattle.flow_network.proofs.Listed.{each_arc, in_left, in_right, in_split}
-use Rattle.guest_lists.specs.Guests.{GuestLists, AreGuests, source_at, inner_at, standing_at, exit_arcs, exits_at, inner_ways}
-use Rattle.guest_lists.specs.Standing.{IsOfSource, AreStanding}
+use Rattle.guest_lists.specs.Guests.{GuestLists, AreGuests, source_at, inner_at, standing_at, exit_arcs}
+use Rattle.guest_lists.specs.Guests.{exits_at, inner_ways}
+use Rattle.guest_lists.specs.Standing.{AreStanding}
 use Rattle.guest_lists.specs.Ways.{LeadsToSource, AreSorted, back_numbers, KeptAreGuests}
 
 -- the members of a list as residual arcs
@@ -27,7 +27,8 @@ into_map (x ∷ xs) k (suc i) l e = inr (into_map xs k i (omega arith) e)
 out_of_map : (xs : List ℕ) (a : ArcNo) → IsIn a (map Reverse xs) → (k : ℕ) × (a ≡ Reverse k) × Contains xs k
 out_of_map [] a i = absurd i
 out_of_map (x ∷ xs) a (inl e) = (x, e, (0, omega arith, refl))
-out_of_map (x ∷ xs) a (inr i) = let r = out_of_map xs a i in (r.0, r.1, Contains-append_right (x ∷ []) xs r.0 r.2)
+out_of_map (x ∷ xs) a (inr i) = let r = out_of_map xs a i in
+    (r.0, r.1, Contains-append_right (x ∷ []) xs r.0 r.2)
 
 length-map : (xs : List ℕ) → length (map Reverse xs) ≡ length xs
 length-map [] = refl
@@ -49,19 +50,22 @@ back_held arcs is_source (Reverse j ∷ all) k (inr i) s =
     Contains-append_right (cond (get_or is_source (arc_at arcs j).from false) (j ∷ []) [])
     (back_numbers arcs is_source all) k (back_held arcs is_source all k i s)
 
-tail_inside : (nodes : ℕ) (arcs : List FlowArc) (a : ArcNo) → AreArcs nodes arcs → arc_index a < length arcs
-    → tail_of arcs a < nodes
-tail_inside nodes arcs (Forward k) are l = (are k l).from_in
-tail_inside nodes arcs (Reverse k) are l = (are k l).to_in
+none_in : (xs : List ℕ) → ((k : ℕ) → Contains xs k → ⊥) → xs ≡ []
+none_in [] n = refl
+none_in (x ∷ xs) n = absurd (n x (0, omega arith, refl))
 
 module _ (nodes : ℕ) (arcs : List FlowArc) (flows : List ℕ) (sink : ℕ) (g : GuestLists)
-    (are : AreArcs nodes arcs) (sorted : AreSorted nodes arcs sink g) (standing : AreStanding arcs flows g) where
-  -- past the last node nothing is listed
-  none_past : (v : ℕ) → nodes ≤ v → exits_at g v ++ inner_at g v ≡ []
-  none_past v l =
-      let one = sorted.sized.exits in let two = sorted.sized.inner in
-      ap (λ o. exit_arcs o ++ inner_at g v) (get_or_past g.exits v None (omega arith))
-      ∙ get_or_past g.inner v [] (omega arith)
+    (sorted : AreSorted nodes arcs sink g) (standing : AreStanding arcs flows g) where
+  -- nothing is listed at a source
+  none_at : (v : ℕ) → source_at g v ≡ true → exits_at g v ++ inner_at g v ≡ []
+  none_at v on =
+      let bare = sorted.listed.bare v on in
+      ap (λ o. exit_arcs o ++ inner_at g v) bare.0 ∙ bare.1
+
+  nobody_at : (v : ℕ) → source_at g v ≡ true → standing_at g v ≡ []
+  nobody_at v on = none_in (standing_at g v) (λ k c.
+      (let o = (standing.just v k c).0 in
+      false≢true (sym (sorted.no_entry k o.listed) ∙ ap (λ u. source_at g u) o.ends ∙ on)))
 
   -- an arc of a node stands among its ways, or as a guest
   held_or_guest : (v : ℕ) (a : ArcNo) → IsIn a (exits_at g v ++ inner_ways g v)
@@ -74,7 +78,8 @@ module _ (nodes : ℕ) (arcs : List FlowArc) (flows : List ℕ) (sink : ℕ) (g 
     ]
   ]
 
-  held : (v : ℕ) (a : ArcNo) → IsIn a (exits_at g v ++ inner_at g v) → IsIn a (exits_at g v ++ inner_ways g v)
+  held : (v : ℕ) (a : ArcNo) → IsIn a (exits_at g v ++ inner_at g v) →
+      IsIn a (exits_at g v ++ inner_ways g v)
   held v a i = elim (in_split a (exits_at g v) (inner_at g v) i) [
     | inl out ↦ in_left a (exits_at g v) (inner_ways g v) out
     | inr own ↦ in_right a (exits_at g v) (inner_ways g v)
@@ -93,33 +98,36 @@ module _ (nodes : ℕ) (arcs : List FlowArc) (flows : List ℕ) (sink : ℕ) (g 
       (record { listed = r.listed; from_source = leads; ends = refl }) r.room)
 
   -- the guests of a node are among the arcs that lead back from it
-  few_guests : (v : ℕ) → length (standing_at g v) ≤ length (back_numbers arcs g.is_source (leaving_of arcs v))
+  few_guests : (v : ℕ) →
+      length (standing_at g v) ≤ length (back_numbers arcs g.is_source (leaving_of arcs v))
   few_guests v = length-le_from_is_member nat_eq_equiv (standing_at g v)
       (back_numbers arcs g.is_source (leaving_of arcs v)) (standing.distinct v)
       (λ q m. (is_member-Decides Decides-eqb (back_numbers arcs g.is_source (leaving_of arcs v)) q).1
       (let o = (standing.just v q ((is_member-Decides Decides-eqb (standing_at g v) q).0 m)).0 in
-      back_held arcs g.is_source (leaving_of arcs v) q ((each_arc arcs v (Reverse q)).0 o.listed o.ends) o.from_source))
+      back_held arcs g.is_source (leaving_of arcs v) q ((each_arc arcs v (Reverse q)).0 o.listed o.ends)
+      o.from_source))
 
   pub are_guests : AreGuests arcs flows sink g
   are_guests = record {
     no_entry = sorted.no_entry;
     own = λ v a i. elim (held_or_guest v a i) [
-      | inl own ↦ elim (cases_lt v nodes) [
-        | inl l ↦ (each_arc arcs v a).1 ((sorted.ways v l).own a own)
-        | inr l ↦ absurd (let n : IsIn a [] = subst (λ xs. IsIn a xs) (none_past v l) own in n)
+      | inl own ↦ elim (cases_Bool (source_at g v)) [
+        | inr off ↦ (each_arc arcs v a).1 ((sorted.listed.ways v off).own a own)
+        | inl on ↦ absurd (let n : IsIn a [] = subst (λ xs. IsIn a xs) (none_at v on) own in n)
       ]
-      | inr stands ↦ (let m = out_of_map (standing_at g v) a stands in let o = (standing.just v m.0 m.2).0 in
+      | inr stands ↦ (let m = out_of_map (standing_at g v) a stands in
+          let o = (standing.just v m.0 m.2).0 in
           subst (λ b. (arc_index b < length arcs) × (tail_of arcs b ≡ v)) (sym m.1) (o.listed, o.ends))
     ];
     complete = λ a r no_source.
         (let u : ℕ = tail_of arcs a in
-        elim ((sorted.ways u (tail_inside nodes arcs a are r.listed)).each a ((each_arc arcs u a).0 r.listed refl)) [
+        elim ((sorted.listed.ways u no_source).each a ((each_arc arcs u a).0 r.listed refl)) [
           | inl own ↦ held u a own
           | inr leads ↦ back a leads r
         ]);
-    exits_lead = λ v a i. elim (cases_lt v nodes) [
-      | inl l ↦ (sorted.ways v l).leads a i
-      | inr l ↦ absurd (let n : IsIn a [] = subst (λ xs. IsIn a xs) (none_past v l)
+    exits_lead = λ v a i. elim (cases_Bool (source_at g v)) [
+      | inr off ↦ (sorted.listed.ways v off).leads a i
+      | inl on ↦ absurd (let n : IsIn a [] = subst (λ xs. IsIn a xs) (none_at v on)
           (in_left a (exits_at g v) (inner_at g v) i) in n)
     ];
     few = λ v.
@@ -127,17 +135,17 @@ module _ (nodes : ℕ) (arcs : List FlowArc) (flows : List ℕ) (sink : ℕ) (g 
         let ways = length-append (inner_at g v) (map Reverse (standing_at g v)) in
         let own = length-append (exits_at g v) (inner_at g v) in
         let same = length-map (standing_at g v) in
-        elim (cases_lt v nodes) [
-          | inl l ↦ (let most = (sorted.ways v l).few in let guests = few_guests v in omega arith)
-          | inr l ↦ (let none = ap (λ (xs : List ArcNo). length xs) (none_past v l) in
-              let size = sorted.sized.standing in
-              let nobody = ap (λ (xs : List ℕ). length xs) (get_or_past g.standing v [] (omega arith)) in
+        elim (cases_Bool (source_at g v)) [
+          | inr off ↦ (let most = (sorted.listed.ways v off).few in let guests = few_guests v in omega arith)
+          | inl on ↦ (let none = ap (λ (xs : List ArcNo). length xs) (none_at v on) in
+              let nobody = ap (λ (xs : List ℕ). length xs) (nobody_at v on) in
               omega arith)
         ]);
   }
 
 pub kept_are_guests : KeptAreGuests
-kept_are_guests nodes arcs flows sink g are sorted standing = are_guests nodes arcs flows sink g are sorted standing
+kept_are_guests nodes arcs flows sink g are sorted standing =
+    are_guests nodes arcs flows sink g sorted standing
 
 -- what is sorted does not depend on who stands where
 pub sorted_stays : (nodes : ℕ) (arcs : List FlowArc) (sink : ℕ) (g : GuestLists) (standing : List (List ℕ))
@@ -151,5 +159,5 @@ sorted_stays nodes arcs sink g standing size t = record {
     standing = size ∙ t.sized.standing;
   };
   no_entry = t.no_entry;
-  ways = t.ways;
+  listed = t.listed;
 }

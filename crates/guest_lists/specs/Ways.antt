@@ -1,11 +1,12 @@
 -- How the residual arcs that leave a node are sorted.
-use Rattle.std.specs.Prelude.{◌≡◌, ℕ, ◌+◌, ◌<◌, ◌≤◌, Bool, cond, true, false, List, [], ◌∷◌, ◌++◌, length, slice_index_or, Option, None, ◌⊎◌}
+use Rattle.std.specs.Prelude.{◌≡◌, ℕ, ◌+◌, ◌<◌, ◌≤◌, Bool, cond, true, false, List, [], ◌∷◌, ◌++◌, length}
+use Rattle.std.specs.Prelude.{slice_index_or, Option, None, ◌⊎◌}
 use Rattle.flow_network.specs.declared.arcs.FlowArc.{FlowArc}
 use Rattle.flow_network.specs.declared.arcs.ArcNo.{ArcNo}
 use Rattle.flow_network.specs.declared.arcs.ArcNo.TheVariants.{Forward, Reverse}
 use Rattle.flow_network.specs.Flows.{arc_at, head_of, leaving_of, AreArcs}
 use Rattle.flow_network.specs.Leaving.{IsIn}
-use Rattle.guest_lists.specs.Guests.{GuestLists, AreGuests, AreSized, source_at, exit_arcs, inner_at, standing_at}
+use Rattle.guest_lists.specs.Guests.{GuestLists, AreGuests, AreSized, source_at, exit_arcs}
 use Rattle.guest_lists.specs.Standing.{AreStanding}
 
 -- it leads back to a source
@@ -29,21 +30,31 @@ pub record AreWays (arcs : List FlowArc) (is_source : List Bool) (sink : ℕ) (a
   pub leads : (a : ArcNo) → IsIn a (exit_arcs exit) → head_of arcs a ≡ sink
   pub few : length (exit_arcs exit ++ inner) + length (back_numbers arcs is_source all) ≤ length all
 
--- the lists of the first so many nodes, at which nobody is a guest
-pub record AreListed (arcs : List FlowArc) (sink : ℕ) (g : GuestLists) (nodes : ℕ) : Type 0 where
-  pub exits : length g.exits ≡ nodes
-  pub inner : length g.inner ≡ nodes
-  pub standing : length g.standing ≡ nodes
-  pub ways : (v : ℕ) → v < nodes
-      → AreWays arcs g.is_source sink (leaving_of arcs v) (slice_index_or g.exits v None) (inner_at g v)
-  pub none : (v : ℕ) → standing_at g v ≡ []
+-- the lists of each node that is no source, of some of the arcs; at a source none is listed
+pub record AreListed (arcs : List FlowArc) (is_source : List Bool) (sink : ℕ) (some : List FlowArc)
+    (exits : List (Option ℕ)) (inner : List (List ArcNo)) : Type 0 where
+  pub ways : (v : ℕ) → slice_index_or is_source v false ≡ false
+      → AreWays arcs is_source sink (leaving_of some v) (slice_index_or exits v None)
+      (slice_index_or inner v [])
+  pub bare : (v : ℕ) → slice_index_or is_source v false ≡ true
+      → (slice_index_or exits v None ≡ None) × (slice_index_or inner v [] ≡ [])
+
+-- one residual arc more at a node
+pub record IsListed (arcs : List FlowArc) (sink v : ℕ) (b : ArcNo) (exits : List (Option ℕ))
+    (inner : List (List ArcNo)) (exits' : List (Option ℕ)) (inner' : List (List ArcNo)) : Type 0 where
+  pub others : (u : ℕ) → (u ≡ v → ⊥) → (slice_index_or exits' u None ≡ slice_index_or exits u None)
+      × (slice_index_or inner' u [] ≡ slice_index_or inner u [])
+  pub here : (is_source : List Bool) (all : List ArcNo)
+      → length (back_numbers arcs is_source (b ∷ [])) ≡ 0
+      → AreWays arcs is_source sink all (slice_index_or exits v None) (slice_index_or inner v [])
+      → AreWays arcs is_source sink (all ++ b ∷ []) (slice_index_or exits' v None)
+      (slice_index_or inner' v [])
 
 -- the lists of all nodes, whatever the flow; no arc leads to a source
 pub record AreSorted (nodes : ℕ) (arcs : List FlowArc) (sink : ℕ) (g : GuestLists) : Type 0 where
   pub sized : AreSized nodes g
   pub no_entry : (k : ℕ) → k < length arcs → source_at g (arc_at arcs k).to ≡ false
-  pub ways : (v : ℕ) → v < nodes
-      → AreWays arcs g.is_source sink (leaving_of arcs v) (slice_index_or g.exits v None) (inner_at g v)
+  pub listed : AreListed arcs g.is_source sink arcs g.exits g.inner
 
 -- sorted arcs, with the guests of a flow, are the residual arcs of that flow
 abbrev pub KeptAreGuests : Type 0

@@ -1,42 +1,20 @@
 //! The residual arcs by which a search leaves the nodes.
-ghost use Rattle.std.specs.Prelude.{◌≡◌, ℕ, ◌<◌, List, ◌∷◌, length, slice_index, slice_index_or, false, None, IfOk, OnOk};
+ghost use Rattle.std.specs.Prelude.{◌≡◌, ℕ, ◌<◌, List, ◌∷◌, length, slice_index, slice_index_or, false, None};
+ghost use Rattle.std.specs.Prelude.{[], replicate, IfOk, OnOk};
 ghost use Rattle.flow_network.specs.declared.arcs.FlowArc.{FlowArc};
 ghost use Rattle.flow_network.specs.declared.arcs.ArcNo.{ArcNo};
 ghost use Rattle.flow_network.specs.Flows.{arc_at, arc_index, pushed};
 ghost use Rattle.flow_network.specs.Leaving.{IsIn};
 ghost use Rattle.guest_lists.specs.Guests.{source_at, inner_at, standing_at};
-ghost use Rattle.guest_lists.specs.Standing.{AreStanding, IsFollowing};
+ghost use Rattle.guest_lists.specs.Standing.{AreStanding, GoesOnce, IsFollowing};
 ghost use Rattle.guest_lists.specs.Ways.{AreSorted};
 
 use crate::standing::Standing;
-use crate::ways::ways_of;
+use crate::ways::{ArcList, Ways, ways_of};
 use flow_network::{ArcNo, FlowArc, Network};
 use node_ids::Layout;
 use std::alloc::{AllocError, Global};
 use std::marker::Model;
-
-/// Residual arcs that leave one node.
-#[derive(Drop)]
-pub struct ArcList {
-    arcs: Vec<ArcNo>,
-}
-
-impl Model for ArcList {
-    ghost use Rattle.std.specs.Prelude.{List};
-    ghost use Rattle.flow_network.specs.declared.arcs.ArcNo.{ArcNo};
-
-    ghost Value = { List ArcNo };
-
-    ghost view = { λ l. l.arcs.items };
-}
-
-impl ArcList {
-    fn all(&self) -> &[ArcNo]
-        ensures { result.now ≡ self.now }
-    {
-        &self.arcs
-    }
-}
 
 /// For each node that is no source the residual arcs that leave it and end at no source, an arc to the sink
 /// among them apart, and the arcs of the sources whose units stand at it. A source's own arcs are the
@@ -74,20 +52,15 @@ impl Guests {
         requires no_entry { (k : ℕ) → k < length network.now.arcs
             → slice_index_or is_source.items (arc_at network.now.arcs k).to false ≡ false }
         requires no_flow { (k : ℕ) → slice_index network.now.flows k ≡ 0 }
-        ensures sorted { IfOk result (λ g. AreSorted (L.node_count network.now.layout) network.now.arcs sink g) }
+        ensures sorted { IfOk result
+            (λ g. AreSorted (L.node_count network.now.layout) network.now.arcs sink g) }
         ensures standing { IfOk result (λ g. AreStanding network.now.arcs network.now.flows g) }
         ensures sources { IfOk result (λ g. g.is_source ≡ is_source.items) }
     {
         network.limits();
-        let mut exits = Vec::new(alloc);
-        let mut inner = Vec::new(alloc);
-        let mut standing = Vec::new(alloc);
-        for node in 0..network.layout().size() {
-            let ways = ways_of(alloc, network, &is_source, node, sink)?;
-            exits.push(ways.exit)?;
-            inner.push(ArcList { arcs: ways.inner })?;
-            standing.push(Standing::new(alloc))?;
-        }
+        let ways = ways_of(alloc, network, &is_source, sink)?;
+        let standing = nobody(alloc, network.layout().size())?;
+        let Ways { exits, inner } = ways;
         Ok(Guests {
             is_source,
             exits,
@@ -128,8 +101,8 @@ impl Guests {
         self.standing[node].all()
     }
 
-    /// Follows a unit that was pushed along a path: a source's arc that the path takes, in either direction,
-    /// is listed where it ends if it carries a unit now, and else nowhere.
+    /// Follows a unit that was pushed along a path: a source's arc that the path takes is listed where it
+    /// ends once it carries a unit, and is struck off once it carries none.
     pub fn follow<L: Layout>(
         &mut self,
         network: &Network<L>,
@@ -141,39 +114,59 @@ impl Guests {
         ensures lists { self.new ≡ record self.old { standing = self.new.standing } }
         ensures size { length self.new.standing ≡ length self.old.standing }
         ensures standing { OnOk result ((flows : List ℕ) → network.now.flows ≡ pushed path.now flows
-            → AreStanding network.now.arcs flows self.old
+            → GoesOnce path.now → AreStanding network.now.arcs flows self.old
             → AreStanding network.now.arcs network.now.flows self.new) }
     {
         network.limits();
         for arc in path {
             let k = number(*arc);
-            self.settle(k, network.all_arcs()[k], network.all_flows()[k])?;
+            self.settle(*arc, network.all_arcs()[k], network.all_flows()[k])?;
         }
         Ok(())
     }
 
-    /// Lists an arc of this number, which carries so many units, where it ends, if it is a source's; or
-    /// strikes it off.
-    fn settle(&mut self, number: usize, arc: FlowArc, flow: u64) -> Result<(), AllocError>
-        requires from { arc.from < length self.old.is_source }
-        requires to { arc.to < length self.old.standing }
+    /// Follows the unit over one residual arc between these ends, which carries so many now.
+    fn settle(&mut self, arc: ArcNo, ends: FlowArc, flow: u64) -> Result<(), AllocError>
+        requires from { ends.from < length self.old.is_source }
+        requires to { ends.to < length self.old.standing }
         ensures lists { self.new ≡ record self.old { standing = self.new.standing } }
         ensures size { length self.new.standing ≡ length self.old.standing }
-        ensures following { OnOk result ((arcs : List FlowArc) (flows : List ℕ) (a : ArcNo) (rest : List ArcNo)
-            → number < length arcs → arc_index a ≡ number → arc ≡ arc_at arcs number
-            → flow ≡ slice_index flows number
-            → IsFollowing arcs flows (a ∷ rest) self.old → IsFollowing arcs flows rest self.new) }
+        ensures following { OnOk result ((arcs : List FlowArc) (last : List ℕ) (rest : List ArcNo)
+            → arc_index arc < length arcs → ends ≡ arc_at arcs (arc_index arc)
+            → flow ≡ slice_index last (arc_index arc)
+            → IsFollowing arcs last (arc ∷ rest) self.old → IsFollowing arcs last rest self.new) }
     {
-        if !self.is_source[arc.from] {
+        if !self.is_source[ends.from] {
             return Ok(());
         }
-        if flow > 0 {
-            self.standing[arc.to].enter(number)?;
-            return Ok(());
+        match arc {
+            ArcNo::Forward(k) => {
+                if flow == 1 {
+                    self.standing[ends.to].enter(k)?;
+                    return Ok(());
+                }
+                Ok(())
+            }
+            ArcNo::Reverse(k) => {
+                if flow == 0 {
+                    self.standing[ends.to].leave(k);
+                    return Ok(());
+                }
+                Ok(())
+            }
         }
-        self.standing[arc.to].leave(number);
-        Ok(())
     }
+}
+
+/// Nobody stands at any of so many nodes.
+fn nobody(alloc: Global, nodes: usize) -> Result<Vec<Standing>, AllocError>
+    ensures { IfOk result (λ s. s.items ≡ replicate nodes []) }
+{
+    let mut standing = Vec::new(alloc);
+    for _node in 0..nodes {
+        standing.push(Standing::new(alloc))?;
+    }
+    Ok(standing)
 }
 
 /// The number of the arc that a residual arc goes over.

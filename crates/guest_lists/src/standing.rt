@@ -1,7 +1,7 @@
 //! The guests of one node.
-ghost use Rattle.std.specs.Prelude.{◌≡◌, [], OnOk, nat_eq};
+ghost use Rattle.std.specs.Prelude.{◌≡◌, [], ◌∷◌, ◌++◌, OnOk, nat_eq};
 ghost use Rattle.std.specs.List.{IsDistinct};
-ghost use Rattle.guest_lists.specs.Standing.{Enters, Leaves};
+ghost use Rattle.guest_lists.specs.Standing.{Leaves};
 
 use std::alloc::{AllocError, Global};
 use std::marker::Model;
@@ -37,13 +37,10 @@ impl Standing {
         &self.arcs
     }
 
-    /// One arc more, unless it is here already.
+    /// One arc more.
     pub fn enter(&mut self, arc: usize) -> Result<(), AllocError>
-        ensures { OnOk result (Enters self.old arc self.new) }
+        ensures { OnOk result (self.new ≡ self.old ++ arc ∷ []) }
     {
-        if self.arcs.contains(&arc) {
-            return Ok(());
-        }
         self.arcs.push(arc)?;
         Ok(())
     }

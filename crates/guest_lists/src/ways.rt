@@ -1,84 +1,168 @@
-//! The residual arcs of one node, sorted.
-ghost use Rattle.std.specs.Prelude.{◌≡◌, ◌<◌, List, [], ◌∷◌, ◌++◌, length, IfOk, OnOk};
+//! The arcs by which a search goes on from the nodes that are no sources, but for the guests' arcs.
+ghost use Rattle.std.specs.Prelude.{◌≡◌, ℕ, ◌<◌, List, [], ◌∷◌, ◌++◌, length, slice_index_or, false, None};
+ghost use Rattle.std.specs.Prelude.{Some, replicate, slice_set, IfOk, OnOk};
+ghost use Rattle.flow_network.specs.declared.arcs.FlowArc.{FlowArc};
 ghost use Rattle.flow_network.specs.declared.arcs.ArcNo.{ArcNo};
-ghost use Rattle.flow_network.specs.Flows.{arc_at, arc_index, leaving_of};
-ghost use Rattle.guest_lists.specs.Ways.{AreWays};
+ghost use Rattle.flow_network.specs.Flows.{arc_at};
+ghost use Rattle.guest_lists.specs.Ways.{AreListed, IsListed};
 
 use flow_network::{ArcNo, FlowArc, Network};
 use node_ids::Layout;
 use std::alloc::{AllocError, Global};
+use std::marker::Model;
 
-/// The residual arcs that leave one node that is no source, but for the guests' arcs.
+/// Residual arcs that leave one node.
 #[derive(Drop)]
-pub struct Ways {
-    pub exit: Option<usize>,
-    pub inner: Vec<ArcNo>,
+pub struct ArcList {
+    arcs: Vec<ArcNo>,
 }
 
-impl Ways {
-    /// One arc more: it is the exit where it is the first to the sink, and it is left out where it leads
-    /// back to a source.
-    fn put(
-        &mut self,
-        arcs: &[FlowArc],
-        is_source: &[bool],
-        sink: usize,
-        arc: ArcNo,
-    ) -> Result<(), AllocError>
-        requires listed { arc_index arc < length arcs.now }
-        requires from { (arc_at arcs.now (arc_index arc)).from < length is_source.now }
-        ensures { OnOk result ((all : List ArcNo)
-            → AreWays arcs.now is_source.now sink all self.old.exit self.old.inner.items
-            → AreWays arcs.now is_source.now sink (all ++ arc ∷ []) self.new.exit self.new.inner.items) }
+impl Model for ArcList {
+    ghost use Rattle.std.specs.Prelude.{List};
+    ghost use Rattle.flow_network.specs.declared.arcs.ArcNo.{ArcNo};
+
+    ghost Value = { List ArcNo };
+
+    ghost view = { λ l. l.arcs.items };
+}
+
+impl ArcList {
+    /// No arc; nothing is allocated.
+    fn new(alloc: Global) -> ArcList
+        ensures { result ≡ [] }
     {
-        match arc {
-            ArcNo::Forward(k) => {
-                if self.exit.is_none() && arcs[k].to == sink {
-                    self.exit = Some(k);
-                    return Ok(());
-                }
-                self.inner.push(arc)?;
-                Ok(())
-            }
-            ArcNo::Reverse(k) => {
-                if is_source[arcs[k].from] {
-                    return Ok(());
-                }
-                self.inner.push(arc)?;
-                Ok(())
-            }
+        ArcList {
+            arcs: Vec::new(alloc),
         }
+    }
+
+    /// The arcs, in the order of adding.
+    pub fn all(&self) -> &[ArcNo]
+        ensures { result.now ≡ self.now }
+    {
+        &self.arcs
+    }
+
+    fn put(&mut self, arc: ArcNo) -> Result<(), AllocError>
+        ensures { OnOk result (self.new ≡ self.old ++ arc ∷ []) }
+    {
+        self.arcs.push(arc)?;
+        Ok(())
     }
 }
 
-/// The arcs of one node, in the order of adding.
+/// Of each node that is no source an arc to the sink, its exit, and the other residual arcs that leave it,
+/// but for those back to sources; of a source none.
+#[derive(Drop)]
+pub struct Ways {
+    pub exits: Vec<Option<usize>>,
+    pub inner: Vec<ArcList>,
+}
+
+impl Ways {
+    /// No arc at so many nodes.
+    fn none(alloc: Global, nodes: usize) -> Result<Ways, AllocError>
+        ensures exits { IfOk result (λ w. w.exits.items ≡ replicate nodes None) }
+        ensures inner { IfOk result (λ w. w.inner.items ≡ replicate nodes []) }
+    {
+        let mut exits = Vec::new(alloc);
+        let mut inner = Vec::new(alloc);
+        for _node in 0..nodes {
+            exits.push(None)?;
+            inner.push(ArcList::new(alloc))?;
+        }
+        Ok(Ways { exits, inner })
+    }
+
+    /// An arc of this number becomes the exit of a node.
+    fn set_exit(&mut self, node: usize, number: usize)
+        requires { node < length self.old.exits.items }
+        ensures exits { self.new.exits.items ≡ slice_set self.old.exits.items node (Some number) }
+        ensures inner { self.new.inner.items ≡ self.old.inner.items }
+    {
+        self.exits[node] = Some(number);
+    }
+
+    /// One arc more among the others of a node.
+    fn put(&mut self, node: usize, arc: ArcNo) -> Result<(), AllocError>
+        requires { node < length self.old.inner.items }
+        ensures exits { self.new.exits.items ≡ self.old.exits.items }
+        ensures inner { OnOk result (self.new.inner.items
+            ≡ slice_set self.old.inner.items node (slice_index_or self.old.inner.items node [] ++ arc ∷ [])) }
+    {
+        self.inner[node].put(arc)?;
+        Ok(())
+    }
+
+    /// Lists an arc of this number at its start: it is the exit where it is the first to the sink.
+    fn list_own(&mut self, number: usize, arc: FlowArc, sink: usize) -> Result<(), AllocError>
+        requires exits { arc.from < length self.old.exits.items }
+        requires inner { arc.from < length self.old.inner.items }
+        ensures exits { length self.new.exits.items ≡ length self.old.exits.items }
+        ensures inner { OnOk result (length self.new.inner.items ≡ length self.old.inner.items) }
+        ensures listed { OnOk result ((arcs : List FlowArc) → arc ≡ arc_at arcs number
+            → IsListed arcs sink arc.from (ArcNo.Forward number) self.old.exits.items self.old.inner.items
+            self.new.exits.items self.new.inner.items) }
+    {
+        if arc.to == sink && self.exits[arc.from].is_none() {
+            self.set_exit(arc.from, number);
+            return Ok(());
+        }
+        self.put(arc.from, ArcNo::Forward(number))?;
+        Ok(())
+    }
+
+    /// Lists the next arc, of this number, at its start, and its reverse at its end, where no source has it.
+    #[inline(always)]
+    fn list(
+        &mut self,
+        is_source: &[bool],
+        number: usize,
+        arc: FlowArc,
+        sink: usize,
+    ) -> Result<(), AllocError>
+        requires from { arc.from < length is_source.now }
+        requires exits { length self.old.exits.items ≡ length is_source.now }
+        requires inner { length self.old.inner.items ≡ length is_source.now }
+        requires to { arc.to < length is_source.now }
+        requires no_entry { slice_index_or is_source.now arc.to false ≡ false }
+        ensures exits { length self.new.exits.items ≡ length self.old.exits.items }
+        ensures inner { OnOk result (length self.new.inner.items ≡ length self.old.inner.items) }
+        ensures listed { OnOk result ((arcs some : List FlowArc) → arc ≡ arc_at arcs number
+            → length some ≡ number
+            → AreListed arcs is_source.now sink some self.old.exits.items self.old.inner.items
+            → AreListed arcs is_source.now sink (some ++ arc ∷ []) self.new.exits.items
+            self.new.inner.items) }
+    {
+        if is_source[arc.from] {
+            return Ok(());
+        }
+        self.list_own(number, arc, sink)?;
+        self.put(arc.to, ArcNo::Reverse(number))?;
+        Ok(())
+    }
+}
+
+/// The ways of a network's nodes, of which these are sources, to which no arc leads.
 pub fn ways_of<L: Layout>(
     alloc: Global,
     network: &Network<L>,
     is_source: &[bool],
-    node: usize,
     sink: usize,
 ) -> Result<Ways, AllocError>
-    requires node { node < L.node_count network.now.layout }
     requires size { length is_source.now ≡ L.node_count network.now.layout }
-    ensures { IfOk result (λ w. AreWays network.now.arcs is_source.now sink (leaving_of network.now.arcs node)
-        w.exit w.inner.items) }
+    requires no_entry { (k : ℕ) → k < length network.now.arcs
+        → slice_index_or is_source.now (arc_at network.now.arcs k).to false ≡ false }
+    ensures exits { IfOk result (λ w. length w.exits.items ≡ L.node_count network.now.layout) }
+    ensures inner { IfOk result (λ w. length w.inner.items ≡ L.node_count network.now.layout) }
+    ensures listed { IfOk result (λ w.
+        AreListed network.now.arcs is_source.now sink network.now.arcs w.exits.items w.inner.items) }
 {
     network.limits();
-    let mut ways = Ways {
-        exit: None,
-        inner: Vec::new(alloc),
-    };
-    for arc in arcs_at(network, node) {
-        ways.put(network.all_arcs(), is_source, sink, *arc)?;
+    let arcs = network.all_arcs();
+    let mut ways = Ways::none(alloc, is_source.len())?;
+    for k in 0..arcs.len() {
+        ways.list(is_source, k, arcs[k], sink)?;
     }
     Ok(ways)
-}
-
-/// The residual arcs that leave the node of an index.
-fn arcs_at<'a, L: Layout>(network: &'a Network<L>, node: usize) -> &'a [ArcNo]
-    requires { node < L.node_count network.now.layout }
-    ensures { result.now ≡ leaving_of network.now.arcs node }
-{
-    network.arcs_from(network.layout().node(node))
 }

@@ -1,5 +1,7 @@
 -- The cursors of the nodes on the stack move, and a node leaves it.
-use Rattle.std.proofs.Common.{◌≡◌, ℕ, zero, suc, ◌+◌, ◌<◌, true, List, [], ◌∷◌, ◌++◌, length, map, take, get_or, set, Contains, refl, sym, ap, ◌∙◌, subst, inl, inr, ◌⊎◌, arith, get_or-set_same, get_or-set_other, length-set}
+use Rattle.std.proofs.Common.{◌≡◌, ℕ, zero, suc, ◌+◌, ◌<◌, true, List, [], ◌∷◌, ◌++◌, length, map, take}
+use Rattle.std.proofs.Common.{get_or, set, Contains, refl, sym, ap, ◌∙◌, subst, inl, inr, ◌⊎◌, arith}
+use Rattle.std.proofs.Common.{get_or-set_same, get_or-set_other, length-set}
 use Rattle.std.proofs.lemmas.Bool.{cases_eq}
 use Rattle.std.proofs.lemmas.List.{take_more}
 use Rattle.std.proofs.lemmas.List.Elements.{Contains-append_left, Contains-push_cases}
@@ -8,7 +10,8 @@ use Rattle.flow_network.specs.declared.arcs.ArcNo.TheVariants.{Forward, Reverse}
 use Rattle.flow_network.specs.Flows.{tail_of, arc_index}
 use Rattle.flow_network.specs.Leaving.{IsIn}
 use Rattle.flow_network.proofs.Listed.{in_left, in_right, in_split, in_at}
-use Rattle.guest_lists.specs.Guests.{GuestLists, AreGuests, inner_at, standing_at, exits_at, first_ways, inner_ways}
+use Rattle.guest_lists.specs.Guests.{GuestLists, AreGuests, inner_at, standing_at, exits_at, first_ways}
+use Rattle.guest_lists.specs.Guests.{inner_ways}
 use Rattle.shortest_paths.specs.Labels.{is_settled}
 use Rattle.guest_search.specs.Searching.{Problem, Tables, distance_at, IsSearching}
 use Rattle.guest_search.proofs.Sums.{less_at}

@@ -1,12 +1,14 @@
 -- The nodes that a search reached, as a list.
-use Rattle.std.proofs.Common.{◌≡◌, ℕ, zero, suc, ◌+◌, ◌-◌, ◌<◌, ◌≤◌, false, List, [], ◌∷◌, ◌++◌, length, get_or, set, sym, refl, ap, ◌∙◌, inl, inr, arith, get_or-set_same, get_or-set_other, length-set}
-use Rattle.std.proofs.lemmas.Bool.{cases_eq, cases_lt, cases_Bool, false≢true}
+use Rattle.std.proofs.Common.{◌≡◌, ℕ, zero, suc, ◌+◌, ◌-◌, ◌<◌, ◌≤◌, false, List, [], ◌∷◌, ◌++◌, length}
+use Rattle.std.proofs.Common.{get_or, set, sym, refl, ap, ◌∙◌, inl, inr, arith, get_or-set_same}
+use Rattle.std.proofs.Common.{get_or-set_other, length-set}
+use Rattle.std.proofs.lemmas.Bool.{cases_eq, false≢true}
 use Rattle.std.proofs.lemmas.List.Elements.{Contains-append_left, Contains-push, Contains-push_cases}
 use Rattle.guest_search.specs.declared.arrival.Arrival.{Arrival}
-use Rattle.guest_search.specs.Searching.{Tables, distance_at, arrival_at, AreListed, IsAtRest, IsLeft, LeadsBack, trace_of}
+use Rattle.guest_search.specs.Searching.{Tables, distance_at, arrival_at, AreListed, IsLeft}
+use Rattle.guest_search.specs.Searching.{LeadsBack, trace_of}
 use Rattle.guest_search.specs.ToSink.{far}
 use Rattle.shortest_paths.specs.Labels.{is_settled}
-use Rattle.shortest_paths.proofs.Waiting.{nothing_in}
 
 -- a node that is listed already is reached on a shorter way
 pub reached_again : (distances listed : List ℕ) (v x : ℕ) → distance_at distances v < far
@@ -83,31 +85,6 @@ module _ (nodes : ℕ) (t : Tables) (left : IsLeft nodes t) (rest : List ℕ) (v
               let old = left.marked w (sym (get_or-set_other t.settled v w false false n) ∙ m) in omega arith)
         ];
       }
-
--- where no node is listed any more, the tables are at rest
-pub rests : (nodes : ℕ) (t : Tables) → IsLeft nodes t → t.reached ≡ [] → t.stack ≡ [] → t.queue ≡ []
-    → IsAtRest nodes t
-rests nodes t left none stack queue =
-    let away : (v : ℕ) → distance_at t.distances v ≡ far = λ v.
-    elim (cases_lt (distance_at t.distances v) far) [
-      | inl near ↦ absurd (nothing_in v (rw none at (left.listed.all v near)))
-      | inr past ↦ (let most = left.within v in omega arith)
-    ] in
-    record {
-      size = left.size;
-      arrivals_size = left.arrivals_size;
-      settled_size = left.settled_size;
-      left_size = left.left_size;
-      left_standing_size = left.left_standing_size;
-      unreached = away;
-      unsettled = λ v. elim (cases_Bool (is_settled t.settled v)) [
-        | inl m ↦ absurd (let near = left.marked v m in let past = away v in omega arith)
-        | inr f ↦ f
-      ];
-      none_listed = none;
-      none_stacked = stack;
-      none_queued = queue;
-    }
 
 -- one arc back
 pub back_one : (arrivals : List Arrival) (v n : ℕ) → 0 < n → LeadsBack arrivals v n

@@ -1,11 +1,14 @@
 -- Lowering, tight arcs, pushes over them, and the lift of a source: each looks at one arc at a time.
-use Rattle.std.proofs.Common.{◌≡◌, ℕ, ◌+◌, ◌-◌, ◌≤◌, List, [], ◌∷◌, get_or, ap, inl, inr, arith, get_or-set_other}
+use Rattle.std.proofs.Common.{◌≡◌, ℕ, ◌+◌, ◌-◌, ◌≤◌, List, [], ◌∷◌, get_or, ap, inl, inr, arith}
+use Rattle.std.proofs.Common.{get_or-set_other}
 use Rattle.std.proofs.lemmas.Bool.{cases_eq, cases_lt}
 use Rattle.flow_network.specs.declared.arcs.FlowArc.{FlowArc}
 use Rattle.flow_network.specs.declared.arcs.ArcNo.{ArcNo}
 use Rattle.flow_network.specs.declared.arcs.ArcNo.TheVariants.{Forward, Reverse}
-use Rattle.flow_network.specs.Flows.{arc_at, tail_of, head_of, IsResidual, IsPath, NoNegative, reduced_cost, path_cost, shifted}
-use Rattle.guest_search.specs.Lowering.{lowered, IsCovered, AreTight, AreSteps, LoweringLaw, TightLaw, PushLaw, LiftLaw}
+use Rattle.flow_network.specs.Flows.{arc_at, tail_of, head_of, IsResidual, IsPath, NoNegative, reduced_cost}
+use Rattle.flow_network.specs.Flows.{path_cost, shifted}
+use Rattle.guest_search.specs.Lowering.{lowered, IsCovered, AreTight, AreSteps, LoweringLaw, TightLaw}
+use Rattle.guest_search.specs.Lowering.{PushLaw, LiftLaw}
 
 -- the end of a covered arc lacks no less of the total than its start does, but for the arc's cost
 lacks : (arcs : List FlowArc) (flows : List ℕ) (h d : ℕ → ℕ) (total : ℕ) → IsCovered arcs flows h d total

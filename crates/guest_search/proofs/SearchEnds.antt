@@ -1,48 +1,91 @@
 -- How a search begins and ends, and the path that its arrivals lead back over.
-use Rattle.std.proofs.Common.{◌≡◌, ℕ, zero, suc, ◌+◌, ◌<◌, ◌≤◌, Bool, true, List, [], ◌∷◌, ◌++◌, length, get_or, set, Contains, refl, sym, ap, ◌∙◌, subst, inl, inr, ◌⊎◌, arith, get_or-set_same, get_or-set_other, length-set}
+use Rattle.std.proofs.Common.{◌≡◌, ℕ, zero, suc, ◌+◌, ◌<◌, ◌≤◌, Bool, true, List, [], ◌∷◌, ◌++◌, length}
+use Rattle.std.proofs.Common.{get_or, set, Contains, refl, sym, ap, ◌∙◌, subst, inl, inr, ◌⊎◌, arith}
+use Rattle.std.proofs.Common.{get_or-set_same, get_or-set_other, length-set}
 use Rattle.std.proofs.lemmas.Bool.{cases_eq, cases_lt, cases_Bool, false≢true}
 use Rattle.std.proofs.lemmas.List.{get_or_past}
 use Rattle.std.specs.Prelude.{slice_index}
+use Rattle.flow_network.specs.declared.arcs.FlowArc.{FlowArc}
 use Rattle.flow_network.specs.declared.arcs.ArcNo.{ArcNo}
-use Rattle.flow_network.specs.Flows.{tail_of, head_of, IsPath, Lacks, IsDistinct}
+use Rattle.flow_network.specs.declared.arcs.ArcNo.TheVariants.{Forward, Reverse}
+use Rattle.flow_network.specs.Flows.{arc_index, tail_of, head_of, IsPath, Lacks, IsDistinct}
 use Rattle.flow_network.proofs.Least.{IsPath-append}
+use Rattle.guest_lists.specs.Standing.{GoesOver, GoesOnce}
 use Rattle.guest_search.specs.declared.arrival.Arrival.{Arrival}
 use Rattle.shortest_paths.specs.Labels.{is_settled}
 use Rattle.guest_search.specs.Lowering.{IsStep, AreSteps}
 use Rattle.guest_search.specs.ToSink.{far, AreTraced, IsSearched, IsTrace}
-use Rattle.guest_search.specs.Searching.{Problem, Tables, distance_at, no_arrival, arrival_at, rc, AreReached, AreListed, IsSearching, IsAtRest, IsLeft, LeadsBack, trace_of, trace_to}
+use Rattle.guest_search.specs.Searching.{Problem, Tables, distance_at, no_arrival, arrival_at, rc, AreReached}
+use Rattle.guest_search.specs.Searching.{AreListed, IsSearching, IsAtRest, IsLeft, LeadsBack, trace_of}
+use Rattle.guest_search.specs.Searching.{trace_to}
 use Rattle.guest_search.proofs.Lowering.{steps_cost}
 use Rattle.guest_search.proofs.Sums.{unmarked_sum}
 use Rattle.shortest_paths.proofs.Waiting.{nothing_in, in_front, first_in}
 
--- the heads of a path were reached over at most n arcs
-pub HeadsWithin : List Arrival → Problem → ℕ → List ArcNo → Type 0
-HeadsWithin arrivals p n [] = Unit {0}
-HeadsWithin arrivals p n (a ∷ path) = ((arrival_at arrivals (head_of p.arcs a)).arcs ≤ n)
-    × HeadsWithin arrivals p n path
+-- the ends of a path's arcs were reached over at most n arcs
+pub EndsWithin : List Arrival → Problem → ℕ → List ArcNo → Type 0
+EndsWithin arrivals p n [] = Unit {0}
+EndsWithin arrivals p n (a ∷ path) = ((arrival_at arrivals (head_of p.arcs a)).arcs ≤ n)
+    × ((arrival_at arrivals (tail_of p.arcs a)).arcs ≤ n) × EndsWithin arrivals p n path
 
 Lacks-push : (b a : ArcNo) (path : List ArcNo) → Lacks b path → (b ≡ a → ⊥) → Lacks b (path ++ a ∷ [])
 Lacks-push b a [] m n = (n, tt)
 Lacks-push b a (c ∷ path) m n = (m.0, Lacks-push b a path m.1 n)
 
-HeadsWithin-push : (arrivals : List Arrival) (p : Problem) (n m : ℕ) (path : List ArcNo) (a : ArcNo) → n ≤ m
-    → HeadsWithin arrivals p n path
-    → (arrival_at arrivals (head_of p.arcs a)).arcs ≤ m → HeadsWithin arrivals p m (path ++ a ∷ [])
-unfolding HeadsWithin
-HeadsWithin-push arrivals p n m [] a e w last = (last, tt)
-HeadsWithin-push arrivals p n m (b ∷ path) a e w last =
-    ((let old = w.0 in omega arith), HeadsWithin-push arrivals p n m path a e w.1 last)
+GoesOver-push : (k : ℕ) (a : ArcNo) (path : List ArcNo) → GoesOver k (path ++ a ∷ [])
+    → GoesOver k path ⊎ (arc_index a ≡ k)
+GoesOver-push k a [] (inl e) = inr e
+GoesOver-push k a [] (inr n) = absurd n
+GoesOver-push k a (b ∷ path) (inl e) = inl (inl e)
+GoesOver-push k a (b ∷ path) (inr o) = elim (GoesOver-push k a path o) [ inl m ↦ inl (inr m) | inr e ↦ inr e ]
+
+EndsWithin-push : (arrivals : List Arrival) (p : Problem) (n m : ℕ) (path : List ArcNo) (a : ArcNo) → n ≤ m
+    → EndsWithin arrivals p n path
+    → (arrival_at arrivals (head_of p.arcs a)).arcs ≤ m → (arrival_at arrivals (tail_of p.arcs a)).arcs ≤ m
+    → EndsWithin arrivals p m (path ++ a ∷ [])
+unfolding EndsWithin
+EndsWithin-push arrivals p n m [] a e w head tail = (head, tail, tt)
+EndsWithin-push arrivals p n m (b ∷ path) a e w head tail = (
+  (let old = w.0 in omega arith),
+  (let old = w.1 in omega arith),
+  EndsWithin-push arrivals p n m path a e
+      w.2 head tail,
+)
 
 distinct-push : (arrivals : List Arrival) (p : Problem) (n : ℕ) (path : List ArcNo) (a : ArcNo)
     → n < (arrival_at arrivals (head_of p.arcs a)).arcs
-    → HeadsWithin arrivals p n path → IsDistinct path → IsDistinct (path ++ a ∷ [])
-unfolding HeadsWithin
+    → EndsWithin arrivals p n path → IsDistinct path → IsDistinct (path ++ a ∷ [])
+unfolding EndsWithin
 distinct-push arrivals p n [] a m w d = (tt, tt)
 distinct-push arrivals p n (b ∷ path) a m w d = (
   Lacks-push b a path d.0 (λ same.
       absurd (let old = w.0 in let at = ap (λ c. (arrival_at arrivals (head_of p.arcs c)).arcs) same in
       omega arith)),
-  distinct-push arrivals p n path a m w.1 d.1,
+  distinct-push arrivals p n path a m w.2 d.1,
+)
+
+-- two residual arcs over one arc have its ends
+one_of_ends : (arcs : List FlowArc) (a b : ArcNo) → arc_index a ≡ arc_index b
+    → (head_of arcs a ≡ head_of arcs b) ⊎ (head_of arcs a ≡ tail_of arcs b)
+one_of_ends arcs (Forward j) (Forward k) e = inl (ap (λ i. head_of arcs (Forward i)) e)
+one_of_ends arcs (Forward j) (Reverse k) e = inr (ap (λ i. head_of arcs (Forward i)) e)
+one_of_ends arcs (Reverse j) (Forward k) e = inr (ap (λ i. head_of arcs (Reverse i)) e)
+one_of_ends arcs (Reverse j) (Reverse k) e = inl (ap (λ i. head_of arcs (Reverse i)) e)
+
+once-push : (arrivals : List Arrival) (p : Problem) (n : ℕ) (path : List ArcNo) (a : ArcNo)
+    → n < (arrival_at arrivals (head_of p.arcs a)).arcs
+    → EndsWithin arrivals p n path → GoesOnce path → GoesOnce (path ++ a ∷ [])
+unfolding EndsWithin
+once-push arrivals p n [] a m w d = ((λ o. o), tt)
+once-push arrivals p n (b ∷ path) a m w d = (
+  (λ over. elim (GoesOver-push (arc_index b) a path over) [
+    | inl old ↦ d.0 old
+    | inr e ↦ elim (one_of_ends p.arcs a b e) [
+      | inl same ↦ (let old = w.0 in let at = ap (λ v. (arrival_at arrivals v).arcs) same in omega arith)
+      | inr same ↦ (let old = w.1 in let at = ap (λ v. (arrival_at arrivals v).arcs) same in omega arith)
+    ]
+  ]),
+  once-push arrivals p n path a m w.2 d.1,
 )
 
 AreSteps-push : (p : Problem) (d : ℕ → ℕ) (path : List ArcNo) (a : ArcNo)
@@ -71,10 +114,11 @@ module _ (p : Problem) (nodes level : ℕ) (distances : List ℕ) (arrivals : Li
   pub path_back : (n v : ℕ) → distance_at distances v < far → (arrival_at arrivals v).arcs ≡ n
       → IsPath p.arcs p.flows (trace_of arrivals v n) p.start v × AreSteps p.arcs (slice_index p.depths)
       (distance_at distances) (trace_of arrivals v n)
-      × IsDistinct (trace_of arrivals v n) × HeadsWithin arrivals p n (trace_of arrivals v n)
-  unfolding HeadsWithin
+      × IsDistinct (trace_of arrivals v n) × EndsWithin arrivals p n (trace_of arrivals v n)
+      × GoesOnce (trace_of arrivals v n)
+  unfolding EndsWithin
   path_back zero v near e = elim (t.sound v near) [
-    | inl same ↦ (sym same, tt, tt, tt)
+    | inl same ↦ (sym same, tt, tt, tt, tt)
     | inr r ↦ absurd (let more = r.more in omega arith)
   ]
   path_back (suc n) v near e = elim (t.sound v near) [
@@ -89,6 +133,8 @@ module _ (p : Problem) (nodes level : ℕ) (distances : List ℕ) (arrivals : Li
         let rest = path_back n u (omega arith) (omega arith) in
         let at_head : (arrival_at arrivals (head_of p.arcs a)).arcs
         ≡ suc n = ap (λ w. (arrival_at arrivals w).arcs) r.comes ∙ e in
+        let at_tail : (arrival_at arrivals (tail_of p.arcs a)).arcs ≡ n =
+        (let before = ap (λ w. (arrival_at arrivals w).arcs) r.leaves in omega arith) in
         let farther : IsStep p.arcs (slice_index p.depths) (distance_at distances) a =
         ap (distance_at distances) r.comes ∙ r.distance ∙ ap (λ w. distance_at distances w + rc p a)
         (sym r.leaves) in (
@@ -96,7 +142,9 @@ module _ (p : Problem) (nodes level : ℕ) (distances : List ℕ) (arrivals : Li
               (r.residual, r.leaves, r.comes),
           AreSteps-push p (distance_at distances) (trace_of arrivals u n) a rest.1 farther,
           distinct-push arrivals p n (trace_of arrivals u n) a (omega arith) rest.3 rest.2,
-          HeadsWithin-push arrivals p n (suc n) (trace_of arrivals u n) a (omega arith) rest.3 (omega arith),
+          EndsWithin-push arrivals p n (suc n) (trace_of arrivals u n) a (omega arith) rest.3 (omega arith)
+              (omega arith),
+          once-push arrivals p n (trace_of arrivals u n) a (omega arith) rest.3 rest.4,
         ))
   ]
 
@@ -113,7 +161,7 @@ module _ (p : Problem) (nodes level : ℕ) (distances : List ℕ) (arrivals : Li
       (trace_to arrivals p.sink)
   trace_is near =
       let b = path_back (arrival_at arrivals p.sink).arcs p.sink near refl in
-      record { leads = b.0; distinct = b.2; steps = b.1 }
+      record { leads = b.0; distinct = b.2; once = b.4; steps = b.1 }
 
 -- the sink is reached at the level
 pub ends_at_sink : (p : Problem) (nodes level count : ℕ) (rest : List ArcNo) (t : Tables)

@@ -1,8 +1,10 @@
 -- The other moves of a search: a node is taken from the queue, an arc is looked at; and each move by what
 -- the code reads.
-use Rattle.std.proofs.Common.{◌≡◌, ℕ, zero, suc, ◌+◌, ◌-◌, ◌*◌, ◌^◌, ◌<◌, ◌≤◌, true, false, List, [], ◌∷◌, ◌++◌, length, map, get_or, set, All, Contains, IsPermutation, Option, Some, None, refl, sym, ap, ◌∙◌, subst, inl, inr, ◌⊎◌, arith, length-append}
+use Rattle.std.proofs.Common.{◌≡◌, ℕ, zero, suc, ◌+◌, ◌-◌, ◌*◌, ◌^◌, ◌<◌, ◌≤◌, true, false, List, [], ◌∷◌}
+use Rattle.std.proofs.Common.{◌++◌, length, map, get_or, set, take, All, Contains, IsPermutation, Option}
+use Rattle.std.proofs.Common.{Some, None, refl, sym, ap, ◌∙◌, subst, inl, inr, ◌⊎◌, arith, length-append}
 use Rattle.std.proofs.lemmas.Bool.{cases_lt, cases_Bool, false≢true}
-use Rattle.std.proofs.lemmas.List.{get_or_past, get_or_default}
+use Rattle.std.proofs.lemmas.List.{get_or_past, get_or_default, take_more}
 use Rattle.std.proofs.lemmas.List.Elements.{Contains-append_right, Contains-push, All-contains}
 use Rattle.std.proofs.lemmas.List.Sorted.{Contains-permutation, IsPermutation-sym}
 use Rattle.std.specs.Option.{option_to_list}
@@ -10,19 +12,23 @@ use Rattle.std.specs.Prelude.{slice_index, slice_get, is_some, IfSome, pos, ◌+
 use Rattle.flow_network.specs.declared.arcs.FlowArc.{FlowArc}
 use Rattle.flow_network.specs.declared.arcs.ArcNo.{ArcNo}
 use Rattle.flow_network.specs.declared.arcs.ArcNo.TheVariants.{Forward, Reverse}
-use Rattle.flow_network.specs.Flows.{AreArcs, NoNegative, tail_of, head_of, arc_index, cost_of, IsResidual, reduced_cost}
+use Rattle.flow_network.specs.Flows.{AreArcs, NoNegative, tail_of, head_of, arc_index, cost_of, IsResidual}
+use Rattle.flow_network.specs.Flows.{reduced_cost}
 use Rattle.flow_network.specs.Leaving.{IsIn}
-use Rattle.flow_network.proofs.Listed.{in_left, in_right, in_at, few_looks}
+use Rattle.flow_network.proofs.Listed.{in_left, in_right, in_split, in_at, few_looks}
 use Rattle.guest_search.specs.declared.arrival.Arrival.{Arrival}
-use Rattle.guest_lists.specs.Guests.{GuestLists, AreGuests, source_at, inner_at, standing_at, exit_arcs, exits_at, inner_ways}
+use Rattle.guest_lists.specs.Guests.{GuestLists, AreGuests, source_at, inner_at, standing_at, exit_arcs}
+use Rattle.guest_lists.specs.Guests.{exits_at, inner_ways}
 use Rattle.shortest_paths.specs.Labels.{is_settled}
-use Rattle.guest_search.specs.Searching.{Problem, Tables, distance_at, no_arrival, arrival_at, rc, AreReached, AreListed, AreCovered, IsSearching}
+use Rattle.guest_search.specs.Searching.{Problem, Tables, distance_at, no_arrival, arrival_at, rc, AreReached}
+use Rattle.guest_search.specs.Searching.{AreListed, AreCovered, IsSearching}
 use Rattle.shortest_paths.specs.Paths.{IsPriced}
 use Rattle.guest_search.specs.Search.{option_list, Comes}
 use Rattle.guest_search.specs.ToSink.{far}
 use Rattle.shortest_paths.proofs.Turning.{residual_cost, reduced_is, cost_fits}
 use Rattle.shortest_paths.proofs.Waiting.{nothing_in, in_front, first_in}
-use Rattle.guest_search.proofs.Arriving.{not_settled, falls, kept, set_to, reached_by, waits_near, waits_far, covers}
+use Rattle.guest_search.proofs.Arriving.{not_settled, falls, kept, set_to, reached_by, waits_near, waits_far}
+use Rattle.guest_search.proofs.Arriving.{covers}
 use Rattle.guest_search.proofs.Sums.{ones_le}
 use Rattle.guest_search.proofs.Cursors.{map_at, inner_moves, standing_moves, popped}
 use Rattle.guest_search.proofs.Settled.{opened}
@@ -568,3 +574,54 @@ pub top_of : (xs : List ℕ) (v : ℕ) → Some v ≡ slice_get xs (length xs - 
     → (front : List ℕ) × (xs ≡ front ++ v ∷ [])
 top_of [] v e = absurd (let q : Some v ≡ None = e in cc)
 top_of (x ∷ xs) v e = top_at (x ∷ xs) v (length (x ∷ xs) - 1) (omega arith) e
+
+-- of the arcs that are still to be looked at, the last is taken
+pub from_the_end : (p : Problem) (nodes level count : ℕ) (entering : List ℕ) (a : ArcNo) (rest : List ArcNo)
+    (t : Tables) → IsSearching p nodes level count entering (rest ++ a ∷ []) t
+    → IsSearching p nodes level count entering (a ∷ rest) t
+from_the_end p nodes level count entering a rest t s =
+    let size = length-append rest (a ∷ []) in
+    let old = s.looks in
+    record {
+      left_size = s.left_size;
+      left_standing_size = s.left_standing_size;
+      reached = s.reached;
+      listed = s.listed;
+      waiting = s.waiting;
+      covered = record {
+        on_stack = s.covered.on_stack;
+        cursors = s.covered.cursors;
+        of_rest = λ b i. s.covered.of_rest b (at_end b i);
+        covered = λ b r m. elim (s.covered.covered b r m) [
+          | inl done ↦ inl done
+          | inr more ↦ elim more [ inl held ↦ inr (inl (in_front_of b held)) | inr cursor ↦ inr (inr cursor) ]
+        ];
+      };
+      looks = omega arith;
+      sink_left = s.sink_left;
+    }
+  where
+    at_end : (b : ArcNo) → IsIn b (a ∷ rest) → IsIn b (rest ++ a ∷ [])
+    at_end b (inl e) = in_right b rest (a ∷ []) (inl e)
+    at_end b (inr i) = in_left b rest (a ∷ []) i
+
+    in_front_of : (b : ArcNo) → IsIn b (rest ++ a ∷ []) → IsIn b (a ∷ rest)
+    in_front_of b i = elim (in_split b rest (a ∷ []) i) [
+      | inl before ↦ inr before
+      | inr last ↦ elim last [ inl e ↦ inl e | inr n ↦ absurd n ]
+    ]
+
+-- a list of arcs is looked over from its end
+pub next_from_the_end : (p : Problem) (nodes level count : ℕ) (entering : List ℕ) (xs : List ArcNo) (i : ℕ)
+    (t : Tables) → i < length xs
+    → IsSearching p nodes level count entering (take (length xs - i) xs) t
+    → IsSearching p nodes level count entering
+    (get_or xs (length xs - 1 - i) (Forward 0) ∷ take (length xs - (i + 1)) xs) t
+next_from_the_end p nodes level count entering xs i t l s =
+    let k : ℕ = length xs - (i + 1) in
+    let size : length xs - i ≡ k + 1 = omega arith in
+    let place : length xs - 1 - i ≡ k = omega arith in
+    let parts : take (length xs - i) xs ≡ take k xs ++ get_or xs k (Forward 0) ∷ [] =
+    ap (λ n. take n xs) size ∙ take_more xs k (Forward 0) (omega arith) in
+    rw place (from_the_end p nodes level count entering (get_or xs k (Forward 0)) (take k xs) t
+    (subst (λ ys. IsSearching p nodes level count entering ys t) parts s))

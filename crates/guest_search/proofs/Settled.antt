@@ -1,5 +1,7 @@
 -- The node that is entered is settled.
-use Rattle.std.proofs.Common.{◌≡◌, ℕ, suc, ◌+◌, ◌<◌, Bool, true, false, List, [], ◌∷◌, ◌++◌, length, map, get_or, set, Contains, refl, sym, ap, ◌∙◌, subst, inl, inr, ◌⊎◌, arith, get_or-set_same, get_or-set_other, length-set, length-append}
+use Rattle.std.proofs.Common.{◌≡◌, ℕ, suc, ◌+◌, ◌<◌, Bool, true, false, List, [], ◌∷◌, ◌++◌, length, map}
+use Rattle.std.proofs.Common.{get_or, set, Contains, refl, sym, ap, ◌∙◌, subst, inl, inr, ◌⊎◌, arith}
+use Rattle.std.proofs.Common.{get_or-set_same, get_or-set_other, length-set, length-append}
 use Rattle.std.proofs.Math.Seq.{take-length}
 use Rattle.std.proofs.lemmas.Bool.{cases_eq, false≢true}
 use Rattle.std.proofs.lemmas.List.Elements.{Contains-append_left, Contains-push, Contains-push_cases}
@@ -11,7 +13,8 @@ use Rattle.flow_network.proofs.Listed.{each_arc, in_left, in_right, in_split}
 use Rattle.guest_search.specs.declared.arrival.Arrival.{Arrival}
 use Rattle.guest_lists.specs.Guests.{AreGuests, source_at, inner_at, standing_at, exits_at, inner_ways}
 use Rattle.shortest_paths.specs.Labels.{is_settled}
-use Rattle.guest_search.specs.Searching.{Problem, Tables, distance_at, arrival_at, settled_number, AreReached, AreWaiting, IsSearching}
+use Rattle.guest_search.specs.Searching.{Problem, Tables, distance_at, arrival_at, settled_number, AreReached}
+use Rattle.guest_search.specs.Searching.{AreWaiting, IsSearching}
 use Rattle.shortest_paths.proofs.Waiting.{nothing_in, in_front, first_in}
 use Rattle.guest_search.proofs.Arriving.{not_settled}
 use Rattle.guest_search.proofs.Sums.{enter_at}
@@ -83,7 +86,11 @@ module _ (settled : List Bool) (v : ℕ) (inside : v < length settled) (fresh : 
     settled_waiting level distances queue w = record {
       next = λ y c. absurd (nothing_in y c);
       waiting = λ y s near. (let was = fresh_was y s in elim (w.waiting y was.1 near) [
-        | inl c ↦ elim (in_front v y [] c) [ inl e ↦ absurd (was.0 (sym e)) | inr n ↦ absurd (nothing_in y n) ]
+        | inl c ↦ elim (in_front v y [] c) [
+          | inl e ↦ absurd (was.0 (sym e))
+          | inr n ↦
+              absurd (nothing_in y n)
+        ]
         | inr q ↦ inr q
       ]);
       queued = w.queued;

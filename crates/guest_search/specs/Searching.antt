@@ -1,6 +1,7 @@
 -- What a search from one node to another keeps. A settled node stands on the stack while the cursors leave
 -- some of its arcs; a node that was reached and is not settled is entered next, or waits in the queue.
-use Rattle.std.specs.Prelude.{◌≡◌, ℕ, ◌+◌, ◌*◌, ◌^◌, ◌<◌, ◌≤◌, Bool, true, false, List, [], ◌∷◌, ◌++◌, zero, suc, length, Contains, slice_index, slice_index_or, ◌⊎◌}
+use Rattle.std.specs.Prelude.{◌≡◌, ℕ, ◌+◌, ◌*◌, ◌^◌, ◌<◌, ◌≤◌, Bool, true, false, List, [], ◌∷◌, ◌++◌, zero}
+use Rattle.std.specs.Prelude.{suc, length, Contains, slice_index, slice_index_or, ◌⊎◌}
 use Rattle.flow_network.specs.declared.arcs.FlowArc.{FlowArc}
 use Rattle.flow_network.specs.declared.arcs.ArcNo.{ArcNo}
 use Rattle.flow_network.specs.declared.arcs.ArcNo.TheVariants.{Forward}
@@ -136,7 +137,8 @@ pub record IsAtRest (nodes : ℕ) (t : Tables) : Type 0 where
   pub none_stacked : t.stack ≡ []
   pub none_queued : t.queue ≡ []
 
--- what is forgotten after a search: the nodes that were reached are listed, and the settled ones are among them
+-- what is forgotten after a search: the nodes that were reached are listed, and the settled ones are among
+-- them
 pub record IsLeft (nodes : ℕ) (t : Tables) : Type 0 where
   pub size : length t.distances ≡ nodes
   pub arrivals_size : length t.arrivals ≡ nodes

@@ -4,6 +4,7 @@ use Rattle.std.specs.Prelude.{◌≡◌, ℕ, ◌-◌, ◌<◌, ◌≤◌, ◌^�
 use Rattle.flow_network.specs.declared.arcs.FlowArc.{FlowArc}
 use Rattle.flow_network.specs.declared.arcs.ArcNo.{ArcNo}
 use Rattle.flow_network.specs.Flows.{IsPath, IsDistinct, NoNegative, path_cost, pushed}
+use Rattle.guest_lists.specs.Standing.{GoesOnce}
 use Rattle.guest_search.specs.Lowering.{lowered, IsCovered, AreSteps}
 
 -- the distance of a node that was not reached
@@ -30,11 +31,12 @@ pub record IsSearched (arcs : List FlowArc) (flows : List ℕ) (h : ℕ → ℕ)
   pub traced : AreTraced arcs flows h start d
   pub covered : IsCovered arcs flows h d (d sink)
 
--- a path to the sink by steps of the search, with no arc twice
+-- a path to the sink by steps of the search, with no arc twice, in whichever direction
 pub record IsTrace (arcs : List FlowArc) (flows : List ℕ) (h : ℕ → ℕ) (start sink : ℕ) (d : ℕ → ℕ)
     (path : List ArcNo) : Type 0 where
   pub leads : IsPath arcs flows path start sink
   pub distinct : IsDistinct path
+  pub once : GoesOnce path
   pub steps : AreSteps arcs h d path
 
 -- what covered and traced distances say of the sink's

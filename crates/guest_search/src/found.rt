@@ -1,5 +1,6 @@
 //! What a search found, and the tables that it is made over.
-ghost use Rattle.std.specs.Prelude.{◌≡◌, ℕ, ◌+◌, ◌*◌, ◌<◌, ◌≤◌, ◌^◌, length, slice_index, IfOk, IsSome, MatchOption, None};
+ghost use Rattle.std.specs.Prelude.{◌≡◌, ℕ, ◌+◌, ◌*◌, ◌<◌, ◌≤◌, ◌^◌, length, slice_index, IfOk, IsSome};
+ghost use Rattle.std.specs.Prelude.{MatchOption, None};
 ghost use Rattle.guest_search.specs.Finding.{IsTotal, total_of};
 ghost use Rattle.guest_search.specs.Lowering.{lowered};
 ghost use Rattle.guest_search.specs.Search.{MaySearch};
@@ -50,8 +51,7 @@ impl Model for Found {
     ghost view = { λ f. record {
       distances = f.search.distances.items;
       total = f.total;
-      path =
-          trace_to f.search.arrivals.items f.sink;
+      path = trace_to f.search.arrivals.items f.sink;
     } };
 
     ghost invariant = { λ f. IsFound (tables f.search) f.sink f.total };

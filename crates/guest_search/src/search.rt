@@ -1,13 +1,16 @@
 //! The search for a least path to one sink.
-ghost use Rattle.std.specs.Prelude.{◌≡◌, ℕ, ◌+◌, ◌*◌, ◌<◌, ◌≤◌, ◌^◌, List, [], ◌∷◌, ◌++◌, true, false, length, slice_index, slice_set, Option, Some, None, OnOk, IfOk, IfSome};
+ghost use Rattle.std.specs.Prelude.{◌≡◌, ℕ, ◌+◌, ◌*◌, ◌<◌, ◌≤◌, ◌^◌, List, [], ◌∷◌, ◌++◌, true, false};
+ghost use Rattle.std.specs.Prelude.{length, slice_index, slice_set, Option, Some, None, OnOk, IfOk, IfSome};
 ghost use Rattle.flow_network.specs.Flows.{tail_of, head_of, arc_index};
 ghost use Rattle.guest_lists.specs.Guests.{GuestLists, AreSized, source_at, inner_at, standing_at};
 ghost use Rattle.guest_search.specs.Lowering.{lowered};
 ghost use Rattle.guest_search.specs.ToSink.{far};
 ghost use Rattle.shortest_paths.specs.Paths.{IsPriced};
-ghost use Rattle.guest_search.specs.Searching.{AreListed, IsAtRest, IsLeft, LeadsBack, distance_at, arrival_at, trace_to};
+ghost use Rattle.guest_search.specs.Searching.{AreListed, IsAtRest, IsLeft, LeadsBack, distance_at};
+ghost use Rattle.guest_search.specs.Searching.{arrival_at, trace_to};
 ghost use Rattle.flow_network.specs.declared.arcs.ArcNo.{ArcNo};
-ghost use Rattle.guest_search.specs.Search.{tables, option_list, MaySearch, Searches, ComesTo, Ends, IsBetween, Stands, Spends, Falls};
+ghost use Rattle.guest_search.specs.Search.{tables, option_list, MaySearch, Searches, ComesTo, Ends};
+ghost use Rattle.guest_search.specs.Search.{IsBetween, Stands, Spends, Falls};
 
 use crate::arrival::Arrival;
 use flow_network::{ArcNo, Meter};
@@ -225,7 +228,8 @@ impl Search {
         }
     }
 
-    /// Settles a source, and looks over its arcs; whether the sink is entered next.
+    /// Settles a source, and looks over its arcs from the last on, so that what is added first, the highest
+    /// node, is gone on from first; whether the sink is entered next.
     fn scan<L: Layout>(
         &mut self,
         meter: &mut Meter<L>,
@@ -245,7 +249,8 @@ impl Search {
         ensures goes { IfOk result (λ found. (start : ℕ)
             → Searches meter.old potentials.now guests.now start sink level meter.old.count
             (node ∷ []) [] self.old
-            → ComesTo found meter.old potentials.now guests.now start sink level meter.new.count [] self.new) }
+            → ComesTo found meter.old potentials.now guests.now start sink level meter.new.count []
+            self.new) }
         ensures network { meter.new.network ≡ meter.old.network }
         ensures steps { meter.new.count ≤ 2 * length meter.old.network.arcs }
         ensures counted { meter.old.count ≤ meter.new.count }
@@ -255,8 +260,10 @@ impl Search {
         self.settled[node] = true;
         self.left[node] = 0;
         self.left_standing[node] = 0;
-        for arc in leaving(meter, node) {
-            if self.pass(meter, potentials, guests, node, level, sink, *arc)? {
+        let arcs = leaving(meter, node);
+        for i in 0..arcs.len() {
+            let arc = arcs[arcs.len() - 1 - i];
+            if self.pass(meter, potentials, guests, node, level, sink, arc)? {
                 return Ok(true);
             }
         }
@@ -283,7 +290,8 @@ impl Search {
         ensures goes { IfOk result (λ found. (start : ℕ)
             → Searches meter.old potentials.now guests.now start sink level meter.old.count
             (node ∷ []) [] self.old
-            → ComesTo found meter.old potentials.now guests.now start sink level meter.new.count [] self.new) }
+            → ComesTo found meter.old potentials.now guests.now start sink level meter.new.count []
+            self.new) }
         ensures network { meter.new.network ≡ meter.old.network }
         ensures steps { meter.new.count ≤ 2 * length meter.old.network.arcs }
         ensures spends { OnOk result (Spends 1 meter.old.count (tables self.old) meter.new.count
@@ -317,7 +325,8 @@ impl Search {
         ensures goes { IfOk result (λ found. (start : ℕ)
             → Searches meter.old potentials.now guests.now start sink level meter.old.count []
             (arc ∷ []) self.old
-            → ComesTo found meter.old potentials.now guests.now start sink level meter.new.count [] self.new) }
+            → ComesTo found meter.old potentials.now guests.now start sink level meter.new.count []
+            self.new) }
         ensures network { meter.new.network ≡ meter.old.network }
         ensures steps { meter.new.count ≤ 2 * length meter.old.network.arcs }
         ensures falls { OnOk result (Falls meter.old.count (tables self.old) meter.new.count
@@ -351,7 +360,8 @@ impl Search {
             meter.old.count [] [] self.old }
         ensures goes { IfOk result (λ found. (start : ℕ)
             → Searches meter.old potentials.now guests.now start sink level meter.old.count [] [] self.old
-            → ComesTo found meter.old potentials.now guests.now start sink level meter.new.count [] self.new) }
+            → ComesTo found meter.old potentials.now guests.now start sink level meter.new.count []
+            self.new) }
         ensures network { meter.new.network ≡ meter.old.network }
         ensures steps { meter.new.count ≤ 2 * length meter.old.network.arcs }
         ensures falls { OnOk result (Falls meter.old.count (tables self.old) meter.new.count
@@ -384,7 +394,8 @@ impl Search {
             meter.old.count [] [] self.old }
         ensures goes { IfOk result (λ found. (start : ℕ)
             → Searches meter.old potentials.now guests.now start sink level meter.old.count [] [] self.old
-            → ComesTo found meter.old potentials.now guests.now start sink level meter.new.count [] self.new) }
+            → ComesTo found meter.old potentials.now guests.now start sink level meter.new.count []
+            self.new) }
         ensures network { meter.new.network ≡ meter.old.network }
         ensures steps { meter.new.count ≤ 2 * length meter.old.network.arcs }
         ensures falls { OnOk result (Falls meter.old.count (tables self.old) meter.new.count
@@ -397,8 +408,8 @@ impl Search {
         Ok(found)
     }
 
-    /// One turn of the node on top of the stack: its next arc is looked at, or it leaves the stack; whether the
-    /// sink is entered next.
+    /// One turn of the node on top of the stack: its next arc is looked at, or it leaves the stack; whether
+    /// the sink is entered next.
     fn turn<L: Layout>(
         &mut self,
         meter: &mut Meter<L>,
@@ -417,7 +428,8 @@ impl Search {
             meter.old.count [] [] self.old }
         ensures goes { IfOk result (λ found. (start : ℕ)
             → Searches meter.old potentials.now guests.now start sink level meter.old.count [] [] self.old
-            → ComesTo found meter.old potentials.now guests.now start sink level meter.new.count [] self.new) }
+            → ComesTo found meter.old potentials.now guests.now start sink level meter.new.count []
+            self.new) }
         ensures network { meter.new.network ≡ meter.old.network }
         ensures steps { meter.new.count ≤ 2 * length meter.old.network.arcs }
         ensures falls { OnOk result (Falls meter.old.count (tables self.old) meter.new.count
@@ -451,7 +463,8 @@ impl Search {
             meter.old.count [] [] self.old }
         ensures goes { IfOk result (λ found. (start : ℕ)
             → Searches meter.old potentials.now guests.now start sink level meter.old.count [] [] self.old
-            → ComesTo found meter.old potentials.now guests.now start sink level meter.new.count [] self.new) }
+            → ComesTo found meter.old potentials.now guests.now start sink level meter.new.count []
+            self.new) }
         ensures network { meter.new.network ≡ meter.old.network }
         ensures steps { meter.new.count ≤ 2 * length meter.old.network.arcs }
         ensures spends { OnOk result (Spends 0 meter.old.count (tables self.old) meter.new.count
@@ -487,7 +500,8 @@ impl Search {
         ensures goes { IfOk result (λ found. (start : ℕ)
             → Searches meter.old potentials.now guests.now start sink level meter.old.count
             (node ∷ []) [] self.old
-            → ComesTo found meter.old potentials.now guests.now start sink level meter.new.count [] self.new) }
+            → ComesTo found meter.old potentials.now guests.now start sink level meter.new.count []
+            self.new) }
         ensures network { meter.new.network ≡ meter.old.network }
         ensures steps { meter.new.count ≤ 2 * length meter.old.network.arcs }
         ensures spends { OnOk result (Spends 1 meter.old.count (tables self.old) meter.new.count
@@ -594,7 +608,8 @@ impl Search {
     /// The path that the arrivals lead back over from a node.
     pub fn trace(&self, alloc: Global, node: usize) -> Result<Vec<ArcNo>, AllocError>
         requires inside { node < length self.now.arrivals.items }
-        requires back { LeadsBack self.now.arrivals.items node (arrival_at self.now.arrivals.items node).arcs }
+        requires back { LeadsBack self.now.arrivals.items node
+            (arrival_at self.now.arrivals.items node).arcs }
         ensures { IfOk result (λ p. p.items ≡ trace_to self.now.arrivals.items node) }
     {
         let mut path = Vec::new(alloc);

@@ -1,8 +1,11 @@
 -- The calls that lists of entries, counts and starts stand for.
-use Rattle.std.proofs.Common.{◌≡◌, ℕ, zero, suc, ◌+◌, ◌-◌, ◌≤◌, List, [], ◌∷◌, ◌++◌, length, take, drop, get_or, All, Option, ◌<◌, ◌&&◌, nat_lt, nat_le, Bool, true, false, Some, None, refl, sym, ap, subst, ◌∙◌, arith}
+use Rattle.std.proofs.Common.{◌≡◌, ℕ, zero, suc, ◌+◌, ◌-◌, ◌≤◌, List, [], ◌∷◌, ◌++◌, length, take, drop}
+use Rattle.std.proofs.Common.{get_or, All, Option, ◌<◌, ◌&&◌, nat_lt, nat_le, Bool, true, false, Some, None}
+use Rattle.std.proofs.Common.{refl, sym, ap, subst, ◌∙◌, arith}
 use Rattle.std.specs.Prelude.{slice_get}
 use Rattle.std.specs.Option.{option_map_or}
-use Rattle.std.proofs.lemmas.List.{drop-drop, take-append-le, drop-append-le, take_all, drop_at, length-drop, length-take-le, length-append, append_assoc, take_more}
+use Rattle.std.proofs.lemmas.List.{drop-drop, take-append-le, drop-append-le, take_all, drop_at, length-drop}
+use Rattle.std.proofs.lemmas.List.{length-take-le, length-append, append_assoc, take_more}
 use Rattle.std.proofs.lemmas.List.Elements.{All-push}
 use Rattle.std.proofs.lemmas.Bool.Decides.{nat_tests}
 use Rattle.std.proofs.lemmas.List.Sums.{sum_by-cons, sum_by_push, sum_by_more, sum_by_more_le}
@@ -10,13 +13,15 @@ use Rattle.master_state.specs.declared.events.Event.{Event}
 use Rattle.master_state.specs.declared.states.Limits.{Limits}
 use Rattle.master_state.specs.declared.states.Start.{Start}
 use Rattle.hand_ledger.specs.declared.hands.Entry.{Entry}
-use Rattle.hand_ledger.specs.Hands.{Kept, kept, HandValue, counts_in, starts_in, all_counts, all_starts, last_event, has_room}
+use Rattle.hand_ledger.specs.Hands.{Kept, kept, HandValue, counts_in, starts_in, all_counts, all_starts}
+use Rattle.hand_ledger.specs.Hands.{last_event, has_room}
 use Rattle.hand_ledger.specs.Inside.{calls_of, counts_taken, starts_taken, AreKept, IsPlace}
-use Rattle.hand_ledger.specs.Settling.{LogValue, Stands, event_at, call_at, counts_at, starts_at}
+use Rattle.hand_ledger.specs.Settling.{LogValue, Stands, all_calls, event_at, call_at, counts_at, starts_at}
 
 -- the call of an entry, whose counts and starts begin at these places
 abbrev pub call_of : Entry → List (List ℕ) → List Start → Kept
-call_of e counts starts = kept e.place e.event (take (counts_in e.event) counts) (take (starts_in e.event) starts)
+call_of e counts starts =
+    kept e.place e.event (take (counts_in e.event) counts) (take (starts_in e.event) starts)
 
 -- where the next counts begin, after an entry and others
 counts_on : (x : Entry) (es : List Entry) (cs : List (List ℕ)) →
@@ -95,7 +100,8 @@ calls_kept es e cs more ss others c s m o =
 pub length-calls : (es : List Entry) (cs : List (List ℕ)) (ss : List Start) →
     length (calls_of es cs ss) ≡ length es
 length-calls [] cs ss = refl
-length-calls (x ∷ es) cs ss = ap suc (length-calls es (drop (counts_in x.event) cs) (drop (starts_in x.event) ss))
+length-calls (x ∷ es) cs ss =
+    ap suc (length-calls es (drop (counts_in x.event) cs) (drop (starts_in x.event) ss))
 
 pub all_counts-calls : (es : List Entry) (cs : List (List ℕ)) (ss : List Start) →
     counts_taken es ≡ length cs → all_counts (calls_of es cs ss) ≡ length cs
@@ -135,11 +141,6 @@ is_there : {X : Type 0} (x : X) (xs : List X) → slice_get (x ∷ xs) (length x
 is_there x [] e = absurd cc
 is_there x (y ∷ ys) e = is_there y ys e
 
-pub without_last : {X : Type 0} (xs : List X) → slice_get xs (length xs - 1) ≡ None → xs ≡ []
-without_last [] e = refl
-without_last (x ∷ xs) e =
-    absurd (is_there x xs (sym (ap (slice_get (x ∷ xs)) (length-less_one x xs)) ∙ e))
-
 -- the last entry, by its index, is the last call
 pub last_event-calls : (es : List Entry) (n : ℕ) (e : Entry) (cs : List (List ℕ)) (ss : List Start) →
     n + 1 ≡ length es → slice_get es n ≡ Some e → last_event (calls_of es cs ss) ≡ Some e.event
@@ -154,16 +155,19 @@ last_event-calls (x ∷ y ∷ es) (suc n) e cs ss len at =
 abbrev pub IsAtPlace : List Event → Entry → Type 0
 IsAtPlace history e = event_at history e.place ≡ Some e.event
 
-pub stands-calls : (history : List Event) (es : List Entry) (n : ℕ) (e : Entry) (cs : List (List ℕ)) (ss : List Start) →
+pub stands-calls : (history : List Event) (es : List Entry) (n : ℕ) (e : Entry) (cs : List (List ℕ))
+    (ss : List Start) →
     n + 1 ≡ length es → slice_get es n ≡ Some e →
-    (Stands history (calls_of es cs ss) → IsAtPlace history e) × (IsAtPlace history e → Stands history (calls_of es cs ss))
+    (Stands history (calls_of es cs ss) → IsAtPlace history e) × (IsAtPlace history e →
+    Stands history (calls_of es cs ss))
 stands-calls history [] n e cs ss len at = absurd (omega arith)
 stands-calls history (x ∷ []) zero e cs ss len at =
     let same : x ≡ e = cc in (subst (IsAtPlace history) same, subst (IsAtPlace history) (sym same))
 stands-calls history (x ∷ []) (suc n) e cs ss len at = absurd (omega arith)
 stands-calls history (x ∷ y ∷ es) zero e cs ss len at = absurd (omega arith)
 stands-calls history (x ∷ y ∷ es) (suc n) e cs ss len at =
-    stands-calls history (y ∷ es) n e (drop (counts_in x.event) cs) (drop (starts_in x.event) ss) (omega arith) at
+    stands-calls history (y ∷ es) n e (drop (counts_in x.event) cs) (drop (starts_in x.event) ss)
+    (omega arith) at
 
 pub last_event-is : (es : List Entry) (e : Entry) (cs : List (List ℕ)) (ss : List Start) →
     slice_get es (length es - 1) ≡ Some e → last_event (calls_of es cs ss) ≡ Some e.event
@@ -174,7 +178,8 @@ last_event-is (x ∷ es) e cs ss at =
 
 pub stands-is : (history : List Event) (es : List Entry) (e : Entry) (cs : List (List ℕ)) (ss : List Start) →
     slice_get es (length es - 1) ≡ Some e →
-    (Stands history (calls_of es cs ss) → IsAtPlace history e) × (IsAtPlace history e → Stands history (calls_of es cs ss))
+    (Stands history (calls_of es cs ss) → IsAtPlace history e) × (IsAtPlace history e →
+    Stands history (calls_of es cs ss))
 stands-is history [] e cs ss at = absurd cc
 stands-is history (x ∷ es) e cs ss at =
     stands-calls history (x ∷ es) (length es) e cs ss (omega arith)
@@ -193,18 +198,17 @@ starts_step es i e lt is =
     sum_by_more (λ (x : Entry). starts_in x.event) es i e lt
     ∙ ap (λ (x : Entry). starts_taken (take i es) + starts_in x.event) (sym is)
 
--- what it has taken then is within the lists
-pub counts_within : (es : List Entry) (i : ℕ) (e : Entry) (n : ℕ) → i < length es → e ≡ get_or es i e →
-    counts_taken es ≤ n → counts_taken (take i es) + counts_in e.event ≤ n
-counts_within es i e n lt is le =
-    omega (arith, sum_by_more_le (λ (x : Entry). counts_in x.event) es i e lt, ap (λ (x : Entry). counts_in x.event) is)
-
 pub starts_within : (es : List Entry) (i : ℕ) (e : Entry) (n : ℕ) → i < length es → e ≡ get_or es i e →
     starts_taken es ≤ n → starts_taken (take i es) + starts_in e.event ≤ n
 starts_within es i e n lt is le =
-    omega (arith, sum_by_more_le (λ (x : Entry). starts_in x.event) es i e lt, ap (λ (x : Entry). starts_in x.event) is)
+    omega (
+      arith,
+      sum_by_more_le (λ (x : Entry). starts_in x.event) es i e lt,
+      ap (λ (x : Entry). starts_in x.event) is,
+    )
 
-pub calls_step : (before : List Kept) (es : List Entry) (i : ℕ) (e : Entry) (cs : List (List ℕ)) (ss : List Start) →
+pub calls_step : (before : List Kept) (es : List Entry) (i : ℕ) (e : Entry) (cs : List (List ℕ))
+    (ss : List Start) →
     i < length es → e ≡ get_or es i e →
     (before ++ calls_of (take i es) cs ss)
     ++ call_of e (drop (counts_taken (take i es)) cs) (drop (starts_taken (take i es)) ss) ∷ []
@@ -216,21 +220,27 @@ calls_step before es i e cs ss lt is =
     ∙ calls_more (take i es) e cs ss))
 
 -- the room of a hand, by its fields
-pub has_room-is : (es : List Entry) (cs : List (List ℕ)) (ss : List Start) (room : Limits) (strange full : Bool) (c s : ℕ) →
+pub has_room-is : (es : List Entry) (cs : List (List ℕ)) (ss : List Start) (room : Limits)
+    (strange full : Bool) (c s : ℕ) →
     counts_taken es ≡ length cs → starts_taken es ≡ length ss →
     has_room (record { calls = calls_of es cs ss; room = room; strange = strange; full = full }) c s
-    ≡ (nat_lt (length es) room.events && nat_le (length cs + c) room.sweeps && nat_le (length ss + s) room.attempts)
+    ≡ (nat_lt (length es) room.events && nat_le (length cs + c) room.sweeps && nat_le
+    (length ss + s) room.attempts)
 has_room-is es cs ss room strange full c s cw sw k =
     nat_lt (length-calls es cs ss k) room.events
     && nat_le (all_counts-calls es cs ss cw k + c) room.sweeps
     && nat_le (all_starts-calls es cs ss sw k + s) room.attempts
 
-pub three_true : (a b c d e f : ℕ) → (nat_lt a b && nat_le c d && nat_le e f) ≡ true → (a < b) × (c ≤ d) × (e ≤ f)
+pub three_true : (a b c d e f : ℕ) → (nat_lt a b && nat_le c d && nat_le e f) ≡ true →
+    (a < b) × (c ≤ d) × (e ≤ f)
 three_true a b c d e f all = (grind (arith, nat_tests), grind (arith, nat_tests), grind (arith, nat_tests))
 
-pub room_of : (es : List Entry) (cs : List (List ℕ)) (ss : List Start) (room : Limits) (strange full : Bool) (hand : HandValue) (c s : ℕ) →
-    record { calls = calls_of es cs ss; room = room; strange = strange; full = full } ≡ hand → AreKept es cs ss room →
-    has_room hand c s ≡ true → (length es < room.events) × (length cs + c ≤ room.sweeps) × (length ss + s ≤ room.attempts)
+pub room_of : (es : List Entry) (cs : List (List ℕ)) (ss : List Start) (room : Limits) (strange full : Bool)
+    (hand : HandValue) (c s : ℕ) →
+    record { calls = calls_of es cs ss; room = room; strange = strange; full = full } ≡ hand →
+    AreKept es cs ss room →
+    has_room hand c s ≡ true → (length es < room.events) × (length cs + c ≤ room.sweeps)
+    × (length ss + s ≤ room.attempts)
 room_of es cs ss room strange full hand c s view kept_lists has =
     three_true (length es) room.events (length cs + c) room.sweeps (length ss + s) room.attempts
     (sym (has_room-is es cs ss room strange full c s kept_lists.counts_are kept_lists.starts_are)
@@ -250,15 +260,30 @@ pub third_is : (a b c d e f : ℕ) → a < b → c ≤ d → nat_le e f ≡ (nat
 third_is a b c d e f lt le = grind (arith, nat_tests)
 
 -- a call more, within the room
-pub kept_more : (es esNew : List Entry) (e : Entry) (cs csNew more : List (List ℕ)) (ss ssNew others : List Start) (room : Limits) →
+pub kept_more : (es esNew : List Entry) (e : Entry) (cs csNew more : List (List ℕ))
+    (ss ssNew others : List Start) (room : Limits) →
     esNew ≡ es ++ e ∷ [] → csNew ≡ cs ++ more → ssNew ≡ ss ++ others →
     length more ≡ counts_in e.event → length others ≡ starts_in e.event → IsPlace e.place →
-    (length es < room.events) × (length cs + counts_in e.event ≤ room.sweeps) × (length ss + starts_in e.event ≤ room.attempts) →
+    (length es < room.events) × (length cs + counts_in e.event ≤ room.sweeps)
+    × (length ss + starts_in e.event ≤ room.attempts) →
     AreKept es cs ss room → AreKept esNew csNew ssNew room
 kept_more es esNew e cs csNew more ss ssNew others room is cis sis m o place fits old = record {
-  places = subst (All (λ (x : Entry). IsPlace x.place)) (sym is) (All-push (λ (x : Entry). IsPlace x.place) es e old.places place);
-  counts_are = ap counts_taken is ∙ omega (arith, sum_by_push (λ (x : Entry). counts_in x.event) es e, ap length cis, length-append cs more, old.counts_are);
-  starts_are = ap starts_taken is ∙ omega (arith, sum_by_push (λ (x : Entry). starts_in x.event) es e, ap length sis, length-append ss others, old.starts_are);
+  places = subst (All (λ (x : Entry). IsPlace x.place)) (sym is)
+      (All-push (λ (x : Entry). IsPlace x.place) es e old.places place);
+  counts_are = ap counts_taken is ∙ omega (
+    arith,
+    sum_by_push (λ (x : Entry). counts_in x.event) es e,
+    ap length cis,
+    length-append cs more,
+    old.counts_are,
+  );
+  starts_are = ap starts_taken is ∙ omega (
+    arith,
+    sum_by_push (λ (x : Entry). starts_in x.event) es e,
+    ap length sis,
+    length-append ss others,
+    old.starts_are,
+  );
   few_events = omega (arith, ap length is, length-append es (e ∷ []), fits.0);
   few_counts = omega (arith, ap length cis, length-append cs more, fits.1);
   few_starts = omega (arith, ap length sis, length-append ss others, fits.2);
@@ -268,7 +293,8 @@ kept_more es esNew e cs csNew more ss ssNew others room is cis sis m o place fit
 pub call_there : (log : LogValue) (place : ℕ) (event : Event) → event_at log.history place ≡ Some event →
     call_at log place ≡ kept place event (counts_at log event) (starts_at log event) ∷ []
 call_there log place event at =
-    ap (λ (o : Option Event). option_map_or (λ e. kept place e (counts_at log e) (starts_at log e) ∷ []) o []) at
+    ap (λ (o : Option Event). option_map_or (λ e. kept place e (counts_at log e) (starts_at log e) ∷ []) o
+    []) at
 
 -- the starts of the first call
 abbrev pub first_starts : List Kept → List Start
@@ -278,3 +304,17 @@ first_starts (call ∷ calls) = call.starts
 -- a hand by its parts
 abbrev pub hand_from : List Kept → Limits → Bool → Bool → HandValue
 hand_from calls room strange full = record { calls = calls; room = room; strange = strange; full = full }
+
+-- the calls of a hand, by its entries, and of others
+pub length-all_calls : (hands others : List HandValue) (hand : HandValue) →
+    (es : List Entry) (cs : List (List ℕ)) (ss : List Start) →
+    hands ≡ hand ∷ others → calls_of es cs ss ≡ hand.calls →
+    length (all_calls hands) ≡ length es + length (all_calls others)
+length-all_calls hands others hand es cs ss is its =
+    omega (
+      arith,
+      ap (λ hs. length (all_calls hs)) is,
+      length-append hand.calls (all_calls others),
+      ap length its,
+      length-calls es cs ss,
+    )

@@ -1,8 +1,11 @@
 -- What a table of places says of calls.
-use Rattle.std.proofs.Common.{◌≡◌, ℕ, zero, suc, ◌+◌, ◌<◌, ◌≤◌, Bool, true, false, List, [], ◌∷◌, ◌++◌, length, set, get_or, All, IsTrue, Option, Some, None, refl, sym, ap, subst, ◌∙◌, arith, ◌==◌, ◌↔◌}
+use Rattle.std.proofs.Common.{◌≡◌, ℕ, zero, suc, ◌+◌, ◌<◌, ◌≤◌, Bool, true, false, List, [], ◌∷◌, ◌++◌}
+use Rattle.std.proofs.Common.{length, set, get_or, All, IsTrue, Option, Some, None, refl, sym, ap, subst, ◌∙◌}
+use Rattle.std.proofs.Common.{arith, ◌==◌, ◌↔◌}
 use Rattle.std.specs.Option.{option_map_or}
 use Rattle.std.specs.Prelude.{slice_get}
-use Rattle.std.proofs.lemmas.List.{append-nil, nil_from_length, length_push, get_or-set_same, get_or-set_other, get_or_default}
+use Rattle.std.proofs.lemmas.List.{append-nil, nil_from_length, length_push, get_or-set_same}
+use Rattle.std.proofs.lemmas.List.{get_or-set_other, get_or_default}
 use Rattle.std.proofs.lemmas.List.Elements.{filter-append}
 use Rattle.std.proofs.lemmas.Option.{slice_get_past}
 use Rattle.std.proofs.lemmas.Bool.Decides.{nat_tests}
@@ -14,7 +17,8 @@ use Rattle.hand_ledger.specs.declared.marks.Found.TheVariants.{Nowhere, Once, Wr
 use Rattle.hand_ledger.specs.declared.marks.TheConstants.{PLACES}
 use Rattle.hand_ledger.specs.Hands.{Kept, kept, HandValue}
 use Rattle.hand_ledger.specs.Marks.{Says, Marks, found_more, wanted, IsRight, IsWanted, IsFirstWrong}
-use Rattle.hand_ledger.specs.Settling.{LogValue, counts_at, starts_at, at_place, call_at, event_at, all_calls, AreTrue, Holds, IsLowestTorn}
+use Rattle.hand_ledger.specs.Settling.{LogValue, counts_at, starts_at, at_place, call_at, event_at, all_calls}
+use Rattle.hand_ledger.specs.Settling.{AreTrue, Holds, IsLowestTorn}
 
 -- at most one call stands at a place
 at_most_one : (f : Event → Kept) (o : Option Event) → length (option_map_or (λ e. f e ∷ []) o []) ≤ 1
@@ -38,7 +42,9 @@ some_call log (suc k) le within = just_one _ log.history k (omega arith)
 
 pub no_call : (log : LogValue) (place : ℕ) → length log.history < place → call_at log place ≡ []
 no_call log zero past = absurd (omega arith)
-no_call log (suc k) past = ap (λ (o : Option Event). option_map_or (λ event. kept (suc k) event (counts_at log event) (starts_at log event) ∷ []) o []) (slice_get_past log.history k (omega arith))
+no_call log (suc k) past =
+    ap (λ (o : Option Event). option_map_or (λ event. kept (suc k) event (counts_at log event)
+    (starts_at log event) ∷ []) o []) (slice_get_past log.history k (omega arith))
 
 -- a call more at a place
 pub says_more : (f : Found) (r : Bool) (calls ws : List Kept) (call : Kept) → length ws ≤ 1 →
@@ -78,30 +84,42 @@ at_same place before call is =
     filter-append (λ (c : Kept). c.place == place) before (call ∷ [])
     ∙ ap (λ l. at_place place before ++ l) (none_at place call is) ∙ append-nil (at_place place before)
 
-pub marks_more : (log : LogValue) (before : List Kept) (call : Kept) (found : List Found) (place : ℕ) (r : Bool) (old : Found) →
-    length found ≡ PLACES → place ≤ 65536 → call.place ≡ place → (IsTrue r ↔ (call_at log place ≡ call ∷ [])) →
+pub marks_more : (log : LogValue) (before : List Kept) (call : Kept) (found : List Found) (place : ℕ)
+    (r : Bool) (old : Found) →
+    length found ≡ PLACES → place ≤ 65536 → call.place ≡ place → (IsTrue r ↔ (call_at log place ≡ call ∷ []))
+    →
     old ≡ get_or found place old → Marks log before found →
     Marks log (before ++ call ∷ []) (set found place (found_more old r))
-marks_more log before call found place r old size small is right was marks = record { each = each; past = past }
+marks_more log before call found place r old size small is right was marks =
+    record { each = each; past = past }
   where
-    here : (d : Found) → Says (get_or (set found place (found_more old r)) place d) (at_place place (before ++ call ∷ [])) (call_at log place)
+    here : (d : Found) → Says (get_or (set found place (found_more old r)) place d)
+        (at_place place (before ++ call ∷ [])) (call_at log place)
     here d =
         subst (λ (f : Found). Says f (at_place place (before ++ call ∷ [])) (call_at log place))
         (sym (get_or-set_same found place (found_more old r) d (omega arith)))
-        (subst (λ (l : List Kept). Says (found_more old r) l (call_at log place)) (sym (at_more place before call is))
+        (subst (λ (l : List Kept). Says (found_more old r) l (call_at log place))
+        (sym (at_more place before call is))
         (says_more old r (at_place place before) (call_at log place) call (one_call log place) right
-        (subst (λ (f : Found). Says f (at_place place before) (call_at log place)) (sym was) (marks.each place old (omega arith)))))
+        (subst (λ (f : Found). Says f (at_place place before) (call_at log place)) (sym was)
+        (marks.each place old (omega arith)))))
 
     cases : (p : ℕ) (d : Found) → p < PLACES → Dec (p ≡ place) →
-        Says (get_or (set found place (found_more old r)) p d) (at_place p (before ++ call ∷ [])) (call_at log p)
-    cases p d lt (yes e) = subst (λ q. Says (get_or (set found place (found_more old r)) q d) (at_place q (before ++ call ∷ [])) (call_at log q)) (sym e) (here d)
+        Says (get_or (set found place (found_more old r)) p d) (at_place p (before ++ call ∷ []))
+        (call_at log p)
+    cases p d lt (yes e) =
+        subst (λ q. Says (get_or (set found place (found_more old r)) q d) (at_place q (before ++ call ∷ []))
+        (call_at log q)) (sym e) (here d)
     cases p d lt (no other) =
         subst (λ (f : Found). Says f (at_place p (before ++ call ∷ [])) (call_at log p))
         (sym (get_or-set_other found place p (found_more old r) d other))
-        (subst (λ (l : List Kept). Says (get_or found p d) l (call_at log p)) (sym (at_same p before call (λ q. other (sym q ∙ is))))
+        (subst (λ (l : List Kept). Says (get_or found p d) l (call_at log p))
+        (sym (at_same p before call (λ q. other (sym q ∙ is))))
         (marks.each p d lt))
 
-    each : (p : ℕ) (d : Found) → p < PLACES → Says (get_or (set found place (found_more old r)) p d) (at_place p (before ++ call ∷ [])) (call_at log p)
+    each : (p : ℕ) (d : Found) → p < PLACES →
+        Says (get_or (set found place (found_more old r)) p d) (at_place p (before ++ call ∷ []))
+        (call_at log p)
     each p d lt = cases p d lt (ℕ_discrete p place)
 
     past : (p : ℕ) → PLACES ≤ p → at_place p (before ++ call ∷ []) ≡ []
@@ -131,9 +149,6 @@ none_nowhere Wrong calls is says = absurd (says.0 is)
 wanted_in : (events place : ℕ) → 1 ≤ place → place ≤ events → wanted events place ≡ Once
 wanted_in events place low high = grind (arith, nat_tests)
 
-wanted_first : (events : ℕ) → wanted events 0 ≡ Nowhere
-wanted_first events = refl
-
 wanted_past : (events place : ℕ) → events < place → wanted events place ≡ Nowhere
 wanted_past events place past = grind (arith, nat_tests)
 
@@ -159,7 +174,8 @@ told_at log calls f place (Before is) says = at_zero place is says
   where
     at_zero : (p : ℕ) → p ≡ 0 → Says f (at_place p calls) (call_at log p) →
         (f ≡ wanted (length log.history) p) ↔ (at_place p calls ≡ call_at log p)
-    at_zero zero is says = (λ e. nowhere_none f (at_place 0 calls) e says, λ e. none_nowhere f (at_place 0 calls) e says)
+    at_zero zero is says =
+        (λ e. nowhere_none f (at_place 0 calls) e says, λ e. none_nowhere f (at_place 0 calls) e says)
     at_zero (suc k) is says = absurd (omega arith)
 told_at log calls f place (At low high) says =
     let one = some_call log place low high in
@@ -176,16 +192,19 @@ told_at log calls f place (After past) says =
     )
 
 -- so it holds exactly where it is right
-pub right_holds : (log : LogValue) (short notes : Bool) (hands : List HandValue) (found : List Found) (place : ℕ) →
+pub right_holds : (log : LogValue) (short notes : Bool) (hands : List HandValue) (found : List Found)
+    (place : ℕ) →
     place < PLACES → Marks log (all_calls hands) found → (IsTrue notes ↔ All (AreTrue short) hands) →
     IsRight (length log.history) notes found place → Holds log short hands place
 right_holds log short notes hands found place lt marks true_notes right = record {
-  told = (told_at log (all_calls hands) (get_or found place Nowhere) place (where_is (length log.history) place)
+  told = (told_at log (all_calls hands) (get_or found place Nowhere) place
+      (where_is (length log.history) place)
       (marks.each place Nowhere lt)).0 (right Nowhere).seen;
   notes = λ last. true_notes.0 ((right Nowhere).noted last);
 }
 
-pub holds_right : (log : LogValue) (short notes : Bool) (hands : List HandValue) (found : List Found) (place : ℕ) →
+pub holds_right : (log : LogValue) (short notes : Bool) (hands : List HandValue) (found : List Found)
+    (place : ℕ) →
     place < PLACES → Marks log (all_calls hands) found → (IsTrue notes ↔ All (AreTrue short) hands) →
     Holds log short hands place → IsRight (length log.history) notes found place
 holds_right log short notes hands found place lt marks true_notes holds d = record {
@@ -196,14 +215,16 @@ holds_right log short notes hands found place lt marks true_notes holds d = reco
 
 -- past all places nothing is told, and nothing is asked for
 pub past_holds : (log : LogValue) (short : Bool) (hands : List HandValue) (found : List Found) (place : ℕ) →
-    length log.history ≤ 65536 → PLACES ≤ place → Marks log (all_calls hands) found → Holds log short hands place
+    length log.history ≤ 65536 → PLACES ≤ place → Marks log (all_calls hands) found →
+    Holds log short hands place
 past_holds log short hands found place few past marks = record {
   told = marks.past place past ∙ sym (no_call log place (omega arith));
   notes = λ last. absurd (omega arith);
 }
 
 all_hold : (log : LogValue) (short notes : Bool) (hands : List HandValue) (found : List Found) (place : ℕ) →
-    length log.history ≤ 65536 → Marks log (all_calls hands) found → (IsTrue notes ↔ All (AreTrue short) hands) →
+    length log.history ≤ 65536 → Marks log (all_calls hands) found →
+    (IsTrue notes ↔ All (AreTrue short) hands) →
     ((p : ℕ) → p < PLACES → IsRight (length log.history) notes found p) → Dec (PLACES ≤ place) →
     Holds log short hands place
 all_hold log short notes hands found place few marks true_notes all (yes past) =
@@ -212,15 +233,18 @@ all_hold log short notes hands found place few marks true_notes all (no within) 
     let lt : place < PLACES = omega arith in
     right_holds log short notes hands found place lt marks true_notes (all place lt)
 
-pub lowest_torn : (log : LogValue) (short notes : Bool) (hands : List HandValue) (found : List Found) (torn : Option ℕ) →
-    length log.history ≤ 65536 → Marks log (all_calls hands) found → (IsTrue notes ↔ All (AreTrue short) hands) →
+pub lowest_torn : (log : LogValue) (short notes : Bool) (hands : List HandValue) (found : List Found)
+    (torn : Option ℕ) →
+    length log.history ≤ 65536 → Marks log (all_calls hands) found →
+    (IsTrue notes ↔ All (AreTrue short) hands) →
     IsFirstWrong (length log.history) notes found torn →
     IsLowestTorn log short hands torn
 lowest_torn log short notes hands found None few marks true_notes all =
     λ place. all_hold log short notes hands found place few marks true_notes all (dec_le PLACES place)
 lowest_torn log short notes hands found (Some t) few marks true_notes is = (
   λ holds. is.1 (holds_right log short notes hands found t is.0 marks true_notes holds),
-  λ place lt. right_holds log short notes hands found place (omega (arith, is.0)) marks true_notes (is.2 place lt),
+  λ place lt. right_holds log short notes hands found place (omega (arith, is.0)) marks true_notes
+      (is.2 place lt),
 )
 
 -- a table in which nothing was found

@@ -1,5 +1,6 @@
 -- What a hand keeps of the calls of its thread.
-use Rattle.std.specs.Prelude.{ℕ, ◌+◌, ◌&&◌, ◌||◌, nat_le, nat_lt, Bool, true, List, [], ◌∷◌, ◌++◌, length, Option, Some, None}
+use Rattle.std.specs.Prelude.{ℕ, ◌+◌, ◌&&◌, ◌||◌, nat_le, nat_lt, Bool, true, List, [], ◌∷◌, ◌++◌, length}
+use Rattle.std.specs.Prelude.{Option, Some, None}
 use Rattle.std.specs.List.{sum_by}
 use Rattle.master_state.specs.declared.answers.Why.{Why}
 use Rattle.master_state.specs.declared.answers.Why.TheVariants.{HistoryFull, StrangeHand}
@@ -8,7 +9,8 @@ use Rattle.master_state.specs.declared.events.Event.TheVariants.{Wave, Sweep}
 use Rattle.master_state.specs.declared.states.Limits.{Limits}
 use Rattle.master_state.specs.declared.states.Start.{Start}
 
--- an accepted call: its place in the history and its event, with the counts of a sweep or the starts of a wave
+-- an accepted call: its place in the history and its event, with the counts of a sweep or the starts of a
+-- wave
 pub record Kept : Type 0 where
   pub place : ℕ
   pub event : Event

@@ -1,5 +1,6 @@
 -- What has been found at each place.
-use Rattle.std.specs.Prelude.{ℕ, ◌≡◌, ◌+◌, ◌<◌, ◌≤◌, ◌&&◌, nat_le, Bool, true, List, [], length, Option, Some, None, if◌then◌else◌, slice_index_or}
+use Rattle.std.specs.Prelude.{ℕ, ◌≡◌, ◌+◌, ◌<◌, ◌≤◌, ◌&&◌, nat_le, Bool, true, List, [], length, Option, Some}
+use Rattle.std.specs.Prelude.{None, if◌then◌else◌, slice_index_or}
 use Rattle.hand_ledger.specs.declared.marks.Found.{Found}
 use Rattle.hand_ledger.specs.declared.marks.Found.TheVariants.{Nowhere, Once, Wrong}
 use Rattle.hand_ledger.specs.declared.marks.TheConstants.{PLACES}

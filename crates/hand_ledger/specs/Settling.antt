@@ -1,5 +1,6 @@
 -- When a history is made of the calls of hands.
-use Rattle.std.specs.Prelude.{ℕ, ◌≡◌, ◌<◌, Bool, true, false, All, ◌+◌, ◌-◌, ◌==◌, zero, suc, List, [], ◌∷◌, length, take, drop, filter, Option, None, Some, slice_get}
+use Rattle.std.specs.Prelude.{ℕ, ◌≡◌, ◌<◌, Bool, true, false, All, ◌+◌, ◌-◌, ◌==◌, zero, suc, List, [], ◌∷◌}
+use Rattle.std.specs.Prelude.{length, take, drop, filter, Option, None, Some, slice_get}
 use Rattle.std.specs.List.{flat_map}
 use Rattle.std.specs.Option.{option_map_or}
 use Rattle.master_state.specs.declared.events.Event.{Event}

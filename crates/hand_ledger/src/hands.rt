@@ -1,9 +1,11 @@
-ghost use Rattle.std.specs.Prelude.{◌≡◌, ◌+◌, ◌<◌, ◌≤◌, ◌↔◌, List, [], ◌∷◌, ◌++◌, true, false, length, vec_len, vec_capacity, IsTrue, IfOk, OnOk, OnErr};
-ghost use Rattle.hand_ledger.specs.Hands.{HandValue, Kept, kept, counts_in, starts_in, has_room, last_event, noted, with_call};
+ghost use Rattle.std.specs.Prelude.{◌≡◌, ◌+◌, ◌<◌, ◌≤◌, ◌↔◌, List, [], ◌∷◌, ◌++◌, true, false, length};
+ghost use Rattle.std.specs.Prelude.{vec_len, vec_capacity, IsTrue, IfOk, OnOk, OnErr};
+ghost use Rattle.hand_ledger.specs.Hands.{HandValue, Kept, kept, counts_in, starts_in, has_room, last_event};
+ghost use Rattle.hand_ledger.specs.Hands.{noted, with_call};
 ghost use Rattle.hand_ledger.specs.Inside.{IsPlace};
 ghost use Rattle.hand_ledger.specs.Marks.{Marks};
 ghost use Rattle.hand_ledger.specs.declared.marks.TheConstants.{PLACES};
-ghost use Rattle.hand_ledger.specs.Settling.{AreTrue, Stands};
+ghost use Rattle.hand_ledger.specs.Settling.{AreTrue, Stands, all_calls};
 
 use crate::logs::{Log, event_at};
 use crate::marks::{Found, mark_all};
@@ -40,9 +42,17 @@ impl<L: Ledger> Model for Hand<L> {
 
     ghost use Rattle.hand_ledger.specs.Inside.{calls_of, AreKept};
 
-    ghost view = { λ h. record { calls = calls_of h.entries.items h.counts.items h.starts.items; room = h.room; strange = h.strange; full = h.full } };
+    ghost view = { λ h. record {
+      calls = calls_of h.entries.items h.counts.items h.starts.items;
+      room = h.room;
+      strange = h.strange;
+      full = h.full;
+    } };
 
-    ghost invariant = { λ h. (h.share.parts ≡ 1) × (h.share.amount ≡ length h.entries.items) × AreKept h.entries.items h.counts.items h.starts.items h.room × (h.room.events ≤ vec_capacity h.entries) × (h.room.sweeps ≤ vec_capacity h.counts) × (h.room.attempts ≤ vec_capacity h.starts) };
+    ghost invariant = { λ h. (h.share.parts ≡ 1) × (h.share.amount ≡ length h.entries.items)
+        × AreKept h.entries.items h.counts.items h.starts.items h.room
+        × (h.room.events ≤ vec_capacity h.entries) × (h.room.sweeps ≤ vec_capacity h.counts)
+        × (h.room.attempts ≤ vec_capacity h.starts) };
 }
 
 impl<L: Ledger> Hand<L> {
@@ -50,7 +60,12 @@ impl<L: Ledger> Hand<L> {
     pub fn new(alloc: Global, rest: &mut Share<L>, room: Limits) -> Result<Hand<L>, AllocError>
         requires part { 1 ≤ rest.old.parts }
         requires amount { rest.old.amount ≡ 0 }
-        ensures value { IfOk result (λ h. h ≡ record { calls = []; room = room; strange = false; full = false }) }
+        ensures value { IfOk result (λ h. h ≡ record {
+          calls = [];
+          room = room;
+          strange = false;
+          full = false;
+        }) }
         ensures parts { OnOk result (rest.new.parts + 1 ≡ rest.old.parts) }
         ensures amount { rest.new.amount ≡ 0 }
         ensures err { OnErr result (rest.new ≡ rest.old) }
@@ -195,6 +210,29 @@ pub fn are_few<L: Ledger>(hands: &mut [Hand<L>], rest: &mut Share<L>)
     hand.share.give(rest, 1, calls);
     are_few(others, rest);
     rest.give(&mut hand.share, 1, calls);
+}
+
+/// A law of the hands that exist at one time: with the amount of a share that is no hand's, they have no more
+/// calls than the book counts, and just as many where with its parts they have the whole ledger. Nothing
+/// changes.
+pub fn audit<L: Ledger>(book: &mut Book<L>, hands: &mut [Hand<L>], rest: &mut Share<L>)
+    requires { 1 ≤ rest.old.parts }
+    ensures bound { rest.old.amount + length (all_calls hands.old) ≤ book.old.total }
+    ensures whole { length hands.old + rest.old.parts ≡ L.parts
+        → rest.old.amount + length (all_calls hands.old) ≡ book.old.total }
+    ensures total { book.new.total ≡ book.old.total }
+    ensures hands { hands.new ≡ hands.old }
+    ensures parts { rest.new.parts ≡ rest.old.parts }
+    ensures amount { rest.new.amount ≡ rest.old.amount }
+{
+    let Some((hand, others)) = hands.split_first_mut() else {
+        book.audit(rest);
+        return;
+    };
+    let kept = hand.entries.len() as u64;
+    hand.share.give(rest, 1, kept);
+    audit(book, others, rest);
+    rest.give(&mut hand.share, 1, kept);
 }
 
 // Puts elements behind those of a list with room for them.

@@ -12,6 +12,6 @@ pub mod logs;
 mod marks;
 pub mod settling;
 
-pub use hands::{Hand, are_few};
+pub use hands::{Hand, are_few, audit};
 pub use logs::Log;
 pub use settling::torn_place;

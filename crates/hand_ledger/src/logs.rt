@@ -19,7 +19,11 @@ impl<'a> Model for Log<'a> {
 
     ghost Value = { LogValue };
 
-    ghost view = { λ log. record { history = log.history.now; starts = log.starts.now; sweeps = log.sweeps.now } };
+    ghost view = { λ log. record {
+      history = log.history.now;
+      starts = log.starts.now;
+      sweeps = log.sweeps.now;
+    } };
 }
 
 impl<'a> Log<'a> {
@@ -43,7 +47,9 @@ impl<'a> Log<'a> {
 
     // Whether the call of an entry, with these counts and starts, is the one that stands at its place.
     pub(crate) fn has(&self, entry: &Entry, counts: &[[u64; 256]], starts: &[Start]) -> bool
-        ensures { IsTrue result ↔ (call_at self.now entry.now.place ≡ kept entry.now.place entry.now.event counts.now starts.now ∷ []) }
+        ensures { IsTrue result
+            ↔ (call_at self.now entry.now.place ≡ kept entry.now.place entry.now.event counts.now starts.now
+            ∷ []) }
     {
         let Some(event) = self.event_at(entry.place) else {
             return false;

@@ -4,11 +4,12 @@ use Rattle.std.specs.List.{All, enumerate_from, range_with_len}
 use Rattle.std.proofs.lemmas.List.{length-map}
 use Rattle.std.proofs.lemmas.List.Elements.{All-map}
 use Rattle.line_shapes.specs.Lines.{Statement}
-use Rattle.line_shapes.specs.declared.keyword.Keyword.TheVariants.{Busy, Dead, Doc, Parts, Rack, Silence, Split}
+use Rattle.line_shapes.specs.declared.keyword.Keyword.TheVariants.{Busy, Dead, Doc, Parts, Rack, Silence}
+use Rattle.line_shapes.specs.declared.keyword.Keyword.TheVariants.{Split}
 use Rattle.line_shapes.specs.declared.keyword.Keyword.TheVariants.{Worker}
 use Rattle.line_rules.specs.Known.{rows_of}
 use Rattle.rack_tree.specs.Tree.{Tree}
-use Rattle.wave_problem.specs.Wave.{AreHeldWell, AreSmallSplits, IsSmall}
+use Rattle.wave_problem.specs.Wave.{AreHeldWell, AreSmallSplits}
 use Rattle.wave_problem.specs.Wave as wave
 use Rattle.word_map.specs.Texts.{SplitDocuments}
 use Rattle.word_map.specs.declared.text.Document.{Document}
@@ -44,7 +45,8 @@ module _ (rows : List Statement) (tidy : AreTidy rows) (head : Head) (makes : Ma
       ap (λ (t : Tree). length t.rack_of) makes.tree
       ∙ length-map (rows_of Worker rows) (rack_number (names_of Rack rows))
 
-  in_order : map (λ text. text.split) (values_of head.texts.items) ≡ range_with_len 0 (length head.splits.items)
+  in_order : map (λ text. text.split) (values_of head.texts.items)
+      ≡ range_with_len 0 (length head.splits.items)
   in_order =
       let lists = map (documents_of (rows_of Doc rows)) (names_of Split rows) in
       ap (map (λ (text : SplitDocuments). text.split)) makes.texts ∙ texts_in_order 0 lists

@@ -1,6 +1,7 @@
 -- The documents of each split, one line more.
 use Rattle.std.proofs.Common.{ℕ, List, [], ◌∷◌, ◌++◌, ◌≡◌, ◌≢◌, ◌<◌, ◌+◌, ◌∙◌, Bool, true, false}
-use Rattle.std.proofs.Common.{Vec, inl, inr, ap, append-nil, arith, cond, get_or, length, map, refl, replicate}
+use Rattle.std.proofs.Common.{Vec, inl, inr, ap, append-nil, arith, cond, get_or, length, map, refl}
+use Rattle.std.proofs.Common.{replicate}
 use Rattle.std.proofs.Common.{set, sym}
 use Rattle.std.specs.List.{AllPairs, Contains, enumerate_from, filter}
 use Rattle.std.specs.Str.{bytes_eq}
@@ -63,7 +64,8 @@ module _ (names : List Word) (lines : List Statement) (line : Statement) (lists 
     (before : items_of lists ≡ map (documents_of lines) names) (was_is : was ≡ get_or lists split was)
     (now_is : now.items ≡ was.items ++ document_of (length lines, line) ∷ []) where
   size : length lists ≡ length names
-  size = sym (length-map lists (λ list. list.items)) ∙ ap length before ∙ length-map names (documents_of lines)
+  size = sym (length-map lists (λ list. list.items)) ∙ ap length before
+      ∙ length-map names (documents_of lines)
 
   inside : split < length names
   inside = rw number (number_within names (word_at 1 line) known)
@@ -96,7 +98,8 @@ module _ (names : List Word) (lines : List Statement) (line : Statement) (lists 
       ∙ sym (documents_more lines line (get_or names split []) true ((bytes_eq-Decides _ _).1 named))
 
   at_each : (k : ℕ) (d : List Document) → k < length (items_of (set lists split now))
-      → get_or (items_of (set lists split now)) k d ≡ get_or (map (documents_of (lines ++ line ∷ [])) names) k d
+      → get_or (items_of (set lists split now)) k d ≡ get_or (map (documents_of (lines ++ line ∷ [])) names)
+      k d
   at_each k d low =
       let lt : k < length names =
       omega (

@@ -33,7 +33,8 @@ names_differ k by rows differ =
     (λ i j d lt inside same.
     let a : Statement = get_or (rows_of k rows) i d in
     let b : Statement = get_or (rows_of k rows) j d in
-    apart i j d lt inside (key_by_word k by a (keyword_of k a (filter_passes (is_of k) rows i d (omega arith)))
+    apart i j d lt inside
+    (key_by_word k by a (keyword_of k a (filter_passes (is_of k) rows i d (omega arith)))
     ∙ ap (λ w. (k, w, [])) same
     ∙ sym (key_by_word k by b (keyword_of k b (filter_passes (is_of k) rows j d inside)))))
 

@@ -11,7 +11,8 @@ use Rattle.plan_text.proofs.Tidy.{kept-after, tidy-none}
 pub few-read : (purpose : Purpose) (text : List ℕ) (k : Known) → IsAllRead purpose text k
     → length (rows_of Doc k.rows) ≤ 65536
 few-read purpose text k read =
-    let kept = kept-after (known_at purpose []) (take (length read.statements) (lines_of text)) read.statements
+    let kept = kept-after (known_at purpose []) (take (length read.statements) (lines_of text))
+    read.statements
     read.fit (tidy-none purpose) in
     subst (λ (j : Known). length (rows_of Doc j.rows) ≤ 65536)
     (known_after purpose read.statements ∙ sym read.known) (kept.few Doc)

@@ -1,11 +1,12 @@
 -- A text for each list of documents, one list more.
-use Rattle.std.proofs.Common.{ℕ, List, [], ◌∷◌, ◌++◌, ◌≡◌, ◌≤◌, ◌+◌, ◌∙◌, Vec, ap, append_assoc, arith, length}
+use Rattle.std.proofs.Common.{ℕ, List, ◌++◌, ◌≡◌, ◌≤◌, ◌+◌, ◌∙◌, Vec, ap, arith}
+use Rattle.std.proofs.Common.{length}
 use Rattle.std.proofs.Common.{length-append, map}
 use Rattle.std.specs.Arc.{arc_value}
 use Rattle.std.specs.List.{enumerate_from}
 use Rattle.std.specs.declared.alloc.Global.{Global}
 use Rattle.std.specs.declared.sync.Arc.{Arc}
-use Rattle.std.proofs.lemmas.List.{length-map, length_push, map-append}
+use Rattle.std.proofs.lemmas.List.{length-map}
 use Rattle.std.proofs.lemmas.List.FromFn.{length-enumerate_from}
 use Rattle.word_map.specs.Texts.{SplitDocuments}
 use Rattle.word_map.specs.declared.text.Document.{Document}
@@ -38,15 +39,3 @@ shared_few made left lists shared =
       length-map made (λ (text : Arc SplitDocuments Global). arc_value text),
       length-texts_from 0 lists,
     )
-
-pub shared_more : (made : List (Arc SplitDocuments Global)) (left lists : List (Vec Document Global))
-    (documents : Vec Document Global) (text : Arc SplitDocuments Global)
-    → AreShared made (documents ∷ left) lists
-    → arc_value text ≡ text_of (length made, documents.items) → AreShared (made ++ text ∷ []) left lists
-shared_more made left lists documents text shared is =
-    ap (λ l. l ++ texts_from (length (made ++ text ∷ [])) left)
-    (map-append (λ (t : Arc SplitDocuments Global). arc_value t) made (text ∷ []))
-    ∙ append_assoc (values_of made) (arc_value text ∷ []) (texts_from (length (made ++ text ∷ [])) left)
-    ∙ ap (λ n. values_of made ++ arc_value text ∷ texts_from n left) (length_push made text)
-    ∙ ap (λ t. values_of made ++ t ∷ texts_from (length made + 1) left) is
-    ∙ shared

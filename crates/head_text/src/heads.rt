@@ -1,9 +1,12 @@
 ghost use Rattle.std.specs.Prelude.{◌≡◌, ◌≤◌, IfOk, length, map, All};
-ghost use Rattle.line_shapes.specs.declared.keyword.Keyword.TheVariants.{Doc};
+ghost use Rattle.line_shapes.specs.declared.keyword.Keyword.TheVariants.{Busy, Centre, Doc, Parts, Rack};
+ghost use Rattle.line_shapes.specs.declared.keyword.Keyword.TheVariants.{Silence, Split, Worker};
 ghost use Rattle.line_rules.specs.Known.{rows_of as lines_of};
-ghost use Rattle.plan_text.specs.Names.{said_in, word_at};
+ghost use Rattle.plan_text.specs.Names.{names_of as said_names, said_in, word_at};
 ghost use Rattle.plan_text.specs.Tidy.{AreTidy, IsAtMost};
+ghost use Rattle.plan_text.specs.Value.{split_line, tree_of};
 ghost use Rattle.head_text.specs.Heads.{IsFitHead, MakesHead, slots_told};
+ghost use Rattle.head_text.specs.Settings.{setting};
 
 use crate::documents::build_texts;
 use crate::settings::setting_of;
@@ -39,22 +42,67 @@ pub fn build_head(alloc: Global, rows: &Rows<'_>) -> Result<Head, AllocError>
     ensures value { IfOk result (MakesHead rows.now) }
     ensures fit { IfOk result IsFitHead }
 {
-    let worker_rows = rows_of(alloc, rows, Keyword::Worker)?;
-    let workers = names_of(alloc, rows, Keyword::Worker)?;
-    let tree = build_tree(alloc, rows, &worker_rows)?;
-    let slots = build_slots(alloc, &worker_rows)?;
-    let splits = build_split_lines(alloc, rows, &workers)?;
+    let settings = build_settings(alloc, rows)?;
+    let stood = build_workers(alloc, rows)?;
+    let splits = build_splits(alloc, rows)?;
     let texts = build_texts(alloc, rows)?;
-    let parts = setting_of(alloc, rows, Keyword::Parts, 1)?;
-    let silence = setting_of(alloc, rows, Keyword::Silence, 3)?;
     Ok(Head {
-        tree,
-        slots,
+        tree: stood.tree,
+        slots: stood.slots,
         splits,
         texts,
+        parts: settings.parts,
+        silence: settings.silence,
+    })
+}
+
+#[derive(Clone, Copy)]
+struct Settings {
+    parts: usize,
+    silence: u32,
+}
+
+fn build_settings(alloc: Global, rows: &Rows<'_>) -> Result<Settings, AllocError>
+    requires { AreTidy rows.now }
+    ensures parts { IfOk result (λ settings. settings.parts ≡ setting Parts 1 rows.now) }
+    ensures silence { IfOk result (λ settings. settings.silence ≡ setting Silence 3 rows.now) }
+{
+    let parts = setting_of(alloc, rows, Keyword::Parts, 1)?;
+    let silence = setting_of(alloc, rows, Keyword::Silence, 3)?;
+    Ok(Settings {
         parts: parts as usize,
         silence: silence as u32,
     })
+}
+
+// The workers' slots, and the racks in which they stand.
+#[derive(Drop)]
+struct Standing {
+    tree: RackTree,
+    slots: Vec<u8>,
+}
+
+fn build_workers(alloc: Global, rows: &Rows<'_>) -> Result<Standing, AllocError>
+    requires { AreTidy rows.now }
+    ensures tree { IfOk result (λ stood. stood.tree
+        ≡ tree_of (said_names Centre rows.now) (lines_of Rack rows.now) (lines_of Worker rows.now)) }
+    ensures slots { IfOk result (λ stood. stood.slots.items ≡ map slots_told (lines_of Worker rows.now)) }
+{
+    let worker_rows = rows_of(alloc, rows, Keyword::Worker)?;
+    let slots = build_slots(alloc, &worker_rows)?;
+    let tree = build_tree(alloc, rows, &worker_rows)?;
+    Ok(Standing { tree, slots })
+}
+
+// The splits with their first holders.
+fn build_splits(alloc: Global, rows: &Rows<'_>) -> Result<Vec<SplitLine>, AllocError>
+    requires { AreTidy rows.now }
+    ensures { IfOk result (λ splits. splits.items
+        ≡ map (split_line (said_names Worker rows.now) (said_names Busy rows.now))
+        (lines_of Split rows.now)) }
+{
+    let workers = names_of(alloc, rows, Keyword::Worker)?;
+    build_split_lines(alloc, rows, &workers)
 }
 
 // The slots of each worker, by number.

@@ -19,7 +19,8 @@ use Rattle.job_run.specs.declared.player.PlayError.{PlayError}
 use Rattle.job_run.specs.declared.player.PlayError.TheVariants.{HistoryFull, Memory}
 
 -- a head makes the cluster that its rows declare
-pub same_cluster : (rows : List Statement) (head : Head) → MakesHead rows head → cluster_in head ≡ cluster_of rows
+pub same_cluster : (rows : List Statement) (head : Head) → MakesHead rows head →
+    cluster_in head ≡ cluster_of rows
 same_cluster rows head makes = λ i. record {
   tree = makes.tree i;
   slots = makes.slots i;
@@ -57,7 +58,8 @@ full_in_playing why (Ok x) is full = absurd is
 full_in_playing Memory (Err e) is full = cc
 full_in_playing HistoryFull (Err e) is full = refl
 
-pub few_and_small : (head : Head) → IsFitHead head → AreFewAndSmall head.slots.items head.splits.items head.parts
+pub few_and_small : (head : Head) → IsFitHead head →
+    AreFewAndSmall head.slots.items head.splits.items head.parts
 few_and_small head is = record {
   few_slots = is.few_slots;
   small_splits = is.small_splits;

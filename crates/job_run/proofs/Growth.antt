@@ -1,5 +1,7 @@
 -- How many events and attempts commands make.
-use Rattle.std.proofs.Common.{◌≡◌, ℕ, ◌+◌, ◌-◌, ◌*◌, ◌<◌, ◌≤◌, true, List, [], ◌∷◌, ◌++◌, Option, Some, None, length, refl, sym, ap, ◌∙◌, subst, arith, All, cond, min, take, drop, get_or, length-append, inl, inr}
+use Rattle.std.proofs.Common.{◌≡◌, ℕ, ◌+◌, ◌-◌, ◌*◌, ◌<◌, ◌≤◌, true, List, [], ◌∷◌, ◌++◌, Option, Some, None}
+use Rattle.std.proofs.Common.{length, refl, sym, ap, ◌∙◌, subst, arith, All, cond, min, take, drop, get_or}
+use Rattle.std.proofs.Common.{length-append, inl, inr}
 use Rattle.std.specs.Prelude.{fold, filter, zip, count_by}
 use Rattle.std.specs.List.{range_with_len}
 use Rattle.std.proofs.lemmas.Bool.{leb-true, ltb-true, or_cases}
@@ -16,14 +18,16 @@ use Rattle.master_state.specs.declared.states.Start.{Start}
 use Rattle.master_state.specs.declared.states.Work.{Work}
 use Rattle.master_state.specs.declared.states.Work.TheVariants as works
 use Rattle.master_state.specs.States.{Cluster, Setup, State, start_of}
-use Rattle.master_state.specs.Refusals.{Call, has_no_room, is_full, MapDone, MapFailed, Withdraw, Die, Join, Add, Lose, Sweep, ReduceStart, PartDone, PartFailed, Backup}
+use Rattle.master_state.specs.Refusals.{Call, has_no_room, is_full, MapDone, MapFailed, Withdraw, Die, Join}
+use Rattle.master_state.specs.Refusals.{Add, Lose, Sweep, ReduceStart, PartDone, PartFailed, Backup}
 use Rattle.master_state.specs.Steps.{problem_of, split_line}
 use Rattle.master_state.specs.Changes.{after, died, split_started}
 use Rattle.master_state.specs.Jobs.{Job, Answers}
 use Rattle.script_text.specs.declared.script.Names.{Names}
 use Rattle.script_text.specs.declared.script.Command.{Command}
 use Rattle.script_text.specs.declared.script.Command.TheVariants as command
-use Rattle.job_run.specs.Reports.{IsTold, Performs, PerformsAll, Does, DoesWork, Fails, FailsWork, Waves, LacksRoom, opening_job}
+use Rattle.job_run.specs.Reports.{IsTold, Performs, PerformsAll, Does, DoesWork, Fails, FailsWork, Waves}
+use Rattle.job_run.specs.Reports.{LacksRoom, opening_job}
 use Rattle.job_run.specs.Playing.{PerformedAll}
 use Rattle.job_run.specs.Rooms.{RunsOut, attempts_for, is_wave, starts_one, setup_for}
 use Rattle.job_run.specs.declared.rooms.TheConstants.{MAX_ATTEMPTS}
@@ -46,7 +50,8 @@ started_events s [] = refl
 started_events s (pair ∷ pairs) = started_events (split_started s pair.0 pair.1) pairs
 
 started_count : (s : State) (pairs : List (ℕ × ℕ)) →
-    length (fold (λ now pair. split_started now pair.0 pair.1) s pairs).starts ≡ length s.starts + length pairs
+    length (fold (λ now pair. split_started now pair.0 pair.1) s pairs).starts ≡ length s.starts
+    + length pairs
 started_count s [] = omega arith
 started_count s (pair ∷ pairs) =
     let more = started_count (split_started s pair.0 pair.1) pairs in
@@ -88,7 +93,8 @@ adds_after s (Sweep counts) =
     let heard : State = record s { workers = swept s.workers counts; sweeps = s.sweeps ++ counts ∷ [] } in
     let dead = filter (is_silent (swept s.workers counts))
     (range_with_len 0 (length (swept s.workers counts).each)) in
-    adds_none s (after s (Sweep counts)) (ap (λ (n : ℕ). n + 1) (died_events heard dead)) (died_starts heard dead)
+    adds_none s (after s (Sweep counts)) (ap (λ (n : ℕ). n + 1) (died_events heard dead))
+    (died_starts heard dead)
 adds_after s ReduceStart = adds_one s (after s ReduceStart) _ _ refl refl
 adds_after s (PartDone a result) = adds_none s (after s (PartDone a result)) refl refl
 adds_after s (PartFailed a) = adds_none s (after s (PartFailed a)) refl refl
@@ -184,7 +190,8 @@ no_more old new few many most made =
     record { events = made.events; starts = omega (arith, most, made.starts) }
 
 adds : (names : Names) (target : ℕ) (old new : Job) (c : Command) (out : List ℕ) →
-    Performs names target old c out new → Adds old.state new.state (allowed (length old.setup.cluster.splits) c)
+    Performs names target old c out new →
+    Adds old.state new.state (allowed (length old.setup.cluster.splits) c)
 adds names target old new command.Wave out done =
     no_more _ _ (length old.setup.cluster.splits) _ (omega arith) (adds_wave names old new out done)
 adds names target old new (command.Done a) out done =
@@ -263,7 +270,8 @@ adds_all names target old new (c ∷ commands) out done =
     }
 
 -- where a wave is full, not even the greatest number of attempts is enough
-pub too_many : (cluster : Cluster) (script : Script) (job : Job) (before later : List Command) (out : List ℕ) →
+pub too_many : (cluster : Cluster) (script : Script) (job : Job) (before later : List Command) (out : List ℕ)
+    →
     script.commands.items ≡ before ++ command.Wave ∷ later →
     PerformsAll script.names script.target (opening_job (setup_for cluster script)) before out job →
     job.setup ≡ setup_for cluster script → (lacks : LacksRoom job) →
@@ -288,15 +296,22 @@ too_many cluster script job before later out are performs same lacks =
     let full : has_no_room setup job.state count ≡ true =
     subst (λ (s : Setup). has_no_room s job.state count ≡ true) same lacks.full in
     elim (or_cases (is_full setup job.state) _ full) [
-      | inl over ↦ absurd (omega (arith, leb-true (length commands) job.state.events over, all.events, events))
+      | inl over ↦ absurd (omega (
+        arith,
+        leb-true (length commands) job.state.events over,
+        all.events,
+        events,
+      ))
       | inr short ↦
-          let past = ltb-true (min MAX_ATTEMPTS (attempts_for splits commands)) (length job.state.starts + count)
+          let past = ltb-true (min MAX_ATTEMPTS (attempts_for splits commands)) (length job.state.starts
+          + count)
           short in
           omega (arith, past, all.starts, few, total)
     ]
 
 -- a wave that lacks room, after the commands before it
-pub runs_out : (script : Script) (commands : List Command) (first job : Job) (i : ℕ) (c : Command) (a b : List ℕ) →
+pub runs_out : (script : Script) (commands : List Command) (first job : Job) (i : ℕ) (c : Command)
+    (a b : List ℕ) →
     commands ≡ script.commands.items → first ≡ opening_job (setup_for first.setup.cluster script) →
     i < length commands → c ≡ get_or commands i c → c ≡ command.Wave → job.setup ≡ first.setup →
     PerformedAll script.names script.target first (take i commands) a b job → LacksRoom job →

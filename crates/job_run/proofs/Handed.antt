@@ -1,5 +1,6 @@
 -- Results that are handed in, and attempts that run no more.
-use Rattle.std.proofs.Common.{◌≡◌, ℕ, zero, suc, ◌<◌, List, [], length, true, false, not, Some, refl, ap, ◌∙◌, subst, arith}
+use Rattle.std.proofs.Common.{◌≡◌, ℕ, zero, suc, ◌<◌, List, [], length, true, false, not, Some, refl, ap, ◌∙◌}
+use Rattle.std.proofs.Common.{subst, arith}
 use Rattle.std.proofs.lemmas.List.{length-map}
 use Rattle.std.proofs.lemmas.List.FromFn.{length-range_with_len}
 use Rattle.std.proofs.lemmas.Option.{get_or_from_slice_get, slice_get_within, none-some}
@@ -27,7 +28,8 @@ pub text_inside : (job : Job) (a split w : ℕ) → IsKept job →
     split < length job.setup.cluster.texts
 text_inside job a split w kept start =
     let known : split < length job.setup.cluster.splits =
-    (start_known job.setup job.state a (record { work = works.Split split; worker = w }) kept.tidy start).work in
+    (start_known job.setup job.state a (record { work = works.Split split; worker = w }) kept.tidy
+    start).work in
     omega (
       arith,
       known,

@@ -1,5 +1,6 @@
 -- What no command changes, and which runs stay in the table.
-use Rattle.std.proofs.Common.{◌≡◌, ◌≢◌, ◌⊎◌, inl, inr, ℕ, List, [], ◌∷◌, ◌++◌, Option, Some, None, refl, sym, ap, ◌∙◌, subst, All}
+use Rattle.std.proofs.Common.{◌≡◌, ◌≢◌, ◌⊎◌, inl, inr, ℕ, List, [], ◌∷◌, ◌++◌, Option, Some, None, refl, sym}
+use Rattle.std.proofs.Common.{ap, ◌∙◌, subst, All}
 use Rattle.std.specs.Prelude.{fold, filter, length}
 use Rattle.std.specs.List.{range_with_len}
 use Rattle.std.proofs.lemmas.List.Elements.{All-push}
@@ -11,7 +12,8 @@ use Rattle.master_state.specs.declared.states.Start.{Start}
 use Rattle.master_state.specs.declared.states.Work.{Work}
 use Rattle.master_state.specs.declared.states.Work.TheVariants as works
 use Rattle.master_state.specs.States.{Setup, State, start_of}
-use Rattle.master_state.specs.Refusals.{Call, MapDone, MapFailed, Withdraw, Die, Join, Add, Lose, Sweep, ReduceStart, PartDone, PartFailed, Backup}
+use Rattle.master_state.specs.Refusals.{Call, MapDone, MapFailed, Withdraw, Die, Join, Add, Lose, Sweep}
+use Rattle.master_state.specs.Refusals.{ReduceStart, PartDone, PartFailed, Backup}
 use Rattle.master_state.specs.Changes.{after, died, split_started}
 use Rattle.master_state.specs.Jobs.{Job, Answers}
 use Rattle.script_text.specs.declared.script.Names.{Names}
@@ -65,7 +67,8 @@ have_after setup table s (Backup split w) other have =
 
 pub record Keeps (old new : Job) : Type 0 where
   pub setup : new.setup ≡ old.setup
-  pub have : (table : List Runs) → Have old.setup table old.state.starts → Have old.setup table new.state.starts
+  pub have : (table : List Runs) → Have old.setup table old.state.starts →
+      Have old.setup table new.state.starts
 
 keeps_same : (old new : Job) → new ≡ old → Keeps old new
 keeps_same old new same = record {
@@ -121,7 +124,8 @@ keeps_wave names old new out waves = record {
 keeps : (names : Names) (target : ℕ) (old new : Job) (c : Command) (out : List ℕ) → c ≢ command.Reduce →
     Performs names target old c out new → Keeps old new
 keeps names target old new command.Wave out other done = keeps_wave names old new out done
-keeps names target old new (command.Done a) out other done = keeps_done old new a (start_of old.state a) out done
+keeps names target old new (command.Done a) out other done =
+    keeps_done old new a (start_of old.state a) out done
 keeps names target old new (command.Fail a) out other done =
     keeps_failed old new a (start_of old.state a) out done
 keeps names target old new (command.Withdraw a) out other done =
@@ -131,8 +135,10 @@ keeps names target old new (command.Backup s w) out other done =
 keeps names target old new (command.Die w) out other done = keeps_told old new (Die w) _ out (λ e. cc) done
 keeps names target old new (command.Join w splits) out other done =
     keeps_told old new (Join w _) _ out (λ e. cc) done
-keeps names target old new (command.Add s w) out other done = keeps_told old new (Add s w) _ out (λ e. cc) done
-keeps names target old new (command.Lose s w) out other done = keeps_told old new (Lose s w) _ out (λ e. cc) done
+keeps names target old new (command.Add s w) out other done =
+    keeps_told old new (Add s w) _ out (λ e. cc) done
+keeps names target old new (command.Lose s w) out other done =
+    keeps_told old new (Lose s w) _ out (λ e. cc) done
 keeps names target old new (command.Sweep counts) out other done =
     keeps_told old new (Sweep _) _ out (λ e. cc) done
 keeps names target old new command.Reduce out other done = absurd (other refl)

@@ -1,5 +1,6 @@
 -- Commands that are performed one after another.
-use Rattle.std.proofs.Common.{◌≡◌, ℕ, ◌+◌, ◌<◌, Some, List, [], ◌∷◌, ◌++◌, length, get_or, take, refl, sym, ap, ◌∙◌, subst, append_assoc, append-nil}
+use Rattle.std.proofs.Common.{◌≡◌, ℕ, ◌+◌, ◌<◌, Some, List, [], ◌∷◌, ◌++◌, length, get_or, take, refl, sym}
+use Rattle.std.proofs.Common.{ap, ◌∙◌, subst, append_assoc, append-nil}
 use Rattle.std.specs.Prelude.{slice_get}
 use Rattle.std.proofs.lemmas.List.{take_more}
 use Rattle.std.proofs.lemmas.Option.{get_or_from_slice_get, slice_get_within}
@@ -11,7 +12,8 @@ use Rattle.job_run.specs.Playing.{Performed, PerformedAll}
 
 performs_more : (names : Names) (target : ℕ) (old mid new : Job) (commands : List Command) (c : Command)
     (front back : List ℕ) → PerformsAll names target old commands front mid →
-    Performs names target mid c back new → PerformsAll names target old (commands ++ c ∷ []) (front ++ back) new
+    Performs names target mid c back new →
+    PerformsAll names target old (commands ++ c ∷ []) (front ++ back) new
 performs_more names target old mid new [] c front back h step = (
   new,
   back,
@@ -28,11 +30,6 @@ performs_more names target old mid new (d ∷ commands) c front back h step = (
   performs_more names target h.0 mid new commands c h.2 back h.4 step,
   ap (λ (lines : List ℕ). lines ++ back) h.5 ∙ append_assoc h.1 h.2 back,
 )
-
-pub performed_none : (names : Names) (target : ℕ) (old : Job) (text : List ℕ) →
-    PerformedAll names target old [] text text old
-performed_none names target old text =
-    record { out = []; performs = (refl, refl); written = sym (append-nil text) }
 
 pub performed_more : (names : Names) (target : ℕ) (old mid new : Job) (commands : List Command) (i : ℕ)
     (c : Command) (a b d : List ℕ) → i < length commands → c ≡ get_or commands i c →

@@ -1,5 +1,6 @@
 -- The runs of a part that is started.
-use Rattle.std.proofs.Common.{ℕ, ◌<◌, List, [], ◌∷◌, ◌++◌, length, sym, ap, ◌∙◌, subst, arith, All, inl, inr, length-set, get_or-set_same, get_or-set_other}
+use Rattle.std.proofs.Common.{ℕ, ◌<◌, List, [], ◌∷◌, ◌++◌, length, sym, ap, ◌∙◌, subst, arith, All, inl, inr}
+use Rattle.std.proofs.Common.{length-set, get_or-set_same, get_or-set_other}
 use Rattle.std.specs.Prelude.{slice_set}
 use Rattle.std.proofs.lemmas.Bool.{cases_eq}
 use Rattle.std.proofs.lemmas.List.Elements.{All-push}
@@ -30,7 +31,8 @@ pub holds_put : (old new : Job) (table : List Runs) (place : ℕ) (reply : Reply
 holds_put old new table place reply is accepted inside holds =
     let setup = old.setup in
     let now : List Runs = slice_set table reply.part reply.runs.items in
-    let are : AreRunsFor setup reply.part reply.runs.items = record { of_part = is.of_part; texts = is.texts } in
+    let are : AreRunsFor setup reply.part reply.runs.items =
+    record { of_part = is.of_part; texts = is.texts } in
     let start : Start = record { work = works.Part (next_part old.state); worker = next_worker old.state } in
     let here : HasRuns setup now (works.Part reply.part) =
     rw (get_or-set_same table reply.part reply.runs.items [] inside) are in

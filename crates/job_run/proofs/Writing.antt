@@ -1,5 +1,6 @@
 -- The lines of one command, written after what stood there.
-use Rattle.std.proofs.Common.{◌≡◌, ◌≢◌, ℕ, List, ◌++◌, Option, Some, None, refl, sym, ap, ◌∙◌, inl, inr, subst, append_assoc}
+use Rattle.std.proofs.Common.{◌≡◌, ◌≢◌, ℕ, List, ◌++◌, Option, Some, None, refl, sym, ap, ◌∙◌, inl, inr}
+use Rattle.std.proofs.Common.{subst, append_assoc}
 use Rattle.std.proofs.lemmas.List.{append-nil}
 use Rattle.master_state.specs.declared.answers.Answer.{Answer}
 use Rattle.master_state.specs.declared.answers.Answer.TheVariants as answer
@@ -15,13 +16,14 @@ use Rattle.master_state.specs.declared.states.Work.TheVariants as works
 use Rattle.master_state.specs.States.{start_of, next_attempt}
 use Rattle.master_state.specs.Tests.{next_part, next_worker}
 use Rattle.master_state.specs.Refusals.{Call, MapDone, MapFailed, PartDone, PartFailed, ReduceStart, Sweep}
-use Rattle.master_state.specs.Jobs.{Job, Answers, AnswersWith, AnswersBackup, AnswersReduce, AnswersSweep, IsAccepted, IsReply, died_in}
+use Rattle.master_state.specs.Jobs.{Job, Answers, AnswersWith, AnswersBackup, AnswersReduce, AnswersSweep}
+use Rattle.master_state.specs.Jobs.{IsAccepted, IsReply, died_in}
 use Rattle.node_ids.specs.Sets.{has_number}
 use Rattle.script_text.specs.declared.script.Names.{Names}
-use Rattle.script_text.specs.declared.script.Command.{Command}
 use Rattle.script_text.specs.declared.script.Command.TheVariants as command
-use Rattle.report_lines.specs.Lines.{accepted_line, answer_line, backup_line, dead_line, dead_lines, ignored_line, numbers_of, reduce_line}
-use Rattle.job_run.specs.Reports.{IsTold, Does, DoesSplit, DoesPart, Fails, Performs, alone, deaths, told}
+use Rattle.report_lines.specs.Lines.{accepted_line, answer_line, backup_line, dead_line, dead_lines}
+use Rattle.report_lines.specs.Lines.{ignored_line, numbers_of, reduce_line}
+use Rattle.job_run.specs.Reports.{IsTold, Does, DoesSplit, DoesPart, Fails, alone, deaths, told}
 use Rattle.job_run.specs.Handing.{HandsSplit, HandsPart, answer_from}
 use Rattle.job_run.specs.Playing.{IsAnswered, Performed}
 use Rattle.job_run.proofs.Telling.{those_agree}
@@ -35,7 +37,8 @@ is_told : (old new : Job) (call : Call) (given : Answer) → Answers old call gi
 is_told old new call given answers = record { answer = given; answers = answers; out_is = told_alone given }
 
 -- the line of an answer is all that is told of a call that wants no more
-pub answered : (old new : Job) (call : Call) (given : Answer) (before now : List ℕ) → Answers old call given new →
+pub answered : (old new : Job) (call : Call) (given : Answer) (before now : List ℕ) →
+    Answers old call given new →
     now ≡ before ++ answer_line given → IsAnswered old call alone before now new
 answered old new call given before now answers written =
     record { out = answer_line given; is_told = is_told old new call given answers; written = written }
@@ -205,19 +208,3 @@ sweep_ignored names old new counts dead why before now answers written = record 
   is_told = record { answer = answer.Ignored why; answers = answers.answer; out_is = refl };
   written = written;
 }
-
-pub performed_answered : (names : Names) (target : ℕ) (old new : Job) (c : Command) (call : Call)
-    (after : Answer → List ℕ) (before now : List ℕ) → IsAnswered old call after before now new →
-    ((out : List ℕ) → IsTold old call after out new → Performs names target old c out new) →
-    Performed names target old c before now new
-performed_answered names target old new c call after before now answered reads =
-    record { out = answered.out; performs = reads answered.out answered.is_told; written = answered.written }
-
--- a command whose call is answered by one line
-pub performed_plain : (names : Names) (target : ℕ) (old new : Job) (c : Command) (call : Call) (given : Answer)
-    (before now : List ℕ) →
-    ((out : List ℕ) → IsTold old call alone out new → Performs names target old c out new) →
-    Answers old call given new → now ≡ before ++ answer_line given → Performed names target old c before now new
-performed_plain names target old new c call given before now reads answers written =
-    performed_answered names target old new c call alone before now
-    (answered old new call given before now answers written) reads

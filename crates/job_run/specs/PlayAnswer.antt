@@ -3,7 +3,8 @@ use Rattle.std.specs.Prelude.{ℕ, List, ⊤, ◌≡◌, Ok, Err, map}
 use Rattle.std.specs.declared.result.Result.{Result}
 use Rattle.text_lines.specs.declared.fault.TextFault.{TextFault}
 use Rattle.line_shapes.specs.Lines.{Statement}
-use Rattle.line_shapes.specs.declared.keyword.Keyword.TheVariants.{Busy, Centre, Parts, Rack, Silence, Split, Worker}
+use Rattle.line_shapes.specs.declared.keyword.Keyword.TheVariants.{Busy, Centre, Parts, Rack, Silence, Split}
+use Rattle.line_shapes.specs.declared.keyword.Keyword.TheVariants.{Worker}
 use Rattle.line_rules.specs.Known.{Known, rows_of}
 use Rattle.line_rules.specs.Reading.{IsAllRead}
 use Rattle.line_rules.specs.declared.purpose.Purpose.TheVariants.{Playing}

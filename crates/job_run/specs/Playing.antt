@@ -23,7 +23,8 @@ pub record Performed (names : Names) (target : ℕ) (old : Job) (c : Command) (b
   pub written : now ≡ before ++ out
 
 -- some commands are performed
-pub record PerformedAll (names : Names) (target : ℕ) (old : Job) (commands : List Command) (before now : List ℕ)
+pub record PerformedAll (names : Names) (target : ℕ) (old : Job) (commands : List Command)
+    (before now : List ℕ)
     (new : Job) : Type 0 where
   pub out : List ℕ
   pub performs : PerformsAll names target old commands out new

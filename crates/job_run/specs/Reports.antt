@@ -1,5 +1,6 @@
 -- What the report of a script may be. A relation: which best wave is started stays free.
-use Rattle.std.specs.Prelude.{ℕ, ◌≡◌, ◌+◌, ◌-◌, ◌≤◌, ◌<◌, true, false, List, [], ◌∷◌, ◌++◌, length, fold, replicate, All, Option, Some, None}
+use Rattle.std.specs.Prelude.{ℕ, ◌≡◌, ◌+◌, ◌-◌, true, false, List, [], ◌∷◌, ◌++◌, length, fold}
+use Rattle.std.specs.Prelude.{replicate, Option, Some, None}
 use Rattle.node_ids.specs.Sets.{no_splits, with_number}
 use Rattle.wave_problem.specs.Assignment.{IsBest, pairs_of}
 use Rattle.word_map.specs.Entries.{EntryView}
@@ -17,7 +18,8 @@ use Rattle.master_state.specs.declared.states.Work.{Work}
 use Rattle.master_state.specs.declared.states.Work.TheVariants as work
 use Rattle.master_state.specs.States.{Setup, next_attempt, opening, start_of}
 use Rattle.master_state.specs.Tests.{all_parts_done, next_part, next_worker}
-use Rattle.master_state.specs.Refusals.{Call, MapDone, MapFailed, Withdraw, Die, Join, Add, Lose, Sweep, ReduceStart, PartDone, PartFailed, Backup, has_no_room, text_of}
+use Rattle.master_state.specs.Refusals.{Call, MapDone, MapFailed, Withdraw, Die, Join, Add, Lose, Sweep}
+use Rattle.master_state.specs.Refusals.{ReduceStart, PartDone, PartFailed, Backup, has_no_room, text_of}
 use Rattle.master_state.specs.Steps.{IsLegal, problem_of}
 use Rattle.master_state.specs.Jobs.{Job, Answers, IsCommitted, died_in}
 use Rattle.script_text.specs.Commands.{IsKnownIn}
@@ -25,7 +27,9 @@ use Rattle.script_text.specs.declared.script.Names.{Names}
 use Rattle.script_text.specs.declared.script.Script.{Script}
 use Rattle.script_text.specs.declared.script.Command.{Command}
 use Rattle.script_text.specs.declared.script.Command.TheVariants as command
-use Rattle.report_lines.specs.Lines.{accepted_line, ignored_line, wave_line, started_line, backup_line, reduce_line, dead_line, copy_lines, index_lines, stuck_lines, lines_of_those, numbers_of}
+use Rattle.report_lines.specs.Lines.{accepted_line, ignored_line, wave_line, started_line, backup_line}
+use Rattle.report_lines.specs.Lines.{reduce_line, dead_line, copy_lines, index_lines, stuck_lines}
+use Rattle.report_lines.specs.Lines.{lines_of_those, numbers_of}
 use Rattle.job_run.specs.declared.player.PlayEnd.{PlayEnd}
 use Rattle.job_run.specs.declared.player.PlayEnd.TheVariants as finish
 
@@ -35,7 +39,8 @@ told (answer.Accepted place) after = accepted_line place ++ after
 told (answer.Ignored why) after = ignored_line why
 
 -- the call is answered as the machine says, and told so
-pub record IsTold (old : Job) (call : Call) (after : Answer → List ℕ) (out : List ℕ) (new : Job) : Type 0 where
+pub record IsTold (old : Job) (call : Call) (after : Answer → List ℕ) (out : List ℕ)
+    (new : Job) : Type 0 where
   pub answer : Answer
   pub answers : Answers old call answer new
   pub out_is : out ≡ told answer (after answer)
@@ -62,7 +67,8 @@ pub record Waves (names : Names) (old : Job) (out : List ℕ) (new : Job) : Type
   pub plan : List (Option ℕ)
   pub wave : Wave
   pub committed : IsCommitted old plan wave new
-  pub out_is : out ≡ accepted_line wave.place ++ wave_line wave.count wave.cost ++ start_lines names wave.first (pairs_of plan)
+  pub out_is : out ≡ accepted_line wave.place ++ wave_line wave.count wave.cost
+      ++ start_lines names wave.first (pairs_of plan)
 
 -- ---- completions and failures
 
@@ -114,7 +120,8 @@ deaths names old counts answer =
 
 pub record Copies (names : Names) (target : ℕ) (old : Job) (out : List ℕ) (new : Job) : Type 0 where
   pub orders : List CopyOrder
-  pub are_copies : AreCopies (holdings old.state.workers old.setup.cluster.tree old.state.holders target) orders
+  pub are_copies : AreCopies (holdings old.state.workers old.setup.cluster.tree old.state.holders target)
+      orders
   pub out_is : out ≡ copy_lines names.splits names.workers orders
   pub unchanged : new ≡ old
 
@@ -127,14 +134,16 @@ Performs names target old (command.Withdraw a) out new = IsTold old (Withdraw a)
 Performs names target old (command.Backup s w) out new =
     IsTold old (Backup s w) (λ _. backup_line names.splits names.workers (next_attempt old.state) s w) out new
 Performs names target old (command.Die w) out new = IsTold old (Die w) alone out new
-Performs names target old (command.Join w splits) out new = IsTold old (Join w (set_of splits.items)) alone out new
+Performs names target old (command.Join w splits) out new =
+    IsTold old (Join w (set_of splits.items)) alone out new
 Performs names target old (command.Add s w) out new = IsTold old (Add s w) alone out new
 Performs names target old (command.Lose s w) out new = IsTold old (Lose s w) alone out new
 Performs names target old (command.Sweep counts) out new =
     IsTold old (Sweep (padded counts.items)) (deaths names old (padded counts.items)) out new
 Performs names target old command.Reduce out new =
     IsTold old ReduceStart
-    (λ _. reduce_line names.workers (next_attempt old.state) (next_part old.state) (next_worker old.state)) out new
+    (λ _. reduce_line names.workers (next_attempt old.state) (next_part old.state) (next_worker old.state))
+    out new
 Performs names target old command.Copies out new = Copies names target old out new
 
 -- one command after another
@@ -168,7 +177,8 @@ pub record IsReport (setup : Setup) (script : Script) (finish : PlayEnd) (out : 
   pub ends : Ends script.names last finish ending
   pub out_is : out ≡ answers ++ ending
 
--- the command names workers and splits of the cluster of the job, and gives no more counts than there may be workers
+-- the command names workers and splits of the cluster of the job, and gives no more counts than there may be
+-- workers
 abbrev pub IsKnownCommand : Setup → Command → Type 0
 IsKnownCommand setup c = IsKnownIn (length setup.cluster.slots) (length setup.cluster.splits) c
 

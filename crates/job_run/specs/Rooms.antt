@@ -1,5 +1,6 @@
 -- The room that a script needs.
-use Rattle.std.specs.Prelude.{ℕ, ◌≡◌, ◌≤◌, ◌+◌, ◌*◌, ◌<◌, ◌++◌, ◌∷◌, Bool, true, false, Option, List, length, min, count_by, All}
+use Rattle.std.specs.Prelude.{ℕ, ◌≡◌, ◌≤◌, ◌+◌, ◌*◌, ◌<◌, ◌++◌, ◌∷◌, Bool, true, false, Option, List, length}
+use Rattle.std.specs.Prelude.{min, count_by, All}
 use Rattle.wave_problem.specs.Assignment.{IsBest, pairs_of}
 use Rattle.master_state.specs.declared.states.Limits.{Limits}
 use Rattle.master_state.specs.States.{Cluster, Setup}
@@ -50,7 +51,8 @@ pub record IsScriptFor (setup : Setup) (script : Script) : Type 0 where
   pub known : All (IsKnownCommand setup) script.commands.items
   pub few : length script.commands.items ≤ MAX_COMMANDS
 
--- A legal history answers the commands before a wave, and leaves fewer of the greatest number of attempts than
+-- A legal history answers the commands before a wave, and leaves fewer of the greatest number of attempts
+-- than
 -- some best plan starts there.
 pub record RunsOut (cluster : Cluster) (script : Script) : Type 0 where
   pub before : List Command
@@ -59,7 +61,8 @@ pub record RunsOut (cluster : Cluster) (script : Script) : Type 0 where
   pub out : List ℕ
   pub job : Job
   pub legal : IsLegal job.setup job.history job.state
-  pub performs : PerformsAll script.names script.target (opening_job (setup_for cluster script)) before out job
+  pub performs : PerformsAll script.names script.target (opening_job (setup_for cluster script)) before out
+      job
   pub plan : List (Option ℕ)
   pub best : IsBest (problem_of job.setup job.state) (pairs_of plan)
   pub too_many : MAX_ATTEMPTS < length job.state.starts + length (pairs_of plan)

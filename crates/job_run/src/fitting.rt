@@ -7,8 +7,8 @@ use master_core::Cluster;
 use node_ids::SplitNo;
 use script_text::{Command, Script};
 
-/// Whether the script is one for the cluster: it names its workers and splits, its commands know no others, and
-/// they are not too many.
+/// Whether the script is one for the cluster: it names its workers and splits, its commands know no others,
+/// and they are not too many.
 pub fn fits(cluster: &Cluster, script: &Script<'_>) -> bool
     ensures { IsTrue result ↔ IsScriptFor (setup_for cluster.now script.now) script.now }
 {

@@ -27,7 +27,8 @@ pub(crate) fn done(
     lines: &mut String,
 ) -> Result<(), AllocError>
     requires { HoldsRuns given.now master.old }
-    ensures { (names : Names) (target : ℕ) → OnOk result (Performed names target master.old (command.Done attempt)
+    ensures { (names : Names) (target : ℕ) →
+        OnOk result (Performed names target master.old (command.Done attempt)
         (string_bytes lines.old) (string_bytes lines.new) master.new) }
 {
     match master.start(attempt) {
@@ -123,7 +124,8 @@ pub(crate) fn fail(
     attempt: AttemptNo,
     lines: &mut String,
 ) -> Result<(), AllocError>
-    ensures { (names : Names) (target : ℕ) → OnOk result (Performed names target master.old (command.Fail attempt)
+    ensures { (names : Names) (target : ℕ) →
+        OnOk result (Performed names target master.old (command.Fail attempt)
         (string_bytes lines.old) (string_bytes lines.new) master.new) }
 {
     match master.start(attempt) {

@@ -12,8 +12,8 @@ pub const MAX_COMMANDS: usize = 65_536;
 /// The most attempts that a master has room for.
 pub const MAX_ATTEMPTS: usize = 1_000_000;
 
-/// The room that the commands need on so many splits: an event for each, and an attempt for each split at each
-/// wave, for each backup and for each reduce.
+/// The room that the commands need on so many splits: an event for each, and an attempt for each split at
+/// each wave, for each backup and for each reduce.
 pub fn limits_for(splits: usize, commands: &[Command]) -> Limits
     requires splits { splits ≤ MAX_SPLITS }
     requires commands { length commands.now ≤ MAX_COMMANDS }

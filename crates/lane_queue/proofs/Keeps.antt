@@ -1,5 +1,7 @@
 -- Each step keeps the rule of the lane.
-use Rattle.std.proofs.Common.{◌≡◌, ◌≢◌, ℕ, zero, suc, ◌+◌, ◌-◌, ◌*◌, ◌^◌, ◌<◌, Bool, true, false, ◌&&◌, List, [], ◌∷◌, ◌++◌, length, set, refl, sym, ap, ◌∙◌, subst, ⊎_elim, arith, append_assoc}
+use Rattle.std.proofs.Common.{◌≡◌, ◌≢◌, ℕ, zero, suc, ◌+◌, ◌-◌, ◌*◌, ◌^◌, ◌<◌, Bool, true, false, ◌&&◌, List}
+use Rattle.std.proofs.Common.{[], ◌∷◌, ◌++◌, length, set, refl, sym, ap, ◌∙◌, subst, ⊎_elim, arith}
+use Rattle.std.proofs.Common.{append_assoc}
 use Rattle.std.proofs.lemmas.Nat.{pow-add}
 use Rattle.std.proofs.lemmas.List.Sums.{sum_by-append}
 use Rattle.std.specs.List.{sum_by}
@@ -11,11 +13,12 @@ use Rattle.view_sums.proofs.Sums.{sum_by-set, sum_alone, sum_scaled, sum_by-one}
 use Rattle.view_sums.proofs.Each.{each_set, each_snoc}
 use Rattle.lane_queue.specs.declared.order.Order.{Order}
 use Rattle.lane_queue.specs.declared.view.View.{View}
-use Rattle.lane_queue.specs.Orders.{IsSub, is_alone}
+use Rattle.lane_queue.specs.Orders.{is_alone}
 use Rattle.lane_queue.specs.Rule.{weight, Fits, Balanced}
 use Rattle.lane_queue.specs.Steps.{hand, putting, taking, deeper, both, Totals}
 use Rattle.lane_queue.proofs.Subs.{sub_longer, sub_both, sub_whole, sub_alone}
-use Rattle.lane_queue.proofs.Parts.{scale, whole_at, no_parts, deeper_sum, deeper_within, within_more, within_both, not_deeper}
+use Rattle.lane_queue.proofs.Parts.{scale, whole_at, no_parts, deeper_sum, deeper_within, within_more}
+use Rattle.lane_queue.proofs.Parts.{within_both, not_deeper}
 
 -- one order more, at the end of both
 pub puts : (n port : ℕ) (v : View) (x : Order) → 0 < length v.depths
@@ -43,7 +46,12 @@ puts n port v x has items views room h at =
         each = each_set (Fits (h.sent ++ x ∷ []) h.got h.depth) views port w
             (λ j u _ e.
             let was = h.each j u e in
-            record { subs = λ o. (sub_longer u.puts h.sent x (was.subs o).0, (was.subs o).1); within = was.within; spent = was.spent })
+            record {
+              subs = λ o. (sub_longer u.puts h.sent x (was.subs o).0, (was.subs o).1);
+              within =
+                  was.within;
+              spent = was.spent;
+            })
             record {
               subs = λ o. (sub_both v.puts h.sent x (old.subs o).0, (old.subs o).1);
               within = old.within;
@@ -77,7 +85,12 @@ takes port v has x items views h at =
         each = each_set (Fits h.sent (h.got ++ x ∷ []) h.depth) views port w
             (λ j u _ e.
             let was = h.each j u e in
-            record { subs = λ o. ((was.subs o).0, sub_longer u.takes h.got x (was.subs o).1); within = was.within; spent = was.spent })
+            record {
+              subs = λ o. ((was.subs o).0, sub_longer u.takes h.got x (was.subs o).1);
+              within =
+                  was.within;
+              spent = was.spent;
+            })
             record {
               subs = λ o. ((old.subs o).0, sub_both v.takes h.got x (old.subs o).1);
               within = old.within;

@@ -1,5 +1,6 @@
 -- The parts of a lane: a pass whose part was halved so often has 2 ^ -depth of it.
-use Rattle.std.proofs.Common.{◌≡◌, ℕ, ◌+◌, ◌-◌, ◌*◌, ◌/◌, ◌^◌, ◌<◌, ◌≤◌, List, [], ◌∷◌, ◌++◌, length, refl, sym, ap, ◌∙◌, arith, mul_comm}
+use Rattle.std.proofs.Common.{◌≡◌, ℕ, ◌+◌, ◌-◌, ◌*◌, ◌/◌, ◌^◌, ◌<◌, ◌≤◌, List, [], ◌∷◌, ◌++◌, length, refl}
+use Rattle.std.proofs.Common.{sym, ap, ◌∙◌, arith, mul_comm}
 use Rattle.std.proofs.lemmas.Nat.{pow-add, pow_pos}
 use Rattle.std.proofs.Math.Nat.{mul-div_cancel_left}
 use Rattle.std.proofs.lemmas.List.Sums.{sum_by-append, sum_by-cons, sum_by_push}
@@ -71,7 +72,12 @@ not_deeper (d ∷ ds) e = absurd (omega (arith, ap length e))
 
 -- the part of a pass that was never shared is the whole
 pub undivided : (d : ℕ) → d ≡ 0 → IsWhole (d ∷ [])
-undivided d e = record { most = 0; within = (omega arith, tt); sum = ap (λ n. sum_by (λ x. 2 ^ (0 - x)) (n ∷ [])) e }
+undivided d e = record {
+  most = 0;
+  within = (omega arith, tt);
+  sum =
+      ap (λ n. sum_by (λ x. 2 ^ (0 - x)) (n ∷ [])) e;
+}
 
 within_shared : (most : ℕ) (before after : List ℕ) (d : ℕ) → AreWithin most (before ++ d ∷ after)
     → (d ≤ most) × AreWithin (most + 1) (before ++ (d + 1) ∷ (after ++ (d + 1) ∷ []))
@@ -92,7 +98,8 @@ shared_whole before after d w =
     let f : ℕ → ℕ = λ e. 2 ^ (m + 1 - e) in
     let within = within_shared m before after d w.within in
     let le : d ≤ m = within.0 in
-    let was : sum_by f (before ++ d ∷ after) ≡ 2 ^ 1 * 2 ^ m = scale m 1 (before ++ d ∷ after) w.within ∙ ap (λ n. 2 ^ 1 * n) w.sum in
+    let was : sum_by f (before ++ d ∷ after) ≡ 2 ^ 1 * 2 ^ m =
+    scale m 1 (before ++ d ∷ after) w.within ∙ ap (λ n. 2 ^ 1 * n) w.sum in
     let up : 2 ^ (m + 1) ≡ 2 ^ m * 2 ^ 1 = pow-add 2 m 1 in
     let whole : m + 1 - d ≡ (m - d) + 1 = omega arith in
     let half : m + 1 - (d + 1) ≡ m - d = omega arith in

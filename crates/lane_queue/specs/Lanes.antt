@@ -17,7 +17,8 @@ pub record PassValue : Type 0 where
   pub takes : List Order
   pub depth : ℕ
 
--- What a pass knows of the orders that stood in the lane at one moment: one that was never shared knows them all
+-- What a pass knows of the orders that stood in the lane at one moment: one that was never shared knows them
+-- all
 abbrev pub Knows : PassValue → List Order → Type 0
 Knows pass items = pass.depth ≡ 0 → pass.puts ≡ pass.takes ++ items
 
@@ -45,7 +46,8 @@ abbrev pub AreWithin : ℕ → List ℕ → Type 0
 AreWithin most [] = Unit {0}
 AreWithin most (d ∷ ds) = (d ≤ most) × AreWithin most ds
 
--- Parts of these depths make up the whole lane, so no other pass was made. It is counted in parts of the depth most.
+-- Parts of these depths make up the whole lane, so no other pass was made. It is counted in parts of the
+-- depth most.
 pub record IsWhole (depths : List ℕ) : Type 0 where
   pub most : ℕ
   pub within : AreWithin most depths

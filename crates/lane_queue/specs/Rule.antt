@@ -12,7 +12,8 @@ use Rattle.lane_queue.specs.Lanes.{AreWithin}
 abbrev pub weight : ℕ → View → ℕ
 weight depth v = sum_by (λ d. 2 ^ (depth - d)) v.depths
 
--- what a pass put and took is among what was sent and what was got, in their order; one with no part did neither
+-- what a pass put and took is among what was sent and what was got, in their order; one with no part did
+-- neither
 pub record Fits (sent got : List Order) (depth : ℕ) (v : View) : Type 0 where
   pub subs : v.ordered ≡ true → IsSub v.puts sent × IsSub v.takes got
   pub within : AreWithin depth v.depths

@@ -140,9 +140,9 @@ impl Lane {
         self.queue.pop_as::<TakeStep, R>(rt, &mut pass.token)
     }
 
-    /// Ends the lane, and answers what was left in it, however many of its passes come. What they know settles
-    /// it where they are all that were made: where their parts make up the whole lane. Orders can only be taken
-    /// with a pass, so where none comes the lane comes back.
+    /// Ends the lane, and answers what was left in it, however many of its passes come. What they know
+    /// settles it where they are all that were made: where their parts make up the whole lane. Orders can
+    /// only be taken with a pass, so where none comes the lane comes back.
     pub fn close<R: Wait>(
         self,
         rt: &R,

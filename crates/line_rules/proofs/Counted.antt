@@ -1,5 +1,5 @@
 -- The counts of the rows of the keywords that have a limit.
-use Rattle.std.proofs.Common.{ℕ, List, ◌++◌, ◌≡◌, ◌≢◌, ◌+◌, ◌<◌, ◌≤◌, length, ap, refl, arith, length-append}
+use Rattle.std.proofs.Common.{ℕ, List, ◌++◌, ◌≡◌, ◌+◌, ◌<◌, ◌≤◌, length, ap, refl, arith, length-append}
 use Rattle.std.proofs.lemmas.List.Elements.{filter-append}
 use Rattle.text_lines.specs.Texts.{Word}
 use Rattle.line_shapes.specs.Lines.{Statement}
@@ -11,49 +11,12 @@ use Rattle.line_shapes.specs.declared.keyword.Keyword.TheVariants.{Begin, Wave, 
 use Rattle.line_shapes.specs.declared.keyword.Keyword.TheVariants.{Join, Add, Lose, Sweep, Reduce, Copies}
 use Rattle.line_shapes.specs.declared.keyword.Keyword.TheVariants.{Backup, End}
 use Rattle.line_rules.specs.Counts.{AreCounts, count_in, one_if}
-use Rattle.line_rules.specs.Entering.{entered_of, entering_of, most_of, most_workers}
-use Rattle.line_rules.specs.Faults.{HasRoom}
-use Rattle.line_rules.specs.Known.{is_of, rows_of}
+use Rattle.line_rules.specs.Entering.{entered_of, most_of, most_workers}
+use Rattle.line_rules.specs.Faults.{HasRoom, counted_of}
+use Rattle.line_rules.specs.Known.{Known, is_of, rows_of}
 use Rattle.line_rules.specs.declared.counts.Counts.{Counts}
-use Rattle.line_rules.specs.declared.entering.Entering.TheVariants.{InTurn}
 use Rattle.line_rules.specs.declared.purpose.Purpose.{Purpose}
 use Rattle.line_rules.specs.declared.purpose.Purpose.TheVariants.{Checking, Planning, Playing, Running}
-
--- where there is room by the counts there is room by the rows
-pub same_room : (purpose : Purpose) (c : Counts) (rows : List Statement) (k : Keyword) → AreCounts c rows
-    → entering_of k ≢ InTurn
-    → HasRoom (most_of purpose k) (count_in c k) ≡ HasRoom (most_of purpose k) (length (rows_of k rows))
-same_room purpose c rows Problem h rowed = refl
-same_room purpose c rows Script h rowed = refl
-same_room purpose c rows Job h rowed = refl
-same_room purpose c rows Centre h rowed = ap (λ n. n < 8) h.centres
-same_room purpose c rows Rack h rowed = ap (λ n. n < 32) h.racks
-same_room purpose c rows Worker h rowed = ap (λ n. n < most_workers purpose) h.workers
-same_room purpose c rows Split h rowed = ap (λ n. n < 1024) h.splits
-same_room purpose c rows Barred h rowed = refl
-same_room purpose c rows Dead h rowed = refl
-same_room purpose c rows Busy h rowed = refl
-same_room purpose c rows Parts h rowed = refl
-same_room purpose c rows Target h rowed = refl
-same_room purpose c rows Silence h rowed = refl
-same_room purpose c rows Doc h rowed = ap (λ n. n < 65536) h.documents
-same_room purpose c rows Plan h rowed = refl
-same_room purpose c rows Start h rowed = refl
-same_room purpose c rows Price h rowed = refl
-same_room purpose c rows Begin h rowed = refl
-same_room purpose c rows Wave h rowed = absurd (rowed refl)
-same_room purpose c rows Done h rowed = absurd (rowed refl)
-same_room purpose c rows Fail h rowed = absurd (rowed refl)
-same_room purpose c rows Withdraw h rowed = absurd (rowed refl)
-same_room purpose c rows Die h rowed = absurd (rowed refl)
-same_room purpose c rows Join h rowed = absurd (rowed refl)
-same_room purpose c rows Add h rowed = absurd (rowed refl)
-same_room purpose c rows Lose h rowed = absurd (rowed refl)
-same_room purpose c rows Sweep h rowed = absurd (rowed refl)
-same_room purpose c rows Reduce h rowed = absurd (rowed refl)
-same_room purpose c rows Copies h rowed = absurd (rowed refl)
-same_room purpose c rows Backup h rowed = absurd (rowed refl)
-same_room purpose c rows End h rowed = refl
 
 few_workers : (purpose : Purpose) → most_workers purpose ≤ 256
 few_workers Checking = omega arith
@@ -61,40 +24,40 @@ few_workers Planning = omega arith
 few_workers Playing = omega arith
 few_workers Running = omega arith
 
--- where there is room a count is small
-pub small_count : (purpose : Purpose) (c : Counts) (k : Keyword) → HasRoom (most_of purpose k) (count_in c k)
-    → count_in c k < 65536
-small_count purpose c Problem room = omega arith
-small_count purpose c Script room = omega arith
-small_count purpose c Job room = omega arith
-small_count purpose c Centre room = omega (arith, room)
-small_count purpose c Rack room = omega (arith, room)
-small_count purpose c Worker room = omega (arith, room, few_workers purpose)
-small_count purpose c Split room = omega (arith, room)
-small_count purpose c Barred room = omega arith
-small_count purpose c Dead room = omega arith
-small_count purpose c Busy room = omega arith
-small_count purpose c Parts room = omega arith
-small_count purpose c Target room = omega arith
-small_count purpose c Silence room = omega arith
-small_count purpose c Doc room = omega (arith, room)
-small_count purpose c Plan room = omega arith
-small_count purpose c Start room = omega arith
-small_count purpose c Price room = omega arith
-small_count purpose c Begin room = omega arith
-small_count purpose c Wave room = omega arith
-small_count purpose c Done room = omega arith
-small_count purpose c Fail room = omega arith
-small_count purpose c Withdraw room = omega arith
-small_count purpose c Die room = omega arith
-small_count purpose c Join room = omega arith
-small_count purpose c Add room = omega arith
-small_count purpose c Lose room = omega arith
-small_count purpose c Sweep room = omega arith
-small_count purpose c Reduce room = omega arith
-small_count purpose c Copies room = omega arith
-small_count purpose c Backup room = omega arith
-small_count purpose c End room = omega arith
+-- where there is room for one line more, the count of its keyword is small
+pub small_before : (k : Known) (c : Counts) (word : Keyword) → AreCounts c k.rows
+    → HasRoom (most_of k.purpose word) (counted_of k word) → count_in c word < 65536
+small_before k c Problem rowed room = omega arith
+small_before k c Script rowed room = omega arith
+small_before k c Job rowed room = omega arith
+small_before k c Centre rowed room = omega (arith, rowed.centres, room)
+small_before k c Rack rowed room = omega (arith, rowed.racks, room)
+small_before k c Worker rowed room = omega (arith, rowed.workers, room, few_workers k.purpose)
+small_before k c Split rowed room = omega (arith, rowed.splits, room)
+small_before k c Barred rowed room = omega arith
+small_before k c Dead rowed room = omega arith
+small_before k c Busy rowed room = omega arith
+small_before k c Parts rowed room = omega arith
+small_before k c Target rowed room = omega arith
+small_before k c Silence rowed room = omega arith
+small_before k c Doc rowed room = omega (arith, rowed.documents, room)
+small_before k c Plan rowed room = omega arith
+small_before k c Start rowed room = omega arith
+small_before k c Price rowed room = omega arith
+small_before k c Begin rowed room = omega arith
+small_before k c Wave rowed room = omega arith
+small_before k c Done rowed room = omega arith
+small_before k c Fail rowed room = omega arith
+small_before k c Withdraw rowed room = omega arith
+small_before k c Die rowed room = omega arith
+small_before k c Join rowed room = omega arith
+small_before k c Add rowed room = omega arith
+small_before k c Lose rowed room = omega arith
+small_before k c Sweep rowed room = omega arith
+small_before k c Reduce rowed room = omega arith
+small_before k c Copies rowed room = omega arith
+small_before k c Backup rowed room = omega arith
+small_before k c End rowed room = omega arith
 
 abbrev AddsOne : Keyword → Statement → Type 0
 AddsOne k s = length (rows_of k (entered_of s)) ≡ one_if k s.keyword

@@ -1,5 +1,5 @@
 -- Keys that are the same, and rows under their keys.
-use Rattle.std.proofs.Common.{ℕ, List, [], ◌∷◌, ◌++◌, ◌≡◌, ◌<◌, ◌≤◌, ◌∙◌, ◌&&◌, Bool, true, false, Bor}
+use Rattle.std.proofs.Common.{ℕ, List, [], ◌∷◌, ◌++◌, ◌≡◌, ◌<◌, ◌∙◌, ◌&&◌, Bool, true, false, Bor}
 use Rattle.std.proofs.Common.{Option, Some, None, length, map, sym, ap, ap₂, refl, subst, arith, slice_get}
 use Rattle.std.proofs.Common.{zero, suc}
 use Rattle.std.specs.Prelude.{◌↔◌, Contains, IsTrue}
@@ -14,18 +14,10 @@ use Rattle.std.proofs.lemmas.List.Elements.{All-append, All-cons, All-head, All-
 use Rattle.std.proofs.lemmas.Slice.Eq.{bytes_eq-Decides}
 use Rattle.text_lines.proofs.Keys.{found_key}
 use Rattle.line_shapes.specs.Lines.{Statement}
-use Rattle.line_shapes.specs.Places.{places_of}
-use Rattle.line_shapes.specs.declared.keyword.Keyword.{Keyword}
-use Rattle.line_shapes.specs.declared.keyword.Keyword.TheVariants.{Problem, Script, Job, Centre, Rack}
-use Rattle.line_shapes.specs.declared.keyword.Keyword.TheVariants.{Worker, Split, Barred, Dead, Busy, Parts}
-use Rattle.line_shapes.specs.declared.keyword.Keyword.TheVariants.{Target, Silence, Doc, Plan, Start, Price}
-use Rattle.line_shapes.specs.declared.keyword.Keyword.TheVariants.{Begin, Wave, Done, Fail, Withdraw, Die}
-use Rattle.line_shapes.specs.declared.keyword.Keyword.TheVariants.{Join, Add, Lose, Sweep, Reduce, Copies}
-use Rattle.line_shapes.specs.declared.keyword.Keyword.TheVariants.{Backup, End}
 use Rattle.line_shapes.specs.contracts.keyword.Keyword.{the_type}
-use Rattle.line_rules.specs.Entering.{Key, entering_of, key_of}
+use Rattle.line_rules.specs.Entering.{Key, key_of}
 use Rattle.line_rules.specs.Known.{keys_of}
-use Rattle.line_rules.specs.Rows.{AreKeyed, IsKeyAt, IsRowAt, TextKey, front_of, key_in, statement_of_entry}
+use Rattle.line_rules.specs.Rows.{AreKeyed, IsKeyAt, IsRowAt, TextKey, key_in, statement_of_entry}
 use denote.Enum.Bare.{sameb, same_true, true_same}
 
 -- ---- keys
@@ -126,37 +118,3 @@ row_at (x ∷ es) (suc i) e s is said =
     (omega arith, rest.1)
 
 -- ---- a line as a row
-
--- no key has more words than there are places
-pub key_within : (k : Keyword) → length (front_of (entering_of k) [] []) ≤ length (places_of k)
-key_within Problem = omega arith
-key_within Script = omega arith
-key_within Job = omega arith
-key_within Centre = omega arith
-key_within Rack = omega arith
-key_within Worker = omega arith
-key_within Split = omega arith
-key_within Barred = omega arith
-key_within Dead = omega arith
-key_within Busy = omega arith
-key_within Parts = omega arith
-key_within Target = omega arith
-key_within Silence = omega arith
-key_within Doc = omega arith
-key_within Plan = omega arith
-key_within Start = omega arith
-key_within Price = omega arith
-key_within Begin = omega arith
-key_within Wave = omega arith
-key_within Done = omega arith
-key_within Fail = omega arith
-key_within Withdraw = omega arith
-key_within Die = omega arith
-key_within Join = omega arith
-key_within Add = omega arith
-key_within Lose = omega arith
-key_within Sweep = omega arith
-key_within Reduce = omega arith
-key_within Copies = omega arith
-key_within Backup = omega arith
-key_within End = omega arith

@@ -1,7 +1,6 @@
 -- The faults of a line that says a statement are those of the statement.
-use Rattle.std.proofs.Common.{◌≡◌, ◌≤◌, subst, arith}
-use Rattle.std.specs.List.{All}
-use Rattle.text_lines.specs.Texts.{IsPrintable, Line}
+use Rattle.std.proofs.Common.{◌≤◌, subst, arith}
+use Rattle.text_lines.specs.Texts.{Line}
 use Rattle.text_lines.specs.Faults.{number_of_fault}
 use Rattle.text_lines.specs.declared.fault.Fault.{Fault}
 use Rattle.text_lines.specs.declared.fault.Fault.TheVariants.{Shape, Misnamed, Unknown, Repeated}
@@ -15,7 +14,6 @@ use Rattle.line_rules.specs.Texts.{IsSound, LineHas}
 use Rattle.line_rules.proofs.Fits.{fit_faultless}
 use Rattle.line_shapes.proofs.OneStatement.{says-unique}
 use Rattle.line_rules.specs.Reading.{IsLeastError}
-use Rattle.line_rules.specs.declared.section.Section.TheVariants.{Ended}
 use Rattle.line_rules.specs.declared.reading.LineError.{LineError}
 use Rattle.line_rules.specs.declared.reading.LineError.TheVariants as error
 
@@ -95,53 +93,11 @@ lowest AfterEnd = omega arith
 -- a line that says nothing has the lowest fault of all
 pub nothing_least : (k : Known) (line : Line) → IsSound k line → SaysNothing line
     → IsLeastOf (LineHas k line) Shape
-nothing_least k line sound nothing = record { applies = (sound, λ s says whole. nothing s says); least = λ g h. lowest g }
-
-past_words : (k : Known) (line : Line) → (All IsPrintable line → ⊥) → (g : Fault) → LineHas k line g
-    → 13 ≤ number_of_fault g
-past_words k line unprintable Shape h = absurd (unprintable h.0.0)
-past_words k line unprintable Misnamed h = absurd (unprintable h.0.0)
-past_words k line unprintable Unknown h = absurd (unprintable h.0.0)
-past_words k line unprintable Repeated h = absurd (unprintable h.0.0)
-past_words k line unprintable OutOfRange h = absurd (unprintable h.0.0)
-past_words k line unprintable PassesLimit h = absurd (unprintable h.0.0)
-past_words k line unprintable Misplaced h = absurd (unprintable h.0.0)
-past_words k line unprintable RepeatedHolder h = absurd (unprintable h.0.0)
-past_words k line unprintable SecondEntry h = absurd (unprintable h.0.0)
-past_words k line unprintable NoPrice h = absurd (unprintable h.0.0)
-past_words k line unprintable TooLong h = absurd h
-past_words k line unprintable NoFeed h = absurd h
-past_words k line unprintable Unprintable h = omega arith
-past_words k line unprintable AfterEnd h = omega arith
-
-past_end : (k : Known) (line : Line) → All IsPrintable line → k.section ≡ Ended → (g : Fault)
-    → LineHas k line g → 14 ≤ number_of_fault g
-past_end k line printable ended Shape h = absurd (h.0.1 ended)
-past_end k line printable ended Misnamed h = absurd (h.0.1 ended)
-past_end k line printable ended Unknown h = absurd (h.0.1 ended)
-past_end k line printable ended Repeated h = absurd (h.0.1 ended)
-past_end k line printable ended OutOfRange h = absurd (h.0.1 ended)
-past_end k line printable ended PassesLimit h = absurd (h.0.1 ended)
-past_end k line printable ended Misplaced h = absurd (h.0.1 ended)
-past_end k line printable ended RepeatedHolder h = absurd (h.0.1 ended)
-past_end k line printable ended SecondEntry h = absurd (h.0.1 ended)
-past_end k line printable ended NoPrice h = absurd (h.0.1 ended)
-past_end k line printable ended TooLong h = absurd h
-past_end k line printable ended NoFeed h = absurd h
-past_end k line printable ended Unprintable h = absurd (h printable)
-past_end k line printable ended AfterEnd h = omega arith
-
--- an unprintable line has no fault below the thirteenth
-pub unprintable_least : (k : Known) (line : Line) → (All IsPrintable line → ⊥)
-    → IsLeastOf (LineHas k line) Unprintable
-unprintable_least k line unprintable =
-    record { applies = unprintable; least = λ g h. past_words k line unprintable g h }
-
--- a line after the end has no fault but its own, where it is printable
-pub after_end_least : (k : Known) (line : Line) → All IsPrintable line → k.section ≡ Ended
-    → IsLeastOf (LineHas k line) AfterEnd
-after_end_least k line printable ended =
-    record { applies = ended; least = λ g h. past_end k line printable ended g h }
+nothing_least k line sound nothing = record {
+  applies = (sound, λ s says whole. nothing s says);
+  least =
+      λ g h. lowest g;
+}
 
 -- the least error of what the line says is the line's
 pub error_of_line : (k : Known) (line : Line) (s : Statement) → IsSound k line → Says line s

@@ -2,7 +2,7 @@
 use Rattle.std.proofs.Common.{List, ◌∷◌, ◌≡◌, subst, sym}
 use Rattle.text_lines.specs.Texts.{Line, Word}
 use Rattle.line_shapes.specs.Keywords.{text_of}
-use Rattle.line_shapes.specs.Lines.{IsShaped, Says, SaysNothing, Statement, words_in}
+use Rattle.line_shapes.specs.Lines.{IsShaped, Says, Statement, words_in}
 use Rattle.line_shapes.specs.declared.keyword.Keyword.{Keyword}
 use Rattle.line_shapes.proofs.OneStatement.{stated_as}
 use Rattle.line_rules.specs.Known.{Known}
@@ -18,16 +18,11 @@ says_cut : (line : Line) (k : Keyword) (ws : List Word) → words_in k line ≡ 
     → IsShaped (said k ws) → Says line (said k ws)
 says_cut line k ws cut shaped = record { spelled = cut; many = shaped.many; shape = shaped.shape }
 
-pub says_same : (line : Line) (k : Keyword) (ws : List Word) (s : Statement) → words_in k line ≡ text_of k ∷ ws
+pub says_same : (line : Line) (k : Keyword) (ws : List Word) (s : Statement) →
+    words_in k line ≡ text_of k ∷ ws
     → s ≡ said k ws → IsShaped s → Says line s
 says_same line k ws s cut same shaped =
     subst (Says line) (sym same) (says_cut line k ws cut (subst IsShaped same shaped))
-
--- a line without a keyword has no shape
-pub no_keyword : (k : Known) (line : Line) → IsSound k line
-    → ((j : Keyword) (ws : List Word) → words_in j line ≡ text_of j ∷ ws → ⊥)
-    → IsLeastOf (LineHas k line) Shape
-no_keyword k line sound none = nothing_least k line sound (λ s says. none s.keyword s.words says.spelled)
 
 -- nor has one whose words are not those of its keyword
 pub no_shape : (k : Known) (line : Line) (j : Keyword) (ws : List Word) → IsSound k line

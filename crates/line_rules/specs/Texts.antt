@@ -23,7 +23,8 @@ Declare (l ∷ ls) (s ∷ ss) = (Says l s × Declare ls ss) ⊎ (SaysNothing l �
 abbrev pub IsSound : Known → Line → Type 0
 IsSound k line = All IsPrintable line × (k.section ≢ Ended)
 
--- a line that has its line feed; it has no shape where it says nothing, or not as many words as have to follow
+-- a line that has its line feed; it has no shape where it says nothing, or not as many words as have to
+-- follow
 abbrev pub LineHas : Known → Line → Fault → Type 0
 LineHas k line Unprintable = All IsPrintable line → ⊥
 LineHas k line AfterEnd = k.section ≡ Ended

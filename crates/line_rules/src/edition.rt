@@ -4,7 +4,7 @@ ghost use Rattle.line_rules.specs.Sections.{IsOfVersion, edition_of as editions,
 use line_shapes::{KeyedLine, Keyword};
 
 /// The version of a text, which its first line tells.
-#[derive(Clone, Copy, Debug, PartialEq, Eq)]
+#[derive(Clone, Copy)]
 pub enum Version {
     One,
     /// With data centres and backup attempts.
@@ -12,7 +12,7 @@ pub enum Version {
 }
 
 /// What a line has to do with the version of its text.
-#[derive(Clone, Copy, Debug, PartialEq, Eq)]
+#[derive(Clone, Copy)]
 pub enum Edition {
     /// It tells the version.
     Tells,

@@ -1,5 +1,6 @@
 ghost use Rattle.std.specs.Prelude.{◌≡◌};
-ghost use Rattle.line_rules.specs.Entering.{entering_of as entering, follow_of as follow, is_priced as priced};
+ghost use Rattle.line_rules.specs.Entering.{entering_of as entering, follow_of as follow};
+ghost use Rattle.line_rules.specs.Entering.{is_priced as priced};
 ghost use Rattle.line_rules.specs.Entering.{most_more_of as most_words, most_of as most};
 ghost use Rattle.line_rules.specs.Entering.{most_workers as workers};
 
@@ -7,7 +8,7 @@ use crate::purpose::Purpose;
 use line_shapes::Keyword;
 
 /// By what a line is entered, so that a later one can be told to be the same.
-#[derive(Clone, Copy, Debug, PartialEq, Eq)]
+#[derive(Clone, Copy)]
 pub enum Entering {
     /// It is not entered.
     Nothing,
@@ -22,7 +23,7 @@ pub enum Entering {
 }
 
 /// Which words have to follow those in the places of a line.
-#[derive(Clone, Copy, Debug, PartialEq, Eq)]
+#[derive(Clone, Copy)]
 pub enum Follow {
     /// Any, as far as some may.
     Any,

@@ -1,5 +1,5 @@
 /// What a text is read for: its kind, which says what stands after its head.
-#[derive(Clone, Copy, Debug, PartialEq, Eq)]
+#[derive(Clone, Copy)]
 pub enum Purpose {
     /// To check a plan and its prices, which stand after the head.
     Checking,

@@ -25,7 +25,7 @@ pub enum ReadingError {
 }
 
 /// Why a line was not taken.
-#[derive(Clone, Copy, Debug, PartialEq, Eq)]
+#[derive(Clone, Copy)]
 pub enum LineError {
     /// The line's least fault.
     Fault(Fault),

@@ -15,7 +15,7 @@ pub struct Rows<'t> {
 }
 
 /// A line that was entered.
-#[derive(Clone, Copy, Debug)]
+#[derive(Clone, Copy)]
 pub struct Row<'r, 't> {
     pub keyword: Keyword,
     /// The words by which it was entered; what is absent is empty.

@@ -1,5 +1,5 @@
 /// What a name is asked for in view of the lines before its own.
-#[derive(Clone, Copy, Debug, PartialEq, Eq)]
+#[derive(Clone, Copy)]
 pub enum Rule {
     /// A name that is used is declared, and of its kind.
     Declared,

@@ -13,12 +13,14 @@ use crate::section::Section;
 use line_shapes::{KeyedLine, Keyword, Kind, Place};
 
 /// Whether each word after the keyword keeps to the rule in its place.
+#[inline(always)]
 pub fn keep(rule: Rule, rows: &Rows<'_>, line: &KeyedLine<'_, '_>) -> bool
     ensures { IsTrue result ↔ Keep rule rows.now (statement_of line.now) }
 {
     keep_words(rule, rows, line.keyword, line.words)
 }
 
+#[inline(always)]
 fn keep_words(rule: Rule, rows: &Rows<'_>, keyword: Keyword, words: &[&str]) -> bool
     ensures { IsTrue result ↔ KeepIn rule rows.now keyword words.now }
 {
@@ -30,6 +32,7 @@ fn keep_words(rule: Rule, rows: &Rows<'_>, keyword: Keyword, words: &[&str]) -> 
     true
 }
 
+#[inline(always)]
 fn keeps_to(rule: Rule, rows: &Rows<'_>, place: Option<Place>, word: &str) -> bool
     ensures { IsTrue result ↔ KeepsTo rule rows.now place word.now }
 {
@@ -39,6 +42,7 @@ fn keeps_to(rule: Rule, rows: &Rows<'_>, place: Option<Place>, word: &str) -> bo
     }
 }
 
+#[inline(always)]
 fn is_declared_in(rows: &Rows<'_>, place: Option<Place>, word: &str) -> bool
     ensures { IsTrue result ↔ IsDeclaredIn rows.now place word.now }
 {
@@ -51,6 +55,7 @@ fn is_declared_in(rows: &Rows<'_>, place: Option<Place>, word: &str) -> bool
     }
 }
 
+#[inline(always)]
 fn is_free_in(rows: &Rows<'_>, place: Option<Place>, word: &str) -> bool
     ensures { IsTrue result ↔ IsFreeIn rows.now place word.now }
 {

@@ -6,7 +6,7 @@ use crate::purpose::Purpose;
 use line_shapes::Keyword;
 
 /// Where in a text a line stands.
-#[derive(Clone, Copy, Debug, PartialEq, Eq)]
+#[derive(Clone, Copy, PartialEq, Eq)]
 pub enum Section {
     /// The first line, which names the kind of the text.
     First,

@@ -1,7 +1,8 @@
 -- What holds of the words before a place, and of the one there, holds of those before the next; and the words
 -- behind
 -- references meet what the words meet.
-use Rattle.std.proofs.Common.{ℕ, List, [], ◌≡◌, ◌<◌, ◌+◌, inl, inr, length, map, get_or, subst, sym, arith, Bor}
+use Rattle.std.proofs.Common.{ℕ, List, [], ◌≡◌, ◌<◌, ◌+◌, inl, inr, length, map, get_or, subst, sym, arith}
+use Rattle.std.proofs.Common.{Bor}
 use Rattle.std.proofs.lemmas.Bool.{cases_lt}
 use Rattle.std.proofs.lemmas.List.{get_or_default, get_or-map, length-map}
 use Rattle.line_shapes.specs.Demands.{Meet, MeetIn, Meets}

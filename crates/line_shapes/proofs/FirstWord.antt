@@ -1,5 +1,6 @@
 -- Where a text is cut at its first space.
-use Rattle.std.proofs.Common.{ℕ, List, [], ◌∷◌, ◌≡◌, ◌≤◌, ◌<◌, ◌∙◌, Bor, Option, Some, None, ap, ap₂, arith, cond}
+use Rattle.std.proofs.Common.{ℕ, List, [], ◌∷◌, ◌≡◌, ◌≤◌, ◌<◌, ◌∙◌, Bor, Option, Some, None, ap, ap₂, arith}
+use Rattle.std.proofs.Common.{cond}
 use Rattle.std.proofs.Common.{length, sym, suc}
 use Rattle.std.specs.List.{after_first, before_first, position_or_len, slice_split}
 use Rattle.std.specs.Prelude.{MatchOption}

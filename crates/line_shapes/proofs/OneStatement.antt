@@ -1,5 +1,7 @@
--- A line says one statement: no two keywords are spelled alike, and the words of a line are those of its keyword.
-use Rattle.std.proofs.Common.{ℕ, List, [], ◌∷◌, ◌≡◌, ◌∙◌, Bool, true, false, Option, Some, None, ap, cond, refl, suc, sym}
+-- A line says one statement: no two keywords are spelled alike, and the words of a line are those of its
+-- keyword.
+use Rattle.std.proofs.Common.{ℕ, List, [], ◌∷◌, ◌≡◌, ◌∙◌, Bool, true, false, Option, Some, None, ap, cond}
+use Rattle.std.proofs.Common.{refl, suc, sym}
 use Rattle.std.specs.Prelude.{if◌then◌else◌, length}
 use Rattle.std.specs.List.{after_first, before_first, position_or_len}
 use Rattle.std.specs.Str.{bytes_eq}
@@ -106,17 +108,20 @@ front_of line = cond (has_space line) (before_first is_space line) line
 front_words : (line : Line) → first_word (words_of line) ≡ front_of line
 front_words line = by (has_space line) refl
   where
-    by : (b : Bool) → has_space line ≡ b → first_word (words_of line) ≡ cond b (before_first is_space line) line
+    by : (b : Bool) → has_space line ≡ b →
+        first_word (words_of line) ≡ cond b (before_first is_space line) line
     by true e = ap first_word (slice_split_first is_space line 0 (ltb-true _ _ e))
     by false e =
-        ap first_word (cut_none is_space line (ap (λ b. cond b (Some (position_or_len is_space line)) None) e))
+        ap first_word
+        (cut_none is_space line (ap (λ b. cond b (Some (position_or_len is_space line)) None) e))
 
 front_cut : (b : Bool) (w v : Word) (ws : List Word) → first_word (cond b (w ∷ ws) (v ∷ [])) ≡ cond b w v
 front_cut true w v ws = refl
 front_cut false w v ws = refl
 
 -- the first word of a line is the same however the others are cut
-front_pieces : (more : Option Place) (n : ℕ) (line : Line) → first_word (pieces more (suc n) line) ≡ front_of line
+front_pieces : (more : Option Place) (n : ℕ) (line : Line) → first_word (pieces more (suc n) line)
+    ≡ front_of line
 front_pieces None n line = front_words line
 front_pieces (Some New) n line = front_words line
 front_pieces (Some (Used kind)) n line = front_words line
@@ -130,7 +135,8 @@ spelled_first line k ws cut =
     sym (ap first_word cut) ∙ front_pieces (more_of k) (length (places_of k)) line
 
 -- the keyword and the words by which a line is cut are those of what it says
-pub stated_as : (line : Line) (k : Keyword) (ws : List Word) (s : Statement) → words_in k line ≡ text_of k ∷ ws
+pub stated_as : (line : Line) (k : Keyword) (ws : List Word) (s : Statement) →
+    words_in k line ≡ text_of k ∷ ws
     → Says line s → s ≡ record { keyword = k; words = ws }
 stated_as line k ws s cut says =
     let text : text_of s.keyword ≡ text_of k =

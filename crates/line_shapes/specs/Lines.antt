@@ -26,7 +26,8 @@ has_space text = nat_lt (position_or_len is_space text) (length text)
 abbrev pub first_words : ℕ → List ℕ → List Word
 first_words zero text = text ∷ []
 first_words (suc n) text =
-    if has_space text then before_first is_space text ∷ first_words n (after_first is_space text) else text ∷ []
+    if has_space text then before_first is_space text ∷ first_words n (after_first is_space text) else text ∷
+    []
 
 -- the words between the spaces; where a text may follow the first n of them, it is one word
 abbrev pub pieces : Option Place → ℕ → List ℕ → List Word

@@ -1,5 +1,6 @@
 ghost use Rattle.std.specs.Prelude.{◌≡◌, ◌∷◌, ℕ, suc, IfOk, Option, map};
-ghost use Rattle.line_shapes.specs.Lines.{first_words as front, pieces, pieces_after, words_after as words_of_rest};
+ghost use Rattle.line_shapes.specs.Lines.{first_words as front, pieces, pieces_after};
+ghost use Rattle.line_shapes.specs.Lines.{words_after as words_of_rest};
 ghost use Rattle.line_shapes.specs.declared.place.Place.{Place};
 
 use crate::keyword::Keyword;

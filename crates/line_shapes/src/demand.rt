@@ -7,7 +7,7 @@ use crate::place::Place;
 use text_lines::{Number, is_name};
 
 /// What is asked of each word in its place.
-#[derive(Clone, Copy, Debug, PartialEq, Eq)]
+#[derive(Clone, Copy)]
 pub enum Demand {
     /// The place is one of the keyword's, and a number's word is a number.
     Shape,
@@ -18,6 +18,7 @@ pub enum Demand {
 }
 
 /// Whether each word after the keyword meets the demand.
+#[inline(always)]
 pub fn meet(demand: Demand, keyword: Keyword, words: &[&str]) -> bool
     ensures { IsTrue result ↔ MeetIn demand keyword words.now }
 {
@@ -29,6 +30,7 @@ pub fn meet(demand: Demand, keyword: Keyword, words: &[&str]) -> bool
     true
 }
 
+#[inline(always)]
 fn meets(demand: Demand, place: Option<Place>, word: &str) -> bool
     ensures { IsTrue result ↔ Meets demand place word.now }
 {
@@ -39,6 +41,7 @@ fn meets(demand: Demand, place: Option<Place>, word: &str) -> bool
     }
 }
 
+#[inline(always)]
 fn has_shape(place: Option<Place>, word: &str) -> bool
     ensures { IsTrue result ↔ HasShape place word.now }
 {
@@ -51,6 +54,7 @@ fn has_shape(place: Option<Place>, word: &str) -> bool
     }
 }
 
+#[inline(always)]
 fn is_named_in(place: Option<Place>, word: &str) -> bool
     ensures { IsTrue result ↔ IsNamedIn place word.now }
 {
@@ -64,6 +68,7 @@ fn is_named_in(place: Option<Place>, word: &str) -> bool
 }
 
 // A word that is no number is in no range; no line has one in a number's place.
+#[inline(always)]
 fn is_within_in(place: Option<Place>, word: &str) -> bool
     ensures { IsTrue result ↔ IsWithinIn place word.now }
 {

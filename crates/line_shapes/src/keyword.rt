@@ -8,7 +8,7 @@ use crate::cut::first_word;
 use crate::place::{Kind, Place};
 
 /// The first word of a line.
-#[derive(Clone, Copy, Debug, PartialEq, Eq, Hash)]
+#[derive(Clone, Copy, PartialEq, Eq, Hash)]
 pub enum Keyword {
     Problem,
     Script,
@@ -93,6 +93,7 @@ impl Keyword {
     ghost use Rattle.line_shapes.specs.Places.{more_of, place_at, places_of};
 
     /// What follows the keyword.
+    #[inline(always)]
     pub fn places(self) -> &'static [Place]
         ensures { result.now ≡ places_of self }
     {
@@ -120,6 +121,7 @@ impl Keyword {
     }
 
     /// What may follow these places, any number of times.
+    #[inline(always)]
     pub fn more(self) -> Option<Place>
         ensures { result ≡ more_of self }
     {
@@ -141,6 +143,7 @@ impl Keyword {
     }
 
     /// The place of the word with this number, from 0, after the keyword.
+    #[inline(always)]
     pub fn place(self, number: usize) -> Option<Place>
         ensures { result ≡ place_at self number }
     {

@@ -7,7 +7,7 @@ use crate::keyword::Keyword;
 use crate::place::Place;
 
 /// What a line says: its keyword, and the words after it.
-#[derive(Clone, Copy, Debug)]
+#[derive(Clone, Copy)]
 pub struct KeyedLine<'w, 't> {
     pub keyword: Keyword,
     pub words: &'w [&'t str],

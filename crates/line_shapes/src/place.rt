@@ -1,5 +1,5 @@
 /// What a used name is of.
-#[derive(Clone, Copy, Debug, PartialEq, Eq)]
+#[derive(Clone, Copy)]
 pub enum Kind {
     Centre,
     Rack,
@@ -10,7 +10,7 @@ pub enum Kind {
 }
 
 /// What stands in a place after a keyword.
-#[derive(Clone, Copy, Debug, PartialEq, Eq)]
+#[derive(Clone, Copy)]
 pub enum Place {
     /// A name that the line declares.
     New,

@@ -1,5 +1,7 @@
 -- A master after the result of a split or a part.
-use Rattle.std.proofs.Common.{◌≡◌, ◌≢◌, ℕ, zero, suc, ◌+◌, ◌-◌, ◌==◌, ◌<◌, List, [], ◌∷◌, ◌++◌, length, map, Bool, true, false, not, Option, Some, None, refl, ap, ◌∙◌, sym, arith, inl, inr, All}
+use Rattle.std.proofs.Common.{◌≡◌, ◌≢◌, ℕ, suc, ◌+◌, ◌-◌, ◌==◌, List, [], ◌∷◌, ◌++◌, length, map}
+use Rattle.std.proofs.Common.{Bool, true, false, not, Option, Some, None, refl, ap, ◌∙◌, sym, arith, inl, inr}
+use Rattle.std.proofs.Common.{All}
 use Rattle.std.specs.Prelude.{find, slice_get}
 use Rattle.std.specs.List.{list_any}
 use Rattle.std.specs.Option.{option_map, option_map_or}
@@ -18,9 +20,9 @@ use Rattle.master_state.specs.declared.states.Work.{Work}
 use Rattle.master_state.specs.declared.states.Work.TheVariants as works
 use Rattle.master_state.specs.declared.states.SplitState.{SplitState}
 use Rattle.master_state.specs.declared.states.SplitState.TheVariants as states
-use Rattle.master_state.specs.declared.states.PartState.{PartState}
 use Rattle.master_state.specs.States.{Setup, State, start_of, worker_of}
-use Rattle.master_state.specs.Refusals.{MapDone, PartDone, first_of, is_full, is_same_text, is_wrong_map, is_wrong_part, no_part_runs, no_split_runs, refusal, text_of}
+use Rattle.master_state.specs.Refusals.{MapDone, PartDone, first_of, is_full, is_same_text, is_wrong_map}
+use Rattle.master_state.specs.Refusals.{is_wrong_part, no_part_runs, no_split_runs, refusal, text_of}
 use Rattle.master_state.specs.Tests.{attempts_of, is_numbered, split_at}
 use Rattle.master_state.specs.Changes.{done_by, part_done_by, with_map_done, with_part_done}
 use Rattle.master_state.specs.Tidy.{IsTidy, IsToldAs}

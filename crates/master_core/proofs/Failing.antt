@@ -1,5 +1,6 @@
 -- A master after the failure or the withdrawal of an attempt.
-use Rattle.std.proofs.Common.{◌≡◌, ℕ, ◌+◌, ◌<◌, ◌&&◌, true, not, Bool, List, [], ◌∷◌, ◌++◌, map, false, refl, ap, ◌∙◌, sym, arith, length}
+use Rattle.std.proofs.Common.{◌≡◌, ℕ, ◌+◌, ◌<◌, ◌&&◌, true, not, Bool, List, [], ◌∷◌, ◌++◌, map, false, refl}
+use Rattle.std.proofs.Common.{ap, ◌∙◌, sym, arith, length}
 use Rattle.std.proofs.lemmas.List.{append-nil}
 use Rattle.node_ids.specs.Updates.{updated}
 use Rattle.worker_table.specs.Workers.{Workers, with_slot_given, with_bar}

@@ -1,5 +1,6 @@
 -- Where a master finds what runs an attempt.
-use Rattle.std.proofs.Common.{◌≡◌, ℕ, zero, suc, ◌<◌, List, [], ◌∷◌, length, map, get_or, Bool, true, false, not, Some, None, refl, ap, ◌∙◌, sym, arith, subst}
+use Rattle.std.proofs.Common.{◌≡◌, ℕ, zero, suc, ◌<◌, List, [], ◌∷◌, length, map, get_or, Bool, true, false}
+use Rattle.std.proofs.Common.{not, Some, None, refl, ap, ◌∙◌, sym, arith, subst}
 use Rattle.std.specs.Prelude.{slice_index_or}
 use Rattle.std.proofs.lemmas.List.{length-map}
 use Rattle.std.proofs.lemmas.List.FromFn.{length-range_with_len}
@@ -13,7 +14,8 @@ use Rattle.master_state.specs.Tests.{runs, part_runs, split_at, part_at}
 use Rattle.master_state.specs.Refusals.{no_split_runs, no_part_runs}
 use Rattle.master_state.specs.Tidy.{IsTidy}
 use Rattle.master_state.specs.Jobs.{Job}
-use Rattle.master_state.proofs.Places.{none_unstarted, no_split_is, no_part_is, no_split_of_part, no_part_of_split}
+use Rattle.master_state.proofs.Places.{none_unstarted, no_split_is, no_part_is, no_split_of_part}
+use Rattle.master_state.proofs.Places.{no_part_of_split}
 use Rattle.master_state.proofs.Running.{start_known}
 use Rattle.master_tables.specs.declared.entries.SplitEntry.{SplitEntry}
 use Rattle.master_core.specs.declared.master.Master.TheInside.{Inside}

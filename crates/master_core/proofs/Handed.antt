@@ -1,7 +1,7 @@
 -- Whether a result that is handed in is of its split, or of its part.
-use Rattle.std.proofs.Common.{◌≡◌, ℕ, ◌<◌, ◌&&◌, ◌||◌, ◌==◌, List, get_or, length, map, Bool, true, false, not, refl, ap, ◌∙◌, sym, subst, arith}
+use Rattle.std.proofs.Common.{◌≡◌, ℕ, ◌<◌, ◌&&◌, ◌||◌, List, get_or, length, Bool, true, false}
+use Rattle.std.proofs.Common.{not, refl, ap, ◌∙◌, sym, arith}
 use Rattle.std.specs.Prelude.{◌↔◌, IsTrue, slice_index_or}
-use Rattle.std.specs.Bool.{Decides}
 use Rattle.std.proofs.lemmas.Bool.Decides.{same_from_decides}
 use Rattle.std.proofs.lemmas.Bool.{and_parts, and_from}
 use Rattle.std.proofs.lemmas.List.{length-map}

@@ -1,7 +1,8 @@
 -- The results of the parts that are done are fewer than the parts, where one is not done.
-use Rattle.std.proofs.Common.{◌≡◌, ◌≢◌, ℕ, zero, suc, ◌+◌, ◌<◌, ◌≤◌, ◌==◌, List, [], ◌∷◌, length, cond, if◌then◌else◌, ltb, Bool, true, false, refl, sym, ap, ◌∙◌, arith, inl, inr, All}
+use Rattle.std.proofs.Common.{◌≡◌, ◌≢◌, ℕ, zero, suc, ◌+◌, ◌<◌, ◌≤◌, ◌==◌, List, [], ◌∷◌, length, cond}
+use Rattle.std.proofs.Common.{if◌then◌else◌, ltb, Bool, true, false, refl, sym, ap, ◌∙◌, arith, inl, inr, All}
 use Rattle.std.specs.Prelude.{count_by, slice_index_or, vec_capacity, vec_len}
-use Rattle.std.proofs.lemmas.Bool.{false≢true, cases_Bool, cases_eq, cases_lt, eq-eqb, ne_eqb, lt-ltb, le-ltb}
+use Rattle.std.proofs.lemmas.Bool.{false≢true, cases_eq, cases_lt, eq-eqb, ne_eqb, lt-ltb, le-ltb}
 use Rattle.std.proofs.lemmas.List.{get_or_past}
 use Rattle.std.proofs.lemmas.List.Sums.{sum_by-cons, get_or-le-sum_by}
 use Rattle.shuffle_reduce.specs.Merged.{PartView}

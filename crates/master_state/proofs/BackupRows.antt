@@ -3,12 +3,14 @@ use Rattle.std.proofs.Common.{◌≡◌, List, [], ◌∷◌, ◌++◌, Some, No
 use Rattle.word_map.specs.Texts.{SplitDocuments}
 use Rattle.word_map.specs.Runs.{MapView}
 use Rattle.worker_table.specs.Workers.{taken_slots, is_barred}
-use Rattle.master_state.specs.declared.answers.Why.TheVariants.{OldAttempt, NoBackup, Barred, DeadWorker, NotReady}
+use Rattle.master_state.specs.declared.answers.Why.TheVariants.{OldAttempt, NoBackup, Barred, DeadWorker}
+use Rattle.master_state.specs.declared.answers.Why.TheVariants.{NotReady}
 use Rattle.master_state.specs.declared.states.Attempt.{Attempt}
 use Rattle.master_state.specs.declared.states.SplitState.TheVariants.{Pending, Running, Done}
 use Rattle.master_state.specs.States.{Setup, State}
 use Rattle.master_state.specs.Tests.{all_parts_done}
-use Rattle.master_state.specs.Refusals.{MapDone, MapFailed, Withdraw, Die, ReduceStart, PartDone, Backup, Lose}
+use Rattle.master_state.specs.Refusals.{MapDone, MapFailed, Withdraw, Die, ReduceStart, PartDone, Backup}
+use Rattle.master_state.specs.Refusals.{Lose}
 use Rattle.master_state.proofs.Scripts.{Move, Ask, Start, played, answers}
 
 abbrev pub one : SplitDocuments

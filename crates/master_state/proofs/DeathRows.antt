@@ -2,7 +2,8 @@
 use Rattle.std.proofs.Common.{◌≡◌, ℕ, List, [], ◌∷◌, ◌++◌, Some, None, refl, true, false, replicate, map}
 use Rattle.word_map.specs.Texts.{SplitDocuments}
 use Rattle.worker_table.specs.Workers.{worker_at}
-use Rattle.master_state.specs.declared.answers.Why.TheVariants.{DeadWorker, LiveWorker, EightHolders, AlreadyHolds, NotHolder}
+use Rattle.master_state.specs.declared.answers.Why.TheVariants.{DeadWorker, LiveWorker, EightHolders}
+use Rattle.master_state.specs.declared.answers.Why.TheVariants.{AlreadyHolds, NotHolder}
 use Rattle.master_state.specs.declared.states.SplitState.TheVariants.{Pending, Running}
 use Rattle.master_state.specs.States.{Setup, State}
 use Rattle.master_state.specs.Refusals.{Die, Join, Add, Lose, Sweep, MapDone, Backup}

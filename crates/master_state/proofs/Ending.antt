@@ -1,11 +1,15 @@
 -- Results, failures, withdrawals and deaths keep a state tidy.
-use Rattle.std.proofs.Common.{◌≡◌, ◌≢◌, ℕ, suc, ◌+◌, ◌==◌, ◌||◌, List, [], ◌∷◌, ◌++◌, length, map, cond, Bool, true, false, not, Option, Some, None, refl, sym, ap, ◌∙◌, arith, inl, inr, All, AllPairs, subst}
+use Rattle.std.proofs.Common.{◌≡◌, ◌≢◌, ℕ, suc, ◌+◌, ◌==◌, ◌||◌, List, [], ◌∷◌, ◌++◌, length, map, cond, Bool}
+use Rattle.std.proofs.Common.{true, false, not, Option, Some, None, refl, sym, ap, ◌∙◌, arith, inl, inr, All}
+use Rattle.std.proofs.Common.{AllPairs, subst}
 use Rattle.std.specs.Prelude.{flat_map, filter, find, count_by, sum_by, is_some}
 use Rattle.std.specs.List.{list_any}
 use Rattle.std.specs.Option.{option_map_or}
-use Rattle.std.proofs.lemmas.Bool.{false≢true, eqb-true, eqb-false, eq-eqb, ne_eqb, cases_Bool, cases_eq, not-false, not-true, or_left, or_right, and_cases}
+use Rattle.std.proofs.lemmas.Bool.{false≢true, eqb-true, eqb-false, eq-eqb, ne_eqb, cases_Bool, cases_eq}
+use Rattle.std.proofs.lemmas.Bool.{not-false, not-true, or_left, or_right, and_cases}
 use Rattle.std.proofs.lemmas.List.{length-map}
-use Rattle.std.proofs.lemmas.List.Elements.{All-filter, All-append, All-map, All-weaker, filter-append, filter_passes}
+use Rattle.std.proofs.lemmas.List.Elements.{All-filter, All-append, All-map, All-weaker, filter-append}
+use Rattle.std.proofs.lemmas.List.Elements.{filter_passes}
 use Rattle.std.proofs.lemmas.List.Filters.{sum_by-filter_both}
 use Rattle.std.proofs.lemmas.List.Folds.{list_any-append}
 use Rattle.std.proofs.lemmas.List.Kept.{AllPairs-filter}
@@ -21,15 +25,24 @@ use Rattle.master_state.specs.declared.states.SplitState.{SplitState}
 use Rattle.master_state.specs.declared.states.SplitState.TheVariants.{Pending, Done}
 use Rattle.master_state.specs.declared.states.PartState.TheVariants as part
 use Rattle.master_state.specs.States.{Setup, State, worker_of}
-use Rattle.master_state.specs.Tests.{is_numbered, is_on, attempts_of, part_attempts, all_running, runs, part_runs, split_at, part_at, split_running, part_running, all_parts_done}
-use Rattle.master_state.specs.Refusals.{MapDone, MapFailed, Withdraw, Die, PartDone, PartFailed, refusal, reasons, no_split_runs, no_part_runs}
-use Rattle.master_state.specs.Changes.{without_attempts, part_without, done_by, part_done_by, without_attempt, after_death, died, with_map_done, with_part_done, after}
+use Rattle.master_state.specs.Tests.{is_numbered, is_on, attempts_of, part_attempts, all_running, runs}
+use Rattle.master_state.specs.Tests.{part_runs, split_at, part_at, split_running, part_running}
+use Rattle.master_state.specs.Tests.{all_parts_done}
+use Rattle.master_state.specs.Refusals.{MapDone, MapFailed, Withdraw, Die, PartDone, PartFailed, refusal}
+use Rattle.master_state.specs.Refusals.{reasons, no_split_runs, no_part_runs}
+use Rattle.master_state.specs.Changes.{without_attempts, part_without, done_by, part_done_by, without_attempt}
+use Rattle.master_state.specs.Changes.{after_death, died, with_map_done, with_part_done, after}
 use Rattle.master_state.specs.Tidy.{IsTidy, AreHolders}
-use Rattle.master_state.proofs.Lists.{at-map, All-changed, All-left, All-right, flat_map-filter, filter_none, find-any}
+use Rattle.master_state.proofs.Lists.{at-map, All-changed, All-left, All-right, flat_map-filter, filter_none}
+use Rattle.master_state.proofs.Lists.{find-any}
 use Rattle.master_state.proofs.Facts.{count-all_running}
-use Rattle.master_state.proofs.Places.{IsPlaced, placed, told_split, told_part, split_inside, found_split, found_part, done_at, part_without_at}
-use Rattle.master_state.proofs.Less.{tidy_ended, attempts-without, attempts-part_without, attempts-part_done_by, attempts-death, less_without, less_same, less_done_by, less_death, part_less_filter}
-use Rattle.master_state.proofs.Slots.{fit_given, fit_all_given, fit_death, all_given, taken_given, taken_all_given, taken_death, live_given, live_all_given, live_death}
+use Rattle.master_state.proofs.Places.{IsPlaced, placed, told_split, told_part, split_inside, found_split}
+use Rattle.master_state.proofs.Places.{found_part, done_at, part_without_at}
+use Rattle.master_state.proofs.Less.{tidy_ended, attempts-without, attempts-part_without}
+use Rattle.master_state.proofs.Less.{attempts-part_done_by, attempts-death, less_without, less_same}
+use Rattle.master_state.proofs.Less.{less_done_by, less_death, part_less_filter}
+use Rattle.master_state.proofs.Slots.{fit_given, fit_all_given, fit_death, all_given, taken_given}
+use Rattle.master_state.proofs.Slots.{taken_all_given, taken_death, live_given, live_all_given, live_death}
 use Rattle.master_state.proofs.Reasons.{none_applies, room_left}
 use Rattle.master_state.proofs.Tidying.{tidy_tables, tidy_counted, fit_of, held_kept}
 

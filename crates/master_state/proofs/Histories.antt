@@ -3,13 +3,15 @@ use Rattle.std.proofs.Common.{List, [], ◌∷◌}
 use Rattle.master_state.specs.declared.events.Event.{Event}
 use Rattle.master_state.specs.declared.events.Event.TheVariants as events
 use Rattle.master_state.specs.States.{Setup, State, IsWhole, opening}
-use Rattle.master_state.specs.Refusals.{Call, MapDone, MapFailed, Withdraw, Die, Join, Add, Lose, Sweep, ReduceStart, PartDone, PartFailed, Backup}
+use Rattle.master_state.specs.Refusals.{Call, MapDone, MapFailed, Withdraw, Die, Join, Add, Lose, Sweep}
+use Rattle.master_state.specs.Refusals.{ReduceStart, PartDone, PartFailed, Backup}
 use Rattle.master_state.specs.Changes.{after}
 use Rattle.master_state.specs.Steps.{Step, Leads, IsLegal, IsChange}
 use Rattle.master_state.specs.Tidy.{IsTidy}
 use Rattle.master_state.proofs.Opening.{tidy_opening}
 use Rattle.master_state.proofs.Holding.{tidy_add, tidy_lose}
-use Rattle.master_state.proofs.Ending.{tidy_after_map_done, tidy_map_failed, tidy_withdraw, tidy_die, tidy_part_done, tidy_part_failed}
+use Rattle.master_state.proofs.Ending.{tidy_after_map_done, tidy_map_failed, tidy_withdraw, tidy_die}
+use Rattle.master_state.proofs.Ending.{tidy_part_done, tidy_part_failed}
 use Rattle.master_state.proofs.Starting.{tidy_backup, tidy_reduce_start}
 use Rattle.master_state.proofs.Sweeping.{tidy_sweep, tidy_join}
 use Rattle.master_state.proofs.Waves.{tidy_wave}

@@ -1,5 +1,6 @@
 -- A replica that is added or lost keeps a state tidy.
-use Rattle.std.proofs.Common.{◌≡◌, ◌≢◌, ℕ, List, [], ◌∷◌, ◌++◌, length, true, false, not, ◌==◌, None, sym, ◌∙◌, arith, All}
+use Rattle.std.proofs.Common.{◌≡◌, ◌≢◌, ℕ, List, [], ◌∷◌, ◌++◌, length, true, false, not, ◌==◌, None, sym}
+use Rattle.std.proofs.Common.{◌∙◌, arith, All}
 use Rattle.std.specs.List.{list_any}
 use Rattle.std.specs.Cmp.{unsigned_Decides}
 use Rattle.std.proofs.lemmas.Bool.{true≢false, leb-false, or_parts, not-false}

@@ -1,13 +1,15 @@
 -- A master keeps its promises by every call that is accepted, and by every wave.
-use Rattle.std.proofs.Common.{◌≡◌, ◌≢◌, ℕ, zero, suc, ◌+◌, ◌<◌, ◌==◌, ◌&&◌, ◌||◌, List, [], ◌∷◌, ◌++◌, length, map, cond, if◌then◌else◌, Bool, true, false, not, None, refl, sym, ap, ◌∙◌, arith, inl, inr, All, subst}
+use Rattle.std.proofs.Common.{◌≡◌, ◌≢◌, ℕ, ◌+◌, ◌==◌, ◌&&◌, ◌||◌, List, [], ◌∷◌, ◌++◌, length}
+use Rattle.std.proofs.Common.{map, cond, Bool, true, false, not, None, refl, sym, ap, ◌∙◌}
+use Rattle.std.proofs.Common.{arith, inl, inr}
 use Rattle.std.specs.Prelude.{fold, filter, slice_index_or}
 use Rattle.std.specs.List.{list_any, list_all, range_with_len}
-use Rattle.std.proofs.lemmas.Bool.{false≢true, eqb-true, eq-eqb, ne_eqb, cases_eq, not-false, and_parts, or_parts}
+use Rattle.std.proofs.lemmas.Bool.{false≢true, eqb-true, eq-eqb, ne_eqb, cases_eq, not-false, and_parts}
+use Rattle.std.proofs.lemmas.Bool.{or_parts}
 use Rattle.std.proofs.lemmas.List.{append-nil}
 use Rattle.std.proofs.lemmas.List.Elements.{All-nil, All-push}
 use Rattle.std.proofs.lemmas.List.Sums.{sum_by_push}
-use Rattle.word_map.specs.Runs.{MapView}
-use Rattle.shuffle_reduce.specs.Merged.{PartView, AreSameTexts}
+use Rattle.shuffle_reduce.specs.Merged.{PartView}
 use Rattle.shuffle_reduce.specs.Indexed.{count_of}
 use Rattle.wave_problem.specs.Assignment.{pairs_of}
 use Rattle.worker_table.specs.Workers.{has_free_slot, is_silent, swept}
@@ -16,12 +18,14 @@ use Rattle.master_state.specs.declared.states.PartState.{PartState}
 use Rattle.master_state.specs.declared.states.PartState.TheVariants as part
 use Rattle.master_state.specs.declared.events.Event.TheVariants as events
 use Rattle.master_state.specs.States.{Setup, State, opening}
-use Rattle.master_state.specs.Tests.{is_numbered, is_on, is_done, part_runs, part_at, part_running, part_is_done, part_is_pending, next_part, next_worker, next_on}
-use Rattle.master_state.specs.Refusals.{Call, MapDone, MapFailed, Withdraw, Die, Join, Add, Lose, Sweep, ReduceStart, PartDone, PartFailed, Backup, refusal, reasons, are_among, is_wrong_part}
+use Rattle.master_state.specs.Tests.{is_numbered, is_on, is_done, part_runs, part_at, part_running}
+use Rattle.master_state.specs.Tests.{part_is_done, part_is_pending, next_part, next_worker, next_on}
+use Rattle.master_state.specs.Refusals.{Call, MapDone, MapFailed, Withdraw, Die, Join, Add, Lose, Sweep}
+use Rattle.master_state.specs.Refusals.{ReduceStart, PartDone, PartFailed, Backup, refusal, reasons}
+use Rattle.master_state.specs.Refusals.{are_among}
 use Rattle.master_state.specs.Changes.{after, after_wave, split_started, died, part_without, part_done_by}
-use Rattle.master_state.specs.Steps.{Leads}
 use Rattle.master_state.specs.Tidy.{IsTidy}
-use Rattle.master_state.specs.Jobs.{Job, IsAccepted, IsCommitted, IsKept, AreResults, IsResult, added_by}
+use Rattle.master_state.specs.Jobs.{AreResults, IsResult, added_by}
 use Rattle.master_state.specs.Laws.{CallsKeep, WavesKeep, OpeningIsKept}
 use Rattle.master_state.proofs.Lists.{at-map, at-updated_other, at-updated_same, any_inside, any_found}
 use Rattle.master_state.proofs.Facts.{among}
@@ -136,7 +140,8 @@ results_more setup s a result results tidy allowed kept =
             | inl same ↦
                 let ends = part_ends a (part_at s here) run in
                 let old : count_of results r ≡ 0 = kept.one_each r
-                ∙ ap (λ b. let n : ℕ = cond b 1 0 in n) (ap (λ k. part_is_done (part_at s k)) same ∙ ends.0) in
+                ∙ ap (λ b. let n : ℕ = cond b 1 0 in n) (ap (λ k. part_is_done (part_at s k)) same ∙ ends.0)
+                in
                 let counted : ℕ = cond (result.part == r) 1 0 in
                 let one : counted ≡ 1 = ap (λ b. let n : ℕ = cond b 1 0 in n)
                 (eq-eqb result.part r (part_is ∙ sym same)) in
@@ -148,7 +153,8 @@ results_more setup s a result results tidy allowed kept =
                 let counted : ℕ = cond (result.part == r) 1 0 in
                 let none_more : counted ≡ 0 = ap (λ b. let n : ℕ = cond b 1 0 in n)
                 (ne_eqb result.part r (λ e. other (sym e ∙ part_is))) in
-                let new : part_is_done (part_at (after s (PartDone a result)) r) ≡ part_is_done (part_at s r) =
+                let new : part_is_done (part_at (after s (PartDone a result)) r)
+                ≡ part_is_done (part_at s r) =
                 ap part_is_done (at-map (part_done_by a) s.parts r part.Pending
                 ∙ part_done_by_none a (part_at s r) (part_runs_alone setup s a here _ r tidy start other)) in
                 rw new (omega (arith, kept.one_each r, none_more))

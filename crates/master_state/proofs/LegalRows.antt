@@ -1,12 +1,15 @@
 -- A legal history: a wave with its certificate, and a result.
-use Rattle.std.proofs.Common.{◌≡◌, ℕ, zero, suc, ◌==◌, ◌<◌, ◌≤◌, [], ◌∷◌, Some, refl, sym, ap, subst, true, false, arith}
+use Rattle.std.proofs.Common.{◌≡◌, ℕ, zero, suc, ◌==◌, ◌<◌, ◌≤◌, [], ◌∷◌, Some, refl, sym, ap, subst, true}
+use Rattle.std.proofs.Common.{false, arith}
 use Rattle.std.specs.Prelude.{is_some, unwrap_or}
 use Rattle.std.proofs.lemmas.Bool.{false≢true}
 use Rattle.std.proofs.lemmas.List.Elements.{All-cons, All-nil}
 use Rattle.rack_tree.proofs.Distances.{within_reach}
 use Rattle.wave_problem.specs.Wave.{Split, IsSmall, IsHeldWell}
 use Rattle.price_certificate.specs.Certificate.{Claim, Certifies, MayTake, claim, priced_at}
-use Rattle.price_certificate.specs.declared.Condition.TheVariants.{Open, Allowed, Room, SplitPrice, WorkerPrice, Priced, Tight, Unstarted, Spare}
+use Rattle.price_certificate.specs.declared.Condition.TheVariants.{Open, Allowed, Room, SplitPrice}
+use Rattle.price_certificate.specs.declared.Condition.TheVariants.{WorkerPrice, Priced, Tight, Unstarted}
+use Rattle.price_certificate.specs.declared.Condition.TheVariants.{Spare}
 use Rattle.price_certificate.proofs.Duality.{certified-best}
 use Rattle.master_state.specs.declared.events.Event.TheVariants as events
 use Rattle.master_state.specs.States.{IsWhole, opening}

@@ -1,8 +1,9 @@
 -- A state of which some attempts ended is tidy still.
-use Rattle.std.proofs.Common.{◌≡◌, ◌≢◌, ℕ, ◌&&◌, ◌⊎◌, List, [], ◌∷◌, ◌++◌, length, cond, Bool, true, false, not, Option, Some, None, refl, ap, ◌∙◌, inl, inr, All, Contains, subst}
+use Rattle.std.proofs.Common.{◌≡◌, ◌≢◌, ℕ, ◌&&◌, ◌⊎◌, List, [], ◌∷◌, ◌++◌, length, cond, Bool, true, false}
+use Rattle.std.proofs.Common.{not, Option, Some, None, refl, ap, ◌∙◌, inl, inr, All, Contains, subst}
 use Rattle.std.specs.Prelude.{flat_map, filter, find, count_by, slice_index_or}
 use Rattle.std.specs.Option.{option_map_or}
-use Rattle.std.proofs.lemmas.Bool.{false≢true, eq-eqb, ne_eqb}
+use Rattle.std.proofs.lemmas.Bool.{false≢true}
 use Rattle.std.proofs.lemmas.List.Elements.{All-nil, All-filter, All-contains}
 use Rattle.worker_table.specs.Workers.{Workers, is_live, taken_slots}
 use Rattle.master_state.specs.declared.states.Attempt.{Attempt}
@@ -12,7 +13,8 @@ use Rattle.master_state.specs.declared.states.SplitState.TheVariants.{Pending, R
 use Rattle.master_state.specs.declared.states.PartState.{PartState}
 use Rattle.master_state.specs.declared.states.PartState.TheVariants as part
 use Rattle.master_state.specs.States.{Setup, State}
-use Rattle.master_state.specs.Tests.{is_numbered, is_on, attempts_of, part_attempts, running, is_done, split_at, part_at}
+use Rattle.master_state.specs.Tests.{is_numbered, is_on, attempts_of, part_attempts, running, is_done}
+use Rattle.master_state.specs.Tests.{split_at, part_at}
 use Rattle.master_state.specs.Changes.{without_attempts, part_without, done_by, part_done_by, after_death}
 use Rattle.master_state.specs.Tidy.{IsTidy, IsToldAs, AreHolders}
 use Rattle.master_state.proofs.Lists.{find-contains}
@@ -203,11 +205,6 @@ attempts-death stays w Pending = refl
 attempts-death stays w (Running a other) = attempts-without (is_on w) (Running a other)
 attempts-death stays w (Done a) = lost_none (is_on w a && not stays) a
 
--- what becomes of a split that runs one attempt or two
-pub without_only : (test : Attempt → Bool) (one : Attempt) → test one ≡ true →
-    without_attempts test (Running one None) ≡ Pending
-without_only test one lost = rw lost refl
-
 pub without_first : (test : Attempt → Bool) (one other : Attempt) → test one ≡ true → test other ≡ false →
     without_attempts test (Running one (Some other)) ≡ Running other None
 without_first test one other lost kept = rw (lost, kept) refl
@@ -215,12 +212,3 @@ without_first test one other lost kept = rw (lost, kept) refl
 pub without_second : (test : Attempt → Bool) (one other : Attempt) → test one ≡ false → test other ≡ true →
     without_attempts test (Running one (Some other)) ≡ Running one None
 without_second test one other kept lost = rw (kept, lost) refl
-
-pub done_first : (a : ℕ) (one : Attempt) (other : Option Attempt) → one.number ≡ a →
-    done_by a (Running one other) ≡ Done one
-done_first a one None here = rw (eq-eqb one.number a here) refl
-done_first a one (Some other) here = rw (eq-eqb one.number a here) refl
-
-pub done_second : (a : ℕ) (one other : Attempt) → one.number ≢ a → other.number ≡ a →
-    done_by a (Running one (Some other)) ≡ Done other
-done_second a one other off here = rw (ne_eqb one.number a off, eq-eqb other.number a here) refl

@@ -1,5 +1,7 @@
 -- Lists of which one element or each was changed, and many lists in a row.
-use Rattle.std.proofs.Common.{◌≡◌, ◌≢◌, ◌||◌, cond, ℕ, zero, suc, ◌<◌, List, [], ◌∷◌, ◌++◌, length, map, Bool, true, false, Option, Some, refl, sym, ap, ◌∙◌, arith, inl, inr, All, AllPairs, Contains}
+use Rattle.std.proofs.Common.{◌≡◌, ◌≢◌, ◌||◌, cond, ℕ, zero, suc, ◌<◌, List, [], ◌∷◌, ◌++◌, length, map, Bool}
+use Rattle.std.proofs.Common.{true, false, Option, Some, refl, sym, ap, ◌∙◌, arith, inl, inr, All, AllPairs}
+use Rattle.std.proofs.Common.{Contains}
 use Rattle.std.specs.Prelude.{flat_map, filter, find, slice_get, slice_index_or, is_some}
 use Rattle.std.specs.List.{list_any}
 use Rattle.std.proofs.lemmas.Bool.{true≢false, false≢true, cases_lt}

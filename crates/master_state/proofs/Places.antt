@@ -1,9 +1,11 @@
 -- Where an attempt runs: the starts tell it.
-use Rattle.std.proofs.Common.{◌≡◌, ◌≢◌, ℕ, ◌<◌, ◌||◌, List, length, map, Bool, true, false, not, Option, Some, None, refl, sym, ap, ◌∙◌, arith, inl, inr, All, subst}
+use Rattle.std.proofs.Common.{◌≡◌, ◌≢◌, ℕ, ◌<◌, ◌||◌, List, length, map, Bool, true, false, not, Option, Some}
+use Rattle.std.proofs.Common.{None, refl, sym, ap, ◌∙◌, arith, inl, inr, All, subst}
 use Rattle.std.specs.Prelude.{flat_map, is_some}
 use Rattle.std.specs.List.{list_any}
 use Rattle.std.specs.Option.{option_map_or}
-use Rattle.std.proofs.lemmas.Bool.{false≢true, eqb-true, cases_Bool, cases_lt, cases_eq, false_from_ne_true, not-false, or_parts}
+use Rattle.std.proofs.lemmas.Bool.{false≢true, eqb-true, cases_Bool, cases_lt, cases_eq, false_from_ne_true}
+use Rattle.std.proofs.lemmas.Bool.{not-false, or_parts}
 use Rattle.std.proofs.lemmas.Option.{none-some}
 use Rattle.std.proofs.lemmas.List.{get_or_past}
 use Rattle.std.proofs.lemmas.List.Elements.{All-append, All-from_get_or}
@@ -19,7 +21,8 @@ use Rattle.master_state.specs.declared.states.SplitState.TheVariants.{Pending, R
 use Rattle.master_state.specs.declared.states.PartState.{PartState}
 use Rattle.master_state.specs.declared.states.PartState.TheVariants as part
 use Rattle.master_state.specs.States.{Setup, State, start_of, worker_of}
-use Rattle.master_state.specs.Tests.{is_numbered, attempts_of, part_attempts, all_running, runs, part_runs, split_at, part_at, split_running, part_running}
+use Rattle.master_state.specs.Tests.{is_numbered, attempts_of, part_attempts, all_running, runs, part_runs}
+use Rattle.master_state.specs.Tests.{split_at, part_at, split_running, part_running}
 use Rattle.master_state.specs.Refusals.{no_split_runs, no_part_runs}
 use Rattle.master_state.specs.Changes.{without_attempts, part_without, done_by, part_done_by}
 use Rattle.master_state.specs.Tidy.{IsTidy, IsToldAs}
@@ -259,7 +262,8 @@ pub without_at : (setup : Setup) (s : State) (a split w : ℕ) → IsTidy setup 
     × (map (part_without (is_numbered a)) s.parts ≡ s.parts)
 without_at setup s a split w tidy start = (
   map-updated (without_attempts (is_numbered a)) s.splits split Pending
-      (λ k other. without_none (is_numbered a) (split_at s k) (runs_alone setup s a split w k tidy start other)),
+      (λ k other. without_none (is_numbered a) (split_at s k)
+      (runs_alone setup s a split w k tidy start other)),
   map-kept (part_without (is_numbered a)) s.parts part.Pending
       (λ r. part_without_none (is_numbered a) (part_at s r) (no_part_beside setup s a split w r tidy start)),
 )

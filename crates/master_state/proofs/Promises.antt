@@ -1,5 +1,6 @@
 -- What a caller of the machine may rely on.
-use Rattle.std.proofs.Common.{◌≡◌, ◌≢◌, ℕ, List, [], ◌∷◌, ◌++◌, map, Bool, true, false, not, Option, Some, None, refl, sym, ap, ◌∙◌, arith, inl, inr, All, subst}
+use Rattle.std.proofs.Common.{◌≡◌, ◌≢◌, ℕ, List, [], ◌∷◌, ◌++◌, map, Bool, true, false, not, Option, Some}
+use Rattle.std.proofs.Common.{None, refl, sym, ap, ◌∙◌, arith, inl, inr, All, subst}
 use Rattle.std.specs.List.{list_any}
 use Rattle.std.proofs.lemmas.Bool.{false≢true, eq-eqb, ne_eqb, cases_eq, not_from_true, or_from, and_from}
 use Rattle.std.proofs.lemmas.List.Elements.{All-from_get_or, All-map}
@@ -15,16 +16,20 @@ use Rattle.master_state.specs.declared.states.Work.TheVariants as works
 use Rattle.master_state.specs.declared.states.SplitState.{SplitState}
 use Rattle.master_state.specs.declared.states.SplitState.TheVariants.{Pending, Running}
 use Rattle.master_state.specs.States.{Setup, State, opening, worker_of}
-use Rattle.master_state.specs.Tests.{is_numbered, is_on, attempts_of, runs, split_at, split_running, part_running, all_parts_done}
-use Rattle.master_state.specs.Refusals.{MapDone, first_of, text_of, is_full, no_split_runs, no_part_runs, is_wrong_map, is_wrong_part, is_same_text, are_among}
+use Rattle.master_state.specs.Tests.{is_numbered, is_on, attempts_of, runs, split_at, split_running}
+use Rattle.master_state.specs.Tests.{part_running, all_parts_done}
+use Rattle.master_state.specs.Refusals.{MapDone, first_of, text_of, is_full, no_split_runs, no_part_runs}
+use Rattle.master_state.specs.Refusals.{is_wrong_map, is_wrong_part, is_same_text, are_among}
 use Rattle.master_state.specs.Changes.{after, without_attempts, after_death, done_by}
 use Rattle.master_state.specs.Steps.{Step, Leads}
-use Rattle.master_state.specs.Laws.{EveryWaveIsBest, ResultsAsToldAreRight, PartsAsToldAreRight, SecondResultsAreOld, TheOtherGoesOn, GoesOnAlone}
+use Rattle.master_state.specs.Laws.{EveryWaveIsBest, ResultsAsToldAreRight, PartsAsToldAreRight}
+use Rattle.master_state.specs.Laws.{SecondResultsAreOld, TheOtherGoesOn, GoesOnAlone}
 use Rattle.master_state.specs.Tidy.{IsTidy, IsToldAs}
 use Rattle.master_state.proofs.Lists.{at-map}
 use Rattle.master_state.proofs.Less.{without_first, without_second}
 use Rattle.master_state.proofs.Facts.{same_text, are_among-all}
-use Rattle.master_state.proofs.Places.{worker_in, told_split, told_part, one_split, one_part, runs_alone, found_split, found_part, done_by_none}
+use Rattle.master_state.proofs.Places.{worker_in, told_split, told_part, one_split, one_part, runs_alone}
+use Rattle.master_state.proofs.Places.{found_split, found_part, done_by_none}
 use Rattle.master_state.proofs.Ending.{attempts-done_by}
 
 -- an event at its place: what came before, the step, and what came later

@@ -1,19 +1,20 @@
 -- What runs in a tidy state takes a slot of a worker of the cluster.
-use Rattle.std.proofs.Common.{◌≡◌, ℕ, zero, suc, ◌<◌, cond, length, true, Some, refl, ap, arith, inl, inr, All, subst}
+use Rattle.std.proofs.Common.{◌≡◌, ℕ, zero, suc, ◌<◌, cond, length, Some, refl, ap, arith, inl, inr}
+use Rattle.std.proofs.Common.{All, subst}
 use Rattle.std.specs.Prelude.{flat_map, slice_index_or}
 use Rattle.std.proofs.lemmas.Bool.{eq-eqb, cases_lt}
 use Rattle.std.proofs.lemmas.List.{get_or_past}
-use Rattle.std.proofs.lemmas.List.Elements.{All-nil, All-weaker}
+use Rattle.std.proofs.lemmas.List.Elements.{All-nil}
 use Rattle.std.proofs.lemmas.List.Sums.{get_or-le-sum_by}
 use Rattle.std.proofs.lemmas.Option.{slice_get_within, get_or_from_slice_get, none-some}
-use Rattle.worker_table.specs.Workers.{Workers, is_live, taken_slots}
+use Rattle.worker_table.specs.Workers.{Workers, taken_slots}
 use Rattle.master_state.specs.declared.states.Attempt.{Attempt}
 use Rattle.master_state.specs.declared.states.Start.{Start}
 use Rattle.master_state.specs.declared.states.SplitState.TheVariants.{Pending}
 use Rattle.master_state.specs.declared.states.PartState.TheVariants as part
 use Rattle.master_state.specs.States.{Setup, State, start_of}
 use Rattle.master_state.specs.Tests.{is_on, attempts_of, part_attempts, all_running, split_at, part_at}
-use Rattle.master_state.specs.Tidy.{IsTidy, IsStartOf, AreHolders}
+use Rattle.master_state.specs.Tidy.{IsTidy, IsStartOf}
 use Rattle.master_state.proofs.Lists.{All-left, All-right, All-of_flat_map}
 use Rattle.master_state.proofs.Slots.{live-inside}
 
@@ -60,11 +61,3 @@ start_known setup s zero start tidy told = absurd (none-some start told)
 start_known setup s (suc a) start tidy told =
     subst (IsStartOf setup) (get_or_from_slice_get s.starts a start start told)
     (tidy.known a start (slice_get_within s.starts a start told))
-
--- the holders are in the table
-pub holders_known : (setup : Setup) (s : State) → IsTidy setup s →
-    All (All (λ h. h < length s.workers.each)) s.holders
-holders_known setup s tidy =
-    All-weaker (AreHolders s.workers) (All (λ h. h < length s.workers.each))
-    (λ holders held. All-weaker (λ h. is_live s.workers h ≡ true) (λ h. h < length s.workers.each)
-    (live-inside s.workers) holders held.live) s.holders tidy.held

@@ -1,5 +1,6 @@
 -- The table of workers after slots are taken or given, and after deaths, returns and sweeps.
-use Rattle.std.proofs.Common.{◌≡◌, ◌≢◌, ℕ, zero, suc, ◌+◌, ◌-◌, ◌<◌, ◌==◌, List, [], ◌∷◌, length, map, cond, true, false, refl, sym, ap, ◌∙◌, arith, inl, inr, All, subst}
+use Rattle.std.proofs.Common.{◌≡◌, ◌≢◌, ℕ, zero, suc, ◌+◌, ◌-◌, ◌<◌, ◌==◌, List, [], ◌∷◌, length, map, cond}
+use Rattle.std.proofs.Common.{true, false, refl, sym, ap, ◌∙◌, arith, inl, inr, All, subst}
 use Rattle.std.specs.Prelude.{fold, count_by, slice_index, slice_index_or, min, nat_lt}
 use Rattle.std.specs.List.{enumerate_from}
 use Rattle.std.proofs.lemmas.Bool.{eq-eqb, ne_eqb, cases_eq, cases_lt, cond_both, false≢true}
@@ -8,11 +9,14 @@ use Rattle.std.proofs.lemmas.List.{get_or_past}
 use Rattle.std.proofs.lemmas.List.Elements.{All-nil, All-cons}
 use Rattle.std.proofs.lemmas.List.Sums.{sum_by-cons}
 use Rattle.worker_table.specs.declared.Worker.{Worker}
-use Rattle.worker_table.specs.Workers.{Workers, IsWithin, worker_at, is_live, taken_slots, with_worker, with_slot_taken, with_slot_given, with_death, with_return, heard, swept}
+use Rattle.worker_table.specs.Workers.{Workers, IsWithin, worker_at, is_live, taken_slots, with_worker}
+use Rattle.worker_table.specs.Workers.{with_slot_taken, with_slot_given, with_death, with_return, heard}
+use Rattle.worker_table.specs.Workers.{swept}
 use Rattle.master_state.specs.declared.states.Attempt.{Attempt}
 use Rattle.master_state.specs.States.{Setup}
 use Rattle.master_state.specs.Tests.{is_on}
-use Rattle.master_state.proofs.Lists.{at-updated_other, at-updated_same, at-updated_kept, same-updated, map-updated_same, All-updated}
+use Rattle.master_state.proofs.Lists.{at-updated_other, at-updated_same, at-updated_kept, same-updated}
+use Rattle.master_state.proofs.Lists.{map-updated_same, All-updated}
 
 -- what stands past the last worker
 abbrev pub nobody : Worker

@@ -1,8 +1,11 @@
 -- Starts keep a state tidy: backups, reduce attempts, and the starts of a wave.
-use Rattle.std.proofs.Common.{◌≡◌, ◌≢◌, ℕ, zero, suc, ◌+◌, ◌<◌, ◌≤◌, ◌==◌, ◌⊎◌, List, [], ◌∷◌, ◌++◌, length, cond, Bool, true, false, not, Some, None, refl, sym, ap, ◌∙◌, add-one, arith, inl, inr, All, AllPairs, subst}
+use Rattle.std.proofs.Common.{◌≡◌, ◌≢◌, ℕ, zero, suc, ◌+◌, ◌<◌, ◌≤◌, ◌==◌, ◌⊎◌, List, [], ◌∷◌, ◌++◌, length}
+use Rattle.std.proofs.Common.{cond, Bool, true, false, not, Some, None, refl, sym, ap, ◌∙◌, add-one, arith}
+use Rattle.std.proofs.Common.{inl, inr, All, AllPairs, subst}
 use Rattle.std.specs.List.{list_any, list_all}
 use Rattle.std.specs.Prelude.{◌||◌, flat_map, fold, count_by}
-use Rattle.std.proofs.lemmas.Bool.{false≢true, eq-eqb, cases_eq, not-true, not-false, and_parts, ltb-true, eqb-false, cases_lt, or_parts, and_from, lt-ltb}
+use Rattle.std.proofs.lemmas.Bool.{false≢true, eq-eqb, cases_eq, not-true, not-false, and_parts, ltb-true}
+use Rattle.std.proofs.lemmas.Bool.{eqb-false, cases_lt, or_parts, and_from, lt-ltb}
 use Rattle.std.proofs.lemmas.List.{length-append, length-map, get_or_past}
 use Rattle.std.proofs.lemmas.List.Elements.{All-nil, All-cons, All-append, All-push, All-weaker}
 use Rattle.std.proofs.lemmas.List.Sums.{sum_by-cons, sum_by-append}
@@ -11,7 +14,8 @@ use Rattle.node_ids.specs.Updates.{updated}
 use Rattle.node_ids.proofs.Updating.{length-updated, sum_by-updated}
 use Rattle.wave_problem.specs.Assignment.{load}
 use Rattle.worker_table.specs.declared.Worker.{Worker}
-use Rattle.worker_table.specs.Workers.{Workers, is_live, taken_slots, has_free_slot, worker_at, with_slot_taken}
+use Rattle.worker_table.specs.Workers.{Workers, is_live, taken_slots, has_free_slot, worker_at}
+use Rattle.worker_table.specs.Workers.{with_slot_taken}
 use Rattle.master_state.specs.declared.states.Attempt.{Attempt}
 use Rattle.master_state.specs.declared.states.Start.{Start}
 use Rattle.master_state.specs.declared.states.Work.{Work}
@@ -21,11 +25,13 @@ use Rattle.master_state.specs.declared.states.SplitState.TheVariants.{Pending, R
 use Rattle.master_state.specs.declared.states.PartState.{PartState}
 use Rattle.master_state.specs.declared.states.PartState.TheVariants as part
 use Rattle.master_state.specs.States.{Setup, State, start_of, next_attempt}
-use Rattle.master_state.specs.Tests.{is_on, attempts_of, part_attempts, running, all_running, is_done, split_at, part_at, next_on, next_part, next_worker, part_is_pending}
+use Rattle.master_state.specs.Tests.{is_on, attempts_of, part_attempts, running, all_running, is_done}
+use Rattle.master_state.specs.Tests.{split_at, part_at, next_on, next_part, next_worker, part_is_pending}
 use Rattle.master_state.specs.Refusals.{ReduceStart, Backup, refusal, reasons, takes_backup}
 use Rattle.master_state.specs.Changes.{with_start, split_started, with_reduce_started, after}
 use Rattle.master_state.specs.Tidy.{IsTidy, IsStartOf, IsToldAs}
-use Rattle.master_state.proofs.Lists.{All-left, All-right, All-one_changed, at-updated_other, at-updated_same, updated-agree, slice_get-append, slice_get-push, any_inside, any_found}
+use Rattle.master_state.proofs.Lists.{All-left, All-right, All-one_changed, at-updated_other, at-updated_same}
+use Rattle.master_state.proofs.Lists.{updated-agree, slice_get-append, slice_get-push, any_inside, any_found}
 use Rattle.master_state.proofs.Facts.{count-all_running}
 use Rattle.master_state.proofs.Places.{start_on}
 use Rattle.master_state.proofs.Slots.{nobody, fit_taken, live-inside, live_taken, slots_taken, taken_taken}

@@ -2,7 +2,8 @@
 use Rattle.std.proofs.Common.{ℕ, List, [], ◌∷◌, ◌++◌, refl, subst}
 use Rattle.master_state.specs.declared.events.Event.{Event}
 use Rattle.master_state.specs.States.{Setup, State}
-use Rattle.master_state.specs.Refusals.{Call, MapDone, MapFailed, Withdraw, Die, Join, Add, Lose, Sweep, ReduceStart, PartDone, PartFailed, Backup}
+use Rattle.master_state.specs.Refusals.{Call, MapDone, MapFailed, Withdraw, Die, Join, Add, Lose, Sweep}
+use Rattle.master_state.specs.Refusals.{ReduceStart, PartDone, PartFailed, Backup}
 use Rattle.master_state.specs.Steps.{Step, Leads, IsLegal, IsChange}
 use Rattle.master_state.specs.Jobs.{Job, IsAccepted, event_of}
 

@@ -1,5 +1,6 @@
 -- A sweep, and a return, keep a state tidy.
-use Rattle.std.proofs.Common.{◌≡◌, ◌≢◌, ℕ, suc, ◌+◌, ◌<◌, ◌&&◌, List, [], ◌∷◌, ◌++◌, length, map, cond, Bool, true, false, None, refl, sym, ap, ◌∙◌, arith, All}
+use Rattle.std.proofs.Common.{◌≡◌, ◌≢◌, ℕ, suc, ◌+◌, ◌<◌, ◌&&◌, List, [], ◌∷◌, ◌++◌, length, map, cond, Bool}
+use Rattle.std.proofs.Common.{true, false, None, refl, sym, ap, ◌∙◌, arith, All}
 use Rattle.std.specs.Prelude.{fold, filter}
 use Rattle.std.specs.List.{list_any, enumerate_from, range_with_len}
 use Rattle.std.proofs.lemmas.Bool.{false≢true, leb-false, or_parts}
@@ -13,7 +14,8 @@ use Rattle.master_state.specs.Refusals.{Join, Sweep, IsKnown, refusal, reasons}
 use Rattle.master_state.specs.Changes.{died, with_sweep, after}
 use Rattle.master_state.specs.Tidy.{IsTidy, AreHolders}
 use Rattle.master_state.proofs.Lists.{AllPairs-append}
-use Rattle.master_state.proofs.Slots.{fit_swept, live_swept, taken_swept, fit_return, live_return, live_return_other, taken_return}
+use Rattle.master_state.proofs.Slots.{fit_swept, live_swept, taken_swept, fit_return, live_return}
+use Rattle.master_state.proofs.Slots.{live_return_other, taken_return}
 use Rattle.master_state.proofs.Reasons.{none_applies, room_left, sweep_left}
 use Rattle.master_state.proofs.Tidying.{tidy_tables, tidy_counted, fit_of, held_kept}
 use Rattle.master_state.proofs.Ending.{tidy_died}

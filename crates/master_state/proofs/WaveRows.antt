@@ -1,5 +1,6 @@
 -- A plan that is stale in the present state, and copy orders.
-use Rattle.std.proofs.Common.{◌≡◌, ℕ, zero, suc, ◌+◌, ◌<◌, List, [], ◌∷◌, Option, Some, None, refl, true, arith, inl, inr, Contains}
+use Rattle.std.proofs.Common.{◌≡◌, ℕ, zero, suc, ◌+◌, ◌<◌, List, [], ◌∷◌, Option, Some, None, refl, true}
+use Rattle.std.proofs.Common.{arith, inl, inr, Contains}
 use Rattle.word_map.specs.Texts.{SplitDocuments}
 use Rattle.wave_problem.specs.Wave.{Wave, IsAdmissible, cost, reward, worker_at}
 use Rattle.price_certificate.specs.Certificate.{Certifies, Holds, claim, split_price, worker_price}

@@ -1,12 +1,13 @@
 -- A wave keeps a state tidy: a best assignment's pairs are starts.
-use Rattle.std.proofs.Common.{◌≡◌, ◌≢◌, ℕ, zero, suc, ◌+◌, ◌<◌, ◌≤◌, ◌==◌, List, [], ◌∷◌, length, map, cond, true, false, Option, refl, sym, ap, ◌∙◌, arith, inl, inr, AllPairs, subst}
+use Rattle.std.proofs.Common.{◌≡◌, ◌≢◌, ℕ, zero, suc, ◌+◌, ◌<◌, ◌≤◌, ◌==◌, List, [], ◌∷◌, length, map, cond}
+use Rattle.std.proofs.Common.{true, false, Option, refl, sym, ap, ◌∙◌, arith, inl, inr, AllPairs, subst}
 use Rattle.std.specs.Prelude.{slice_index_or, zip}
 use Rattle.std.proofs.lemmas.Bool.{false≢true, eq-eqb, cases_lt}
 use Rattle.std.proofs.lemmas.List.{get_or_past}
 use Rattle.std.proofs.lemmas.List.Kept.{AllPairs-cons}
 use Rattle.std.proofs.lemmas.List.Sums.{sum_by-cons, get_or-le-sum_by}
 use Rattle.wave_problem.specs.declared.lines.WorkerLine.{WorkerLine}
-use Rattle.wave_problem.specs.Wave.{Split, IsAdmissible}
+use Rattle.wave_problem.specs.Wave.{Split}
 use Rattle.wave_problem.specs.Wave as wave
 use Rattle.wave_problem.specs.Assignment.{IsAssignment, times_started, pairs_of}
 use Rattle.worker_table.specs.declared.Worker.{Worker}

@@ -1,9 +1,11 @@
 -- What each event makes of a state.
-use Rattle.std.specs.Prelude.{ℕ, ◌+◌, ◌&&◌, Bool, not, if◌then◌else◌, List, [], ◌∷◌, ◌++◌, length, map, filter, fold, find}
+use Rattle.std.specs.Prelude.{ℕ, ◌+◌, ◌&&◌, Bool, not, if◌then◌else◌, List, [], ◌∷◌, ◌++◌, length, map}
+use Rattle.std.specs.Prelude.{filter, fold, find}
 use Rattle.std.specs.List.{range_with_len}
 use Rattle.std.specs.Option.{option_map_or}
 use Rattle.node_ids.specs.Updates.{updated}
-use Rattle.worker_table.specs.Workers.{with_slot_taken, with_slot_given, with_death, with_return, with_bar, swept, is_silent}
+use Rattle.worker_table.specs.Workers.{with_slot_taken, with_slot_given, with_death, with_return, with_bar}
+use Rattle.worker_table.specs.Workers.{swept, is_silent}
 use Rattle.block_map.specs.Holdings.{with_holder, with_holder_of_all, without_holder, without_worker}
 use Rattle.master_state.specs.declared.states.Attempt.{Attempt}
 use Rattle.master_state.specs.declared.states.Work.{Work}
@@ -13,8 +15,10 @@ use Rattle.master_state.specs.declared.states.SplitState.TheVariants.{Pending, D
 use Rattle.master_state.specs.declared.states.PartState.{PartState}
 use Rattle.master_state.specs.declared.states.PartState.TheVariants as part
 use Rattle.master_state.specs.States.{State, worker_of}
-use Rattle.master_state.specs.Tests.{is_numbered, is_on, attempts_of, running, split_at, split_running, next_part, next_worker, next_on, all_parts_done}
-use Rattle.master_state.specs.Refusals.{Call, MapDone, MapFailed, Withdraw, Die, Join, Add, Lose, Sweep, ReduceStart, PartDone, PartFailed, Backup}
+use Rattle.master_state.specs.Tests.{is_numbered, is_on, attempts_of, running, split_at, split_running}
+use Rattle.master_state.specs.Tests.{next_part, next_worker, next_on, all_parts_done}
+use Rattle.master_state.specs.Refusals.{Call, MapDone, MapFailed, Withdraw, Die, Join, Add, Lose, Sweep}
+use Rattle.master_state.specs.Refusals.{ReduceStart, PartDone, PartFailed, Backup}
 
 -- one event more
 abbrev pub counted : State → State

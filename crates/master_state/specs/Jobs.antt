@@ -1,5 +1,6 @@
 -- What a caller sees of a master, and what an answer of it promises.
-use Rattle.std.specs.Prelude.{ℕ, ◌≡◌, ◌+◌, ◌⊎◌, ◌↔◌, Bool, true, false, not, if◌then◌else◌, IsTrue, List, [], ◌∷◌, ◌++◌, length, All, count_by, Option, Some, None, Ok, Err}
+use Rattle.std.specs.Prelude.{ℕ, ◌≡◌, ◌+◌, ◌⊎◌, ◌↔◌, Bool, true, false, not, if◌then◌else◌, IsTrue, List, []}
+use Rattle.std.specs.Prelude.{◌∷◌, ◌++◌, length, All, count_by, Option, Some, None, Ok, Err}
 use Rattle.std.specs.declared.result.Result.{Result}
 use Rattle.node_ids.specs.Sets.{has_number}
 use Rattle.wave_problem.specs.Wave.{IsAdmissible}
@@ -29,7 +30,9 @@ use Rattle.master_state.specs.declared.events.Event.{Event}
 use Rattle.master_state.specs.declared.events.Event.TheVariants as events
 use Rattle.master_state.specs.States.{Setup, State, IsWhole, AreSmall, next_attempt}
 use Rattle.master_state.specs.Tests.{all_running, is_done, part_is_done, part_at, next_part, next_worker}
-use Rattle.master_state.specs.Refusals.{Call, MapDone, MapFailed, Withdraw, Die, Join, Add, Lose, Sweep, ReduceStart, PartDone, PartFailed, Backup, refusal, has_no_room, is_not_reducible}
+use Rattle.master_state.specs.Refusals.{Call, MapDone, MapFailed, Withdraw, Die, Join, Add, Lose, Sweep}
+use Rattle.master_state.specs.Refusals.{ReduceStart, PartDone, PartFailed, Backup, refusal, has_no_room}
+use Rattle.master_state.specs.Refusals.{is_not_reducible}
 use Rattle.master_state.specs.Steps.{IsWave, IsChange, IsLegal, problem_of}
 use Rattle.master_state.specs.Tidy.{IsTidy}
 

@@ -1,5 +1,6 @@
 -- The calls of the master, and for each the reasons to ignore it, in the order in which they are tested.
-use Rattle.std.specs.Prelude.{ℕ, ◌+◌, ◌<◌, ◌==◌, ◌&&◌, ◌||◌, nat_le, nat_lt, Bool, false, not, if◌then◌else◌, List, [], ◌∷◌, length, Option, Some, None, slice_index_or}
+use Rattle.std.specs.Prelude.{ℕ, ◌+◌, ◌<◌, ◌==◌, ◌&&◌, ◌||◌, nat_le, nat_lt, Bool, false, not, if◌then◌else◌}
+use Rattle.std.specs.Prelude.{List, [], ◌∷◌, length, Option, Some, None, slice_index_or}
 use Rattle.std.specs.List.{list_any, list_all}
 use Rattle.std.specs.Ordering.{is_eq}
 use Rattle.node_ids.specs.Sets.{Has}
@@ -10,11 +11,15 @@ use Rattle.shuffle_reduce.specs.Order.{text_cmp}
 use Rattle.worker_table.specs.Workers.{is_live, is_barred, has_free_slot, worker_at}
 use Rattle.block_map.specs.Holdings.{holders_of, is_holder, are_eight, has_eight_among}
 use Rattle.master_state.specs.declared.answers.Why.{Why}
-use Rattle.master_state.specs.declared.answers.Why.TheVariants.{OldAttempt, DeadWorker, LiveWorker, AlreadyHolds, NotHolder, EightHolders, NotReady, WrongInput, HistoryFull, NoBackup, Barred}
+use Rattle.master_state.specs.declared.answers.Why.TheVariants.{OldAttempt, DeadWorker, LiveWorker}
+use Rattle.master_state.specs.declared.answers.Why.TheVariants.{AlreadyHolds, NotHolder, EightHolders}
+use Rattle.master_state.specs.declared.answers.Why.TheVariants.{NotReady, WrongInput, HistoryFull, NoBackup}
+use Rattle.master_state.specs.declared.answers.Why.TheVariants.{Barred}
 use Rattle.master_state.specs.declared.states.SplitState.{SplitState}
 use Rattle.master_state.specs.declared.states.SplitState.TheVariants.{Running}
 use Rattle.master_state.specs.States.{Setup, State}
-use Rattle.master_state.specs.Tests.{is_on, runs, part_runs, is_pending, is_done, part_is_pending, split_at, split_running, part_running}
+use Rattle.master_state.specs.Tests.{is_on, runs, part_runs, is_pending, is_done, part_is_pending, split_at}
+use Rattle.master_state.specs.Tests.{split_running, part_running}
 
 -- what is asked of the master, but for a wave
 pub data Call : Type 0 where

@@ -1,5 +1,6 @@
 -- What a job is given, and what the calls of its master change.
-use Rattle.std.specs.Prelude.{ℕ, ◌≡◌, ◌+◌, ◌≤◌, zero, suc, List, [], length, map, replicate, All, Option, None, slice_get}
+use Rattle.std.specs.Prelude.{ℕ, ◌≡◌, ◌+◌, ◌≤◌, zero, suc, List, [], length, map, replicate, All, Option}
+use Rattle.std.specs.Prelude.{None, slice_get}
 use Rattle.std.specs.List.{range_with_len}
 use Rattle.std.specs.Option.{option_map_or}
 use Rattle.rack_tree.specs.Tree.{Tree}

@@ -11,7 +11,9 @@ use Rattle.master_state.specs.declared.events.Event.TheVariants as events
 use Rattle.master_state.specs.declared.states.SplitState.{SplitState}
 use Rattle.master_state.specs.States.{Setup, State, opening, next_attempt}
 use Rattle.master_state.specs.Tests.{is_pending, next_part, next_worker}
-use Rattle.master_state.specs.Refusals.{Call, MapDone, MapFailed, Withdraw, Die, Join, Add, Lose, Sweep, ReduceStart, PartDone, PartFailed, Backup, IsKnown, refusal, has_no_room}
+use Rattle.master_state.specs.Refusals.{Call, MapDone, MapFailed, Withdraw, Die, Join, Add, Lose, Sweep}
+use Rattle.master_state.specs.Refusals.{ReduceStart, PartDone, PartFailed, Backup, IsKnown, refusal}
+use Rattle.master_state.specs.Refusals.{has_no_room}
 use Rattle.master_state.specs.Changes.{after, after_wave}
 
 -- a worker, and a split with its state and its holders, as a wave sees them

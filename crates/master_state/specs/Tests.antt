@@ -1,5 +1,6 @@
 -- What is asked of a state: which attempts run, and where.
-use Rattle.std.specs.Prelude.{ℕ, ◌==◌, Bool, true, false, List, [], ◌∷◌, ◌++◌, flat_map, Some, None, slice_index_or}
+use Rattle.std.specs.Prelude.{ℕ, ◌==◌, Bool, true, false, List, [], ◌∷◌, ◌++◌, flat_map, Some, None}
+use Rattle.std.specs.Prelude.{slice_index_or}
 use Rattle.std.specs.List.{list_any, list_all, position_or_len}
 use Rattle.worker_table.specs.Workers.{has_free_slot}
 use Rattle.master_state.specs.declared.states.Attempt.{Attempt}

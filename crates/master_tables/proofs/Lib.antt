@@ -1,5 +1,7 @@
+pub mod Together
+pub mod Among
 pub mod Showing
 pub mod Counting
-pub mod OneDeath
+pub mod Burials
 pub mod WaveLines
 pub mod Starts

@@ -1,19 +1,17 @@
 -- What changes of entries show, and which results they keep.
-use Rattle.std.proofs.Common.{◌≡◌, ℕ, zero, suc, ◌&&◌, List, [], ◌∷◌, ◌++◌, map, get_or, cond, Bool, true, false, not, Option, Some, None, refl, ap, ◌∙◌, sym}
+use Rattle.std.proofs.Common.{◌≡◌, ℕ, zero, suc, ◌&&◌, List, [], ◌∷◌, ◌++◌, map, get_or, cond, Bool, true}
+use Rattle.std.proofs.Common.{false, not, Option, Some, None, refl, ap, ◌∙◌, sym}
 use Rattle.std.specs.Prelude.{filter, slice_get}
 use Rattle.std.specs.Option.{option_map}
 use Rattle.std.proofs.lemmas.Option.{slice_get-map, same_Some}
 use Rattle.node_ids.specs.Updates.{updated}
 use Rattle.word_map.specs.Runs.{MapView}
-use Rattle.worker_table.specs.Workers.{Workers, with_death}
-use Rattle.block_map.specs.Holdings.{without_worker}
 use Rattle.master_state.specs.declared.states.Attempt.{Attempt}
 use Rattle.master_state.specs.declared.states.SplitState.{SplitState}
 use Rattle.master_state.specs.declared.states.SplitState.TheVariants as states
-use Rattle.master_state.specs.declared.states.PartState.{PartState}
-use Rattle.master_state.specs.States.{Setup, State}
-use Rattle.master_state.specs.Tests.{attempts_of, is_on, running, all_parts_done}
-use Rattle.master_state.specs.Changes.{after_death, died, part_without, without_attempts}
+use Rattle.master_state.specs.States.{Setup}
+use Rattle.master_state.specs.Tests.{attempts_of, running}
+use Rattle.master_state.specs.Changes.{without_attempts}
 use Rattle.master_tables.specs.declared.entries.SplitEntry.{SplitEntry}
 use Rattle.master_tables.specs.declared.entries.SplitEntry.TheVariants.{Pending, Running, Done}
 use Rattle.master_tables.specs.Entries.{shown_as, entry_of, entry_after_death, entry_with, entry_without}
@@ -29,19 +27,26 @@ shown-done : (b : Bool) (attempt : Attempt) (result : MapView) →
 shown-done true attempt result = refl
 shown-done false attempt result = refl
 
-shown-death : (stays : Bool) (w : ℕ) (entry : SplitEntry) →
-    shown_as (entry_after_death stays w entry) ≡ after_death stays w (shown_as entry)
-shown-death stays w Pending = refl
-shown-death stays w (Running one None) = shown-running (filter (λ a. not (is_on w a)) (one ∷ []))
-shown-death stays w (Running one (Some other)) = shown-running (filter (λ a. not (is_on w a)) (one ∷ other
-    ∷ []))
-shown-death stays w (Done attempt result) = shown-done (is_on w attempt && not stays) attempt result
+-- a split after the deaths of those whose attempts the test names
+abbrev pub after_deaths : Bool → (Attempt → Bool) → SplitState → SplitState
+after_deaths stays test (states.Done attempt) =
+    cond (test attempt && not stays) states.Pending (states.Done attempt)
+after_deaths stays test split = without_attempts test split
 
-pub shown-deaths : (stays : Bool) (w : ℕ) (entries : List SplitEntry) →
-    map shown_as (map (entry_after_death stays w) entries) ≡ map (after_death stays w) (map shown_as entries)
-shown-deaths stays w [] = refl
-shown-deaths stays w (entry ∷ entries) =
-    rw (shown-death stays w entry, shown-deaths stays w entries) refl
+shown-death : (stays : Bool) (test : Attempt → Bool) (entry : SplitEntry) →
+    shown_as (entry_after_death stays test entry) ≡ after_deaths stays test (shown_as entry)
+shown-death stays test Pending = refl
+shown-death stays test (Running one None) = shown-running (filter (λ a. not (test a)) (one ∷ []))
+shown-death stays test (Running one (Some other)) = shown-running (filter (λ a. not (test a)) (one ∷ other
+    ∷ []))
+shown-death stays test (Done attempt result) = shown-done (test attempt && not stays) attempt result
+
+pub shown-deaths : (stays : Bool) (test : Attempt → Bool) (entries : List SplitEntry) →
+    map shown_as (map (entry_after_death stays test) entries)
+    ≡ map (after_deaths stays test) (map shown_as entries)
+shown-deaths stays test [] = refl
+shown-deaths stays test (entry ∷ entries) =
+    rw (shown-death stays test entry, shown-deaths stays test entries) refl
 
 -- no entry of a split that is not done keeps a result
 never_done : (state : SplitState) (attempt : Attempt) (result : MapView) →
@@ -61,12 +66,13 @@ MakesNone change =
     (entry : SplitEntry) (attempt : Attempt) (result : MapView) → change entry ≡ Done attempt result →
     entry ≡ Done attempt result
 
-pub death_makes_none : (stays : Bool) (w : ℕ) → MakesNone (entry_after_death stays w)
-death_makes_none stays w Pending attempt result e = e
-death_makes_none stays w (Running one None) attempt result e = absurd (never_done _ attempt result e)
-death_makes_none stays w (Running one (Some other)) attempt result e = absurd (never_done _ attempt result e)
-death_makes_none stays w (Done one made) attempt result e =
-    still_done (is_on w one && not stays) one attempt made result e
+pub death_makes_none : (stays : Bool) (test : Attempt → Bool) → MakesNone (entry_after_death stays test)
+death_makes_none stays test Pending attempt result e = e
+death_makes_none stays test (Running one None) attempt result e = absurd (never_done _ attempt result e)
+death_makes_none stays test (Running one (Some other)) attempt result e =
+    absurd (never_done _ attempt result e)
+death_makes_none stays test (Done one made) attempt result e =
+    still_done (test one && not stays) one attempt made result e
 
 some_done : (change : SplitEntry → SplitEntry) → MakesNone change → (found : Option SplitEntry)
     (attempt : Attempt) (result : MapView) → option_map change found ≡ Some (Done attempt result) →
@@ -83,16 +89,7 @@ made_mapped setup change entries none made split attempt result found =
     (some_done change none (slice_get entries split) attempt result (sym (slice_get-map change entries
     split) ∙ found))
 
--- the tables after a death make the state after it
-pub died_is : (s : State) (w : ℕ) (stays : Bool) (workers : Workers) (holders : List (List ℕ))
-    (splits : List SplitState) (parts : List PartState) → workers ≡ with_death s.workers w →
-    holders ≡ without_worker s.holders w → stays ≡ all_parts_done s →
-    splits ≡ map (after_death stays w) s.splits → parts ≡ map (part_without (is_on w)) s.parts →
-    died s w ≡ record s { workers = workers; holders = holders; splits = splits; parts = parts }
-died_is s w stays workers holders splits parts dead dropped same lost ended =
-    rw (dead, dropped, lost, ended, same) refl
-
--- so with the end of an attempt
+-- an entry without the attempts that end
 shown-without : (test : Attempt → Bool) (entry : SplitEntry) →
     shown_as (entry_without test entry) ≡ without_attempts test (shown_as entry)
 shown-without test Pending = refl

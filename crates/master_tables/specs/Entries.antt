@@ -1,9 +1,9 @@
 -- What has become of a split, as callers see it.
-use Rattle.std.specs.Prelude.{ℕ, ◌&&◌, Bool, not, if◌then◌else◌, [], ◌∷◌, ◌++◌}
+use Rattle.std.specs.Prelude.{◌&&◌, Bool, not, if◌then◌else◌, [], ◌∷◌, ◌++◌}
 use Rattle.master_state.specs.declared.states.Attempt.{Attempt}
 use Rattle.master_state.specs.declared.states.SplitState.{SplitState}
 use Rattle.master_state.specs.declared.states.SplitState.TheVariants as states
-use Rattle.master_state.specs.Tests.{is_on, attempts_of, running}
+use Rattle.master_state.specs.Tests.{attempts_of, running}
 use Rattle.master_state.specs.Changes.{without_attempts}
 use Rattle.master_tables.specs.declared.entries.SplitEntry.{SplitEntry}
 use Rattle.master_tables.specs.declared.entries.SplitEntry.TheVariants.{Pending, Running, Done}
@@ -19,13 +19,14 @@ abbrev pub entry_of : SplitState → SplitEntry
 entry_of (states.Running attempt other) = Running attempt other
 entry_of state = Pending
 
--- an entry after the death of w: what w had done is dropped too, unless it stays
-abbrev pub entry_after_death : Bool → ℕ → SplitEntry → SplitEntry
-entry_after_death stays w Pending = Pending
-entry_after_death stays w (Running attempt other) =
-    entry_of (without_attempts (is_on w) (states.Running attempt other))
-entry_after_death stays w (Done attempt result) =
-    if is_on w attempt && not stays then Pending else Done attempt result
+-- an entry after the deaths of those whose attempts the test names: what they had done is dropped too,
+-- unless it stays
+abbrev pub entry_after_death : Bool → (Attempt → Bool) → SplitEntry → SplitEntry
+entry_after_death stays test Pending = Pending
+entry_after_death stays test (Running attempt other) =
+    entry_of (without_attempts test (states.Running attempt other))
+entry_after_death stays test (Done attempt result) =
+    if test attempt && not stays then Pending else Done attempt result
 
 -- an entry without the attempts that the test names
 abbrev pub entry_without : (Attempt → Bool) → SplitEntry → SplitEntry

@@ -1,5 +1,5 @@
 -- The slots that attempts take.
-use Rattle.std.specs.Prelude.{ℕ, ◌<◌, List, [], ◌∷◌, length, fold}
+use Rattle.std.specs.Prelude.{◌<◌, List, [], ◌∷◌, length, fold}
 use Rattle.worker_table.specs.Workers.{Workers, taken_slots, with_slot_given}
 use Rattle.master_state.specs.declared.states.Attempt.{Attempt}
 

@@ -2,13 +2,13 @@ ghost use Rattle.std.specs.Prelude.{◌≡◌, ℕ, ◌<◌, ◌≤◌, ◌↔�
 ghost use Rattle.wave_problem.specs.Wave.{IsAdmissible, Wave};
 ghost use Rattle.master_state.specs.Steps.{split_line, worker_line};
 ghost use Rattle.master_tables.specs.Entries.{shown_as};
-ghost use Rattle.master_tables.specs.Lines.{IsFree, split_lines};
+ghost use Rattle.master_tables.specs.Lines.{split_lines};
 
 use crate::entries::SplitEntry;
 use block_map::BlockMap;
 use node_ids::{PairSet, SplitNo, WorkerNo};
 use std::alloc::{AllocError, Global};
-use wave_problem::{SplitLine, SplitRef, WorkerLine, may_start};
+use wave_problem::{SplitLine, SplitRef, WorkerLine, free_workers, may_start};
 use worker_table::Worker;
 
 /// A line for each worker of a table, as a wave sees it.
@@ -81,27 +81,6 @@ pub fn split_line<'h>(line: &SplitLine, entry: &SplitEntry, holders: &'h [Worker
     }
 }
 
-// Whether a worker lives and has a free slot.
-fn is_any_free(workers: &[WorkerLine]) -> bool
-    requires { length workers.now ≤ 256 }
-    ensures { IsTrue result ↔ ((w : ℕ) × IsFree workers.now w) }
-{
-    for i in 0..workers.len() {
-        if is_free(workers, WorkerNo::new(i as u16)) {
-            return true;
-        }
-    }
-    false
-}
-
-fn is_free(workers: &[WorkerLine], worker: WorkerNo) -> bool
-    requires { worker < length workers.now }
-    ensures { IsTrue result ↔ IsFree workers.now worker }
-{
-    let line = workers[worker.index()];
-    line.live && line.free > 0
-}
-
 /// Whether one of the splits may start on one of the workers. Where no worker has a free slot, no split is
 /// looked at.
 pub fn may_any_start(
@@ -120,13 +99,14 @@ pub fn may_any_start(
         → wave.splits ≡ split_lines lines.now (map shown_as entries.now) holders.now
         → IsTrue result ↔ ((split : ℕ) × (w : ℕ) × IsAdmissible wave split w) }
 {
-    if !is_any_free(workers) {
+    let free = free_workers(workers);
+    if free.is_empty() {
         return false;
     }
     for i in 0..lines.len() {
         let split = SplitNo::new(i as u16);
         let line = split_line(&lines[i], &entries[i], holders.holders(split));
-        if may_start(workers, barred, split, &line) {
+        if may_start(workers, &free, barred, split, &line) {
             return true;
         }
     }

@@ -1,4 +1,5 @@
-ghost use Rattle.std.specs.Prelude.{◌≡◌, ◌<◌, ◌≤◌, ◌++◌, ◌∷◌, [], length, is_some, vec_capacity, vec_len, IfSome};
+ghost use Rattle.std.specs.Prelude.{◌≡◌, ◌<◌, ◌≤◌, ◌++◌, ◌∷◌, [], length, is_some, vec_capacity, vec_len};
+ghost use Rattle.std.specs.Prelude.{IfSome};
 ghost use Rattle.std.specs.List.{list_all, list_any, position_or_len};
 ghost use Rattle.node_ids.specs.Updates.{updated};
 ghost use Rattle.worker_table.specs.Workers.{free_slots, with_slot_taken};

@@ -5,12 +5,12 @@ ghost use Rattle.master_state.specs.declared.states.SplitState.TheVariants as st
 ghost use Rattle.master_state.specs.Tests.{is_numbered, part_runs, runs};
 ghost use Rattle.master_state.specs.Changes.{part_without, without_attempts};
 ghost use Rattle.master_tables.specs.Entries.{entry_of, entry_without, shown_as};
-ghost use Rattle.master_tables.specs.Ends.{ends};
+ghost use Rattle.master_tables.specs.Ends.{ends, has_worker};
 ghost use Rattle.master_tables.specs.Places.{part_of, split_of};
 
 use crate::entries::SplitEntry;
 use master_state::{Attempt, PartState, Work};
-use node_ids::{AttemptNo, PartNo, SplitNo, WorkerNo};
+use node_ids::{AttemptNo, PartNo, SplitNo, WorkerNo, WorkerSet};
 
 /// A split that runs an attempt, and the worker of the attempt.
 #[derive(Clone, Copy)]
@@ -26,11 +26,12 @@ pub struct RunningPart {
     pub worker: WorkerNo,
 }
 
-/// Which attempts end: that of a number, or all on a worker.
+/// Which attempts end: that of a number, all on a worker, or all on the workers of a set.
 #[derive(Clone, Copy)]
 pub enum Ending {
     Numbered(AttemptNo),
     On(WorkerNo),
+    Among(WorkerSet),
 }
 
 /// The split for which an attempt was started, if for one.
@@ -130,13 +131,22 @@ pub fn without_ended(attempt: Attempt, other: Option<Attempt>, ending: &Ending) 
     }
 }
 
-fn ends(ending: &Ending, attempt: &Attempt) -> bool
+/// Whether the attempt is one that ends.
+pub fn ends(ending: &Ending, attempt: &Attempt) -> bool
     ensures { result ≡ ends ending.now attempt.now }
 {
     match ending {
         Ending::Numbered(number) => attempt.number == *number,
         Ending::On(worker) => attempt.worker == *worker,
+        Ending::Among(workers) => has_worker(workers, attempt.worker),
     }
+}
+
+/// Whether the worker, of whatever number, is in the set.
+pub fn has_worker(workers: &WorkerSet, worker: WorkerNo) -> bool
+    ensures { result ≡ has_worker workers.now worker }
+{
+    worker.index() < 256 && workers.has(worker)
 }
 
 /// The part runs the attempt no more.

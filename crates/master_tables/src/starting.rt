@@ -1,4 +1,5 @@
-ghost use Rattle.std.specs.Prelude.{◌≡◌, ◌<◌, ◌≤◌, ◌+◌, ◌-◌, ◌^◌, ◌++◌, ◌∷◌, [], length, map, fold, vec_capacity, vec_len, None};
+ghost use Rattle.std.specs.Prelude.{◌≡◌, ◌<◌, ◌≤◌, ◌+◌, ◌-◌, ◌^◌, ◌++◌, ◌∷◌, [], length, map, fold};
+ghost use Rattle.std.specs.Prelude.{vec_capacity, vec_len, None};
 ghost use Rattle.node_ids.specs.Updates.{updated};
 ghost use Rattle.wave_problem.specs.Assignment.{pairs_of};
 ghost use Rattle.worker_table.specs.Workers.{free_slots, with_slot_taken};

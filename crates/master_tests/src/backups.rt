@@ -1,7 +1,8 @@
 //! Backups, call by call.
-use crate::jobs::{AMPLE, Call, Row, Shape, answers, make_shaped};
+use crate::jobs::{AMPLE, Call, Row, Shape, last_glance, play, played};
 use master_state::{Answer, Limits, Why};
-use std::test::Fail;
+use std::alloc::Global;
+use std::process::Abort;
 
 // One split on the first of two workers with a slot each, and one part.
 const TWO_WORKERS: Shape<'static> = Shape {
@@ -12,12 +13,12 @@ const TWO_WORKERS: Shape<'static> = Shape {
 };
 
 #[test]
-fn the_first_of_two_attempts_wins(rt: HostRuntime) -> Result<(), Fail> {
-    let mut job = make_shaped(&rt, rt.alloc(), &TWO_WORKERS, AMPLE).ok_or("no master")?;
-    answers(
+fn the_first_of_two_attempts_wins(rt: HostRuntime) {
+    play(
         &rt,
         rt.alloc(),
-        &mut job,
+        &TWO_WORKERS,
+        AMPLE,
         &[
             (Call::Backup(0, 1), Answer::Ignored(Why::NoBackup)),
             (Call::Wave, Answer::Accepted(1)),
@@ -28,18 +29,21 @@ fn the_first_of_two_attempts_wins(rt: HostRuntime) -> Result<(), Fail> {
             (Call::Reduce, Answer::Accepted(4)),
             (Call::Fail(3), Answer::Accepted(5)),
             (Call::Reduce, Answer::Accepted(6)),
-            (Call::Done(4), Answer::Accepted(7)),
+            (Call::Withdraw(4), Answer::Accepted(7)),
+            (Call::Done(4), Answer::Ignored(Why::OldAttempt)),
+            (Call::Reduce, Answer::Accepted(8)),
+            (Call::Done(5), Answer::Accepted(9)),
         ],
-    )
+    );
 }
 
 #[test]
-fn the_other_of_two_attempts_goes_on(rt: HostRuntime) -> Result<(), Fail> {
-    let mut job = make_shaped(&rt, rt.alloc(), &TWO_WORKERS, AMPLE).ok_or("no master")?;
-    answers(
+fn the_other_of_two_attempts_goes_on(rt: HostRuntime) {
+    play(
         &rt,
         rt.alloc(),
-        &mut job,
+        &TWO_WORKERS,
+        AMPLE,
         &[
             (Call::Wave, Answer::Accepted(1)),
             (Call::Backup(0, 1), Answer::Accepted(2)),
@@ -50,7 +54,7 @@ fn the_other_of_two_attempts_goes_on(rt: HostRuntime) -> Result<(), Fail> {
             (Call::Die(0), Answer::Accepted(6)),
             (Call::Done(2), Answer::Accepted(7)),
         ],
-    )
+    );
 }
 
 // The calls of a job, and then how many splits and parts are not done.
@@ -90,19 +94,20 @@ const SCRIPTS: [Script; 3] = [
     ),
 ];
 
+// How many splits and parts are not done after these calls, and whether a wave might start something.
+fn open_after(rt: &impl Abort, alloc: Global, rows: &[Row]) -> (u32, u32, bool) {
+    let (glance, _) = last_glance(played(rt, alloc, &TWO_WORKERS, AMPLE, rows));
+    (glance.open_splits, glance.open_parts, glance.ready)
+}
+
 #[test]
-fn jobs_with_backups(rt: HostRuntime) -> Result<(), Fail> {
+fn jobs_with_backups(rt: HostRuntime) {
     for (rows, open_splits, open_parts) in SCRIPTS {
-        let mut job = make_shaped(&rt, rt.alloc(), &TWO_WORKERS, AMPLE).ok_or("no master")?;
-        answers(&rt, rt.alloc(), &mut job, rows)?;
-        let glance = job.master.glance();
         assert_eq!(rt;
-            (glance.open_splits, glance.open_parts),
-            (open_splits, open_parts)
+            open_after(&rt, rt.alloc(), rows),
+            (open_splits, open_parts, false)
         );
-        assert!(rt; !glance.ready);
     }
-    Ok(())
 }
 
 // Two splits, on the first two of four workers.
@@ -123,26 +128,29 @@ const FOUR_ATTEMPTS: Limits = Limits {
 // Each reason is told before the next: a dead worker, no split to back up, what is not ready, a barred pair,
 // want of room.
 #[test]
-fn reasons_of_a_backup_in_their_order(rt: HostRuntime) -> Result<(), Fail> {
-    let alloc = rt.alloc();
-    let mut job = make_shaped(&rt, alloc, &FOUR_WORKERS, FOUR_ATTEMPTS).ok_or("no master")?;
-    let rows = [
-        (Call::Die(3), Answer::Accepted(1)),
-        (Call::Backup(0, 3), Answer::Ignored(Why::DeadWorker)),
-        (Call::Wave, Answer::Accepted(2)),
-        (Call::Fail(1), Answer::Accepted(3)),
-        (Call::Backup(0, 0), Answer::Ignored(Why::NoBackup)),
-        (Call::Backup(1, 0), Answer::Ignored(Why::NotReady)),
-        (Call::Wave, Answer::Accepted(4)),
-        (Call::Backup(0, 1), Answer::Ignored(Why::NotReady)),
-        (Call::Backup(0, 0), Answer::Ignored(Why::Barred)),
-        (Call::Withdraw(2), Answer::Accepted(5)),
-        (Call::Backup(0, 0), Answer::Ignored(Why::NotReady)),
-        (Call::Wave, Answer::Accepted(6)),
-        (Call::Backup(0, 0), Answer::Ignored(Why::Barred)),
-        (Call::Backup(1, 0), Answer::Ignored(Why::HistoryFull)),
-        (Call::Lose(0, 0), Answer::Accepted(7)),
-        (Call::Backup(0, 0), Answer::Ignored(Why::NotReady)),
-    ];
-    answers(&rt, alloc, &mut job, &rows)
+fn reasons_of_a_backup_in_their_order(rt: HostRuntime) {
+    play(
+        &rt,
+        rt.alloc(),
+        &FOUR_WORKERS,
+        FOUR_ATTEMPTS,
+        &[
+            (Call::Die(3), Answer::Accepted(1)),
+            (Call::Backup(0, 3), Answer::Ignored(Why::DeadWorker)),
+            (Call::Wave, Answer::Accepted(2)),
+            (Call::Fail(1), Answer::Accepted(3)),
+            (Call::Backup(0, 0), Answer::Ignored(Why::NoBackup)),
+            (Call::Backup(1, 0), Answer::Ignored(Why::NotReady)),
+            (Call::Wave, Answer::Accepted(4)),
+            (Call::Backup(0, 1), Answer::Ignored(Why::NotReady)),
+            (Call::Backup(0, 0), Answer::Ignored(Why::Barred)),
+            (Call::Withdraw(2), Answer::Accepted(5)),
+            (Call::Backup(0, 0), Answer::Ignored(Why::NotReady)),
+            (Call::Wave, Answer::Accepted(6)),
+            (Call::Backup(0, 0), Answer::Ignored(Why::Barred)),
+            (Call::Backup(1, 0), Answer::Ignored(Why::HistoryFull)),
+            (Call::Lose(0, 0), Answer::Accepted(7)),
+            (Call::Backup(0, 0), Answer::Ignored(Why::NotReady)),
+        ],
+    );
 }

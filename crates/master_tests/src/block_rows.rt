@@ -1,90 +1,103 @@
+use crate::jobs::racks_of;
 use block_map::{BlockMap, CopyOrder, MapError};
 use node_ids::{SplitNo, SplitSet, WorkerNo};
 use rack_tree::RackTree;
-use std::test::Fail;
+use std::alloc::Global;
+use std::process::Abort;
 use worker_table::WorkerTable;
 
-#[test]
-fn holders_stand_as_they_were_added(rt: HostRuntime) -> Result<(), Fail> {
-    let s = SplitNo::new(0);
-    let mut map = BlockMap::new(rt.alloc(), 1)?;
-    for number in [5u16, 3, 9] {
-        assert_eq!(rt; map.splits(), 1);
-        map.add(s, WorkerNo::new(number))?;
+// Adds a holder of the one split.
+fn add(rt: &impl Abort, map: &mut BlockMap, worker: u16) -> Result<(), MapError> {
+    assert!(rt; map.splits() == 1);
+    map.add(SplitNo::new(0), WorkerNo::new(worker))
+}
+
+// Drops a holder of the one split.
+fn drop_one(rt: &impl Abort, map: &mut BlockMap, worker: u16) -> Result<(), MapError> {
+    assert!(rt; map.splits() == 1);
+    map.drop_one(SplitNo::new(0), WorkerNo::new(worker))
+}
+
+// A map of one split to which these holders were added, one after another.
+fn map_of(rt: &impl Abort, alloc: Global, workers: &[u16]) -> BlockMap {
+    let mut map = BlockMap::new(alloc, 1).expect(rt, "no map");
+    for worker in workers {
+        add(rt, &mut map, *worker).expect(rt, "not added");
     }
-    assert_eq!(rt; map.splits(), 1);
-    map.drop_one(s, WorkerNo::new(3))?;
-    assert_eq!(rt; map.splits(), 1);
+    map
+}
+
+#[test]
+fn holders_stand_as_they_were_added(rt: HostRuntime) {
+    let mut map = map_of(&rt, rt.alloc(), &[5, 3, 9]);
+    drop_one(&rt, &mut map, 3).expect(&rt, "not dropped");
+    assert!(rt; map.splits() == 1);
     assert_eq!(rt;
-        map.holders(s),
+        map.holders(SplitNo::new(0)),
         [WorkerNo::new(5), WorkerNo::new(9)].as_slice()
     );
-    Ok(())
 }
 
 #[test]
-fn reasons_come_in_their_order(rt: HostRuntime) -> Result<(), Fail> {
-    let s = SplitNo::new(0);
-    let mut map = BlockMap::new(rt.alloc(), 1)?;
-    for number in 0..8u16 {
-        assert_eq!(rt; map.splits(), 1);
-        map.add(s, WorkerNo::new(number))?;
-    }
-    assert_eq!(rt; map.splits(), 1);
-    assert_eq!(rt; map.add(s, WorkerNo::new(7)), Err(MapError::AlreadyHolds));
-    assert_eq!(rt; map.splits(), 1);
-    assert_eq!(rt; map.add(s, WorkerNo::new(8)), Err(MapError::EightHolders));
-    assert_eq!(rt; map.splits(), 1);
-    assert_eq!(rt; map.drop_one(s, WorkerNo::new(8)), Err(MapError::NotHolder));
-    assert_eq!(rt; map.splits(), 1);
-    assert!(rt; map.is_full(s) && map.holds(s, WorkerNo::new(7)));
-    Ok(())
+fn reasons_come_in_their_order(rt: HostRuntime) {
+    let mut map = map_of(&rt, rt.alloc(), &[0, 1, 2, 3, 4, 5, 6, 7]);
+    let told = (
+        add(&rt, &mut map, 7),
+        add(&rt, &mut map, 8),
+        drop_one(&rt, &mut map, 8),
+    );
+    let wanted = (
+        Err(MapError::AlreadyHolds),
+        Err(MapError::EightHolders),
+        Err(MapError::NotHolder),
+    );
+    assert_eq!(rt; told, wanted);
+    assert!(rt; map.splits() == 1);
+    assert!(rt; map.is_full(SplitNo::new(0)) && map.holds(SplitNo::new(0), WorkerNo::new(7)));
 }
 
-#[test]
-fn a_worker_is_dropped_and_added_in_sets(rt: HostRuntime) -> Result<(), Fail> {
+// A worker that holds the first of two splits goes, and comes back with the second: which it holds then.
+fn go_and_come_back(rt: &impl Abort, map: &mut BlockMap) -> (bool, bool) {
     let (s, t, a) = (SplitNo::new(0), SplitNo::new(1), WorkerNo::new(0));
-    let mut map = BlockMap::new(rt.alloc(), 2)?;
-    assert_eq!(rt; map.splits(), 2);
-    map.add(s, a)?;
+    assert!(rt; map.splits() == 2);
+    map.add(s, a).expect(rt, "not added");
     map.drop_worker(a);
     let mut set = SplitSet::new();
     set.put(t);
     assert!(rt; !map.is_any_full(&set));
     map.add_to_all(a, &set);
-    assert_eq!(rt; map.splits(), 2);
-    assert!(rt; !map.holds(s, a) && map.holds(t, a));
-    Ok(())
+    assert!(rt; map.splits() == 2);
+    (map.holds(s, a), map.holds(t, a))
 }
 
 #[test]
-fn a_copy_goes_to_the_other_rack(rt: HostRuntime) -> Result<(), Fail> {
-    let alloc = rt.alloc();
-    let (a, c, s) = (WorkerNo::new(0), WorkerNo::new(2), SplitNo::new(0));
-    let mut tree = RackTree::new(alloc);
-    let centre = tree.add_centre()?;
-    let near = tree.add_rack(centre)?;
-    assert!(rt; tree.centres() == 1);
-    let far = tree.add_rack(centre)?;
-    for rack in [near, near, far] {
-        assert!(rt; rack.index() < tree.racks());
-        tree.add_worker(rack)?;
-    }
-    let table = WorkerTable::new(alloc, &[1, 1, 1], 3)?;
-    let mut map = BlockMap::new(alloc, 1)?;
-    assert_eq!(rt; map.splits(), 1);
-    map.add(s, a)?;
-    assert_eq!(rt; table.workers().len(), 3);
-    assert_eq!(rt; tree.workers(), 3);
-    let orders = map.copy_orders(alloc, &table, &tree, 2)?;
+fn a_worker_is_dropped_and_added_in_sets(rt: HostRuntime) {
+    let mut map = BlockMap::new(rt.alloc(), 2).expect(&rt, "no map");
+    assert_eq!(rt; go_and_come_back(&rt, &mut map), (false, true));
+}
+
+// The copies that are ordered of a split on the first of two workers in a rack, beside one in another.
+fn orders_of(rt: &impl Abort, alloc: Global, tree: &RackTree) -> Vec<CopyOrder> {
+    let table = WorkerTable::new(alloc, &[1, 1, 1], 3).expect(rt, "no table");
+    let mut map = BlockMap::new(alloc, 1).expect(rt, "no map");
+    assert!(rt; map.splits() == 1);
+    map.add(SplitNo::new(0), WorkerNo::new(0))
+        .expect(rt, "not added");
+    assert!(rt; table.workers().len() == 3 && tree.workers() == 3);
+    map.copy_orders(alloc, &table, tree, 2)
+        .expect(rt, "no orders")
+}
+
+#[test]
+fn a_copy_goes_to_the_other_rack(rt: HostRuntime) {
+    let tree = racks_of(&rt, rt.alloc(), &[2, 1]).expect(&rt, "no racks");
+    let order = CopyOrder {
+        split: SplitNo::new(0),
+        from: WorkerNo::new(0),
+        to: WorkerNo::new(2),
+    };
     assert_eq!(rt;
-        orders.as_slice(),
-        [CopyOrder {
-            split: s,
-            from: a,
-            to: c
-        }]
-        .as_slice()
+        orders_of(&rt, rt.alloc(), &tree).as_slice(),
+        [order].as_slice()
     );
-    Ok(())
 }

@@ -1,29 +1,34 @@
-use crate::jobs::{AMPLE, Call, Job, Shape, SplitRow, answers, make_job, make_shaped, text_of};
+use crate::jobs::{
+    AMPLE, Call, Job, Shape, answer_of, answers, commit, end, last_glance, make_shaped, planned,
+    play, played, text_of,
+};
 use crate::seen::seen;
 use block_map::CopyOrder;
+use master_core::Master;
 use master_state::{Answer, CommitError, Event, Limits, SplitState, Start, Wave, Why, Work};
 use node_ids::{AttemptNo, SplitNo, WorkerNo};
 use price_certificate::Condition;
 use std::alloc::Global;
 use std::process::Abort;
 use std::sync::Arc;
-use std::test::Fail;
-use wave_planner::{Planned, plan};
-use word_map::map_split;
+use wave_planner::Planned;
+use word_map::{MapResult, map_split};
 
-// A master of two workers with a slot each, and of this split.
-fn two_workers(rt: &impl Abort, alloc: Global, holders: &[u16]) -> Result<Job, Fail> {
-    let rows: [SplitRow<'_>; 1] = [(5, holders, "one")];
-    Ok(make_job(rt, alloc, &[1, 1], &rows, AMPLE).ok_or("no master")?)
-}
+// Two workers with a slot each, of which the first holds the one split.
+const ONE_SPLIT: Shape<'static> = Shape {
+    racks: &[2],
+    slots: &[1, 1],
+    splits: &[(5, &[0], "one")],
+    parts: 2,
+};
 
 #[test]
-fn a_death_and_the_rest_of_the_job(rt: HostRuntime) -> Result<(), Fail> {
-    let mut job = two_workers(&rt, rt.alloc(), &[0])?;
-    answers(
+fn a_death_and_the_rest_of_the_job(rt: HostRuntime) {
+    let job = played(
         &rt,
         rt.alloc(),
-        &mut job,
+        &ONE_SPLIT,
+        AMPLE,
         &[
             (Call::Wave, Answer::Accepted(1)),
             (Call::Done(1), Answer::Accepted(2)),
@@ -37,25 +42,30 @@ fn a_death_and_the_rest_of_the_job(rt: HostRuntime) -> Result<(), Fail> {
             (Call::Reduce, Answer::Accepted(9)),
             (Call::Done(4), Answer::Accepted(10)),
         ],
-    )?;
-    let glance = job.master.glance();
-    assert_eq!(rt;
-        (glance.running, glance.open_splits, glance.open_parts),
-        (0, 0, 0)
     );
-    assert!(rt; !glance.ready && !glance.reducible);
-    assert_eq!(rt; job.master.results().len(), 2);
-    Ok(())
+    let (glance, results) = last_glance(job);
+    let counts = (glance.running, glance.open_splits, glance.open_parts);
+    assert_eq!(rt;
+        (counts, glance.ready, glance.reducible, results),
+        ((0, 0, 0), false, false, 2)
+    );
 }
 
+// One worker, which holds the one split.
+const ONE_WORKER: Shape<'static> = Shape {
+    racks: &[1],
+    slots: &[1],
+    splits: &[(5, &[0], "one")],
+    parts: 2,
+};
+
 #[test]
-fn silence_is_a_death(rt: HostRuntime) -> Result<(), Fail> {
-    let rows: [SplitRow<'_>; 1] = [(5, &[0], "one")];
-    let mut job = make_job(&rt, rt.alloc(), &[1], &rows, AMPLE).ok_or("no master")?;
-    answers(
+fn silence_is_a_death(rt: HostRuntime) {
+    play(
         &rt,
         rt.alloc(),
-        &mut job,
+        &ONE_WORKER,
+        AMPLE,
         &[
             (Call::Wave, Answer::Accepted(1)),
             (Call::Sweep(1), Answer::Accepted(2)),
@@ -68,25 +78,77 @@ fn silence_is_a_death(rt: HostRuntime) -> Result<(), Fail> {
             (Call::Wave, Answer::Accepted(7)),
             (Call::Done(1), Answer::Ignored(Why::OldAttempt)),
         ],
-    )
+    );
+}
+
+// Three workers with a slot each, and a split on each of the first two.
+const THREE_WORKERS: Shape<'static> = Shape {
+    racks: &[3],
+    slots: &[1, 1, 1],
+    splits: &[(5, &[0], "one"), (5, &[1], "two")],
+    parts: 2,
+};
+
+// Worker 0 has joined again before the last sweep, in which the others have been silent too long: what they
+// ran, held and had done is lost.
+#[test]
+fn a_sweep_takes_two_of_three(rt: HostRuntime) {
+    let job = played(
+        &rt,
+        rt.alloc(),
+        &THREE_WORKERS,
+        AMPLE,
+        &[
+            (Call::Wave, Answer::Accepted(1)),
+            (Call::Add(0, 2), Answer::Accepted(2)),
+            (Call::Done(2), Answer::Accepted(3)),
+            (Call::Sweep(1), Answer::Accepted(4)),
+            (Call::Sweep(1), Answer::Accepted(5)),
+            (Call::Sweep(1), Answer::Accepted(6)),
+            (Call::Backup(0, 2), Answer::Accepted(7)),
+            (Call::Die(0), Answer::Accepted(8)),
+            (Call::Join(0, Some(1)), Answer::Accepted(9)),
+            (Call::Sweep(1), Answer::Accepted(10)),
+            (Call::Done(3), Answer::Ignored(Why::OldAttempt)),
+            (Call::Lose(0, 2), Answer::Ignored(Why::NotHolder)),
+            (Call::Lose(1, 1), Answer::Ignored(Why::NotHolder)),
+            (Call::Die(2), Answer::Ignored(Why::DeadWorker)),
+            (Call::Wave, Answer::Accepted(11)),
+            (Call::Done(4), Answer::Accepted(12)),
+        ],
+    );
+    let (glance, _) = last_glance(job);
+    assert_eq!(rt; (glance.running, glance.open_splits), (0, 1));
+}
+
+// Two splits on the first of two workers.
+const ON_THE_FIRST: Shape<'static> = Shape {
+    racks: &[2],
+    slots: &[1, 1],
+    splits: &[(10, &[0], "one"), (20, &[0], "two")],
+    parts: 2,
+};
+
+const ONE_EVENT: Limits = Limits {
+    events: 1,
+    attempts: 1,
+    sweeps: 0,
+};
+
+// A plan of the present state, committed twice.
+fn commit_twice(rt: &impl Abort, alloc: Global, job: &mut Job) -> [Result<Wave, CommitError>; 2] {
+    let new = planned(alloc, job).expect(rt, "no plan");
+    [commit(rt, alloc, job, &new), commit(rt, alloc, job, &new)]
 }
 
 #[test]
-fn a_full_history_is_told(rt: HostRuntime) -> Result<(), Fail> {
+fn a_full_history_is_told(rt: HostRuntime) {
     let alloc = rt.alloc();
-    let limits = Limits {
-        events: 1,
-        attempts: 1,
-        sweeps: 0,
-    };
-    let rows: [SplitRow<'_>; 2] = [(10, &[0], "one"), (20, &[0], "two")];
-    let mut job = make_job(&rt, alloc, &[1, 1], &rows, limits).ok_or("no master")?;
-    let planned = plan(alloc, &job.master.problem(alloc)?)
-        .ok()
-        .ok_or("no plan")?;
+    let mut job = make_shaped(&rt, alloc, &ON_THE_FIRST, ONE_EVENT).expect(&rt, "no master");
+    let told = commit_twice(&rt, alloc, &mut job);
     assert_eq!(rt;
-        job.master.commit(alloc, &planned),
-        Err(CommitError::HistoryFull)
+        told,
+        [Err(CommitError::HistoryFull), Err(CommitError::HistoryFull)]
     );
     answers(
         &rt,
@@ -97,48 +159,28 @@ fn a_full_history_is_told(rt: HostRuntime) -> Result<(), Fail> {
             (Call::Add(0, 1), Answer::Accepted(1)),
             (Call::Lose(0, 1), Answer::Ignored(Why::HistoryFull)),
         ],
-    )
-}
-
-/// Hands in a plan that may be an old one.
-pub fn commit(
-    rt: &impl Abort,
-    alloc: Global,
-    job: &mut Job,
-    planned: &Planned,
-) -> Result<Wave, CommitError> {
-    let (plan, prices, cluster) = (planned.plan(), planned.prices(), job.master.cluster());
-    assert!(rt; plan.splits() == cluster.splits().len() && plan.workers() == cluster.slots().len());
-    assert!(rt;
-        prices.splits() == cluster.splits().len() && prices.workers() == cluster.slots().len()
     );
-    job.master.commit(alloc, planned)
+    end(job);
 }
 
-fn planned(alloc: Global, job: &Job) -> Result<Planned, Fail> {
-    Ok(
-        plan(alloc, &job.master.problem(alloc)?)
-            .ok()
-            .ok_or("no plan")?,
-    )
-}
+// Two workers with a slot each, of which the first holds the first split.
+const TWO_SPLITS: Shape<'static> = Shape {
+    racks: &[2],
+    slots: &[1, 1],
+    splits: &[(10, &[0], "one"), (10, &[], "two")],
+    parts: 2,
+};
 
 // Split 0 runs on worker 0, which holds split 1 too, whose best start is a plan of before split 0 was done.
-fn with_an_old_plan(rt: &impl Abort, alloc: Global) -> Result<(Job, Planned), Fail> {
-    let rows: [SplitRow<'_>; 2] = [(10, &[0], "one"), (10, &[], "two")];
-    let mut job = make_job(rt, alloc, &[1, 1], &rows, AMPLE).ok_or("no master")?;
-    answers(
-        rt,
-        alloc,
-        &mut job,
-        &[
-            (Call::Wave, Answer::Accepted(1)),
-            (Call::Add(1, 0), Answer::Accepted(2)),
-        ],
-    )?;
-    let old = planned(alloc, &job)?;
-    answers(rt, alloc, &mut job, &[(Call::Done(1), Answer::Accepted(3))])?;
-    Ok((job, old))
+fn with_an_old_plan(rt: &impl Abort, alloc: Global) -> (Job, Planned) {
+    let before = [
+        (Call::Wave, Answer::Accepted(1)),
+        (Call::Add(1, 0), Answer::Accepted(2)),
+    ];
+    let mut job = played(rt, alloc, &TWO_SPLITS, AMPLE, &before);
+    let old = planned(alloc, &job).expect(rt, "no plan");
+    answers(rt, alloc, &mut job, &[(Call::Done(1), Answer::Accepted(3))]);
+    (job, old)
 }
 
 // The first condition that an old plan fails, whose one start costs 20: a start of split 1 on worker 0 costs
@@ -157,34 +199,35 @@ fn fails(rt: &impl Abort, planned: &Planned) -> Condition {
     }
 }
 
-#[test]
-fn an_old_plan_is_stale(rt: HostRuntime) -> Result<(), Fail> {
-    let (mut job, old) = with_an_old_plan(&rt, rt.alloc())?;
-    let before = seen(rt.alloc(), &job.master)?;
-    let told = commit(&rt, rt.alloc(), &mut job, &old);
-    assert_eq!(rt; told, Err(CommitError::Stale(fails(&rt, &old))));
-    let after = seen(rt.alloc(), &job.master)?;
+// Hands in an old plan, which is refused and changes nothing.
+fn commit_an_old_plan(rt: &impl Abort, alloc: Global, job: &mut Job, old: &Planned) {
+    let before = seen(alloc, &job.master).expect(rt, "no memory");
+    let told = commit(rt, alloc, job, old);
+    let after = seen(alloc, &job.master).expect(rt, "no memory");
+    assert_eq!(rt; told, Err(CommitError::Stale(fails(rt, old))));
     assert_eq!(rt; after.as_slice(), before.as_slice());
-    Ok(())
 }
 
 #[test]
-fn a_new_plan_is_committed_once(rt: HostRuntime) -> Result<(), Fail> {
-    let (mut job, _) = with_an_old_plan(&rt, rt.alloc())?;
-    let new = planned(rt.alloc(), &job)?;
+fn an_old_plan_is_stale(rt: HostRuntime) {
+    let (mut job, old) = with_an_old_plan(&rt, rt.alloc());
+    commit_an_old_plan(&rt, rt.alloc(), &mut job, &old);
+    end(job);
+}
+
+#[test]
+fn a_new_plan_is_committed_once(rt: HostRuntime) {
+    let (mut job, _) = with_an_old_plan(&rt, rt.alloc());
     let wave = Wave {
         place: 4,
         first: AttemptNo::new(2),
         count: 1,
         cost: 0,
     };
-    assert_eq!(rt; commit(&rt, rt.alloc(), &mut job, &new), Ok(wave));
     let open = Condition::Open(SplitNo::new(1));
-    assert_eq!(rt;
-        commit(&rt, rt.alloc(), &mut job, &new),
-        Err(CommitError::Stale(open))
-    );
-    Ok(())
+    let told = commit_twice(&rt, rt.alloc(), &mut job);
+    assert_eq!(rt; told, [Ok(wave), Err(CommitError::Stale(open))]);
+    end(job);
 }
 
 // Worker 0 alone holds the one split; worker 2 is in the other rack.
@@ -195,55 +238,74 @@ const FAR: Shape<'static> = Shape {
     parts: 1,
 };
 
-#[test]
-fn a_copy_and_a_failure(rt: HostRuntime) -> Result<(), Fail> {
-    let alloc = rt.alloc();
-    let mut job = make_shaped(&rt, alloc, &FAR, AMPLE).ok_or("no master")?;
-    let (a, c, split) = (WorkerNo::new(0), WorkerNo::new(2), SplitNo::new(0));
-    let orders = job.master.copy_orders(alloc, 2)?;
+// The one copy that is ordered.
+fn assert_order(rt: &impl Abort, alloc: Global, master: &Master) {
+    let orders = master.copy_orders(alloc, 2).expect(rt, "no memory");
     let order = CopyOrder {
-        split,
-        from: a,
-        to: c,
+        split: SplitNo::new(0),
+        from: WorkerNo::new(0),
+        to: WorkerNo::new(2),
     };
     assert_eq!(rt; orders.as_slice(), [order].as_slice());
-    let rows = [
-        (Call::Wave, Answer::Accepted(1)),
-        (Call::Fail(1), Answer::Accepted(2)),
-        (Call::Wave, Answer::Accepted(3)),
-    ];
-    answers(&rt, alloc, &mut job, &rows)?;
+}
+
+// The last event, which is the second wave, with its start.
+fn assert_second_wave(rt: &impl Abort, master: &Master) {
     let wave = Event::Wave {
         first: AttemptNo::new(2),
         count: 1,
         cost: 10,
     };
-    assert!(rt; job.master.history().last() == Some(&wave));
     let start = Start {
-        work: Work::Split(split),
+        work: Work::Split(SplitNo::new(0)),
         worker: WorkerNo::new(1),
     };
-    assert_eq!(rt; job.master.start(AttemptNo::new(2)), Some(start));
-    assert!(rt; !job.master.glance().ready);
-    Ok(())
+    let last = master.history().last().copied();
+    assert_eq!(rt;
+        (last, master.start(AttemptNo::new(2))),
+        (Some(wave), Some(start))
+    );
 }
 
 #[test]
-fn a_result_of_another_text_comes_back(rt: HostRuntime) -> Result<(), Fail> {
-    let (alloc, s) = (rt.alloc(), SplitNo::new(0));
-    let mut job = two_workers(&rt, alloc, &[0])?;
-    answers(&rt, alloc, &mut job, &[(Call::Wave, Answer::Accepted(1))])?;
-    let text = text_of(alloc, s, "onf").ok_or("no text")?;
-    let made = map_split(alloc, Arc::new(alloc, text)?, 2)?;
-    let told = job.master.map_done(AttemptNo::new(1), made);
-    assert!(rt; matches!(told, master_state::AnswerWith::Ignored(Why::WrongInput, _)));
-    answers(
-        &rt,
-        alloc,
-        &mut job,
-        &[(Call::Done(1), Answer::Accepted(2))],
-    )?;
-    assert!(rt; s.index() < job.master.cluster().splits().len());
-    assert!(rt; matches!(job.master.state(s), SplitState::Done(_)));
-    Ok(())
+fn a_copy_and_a_failure(rt: HostRuntime) {
+    let alloc = rt.alloc();
+    let mut job = make_shaped(&rt, alloc, &FAR, AMPLE).expect(&rt, "no master");
+    assert_order(&rt, alloc, &job.master);
+    let rows = [
+        (Call::Wave, Answer::Accepted(1)),
+        (Call::Fail(1), Answer::Accepted(2)),
+        (Call::Wave, Answer::Accepted(3)),
+    ];
+    answers(&rt, alloc, &mut job, &rows);
+    assert_second_wave(&rt, &job.master);
+    assert!(rt; !last_glance(job).0.ready);
+}
+
+// What is made of the first split, if these are its words.
+fn made_of(alloc: Global, words: &str) -> Option<MapResult> {
+    let text = text_of(alloc, SplitNo::new(0), words)?;
+    map_split(alloc, Arc::new(alloc, text).ok()?, 2).ok()
+}
+
+// Hands in what is made of another text, and then of the attempt's own.
+fn hand_in_both(rt: &impl Abort, alloc: Global, job: &mut Job) {
+    let made = made_of(alloc, "onf").expect(rt, "no result");
+    let told = answer_of(job.master.map_done(AttemptNo::new(1), made));
+    assert_eq!(rt; told, Answer::Ignored(Why::WrongInput));
+    answers(rt, alloc, job, &[(Call::Done(1), Answer::Accepted(2))]);
+}
+
+fn is_done(rt: &impl Abort, master: &Master, split: SplitNo) -> bool {
+    assert!(rt; split.index() < master.cluster().splits().len());
+    matches!(master.state(split), SplitState::Done(_))
+}
+
+#[test]
+fn a_result_of_another_text_comes_back(rt: HostRuntime) {
+    let wave = [(Call::Wave, Answer::Accepted(1))];
+    let mut job = played(&rt, rt.alloc(), &ONE_SPLIT, AMPLE, &wave);
+    hand_in_both(&rt, rt.alloc(), &mut job);
+    assert!(rt; is_done(&rt, &job.master, SplitNo::new(0)));
+    end(job);
 }

@@ -5,17 +5,16 @@ ghost use Rattle.shuffle_reduce.specs.Gather.{values_of};
 
 use master_core::{Cluster, ClusterError, Master};
 use master_state::{
-    Answer, AnswerWith, BackupAnswer, CommitError, Limits, ReduceAnswer, Why, Work,
+    Answer, AnswerWith, BackupAnswer, CommitError, Glance, Limits, ReduceAnswer, Wave, Why, Work,
 };
-use node_ids::{AttemptNo, DocNo, PartNo, SplitNo, SplitSet, WorkerNo};
+use node_ids::{AttemptNo, CentreNo, DocNo, PartNo, SplitNo, SplitSet, WorkerNo};
 use price_certificate::Condition;
-use rack_tree::RackTree;
+use rack_tree::{RackTree, TreeError};
 use shuffle_reduce::{are_of_part, merge};
 use std::alloc::Global;
 use std::process::Abort;
 use std::sync::Arc;
-use std::test::Fail;
-use wave_planner::plan;
+use wave_planner::{Planned, plan};
 use wave_problem::SplitLine;
 use word_map::{Document, Run, SplitText, Text, map_split};
 
@@ -65,17 +64,28 @@ pub enum Call {
 /// A call, and its answer.
 pub type Row = (Call, Answer);
 
-// Racks of so many workers each, in one data centre.
-fn racks_of(rt: &impl Abort, alloc: Global, racks: &[usize]) -> Option<RackTree> {
+// A rack more, of so many workers.
+fn add_rack(
+    rt: &impl Abort,
+    tree: &mut RackTree,
+    centre: CentreNo,
+    workers: usize,
+) -> Result<(), TreeError> {
+    assert!(rt; centre.index() < tree.centres());
+    let rack = tree.add_rack(centre)?;
+    for _ in 0..workers {
+        assert!(rt; rack.index() < tree.racks());
+        tree.add_worker(rack)?;
+    }
+    Ok(())
+}
+
+/// Racks of so many workers each, in one data centre.
+pub fn racks_of(rt: &impl Abort, alloc: Global, racks: &[usize]) -> Option<RackTree> {
     let mut tree = RackTree::new(alloc);
     let centre = tree.add_centre().ok()?;
     for workers in racks {
-        assert!(rt; centre.index() < tree.centres());
-        let rack = tree.add_rack(centre).ok()?;
-        for _ in 0..*workers {
-            assert!(rt; rack.index() < tree.racks());
-            tree.add_worker(rack).ok()?;
-        }
+        add_rack(rt, &mut tree, centre, *workers).ok()?;
     }
     Some(tree)
 }
@@ -136,9 +146,23 @@ pub fn make_cluster(
     let tree = racks_of(rt, alloc, of.racks)?;
     let lines = lines_of(alloc, of.splits)?;
     let texts = texts_of(rt, alloc, of.splits)?;
+    Some(cluster_of(rt, alloc, of, tree, lines, texts))
+}
+
+fn cluster_of(
+    rt: &impl Abort,
+    alloc: Global,
+    of: &Shape<'_>,
+    tree: RackTree,
+    lines: Vec<SplitLine>,
+    texts: Vec<Arc<SplitText>>,
+) -> Result<Cluster, ClusterError>
+    requires { map (λ text. text.split) (values_of texts.items)
+        ≡ range_with_len 0 (length of.now.splits.now) }
+{
     assert!(rt; tree.workers() == of.slots.len() && lines.len() == of.splits.len());
     assert!(rt; of.parts >= 1);
-    Some(Cluster::new(alloc, tree, of.slots, lines, texts, of.parts, 3))
+    Cluster::new(alloc, tree, of.slots, lines, texts, of.parts, 3)
 }
 
 /// A master of a cluster.
@@ -158,51 +182,50 @@ pub fn make_master(
     })
 }
 
-/// A master of workers in one rack with so many slots, of these splits, and of two parts.
-pub fn make_job(
-    rt: &impl Abort,
-    alloc: Global,
-    slots: &[u8],
-    splits: &[SplitRow<'_>],
-    limits: Limits,
-) -> Option<Job> {
-    let shape = Shape {
-        racks: &[slots.len()],
-        slots,
-        splits,
-        parts: 2,
-    };
-    make_shaped(rt, alloc, &shape, limits)
-}
-
 /// A master of a cluster that is made of this.
 pub fn make_shaped(rt: &impl Abort, alloc: Global, of: &Shape<'_>, limits: Limits) -> Option<Job> {
     make_master(rt, alloc, make_cluster(rt, alloc, of)?.ok()?, limits)
 }
 
 /// One call after another, each with its answer.
-pub fn answers(rt: &impl Abort, alloc: Global, job: &mut Job, rows: &[Row]) -> Result<(), Fail> {
+pub fn answers(rt: &impl Abort, alloc: Global, job: &mut Job, rows: &[Row]) {
     for (row, want) in rows {
-        let told = answer(rt, alloc, job, *row).ok_or("no answer")?;
+        let told = answer(rt, alloc, job, *row).expect(rt, "no answer");
         assert_eq!(rt; told, *want, "{row:?}");
     }
-    Ok(())
 }
+
+/// What becomes of a new job by these calls, each with its answer.
+pub fn played(rt: &impl Abort, alloc: Global, of: &Shape<'_>, limits: Limits, rows: &[Row]) -> Job {
+    let mut job = make_shaped(rt, alloc, of, limits).expect(rt, "no master");
+    answers(rt, alloc, &mut job, rows);
+    job
+}
+
+/// A new job and these calls, each with its answer.
+pub fn play(rt: &impl Abort, alloc: Global, of: &Shape<'_>, limits: Limits, rows: &[Row]) {
+    end(played(rt, alloc, of, limits, rows));
+}
+
+/// What a job shows at its end, and how many results it has. A test that ends a job by this call or the next
+/// need not be proved to drop it.
+pub fn last_glance(job: Job) -> (Glance, usize) {
+    (job.master.glance(), job.master.results().len())
+}
+
+/// Ends a job.
+pub fn end(_job: Job) {}
 
 /// What the call answers: its place, or why it is ignored.
 pub fn answer(rt: &impl Abort, alloc: Global, job: &mut Job, call: Call) -> Option<Answer> {
     match call {
-        Call::Wave => wave(alloc, job),
+        Call::Wave => wave(rt, alloc, job),
         Call::Done(attempt) => done(rt, alloc, job, AttemptNo::new(attempt)),
         Call::Fail(attempt) => Some(fail(job, AttemptNo::new(attempt))),
         Call::Withdraw(attempt) => Some(job.master.withdraw(AttemptNo::new(attempt))),
         Call::Sweep(count) => Some(job.master.sweep(&[count; 256]).answer),
         Call::Reduce => Some(reduce(alloc, job)),
-        Call::Die(worker) => {
-            let worker = WorkerNo::new(worker);
-            assert!(rt; worker.index() < job.master.cluster().slots().len());
-            Some(job.master.die(worker))
-        }
+        Call::Die(worker) => Some(die(rt, job, WorkerNo::new(worker))),
         Call::Join(worker, split) => Some(join(rt, job, WorkerNo::new(worker), split)),
         Call::Add(split, worker) | Call::Lose(split, worker) | Call::Backup(split, worker) => {
             Some(of_pair(rt, job, call, SplitNo::new(split), WorkerNo::new(worker)))
@@ -210,10 +233,30 @@ pub fn answer(rt: &impl Abort, alloc: Global, job: &mut Job, call: Call) -> Opti
     }
 }
 
-fn wave(alloc: Global, job: &mut Job) -> Option<Answer> {
+/// The plan of the present state.
+pub fn planned(alloc: Global, job: &Job) -> Option<Planned> {
     let problem = job.master.problem(alloc).ok()?;
-    let planned = plan(alloc, &problem).ok()?;
-    match job.master.commit(alloc, &planned) {
+    plan(alloc, &problem).ok()
+}
+
+/// Hands in a plan that may be an old one.
+pub fn commit(
+    rt: &impl Abort,
+    alloc: Global,
+    job: &mut Job,
+    planned: &Planned,
+) -> Result<Wave, CommitError> {
+    let (plan, prices, cluster) = (planned.plan(), planned.prices(), job.master.cluster());
+    assert!(rt; plan.splits() == cluster.splits().len() && plan.workers() == cluster.slots().len());
+    assert!(rt;
+        prices.splits() == cluster.splits().len() && prices.workers() == cluster.slots().len()
+    );
+    job.master.commit(alloc, planned)
+}
+
+fn wave(rt: &impl Abort, alloc: Global, job: &mut Job) -> Option<Answer> {
+    let planned = planned(alloc, job)?;
+    match commit(rt, alloc, job, &planned) {
         Ok(wave) => Some(Answer::Accepted(wave.place)),
         Err(CommitError::Stale(condition)) => no_answer(condition),
         Err(_) => None,
@@ -259,7 +302,8 @@ fn done_part(
     Some(answer_of(job.master.part_done(attempt, made)))
 }
 
-fn answer_of<R: Drop>(answer: AnswerWith<R>) -> Answer {
+/// Whether a result was accepted, without the result.
+pub fn answer_of<R: Drop>(answer: AnswerWith<R>) -> Answer {
     match answer {
         AnswerWith::Accepted(place) => Answer::Accepted(place),
         AnswerWith::Ignored(why, _) => Answer::Ignored(why),
@@ -281,6 +325,11 @@ fn reduce(alloc: Global, job: &mut Job) -> Answer {
         }
         ReduceAnswer::Ignored(why) => Answer::Ignored(why),
     }
+}
+
+fn die(rt: &impl Abort, job: &mut Job, worker: WorkerNo) -> Answer {
+    assert!(rt; worker.index() < job.master.cluster().slots().len());
+    job.master.die(worker)
 }
 
 fn join(rt: &impl Abort, job: &mut Job, worker: WorkerNo, split: Option<u16>) -> Answer {

@@ -1,7 +1,8 @@
 //! Tests of the master's crates, as a caller stands on them.
 //!
 //! Each public call once with ample memory, and rows whose answers were worked out by hand: silences,
-//! slots, bars, the reasons of a map of holders, which copies are ordered, and what a master answers call by call.
+//! slots, bars, the reasons of a map of holders, which copies are ordered, and what a master answers call by
+//! call.
 #![tactic(auto)]
 
 #[cfg(test)]

@@ -1,12 +1,11 @@
 //! Allocations that are refused: they hold whichever is, one or none.
-use crate::histories;
-use crate::jobs::{AMPLE, Call, Job, Shape, answer, make_cluster, make_master};
+use crate::jobs;
+use crate::jobs::{AMPLE, Call, Job, Shape, answer, end, make_cluster, make_master, planned};
 use crate::seen::seen;
 use master_core::ClusterError;
 use master_state::{CommitError, ReduceAnswer, Why};
 use std::alloc::Global;
 use std::process::Abort;
-use wave_planner::plan;
 
 const SHAPE: Shape<'static> = Shape {
     racks: &[2, 1],
@@ -16,13 +15,21 @@ const SHAPE: Shape<'static> = Shape {
 };
 
 // A master of two splits and three workers, unless an allocation is refused.
-fn a_master(rt: &impl Abort, alloc: Global) -> Option<Job> {
+fn one_master(rt: &impl Abort, alloc: Global) -> Option<Job> {
     match make_cluster(rt, alloc, &SHAPE)? {
         Ok(cluster) => make_master(rt, alloc, cluster, AMPLE),
         Err(why) => {
             assert_eq!(rt; why, ClusterError::Memory);
             None
         }
+    }
+}
+
+// The same, made at the second time where an allocation of its cluster or of its own is refused at the first.
+fn a_master(rt: &impl Abort, alloc: Global) -> Job {
+    match one_master(rt, alloc) {
+        Some(job) => job,
+        None => one_master(rt, alloc).expect(rt, "no second master"),
     }
 }
 
@@ -35,10 +42,9 @@ fn is_as_before(rt: &impl Abort, alloc: Global, job: &Job, before: Option<Vec<us
 
 // Commits a plan of the present state, at the second call where the first is refused.
 fn commit(rt: &impl Abort, alloc: Global, job: &mut Job) -> Option<u32> {
-    let problem = job.master.problem(alloc).ok()?;
-    let planned = plan(alloc, &problem).ok()?;
+    let planned = planned(alloc, job)?;
     let before = seen(alloc, &job.master).ok();
-    match histories::commit(rt, alloc, job, &planned) {
+    match jobs::commit(rt, alloc, job, &planned) {
         Ok(wave) => Some(wave.place),
         Err(why) => {
             assert_eq!(rt; why, CommitError::Memory);
@@ -50,12 +56,11 @@ fn commit(rt: &impl Abort, alloc: Global, job: &mut Job) -> Option<u32> {
 
 #[test]
 fn a_refused_commit_changes_nothing(rt: HostRuntime) {
-    let Some(mut job) = a_master(&rt, rt.alloc()) else {
-        return;
-    };
+    let mut job = a_master(&rt, rt.alloc());
     let first = commit(&rt, rt.alloc(), &mut job);
     let second = commit(&rt, rt.alloc(), &mut job);
-    assert!(rt; first == Some(1) || (first, second) == (None, Some(1)));
+    assert_eq!(rt; first.or(second), Some(1));
+    end(job);
 }
 
 // Starts a reduce attempt, at the second call where the first is refused.
@@ -76,7 +81,7 @@ fn reduce(rt: &impl Abort, alloc: Global, job: &mut Job) -> Option<u32> {
 
 // A master whose splits are done, unless an allocation is refused.
 fn a_mapped_master(rt: &impl Abort, alloc: Global) -> Option<Job> {
-    let mut job = a_master(rt, alloc)?;
+    let mut job = a_master(rt, alloc);
     for call in [Call::Wave, Call::Done(1), Call::Done(2)] {
         answer(rt, alloc, &mut job, call)?;
     }
@@ -90,7 +95,8 @@ fn a_refused_reduce_start_changes_nothing(rt: HostRuntime) {
     };
     let first = reduce(&rt, rt.alloc(), &mut job);
     let second = reduce(&rt, rt.alloc(), &mut job);
-    assert!(rt; first == Some(4) || (first, second) == (None, Some(4)));
+    assert_eq!(rt; first.or(second), Some(4));
+    end(job);
 }
 
 // Whether a problem is made, and how many copies are ordered.
@@ -104,12 +110,11 @@ fn read(alloc: Global, job: &Job) -> (bool, Option<usize>) {
 
 #[test]
 fn refused_readers_change_nothing(rt: HostRuntime) {
-    let Some(job) = a_master(&rt, rt.alloc()) else {
-        return;
-    };
+    let job = a_master(&rt, rt.alloc());
     let before = seen(rt.alloc(), &job.master).ok();
     let first = read(rt.alloc(), &job);
     let second = read(rt.alloc(), &job);
     is_as_before(&rt, rt.alloc(), &job, before);
     assert!(rt; first == (true, Some(1)) || second == (true, Some(1)));
+    end(job);
 }

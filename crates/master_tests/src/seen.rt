@@ -8,23 +8,31 @@ use wave_problem::Problem;
 /// All that the master shows beside its events and starts, of which it shows how many there are.
 pub fn seen(alloc: Global, master: &Master) -> Result<Vec<usize>, AllocError> {
     let mut numbers = Vec::new(alloc);
-    numbers.push(master.history().len())?;
-    numbers.push(master.starts().len())?;
-    numbers.push(master.sweeps().len())?;
-    numbers.push(master.results().len())?;
+    add_counts(master, &mut numbers)?;
     add_splits(master, &mut numbers)?;
     add_parts(master, &mut numbers)?;
-    let problem = master.problem(alloc)?;
-    add_workers(&problem, &mut numbers)?;
-    add_holders(&problem, &mut numbers)?;
-    add_bars(&problem, &mut numbers)?;
+    add_problem(alloc, master, &mut numbers)?;
     Ok(numbers)
 }
 
+fn add_counts(master: &Master, numbers: &mut Vec<usize>) -> Result<(), AllocError> {
+    numbers.extend_from_slice(&[
+        master.history().len(),
+        master.starts().len(),
+        master.sweeps().len(),
+        master.results().len(),
+    ])
+}
+
+fn add_problem(alloc: Global, master: &Master, numbers: &mut Vec<usize>) -> Result<(), AllocError> {
+    let problem = master.problem(alloc)?;
+    add_workers(&problem, numbers)?;
+    add_holders(&problem, numbers)?;
+    add_bars(&problem, numbers)
+}
+
 fn add_attempt(attempt: Attempt, numbers: &mut Vec<usize>) -> Result<(), AllocError> {
-    numbers.push(attempt.number.index())?;
-    numbers.push(attempt.worker.index())?;
-    Ok(())
+    numbers.extend_from_slice(&[attempt.number.index(), attempt.worker.index()])
 }
 
 fn add_split(state: SplitState, numbers: &mut Vec<usize>) -> Result<(), AllocError> {

@@ -1,5 +1,6 @@
 -- Arcs that stand in a list, and one more at its end.
-use Rattle.std.proofs.Common.{◌≡◌, ℕ, zero, suc, ◌-◌, ◌<◌, ◌≤◌, List, [], ◌∷◌, ◌++◌, length, get_or, refl, sym, ap, ◌∙◌, subst, inl, inr, arith}
+use Rattle.std.proofs.Common.{◌≡◌, ℕ, zero, suc, ◌-◌, ◌<◌, ◌≤◌, List, [], ◌∷◌, ◌++◌, length, get_or, refl}
+use Rattle.std.proofs.Common.{sym, ap, ◌∙◌, subst, inl, inr, arith}
 use Rattle.std.proofs.lemmas.Bool.{cases_lt}
 use Rattle.std.proofs.lemmas.List.{get_or_append_left, get_or_push, length-append, get_or-append_right}
 use Rattle.flow_network.specs.declared.arcs.FlowArc.{FlowArc}
@@ -9,7 +10,8 @@ use Rattle.network_prices.specs.Networks.{Stands, IsArcFrom}
 use Rattle.network_prices.specs.Building.{IsEmptyWithin, IsAdded}
 
 -- an arc that stands, by its number
-pub arc_standing : (arcs : List FlowArc) (a : FlowArc) → Stands arcs a → (k : ℕ) × IsArcFrom arcs k a.from a.to a.capacity a.cost
+pub arc_standing : (arcs : List FlowArc) (a : FlowArc) → Stands arcs a →
+    (k : ℕ) × IsArcFrom arcs k a.from a.to a.capacity a.cost
 arc_standing arcs a stands = (
   stands.0,
   record {
@@ -21,20 +23,23 @@ arc_standing arcs a stands = (
   },
 )
 
-pub at_old : (arcs : List FlowArc) (a : FlowArc) (k : ℕ) → k < length arcs → arc_at (arcs ++ a ∷ []) k ≡ arc_at arcs k
+pub at_old : (arcs : List FlowArc) (a : FlowArc) (k : ℕ) → k < length arcs →
+    arc_at (arcs ++ a ∷ []) k ≡ arc_at arcs k
 at_old arcs a k l = get_or_append_left arcs (a ∷ []) no_arc k l
 
 pub at_new : (arcs : List FlowArc) (a : FlowArc) → arc_at (arcs ++ a ∷ []) (length arcs) ≡ a
 at_new arcs a = get_or_push arcs a no_arc (length arcs) refl
 
 pub stands_on : (arcs : List FlowArc) (a b : FlowArc) → Stands arcs b → Stands (arcs ++ a ∷ []) b
-stands_on arcs a b s = let size = length-append arcs (a ∷ []) in let l = s.1 in (s.0, omega arith, at_old arcs a s.0 s.1 ∙ s.2)
+stands_on arcs a b s = let size = length-append arcs (a ∷ []) in let l = s.1 in
+    (s.0, omega arith, at_old arcs a s.0 s.1 ∙ s.2)
 
 pub stands_new : (arcs : List FlowArc) (a : FlowArc) → Stands (arcs ++ a ∷ []) a
 stands_new arcs a = let size = length-append arcs (a ∷ []) in (length arcs, omega arith, at_new arcs a)
 
 -- where each arc has a property, and the one that is added
-pub each_push : (P : FlowArc → Type 0) (arcs : List FlowArc) (a : FlowArc) → ((k : ℕ) → k < length arcs → P (arc_at arcs k)) → P a
+pub each_push : (P : FlowArc → Type 0) (arcs : List FlowArc) (a : FlowArc) →
+    ((k : ℕ) → k < length arcs → P (arc_at arcs k)) → P a
     → (k : ℕ) → k < length (arcs ++ a ∷ []) → P (arc_at (arcs ++ a ∷ []) k)
 each_push P arcs a old new k l =
     let size = length-append arcs (a ∷ []) in
@@ -55,13 +60,17 @@ zero_push flows z k = elim (cases_lt k (length flows)) [
   | inr l ↦ get_or-append_right flows (0 ∷ []) (length flows) k 0 refl l ∙ no_more (k - length flows)
 ]
 
-pub add_empty : {L : Type 0} (sized : L → Type 0) (limit next : ℕ) (a : FlowArc) (old new : Flow L) → limit < next → IsEmptyWithin sized limit old
+pub add_empty : {L : Type 0} (sized : L → Type 0) (limit next : ℕ) (a : FlowArc) (old new : Flow L) →
+    limit < next → IsEmptyWithin sized limit old
     → IsAdded a old new → IsEmptyWithin sized next new
 add_empty sized limit next a old new less e added = record {
   layout = subst sized (sym added.0) e.layout;
-  arc_limit = (let size = ap (λ (z : List FlowArc). length z) added.1 in let more = length-append old.arcs (a ∷ []) in let limited = e.arc_limit in omega arith);
+  arc_limit = (let size = ap (λ (z : List FlowArc). length z) added.1 in
+      let more = length-append old.arcs (a ∷ []) in let limited = e.arc_limit in omega arith);
   empty = subst (λ (z : List ℕ). (k : ℕ) → get_or z k 0 ≡ 0) (sym added.2) (zero_push old.flows e.empty);
 }
 
-pub more_room : {L : Type 0} (sized : L → Type 0) (limit next : ℕ) (network : Flow L) → limit ≤ next → IsEmptyWithin sized limit network → IsEmptyWithin sized next network
-more_room sized limit next network less e = record { layout = e.layout; arc_limit = (let limited = e.arc_limit in omega arith); empty = e.empty }
+pub more_room : {L : Type 0} (sized : L → Type 0) (limit next : ℕ) (network : Flow L) → limit ≤ next →
+    IsEmptyWithin sized limit network → IsEmptyWithin sized next network
+more_room sized limit next network less e =
+    record { layout = e.layout; arc_limit = (let limited = e.arc_limit in omega arith); empty = e.empty }

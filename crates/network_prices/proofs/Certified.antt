@@ -1,5 +1,7 @@
 -- A plan and prices read off a network's flows meet every condition of the certificate.
-use Rattle.std.proofs.Common.{◌≡◌, ℕ, suc, ◌+◌, ◌*◌, ◌<◌, ◌≤◌, true, false, cond, List, [], ◌∷◌, ◌++◌, length, get_or, Option, Some, None, refl, sym, ap, ◌∙◌, subst, inl, inr, ◌⊎◌, arith, unwrap_or}
+use Rattle.std.proofs.Common.{◌≡◌, ℕ, suc, ◌+◌, ◌*◌, ◌<◌, ◌≤◌, true, false, cond, List, [], ◌∷◌, ◌++◌, length}
+use Rattle.std.proofs.Common.{get_or, Option, Some, None, refl, sym, ap, ◌∙◌, subst, inl, inr, ◌⊎◌, arith}
+use Rattle.std.proofs.Common.{unwrap_or}
 use Rattle.std.specs.Prelude.{◌==◌, IsSome}
 use Rattle.std.proofs.lemmas.Bool.{cases_Bool, cases_eq, cases_lt}
 use Rattle.std.proofs.lemmas.List.{length-append}
@@ -11,24 +13,37 @@ use Rattle.wave_problem.specs.Wave.{Wave, IsAdmissible, split_at, worker_at, liv
 use Rattle.wave_problem.specs.Assignment.{start_of, pairs_from, pairs_of, load, total}
 use Rattle.wave_problem.proofs.Bound.{pending_known, live_known}
 use Rattle.price_certificate.specs.PriceList.{PriceList}
-use Rattle.price_certificate.specs.declared.Condition.TheVariants.{Open, Allowed, Room, SplitPrice, WorkerPrice, Priced, Tight, Unstarted, Spare}
+use Rattle.price_certificate.specs.declared.Condition.TheVariants.{Open, Allowed, Room, SplitPrice}
+use Rattle.price_certificate.specs.declared.Condition.TheVariants.{WorkerPrice, Priced, Tight, Unstarted}
+use Rattle.price_certificate.specs.declared.Condition.TheVariants.{Spare}
 use Rattle.price_certificate.specs.Certificate.{claim, Certifies, split_price, worker_price}
 use Rattle.network_prices.specs.Ways.{IsAmong, IsInner, CameFrom}
 use Rattle.network_prices.specs.Pending.{IsUsable, pending_below, pending_splits}
 use Rattle.network_prices.specs.Networks.{WaveNodes, way_of, IsOffer, IsWaveNetwork}
-use Rattle.network_prices.specs.Prices.{IsShipped, end_of, IsPlanOf, ArePricesOf, CostsAsMuch, FlowCostsAsPlan, PricesCertify}
-use Rattle.network_prices.proofs.Pending.{pending-more, pending-same, one_each, none_each, balanced, fed_by_others}
-use Rattle.network_prices.proofs.Costs.{spent_at, spent, spent_none, spent_more, spent_all, spent_nothing, spent_one}
+use Rattle.network_prices.specs.Prices.{IsShipped, end_of, IsPlanOf, ArePricesOf, CostsAsMuch}
+use Rattle.network_prices.specs.Prices.{FlowCostsAsPlan, PricesCertify}
+use Rattle.network_prices.proofs.Pending.{pending-more, pending-same, one_each, none_each, balanced}
+use Rattle.network_prices.proofs.Pending.{fed_by_others}
+use Rattle.network_prices.proofs.Costs.{spent_at, spent, spent_none, spent_more, spent_all, spent_nothing}
+use Rattle.network_prices.proofs.Costs.{spent_one}
 use Rattle.network_prices.proofs.Ways.{deepest-ge, CameBy, room_out, own_unit, came_down}
-use Rattle.network_prices.proofs.Sums.{outflow-le, outflow-ge, outflow-ge_two}
+use Rattle.flow_network.proofs.Room.{outflow-le}
+use Rattle.network_prices.proofs.Sums.{outflow-ge, outflow-ge_two}
 
 -- a load comes from a start
-some_start : (n w : ℕ) (starts : List (Option ℕ)) → 0 < load (pairs_from n starts) w → (s : ℕ) × (start_of starts s ≡ Some w)
+some_start : (n w : ℕ) (starts : List (Option ℕ)) → 0 < load (pairs_from n starts) w →
+    (s : ℕ) × (start_of starts s ≡ Some w)
 some_start n w [] l = absurd (omega arith)
 some_start n w (None ∷ rest) l = let found = some_start (n + 1) w rest l in (suc found.0, found.1)
 some_start n w (Some v ∷ rest) l = elim (cases_eq v w) [
   | inl e ↦ (0, ap Some e)
-  | inr d ↦ (let found = some_start (n + 1) w rest (grind (arith, sum_by-cons (λ (pair : ℕ × ℕ). cond (pair.1 == w) 1 0) (n, v) (pairs_from (n + 1) rest))) in (suc found.0, found.1))
+  | inr d ↦ (let found =
+      some_start (n + 1) w rest
+      (grind (
+        arith,
+        sum_by-cons (λ (pair : ℕ × ℕ). cond (pair.1 == w) 1 0) (n, v)
+            (pairs_from (n + 1) rest),
+      )) in (suc found.0, found.1))
 ]
 
 usable_or_not : (wave : Wave) (w : ℕ) → IsUsable wave w ⊎ (IsUsable wave w → ⊥)
@@ -40,7 +55,8 @@ usable_or_not wave w = elim (cases_Bool (worker_at wave w).live) [
   | inr f ↦ inr (λ u. let t = u.0 in (cc))
 ]
 
-module _ (wave : Wave) (nodes : WaveNodes) (arcs : List FlowArc) (flows : List ℕ) (h : ℕ → ℕ) (starts : List (Option ℕ)) (prices : PriceList)
+module _ (wave : Wave) (nodes : WaveNodes) (arcs : List FlowArc) (flows : List ℕ) (h : ℕ →
+    ℕ) (starts : List (Option ℕ)) (prices : PriceList)
     (network : IsWaveNetwork wave nodes arcs) (shipped : IsShipped wave nodes arcs flows)
     (reduced : NoNegative arcs flows h) (at_sink : h nodes.sink ≡ 0)
     (plan : IsPlanOf wave nodes arcs flows starts) (priced : ArePricesOf wave nodes h starts prices) where
@@ -61,17 +77,21 @@ module _ (wave : Wave) (nodes : WaveNodes) (arcs : List FlowArc) (flows : List �
   ]
 
   -- the arc that a split's unit left by is its only one with a unit
-  no_other : (s i j : ℕ) → (split_at wave s).pending ≡ true → i < length arcs → j < length arcs → (arc_at arcs i).from ≡ s → (arc_at arcs j).from ≡ s
+  no_other : (s i j : ℕ) → (split_at wave s).pending ≡ true → i < length arcs → j < length arcs →
+      (arc_at arcs i).from ≡ s → (arc_at arcs j).from ≡ s
       → (i ≡ j → ⊥) → 0 < get_or flows i 0 → get_or flows j 0 ≡ 0
   no_other s i j p l m from from' n unit =
       let two = outflow-ge_two arcs flows s i j shipped.sizes l m from from' n in
       let one = own_one s p in omega arith
 
   -- so no other arc of the split is cheaper
-  no_cheaper : (s i j : ℕ) → (split_at wave s).pending ≡ true → i < length arcs → j < length arcs → (arc_at arcs i).from ≡ s → (arc_at arcs j).from ≡ s
-      → (arc_at arcs j).capacity ≡ 1 → 0 < get_or flows i 0 → (arc_at arcs i).cost + h (arc_at arcs i).to ≤ (arc_at arcs j).cost + h (arc_at arcs j).to
+  no_cheaper : (s i j : ℕ) → (split_at wave s).pending ≡ true → i < length arcs → j < length arcs →
+      (arc_at arcs i).from ≡ s → (arc_at arcs j).from ≡ s
+      → (arc_at arcs j).capacity ≡ 1 → 0 < get_or flows i 0 →
+      (arc_at arcs i).cost + h (arc_at arcs i).to ≤ (arc_at arcs j).cost + h (arc_at arcs j).to
   no_cheaper s i j p l m from from' one unit = elim (cases_eq i j) [
-    | inl e ↦ (let c = ap (λ (k : ℕ). (arc_at arcs k).cost) e in let d = ap (λ (k : ℕ). h (arc_at arcs k).to) e in omega arith)
+    | inl e ↦ (let c = ap (λ (k : ℕ). (arc_at arcs k).cost) e in
+        let d = ap (λ (k : ℕ). h (arc_at arcs k).to) e in omega arith)
     | inr n ↦
         (let none = no_other s i j p l m from from' n unit in
         let own = (reduced i l).1 unit in
@@ -80,13 +100,15 @@ module _ (wave : Wave) (nodes : WaveNodes) (arcs : List FlowArc) (flows : List �
   ]
 
   -- a unit of the split on an arc other than its waiting arc costs no more than the reward
-  not_above_reward : (s i : ℕ) → (split_at wave s).pending ≡ true → i < length arcs → (arc_at arcs i).from ≡ s → ((arc_at arcs i).to ≡ nodes.unstarted → ⊥)
+  not_above_reward : (s i : ℕ) → (split_at wave s).pending ≡ true → i < length arcs →
+      (arc_at arcs i).from ≡ s → ((arc_at arcs i).to ≡ nodes.unstarted → ⊥)
       → 0 < get_or flows i 0 → (arc_at arcs i).cost + h (arc_at arcs i).to ≤ reward wave
   not_above_reward s i p l from off unit =
       let w = network.wait s p in
       let wait = w.1 in
       let known = pending_known wave s p in
-      let others = fed_by_others wave nodes arcs flows network.past_splits network.no_entry shipped nodes.unstarted i
+      let others = fed_by_others wave nodes arcs flows network.past_splits network.no_entry shipped
+      nodes.unstarted i
       (λ k m t. (network.waiting k m t).0) l (omega arith) off in
       let same = even nodes.unstarted network.rest_inner in
       let r = network.rest in
@@ -109,11 +131,13 @@ module _ (wave : Wave) (nodes : WaveNodes) (arcs : List FlowArc) (flows : List �
         (let p = pending s w e in
         let c = plan.came s p in
         let known = pending_known wave s p in
-        let at : CameFrom arcs flows c.0 s (nodes.worker w) = subst (λ (o : Option ℕ). CameFrom arcs flows c.0 s (end_of nodes o)) e c.1 in
+        let at : CameFrom arcs flows c.0 s (nodes.worker w) =
+        subst (λ (o : Option ℕ). CameFrom arcs flows c.0 s (end_of nodes o)) e c.1 in
         absurd (not_there s w n (plan.known s w e) known c.0 at))
   ]
     where
-      not_there : (s w : ℕ) → (IsUsable wave w → ⊥) → w < length wave.workers → s < length wave.splits → (path : List ℕ) → CameFrom arcs flows path s (nodes.worker w) → ⊥
+      not_there : (s w : ℕ) → (IsUsable wave w → ⊥) → w < length wave.workers → s < length wave.splits →
+          (path : List ℕ) → CameFrom arcs flows path s (nodes.worker w) → ⊥
       not_there s w n l k [] came = let inner = network.known w in absurd (omega arith)
       not_there s w n l k (i ∷ path) came = network.closed w i l n came.0 came.2
 
@@ -122,19 +146,24 @@ module _ (wave : Wave) (nodes : WaveNodes) (arcs : List FlowArc) (flows : List �
   came s w e =
       let p = pending s w e in
       let c = plan.came s p in
-      let at : CameFrom arcs flows c.0 s (nodes.worker w) = subst (λ (o : Option ℕ). CameFrom arcs flows c.0 s (end_of nodes o)) e c.1 in
-      came_down arcs flows h (length wave.splits) nodes.sink shipped.sizes shipped.within reduced even network.no_entry s
+      let at : CameFrom arcs flows c.0 s (nodes.worker w) =
+      subst (λ (o : Option ℕ). CameFrom arcs flows c.0 s (end_of nodes o)) e c.1 in
+      came_down arcs flows h (length wave.splits) nodes.sink shipped.sizes shipped.within reduced even
+      network.no_entry s
       c.0 (nodes.above w) (nodes.worker w) (pending_known wave s p) (network.ways w (usable s w e)) at
 
   admissible : (s w : ℕ) → start_of starts s ≡ Some w → IsAdmissible wave s w
   admissible s w e =
       let c = came s w e in let by = c.1 in
-      (network.sound s w c.0 (pending_known wave s (pending s w e)) (usable s w e) by.listed by.from_is by.on_way).0
+      (network.sound s w c.0 (pending_known wave s (pending s w e)) (usable s w e) by.listed by.from_is
+      by.on_way).0
 
-  worth : (s w : ℕ) → start_of starts s ≡ Some w → (k : ℕ) × CameBy arcs flows h s (way_of nodes w) k × (price s w + worker_price prices w ≤ (arc_at arcs k).cost + h (arc_at arcs k).to)
+  worth : (s w : ℕ) → start_of starts s ≡ Some w → (k : ℕ) × CameBy arcs flows h s (way_of nodes w) k
+      × (price s w + worker_price prices w ≤ (arc_at arcs k).cost + h (arc_at arcs k).to)
   worth s w e =
       let c = came s w e in let by = c.1 in
-      let least = (network.sound s w c.0 (pending_known wave s (pending s w e)) (usable s w e) by.listed by.from_is by.on_way).1 in
+      let least = (network.sound s w c.0 (pending_known wave s (pending s w e))
+      (usable s w e) by.listed by.from_is by.on_way).1 in
       let same = priced.usable w (usable s w e) in
       let deep = by.deep in
       (c.0, by, omega arith)
@@ -143,11 +172,13 @@ module _ (wave : Wave) (nodes : WaveNodes) (arcs : List FlowArc) (flows : List �
   fits : (s w : ℕ) → start_of starts s ≡ Some w → price s w + worker_price prices w ≤ reward wave
   fits s w e =
       let c = worth s w e in let by = c.1 in let bound = c.2 in
-      let off : (arc_at arcs c.0).to ≡ nodes.unstarted → ⊥ = λ u. network.apart w (usable s w e) (subst (λ (v : ℕ). IsAmong v (way_of nodes w)) u by.on_way) in
+      let off : (arc_at arcs c.0).to ≡ nodes.unstarted → ⊥ =
+      λ u. network.apart w (usable s w e) (subst (λ (v : ℕ). IsAmong v (way_of nodes w)) u by.on_way) in
       let less = not_above_reward s c.0 (pending s w e) by.listed by.from_is off by.unit in
       omega arith
 
-  -- another start of a split that starts is worth no more, and one of a split that does not no more than the reward
+  -- another start of a split that starts is worth no more, and one of a split that does not no more than the
+  -- reward
   worth_of_offer : (s w k : ℕ) → IsUsable wave w → IsOffer arcs s (way_of nodes w) (price s w) k
       → (arc_at arcs k).cost + h (arc_at arcs k).to ≤ price s w + worker_price prices w
   worth_of_offer s w k u offer =
@@ -166,7 +197,8 @@ module _ (wave : Wave) (nodes : WaveNodes) (arcs : List FlowArc) (flows : List �
         let out = outflow-ge arcs flows (nodes.worker w) s.0 shipped.sizes slot.listed slot.from_is in
         let cap = slot.capacity_is in
         let room : get_or flows s.0 0 < (arc_at arcs s.0).capacity = omega arith in
-        let deep = room_out arcs flows h (length wave.splits) nodes.sink shipped.sizes shipped.within reduced even
+        let deep = room_out arcs flows h (length wave.splits) nodes.sink shipped.sizes shipped.within reduced
+        even
         (nodes.above w) (nodes.worker w) s.0 (network.ways w u) slot.listed slot.from_is room in
         let step = (reduced s.0 slot.listed).0 room in
         let a = ap h slot.from_is in let b = ap h slot.to_is in let c = at_sink in let d = slot.cost_is in
@@ -174,7 +206,8 @@ module _ (wave : Wave) (nodes : WaveNodes) (arcs : List FlowArc) (flows : List �
         omega arith)
   ]
 
-  open_at : (s : ℕ) (o : Option ℕ) → start_of starts s ≡ o → IsSome o → ((split_at wave s).pending ≡ true) × (0 < length (live_holders wave s))
+  open_at : (s : ℕ) (o : Option ℕ) → start_of starts s ≡ o → IsSome o →
+      ((split_at wave s).pending ≡ true) × (0 < length (live_holders wave s))
   open_at s None e some = cc
   open_at s (Some w) e some = let a = admissible s w e in (a.pending, a.held)
 
@@ -206,23 +239,29 @@ module _ (wave : Wave) (nodes : WaveNodes) (arcs : List FlowArc) (flows : List �
     ]
   ]
 
-  waits : (s : ℕ) → (split_at wave s).pending ≡ true → (path : List ℕ) → CameFrom arcs flows path s nodes.unstarted → (j : ℕ) → j < length arcs → (arc_at arcs j).from ≡ s → (arc_at arcs j).capacity ≡ 1
+  waits : (s : ℕ) → (split_at wave s).pending ≡ true → (path : List ℕ) →
+      CameFrom arcs flows path s nodes.unstarted → (j : ℕ) → j < length arcs → (arc_at arcs j).from ≡ s →
+      (arc_at arcs j).capacity ≡ 1
       → reward wave ≤ (arc_at arcs j).cost + h (arc_at arcs j).to
-  waits s p [] came j l from one = let known = pending_known wave s p in let inner = network.rest_inner.no_source in absurd (omega arith)
+  waits s p [] came j l from one = let known = pending_known wave s p in
+      let inner = network.rest_inner.no_source in absurd (omega arith)
   waits s p (k ∷ path) came j l from one =
       let w = network.waiting k came.0 came.2 in
-      let own = own_unit arcs flows h (length wave.splits) nodes.sink shipped.sizes shipped.within reduced even network.no_entry s path (arc_at arcs k).from w.0 came.3 in
+      let own = own_unit arcs flows h (length wave.splits) nodes.sink shipped.sizes shipped.within reduced
+      even network.no_entry s path (arc_at arcs k).from w.0 came.3 in
       let less = no_cheaper s k j p came.0 l own from one came.1 in
       let c = w.1 in
       omega arith
 
-  priced_at_all : (s w : ℕ) (o : Option ℕ) → start_of starts s ≡ o → IsAdmissible wave s w → reward wave ≤ split_price prices s + worker_price prices w + price s w
+  priced_at_all : (s w : ℕ) (o : Option ℕ) → start_of starts s ≡ o → IsAdmissible wave s w →
+      reward wave ≤ split_price prices s + worker_price prices w + price s w
   priced_at_all s w None e a =
       let offer = network.complete s w a in
       let u : IsUsable wave w = (a.live, a.has_slot) in
       let most = worth_of_offer s w offer.0 u offer.1 in
       let c = plan.came s a.pending in
-      let at : CameFrom arcs flows c.0 s nodes.unstarted = subst (λ (o : Option ℕ). CameFrom arcs flows c.0 s (end_of nodes o)) e c.1 in
+      let at : CameFrom arcs flows c.0 s nodes.unstarted =
+      subst (λ (o : Option ℕ). CameFrom arcs flows c.0 s (end_of nodes o)) e c.1 in
       let wait = waits s a.pending c.0 at offer.0 offer.1.listed offer.1.from_is offer.1.one in
       omega arith
   priced_at_all s w (Some v) e a =
@@ -230,11 +269,13 @@ module _ (wave : Wave) (nodes : WaveNodes) (arcs : List FlowArc) (flows : List �
       let u : IsUsable wave w = (a.live, a.has_slot) in
       let most = worth_of_offer s w offer.0 u offer.1 in
       let own = worth s v e in let by = own.1 in let bound = own.2 in
-      let less = no_cheaper s own.0 offer.0 a.pending by.listed offer.1.listed by.from_is offer.1.from_is offer.1.one by.unit in
+      let less = no_cheaper s own.0 offer.0 a.pending by.listed offer.1.listed by.from_is offer.1.from_is
+      offer.1.one by.unit in
       let p = priced.started s v e in
       omega arith
 
-  tight : (s w : ℕ) → start_of starts s ≡ Some w → split_price prices s + worker_price prices w + price s w ≡ reward wave
+  tight : (s w : ℕ) → start_of starts s ≡ Some w → split_price prices s + worker_price prices w + price s w
+      ≡ reward wave
   tight s w e = let p = priced.started s w e in let f = fits s w e in omega arith
 
   certifies : Certifies (claim wave starts prices)
@@ -262,12 +303,15 @@ module _ (wave : Wave) (nodes : WaveNodes) (arcs : List FlowArc) (flows : List �
       subst (λ (o : Option ℕ). CameFrom arcs flows c.0 s (end_of nodes o)) e c.1 in
       waited c.0 at
     where
-      waited : (path : List ℕ) → CameFrom arcs flows path s nodes.unstarted → spent_at arcs flows s ≡ reward wave
+      waited : (path : List ℕ) → CameFrom arcs flows path s nodes.unstarted →
+          spent_at arcs flows s ≡ reward wave
       waited [] came =
-          let known = pending_known wave s p in let inner = network.rest_inner.no_source in absurd (omega arith)
+          let known = pending_known wave s p in let inner = network.rest_inner.no_source in
+          absurd (omega arith)
       waited (k ∷ path) came =
           let w = network.waiting k came.0 came.2 in
-          let own = own_unit arcs flows h (length wave.splits) nodes.sink shipped.sizes shipped.within reduced even
+          let own = own_unit arcs flows h (length wave.splits) nodes.sink shipped.sizes shipped.within
+          reduced even
           network.no_entry s path (arc_at arcs k).from w.0 came.3 in
           spent_one arcs flows s k shipped.sizes (own_one s p) came.0 own came.1 ∙ w.1
   own_cost s p (Some w) e =
@@ -276,7 +320,8 @@ module _ (wave : Wave) (nodes : WaveNodes) (arcs : List FlowArc) (flows : List �
       let least = (network.sound s w own.0 (pending_known wave s p) u by.listed by.from_is by.on_way).1 in
       let offer = network.complete s w (admissible s w e) in
       let most = worth_of_offer s w offer.0 u offer.1 in
-      let less = no_cheaper s own.0 offer.0 p by.listed offer.1.listed by.from_is offer.1.from_is offer.1.one by.unit in
+      let less = no_cheaper s own.0 offer.0 p by.listed offer.1.listed by.from_is offer.1.from_is offer.1.one
+      by.unit in
       let deep = by.deep in
       let same = priced.usable w u in
       let one = spent_one arcs flows s own.0 shipped.sizes (own_one s p) by.listed by.from_is by.unit in
@@ -296,21 +341,26 @@ module _ (wave : Wave) (nodes : WaveNodes) (arcs : List FlowArc) (flows : List �
       → Costs (suc n) pairs → Costs n (with_start n x pairs)
   one_more n x pairs known here rest = elim (cases_Bool (split_at wave n).pending) [
     | inl p ↦ waits_for x p (own_cost n p x here)
-    | inr idle ↦ subst (λ (o : Option ℕ). Costs n (with_start n o pairs)) (sym (plan.idle n idle) ∙ here) (closed idle)
+    | inr idle ↦ subst (λ (o : Option ℕ). Costs n (with_start n o pairs)) (sym (plan.idle n idle) ∙ here)
+        (closed idle)
   ]
     where
       more : spent (suc n) arcs flows ≡ spent n arcs flows + spent_at arcs flows n
       more = spent_more n arcs flows
 
       rewards : (split_at wave n).pending ≡ true
-          → reward wave * length (pending_below wave (suc n)) ≡ reward wave * length (pending_below wave n) + reward wave
+          → reward wave * length (pending_below wave (suc n)) ≡ reward wave * length (pending_below wave n)
+          + reward wave
       rewards p =
           let size = length-append (pending_below wave n) (n ∷ []) in
           let one : length (pending_below wave (suc n)) ≡ suc (length (pending_below wave n)) =
-          ap (λ (z : List ℕ). length z) (pending-more wave n p) ∙ (let e : length (pending_below wave n ++ n ∷ []) ≡ suc (length (pending_below wave n)) = omega arith in e) in
+          ap (λ (z : List ℕ). length z) (pending-more wave n p)
+          ∙ (let e : length (pending_below wave n ++ n ∷ []) ≡ suc (length (pending_below wave n)) =
+          omega arith in e) in
           ap (λ (z : ℕ). reward wave * z) one ∙ mul-suc (reward wave) (length (pending_below wave n))
 
-      waits_for : (x : Option ℕ) → (split_at wave n).pending ≡ true → spent_at arcs flows n ≡ fee n x → Costs n (with_start n x pairs)
+      waits_for : (x : Option ℕ) → (split_at wave n).pending ≡ true → spent_at arcs flows n ≡ fee n x →
+          Costs n (with_start n x pairs)
       waits_for None p e = let again = rewards p in let was = rest in let step = more in omega arith
       waits_for (Some w) p e =
           let again = rewards p in let was = rest in let step = more in
@@ -336,14 +386,16 @@ module _ (wave : Wave) (nodes : WaveNodes) (arcs : List FlowArc) (flows : List �
   costs_from n (x ∷ xs) all are =
       let next : n + 1 ≡ suc n = omega arith in
       let rest = costs_from (n + 1) xs (omega arith)
-      (λ i l. ap (λ (k : ℕ). start_of starts k) (let k : n + 1 + i ≡ n + suc i = omega arith in k) ∙ are (suc i) (omega arith)) in
+      (λ i l. ap (λ (k : ℕ). start_of starts k) (let k : n + 1 + i ≡ n + suc i = omega arith in
+      k) ∙ are (suc i) (omega arith)) in
       let here : start_of starts n ≡ x =
       ap (λ (k : ℕ). start_of starts k) (let k : n ≡ n + 0 = omega arith in k) ∙ are 0 (omega arith) in
       let one = one_more n x (pairs_from (n + 1) xs) (omega arith) here
       (subst (λ (k : ℕ). Costs k (pairs_from (n + 1) xs)) next rest) in
       front x one
     where
-      front : (x : Option ℕ) → Costs n (with_start n x (pairs_from (n + 1) xs)) → Costs n (pairs_from n (x ∷ xs))
+      front : (x : Option ℕ) → Costs n (with_start n x (pairs_from (n + 1) xs)) →
+          Costs n (pairs_from n (x ∷ xs))
       front None one = one
       front (Some w) one = one
 

@@ -1,5 +1,6 @@
 -- What a flow costs, node by node.
-use Rattle.std.proofs.Common.{◌≡◌, ℕ, zero, suc, ◌+◌, ◌*◌, ◌<◌, ◌≤◌, cond, eqb, ltb, List, [], ◌∷◌, length, get_or, refl, ap, inl, inr, arith}
+use Rattle.std.proofs.Common.{◌≡◌, ℕ, zero, suc, ◌+◌, ◌*◌, ◌<◌, ◌≤◌, cond, eqb, ltb, List, [], ◌∷◌, length}
+use Rattle.std.proofs.Common.{get_or, refl, ap, inl, inr, arith}
 use Rattle.std.proofs.lemmas.Bool.{cases_lt, cases_eq, eq-eqb, ne_eqb, lt-ltb, le-ltb}
 use Rattle.flow_network.specs.declared.arcs.FlowArc.{FlowArc}
 use Rattle.flow_network.specs.Flows.{arc_at, outflow}
@@ -20,7 +21,8 @@ spent n (a ∷ arcs) (f ∷ flows) = cond (ltb a.from n) (f * a.cost) 0 + spent 
 pub spent_none : (arcs : List FlowArc) (flows : List ℕ) → spent 0 arcs flows ≡ 0
 spent_none [] flows = refl
 spent_none (a ∷ arcs) [] = refl
-spent_none (a ∷ arcs) (f ∷ flows) = let rest = spent_none arcs flows in rw (le-ltb a.from 0 (omega arith)) (omega arith)
+spent_none (a ∷ arcs) (f ∷ flows) = let rest = spent_none arcs flows in
+    rw (le-ltb a.from 0 (omega arith)) (omega arith)
 
 pub spent_more : (n : ℕ) (arcs : List FlowArc) (flows : List ℕ)
     → spent (suc n) arcs flows ≡ spent n arcs flows + spent_at arcs flows n
@@ -47,14 +49,16 @@ spent_all n (a ∷ arcs) (f ∷ flows) free =
     ]
 
 -- where no unit leaves a node, nothing is spent there; where one does, what its arc costs
-pub spent_nothing : (arcs : List FlowArc) (flows : List ℕ) (v : ℕ) → outflow arcs flows v ≡ 0 → spent_at arcs flows v ≡ 0
+pub spent_nothing : (arcs : List FlowArc) (flows : List ℕ) (v : ℕ) → outflow arcs flows v ≡ 0 →
+    spent_at arcs flows v ≡ 0
 spent_nothing [] flows v none = refl
 spent_nothing (a ∷ arcs) [] v none = refl
 spent_nothing (a ∷ arcs) (f ∷ flows) v none = elim (cases_eq a.from v) [
   | inl e ↦
       (let all : f + outflow arcs flows v ≡ 0 = rw (eq-eqb a.from v e) at none in
       let rest = spent_nothing arcs flows v (omega arith) in
-      let free : f * a.cost ≡ 0 * a.cost = ap (λ (z : ℕ). z * a.cost) (let idle : f ≡ 0 = omega arith in idle) in
+      let free : f * a.cost ≡ 0 * a.cost = ap (λ (z : ℕ). z * a.cost) (let idle : f ≡ 0 = omega arith in
+      idle) in
       rw (eq-eqb a.from v e) (omega arith))
   | inr n ↦
       (let all : 0 + outflow arcs flows v ≡ 0 = rw (ne_eqb a.from v n) at none in
@@ -62,14 +66,17 @@ spent_nothing (a ∷ arcs) (f ∷ flows) v none = elim (cases_eq a.from v) [
       rw (ne_eqb a.from v n) (omega arith))
 ]
 
-pub spent_one : (arcs : List FlowArc) (flows : List ℕ) (v k : ℕ) → length flows ≡ length arcs → outflow arcs flows v ≡ 1
-    → k < length arcs → (arc_at arcs k).from ≡ v → 0 < get_or flows k 0 → spent_at arcs flows v ≡ (arc_at arcs k).cost
+pub spent_one : (arcs : List FlowArc) (flows : List ℕ) (v k : ℕ) → length flows ≡ length arcs →
+    outflow arcs flows v ≡ 1
+    → k < length arcs → (arc_at arcs k).from ≡ v → 0 < get_or flows k 0 →
+    spent_at arcs flows v ≡ (arc_at arcs k).cost
 spent_one [] flows v k sizes one l from unit = absurd (omega arith)
 spent_one (a ∷ arcs) [] v k sizes one l from unit = absurd (omega arith)
 spent_one (a ∷ arcs) (f ∷ flows) v zero sizes one l from unit =
     let all : f + outflow arcs flows v ≡ 1 = rw (eq-eqb a.from v from) at one in
     let rest = spent_nothing arcs flows v (omega arith) in
-    let own : f * a.cost ≡ 1 * a.cost = ap (λ (z : ℕ). z * a.cost) (let single : f ≡ 1 = omega arith in single) in
+    let own : f * a.cost ≡ 1 * a.cost = ap (λ (z : ℕ). z * a.cost) (let single : f ≡ 1 = omega arith in
+    single) in
     rw (eq-eqb a.from v from) (omega arith)
 spent_one (a ∷ arcs) (f ∷ flows) v (suc k) sizes one l from unit =
     let some = outflow-ge arcs flows v k (omega arith) (omega arith) from in
@@ -77,7 +84,8 @@ spent_one (a ∷ arcs) (f ∷ flows) v (suc k) sizes one l from unit =
       | inl e ↦
           (let all : f + outflow arcs flows v ≡ 1 = rw (eq-eqb a.from v e) at one in
           let rest = spent_one arcs flows v k (omega arith) (omega arith) (omega arith) from unit in
-          let free : f * a.cost ≡ 0 * a.cost = ap (λ (z : ℕ). z * a.cost) (let idle : f ≡ 0 = omega arith in idle) in
+          let free : f * a.cost ≡ 0 * a.cost = ap (λ (z : ℕ). z * a.cost) (let idle : f ≡ 0 = omega arith in
+          idle) in
           rw (eq-eqb a.from v e) (omega arith))
       | inr n ↦
           (let all : 0 + outflow arcs flows v ≡ 1 = rw (ne_eqb a.from v n) at one in

@@ -1,5 +1,6 @@
 -- The pending splits, each of which sends one unit to the sink.
-use Rattle.std.proofs.Common.{◌≡◌, ℕ, zero, suc, ◌+◌, ◌*◌, ◌<◌, ◌≤◌, Bool, true, false, cond, List, [], ◌∷◌, ◌++◌, length, get_or, refl, sym, ap, ◌∙◌, subst, inl, inr, arith}
+use Rattle.std.proofs.Common.{◌≡◌, ℕ, zero, suc, ◌+◌, ◌*◌, ◌<◌, ◌≤◌, Bool, true, false, cond, List, [], ◌∷◌}
+use Rattle.std.proofs.Common.{◌++◌, length, get_or, refl, sym, ap, ◌∙◌, subst, inl, inr, arith}
 use Rattle.std.proofs.lemmas.Bool.{cases_Bool, cases_lt, cases_eq, eq-eqb, ne_eqb, false≢true}
 use Rattle.std.proofs.lemmas.List.{get_or_append_left, get_or_push, length-append}
 use Rattle.flow_network.specs.declared.arcs.FlowArc.{FlowArc}
@@ -15,10 +16,12 @@ use Rattle.network_prices.specs.Prices.{IsShipped}
 use Rattle.network_prices.proofs.Sums.{inflow_none, given, given_none, given_more, inflow-given_two}
 
 -- how often a node is among the pending splits
-pub pending-more : (wave : Wave) (n : ℕ) → (split_at wave n).pending ≡ true → pending_below wave (suc n) ≡ pending_below wave n ++ n ∷ []
+pub pending-more : (wave : Wave) (n : ℕ) → (split_at wave n).pending ≡ true →
+    pending_below wave (suc n) ≡ pending_below wave n ++ n ∷ []
 pending-more wave n h = ap (λ (b : Bool). cond b (pending_below wave n ++ n ∷ []) (pending_below wave n)) h
 
-pub pending-same : (wave : Wave) (n : ℕ) → (split_at wave n).pending ≡ false → pending_below wave (suc n) ≡ pending_below wave n
+pub pending-same : (wave : Wave) (n : ℕ) → (split_at wave n).pending ≡ false →
+    pending_below wave (suc n) ≡ pending_below wave n
 pending-same wave n h = ap (λ (b : Bool). cond b (pending_below wave n ++ n ∷ []) (pending_below wave n)) h
 
 pub times_past : (wave : Wave) (n v : ℕ) → n ≤ v → times_in v (pending_below wave n) ≡ 0
@@ -31,7 +34,8 @@ times_past wave (suc n) v l =
       | inr f ↦ ap (times_in v) (pending-same wave n f) ∙ before
     ]
 
-pub times_pending : (wave : Wave) (n v : ℕ) → v < n → (split_at wave v).pending ≡ true → times_in v (pending_below wave n) ≡ 1
+pub times_pending : (wave : Wave) (n v : ℕ) → v < n → (split_at wave v).pending ≡ true →
+    times_in v (pending_below wave n) ≡ 1
 times_pending wave zero v l p = absurd (omega arith)
 times_pending wave (suc n) v l p = elim (cases_eq n v) [
   | inl e ↦ (let on : unit_at n v ≡ 1 = ap (λ (b : Bool). cond b 1 0) (eq-eqb n v e) in
@@ -41,72 +45,88 @@ times_pending wave (suc n) v l p = elim (cases_eq n v) [
   | inr q ↦ (let before = times_pending wave n v (omega arith) p in
       let off : unit_at n v ≡ 0 = ap (λ (b : Bool). cond b 1 0) (ne_eqb n v q) in
       elim (cases_Bool (split_at wave n).pending) [
-        | inl t ↦ ap (times_in v) (pending-more wave n t) ∙ times_in-push v (pending_below wave n) n ∙ omega arith
+        | inl t ↦ ap (times_in v) (pending-more wave n t) ∙ times_in-push v (pending_below wave n) n
+            ∙ omega arith
         | inr f ↦ ap (times_in v) (pending-same wave n f) ∙ before
       ])
 ]
 
-times_other : (wave : Wave) (n v : ℕ) → (split_at wave v).pending ≡ false → times_in v (pending_below wave n) ≡ 0
+times_other : (wave : Wave) (n v : ℕ) → (split_at wave v).pending ≡ false →
+    times_in v (pending_below wave n) ≡ 0
 times_other wave zero v f = refl
 times_other wave (suc n) v f =
     let before = times_other wave n v f in
     elim (cases_Bool (split_at wave n).pending) [
-      | inl t ↦ (let apart : n ≡ v → ⊥ = λ e. false≢true (sym f ∙ sym (ap (λ (z : ℕ). (split_at wave z).pending) e) ∙ t) in
+      | inl t ↦ (let apart : n ≡ v → ⊥ =
+          λ e. false≢true (sym f ∙ sym (ap (λ (z : ℕ). (split_at wave z).pending) e) ∙ t) in
           let off : unit_at n v ≡ 0 = ap (λ (b : Bool). cond b 1 0) (ne_eqb n v apart) in
           ap (times_in v) (pending-more wave n t) ∙ times_in-push v (pending_below wave n) n ∙ omega arith)
       | inr g ↦ ap (times_in v) (pending-same wave n g) ∙ before
     ]
 
 -- each source is a pending split, and they rise
-pub source_in : (wave : Wave) (n k : ℕ) → k < length (pending_below wave n) → (get_or (pending_below wave n) k 0 < n) × ((split_at wave (get_or (pending_below wave n) k 0)).pending ≡ true)
+pub source_in : (wave : Wave) (n k : ℕ) → k < length (pending_below wave n) →
+    (get_or (pending_below wave n) k 0 < n) × ((split_at wave (get_or (pending_below wave n) k 0)).pending
+    ≡ true)
 source_in wave zero k l = absurd (omega arith)
 source_in wave (suc n) k l = elim (cases_Bool (split_at wave n).pending) [
   | inr f ↦ (let same = pending-same wave n f in
       let before = source_in wave n k (subst (λ (z : List ℕ). k < length z) same l) in let less = before.0 in
-      subst (λ (z : List ℕ). (get_or z k 0 < suc n) × ((split_at wave (get_or z k 0)).pending ≡ true)) (sym same) (omega arith, before.1))
+      subst (λ (z : List ℕ). (get_or z k 0 < suc n) × ((split_at wave (get_or z k 0)).pending ≡ true))
+      (sym same) (omega arith, before.1))
   | inl t ↦ (let more = pending-more wave n t in
-      let listed : k < length (pending_below wave n ++ n ∷ []) = subst (λ (z : List ℕ). k < length z) more l in
+      let listed : k < length (pending_below wave n ++ n ∷ []) = subst (λ (z : List ℕ). k < length z) more l
+      in
       let size = length-append (pending_below wave n) (n ∷ []) in
-      subst (λ (z : List ℕ). (get_or z k 0 < suc n) × ((split_at wave (get_or z k 0)).pending ≡ true)) (sym more)
+      subst (λ (z : List ℕ). (get_or z k 0 < suc n) × ((split_at wave (get_or z k 0)).pending ≡ true))
+      (sym more)
       (elim (cases_lt k (length (pending_below wave n))) [
         | inl m ↦ (let before = source_in wave n k m in let less = before.0 in
-            subst (λ (v : ℕ). (v < suc n) × ((split_at wave v).pending ≡ true)) (sym (get_or_append_left (pending_below wave n) (n ∷ []) 0 k m)) (omega arith, before.1))
-        | inr m ↦ subst (λ (v : ℕ). (v < suc n) × ((split_at wave v).pending ≡ true)) (sym (get_or_push (pending_below wave n) n 0 k (omega arith))) (omega arith, t)
+            subst (λ (v : ℕ). (v < suc n) × ((split_at wave v).pending ≡ true))
+            (sym (get_or_append_left (pending_below wave n) (n ∷ []) 0 k m)) (omega arith, before.1))
+        | inr m ↦ subst (λ (v : ℕ). (v < suc n) × ((split_at wave v).pending ≡ true))
+            (sym (get_or_push (pending_below wave n) n 0 k (omega arith))) (omega arith, t)
       ]))
 ]
 
-pub sources_rise : (wave : Wave) (n j k : ℕ) → j < k → k < length (pending_below wave n) → get_or (pending_below wave n) j 0 < get_or (pending_below wave n) k 0
+pub sources_rise : (wave : Wave) (n j k : ℕ) → j < k → k < length (pending_below wave n) →
+    get_or (pending_below wave n) j 0 < get_or (pending_below wave n) k 0
 sources_rise wave zero j k less l = absurd (omega arith)
 sources_rise wave (suc n) j k less l = elim (cases_Bool (split_at wave n).pending) [
   | inr f ↦ (let same = pending-same wave n f in
-      subst (λ (z : List ℕ). get_or z j 0 < get_or z k 0) (sym same) (sources_rise wave n j k less (subst (λ (z : List ℕ). k < length z) same l)))
+      subst (λ (z : List ℕ). get_or z j 0 < get_or z k 0) (sym same)
+      (sources_rise wave n j k less (subst (λ (z : List ℕ). k < length z) same l)))
   | inl t ↦ (let more = pending-more wave n t in
-      let listed : k < length (pending_below wave n ++ n ∷ []) = subst (λ (z : List ℕ). k < length z) more l in
+      let listed : k < length (pending_below wave n ++ n ∷ []) = subst (λ (z : List ℕ). k < length z) more l
+      in
       let size = length-append (pending_below wave n) (n ∷ []) in
       subst (λ (z : List ℕ). get_or z j 0 < get_or z k 0) (sym more)
       (let first = get_or_append_left (pending_below wave n) (n ∷ []) 0 j (omega arith) in
       elim (cases_lt k (length (pending_below wave n))) [
-        | inl m ↦ (let before = sources_rise wave n j k less m in let second = get_or_append_left (pending_below wave n) (n ∷ []) 0 k m in omega arith)
-        | inr m ↦ (let before = source_in wave n j (omega arith) in let below = before.0 in let second = get_or_push (pending_below wave n) n 0 k (omega arith) in omega arith)
+        | inl m ↦ (let before = sources_rise wave n j k less m in
+            let second = get_or_append_left (pending_below wave n) (n ∷ []) 0 k m in omega arith)
+        | inr m ↦ (let before = source_in wave n j (omega arith) in let below = before.0 in
+            let second = get_or_push (pending_below wave n) n 0 k (omega arith) in omega arith)
       ]))
 ]
 
 pub pending-le : (wave : Wave) (n : ℕ) → length (pending_below wave n) ≤ n
 pending-le wave zero = omega arith
 pending-le wave (suc n) = elim (cases_Bool (split_at wave n).pending) [
-  | inl t ↦ (let more = ap (λ (z : List ℕ). length z) (pending-more wave n t) in let size = length-append (pending_below wave n) (n ∷ []) in let rest = pending-le wave n in omega arith)
-  | inr f ↦ (let same = ap (λ (z : List ℕ). length z) (pending-same wave n f) in let rest = pending-le wave n in omega arith)
+  | inl t ↦ (let more = ap (λ (z : List ℕ). length z) (pending-more wave n t) in
+      let size = length-append (pending_below wave n) (n ∷ []) in let rest = pending-le wave n in omega arith)
+  | inr f ↦ (let same = ap (λ (z : List ℕ). length z) (pending-same wave n f) in
+      let rest = pending-le wave n in omega arith)
 ]
 
 -- count units at one node alone
 pub units_off : (count t v : ℕ) → (t ≡ v → ⊥) → count * unit_at t v ≡ 0
 units_off count t v n = rw (ne_eqb t v n) (omega arith)
 
-pub units_on : (count t : ℕ) → count * unit_at t t ≡ count
-units_on count t = rw (eq-eqb t t refl) (omega arith)
-
-module _ (wave : Wave) (nodes : WaveNodes) (arcs : List FlowArc) (flows : List ℕ) (past : length wave.splits ≤ nodes.sink)
-    (no_entry : (k : ℕ) → k < length arcs → length wave.splits ≤ (arc_at arcs k).to) (shipped : IsShipped wave nodes arcs flows) where
+module _ (wave : Wave) (nodes : WaveNodes) (arcs : List FlowArc) (flows : List ℕ)
+    (past : length wave.splits ≤ nodes.sink)
+    (no_entry : (k : ℕ) → k < length arcs → length wave.splits ≤ (arc_at arcs k).to)
+    (shipped : IsShipped wave nodes arcs flows) where
   -- one unit leaves a pending split
   pub one_each : (s : ℕ) → (split_at wave s).pending ≡ true → outflow arcs flows s ≡ 1
   one_each s p =
@@ -118,7 +138,8 @@ module _ (wave : Wave) (nodes : WaveNodes) (arcs : List FlowArc) (flows : List �
       omega arith
 
   -- and none another
-  pub none_each : (s : ℕ) → s < length wave.splits → (split_at wave s).pending ≡ false → outflow arcs flows s ≡ 0
+  pub none_each : (s : ℕ) → s < length wave.splits → (split_at wave s).pending ≡ false →
+      outflow arcs flows s ≡ 0
   none_each s known f =
       let none = inflow_none arcs flows s (λ i l e. (let inner = no_entry i l in omega arith)) in
       let zero_times = times_other wave (length wave.splits) s f in
@@ -142,7 +163,8 @@ module _ (wave : Wave) (nodes : WaveNodes) (arcs : List FlowArc) (flows : List �
       ]
 
   -- a unit that goes elsewhere does not come to a node that is fed by the splits alone
-  pub fed_by_others : (v i : ℕ) → ((k : ℕ) → k < length arcs → (arc_at arcs k).to ≡ v → (arc_at arcs k).from < length wave.splits)
+  pub fed_by_others : (v i : ℕ) → ((k : ℕ) → k < length arcs → (arc_at arcs k).to ≡ v →
+      (arc_at arcs k).from < length wave.splits)
       → i < length arcs → (arc_at arcs i).from < length wave.splits → ((arc_at arcs i).to ≡ v → ⊥)
       → inflow arcs flows v + get_or flows i 0 ≤ length (pending_splits wave)
   fed_by_others v i fed l source off =
@@ -151,7 +173,8 @@ module _ (wave : Wave) (nodes : WaveNodes) (arcs : List FlowArc) (flows : List �
       omega arith
 
   -- what enters a node between the splits and the sink leaves it
-  pub balanced : (v : ℕ) → IsInner (length wave.splits) nodes.sink v → inflow arcs flows v ≡ outflow arcs flows v
+  pub balanced : (v : ℕ) → IsInner (length wave.splits) nodes.sink v →
+      inflow arcs flows v ≡ outflow arcs flows v
   balanced v inner =
       let low = inner.no_source in
       let none = times_past wave (length wave.splits) v low in

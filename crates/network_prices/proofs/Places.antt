@@ -1,5 +1,6 @@
 -- Units at places, counted.
-use Rattle.std.proofs.Common.{◌≡◌, ℕ, zero, suc, ◌+◌, ◌<◌, Bool, cond, List, [], ◌∷◌, length, get_or, refl, ap, inl, inr, ◌⊎◌, arith}
+use Rattle.std.proofs.Common.{◌≡◌, ℕ, zero, suc, ◌+◌, ◌<◌, Bool, cond, List, [], ◌∷◌, length, get_or, refl}
+use Rattle.std.proofs.Common.{ap, inl, inr, ◌⊎◌, arith}
 use Rattle.std.specs.Prelude.{◌==◌}
 use Rattle.std.proofs.lemmas.Bool.{eq-eqb, ne_eqb}
 use Rattle.std.proofs.lemmas.List.Sums.{sum_by-cons}
@@ -8,7 +9,8 @@ use Rattle.flow_network.specs.Flows.{arc_at}
 use Rattle.network_prices.specs.Ways.{CameFrom}
 use Rattle.network_prices.specs.HandOn.{standing}
 
-pub standing_none : (xs : List ℕ) (v : ℕ) → ((i : ℕ) → i < length xs → get_or xs i 0 ≡ v → ⊥) → standing xs v ≡ 0
+pub standing_none : (xs : List ℕ) (v : ℕ) → ((i : ℕ) → i < length xs → get_or xs i 0 ≡ v → ⊥) →
+    standing xs v ≡ 0
 standing_none [] v n = refl
 standing_none (x ∷ xs) v n =
     let rest = standing_none xs v (λ i l e. n (suc i) (omega arith) e) in
@@ -25,21 +27,25 @@ standing_some (x ∷ xs) v (suc i) l e =
     let rest = standing_some xs v i (omega arith) e in omega arith
 
 -- each number from m on stands once
-pub standing_from : (xs : List ℕ) (m i v : ℕ) → ((k : ℕ) → k < length xs → get_or xs k 0 ≡ m + k) → i < length xs → v ≡ m + i → standing xs v ≡ 1
+pub standing_from : (xs : List ℕ) (m i v : ℕ) → ((k : ℕ) → k < length xs → get_or xs k 0 ≡ m + k) →
+    i < length xs → v ≡ m + i → standing xs v ≡ 1
 standing_from [] m i v each l e = absurd (omega arith)
 standing_from (x ∷ xs) m zero v each l e =
     let sum = sum_by-cons (λ (place : ℕ). cond (place == v) 1 0) x xs in
     let first = each 0 (omega arith) in
     let here = ap {B = ℕ} (λ (b : Bool). cond b 1 0) (eq-eqb x v (omega arith)) in
-    let rest = standing_none xs v (λ k n q. (let other = each (suc k) (omega arith) in omega arith)) in omega arith
+    let rest = standing_none xs v (λ k n q. (let other = each (suc k) (omega arith) in omega arith)) in
+    omega arith
 standing_from (x ∷ xs) m (suc i) v each l e =
     let sum = sum_by-cons (λ (place : ℕ). cond (place == v) 1 0) x xs in
     let first = each 0 (omega arith) in
     let here = ap {B = ℕ} (λ (b : Bool). cond b 1 0) (ne_eqb x v (λ q. omega arith)) in
-    let rest = standing_from xs (suc m) i v (λ k n. (let other = each (suc k) (omega arith) in omega arith)) (omega arith) (omega arith) in omega arith
+    let rest = standing_from xs (suc m) i v (λ k n. (let other = each (suc k) (omega arith) in omega arith))
+    (omega arith) (omega arith) in omega arith
 
 -- a path of at least one arc leaves its start
-pub leaves : (arcs : List FlowArc) (flows : List ℕ) (path : List ℕ) (s v : ℕ) → CameFrom arcs flows path s v → (v ≡ s) ⊎ ((k : ℕ) × (k < length arcs) × ((arc_at arcs k).from ≡ s))
+pub leaves : (arcs : List FlowArc) (flows : List ℕ) (path : List ℕ) (s v : ℕ) → CameFrom arcs flows path s v
+    → (v ≡ s) ⊎ ((k : ℕ) × (k < length arcs) × ((arc_at arcs k).from ≡ s))
 leaves arcs flows [] s v came = inl came
 leaves arcs flows (k ∷ path) s v came = elim (leaves arcs flows path s (arc_at arcs k).from came.3) [
   | inl e ↦ inr (k, came.0, e)

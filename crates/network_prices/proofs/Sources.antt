@@ -1,5 +1,6 @@
 -- The pending splits as sources: each has a way to the sink.
-use Rattle.std.proofs.Common.{◌≡◌, ℕ, suc, ◌<◌, ◌≤◌, Bool, true, List, [], ◌∷◌, length, get_or, map, refl, sym, ap, ◌∙◌, subst, inl, inr, arith}
+use Rattle.std.proofs.Common.{◌≡◌, ℕ, suc, ◌<◌, ◌≤◌, Bool, true, List, [], ◌∷◌, length, get_or, map, refl}
+use Rattle.std.proofs.Common.{sym, ap, ◌∙◌, subst, inl, inr, arith}
 use Rattle.std.proofs.lemmas.Bool.{cases_lt, cases_eq}
 use Rattle.std.proofs.lemmas.List.{length-map}
 use Rattle.flow_network.specs.declared.arcs.FlowArc.{FlowArc}
@@ -11,7 +12,8 @@ use Rattle.network_prices.specs.Networks.{WaveNodes, IsWaveNetwork}
 use Rattle.network_prices.specs.Prices.{IsShipped}
 use Rattle.network_prices.proofs.Pending.{source_in, sources_rise, pending-le}
 
-can_ship : (wave : Wave) (nodes : WaveNodes) (arcs : List FlowArc) (size : ℕ) → IsWaveNetwork wave nodes arcs → AreArcs size arcs
+can_ship : (wave : Wave) (nodes : WaveNodes) (arcs : List FlowArc) (size : ℕ) → IsWaveNetwork wave nodes arcs
+    → AreArcs size arcs
     → CanShip size arcs (pending_splits wave) nodes.sink
 can_ship wave nodes arcs size network ends = record {
   arcs_in = ends;
@@ -43,37 +45,49 @@ can_ship wave nodes arcs size network ends = record {
           let rise = sources_rise wave (length wave.splits) k j less l in absurd (omega arith))
     ]
   ];
-  not_sink = λ k l e. (let source = source_in wave (length wave.splits) k l in let below = source.0 in let past = network.past_splits in omega arith);
-  no_entry = λ k j l m e. (let source = source_in wave (length wave.splits) k l in let below = source.0 in let low = network.no_entry j m in omega arith);
+  not_sink = λ k l e. (let source = source_in wave (length wave.splits) k l in let below = source.0 in
+      let past = network.past_splits in omega arith);
+  no_entry = λ k j l m e. (let source = source_in wave (length wave.splits) k l in let below = source.0 in
+      let low = network.no_entry j m in omega arith);
 }
 
 -- the sources as nodes of a layout in which a split has its own number
-module _ {N : Type 0} (wave : Wave) (split : ℕ → N) (place : N → ℕ) (member : N → Bool) (own : (s : ℕ) → place (split s) ≡ s)
-    (known : (s : ℕ) → s < length wave.splits → member (split s) ≡ true) (sources : List N) (are : sources ≡ map split (pending_splits wave)) where
+module _ {N : Type 0} (wave : Wave) (split : ℕ → N) (place : N → ℕ) (member : N → Bool) (own : (s : ℕ) →
+    place (split s) ≡ s)
+    (known : (s : ℕ) → s < length wave.splits → member (split s) ≡ true) (sources : List N)
+    (are : sources ≡ map split (pending_splits wave)) where
   places_of_splits : (xs : List ℕ) → map place (map split xs) ≡ xs
   places_of_splits [] = refl
-  places_of_splits (x ∷ xs) = ap (λ (z : List ℕ). place (split x) ∷ z) (places_of_splits xs) ∙ ap (λ (z : ℕ). z ∷ xs) (own x)
+  places_of_splits (x ∷ xs) = ap (λ (z : List ℕ). place (split x) ∷ z) (places_of_splits xs)
+      ∙ ap (λ (z : ℕ). z ∷ xs) (own x)
 
-  members : (xs : List ℕ) → ((k : ℕ) → k < length xs → get_or xs k 0 < length wave.splits) → AreMembers member (map split xs)
+  members : (xs : List ℕ) → ((k : ℕ) → k < length xs → get_or xs k 0 < length wave.splits) →
+      AreMembers member (map split xs)
   members [] below = tt
   members (x ∷ xs) below = (known x (below 0 (omega arith)), members xs (λ k l. below (suc k) (omega arith)))
 
   pub all_members : AreMembers member sources
-  all_members = subst (AreMembers member) (sym are) (members (pending_splits wave) (λ k l. (source_in wave (length wave.splits) k l).0))
+  all_members =
+      subst (AreMembers member) (sym are)
+      (members (pending_splits wave) (λ k l. (source_in wave (length wave.splits) k l).0))
 
   pub few : length sources ≤ length wave.splits
-  few = let size = ap (λ (z : List N). length z) are in let same = length-map (pending_splits wave) split in omega (arith, pending-le wave (length wave.splits))
+  few = let size = ap (λ (z : List N). length z) are in let same = length-map (pending_splits wave) split in
+      omega (arith, pending-le wave (length wave.splits))
 
   sources_are : map place sources ≡ pending_splits wave
   sources_are = ap (map place) are ∙ places_of_splits (pending_splits wave)
 
   module _ (nodes : WaveNodes) (sink : ℕ) (at : sink ≡ nodes.sink) where
-    pub ways : (arcs : List FlowArc) (size : ℕ) → IsWaveNetwork wave nodes arcs → AreArcs size arcs → CanShip size arcs (map place sources) sink
+    pub ways : (arcs : List FlowArc) (size : ℕ) → IsWaveNetwork wave nodes arcs → AreArcs size arcs →
+        CanShip size arcs (map place sources) sink
     ways arcs size network ends =
         subst (λ (z : List ℕ). CanShip size arcs z sink) (sym sources_are)
-        (subst (λ (t : ℕ). CanShip size arcs (pending_splits wave) t) (sym at) (can_ship wave nodes arcs size network ends))
+        (subst (λ (t : ℕ). CanShip size arcs (pending_splits wave) t) (sym at)
+        (can_ship wave nodes arcs size network ends))
 
-    pub all_shipped : (arcs : List FlowArc) (flows : List ℕ) → IsShipment arcs (map place sources) sink flows → IsShipped wave nodes arcs flows
+    pub all_shipped : (arcs : List FlowArc) (flows : List ℕ) → IsShipment arcs (map place sources) sink flows
+        → IsShipped wave nodes arcs flows
     all_shipped arcs flows shipped =
         subst (λ (t : ℕ). IsShipment arcs (pending_splits wave) t flows) at
         (subst (λ (z : List ℕ). IsShipment arcs z sink flows) sources_are shipped)

@@ -1,24 +1,20 @@
 -- Sums of flows and of capacities at a node, against single arcs.
-use Rattle.std.proofs.Common.{◌≡◌, ℕ, zero, suc, ◌+◌, ◌<◌, ◌≤◌, Bool, true, false, cond, eqb, ltb, List, [], ◌∷◌, length, get_or, refl, ap, inl, inr, arith}
+use Rattle.std.proofs.Common.{◌≡◌, ℕ, zero, suc, ◌+◌, ◌<◌, ◌≤◌, cond, eqb, ltb, List, []}
+use Rattle.std.proofs.Common.{◌∷◌, length, get_or, refl, ap, inl, inr, arith}
 use Rattle.std.proofs.lemmas.Bool.{cases_lt, cases_eq, eq-eqb, ne_eqb, lt-ltb, le-ltb}
 use Rattle.flow_network.specs.declared.arcs.FlowArc.{FlowArc}
-use Rattle.flow_network.specs.Flows.{arc_at, WithinCapacities, inflow, outflow}
-use Rattle.flow_network.specs.Laws.{outroom}
+use Rattle.flow_network.specs.Flows.{arc_at, inflow, outflow}
 
-within-tail : (a : FlowArc) (arcs : List FlowArc) (f : ℕ) (flows : List ℕ) → WithinCapacities (a ∷ arcs) (f ∷ flows) → WithinCapacities arcs flows
-within-tail a arcs f flows w k l = w (suc k) (omega arith)
-
-counted : (b : Bool) (x y z w : ℕ) → x ≤ y → z ≤ w → cond b x 0 + z ≤ cond b y 0 + w
-counted true x y z w p q = omega arith
-counted false x y z w p q = omega arith
-
-pub outflow-ge : (arcs : List FlowArc) (flows : List ℕ) (v j : ℕ) → length flows ≡ length arcs → j < length arcs → (arc_at arcs j).from ≡ v → get_or flows j 0 ≤ outflow arcs flows v
+pub outflow-ge : (arcs : List FlowArc) (flows : List ℕ) (v j : ℕ) → length flows ≡ length arcs →
+    j < length arcs → (arc_at arcs j).from ≡ v → get_or flows j 0 ≤ outflow arcs flows v
 outflow-ge [] flows v j e l at = absurd (omega arith)
 outflow-ge (a ∷ arcs) [] v j e l at = absurd (omega arith)
 outflow-ge (a ∷ arcs) (f ∷ flows) v zero e l at = rw (eq-eqb a.from v at) (omega arith)
-outflow-ge (a ∷ arcs) (f ∷ flows) v (suc j) e l at = let rest = outflow-ge arcs flows v j (omega arith) (omega arith) at in omega arith
+outflow-ge (a ∷ arcs) (f ∷ flows) v (suc j) e l at = let rest =
+    outflow-ge arcs flows v j (omega arith) (omega arith) at in omega arith
 
-pub outflow-ge_two : (arcs : List FlowArc) (flows : List ℕ) (v i j : ℕ) → length flows ≡ length arcs → i < length arcs → j < length arcs → (arc_at arcs i).from ≡ v → (arc_at arcs j).from ≡ v
+pub outflow-ge_two : (arcs : List FlowArc) (flows : List ℕ) (v i j : ℕ) → length flows ≡ length arcs →
+    i < length arcs → j < length arcs → (arc_at arcs i).from ≡ v → (arc_at arcs j).from ≡ v
     → (i ≡ j → ⊥) → get_or flows i 0 + get_or flows j 0 ≤ outflow arcs flows v
 outflow-ge_two [] flows v i j e l m p q n = absurd (omega arith)
 outflow-ge_two (a ∷ arcs) [] v i j e l m p q n = absurd (omega arith)
@@ -28,20 +24,17 @@ outflow-ge_two (a ∷ arcs) (f ∷ flows) v zero (suc j) e l m p q n =
 outflow-ge_two (a ∷ arcs) (f ∷ flows) v (suc i) zero e l m p q n =
     let rest = outflow-ge arcs flows v i (omega arith) (omega arith) p in rw (eq-eqb a.from v q) (omega arith)
 outflow-ge_two (a ∷ arcs) (f ∷ flows) v (suc i) (suc j) e l m p q n =
-    let rest = outflow-ge_two arcs flows v i j (omega arith) (omega arith) (omega arith) p q (λ s. n (ap suc s)) in omega arith
+    let rest = outflow-ge_two arcs flows v i j (omega arith) (omega arith) (omega arith) p q
+    (λ s. n (ap suc s)) in omega arith
 
 -- no arc leads to the node
-pub inflow_none : (arcs : List FlowArc) (flows : List ℕ) (v : ℕ) → ((i : ℕ) → i < length arcs → (arc_at arcs i).to ≡ v → ⊥) → inflow arcs flows v ≡ 0
+pub inflow_none : (arcs : List FlowArc) (flows : List ℕ) (v : ℕ) →
+    ((i : ℕ) → i < length arcs → (arc_at arcs i).to ≡ v → ⊥) → inflow arcs flows v ≡ 0
 inflow_none [] flows v n = refl
 inflow_none (a ∷ arcs) [] v n = refl
 inflow_none (a ∷ arcs) (f ∷ flows) v n =
     let rest = inflow_none arcs flows v (λ i l e. n (suc i) (omega arith) e) in
     rw (ne_eqb a.to v (λ e. n 0 (omega arith) e)) (omega arith)
-
-pub outflow-le : (arcs : List FlowArc) (flows : List ℕ) (v : ℕ) → WithinCapacities arcs flows → outflow arcs flows v ≤ outroom arcs v
-outflow-le [] flows v w = omega arith
-outflow-le (a ∷ arcs) [] v w = omega arith
-outflow-le (a ∷ arcs) (f ∷ flows) v w = counted (eqb a.from v) f a.capacity _ _ (w 0 (omega arith)) (outflow-le arcs flows v (within-tail a arcs f flows w))
 
 -- what the arcs carry that leave nodes below n
 abbrev pub given : ℕ → List FlowArc → List ℕ → ℕ
@@ -52,18 +45,25 @@ given n (a ∷ arcs) (f ∷ flows) = cond (ltb a.from n) f 0 + given n arcs flow
 pub given_none : (arcs : List FlowArc) (flows : List ℕ) → given 0 arcs flows ≡ 0
 given_none [] flows = refl
 given_none (a ∷ arcs) [] = refl
-given_none (a ∷ arcs) (f ∷ flows) = let rest = given_none arcs flows in rw (le-ltb a.from 0 (omega arith)) (omega arith)
+given_none (a ∷ arcs) (f ∷ flows) = let rest = given_none arcs flows in
+    rw (le-ltb a.from 0 (omega arith)) (omega arith)
 
 pub part_more : (u n f : ℕ) → cond (ltb u (suc n)) f 0 ≡ cond (ltb u n) f 0 + cond (eqb u n) f 0
 part_more u n f = elim (cases_lt u n) [
   | inl l ↦ rw (lt-ltb u n l, lt-ltb u (suc n) (omega arith), ne_eqb u n (λ e. omega arith)) (omega arith)
   | inr past ↦ elim (cases_eq u n) [
     | inl e ↦ rw (le-ltb u n (omega arith), lt-ltb u (suc n) (omega arith), eq-eqb u n e) (omega arith)
-    | inr d ↦ rw (le-ltb u n (omega arith), le-ltb u (suc n) (let apart : u ≡ n → ⊥ = d in omega arith), ne_eqb u n d) (omega arith)
+    | inr d ↦ rw (
+      le-ltb u n (omega arith),
+      le-ltb u (suc n) (let apart : u ≡ n → ⊥ = d in
+          omega arith),
+      ne_eqb u n d,
+    ) (omega arith)
   ]
 ]
 
-pub given_more : (n : ℕ) (arcs : List FlowArc) (flows : List ℕ) → given (suc n) arcs flows ≡ given n arcs flows + outflow arcs flows n
+pub given_more : (n : ℕ) (arcs : List FlowArc) (flows : List ℕ) →
+    given (suc n) arcs flows ≡ given n arcs flows + outflow arcs flows n
 given_more n [] flows = refl
 given_more n (a ∷ arcs) [] = refl
 given_more n (a ∷ arcs) (f ∷ flows) =
@@ -71,8 +71,10 @@ given_more n (a ∷ arcs) (f ∷ flows) =
     let part = part_more a.from n f in
     omega arith
 
--- a node that is fed by nodes below n alone has no more than what those give, and what they give elsewhere besides
-inflow-given : (n : ℕ) (arcs : List FlowArc) (flows : List ℕ) (v : ℕ) → ((k : ℕ) → k < length arcs → (arc_at arcs k).to ≡ v → (arc_at arcs k).from < n)
+-- a node that is fed by nodes below n alone has no more than what those give, and what they give elsewhere
+-- besides
+inflow-given : (n : ℕ) (arcs : List FlowArc) (flows : List ℕ) (v : ℕ) →
+    ((k : ℕ) → k < length arcs → (arc_at arcs k).to ≡ v → (arc_at arcs k).from < n)
     → inflow arcs flows v ≤ given n arcs flows
 inflow-given n [] flows v fed = omega arith
 inflow-given n (a ∷ arcs) [] v fed = omega arith
@@ -83,15 +85,18 @@ inflow-given n (a ∷ arcs) (f ∷ flows) v fed =
       | inr d ↦ rw (ne_eqb a.to v d) (omega arith)
     ]
 
-pub inflow-given_two : (n : ℕ) (arcs : List FlowArc) (flows : List ℕ) (v i : ℕ) → ((k : ℕ) → k < length arcs → (arc_at arcs k).to ≡ v → (arc_at arcs k).from < n)
-    → i < length arcs → (arc_at arcs i).from < n → ((arc_at arcs i).to ≡ v → ⊥) → inflow arcs flows v + get_or flows i 0 ≤ given n arcs flows
+pub inflow-given_two : (n : ℕ) (arcs : List FlowArc) (flows : List ℕ) (v i : ℕ) →
+    ((k : ℕ) → k < length arcs → (arc_at arcs k).to ≡ v → (arc_at arcs k).from < n)
+    → i < length arcs → (arc_at arcs i).from < n → ((arc_at arcs i).to ≡ v → ⊥) →
+    inflow arcs flows v + get_or flows i 0 ≤ given n arcs flows
 inflow-given_two n [] flows v i fed l low off = absurd (omega arith)
 inflow-given_two n (a ∷ arcs) [] v i fed l low off = omega arith
 inflow-given_two n (a ∷ arcs) (f ∷ flows) v zero fed l low off =
     let rest = inflow-given n arcs flows v (λ k m e. fed (suc k) (omega arith) e) in
     rw (ne_eqb a.to v off, lt-ltb a.from n low) (omega arith)
 inflow-given_two n (a ∷ arcs) (f ∷ flows) v (suc i) fed l low off =
-    let rest = inflow-given_two n arcs flows v i (λ k m e. fed (suc k) (omega arith) e) (omega arith) low off in
+    let rest = inflow-given_two n arcs flows v i (λ k m e. fed (suc k) (omega arith) e) (omega arith) low off
+    in
     elim (cases_eq a.to v) [
       | inl e ↦ rw (eq-eqb a.to v e, lt-ltb a.from n (fed 0 (omega arith) e)) (omega arith)
       | inr d ↦ rw (ne_eqb a.to v d) (omega arith)

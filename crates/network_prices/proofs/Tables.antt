@@ -1,5 +1,6 @@
 -- The rows of a table are built arc by arc.
-use Rattle.std.proofs.Common.{◌≡◌, ℕ, zero, suc, ◌+◌, ◌<◌, ◌≤◌, cond, eqb, ltb, List, [], ◌∷◌, ◌++◌, length, get_or, refl, sym, ap, ◌∙◌, subst, ◌⊎◌, inl, inr, arith}
+use Rattle.std.proofs.Common.{◌≡◌, ℕ, zero, suc, ◌+◌, ◌<◌, ◌≤◌, cond, eqb, ltb, List, [], ◌∷◌, ◌++◌, length}
+use Rattle.std.proofs.Common.{get_or, refl, sym, ap, ◌∙◌, subst, ◌⊎◌, inl, inr, arith}
 use Rattle.std.proofs.lemmas.Bool.{cases_lt, cases_eq, eq-eqb, ne_eqb, le-ltb, lt-ltb}
 use Rattle.std.proofs.lemmas.List.{length-append}
 use Rattle.flow_network.specs.declared.arcs.FlowArc.{FlowArc}
@@ -36,7 +37,8 @@ rising_push arcs a rising before j k less l =
     (sym (at_old arcs a j (omega arith)))
     (elim (cases_lt k (length arcs)) [
       | inl m ↦
-          subst (λ (b : FlowArc). IsBefore (arc_at arcs j) b.from b.to) (sym (at_old arcs a k m)) (rising j k less m)
+          subst (λ (b : FlowArc). IsBefore (arc_at arcs j) b.from b.to) (sym (at_old arcs a k m))
+          (rising j k less m)
       | inr m ↦
           (let last : length arcs ≡ k = omega arith in
           let new : a ≡ arc_at (arcs ++ a ∷ []) k = sym (at_new arcs a) ∙ ap (arc_at (arcs ++ a ∷ [])) last in
@@ -50,7 +52,11 @@ module _ {D : Type 0} (wanted : D → Type 0) (arc : D → FlowArc) where
   nothing : AreRowsTo wanted arc 0 0 []
   nothing = record {
     sound = λ k l. absurd (omega arith);
-    complete = λ d want before. absurd (elim before [ inl l ↦ omega arith | inr e ↦ (let l = e.1 in omega arith) ]);
+    complete = λ d want before. absurd (elim before [
+      | inl l ↦ omega arith
+      | inr e ↦ (let l = e.1 in
+          omega arith)
+    ]);
     rising = λ j k less l. absurd (omega arith);
     before = λ k l. absurd (omega arith);
   }
@@ -148,7 +154,11 @@ rising_ends arcs rising onward j k less l =
     elim (cases_eq j k) [
       | inl e ↦ (let same = ap (λ (z : ℕ). (arc_at arcs z).from) e in omega arith)
       | inr n ↦
-          elim (rising j k (omega arith) l) [ inl before ↦ omega arith | inr row ↦ (let same = row.0 in omega arith) ]
+          elim (rising j k (omega arith) l) [
+            | inl before ↦ omega arith
+            | inr row ↦ (let same = row.0 in
+                omega arith)
+          ]
     ]
 
 -- what the arcs from v carry that lead to x, and to nodes below m
@@ -192,7 +202,8 @@ room_all (a ∷ arcs) v m all =
     ]
 
 at_none : (arcs : List FlowArc) (v x : ℕ)
-    → ((k : ℕ) → k < length arcs → (arc_at arcs k).from ≡ v → (arc_at arcs k).to ≡ x → ⊥) → room_at arcs v x ≡ 0
+    → ((k : ℕ) → k < length arcs → (arc_at arcs k).from ≡ v → (arc_at arcs k).to ≡ x → ⊥) →
+    room_at arcs v x ≡ 0
 at_none [] v x none = refl
 at_none (a ∷ arcs) v x none =
     let rest = at_none arcs v x (λ k l e f. none (suc k) (omega arith) e f) in
@@ -201,7 +212,8 @@ at_none (a ∷ arcs) v x none =
       | inr n ↦ rw (ne_eqb a.from v n) (omega arith)
     ]
 
-at_one : (arcs : List FlowArc) (v x j : ℕ) → j < length arcs → (arc_at arcs j).from ≡ v → (arc_at arcs j).to ≡ x
+at_one : (arcs : List FlowArc) (v x j : ℕ) → j < length arcs → (arc_at arcs j).from ≡ v →
+    (arc_at arcs j).to ≡ x
     → ((k : ℕ) → k < length arcs → (arc_at arcs k).from ≡ v → (arc_at arcs k).to ≡ x → k ≡ j)
     → room_at arcs v x ≡ (arc_at arcs j).capacity
 at_one [] v x j l from to only = absurd (omega arith)
@@ -214,17 +226,20 @@ at_one (a ∷ arcs) v x (suc j) l from to only =
     (λ k m e f. (let s : suc k ≡ suc j = only (suc k) (omega arith) e f in omega arith)) in
     elim (cases_eq a.from v) [
       | inl e ↦
-          (let apart : a.to ≡ x → ⊥ = λ f. (let s : 0 ≡ suc j = only 0 (omega arith) e f in absurd (omega arith)) in
+          (let apart : a.to ≡ x → ⊥ = λ f. (let s : 0 ≡ suc j = only 0 (omega arith) e f in
+          absurd (omega arith)) in
           rw (eq-eqb a.from v e, ne_eqb a.to x apart) (omega arith))
       | inr n ↦ rw (ne_eqb a.from v n) (omega arith)
     ]
 
 -- an arc of just this room leads from v to x; or none does, and the room is nothing
 pub record IsRoom (arcs : List FlowArc) (v x room : ℕ) : Type 0 where
-  pub some : (k : ℕ) → k < length arcs → (arc_at arcs k).from ≡ v → (arc_at arcs k).to ≡ x → (arc_at arcs k).capacity ≡ room
+  pub some : (k : ℕ) → k < length arcs → (arc_at arcs k).from ≡ v → (arc_at arcs k).to ≡ x →
+      (arc_at arcs k).capacity ≡ room
   pub none : (0 < room) → (k : ℕ) × (k < length arcs) × ((arc_at arcs k).from ≡ v) × ((arc_at arcs k).to ≡ x)
 
-place_or_not : (arcs : List FlowArc) (v x : ℕ) → ((k : ℕ) × (k < length arcs) × ((arc_at arcs k).from ≡ v) × ((arc_at arcs k).to ≡ x))
+place_or_not : (arcs : List FlowArc) (v x : ℕ) →
+    ((k : ℕ) × (k < length arcs) × ((arc_at arcs k).from ≡ v) × ((arc_at arcs k).to ≡ x))
     ⊎ ((k : ℕ) → k < length arcs → (arc_at arcs k).from ≡ v → (arc_at arcs k).to ≡ x → ⊥)
 place_or_not [] v x = inr (λ k l e f. absurd (omega arith))
 place_or_not (a ∷ arcs) v x = elim (place_or_not arcs v x) [
@@ -238,12 +253,14 @@ place_or_not (a ∷ arcs) v x = elim (place_or_not arcs v x) [
   ]
 ]
   where
-    not_first : (a.from ≡ v → a.to ≡ x → ⊥) → ((k : ℕ) → k < length arcs → (arc_at arcs k).from ≡ v → (arc_at arcs k).to ≡ x → ⊥)
+    not_first : (a.from ≡ v → a.to ≡ x → ⊥) → ((k : ℕ) → k < length arcs → (arc_at arcs k).from ≡ v →
+        (arc_at arcs k).to ≡ x → ⊥)
         → (k : ℕ) → k < length (a ∷ arcs) → (arc_at (a ∷ arcs) k).from ≡ v → (arc_at (a ∷ arcs) k).to ≡ x → ⊥
     not_first first none zero l e f = first e f
     not_first first none (suc k) l e f = none k (omega arith) e f
 
-room_is : (arcs : List FlowArc) (v x room : ℕ) → AreRising arcs → IsRoom arcs v x room → room_at arcs v x ≡ room
+room_is : (arcs : List FlowArc) (v x room : ℕ) → AreRising arcs → IsRoom arcs v x room →
+    room_at arcs v x ≡ room
 room_is arcs v x room rising is = elim (place_or_not arcs v x) [
   | inl found ↦ at_one arcs v x found.0 found.1 found.2 found.3
       (λ k l e f. one_place arcs k found.0 rising l found.1 (e ∙ sym found.2) (f ∙ sym found.3))

@@ -11,4 +11,5 @@ pub record IsEmptyWithin {L : Type 0} (sized : L → Type 0) (limit : ℕ) (netw
 
 -- one network after an arc was added to another
 abbrev pub IsAdded : {L : Type 0} → FlowArc → Flow L → Flow L → Type 0
-IsAdded a old new = (new.layout ≡ old.layout) × (new.arcs ≡ old.arcs ++ a ∷ []) × (new.flows ≡ old.flows ++ 0 ∷ [])
+IsAdded a old new = (new.layout ≡ old.layout) × (new.arcs ≡ old.arcs ++ a ∷ [])
+    × (new.flows ≡ old.flows ++ 0 ∷ [])

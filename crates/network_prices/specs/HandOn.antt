@@ -1,5 +1,6 @@
 -- Units are handed on from node to node, arc by arc.
-use Rattle.std.specs.Prelude.{◌≡◌, ℕ, ◌+◌, ◌-◌, ◌<◌, ◌≤◌, ◌==◌, cond, List, length, slice_index, take, drop, count_by, ◌⊎◌}
+use Rattle.std.specs.Prelude.{◌≡◌, ℕ, ◌+◌, ◌-◌, ◌<◌, ◌≤◌, ◌==◌, cond, List, length, slice_index, take, drop}
+use Rattle.std.specs.Prelude.{count_by, ◌⊎◌}
 use Rattle.flow_network.specs.declared.arcs.FlowArc.{FlowArc}
 use Rattle.flow_network.specs.Flows.{arc_at, inflow, outflow}
 use Rattle.network_prices.specs.Ways.{CameFrom}
@@ -22,12 +23,14 @@ Passes arcs sink v = (k : ℕ) → k < length arcs → (arc_at arcs k).from ≡ 
 abbrev pub Ends : List FlowArc → ℕ → ℕ → Type 0
 Ends arcs sink v = (k : ℕ) → k < length arcs → (arc_at arcs k).from ≡ v → (arc_at arcs k).to ≡ sink
 
--- what is asked of a flow and its units' first places: each arc leads to a node past the starts of those before it,
+-- what is asked of a flow and its units' first places: each arc leads to a node past the starts of those
+-- before it,
 -- and a node that gives to another than the sink gives to others alone, and just what it has
 pub record CanHandOn (arcs : List FlowArc) (flows : List ℕ) (sink : ℕ) (first : List ℕ) : Type 0 where
   pub sizes : length flows ≡ length arcs
   pub ordered : (j k : ℕ) → j ≤ k → k < length arcs → (arc_at arcs j).from < (arc_at arcs k).to
-  pub passes : (j : ℕ) → j < length arcs → ((arc_at arcs j).to ≡ sink → ⊥) → Passes arcs sink (arc_at arcs j).from
+  pub passes : (j : ℕ) → j < length arcs → ((arc_at arcs j).to ≡ sink → ⊥) →
+      Passes arcs sink (arc_at arcs j).from
   pub balanced : (j : ℕ) → j < length arcs → ((arc_at arcs j).to ≡ sink → ⊥)
       → inflow arcs flows (arc_at arcs j).from + standing first (arc_at arcs j).from
       ≡ outflow arcs flows (arc_at arcs j).from
@@ -35,7 +38,8 @@ pub record CanHandOn (arcs : List FlowArc) (flows : List ℕ) (sink : ℕ) (firs
   pub not_at_sink : (j : ℕ) → j < length arcs → (arc_at arcs j).from ≡ sink → ⊥
 
 -- the units are where the first arcs but those to the sink have brought them
-pub record IsHandedOn (arcs : List FlowArc) (flows : List ℕ) (sink : ℕ) (first now : List ℕ) (j : ℕ) : Type 0 where
+pub record IsHandedOn (arcs : List FlowArc) (flows : List ℕ) (sink : ℕ) (first now : List ℕ)
+    (j : ℕ) : Type 0 where
   pub size : length now ≡ length first
   pub came : (s : ℕ) → s < length first
       → (path : List ℕ) × CameFrom arcs flows path (slice_index first s) (slice_index now s)
@@ -53,5 +57,6 @@ pub record IsMoving (old now : List ℕ) (u v units left i : ℕ) : Type 0 where
   pub each : (s : ℕ) → s < length old → (slice_index now s ≡ slice_index old s)
       ⊎ ((left < units) × (slice_index old s ≡ u) × (slice_index now s ≡ v))
   pub rest : (s : ℕ) → i ≤ s → slice_index now s ≡ slice_index old s
-  pub counts : (x : ℕ) → standing now x + cond (u == x) (units - left) 0 ≡ standing old x + cond (v == x) (units - left) 0
+  pub counts : (x : ℕ) → standing now x + cond (u == x) (units - left) 0 ≡ standing old x
+      + cond (v == x) (units - left) 0
   pub enough : left ≤ standing (drop i now) u

@@ -1,5 +1,6 @@
 -- What plan and prices are read off a least-cost flow of a network, and that they certify.
-use Rattle.std.specs.Prelude.{◌≡◌, ℕ, ◌+◌, ◌-◌, ◌*◌, ◌<◌, true, false, List, length, Option, Some, None, unwrap_or}
+use Rattle.std.specs.Prelude.{◌≡◌, ℕ, ◌+◌, ◌-◌, ◌*◌, ◌<◌, true, false, List, length, Option, Some, None}
+use Rattle.std.specs.Prelude.{unwrap_or}
 use Rattle.flow_network.specs.declared.arcs.FlowArc.{FlowArc}
 use Rattle.flow_network.specs.Flows.{outflow, NoNegative}
 use Rattle.flow_network.specs.Laws.{flow_cost}
@@ -21,7 +22,8 @@ abbrev pub end_of : WaveNodes → Option ℕ → ℕ
 end_of nodes None = nodes.unstarted
 end_of nodes (Some w) = nodes.worker w
 
--- each pending split has a way of units to its worker's node, or to that of the splits that are not started, and
+-- each pending split has a way of units to its worker's node, or to that of the splits that are not started,
+-- and
 -- a worker's load is what flows out of it
 pub record IsPlanOf (wave : Wave) (nodes : WaveNodes) (arcs : List FlowArc) (flows : List ℕ)
     (starts : List (Option ℕ)) : Type 0 where
@@ -30,9 +32,11 @@ pub record IsPlanOf (wave : Wave) (nodes : WaveNodes) (arcs : List FlowArc) (flo
   pub idle : (s : ℕ) → (split_at wave s).pending ≡ false → start_of starts s ≡ None
   pub came : (s : ℕ) → (split_at wave s).pending ≡ true
       → (path : List ℕ) × CameFrom arcs flows path s (end_of nodes (start_of starts s))
-  pub loads : (w : ℕ) → w < length wave.workers → load (pairs_of starts) w ≡ outflow arcs flows (nodes.worker w)
+  pub loads : (w : ℕ) → w < length wave.workers →
+      load (pairs_of starts) w ≡ outflow arcs flows (nodes.worker w)
 
--- prices of a plan by how far below 0 the potentials lie: a slot of a usable worker costs as much as the deepest
+-- prices of a plan by how far below 0 the potentials lie: a slot of a usable worker costs as much as the
+-- deepest
 -- node on its way up, another nothing; a started split costs what its start leaves of the reward
 pub record ArePricesOf (wave : Wave) (nodes : WaveNodes) (h : ℕ → ℕ) (starts : List (Option ℕ))
     (prices : PriceList) : Type 0 where
@@ -55,7 +59,8 @@ PricesCertify =
     → IsPlanOf wave nodes arcs flows starts → ArePricesOf wave nodes h starts prices
     → Certifies (claim wave starts prices)
 
--- A least-cost flow costs what its plan does: the byte-distance of the starts, and the reward for each pending split
+-- A least-cost flow costs what its plan does: the byte-distance of the starts, and the reward for each
+-- pending split
 -- that does not start.
 abbrev pub CostsAsMuch : Wave → List FlowArc → List ℕ → List (Option ℕ) → Type 0
 CostsAsMuch wave arcs flows starts = flow_cost arcs flows + reward wave * length (pairs_of starts)
@@ -70,8 +75,10 @@ FlowCostsAsPlan =
     → IsPlanOf wave nodes arcs flows starts → ArePricesOf wave nodes h starts prices
     → CostsAsMuch wave arcs flows starts
 
--- a plan and prices that are read off a least-cost flow of a network of this definition, which costs what the plan does
-pub record IsReadOff (wave : Wave) (nodes : WaveNodes) (network : List FlowArc → Type 0) (starts : List (Option ℕ))
+-- a plan and prices that are read off a least-cost flow of a network of this definition, which costs what the
+-- plan does
+pub record IsReadOff (wave : Wave) (nodes : WaveNodes) (network : List FlowArc →
+    Type 0) (starts : List (Option ℕ))
     (prices : PriceList) : Type 0 where
   pub arcs : List FlowArc
   pub flows : List ℕ

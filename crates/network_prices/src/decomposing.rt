@@ -26,6 +26,9 @@ fn move_units(places: &mut [usize], from: usize, to: usize, units: u64)
     requires { units ≤ standing places.old from }
     ensures { IsMoved places.old places.new from to units }
 {
+    if units == 0 {
+        return;
+    }
     if units == 1 && is_at(places, from) {
         move_one(places, from, to);
     } else {

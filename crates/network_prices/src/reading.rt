@@ -23,7 +23,8 @@ pub fn read_plan(
 ) -> Result<Plan, AllocError>
     requires few { first ≤ 4096 }
     requires layers { IsLayered problem.now first arcs.now }
-    requires shipped { IsShipment arcs.now (pending_splits problem.now) (first + length problem.now.workers + 1)
+    requires shipped { IsShipment arcs.now (pending_splits problem.now) (first + length problem.now.workers
+        + 1)
         flows.now }
     ensures read { IfOk result (λ plan. (above : ℕ → List ℕ)
         → IsPlanOf problem.now (nodes_from problem.now first above) arcs.now flows.now plan.starts) }
@@ -53,7 +54,8 @@ fn starts_of(
     places: &[usize],
 ) -> Result<Plan, AllocError>
     requires places { length places.now ≡ length problem.now.splits }
-    ensures { IfOk result (λ plan. AreStartsTo problem.now first places.now (length problem.now.splits) plan) }
+    ensures { IfOk result (λ plan.
+        AreStartsTo problem.now first places.now (length problem.now.splits) plan) }
 {
     let mut plan = Plan::new(alloc, problem.splits(), problem.workers())?;
     for i in 0..problem.splits() {

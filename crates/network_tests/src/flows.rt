@@ -1,20 +1,37 @@
 use crate::networks::{add, excess, network};
 use flow_network::{ArcNo, Network};
 use node_ids::{Layout, Numbered};
-use std::test::Fail;
+use std::process::Abort;
+
+const ARC: ArcNo = ArcNo::Forward(0);
+
+/// The units on the one arc, the room that is left on it, and the excess at each of its ends.
+fn standing(rt: &impl Abort, network: &Network<Numbered>) -> [i64; 4] {
+    assert!(rt; network.arcs() == 1);
+    [
+        network.flow(ARC).cast_signed(),
+        network.residual(ARC).cast_signed(),
+        excess(network, 0),
+        excess(network, 1),
+    ]
+}
+
+fn push(rt: &impl Abort, network: &mut Network<Numbered>) {
+    assert!(rt; network.arcs() == 1);
+    assert!(rt; network.residual(ARC) > 0);
+    network.push(&[ARC]);
+}
 
 #[test]
-fn units_move_and_come_back(rt: HostRuntime) -> Result<(), Fail> {
-    let mut network = network(&rt, 2, &[(0, 1, 2, 5)])?;
-    assert_eq!(rt; network.arcs(), 1);
-    let arc = ArcNo::Forward(0);
-    let back = network.reverse(arc);
-    assert_eq!(rt; back, ArcNo::Reverse(0));
-    assert_eq!(rt; (network.flow(arc), network.residual(arc)), (0, 2));
-    network.push(&[arc]);
-    assert_eq!(rt; (network.flow(arc), network.residual(arc)), (1, 1));
-    assert_eq!(rt; (excess(&network, 0), excess(&network, 1)), (-1, 1));
-    Ok(())
+fn units_move_and_come_back(rt: HostRuntime) {
+    let mut network = network(&rt, rt.alloc(), 2, &[(0, 1, 2, 5)]);
+    assert_eq!(rt; network.reverse(ARC), ArcNo::Reverse(0));
+    let before = standing(&rt, &network);
+    push(&rt, &mut network);
+    assert_eq!(rt;
+        (before, standing(&rt, &network)),
+        ([0, 2, 0, 0], [1, 1, -1, 1])
+    );
 }
 
 fn leaving(network: &Network<Numbered>, node: usize) -> usize {

@@ -1,7 +1,8 @@
 //! Networks whose nodes are their own places.
 use flow_network::Network;
 use node_ids::{Layout, Numbered};
-use std::test::Fail;
+use std::alloc::Global;
+use std::process::Abort;
 
 /// An arc by its ends, capacity and cost.
 pub type Row = (usize, usize, u64, u64);
@@ -18,15 +19,13 @@ pub fn add(network: &mut Network<Numbered>, row: Row) -> bool {
 }
 
 /// The network of some arcs, without flow.
-pub fn network(rt: &HostRuntime, nodes: usize, rows: &[Row]) -> Result<Network<Numbered>, Fail> {
+pub fn network(rt: &impl Abort, alloc: Global, nodes: usize, rows: &[Row]) -> Network<Numbered> {
     let nodes = nodes.min(4096);
-    let mut network = Network::new(rt.alloc(), Numbered { nodes })?;
+    let mut network = Network::new(alloc, Numbered { nodes }).expect(rt, "no network");
     for row in rows {
-        if !add(&mut network, *row) {
-            Err("an arc of another network")?
-        }
+        assert!(rt; add(&mut network, *row));
     }
-    Ok(network)
+    network
 }
 
 /// What a node takes in less what it gives out, or 0 for no node.

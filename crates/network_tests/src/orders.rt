@@ -1,8 +1,11 @@
 //! Shipments whose sources are given in any order, against all choices of ways.
 use crate::networks::{Row, network};
 use crate::random::Random;
-use augmenting_paths::{can_ship, saturate};
-use std::test::Fail;
+use crate::shipments::ship;
+use flow_network::Network;
+use node_ids::Numbered;
+use std::alloc::Global;
+use std::process::Abort;
 
 /// Four sources, nodes 0 to 3; three places and one where any unit may wait, nodes 4 to 7; and the sink.
 const NODES: usize = 9;
@@ -68,18 +71,20 @@ fn least(fair: &Fair) -> Option<u64> {
     least
 }
 
-/// What the shipment of the sources costs, in the order in which they are given.
-fn shipped(rt: &HostRuntime, fair: &Fair, sources: &[usize]) -> Result<u64, Fail> {
-    let mut network = network(rt, NODES, &rows(fair))?;
-    if !can_ship(rt.alloc(), &network, sources, SINK)? {
-        Err("not shipped")?;
-    }
-    let _potentials = saturate(rt.alloc(), &mut network, sources, SINK)?;
+/// What the units of a network pay.
+fn paid(network: &Network<Numbered>) -> u64 {
     let mut paid: u64 = 0;
     for (arc, carried) in network.all_arcs().iter().zip(network.all_flows()) {
         paid = paid.wrapping_add(arc.cost.wrapping_mul(*carried));
     }
-    Ok(paid)
+    paid
+}
+
+/// What the shipment of the sources costs, in the order in which they are given.
+fn shipped(rt: &impl Abort, alloc: Global, fair: &Fair, sources: &[usize]) -> u64 {
+    let mut network = network(rt, alloc, NODES, &rows(fair));
+    let _potentials = ship(rt, alloc, &mut network, sources, SINK);
+    paid(&network)
 }
 
 const ORDERS: [[usize; 4]; 6] = [
@@ -91,15 +96,19 @@ const ORDERS: [[usize; 4]; 6] = [
     [2, 0, 3, 1],
 ];
 
-#[test]
-fn no_order_costs_more(rt: HostRuntime) -> Result<(), Fail> {
-    for seed in 0..50u64 {
-        let fair = made(seed);
-        let want = least(&fair);
-        for order in &ORDERS {
-            let paid = shipped(&rt, &fair, order)?;
-            assert_eq!(rt; Some(paid), want, "seed {seed}, {order:?}");
-        }
+/// That the sources of a seed's fair pay the least in each order.
+fn assert_orders(rt: &impl Abort, alloc: Global, seed: u64) {
+    let fair = made(seed);
+    let want = least(&fair);
+    for order in &ORDERS {
+        let told = Some(shipped(rt, alloc, &fair, order));
+        assert_eq!(rt; told, want, "seed {seed}, {order:?}");
     }
-    Ok(())
+}
+
+#[test]
+fn no_order_costs_more(rt: HostRuntime) {
+    for seed in 0..50u64 {
+        assert_orders(&rt, rt.alloc(), seed);
+    }
 }

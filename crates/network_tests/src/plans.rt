@@ -1,11 +1,11 @@
 use crate::problems::{of, one_host};
 use crate::random::Random;
-use crate::small::{Small, Value};
+use crate::small::{NONE, ONE_CENTRE, Row, Small, Value};
 use certificate_checker::{Certified, certify};
 use node_ids::{SplitNo, WorkerNo};
+use price_certificate::Prices;
 use std::alloc::Global;
 use std::process::Abort;
-use std::test::Fail;
 use wave_planner::{NetworkKind, Planned, plan, plan_with};
 use wave_problem::Problem;
 
@@ -16,33 +16,32 @@ fn assert_certified(
     problem: &Problem,
     kind: NetworkKind,
     want: Value,
-) -> Result<(), Fail> {
-    let planned = plan_with(alloc, problem, kind)?;
+) {
+    let planned = plan_with(alloc, problem, kind).expect(rt, "no plan");
     let want = Certified {
         count: want.count,
         cost: want.cost,
     };
-    assert_eq!(rt; planned.certified(), want, "{kind:?}");
     let certified = certify(problem, planned.plan(), planned.prices());
-    assert_eq!(rt; certified, Ok(want), "{kind:?}");
-    Ok(())
+    assert_eq!(rt;
+        (kind, planned.certified(), certified),
+        (kind, want, Ok(want))
+    );
 }
 
-fn assert_best(rt: &impl Abort, alloc: Global, small: &Small) -> Result<(), Fail> {
-    let problem = of(rt, alloc, small)?;
+fn assert_best(rt: &impl Abort, alloc: Global, small: &Small) {
+    let problem = of(rt, alloc, small);
     let best = small.best();
-    assert_certified(rt, alloc, &problem, NetworkKind::Direct, best)?;
-    assert_certified(rt, alloc, &problem, NetworkKind::Racks, best)
+    assert_certified(rt, alloc, &problem, NetworkKind::Direct, best);
+    assert_certified(rt, alloc, &problem, NetworkKind::Racks, best);
 }
 
 #[test]
-fn plans_are_best(rt: HostRuntime) -> Result<(), Fail> {
+fn plans_are_best(rt: HostRuntime) {
     let mut random = Random::new(1);
     for _ in 0..400usize {
-        let small = Small::random(&mut random);
-        assert_best(&rt, rt.alloc(), &small)?;
+        assert_best(&rt, rt.alloc(), &Small::random(&mut random));
     }
-    Ok(())
 }
 
 /// The worker of each split.
@@ -52,77 +51,178 @@ fn assert_starts(rt: &impl Abort, planned: &Planned, starts: &[Option<u16>]) {
     for (i, start) in starts.iter().enumerate() {
         if i < plan.splits() {
             let worker = start.map(|worker| WorkerNo::new(worker));
-            assert_eq!(rt; plan.of(SplitNo::new(i as u16)), worker, "split {i}");
+            assert_eq!(rt; (i, plan.of(SplitNo::new(i as u16))), (i, worker));
         }
     }
 }
 
-/// That over either network the splits start on these workers, at this cost.
+/// That over a network the splits start on these workers, at this cost.
 fn assert_planned(
     rt: &impl Abort,
     alloc: Global,
-    small: &Small,
-    cost: u64,
-    starts: &[Option<u16>],
-) -> Result<(), Fail> {
-    let problem = of(rt, alloc, small)?;
-    for kind in [NetworkKind::Direct, NetworkKind::Racks] {
-        let planned = plan_with(alloc, &problem, kind)?;
-        assert_eq!(rt; planned.certified().cost, cost, "{kind:?}");
-        assert_starts(rt, &planned, starts);
-    }
-    Ok(())
+    problem: &Problem,
+    kind: NetworkKind,
+    row: &PlanRow,
+) {
+    let planned = plan_with(alloc, problem, kind).expect(rt, "no plan");
+    let told = planned.certified().cost;
+    assert_eq!(rt; (row.0, kind, told), (row.0, kind, row.2));
+    assert_starts(rt, &planned, row.3);
+}
+
+fn assert_row(rt: &impl Abort, alloc: Global, row: &PlanRow) {
+    let problem = of(rt, alloc, &Small::of(&row.1));
+    assert_planned(rt, alloc, &problem, NetworkKind::Direct, row);
+    assert_planned(rt, alloc, &problem, NetworkKind::Racks, row);
 }
 
 /// Two workers with a slot each in one rack.
-fn pair() -> Small {
-    Small::default().with_worker(0, 1).with_worker(0, 1)
-}
+const PAIR: &'static [(u16, u8)] = &[(0, 1), (0, 1)];
 
-const NONE: usize = 4;
+/// A worker without slots, and one with a slot in another rack.
+const APART: &'static [(u16, u8)] = &[(0, 0), (1, 1)];
+
+/// The second rack is in the second data centre.
+const TWO_CENTRES: (u8, [u8; 3]) = (2, [0, 1, 0]);
+
+/// What a problem shows, the problem, what its plan costs, and the worker of each split.
+type PlanRow = (&'static str, Row, u64, &'static [Option<u16>]);
+
+const ROWS: [PlanRow; 10] = [
+    (
+        "the nearest is not the cheapest",
+        Row {
+            workers: PAIR,
+            splits: &[(10, 0, NONE), (20, 0, NONE)],
+            centres: ONE_CENTRE,
+        },
+        20,
+        &[Some(1), Some(0)],
+    ),
+    (
+        "the count comes first",
+        Row {
+            workers: PAIR,
+            splits: &[(1000, 0, NONE), (1, 0, 1)],
+            centres: ONE_CENTRE,
+        },
+        2000,
+        &[Some(1), Some(0)],
+    ),
+    (
+        "nothing",
+        Row {
+            workers: &[],
+            splits: &[],
+            centres: ONE_CENTRE,
+        },
+        0,
+        &[],
+    ),
+    (
+        "not held",
+        Row {
+            workers: &[(0, 1)],
+            splits: &[(10, NONE, NONE)],
+            centres: ONE_CENTRE,
+        },
+        0,
+        &[None],
+    ),
+    (
+        "another rack",
+        Row {
+            workers: APART,
+            splits: &[(7, 0, NONE)],
+            centres: ONE_CENTRE,
+        },
+        28,
+        &[Some(1)],
+    ),
+    (
+        "no bytes",
+        Row {
+            workers: APART,
+            splits: &[(0, 0, NONE)],
+            centres: ONE_CENTRE,
+        },
+        0,
+        &[Some(1)],
+    ),
+    (
+        "another centre",
+        Row {
+            workers: APART,
+            splits: &[(7, 0, NONE)],
+            centres: TWO_CENTRES,
+        },
+        42,
+        &[Some(1)],
+    ),
+    (
+        "barred",
+        Row {
+            workers: APART,
+            splits: &[(7, 0, 1)],
+            centres: TWO_CENTRES,
+        },
+        0,
+        &[None],
+    ),
+    (
+        "the larger stays in the centre: the other way it would be 46",
+        Row {
+            workers: &[(0, 0), (1, 1), (2, 1)],
+            splits: &[(7, 0, NONE), (1, 0, NONE)],
+            centres: (2, [0, 0, 1]),
+        },
+        34,
+        &[Some(1), Some(2)],
+    ),
+    (
+        "the largest stays, and the next goes to the other worker of the rack",
+        Row {
+            workers: &[(0, 1), (0, 1), (1, 1)],
+            splits: &[(10, 0, NONE), (20, 0, NONE), (30, 0, NONE)],
+            centres: ONE_CENTRE,
+        },
+        80,
+        &[Some(2), Some(1), Some(0)],
+    ),
+];
 
 #[test]
-fn rows(rt: HostRuntime) -> Result<(), Fail> {
-    let empty = Small::default();
-    let nearest_is_not_cheapest = pair().with_split(10, 0, NONE).with_split(20, 0, NONE);
-    let count_comes_first = pair().with_split(1000, 0, NONE).with_split(1, 0, 1);
-    let not_held = empty.with_worker(0, 1).with_split(10, NONE, NONE);
-    let other_rack = empty.with_worker(0, 0).with_worker(1, 1);
-    // the largest stays, the next goes to the other worker of the rack
-    let units_part = pair().with_worker(1, 1).with_split(10, 0, NONE);
-    let units_part = units_part.with_split(20, 0, NONE).with_split(30, 0, NONE);
-    let other_centre = other_rack.in_centres(2, [0, 1, 0]);
-    // the larger split stays in the centre; the other way it would be 46
-    let near_and_far = other_rack.with_worker(2, 1).in_centres(2, [0, 0, 1]);
-    let near_and_far = near_and_far.with_split(7, 0, NONE).with_split(1, 0, NONE);
-    let rows: [(Small, u64, &[Option<u16>]); 10] = [
-        (nearest_is_not_cheapest, 20, &[Some(1), Some(0)]),
-        (count_comes_first, 2000, &[Some(1), Some(0)]),
-        (empty, 0, &[]),
-        (not_held, 0, &[None]),
-        (other_rack.with_split(7, 0, NONE), 28, &[Some(1)]),
-        (other_rack.with_split(0, 0, NONE), 0, &[Some(1)]),
-        (other_centre.with_split(7, 0, NONE), 42, &[Some(1)]),
-        (other_centre.with_split(7, 0, 1), 0, &[None]),
-        (near_and_far, 34, &[Some(1), Some(2)]),
-        (units_part, 80, &[Some(2), Some(1), Some(0)]),
-    ];
-    for (small, cost, starts) in rows {
-        assert_planned(&rt, rt.alloc(), &small, cost, starts)?;
+fn rows(rt: HostRuntime) {
+    for row in &ROWS {
+        assert_row(&rt, rt.alloc(), row);
     }
-    Ok(())
+}
+
+const SPARE: Row = Row {
+    workers: &[(0, 2)],
+    splits: &[(10, 0, NONE)],
+    centres: ONE_CENTRE,
+};
+
+fn plan_of(rt: &impl Abort, alloc: Global, row: &Row) -> Planned {
+    let problem = of(rt, alloc, &Small::of(row));
+    plan(alloc, &problem).expect(rt, "no plan")
+}
+
+/// The price of the one split, and of the one worker.
+fn prices_of(rt: &impl Abort, prices: &Prices) -> (u64, u64) {
+    assert!(rt; prices.splits() == 1 && prices.workers() == 1);
+    (
+        prices.split(SplitNo::new(0)),
+        prices.worker(WorkerNo::new(0)),
+    )
 }
 
 /// No other prices certify: the worker has a slot left.
 #[test]
-fn a_spare_slot_is_free_of_charge(rt: HostRuntime) -> Result<(), Fail> {
-    let small = Small::default().with_worker(0, 2).with_split(10, 0, NONE);
-    let planned = plan(rt.alloc(), &of(&rt, rt.alloc(), &small)?)?;
-    let prices = planned.prices();
-    assert!(rt; prices.splits() == 1 && prices.workers() == 1);
-    assert_eq!(rt; prices.split(SplitNo::new(0)), 41);
-    assert_eq!(rt; prices.worker(WorkerNo::new(0)), 0);
-    Ok(())
+fn a_spare_slot_is_free_of_charge(rt: HostRuntime) {
+    let planned = plan_of(&rt, rt.alloc(), &SPARE);
+    assert_eq!(rt; prices_of(&rt, planned.prices()), (41, 0));
 }
 
 /// What a plan of `one_host` comes to: the distance is 4 for each byte.
@@ -131,16 +231,28 @@ const ONE_HOST: Value = Value {
     cost: 274_877_906_944,
 };
 
-#[test]
-fn one_host_by_racks(rt: HostRuntime) -> Result<(), Fail> {
-    let problem = one_host(&rt, rt.alloc())?;
-    assert_eq!(rt; rack_network::build(rt.alloc(), &problem)?.arcs(), 3_204);
-    assert_certified(&rt, rt.alloc(), &problem, NetworkKind::Racks, ONE_HOST)
+fn arcs_by_racks(rt: &impl Abort, alloc: Global, problem: &Problem) -> usize {
+    rack_network::build(alloc, problem)
+        .expect(rt, "no network")
+        .arcs()
 }
 
 #[test]
-fn one_host_by_pairs(rt: HostRuntime) -> Result<(), Fail> {
-    let problem = one_host(&rt, rt.alloc())?;
-    assert_eq!(rt; direct_network::build(rt.alloc(), &problem)?.arcs(), 66_626);
-    assert_certified(&rt, rt.alloc(), &problem, NetworkKind::Direct, ONE_HOST)
+fn one_host_by_racks(rt: HostRuntime) {
+    let problem = one_host(&rt, rt.alloc());
+    assert_eq!(rt; arcs_by_racks(&rt, rt.alloc(), &problem), 3_204);
+    assert_certified(&rt, rt.alloc(), &problem, NetworkKind::Racks, ONE_HOST);
+}
+
+fn arcs_by_pairs(rt: &impl Abort, alloc: Global, problem: &Problem) -> usize {
+    direct_network::build(alloc, problem)
+        .expect(rt, "no network")
+        .arcs()
+}
+
+#[test]
+fn one_host_by_pairs(rt: HostRuntime) {
+    let problem = one_host(&rt, rt.alloc());
+    assert_eq!(rt; arcs_by_pairs(&rt, rt.alloc(), &problem), 66_626);
+    assert_certified(&rt, rt.alloc(), &problem, NetworkKind::Direct, ONE_HOST);
 }

@@ -2,43 +2,37 @@
 use crate::small::{Small, Split, Worker};
 use node_ids::{CentreNo, PairSet, RackNo, SplitNo, WorkerNo};
 use rack_tree::RackTree;
-use std::alloc::Global;
+use std::alloc::{AllocError, Global};
 use std::process::Abort;
-use std::test::Fail;
 use wave_problem::{MAX_BYTES, Problem, SplitLine, WorkerLine};
 
 /// How many data centres there are, and the centre of each rack.
 type Centres<'r> = (u8, &'r [u8]);
 
-fn empty_racks(rt: &impl Abort, alloc: Global, centres: Centres<'_>) -> Result<RackTree, Fail> {
+fn empty_racks(rt: &impl Abort, alloc: Global, centres: Centres<'_>) -> RackTree {
     let mut tree = RackTree::new(alloc);
     for _ in 0..centres.0 {
-        tree.add_centre()?;
+        tree.add_centre().expect(rt, "no centre");
     }
     for centre in centres.1 {
         let centre = CentreNo::new(*centre);
         assert!(rt; centre.index() < tree.centres());
-        tree.add_rack(centre)?;
+        tree.add_rack(centre).expect(rt, "no rack");
     }
-    Ok(tree)
+    tree
 }
 
-fn tree(
-    rt: &impl Abort,
-    alloc: Global,
-    centres: Centres<'_>,
-    workers: &[Worker],
-) -> Result<RackTree, Fail> {
-    let mut tree = empty_racks(rt, alloc, centres)?;
+fn tree(rt: &impl Abort, alloc: Global, centres: Centres<'_>, workers: &[Worker]) -> RackTree {
+    let mut tree = empty_racks(rt, alloc, centres);
     for worker in workers {
         let rack = RackNo::new(worker.rack);
         assert!(rt; rack.index() < tree.racks());
-        tree.add_worker(rack)?;
+        tree.add_worker(rack).expect(rt, "no worker");
     }
-    Ok(tree)
+    tree
 }
 
-fn worker_lines(alloc: Global, workers: &[Worker]) -> Result<Vec<WorkerLine>, Fail> {
+fn worker_lines(alloc: Global, workers: &[Worker]) -> Result<Vec<WorkerLine>, AllocError> {
     let mut lines = Vec::new(alloc);
     for worker in workers {
         lines.push(WorkerLine {
@@ -49,7 +43,7 @@ fn worker_lines(alloc: Global, workers: &[Worker]) -> Result<Vec<WorkerLine>, Fa
     Ok(lines)
 }
 
-fn split_line(alloc: Global, split: &Split) -> Result<SplitLine, Fail> {
+fn split_line(alloc: Global, split: &Split) -> Result<SplitLine, AllocError> {
     let mut holders = Vec::new(alloc);
     for w in 0..4u16 {
         if split.held_by[usize::from(w)] {
@@ -63,7 +57,7 @@ fn split_line(alloc: Global, split: &Split) -> Result<SplitLine, Fail> {
     })
 }
 
-fn split_lines(alloc: Global, splits: &[Split]) -> Result<Vec<SplitLine>, Fail> {
+fn split_lines(alloc: Global, splits: &[Split]) -> Result<Vec<SplitLine>, AllocError> {
     let mut lines = Vec::new(alloc);
     for split in splits {
         lines.push(split_line(alloc, split)?)?;
@@ -71,7 +65,7 @@ fn split_lines(alloc: Global, splits: &[Split]) -> Result<Vec<SplitLine>, Fail> 
     Ok(lines)
 }
 
-fn barred_pairs(alloc: Global, splits: &[Split]) -> Result<PairSet, Fail> {
+fn barred_pairs(alloc: Global, splits: &[Split]) -> Result<PairSet, AllocError> {
     let mut barred = PairSet::new(alloc)?;
     for s in 0..splits.len().min(1024) {
         for w in 0..4u16 {
@@ -90,22 +84,17 @@ fn problem(
     centres: Centres<'_>,
     workers: &[Worker],
     splits: &[Split],
-) -> Result<Problem, Fail> {
-    let tree = tree(rt, alloc, centres, workers)?;
-    let workers = worker_lines(alloc, workers)?;
+) -> Problem {
+    let tree = tree(rt, alloc, centres, workers);
+    let workers = worker_lines(alloc, workers).expect(rt, "no memory");
     assert!(rt; workers.len() == tree.workers());
-    let splits_of = split_lines(alloc, splits)?;
-    Ok(Problem::new(
-        alloc,
-        tree,
-        workers,
-        splits_of,
-        barred_pairs(alloc, splits)?,
-    )?)
+    let lines = split_lines(alloc, splits).expect(rt, "no memory");
+    let barred = barred_pairs(alloc, splits).expect(rt, "no memory");
+    Problem::new(alloc, tree, workers, lines, barred).expect(rt, "no problem")
 }
 
 /// A small problem.
-pub fn of(rt: &impl Abort, alloc: Global, small: &Small) -> Result<Problem, Fail> {
+pub fn of(rt: &impl Abort, alloc: Global, small: &Small) -> Problem {
     let centres = (small.centres.max(1), small.centre_of.as_slice());
     let workers = &small.worker[..small.workers.min(4)];
     let splits = &small.split[..small.splits.min(4)];
@@ -113,7 +102,7 @@ pub fn of(rt: &impl Abort, alloc: Global, small: &Small) -> Result<Problem, Fail
 }
 
 /// A worker without slots holds 1,024 splits of full size; 64 workers of 16 slots stand in another rack.
-pub fn one_host(rt: &impl Abort, alloc: Global) -> Result<Problem, Fail> {
+pub fn one_host(rt: &impl Abort, alloc: Global) -> Problem {
     let far = Worker {
         rack: 1,
         live: true,
@@ -131,11 +120,5 @@ pub fn one_host(rt: &impl Abort, alloc: Global) -> Result<Problem, Fail> {
         held_by: [true, false, false, false],
         barred_on: [false; 4],
     };
-    problem(
-        rt,
-        alloc,
-        (1, &[0, 0]),
-        &workers,
-        &vec![in alloc; split; 1024]?,
-    )
+    problem(rt, alloc, (1, &[0, 0]), &workers, &[split; 1024])
 }

@@ -5,21 +5,20 @@ use augmenting_paths::{can_ship, saturate};
 use flow_network::{ArcNo, FlowArc, Network};
 use node_ids::Numbered;
 use shortest_paths::Potentials;
+use std::alloc::{AllocError, Global};
 use std::process::Abort;
-use std::test::Fail;
 
-/// Ships a unit from each source, where that may be asked.
-fn ship(
-    rt: &HostRuntime,
+/// Ships a unit from each source, which may be asked.
+pub fn ship(
+    rt: &impl Abort,
+    alloc: Global,
     network: &mut Network<Numbered>,
     sources: &[usize],
     sink: usize,
-) -> Result<Potentials, Fail> {
-    if can_ship(rt.alloc(), network, sources, sink)? {
-        Ok(saturate(rt.alloc(), network, sources, sink)?)
-    } else {
-        Err("not shipped")?
-    }
+) -> Potentials {
+    let may_ship = can_ship(alloc, network, sources, sink).expect(rt, "no memory");
+    assert!(rt; may_ship);
+    saturate(alloc, network, sources, sink).expect(rt, "no memory")
 }
 
 /// How far below 0 the potential of a node lies, or 0 for no node.
@@ -51,45 +50,53 @@ const CONTEST: [Row; 9] = [
     (4, 5, 2, 0),
 ];
 
+/// How far below 0 the potentials of some nodes lie.
+fn assert_depths(rt: &impl Abort, potentials: &Potentials, rows: &[(usize, i64)]) {
+    for (node, want) in rows {
+        assert_eq!(rt; (*node, depth(potentials, *node)), (*node, *want));
+    }
+}
+
 #[test]
-fn a_unit_makes_way(rt: HostRuntime) -> Result<(), Fail> {
-    let mut network = network(&rt, 6, &CONTEST)?;
-    let potentials = ship(&rt, &mut network, &[0, 1], 5)?;
+fn a_unit_makes_way(rt: HostRuntime) {
+    let mut network = network(&rt, rt.alloc(), 6, &CONTEST);
+    let potentials = ship(&rt, rt.alloc(), &mut network, &[0, 1], 5);
     assert_eq!(rt; network.all_flows(), [0, 1, 1, 0, 0, 0, 1, 1, 0].as_slice());
     assert_excesses(&rt, &network, &[-1, -1, 0, 0, 0, 2]);
     // 0 pays 4 at node 3, and 1 would pay as much more than 0 at node 2
-    for (node, want) in [(0, 4), (1, 4), (2, 4), (3, 0), (5, 0)] {
-        assert_eq!(rt; depth(&potentials, node), want, "node {node}");
+    assert_depths(&rt, &potentials, &[(0, 4), (1, 4), (2, 4), (3, 0), (5, 0)]);
+}
+
+/// Sources of the contest, and whether a unit can be shipped from each.
+const CASES: [(&'static [usize], bool); 6] = [
+    (&[0, 1], true),
+    (&[], true),
+    (&[0, 0], false),
+    (&[0, 5], false),
+    (&[0, 2], false),
+    (&[0, 6], false),
+];
+
+#[test]
+fn what_may_be_shipped(rt: HostRuntime) {
+    let contest = network(&rt, rt.alloc(), 6, &CONTEST);
+    for (sources, want) in CASES {
+        let may_ship = can_ship(rt.alloc(), &contest, sources, 5);
+        assert_eq!(rt; may_ship, Ok(want), "{sources:?}");
     }
-    Ok(())
 }
 
 #[test]
-fn what_may_be_shipped(rt: HostRuntime) -> Result<(), Fail> {
-    let contest = network(&rt, 6, &CONTEST)?;
-    let cases: [(&[usize], bool); 6] = [
-        (&[0, 1], true),
-        (&[], true),
-        (&[0, 0], false),
-        (&[0, 5], false),
-        (&[0, 2], false),
-        (&[0, 6], false),
-    ];
-    for (sources, want) in cases {
-        let may_ship = can_ship(rt.alloc(), &contest, sources, 5)?;
-        assert_eq!(rt; may_ship, want, "{sources:?}");
-    }
-    Ok(())
+fn no_unit_goes_over_an_arc_without_room(rt: HostRuntime) {
+    let narrow = network(&rt, rt.alloc(), 3, &[(0, 1, 1, 0), (1, 2, 0, 0)]);
+    assert_eq!(rt; can_ship(rt.alloc(), &narrow, &[0], 2), Ok(false));
 }
 
 #[test]
-fn what_may_not_be_shipped(rt: HostRuntime) -> Result<(), Fail> {
-    let narrow = network(&rt, 3, &[(0, 1, 1, 0), (1, 2, 0, 0)])?;
-    assert!(rt; !can_ship(rt.alloc(), &narrow, &[0], 2)?);
-    let mut shipped = network(&rt, 6, &CONTEST)?;
-    let _ = ship(&rt, &mut shipped, &[0], 5)?;
-    assert!(rt; !can_ship(rt.alloc(), &shipped, &[1], 5)?);
-    Ok(())
+fn nothing_is_shipped_twice(rt: HostRuntime) {
+    let mut shipped = network(&rt, rt.alloc(), 6, &CONTEST);
+    let _ = ship(&rt, rt.alloc(), &mut shipped, &[0], 5);
+    assert_eq!(rt; can_ship(rt.alloc(), &shipped, &[1], 5), Ok(false));
 }
 
 const NODES: usize = 7;
@@ -97,7 +104,7 @@ const NODES: usize = 7;
 const SINK: usize = 6;
 
 /// Two sources, four inner nodes and the sink, with ten arcs at random beside the ways through node 5.
-fn random(rt: &HostRuntime, seed: u64) -> Result<Network<Numbered>, Fail> {
+fn random(rt: &impl Abort, alloc: Global, seed: u64) -> Network<Numbered> {
     let mut random = Random::new(seed);
     let mut rows = [(0, 5, 1, 50); 13];
     rows[1] = (1, 5, 1, 50);
@@ -108,7 +115,7 @@ fn random(rt: &HostRuntime, seed: u64) -> Result<Network<Numbered>, Fail> {
         let capacity = random.below(3);
         rows[place] = (from, to.wrapping_add(2), capacity, random.below(10));
     }
-    network(rt, NODES, &rows)
+    network(rt, alloc, NODES, &rows)
 }
 
 /// A residual path that visits no node twice.
@@ -171,22 +178,34 @@ impl Walk {
     }
 }
 
+/// Adds all paths that are this one with one residual arc more.
+fn add_longer(
+    network: &Network<Numbered>,
+    potentials: &Potentials,
+    path: Walk,
+    longer: &mut Vec<Walk>,
+) -> Result<(), AllocError> {
+    for (arc, carried) in network.all_arcs().iter().zip(network.all_flows()) {
+        for path in path.longer(potentials, *arc, *carried).iter().flatten() {
+            longer.push(*path)?;
+        }
+    }
+    Ok(())
+}
+
 /// All paths that are one of these with one residual arc more.
 fn longer(
-    rt: &HostRuntime,
+    rt: &impl Abort,
+    alloc: Global,
     network: &Network<Numbered>,
     potentials: &Potentials,
     paths: &[Walk],
-) -> Result<Vec<Walk>, Fail> {
-    let mut longer = Vec::new(rt.alloc());
+) -> Vec<Walk> {
+    let mut longer = Vec::new(alloc);
     for path in paths {
-        for (arc, carried) in network.all_arcs().iter().zip(network.all_flows()) {
-            for path in path.longer(potentials, *arc, *carried).iter().flatten() {
-                longer.push(*path)?;
-            }
-        }
+        add_longer(network, potentials, *path, &mut longer).expect(rt, "no memory");
     }
-    Ok(longer)
+    longer
 }
 
 /// Notes the costs of paths where they are the least to their ends.
@@ -202,48 +221,64 @@ fn note(best: &mut [Option<i64>; NODES], paths: &[Walk]) {
 
 /// The least reduced cost of all residual paths to each node, by listing them.
 fn by_paths(
-    rt: &HostRuntime,
+    rt: &impl Abort,
+    alloc: Global,
     network: &Network<Numbered>,
     potentials: &Potentials,
     from: usize,
-) -> Result<[Option<i64>; NODES], Fail> {
+) -> [Option<i64>; NODES] {
     let mut best = [None; NODES];
-    let mut paths = [Walk::at(from)].to_vec(rt.alloc())?;
+    let mut paths = [Walk::at(from)].to_vec(alloc).expect(rt, "no memory");
     for _ in 0..NODES {
         note(&mut best, &paths);
-        paths = longer(rt, network, potentials, &paths)?;
+        paths = longer(rt, alloc, network, potentials, &paths);
     }
-    Ok(best)
+    best
 }
 
 /// The distances from a node, as the search finds them.
 fn by_search(
-    rt: &HostRuntime,
+    rt: &impl Abort,
+    alloc: Global,
     network: &Network<Numbered>,
     potentials: &Potentials,
     from: usize,
-) -> Result<[Option<i64>; NODES], Fail> {
-    let distances = search(rt, network, potentials, from)?;
+) -> [Option<i64>; NODES] {
+    let distances = search(rt, alloc, network, potentials, from);
     let mut found = [None; NODES];
     for node in 0..NODES {
         if node < potentials.depths().len() {
             found[node] = distances.of(node).map(|distance| distance.cast_signed());
         }
     }
-    Ok(found)
+    found
+}
+
+/// That from each node the search finds what the list of paths does.
+fn assert_searches(
+    rt: &impl Abort,
+    alloc: Global,
+    network: &Network<Numbered>,
+    potentials: &Potentials,
+    seed: u64,
+) {
+    for node in 0..NODES {
+        let slow = by_paths(rt, alloc, network, potentials, node);
+        let fast = by_search(rt, alloc, network, potentials, node);
+        assert_eq!(rt; fast, slow, "seed {seed}, node {node}");
+    }
+}
+
+fn ship_in_random(rt: &impl Abort, alloc: Global, seed: u64) {
+    let mut network = random(rt, alloc, seed);
+    let potentials = ship(rt, alloc, &mut network, &[0, 1], SINK);
+    assert_excesses(rt, &network, &[-1, -1, 0, 0, 0, 0, 2]);
+    assert_searches(rt, alloc, &network, &potentials, seed);
 }
 
 #[test]
-fn random_networks(rt: HostRuntime) -> Result<(), Fail> {
+fn random_networks(rt: HostRuntime) {
     for seed in 0..40u64 {
-        let mut network = random(&rt, seed)?;
-        let potentials = ship(&rt, &mut network, &[0, 1], SINK)?;
-        assert_excesses(&rt, &network, &[-1, -1, 0, 0, 0, 0, 2]);
-        for node in 0..NODES {
-            let slow = by_paths(&rt, &network, &potentials, node)?;
-            let fast = by_search(&rt, &network, &potentials, node)?;
-            assert_eq!(rt; fast, slow, "seed {seed}, node {node}");
-        }
+        ship_in_random(&rt, rt.alloc(), seed);
     }
-    Ok(())
 }

@@ -4,7 +4,7 @@ ghost use Rattle.std.specs.Prelude.{◌<◌};
 use crate::random::Random;
 
 /// A worker of a small problem. One past the last is dead.
-#[derive(Clone, Copy, Debug, Default, PartialEq, Eq)]
+#[derive(Clone, Copy, Default)]
 pub struct Worker {
     pub rack: u16,
     pub live: bool,
@@ -12,7 +12,7 @@ pub struct Worker {
 }
 
 /// A split of a small problem. One past the last is not pending.
-#[derive(Clone, Copy, Debug, Default, PartialEq, Eq)]
+#[derive(Clone, Copy, Default)]
 pub struct Split {
     pub bytes: u64,
     pub pending: bool,
@@ -21,7 +21,7 @@ pub struct Split {
 }
 
 /// A problem with at most four splits and workers, in three racks of so many data centres, at least one.
-#[derive(Clone, Copy, Debug, Default)]
+#[derive(Clone, Copy, Default)]
 pub struct Small {
     pub splits: usize,
     pub workers: usize,
@@ -29,6 +29,21 @@ pub struct Small {
     pub centre_of: [u8; 3],
     pub split: [Split; 4],
     pub worker: [Worker; 4],
+}
+
+/// No worker.
+pub const NONE: usize = 4;
+
+/// One data centre of three racks.
+pub const ONE_CENTRE: (u8, [u8; 3]) = (1, [0, 0, 0]);
+
+/// A small problem by its live workers, each with its rack and its free slots, its pending splits, each with
+/// its bytes, its holder and the worker on which it is barred, and its data centres with that of each rack.
+#[derive(Clone, Copy)]
+pub struct Row {
+    pub workers: &'static [(u16, u8)],
+    pub splits: &'static [(u64, usize, usize)],
+    pub centres: (u8, [u8; 3]),
 }
 
 /// How many splits start, and the byte-distance of the starts together.
@@ -97,41 +112,42 @@ impl Small {
         small
     }
 
-    /// The same with its racks in these of so many data centres.
-    pub fn in_centres(&self, centres: u8, centre_of: [u8; 3]) -> Small {
-        let mut small = *self;
-        small.centres = centres;
-        small.centre_of = centre_of;
-        small
-    }
-
-    /// The same with a live worker more, in a rack, with so many free slots.
-    pub fn with_worker(&self, rack: u16, free: u8) -> Small {
-        let mut small = *self;
-        let place = small.workers;
+    // Adds a live worker in a rack, with so many free slots.
+    fn add_worker(&mut self, rack: u16, free: u8) {
+        let place = self.workers;
         if place < 4 {
-            small.worker[place] = Worker {
+            self.worker[place] = Worker {
                 rack,
                 live: true,
                 free,
             };
-            small.workers += 1;
+            self.workers += 1;
         }
-        small
     }
 
-    /// The same with a pending split more, on a worker, barred on another; 4 is none.
-    pub fn with_split(&self, bytes: u64, holder: usize, barred: usize) -> Small {
-        let mut small = *self;
-        let place = small.splits;
+    // Adds a pending split on a worker, barred on another.
+    fn add_split(&mut self, bytes: u64, holder: usize, barred: usize) {
+        let place = self.splits;
         if place < 4 {
-            small.split[place] = Split {
+            self.split[place] = Split {
                 bytes,
                 pending: true,
                 held_by: only(holder),
                 barred_on: only(barred),
             };
-            small.splits += 1;
+            self.splits += 1;
+        }
+    }
+
+    /// The problem of a row.
+    pub fn of(row: &Row) -> Small {
+        let mut small = Small::default();
+        (small.centres, small.centre_of) = row.centres;
+        for (rack, free) in row.workers {
+            small.add_worker(*rack, *free);
+        }
+        for (bytes, holder, barred) in row.splits {
+            small.add_split(*bytes, *holder, *barred);
         }
         small
     }

@@ -1,5 +1,6 @@
 -- Sets of numbers as tables of bits, in words of 64.
-use Rattle.std.specs.Prelude.{ℕ, ◌+◌, ◌*◌, ◌/◌, ◌%◌, ◌^◌, ◌==◌, Bool, IsTrue, List, replicate, slice_index, slice_set}
+use Rattle.std.specs.Prelude.{ℕ, ◌+◌, ◌*◌, ◌/◌, ◌%◌, ◌^◌, ◌==◌, Bool, IsTrue, List, replicate, slice_index}
+use Rattle.std.specs.Prelude.{slice_set}
 use Rattle.std.specs.Int.{bit_at}
 use Rattle.std.specs.Int.RustNames.{bit_or}
 
@@ -13,7 +14,8 @@ Has words n = IsTrue (has_number words n)
 
 -- the set with n in it too
 abbrev pub with_number : List ℕ → ℕ → List ℕ
-with_number words n = slice_set words (n / 64) (bit_or (slice_index words (n / 64)) (1 * 2 ^ (n % 64) % 2 ^ 64))
+with_number words n =
+    slice_set words (n / 64) (bit_or (slice_index words (n / 64)) (1 * 2 ^ (n % 64) % 2 ^ 64))
 
 -- the place of the pair of the split s and the worker w
 abbrev pub place_of_pair : ℕ → ℕ → ℕ

@@ -1,6 +1,8 @@
-ghost use Rattle.std.specs.Prelude.{◌≡◌, ℕ, ◌*◌, ◌<◌, ◌⊎◌, ◌↔◌, ◌≤◌, IfOk, IsTrue, length};
-ghost use Rattle.node_ids.specs.Sets.{Has, HasPair, has_number, with_number, with_pair, place_of_pair, no_pairs, no_splits, no_workers};
+ghost use Rattle.std.specs.Prelude.{◌≡◌, ℕ, ◌*◌, ◌<◌, ◌⊎◌, ◌↔◌, ◌≤◌, IfOk, IsTrue, false, length};
+ghost use Rattle.node_ids.specs.Sets.{Has, HasPair, has_number, with_number, with_pair, place_of_pair};
+ghost use Rattle.node_ids.specs.Sets.{no_pairs, no_splits, no_workers};
 ghost use Rattle.node_ids.specs.Members.{AreBelow};
+ghost use Rattle.std.specs.Int.{bit_at};
 
 use crate::numbers::{SplitNo, WorkerNo};
 use std::alloc::{AllocError, Global};
@@ -20,6 +22,21 @@ fn set_bit(words: &mut [u64], n: usize)
     ensures members { (k : ℕ) → Has words.new k ↔ ((k ≡ n) ⊎ Has words.old k) }
 {
     words[n / 64] |= 1 << (n % 64);
+}
+
+// Whether no bit of the word is set.
+fn is_zero(word: u64) -> bool
+    ensures none { IsTrue result → (k : ℕ) → k < 64 → bit_at word k ≡ 1 → ⊥ }
+    ensures some { (result ≡ false) → (k : ℕ) × (k < 64) × (bit_at word k ≡ 1) }
+{
+    word == 0
+}
+
+// The bits of the first word that the second does not have.
+fn word_without(word: u64, other: u64) -> u64
+    ensures { (k : ℕ) → k < 64 → (bit_at result k ≡ 1) ↔ ((bit_at word k ≡ 1) × (bit_at other k ≡ 1 → ⊥)) }
+{
+    word & !other
 }
 
 // Whether the set has no number from the size on.
@@ -75,6 +92,31 @@ impl WorkerSet {
         ensures members { (n : ℕ) → Has self.new n ↔ ((n ≡ worker) ⊎ Has self.old n) }
     {
         set_bit(&mut self.words, worker.index());
+    }
+
+    /// Whether the set has no member.
+    pub fn is_empty(&self) -> bool
+        ensures none { IsTrue result → (n : ℕ) → Has self.now n → ⊥ }
+        ensures some { (result ≡ false) → (n : ℕ) × Has self.now n }
+    {
+        is_zero(self.words[0])
+            & is_zero(self.words[1])
+            & is_zero(self.words[2])
+            & is_zero(self.words[3])
+    }
+
+    /// The members that the other set does not have.
+    pub fn without(&self, other: &WorkerSet) -> WorkerSet
+        ensures { (n : ℕ) → Has result n ↔ (Has self.now n × (Has other.now n → ⊥)) }
+    {
+        WorkerSet {
+            words: [
+                word_without(self.words[0], other.words[0]),
+                word_without(self.words[1], other.words[1]),
+                word_without(self.words[2], other.words[2]),
+                word_without(self.words[3], other.words[3]),
+            ],
+        }
     }
 
     /// Whether all members are below the size.
@@ -185,8 +227,26 @@ impl PairSet {
         requires split { split < 1024 }
         requires worker { worker < 256 }
         ensures value { self.new ≡ with_pair self.old split worker }
-        ensures members { (s w : ℕ) → w < 256 → HasPair self.new s w ↔ (((s ≡ split) × (w ≡ worker)) ⊎ HasPair self.old s w) }
+        ensures members { (s w : ℕ) → w < 256 →
+            HasPair self.new s w ↔ (((s ≡ split) × (w ≡ worker)) ⊎ HasPair self.old s w) }
     {
         set_bit(&mut self.words, split.index() * 256 + worker.index());
+    }
+
+    /// The workers whose pair with the split is in the set.
+    pub fn row(&self, split: SplitNo) -> WorkerSet
+        requires { split < 1024 }
+        ensures below { AreBelow 256 result }
+        ensures members { (w : ℕ) → w < 256 → Has result w ↔ HasPair self.now split w }
+    {
+        let first = 4 * split.index();
+        WorkerSet {
+            words: [
+                self.words[first],
+                self.words[first + 1],
+                self.words[first + 2],
+                self.words[first + 3],
+            ],
+        }
     }
 }

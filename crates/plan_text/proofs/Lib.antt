@@ -2,7 +2,6 @@ pub mod Named
 pub mod Words
 pub mod Numbers
 pub mod Parts
-pub mod PlanLines
 pub mod OneWave
 pub mod Tidy
 pub mod Read

@@ -20,7 +20,8 @@ use Rattle.plan_text.specs.Names.{names_in, names_of, word_at}
 
 -- ---- lists
 
-pub contains_map : {X Y : Type 0} (f : X → Y) (xs : List X) (x : X) → Contains xs x → Contains (map f xs) (f x)
+pub contains_map : {X Y : Type 0} (f : X → Y) (xs : List X) (x : X) → Contains xs x →
+    Contains (map f xs) (f x)
 contains_map f xs x (i, lt, is) = (i, rw length-map lt, get_or-map f xs i x (f x) lt ∙ ap f is)
 
 kept : {X : Type 0} (b : Bool) (y : X) (ys : List X) (x : X) → Contains ys x → Contains (cond b (y ∷ ys) ys) x
@@ -48,7 +49,8 @@ pub is_of-same : (k : Keyword) (s : Statement) → s.keyword ≡ k → is_of k s
 is_of-same k s same = (bytes_eq-Decides (text_of k) (text_of s.keyword)).1 (ap text_of (sym same))
 
 pub keyword_of : (k : Keyword) (s : Statement) → is_of k s ≡ true → s.keyword ≡ k
-keyword_of k s is = sym (text_of-injective k s.keyword ((bytes_eq-Decides (text_of k) (text_of s.keyword)).0 is))
+keyword_of k s is =
+    sym (text_of-injective k s.keyword ((bytes_eq-Decides (text_of k) (text_of s.keyword)).0 is))
 
 pub is_of-other : (k : Keyword) (s : Statement) → (s.keyword ≡ k → ⊥) → is_of k s ≡ false
 is_of-other k s other = by (is_of k s) refl

@@ -1,5 +1,6 @@
 -- Lists that are mapped twice, and the parts that the rows of a text without a fault make.
-use Rattle.std.proofs.Common.{ℕ, List, [], ◌∷◌, ◌++◌, ◌≡◌, ◌≢◌, ◌<◌, ◌≤◌, ◌+◌, ◌∙◌, Option, Some, None, IfSome}
+use Rattle.std.proofs.Common.{ℕ, List, [], ◌∷◌, ◌++◌, ◌≡◌, ◌≢◌, ◌<◌, ◌≤◌, ◌+◌, ◌∙◌, Option, Some, None}
+use Rattle.std.proofs.Common.{IfSome}
 use Rattle.std.proofs.Common.{Bor, length, take, map, subst, sym, ap, refl, arith}
 use Rattle.std.specs.List.{All, Contains, position, slice_index_or}
 use Rattle.std.specs.Option.{option_map}
@@ -29,7 +30,13 @@ no_text = record { ref_ptr = (0, 0); now = [] }
 
 -- a row to stand past the last
 abbrev pub no_row : Row
-no_row = record { keyword = Problem; first = no_text; second = no_text; rest = record { ref_ptr = (0, 0); now = [] } }
+no_row = record {
+  keyword = Problem;
+  first = no_text;
+  second = no_text;
+  rest =
+      record { ref_ptr = (0, 0); now = [] };
+}
 
 pub mapped_more : {X Y Z : Type 0} (g : Y → Z) (f : X → Y) (xs : List X) (i : ℕ) (d : X) → i < length xs
     → map g (map f (take (i + 1) xs)) ≡ map g (map f (take i xs)) ++ g (f (slice_index_or xs i d)) ∷ []
@@ -49,7 +56,8 @@ held_split n workers busy s size tidy = record {
   known = All-map (λ h. h < n) (number_in workers) (tail_of s)
       (λ i d lt. rw size (number_within workers _ (tidy.holders i d lt)));
   once = AllPairs-map (λ (a b : ℕ). a ≢ b) (number_in workers) (tail_of s)
-      (λ i j d lt inside. numbers_differ workers _ _ (tidy.holders i d (omega arith)) (tidy.holders j d inside)
+      (λ i j d lt inside. numbers_differ workers _ _ (tidy.holders i d (omega arith))
+      (tidy.holders j d inside)
       (tidy.holders_differ i j d lt inside));
 }
 
@@ -64,7 +72,8 @@ module _ (rows : List Statement) (tidy : AreTidy rows) where
         slots = All-map (λ worker. worker.free ≤ 16) (worker_line (names_of Dead rows)) (rows_of Worker rows)
             (λ i d lt. (tidy_workers rows tidy i d lt).slots.most);
         each_small = All-map IsSmall split (rows_of Split rows)
-            (λ i d lt. small_split (names_of Worker rows) (names_of Busy rows) _ (tidy_splits rows tidy i d lt));
+            (λ i d lt. small_split (names_of Worker rows) (names_of Busy rows) _
+            (tidy_splits rows tidy i d lt));
       }
 
   pub all_held : AreHeldWell (length (map (worker_line (names_of Dead rows)) (rows_of Worker rows)))
@@ -113,7 +122,8 @@ abbrev started : List Word → List Statement → Option ℕ → Option ℕ
 started workers lines place =
     option_map (number_in workers) (option_map (λ i. slice_index_or (map (word_at 1) lines) i []) place)
 
-start_within : (workers : List Word) (lines : List Statement) → All (IsTidyStart workers) lines → (name : Word)
+start_within : (workers : List Word) (lines : List Statement) → All (IsTidyStart workers) lines →
+    (name : Word)
     → IfSome (start_at workers lines name) (λ w. w < length workers)
 start_within workers lines tidy name = by (position (λ n. bytes_eq name n) (names_in lines)) refl
   where

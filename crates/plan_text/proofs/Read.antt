@@ -23,18 +23,22 @@ module _ (purpose : Purpose) (text : List ℕ) (k : Known) (read : IsAllRead pur
       subst (λ (ts : List Statement). AreFitLines (known_at purpose []) (take (length ts) (lines_of text)) ts)
       (reads-unique purpose text read.statements ss read.reads reads) read.fit
 
-pub reading_of : (text : List ℕ) (k : Known) (rows : List Statement) (v : PlanText) → IsAllRead Checking text k
+pub reading_of : (text : List ℕ) (k : Known) (rows : List Statement) (v : PlanText) →
+    IsAllRead Checking text k
     → rows ≡ k.rows → MakesPlan rows v → IsReadingOf text v
 reading_of text k rows v read same makes = record {
   statements = read.statements;
   reads = read.reads;
-  declares = subst (λ (r : List Statement). MakesPlan r v) (same ∙ ap (λ (j : Known). j.rows) read.known) makes;
+  declares = subst (λ (r : List Statement). MakesPlan r v) (same ∙ ap (λ (j : Known). j.rows) read.known)
+      makes;
 }
 
-pub problem_of : (text : List ℕ) (k : Known) (rows : List Statement) (v : ProblemText) → IsAllRead Planning text k
+pub problem_of : (text : List ℕ) (k : Known) (rows : List Statement) (v : ProblemText) →
+    IsAllRead Planning text k
     → rows ≡ k.rows → MakesProblem rows v → IsProblemOf text v
 problem_of text k rows v read same makes = record {
   statements = read.statements;
   reads = read.reads;
-  declares = subst (λ (r : List Statement). MakesProblem r v) (same ∙ ap (λ (j : Known). j.rows) read.known) makes;
+  declares = subst (λ (r : List Statement). MakesProblem r v) (same ∙ ap (λ (j : Known). j.rows) read.known)
+      makes;
 }

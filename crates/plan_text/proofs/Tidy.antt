@@ -1,6 +1,7 @@
 -- The rows of a text without a fault are tidy.
 use Rattle.std.proofs.Common.{ℕ, List, [], ◌∷◌, ◌++◌, ◌≡◌, ◌≢◌, ◌≤◌, ◌<◌, ◌+◌, ◌∙◌, Option, Some, None, Bool}
-use Rattle.std.proofs.Common.{true, false, inl, inr, ap, append-nil, arith, cond, get_or, length, length-append}
+use Rattle.std.proofs.Common.{true, false, inl, inr, ap, append-nil, arith, cond, get_or, length}
+use Rattle.std.proofs.Common.{length-append}
 use Rattle.std.proofs.Common.{refl, subst, sym, take}
 use Rattle.std.specs.List.{All, AllPairs, Contains}
 use Rattle.std.proofs.lemmas.List.{map-append}
@@ -48,7 +49,8 @@ module _ (rows more : List Statement) where
   declared-more Priced n (inl h) = inl (has_row-more _ n h)
   declared-more Priced n (inr h) = inr (has_row-more _ n h)
 
-  keeps-more : (place : Option Place) (w : Word) → IsDeclaredIn rows place w → IsDeclaredIn (rows ++ more) place w
+  keeps-more : (place : Option Place) (w : Word) → IsDeclaredIn rows place w →
+      IsDeclaredIn (rows ++ more) place w
   keeps-more None w h = tt
   keeps-more (Some New) w h = tt
   keeps-more (Some (Used kind)) w h = declared-more kind w h
@@ -58,7 +60,7 @@ module _ (rows more : List Statement) where
   pub keep-more : (s : Statement) → Keep rule.Declared rows s → Keep rule.Declared (rows ++ more) s
   keep-more s h i lt = keeps-more (place_at s.keyword i) (get_or s.words i []) (h i lt)
 
-  tidy-more : (s : Statement) → IsTidyRow rows s → IsTidyRow (rows ++ more) s
+  pub tidy-more : (s : Statement) → IsTidyRow rows s → IsTidyRow (rows ++ more) s
   tidy-more s h = record {
     whole = h.whole;
     named = h.named;
@@ -107,31 +109,39 @@ few-more purpose k rows s few room = by (is_of k s) refl
     by false is =
         few-none (most_of purpose k) (count k rows) _ few (count-more k rows s false is ∙ omega arith)
 
-fresh : (rows : List Statement) (s : Statement) → IsFirst rows s → (i : ℕ) (d : Key) → i < length (keys_of rows)
+fresh : (rows : List Statement) (s : Statement) → IsFirst rows s → (i : ℕ) (d : Key) →
+    i < length (keys_of rows)
     → get_or (keys_of rows) i d ≢ key_of s
-fresh rows s first i d lt same = first (subst (Contains (keys_of rows)) same (Contains-get_or (keys_of rows) i d lt))
+fresh rows s first i d lt same =
+    first (subst (Contains (keys_of rows)) same (Contains-get_or (keys_of rows) i d lt))
+
+-- a line without a fault is as tidy as a row is
+pub tidy_of : (k : Known) (s : Statement) → length (places_of s.keyword) ≤ length s.words → IsFit k s
+    → IsTidyRow k.rows s
+tidy_of k s whole fit = record {
+  whole = whole;
+  named = fit.named;
+  known = fit.known;
+  in_range = fit.in_range;
+  few = fit.within_limit.few;
+  tail_apart = fit.tail_apart;
+}
 
 -- a line that is entered leaves the rows tidy
 tidy-row : (k : Known) (s : Statement) → length (places_of s.keyword) ≤ length s.words → IsFit k s
-    → HasRoom (most_of k.purpose s.keyword) (count s.keyword k.rows) → IsFirst k.rows s → AreKept k.purpose k.rows
+    → HasRoom (most_of k.purpose s.keyword) (count s.keyword k.rows) → IsFirst k.rows s →
+    AreKept k.purpose k.rows
     → AreKept k.purpose (k.rows ++ s ∷ [])
 tidy-row k s whole fit room first kept =
     let rows = k.rows in
-    let new : IsTidyRow rows s = record {
-      whole = whole;
-      named = fit.named;
-      known = fit.known;
-      in_range = fit.in_range;
-      few = fit.within_limit.few;
-      tail_apart = fit.tail_apart;
-    } in
     let P = IsTidyRow (rows ++ s ∷ []) in
     record {
       few = λ j. few-more k.purpose j rows s (kept.few j) room;
       differ = subst (AllPairs (λ a b. a ≢ b)) (sym (map-append key_of rows (s ∷ [])))
           (all_pairs_push (λ a b. a ≢ b) (keys_of rows) (key_of s) kept.differ (fresh rows s first));
-      each = All-append P rows (s ∷ []) (All-weaker (IsTidyRow rows) P (tidy-more rows (s ∷ [])) rows kept.each)
-          (All-cons P s [] (tidy-more rows (s ∷ []) s new) (All-nil P));
+      each = All-append P rows (s ∷ [])
+          (All-weaker (IsTidyRow rows) P (tidy-more rows (s ∷ [])) rows kept.each)
+          (All-cons P s [] (tidy-more rows (s ∷ []) s (tidy_of k s whole fit)) (All-nil P));
     }
 
 tidy-entered : (k : Known) (s : Statement) → length (places_of s.keyword) ≤ length s.words → IsFit k s
@@ -165,7 +175,8 @@ tidy-none purpose = record {
     by None = tt
     by (Some most) = omega arith
 
-pub kept-after : (k : Known) (ls : List Line) (ss : List Statement) → AreFitLines k ls ss → AreKept k.purpose k.rows
+pub kept-after : (k : Known) (ls : List Line) (ss : List Statement) → AreFitLines k ls ss →
+    AreKept k.purpose k.rows
     → AreKept k.purpose (names_after k ss).rows
 kept-after k [] [] fits kept = kept
 kept-after k [] (s ∷ ss) fits kept = absurd fits
@@ -191,7 +202,8 @@ tidy purpose rows kept =
       each = kept.each;
     }
 
-pub tidy-rows : (purpose : Purpose) (ls : List Line) (ss : List Statement) → AreFitLines (known_at purpose []) ls ss
+pub tidy-rows : (purpose : Purpose) (ls : List Line) (ss : List Statement) →
+    AreFitLines (known_at purpose []) ls ss
     → AreTidy (rows_in ss)
 tidy-rows purpose ls ss fits =
     tidy purpose (rows_in ss) (subst (λ (k : Known). AreKept purpose k.rows) (known_after purpose ss)

@@ -84,7 +84,8 @@ module _ (rows : List Statement) (tidy : AreTidy rows) where
   tidy_splits = each_of_keyword Split (IsTidySplit (names_of Worker rows)) rows tidy (tidy_split rows)
 
   pub tidy_bars : All (IsTidyBar (names_of Split rows) (names_of Worker rows)) (rows_of Barred rows)
-  tidy_bars = each_of_keyword Barred (IsTidyBar (names_of Split rows) (names_of Worker rows)) rows tidy (tidy_bar rows)
+  tidy_bars = each_of_keyword Barred (IsTidyBar (names_of Split rows) (names_of Worker rows)) rows tidy
+      (tidy_bar rows)
 
   pub tidy_starts : All (IsTidyStart (names_of Worker rows)) (rows_of Start rows)
   tidy_starts = each_of_keyword Start (IsTidyStart (names_of Worker rows)) rows tidy (tidy_start rows)

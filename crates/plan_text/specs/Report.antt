@@ -1,10 +1,13 @@
 -- The lines that are written.
-use Rattle.std.specs.Prelude.{ℕ, List, [], ◌∷◌, ◌++◌, Option, Some, None, codes, length, slice_index, slice_index_or}
+use Rattle.std.specs.Prelude.{ℕ, List, [], ◌∷◌, ◌++◌, Option, Some, None, codes, length, slice_index}
+use Rattle.std.specs.Prelude.{slice_index_or}
 use Rattle.wave_problem.specs.Assignment.{start_of}
 use Rattle.std.specs.Fmt.{decimal}
 use Rattle.std.specs.List.{flat_map, range_with_len}
 use Rattle.price_certificate.specs.declared.Condition.{Condition}
-use Rattle.price_certificate.specs.declared.Condition.TheVariants.{Open, Allowed, Room, SplitPrice, WorkerPrice, Priced, Tight, Unstarted, Spare}
+use Rattle.price_certificate.specs.declared.Condition.TheVariants.{Open, Allowed, Room, SplitPrice}
+use Rattle.price_certificate.specs.declared.Condition.TheVariants.{WorkerPrice, Priced, Tight, Unstarted}
+use Rattle.price_certificate.specs.declared.Condition.TheVariants.{Spare}
 use Rattle.price_certificate.specs.PriceList.{PriceList}
 use Rattle.text_lines.specs.Texts.{Word}
 
@@ -59,12 +62,15 @@ start_lines splits workers starts =
 
 -- a line for each name, by number
 abbrev pub price_lines_of : List Word → List ℕ → List ℕ
-price_lines_of names amounts = flat_map (λ n. price_line (name_of names n) (slice_index amounts n)) (numbers_of names)
+price_lines_of names amounts = flat_map (λ n. price_line (name_of names n) (slice_index amounts n))
+    (numbers_of names)
 
 -- the prices of all splits, then of all workers
 abbrev pub price_lines : List Word → List Word → PriceList → List ℕ
-price_lines splits workers prices = price_lines_of splits prices.splits ++ price_lines_of workers prices.workers
+price_lines splits workers prices =
+    price_lines_of splits prices.splits ++ price_lines_of workers prices.workers
 
 -- the starts and prices of a plan
 abbrev pub lines_of_plan : List Word → List Word → List (Option ℕ) → PriceList → List ℕ
-lines_of_plan splits workers starts prices = start_lines splits workers starts ++ price_lines splits workers prices
+lines_of_plan splits workers starts prices =
+    start_lines splits workers starts ++ price_lines splits workers prices

@@ -26,7 +26,8 @@ stands_in names name = list_any (bytes_eq name) names
 
 -- what stands beside the first of these names that is the name
 abbrev pub beside : {X : Type 0} → X → List Word → List X → Word → Option X
-beside d names values name = option_map (λ i. slice_index_or values i d) (position (λ n. bytes_eq name n) names)
+beside d names values name =
+    option_map (λ i. slice_index_or values i d) (position (λ n. bytes_eq name n) names)
 
 -- ---- a line of each kind
 
@@ -53,7 +54,8 @@ IsBarred splits workers barred s w = (line : Statement) × Contains barred line
 
 -- `start SPLIT WORKER`: the worker that the split starts on, if one of these lines says so
 abbrev pub start_at : List Word → List Statement → Word → Option ℕ
-start_at workers lines name = option_map (number_in workers) (beside [] (names_in lines) (map (word_at 1) lines) name)
+start_at workers lines name =
+    option_map (number_in workers) (beside [] (names_in lines) (map (word_at 1) lines) name)
 
 -- `price NAME AMOUNT`: the price of a split or a worker, 0 where none of these lines says it
 abbrev pub price_at : List Statement → Word → ℕ
@@ -79,7 +81,8 @@ pub record MakesWave (rows : List Statement) (wave : Wave) : Type 0 where
   pub workers : wave.workers ≡ map (worker_line (names_of Dead rows)) (rows_of Worker rows)
   pub splits : wave.splits ≡ map (split_line (names_of Worker rows) (names_of Busy rows)) (rows_of Split rows)
   pub barred : (s w : ℕ) → w < 256
-      → HasPair wave.barred s w ↔ IsBarred (names_of Split rows) (names_of Worker rows) (rows_of Barred rows) s w
+      → HasPair wave.barred s w ↔ IsBarred (names_of Split rows) (names_of Worker rows)
+      (rows_of Barred rows) s w
 
 abbrev pub starts_in : List Statement → List (Option ℕ)
 starts_in rows = map (start_at (names_of Worker rows) (rows_of Start rows)) (names_of Split rows)

@@ -3,16 +3,21 @@ ghost use Rattle.std.specs.Prelude.{All, Contains, IfOk, OnOk, slice_index_or};
 ghost use Rattle.node_ids.specs.Sets.{HasPair};
 ghost use Rattle.rack_tree.specs.declared.TheConstants.{MAX_CENTRES, MAX_RACKS, MAX_WORKERS};
 ghost use Rattle.wave_problem.specs.declared.TheConstants.{MAX_SLOTS, MAX_SPLITS};
+ghost use Rattle.wave_problem.specs.Wave.{AreHeldWell, AreSmall, wave_from};
 ghost use Rattle.price_certificate.specs.Certificate.{HasOneSize, claim};
 ghost use Rattle.text_lines.specs.Texts.{Word};
-ghost use Rattle.line_shapes.specs.declared.keyword.Keyword.TheVariants.{Barred, Busy, Centre, Rack, Split, Worker};
+ghost use Rattle.line_shapes.specs.declared.keyword.Keyword.TheVariants.{Barred, Busy, Centre, Dead, Rack};
+ghost use Rattle.line_shapes.specs.declared.keyword.Keyword.TheVariants.{Split, Worker};
+ghost use Rattle.line_rules.specs.Entering.{entering_of as entering};
 ghost use Rattle.line_rules.specs.Known.{rows_of as lines_of};
+ghost use Rattle.line_rules.specs.declared.entering.Entering.TheVariants.{Word as ByWord};
 ghost use Rattle.plan_text.specs.Names.{names_in, names_of as said_names, said_in, word_at};
 ghost use Rattle.plan_text.specs.Reading.{MakesPlan, MakesProblem};
 ghost use Rattle.plan_text.specs.Tidy.{AreTidy, IsAtMost, IsTidyBar, IsTidyPrice, IsTidySplit, IsTidyStart};
 ghost use Rattle.plan_text.specs.Tidy.{IsTidyWorker};
 ghost use Rattle.plan_text.specs.Value.{IsBarred, MakesWave, number_in, price_at, prices_in, split_line};
-ghost use Rattle.plan_text.specs.Value.{centre_number, rack_number, start_at, starts_in, tree_of, worker_line};
+ghost use Rattle.plan_text.specs.Value.{centre_number, rack_number, start_at, starts_in, tree_of};
+ghost use Rattle.plan_text.specs.Value.{worker_line};
 
 use crate::row_lists::{holders, names_of, number, rows_of, word};
 use line_rules::{Row, Rows};
@@ -48,17 +53,53 @@ pub fn build_plan_text<'t>(alloc: Global, rows: &Rows<'t>) -> Result<PlanText<'t
     ensures value { IfOk result (MakesPlan rows.now) }
     ensures sized { IfOk result (λ v. HasOneSize (claim v.problem v.plan.starts v.prices) v.plan.workers) }
 {
-    let splits = names_of(alloc, rows, Keyword::Split)?;
-    let workers = names_of(alloc, rows, Keyword::Worker)?;
-    let problem = build_problem(alloc, rows, &splits, &workers)?;
-    let plan = build_plan(alloc, rows, &splits, &workers)?;
-    let prices = build_prices(alloc, rows, &splits, &workers)?;
+    let read = build_problem_text(alloc, rows)?;
+    add_plan(alloc, rows, read)
+}
+
+// How a problem is solved.
+#[derive(Drop)]
+struct Solution {
+    plan: Plan,
+    prices: Prices,
+}
+
+fn build_solution(
+    alloc: Global,
+    rows: &Rows<'_>,
+    splits: &NameTable<'_>,
+    workers: &NameTable<'_>,
+) -> Result<Solution, AllocError>
+    requires tidy { AreTidy rows.now }
+    requires splits { splits.now ≡ said_names Split rows.now }
+    requires workers { workers.now ≡ said_names Worker rows.now }
+    ensures starts { IfOk result (λ solution. solution.plan.starts ≡ starts_in rows.now) }
+    ensures workers { IfOk result (λ solution. solution.plan.workers ≡ length workers.now) }
+    ensures prices { IfOk result (λ solution. solution.prices ≡ prices_in rows.now) }
+{
+    let plan = build_plan(alloc, rows, splits, workers)?;
+    let prices = build_prices(alloc, rows, splits, workers)?;
+    Ok(Solution { plan, prices })
+}
+
+// A problem with the plan and the prices beside it.
+fn add_plan<'t>(
+    alloc: Global,
+    rows: &Rows<'_>,
+    read: ProblemText<'t>,
+) -> Result<PlanText<'t>, AllocError>
+    requires tidy { AreTidy rows.now }
+    requires made { MakesProblem rows.now read }
+    ensures value { IfOk result (MakesPlan rows.now) }
+    ensures sized { IfOk result (λ v. HasOneSize (claim v.problem v.plan.starts v.prices) v.plan.workers) }
+{
+    let solution = build_solution(alloc, rows, &read.splits, &read.workers)?;
     Ok(PlanText {
-        problem,
-        plan,
-        prices,
-        splits,
-        workers,
+        problem: read.problem,
+        plan: solution.plan,
+        prices: solution.prices,
+        splits: read.splits,
+        workers: read.workers,
     })
 }
 
@@ -69,14 +110,30 @@ pub fn build_problem_text<'t>(alloc: Global, rows: &Rows<'t>) -> Result<ProblemT
     ensures splits { IfOk result (λ v. length v.splits ≡ length v.problem.splits) }
     ensures workers { IfOk result (λ v. length v.workers ≡ length v.problem.workers) }
 {
-    let splits = names_of(alloc, rows, Keyword::Split)?;
-    let workers = names_of(alloc, rows, Keyword::Worker)?;
-    let problem = build_problem(alloc, rows, &splits, &workers)?;
+    let names = names_of_plan(alloc, rows)?;
+    let problem = build_problem(alloc, rows, &names.splits, &names.workers)?;
     Ok(ProblemText {
         problem,
-        splits,
-        workers,
+        splits: names.splits,
+        workers: names.workers,
     })
+}
+
+// The names of splits and workers, by number.
+#[derive(Drop)]
+struct PlanNames<'t> {
+    splits: NameTable<'t>,
+    workers: NameTable<'t>,
+}
+
+fn names_of_plan<'t>(alloc: Global, rows: &Rows<'t>) -> Result<PlanNames<'t>, AllocError>
+    requires { AreTidy rows.now }
+    ensures splits { IfOk result (λ names. names.splits ≡ said_names Split rows.now) }
+    ensures workers { IfOk result (λ names. names.workers ≡ said_names Worker rows.now) }
+{
+    let splits = names_of(alloc, rows, Keyword::Split)?;
+    let workers = names_of(alloc, rows, Keyword::Worker)?;
+    Ok(PlanNames { splits, workers })
 }
 
 fn build_problem(
@@ -92,11 +149,58 @@ fn build_problem(
 {
     let barred = build_barred(alloc, rows, splits, workers)?;
     let split_lines = build_split_lines(alloc, rows, workers)?;
+    let stood = build_standing(alloc, rows)?;
+    new_problem(alloc, stood.tree, stood.workers, split_lines, barred)
+}
+
+// The lines of the workers, and the racks in which they stand.
+#[derive(Drop)]
+struct Standing {
+    tree: RackTree,
+    workers: Vec<WorkerLine>,
+}
+
+fn build_standing(alloc: Global, rows: &Rows<'_>) -> Result<Standing, AllocError>
+    requires { AreTidy rows.now }
+    ensures tree { IfOk result (λ stood. stood.tree ≡ tree_of (said_names Centre rows.now)
+        (lines_of Rack rows.now) (lines_of Worker rows.now)) }
+    ensures workers { IfOk result (λ stood. stood.workers.items
+        ≡ map (worker_line (said_names Dead rows.now)) (lines_of Worker rows.now)) }
+{
     let worker_rows = rows_of(alloc, rows, Keyword::Worker)?;
-    let dead = names_of(alloc, rows, Keyword::Dead)?;
-    let worker_lines = build_workers(alloc, &dead, &worker_rows)?;
+    let workers = worker_lines(alloc, rows, &worker_rows)?;
     let tree = build_tree(alloc, rows, &worker_rows)?;
-    match Problem::new(alloc, tree, worker_lines, split_lines, barred) {
+    Ok(Standing { tree, workers })
+}
+
+fn worker_lines(
+    alloc: Global,
+    rows: &Rows<'_>,
+    worker_rows: &[Row<'_, '_>],
+) -> Result<Vec<WorkerLine>, AllocError>
+    requires tidy { AreTidy rows.now }
+    requires workers { map said_in worker_rows.now ≡ lines_of Worker rows.now }
+    ensures { IfOk result (λ workers. workers.items
+        ≡ map (worker_line (said_names Dead rows.now)) (lines_of Worker rows.now)) }
+{
+    let dead = names_of(alloc, rows, Keyword::Dead)?;
+    build_workers(alloc, &dead, worker_rows)
+}
+
+// The problem of parts that keep to the limits and whose holders are known.
+fn new_problem(
+    alloc: Global,
+    tree: RackTree,
+    workers: Vec<WorkerLine>,
+    splits: Vec<SplitLine>,
+    barred: PairSet,
+) -> Result<Problem, AllocError>
+    requires lines { length workers.items ≡ length tree.rack_of }
+    requires small { AreSmall workers.items splits.items }
+    requires held { AreHeldWell (length workers.items) splits.items }
+    ensures { IfOk result (λ p. p ≡ wave_from tree workers.items splits.items barred) }
+{
+    match Problem::new(alloc, tree, workers, splits, barred) {
         Ok(problem) => Ok(problem),
         Err(ProblemError::Memory) => Err(AllocError),
         Err(ProblemError::Limit) => unreachable!(),
@@ -113,7 +217,8 @@ pub fn build_split_lines(
     requires tidy { AreTidy rows.now }
     requires workers { workers.now ≡ said_names Worker rows.now }
     ensures { IfOk result (λ lines. lines.items
-        ≡ map (split_line (said_names Worker rows.now) (said_names Busy rows.now)) (lines_of Split rows.now)) }
+        ≡ map (split_line (said_names Worker rows.now) (said_names Busy rows.now))
+        (lines_of Split rows.now)) }
 {
     let busy = names_of(alloc, rows, Keyword::Busy)?;
     let split_rows = rows_of(alloc, rows, Keyword::Split)?;
@@ -132,10 +237,31 @@ fn build_plan(
     ensures starts { IfOk result (λ plan. plan.starts ≡ starts_in rows.now) }
     ensures workers { IfOk result (λ plan. plan.workers ≡ length workers.now) }
 {
-    let started = names_of(alloc, rows, Keyword::Start)?;
-    let start_rows = rows_of(alloc, rows, Keyword::Start)?;
-    let starts = build_starts(alloc, splits, workers, &started, &start_rows)?;
+    let started = named_rows(alloc, rows, Keyword::Start)?;
+    let starts = build_starts(alloc, splits, workers, &started.names, &started.rows)?;
     Ok(Plan::from_starts(starts, workers.len()))
+}
+
+// The rows of a keyword, and the names that they are about, by the rows' numbers.
+#[derive(Drop)]
+struct NamedRows<'r, 't> {
+    names: NameTable<'t>,
+    rows: Vec<Row<'r, 't>>,
+}
+
+fn named_rows<'r, 't>(
+    alloc: Global,
+    rows: &'r Rows<'t>,
+    keyword: Keyword,
+) -> Result<NamedRows<'r, 't>, AllocError>
+    requires tidy { AreTidy rows.now }
+    requires by_word { entering keyword ≡ ByWord }
+    ensures rows { IfOk result (λ named. map said_in named.rows.items ≡ lines_of keyword rows.now) }
+    ensures names { IfOk result (λ named. named.names ≡ said_names keyword rows.now) }
+{
+    let names = names_of(alloc, rows, keyword)?;
+    let rows = rows_of(alloc, rows, keyword)?;
+    Ok(NamedRows { names, rows })
 }
 
 fn build_prices(
@@ -149,10 +275,9 @@ fn build_prices(
     requires workers { workers.now ≡ said_names Worker rows.now }
     ensures { IfOk result (λ prices. prices ≡ prices_in rows.now) }
 {
-    let priced = names_of(alloc, rows, Keyword::Price)?;
-    let price_rows = rows_of(alloc, rows, Keyword::Price)?;
-    let split_prices = prices_of(alloc, splits, &priced, &price_rows)?;
-    let worker_prices = prices_of(alloc, workers, &priced, &price_rows)?;
+    let priced = named_rows(alloc, rows, Keyword::Price)?;
+    let split_prices = prices_of(alloc, splits, &priced.names, &priced.rows)?;
+    let worker_prices = prices_of(alloc, workers, &priced.names, &priced.rows)?;
     Ok(Prices::from_lists(split_prices, worker_prices))
 }
 
@@ -195,12 +320,20 @@ pub fn build_tree(
     ensures { IfOk result (λ tree. tree ≡ tree_of (said_names Centre rows.now) (lines_of Rack rows.now)
         (lines_of Worker rows.now)) }
 {
-    let centres = names_of(alloc, rows, Keyword::Centre)?;
-    let rack_rows = rows_of(alloc, rows, Keyword::Rack)?;
+    let mut tree = build_racks(alloc, rows)?;
     let racks = names_of(alloc, rows, Keyword::Rack)?;
-    let mut tree = tree_with_racks(alloc, &centres, &rack_rows);
     add_workers(&mut tree, &racks, worker_rows)?;
     Ok(tree)
+}
+
+// The racks, without workers.
+fn build_racks(alloc: Global, rows: &Rows<'_>) -> Result<RackTree, AllocError>
+    requires { AreTidy rows.now }
+    ensures { IfOk result (λ tree. tree ≡ tree_of (said_names Centre rows.now) (lines_of Rack rows.now) []) }
+{
+    let centres = names_of(alloc, rows, Keyword::Centre)?;
+    let rack_rows = rows_of(alloc, rows, Keyword::Rack)?;
+    Ok(tree_with_racks(alloc, &centres, &rack_rows))
 }
 
 fn add_workers(

@@ -1,7 +1,8 @@
 ghost use Rattle.std.specs.Prelude.{◌≡◌, ◌≤◌, ◌<◌, ◌++◌, IfOk, OnOk, length, string_bytes};
 ghost use Rattle.wave_problem.specs.declared.TheConstants.{MAX_SPLITS};
 ghost use Rattle.rack_tree.specs.declared.TheConstants.{MAX_WORKERS};
-ghost use Rattle.plan_text.specs.Report.{price_line, price_lines, price_lines_of, start_line, start_lines, wave_line};
+ghost use Rattle.plan_text.specs.Report.{price_line, price_lines, price_lines_of, start_line, start_lines};
+ghost use Rattle.plan_text.specs.Report.{wave_line};
 
 use crate::built::name_at;
 use node_ids::{SplitNo, WorkerNo};

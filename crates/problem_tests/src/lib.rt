@@ -1,5 +1,5 @@
-//! Tests of what `node_ids`, `rack_tree`, `wave_problem`, `price_certificate` and `certificate_checker` offer,
-//! called as any caller calls them.
+//! Tests of what `node_ids`, `rack_tree`, `wave_problem`, `price_certificate` and `certificate_checker`
+//! offer, called as any caller calls them.
 //!
 //! They show what no clause says: worked values from outside, and that each call succeeds where there is
 //! memory. They stand in a crate of their own so that none of these crates is proved twice.

@@ -5,7 +5,8 @@ use rack_tree::RackTree;
 use std::process::Abort;
 use std::test::Fail;
 use wave_problem::{
-    MAX_BYTES, Problem, SplitLine, WorkerLine, are_held_well, are_small_splits, may_start,
+    MAX_BYTES, Problem, SplitLine, WorkerLine, are_held_well, are_small_splits, free_workers,
+    may_start,
 };
 
 #[test]
@@ -34,7 +35,13 @@ fn first_may_start(
     assert!(rt; workers.len() <= 256 && splits.len() == 1);
     assert!(rt; are_held_well(workers.len(), splits));
     let line = splits[0].lent();
-    may_start(workers, barred, SplitNo::new(0), &line)
+    may_start(
+        workers,
+        &free_workers(workers),
+        barred,
+        SplitNo::new(0),
+        &line,
+    )
 }
 
 #[test]

@@ -1,12 +1,15 @@
--- How many arcs there are at most: holders that are passed, workers of racks, racks of centres; and a centre's
+-- How many arcs there are at most: holders that are passed, workers of racks, racks of centres; and a
+-- centre's
 -- slots.
-use Rattle.std.proofs.Common.{◌≡◌, ℕ, zero, suc, ◌+◌, ◌<◌, ◌≤◌, Bool, true, false, cond, eqb, List, [], ◌∷◌, length, get_or, refl, ap, ◌∙◌, inl, inr, arith}
+use Rattle.std.proofs.Common.{◌≡◌, ℕ, zero, suc, ◌+◌, ◌<◌, ◌≤◌, Bool, true, false, cond, eqb, List, [], ◌∷◌}
+use Rattle.std.proofs.Common.{length, get_or, refl, ap, ◌∙◌, inl, inr, arith}
 use Rattle.std.proofs.lemmas.Bool.{cases_lt, cases_eq, lt-ltb, le-ltb, eq-eqb}
 use Rattle.wave_problem.specs.Sums.{sum_below}
 use Rattle.wave_problem.specs.Wave.{Wave}
 use Rattle.wave_problem.proofs.Grouping.{sum_below-add, sum_below-one, sum_below-same, sum_below-zero}
 use Rattle.network_prices.proofs.Sums.{part_more}
-use Rattle.rack_network.specs.Racks.{node_above, rack_of, centre_of, slots_of, slots_below, slots_within, IsTree}
+use Rattle.rack_network.specs.Racks.{node_above, rack_of, centre_of, slots_of, slots_below, slots_within}
+use Rattle.rack_network.specs.Racks.{IsTree}
 use Rattle.rack_network.specs.Build.{passed, in_places, in_place}
 
 pub passed-le : (wave : Wave) (level place : ℕ) (holders : List ℕ)

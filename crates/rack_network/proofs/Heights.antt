@@ -1,11 +1,13 @@
 -- Where the nodes of a level stand, and which of them are on a way up.
-use Rattle.std.proofs.Common.{◌≡◌, ℕ, zero, suc, ◌*◌, ◌<◌, ◌≤◌, Bool, cond, [], ◌∷◌, length, refl, sym, subst, inl, inr, arith}
+use Rattle.std.proofs.Common.{◌≡◌, ℕ, zero, suc, ◌*◌, ◌<◌, ◌≤◌, Bool, cond, [], ◌∷◌, length, refl, sym, subst}
+use Rattle.std.proofs.Common.{inl, inr, arith}
 use Rattle.std.proofs.lemmas.Bool.{cases_lt, cases_eq, lt-ltb, le-ltb}
 use Rattle.rack_tree.specs.Tree.{distance}
 use Rattle.wave_problem.specs.Wave.{Wave}
 use Rattle.network_prices.specs.Ways.{IsAmong}
 use Rattle.network_prices.specs.Networks.{way_of}
-use Rattle.rack_network.specs.Racks.{cluster_node, unstarted_node, rack_of, node_above, level_count, above_centres, rack_nodes, IsTree}
+use Rattle.rack_network.specs.Racks.{cluster_node, unstarted_node, rack_of, node_above, level_count}
+use Rattle.rack_network.specs.Racks.{above_centres, rack_nodes, IsTree}
 use Rattle.rack_network.specs.Build.{level_start, level_end}
 use Rattle.rack_network.specs.Places.{several, one_cluster, clusters-le}
 use Rattle.rack_network.proofs.Levels.{Meet, distance_is}

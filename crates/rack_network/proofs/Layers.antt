@@ -7,8 +7,10 @@ use Rattle.wave_problem.proofs.Bound.{live_known}
 use Rattle.network_prices.specs.Layers.{HandsOn, IsWorkerNode, IsLayered}
 use Rattle.network_prices.proofs.Tables.{rising_ends}
 use Rattle.rack_network.specs.declared.arcs.RackArc.{RackArc}
-use Rattle.rack_network.specs.declared.arcs.RackArc.TheVariants.{Pair, Reach, Wait, Trunk, Branch, Feed, Slot, Rest}
-use Rattle.rack_network.specs.Racks.{first_worker, unstarted_node, sink_node, rack_of, node_above, level_count, arc_of, IsWanted, IsRackNetwork}
+use Rattle.rack_network.specs.declared.arcs.RackArc.TheVariants.{Pair, Reach, Wait, Trunk, Branch, Feed, Slot}
+use Rattle.rack_network.specs.declared.arcs.RackArc.TheVariants.{Rest}
+use Rattle.rack_network.specs.Racks.{first_worker, unstarted_node, sink_node, rack_of, node_above}
+use Rattle.rack_network.specs.Racks.{level_count, arc_of, IsWanted, IsRackNetwork}
 use Rattle.rack_network.proofs.Levels.{holder_live}
 use Rattle.rack_network.proofs.Heights.{four_levels}
 use Rattle.rack_network.proofs.RackWays.{is_onward, reach_in, wave_network}

@@ -1,5 +1,7 @@
 -- What a start costs, by the level at which its worker meets a live holder.
-use Rattle.std.proofs.Common.{◌≡◌, ℕ, zero, suc, ◌*◌, ◌<◌, ◌≤◌, Bool, true, false, min, List, [], ◌∷◌, length, get_or, map, filter, fold, Option, Some, refl, sym, ap, ◌∙◌, inl, inr, ◌⊎◌, arith, unwrap_or}
+use Rattle.std.proofs.Common.{◌≡◌, ℕ, zero, suc, ◌*◌, ◌<◌, ◌≤◌, Bool, true, false, min, List, [], ◌∷◌, length}
+use Rattle.std.proofs.Common.{get_or, map, filter, fold, Option, Some, refl, sym, ap, ◌∙◌, inl, inr, ◌⊎◌}
+use Rattle.std.proofs.Common.{arith, unwrap_or}
 use Rattle.std.specs.Prelude.{◌==◌}
 use Rattle.std.specs.Option.{option_map}
 use Rattle.std.proofs.lemmas.Bool.{cases_Bool, cases_eq, cases_lt, eq-eqb, ne_eqb}
@@ -138,7 +140,8 @@ module _ (tree : Tree) (h w : ℕ) where
       omega (arith, distance_by tree h w, within_cluster (h == w) same_rack same_centre)
   distance-le (suc (suc (suc (suc level)))) l m = absurd (omega arith)
 
-  -- they are as far apart as twice the least level at which they meet, which is the cluster's where their centres
+  -- they are as far apart as twice the least level at which they meet, which is the cluster's where their
+  -- centres
   -- differ
   pub distance_is : (level : ℕ) × (level < 4) × Meet tree level h w × (distance tree h w ≡ 2 * level)
       × (2 < level → centre_at tree h ≡ centre_at tree w → ⊥)

@@ -1,12 +1,18 @@
 -- The next of the nodes above holders, holder by holder.
-use Rattle.std.proofs.Common.{◌≡◌, ℕ, ◌+◌, ◌<◌, ◌≤◌, true, List, length, get_or, Option, Some, None, refl, sym, ap, ◌∙◌, subst, ◌⊎◌, inl, inr, arith}
+use Rattle.std.proofs.Common.{◌≡◌, ℕ, ◌+◌, ◌<◌, ◌≤◌, true, List, length, get_or, Option, Some, None, refl}
+use Rattle.std.proofs.Common.{sym, ap, ◌∙◌, subst, ◌⊎◌, inl, inr, arith}
 use Rattle.std.proofs.lemmas.Bool.{cases_Bool, cases_lt, cases_eq, false≢true}
 use Rattle.wave_problem.specs.Wave.{Wave, split_at, worker_at, worker_in, live_holders}
 use Rattle.network_prices.specs.Ways.{IsAmong}
 use Rattle.rack_network.specs.Racks.{node_above, level_count, HasBars, IsReach}
-use Rattle.rack_network.specs.Build.{passed, IsNearer, IsNext, IsReached}
+use Rattle.rack_network.specs.Build.{passed, ArePlaces, IsNearer, IsNext, IsReached}
 use Rattle.rack_network.proofs.Counts.{passed-more}
 use Rattle.rack_network.proofs.Levels.{among_kept, holder_live, holder_place}
+
+-- the place of the node above the holder that is the next so far; past all nodes where there is none
+abbrev pub IsLeast : Wave → ℕ → Option ℕ → ℕ → Type 0
+IsLeast wave level None least = least ≡ 4096
+IsLeast wave level (Some h) least = (least ≡ node_above wave level h) × (least < 4096)
 
 module _ (wave : Wave) (holders : List ℕ) (level place n : ℕ) where
   pub next_found : (h : ℕ) (next : Option ℕ) → get_or holders n 0 ≡ h → IsReached wave level h
@@ -71,25 +77,6 @@ module _ (wave : Wave) (holders : List ℕ) (level place n : ℕ) where
     ];
   }
 
-  nearer_or_not : (h : ℕ) (next : Option ℕ) → IsNearer wave level place h next
-      ⊎ (IsNearer wave level place h next → ⊥)
-  nearer_or_not h next = elim (cases_lt (node_above wave level h) place) [
-    | inl l ↦ inr (λ nearer. let low = nearer.0 in omega arith)
-    | inr m ↦ against (omega arith) next
-  ]
-    where
-      against : place ≤ node_above wave level h → (o : Option ℕ) → IsNearer wave level place h o
-          ⊎ (IsNearer wave level place h o → ⊥)
-      against low None = inl (omega arith, λ k e. absurd (let no : None ≡ Some k = e in cc))
-      against low (Some g) = elim (cases_lt (node_above wave level h) (node_above wave level g)) [
-        | inl l ↦ inl (
-          omega arith,
-          λ k e. (let same : g ≡ k = cc in
-              let node = ap (node_above wave level) same in omega arith),
-        )
-        | inr m ↦ inr (λ nearer. let less = nearer.1 g refl in omega arith)
-      ]
-
   reached_or_not : (h : ℕ) → IsReached wave level h ⊎ (IsReached wave level h → ⊥)
   reached_or_not h = elim (cases_Bool (worker_at wave h).live) [
     | inr dead ↦ inr (λ r. false≢true (sym dead ∙ r.0))
@@ -102,20 +89,52 @@ module _ (wave : Wave) (holders : List ℕ) (level place n : ℕ) where
     ]
   ]
 
-  pub next_more : (h : ℕ) (next result : Option ℕ) → get_or holders n 0 ≡ h
-      → (IsReached wave level h → IsNearer wave level place h next → result ≡ Some h)
-      → ((IsReached wave level h → IsNearer wave level place h next → ⊥) → result ≡ next)
-      → IsNext wave holders level place n next → IsNext wave holders level place (n + 1) result
-  next_more h next result at taken kept was = elim (reached_or_not h) [
-    | inr no_reach ↦ subst (IsNext wave holders level place (n + 1)) (sym (kept (λ r nearer. no_reach r)))
-        (next_kept h next at (λ r nearer. no_reach r) was)
-    | inl reached ↦ elim (nearer_or_not h next) [
-      | inl nearer ↦ subst (IsNext wave holders level place (n + 1)) (sym (taken reached nearer))
-          (next_found h next at reached nearer was)
-      | inr far ↦ subst (IsNext wave holders level place (n + 1)) (sym (kept (λ r nearer. far nearer)))
-          (next_kept h next at (λ r nearer. far nearer) was)
-    ]
-  ]
+  -- the holder of a node that is nearer, by the nodes' places
+  pub next_nearer : (places : List ℕ) (least node h : ℕ) (next : Option ℕ)
+      → ArePlaces wave holders level places → n < length holders → get_or holders n 0 ≡ h
+      → get_or places n 0 ≡ node → place ≤ node → node < least
+      → IsNext wave holders level place n next → IsLeast wave level next least
+      → IsNext wave holders level place (n + 1) (Some h) × IsLeast wave level (Some h) node
+  next_nearer places least node h next are inside at here low less was known =
+      let own = are n inside in
+      let up = ap (node_above wave level) at in
+      let top = least_low next known in
+      elim (reached_or_not (get_or holders n 0)) [
+        | inr out ↦ absurd (let far = own.1 out in omega arith)
+        | inl reached ↦ (let is = own.0 reached in (
+          next_found h next at (subst (IsReached wave level) at reached) (
+            omega arith,
+            λ k e. (let same = subst (λ (o : Option ℕ). IsLeast wave level o least) e known in
+                omega arith),
+          )
+              was,
+          (omega arith, omega arith),
+        ))
+      ]
+    where
+      least_low : (o : Option ℕ) → IsLeast wave level o least → least ≤ 4096
+      least_low None e = omega arith
+      least_low (Some g) e = let below = e.1 in omega arith
+
+  -- any other holder
+  pub next_no_nearer : (places : List ℕ) (least node h : ℕ) (next : Option ℕ)
+      → ArePlaces wave holders level places → n < length holders → get_or holders n 0 ≡ h
+      → get_or places n 0 ≡ node → (place ≤ node → node < least → ⊥)
+      → IsNext wave holders level place n next → IsLeast wave level next least
+      → IsNext wave holders level place (n + 1) next
+  next_no_nearer places least node h next are inside at here never was known =
+      next_kept h next at
+      (λ reached nearer.
+      (let is = (are n inside).0 (subst (IsReached wave level) (sym at) reached) in
+      let up = ap (node_above wave level) at in
+      let low = nearer.0 in
+      never (omega arith) (below next known nearer (omega arith) (omega arith))))
+      was
+    where
+      below : (o : Option ℕ) → IsLeast wave level o least → IsNearer wave level place h o
+          → node ≡ node_above wave level h → node < 4096 → node < least
+      below None e nearer is few = omega arith
+      below (Some g) e nearer is few = let less = nearer.1 g refl in let same = e.0 in omega arith
 
 -- the same for the holders of a split, and what it says of the nodes that the split reaches
 module _ (wave : Wave) (s level place : ℕ) (pending : (split_at wave s).pending ≡ true)

@@ -1,5 +1,6 @@
 -- The rack network is a network of its wave.
-use Rattle.std.proofs.Common.{◌≡◌, ℕ, zero, suc, ◌+◌, ◌*◌, ◌<◌, ◌≤◌, Bool, cond, eqb, [], ◌∷◌, List, length, refl, sym, ap, ◌∙◌, subst, inl, inr, ◌⊎◌, arith, unwrap_or}
+use Rattle.std.proofs.Common.{◌≡◌, ℕ, zero, suc, ◌+◌, ◌*◌, ◌<◌, ◌≤◌, Bool, cond, eqb, [], ◌∷◌, List, length}
+use Rattle.std.proofs.Common.{refl, sym, ap, ◌∙◌, subst, inl, inr, ◌⊎◌, arith, unwrap_or}
 use Rattle.std.proofs.lemmas.Bool.{cases_Bool, cases_eq, cases_lt, eq-eqb, ne_eqb, lt-ltb, le-ltb, false≢true}
 use Rattle.std.proofs.Math.Nat.{mul-le-mul_left}
 use Rattle.node_ids.specs.Sets.{HasPair, has_number, place_of_pair}
@@ -15,13 +16,19 @@ use Rattle.network_prices.proofs.Arcs.{arc_standing}
 use Rattle.network_prices.proofs.Tables.{outroom-rows}
 use Rattle.network_prices.proofs.Certified.{flow_costs_as_plan, prices_certify}
 use Rattle.rack_network.specs.declared.arcs.RackArc.{RackArc}
-use Rattle.rack_network.specs.declared.arcs.RackArc.TheVariants.{Pair, Reach, Wait, Trunk, Branch, Feed, Slot, Rest}
+use Rattle.rack_network.specs.declared.arcs.RackArc.TheVariants.{Pair, Reach, Wait, Trunk, Branch, Feed, Slot}
+use Rattle.rack_network.specs.declared.arcs.RackArc.TheVariants.{Rest}
 use Rattle.rack_network.specs.Places.{one_cluster}
-use Rattle.rack_network.specs.Racks.{first_rack, first_worker, worker_node, rack_node, centre_node, cluster_node, unstarted_node, sink_node, slots_of, slots_below, slots_within, rack_of, centre_of, rack_nodes, node_above, above_centres, HasBars, arc_of, IsWanted, IsRackNetwork, RackFlowCostsAsPlan, RackPricesCertify}
+use Rattle.rack_network.specs.Racks.{first_rack, first_worker, worker_node, rack_node, centre_node}
+use Rattle.rack_network.specs.Racks.{cluster_node, unstarted_node, sink_node, slots_of, slots_below}
+use Rattle.rack_network.specs.Racks.{slots_within, rack_of, centre_of, rack_nodes, node_above, above_centres}
+use Rattle.rack_network.specs.Racks.{HasBars, arc_of, IsWanted, IsRackNetwork, RackFlowCostsAsPlan}
+use Rattle.rack_network.specs.Racks.{RackPricesCertify}
 use Rattle.rack_network.specs.Build.{level_start, level_end}
 use Rattle.rack_network.proofs.Levels.{holder_live, holder_held, cost-le, cost_is, Meet, distance-le}
 use Rattle.rack_network.proofs.Counts.{by_racks}
-use Rattle.rack_network.proofs.Heights.{four_levels, level_at, level_in, among_at, among_in, own_level, meet_at, same_above, level_of, one_level}
+use Rattle.rack_network.proofs.Heights.{four_levels, level_at, level_in, among_at, among_in, own_level}
+use Rattle.rack_network.proofs.Heights.{meet_at, same_above, level_of, one_level}
 
 -- whether a split has a barred pair
 bars_below : (wave : Wave) (s n : ℕ) → n ≤ length wave.workers

@@ -1,5 +1,6 @@
 -- The rows of the rack network are built arc by arc.
-use Rattle.std.proofs.Common.{◌≡◌, ℕ, ◌+◌, ◌*◌, ◌<◌, ◌≤◌, true, false, [], length, get_or, refl, sym, ap, ◌∙◌, subst, ◌⊎◌, inl, inr, arith}
+use Rattle.std.proofs.Common.{◌≡◌, ℕ, ◌+◌, ◌*◌, ◌<◌, ◌≤◌, true, false, [], length, get_or, refl, sym, ap, ◌∙◌}
+use Rattle.std.proofs.Common.{subst, ◌⊎◌, inl, inr, arith}
 use Rattle.std.proofs.lemmas.Bool.{cases_lt, cases_eq, false≢true}
 use Rattle.flow_network.specs.declared.arcs.FlowArc.{FlowArc}
 use Rattle.flow_network.specs.Flow.{Flow}
@@ -11,8 +12,11 @@ use Rattle.network_prices.specs.Tables.{IsBefore, AreRows}
 use Rattle.network_prices.proofs.Tables.{built_nothing, built_take, built_pass, all_rows}
 use Rattle.rack_network.specs.declared.layout.RackLayout.{RackLayout}
 use Rattle.rack_network.specs.declared.arcs.RackArc.{RackArc}
-use Rattle.rack_network.specs.declared.arcs.RackArc.TheVariants.{Pair, Reach, Wait, Trunk, Branch, Feed, Slot, Rest}
-use Rattle.rack_network.specs.Racks.{cluster_node, centre_node, rack_node, worker_node, unstarted_node, rack_of, centre_of, node_above, HasBars, IsReach, IsTree, arc_of, IsSized, IsWanted}
+use Rattle.rack_network.specs.declared.arcs.RackArc.TheVariants.{Pair, Reach, Wait, Trunk, Branch, Feed, Slot}
+use Rattle.rack_network.specs.declared.arcs.RackArc.TheVariants.{Rest}
+use Rattle.rack_network.specs.Racks.{cluster_node, centre_node, rack_node, worker_node, unstarted_node}
+use Rattle.rack_network.specs.Racks.{rack_of, centre_of, node_above, HasBars, IsReach, IsTree, arc_of}
+use Rattle.rack_network.specs.Racks.{IsSized, IsWanted}
 use Rattle.rack_network.specs.Build.{IsBuilt, level_start, level_end}
 use Rattle.rack_network.specs.Places.{one_cluster, no_cluster}
 use Rattle.rack_network.proofs.Levels.{holder_live}

@@ -1,11 +1,13 @@
 -- How far the rack network of a wave is built.
-use Rattle.std.specs.Prelude.{ℕ, zero, suc, ◌≡◌, ◌+◌, ◌*◌, ◌<◌, ◌≤◌, ◌==◌, nat_lt, true, cond, List, [], ◌∷◌, length, slice_index, Option, Some, None}
+use Rattle.std.specs.Prelude.{ℕ, zero, suc, ◌≡◌, ◌+◌, ◌*◌, ◌<◌, ◌≤◌, ◌==◌, nat_lt, true, cond, List, [], ◌∷◌}
+use Rattle.std.specs.Prelude.{length, slice_index, Option, Some, None}
 use Rattle.wave_problem.specs.Sums.{sum_below}
 use Rattle.wave_problem.specs.Wave.{Wave, worker_at}
 use Rattle.flow_network.specs.Flow.{Flow}
 use Rattle.network_prices.specs.Tables.{IsBuiltTo}
 use Rattle.rack_network.specs.declared.layout.RackLayout.{RackLayout}
-use Rattle.rack_network.specs.Racks.{cluster_node, centre_node, rack_node, first_worker, unstarted_node, node_above, arc_of, IsSized, IsWanted}
+use Rattle.rack_network.specs.Racks.{cluster_node, centre_node, rack_node, first_worker, unstarted_node}
+use Rattle.rack_network.specs.Racks.{node_above, arc_of, IsSized, IsWanted}
 
 -- as far as the row u and the column x, with at most so many arcs
 abbrev pub IsBuilt : Wave → ℕ → ℕ → ℕ → Flow RackLayout → Type 0
@@ -32,6 +34,16 @@ IsReached wave level h = ((worker_at wave h).live ≡ true) × (level ≡ 0 → 
 abbrev pub IsNearer : Wave → ℕ → ℕ → ℕ → Option ℕ → Type 0
 IsNearer wave level place h next = (place ≤ node_above wave level h)
     × ((k : ℕ) → next ≡ Some k → node_above wave level h < node_above wave level k)
+
+-- the place of the node above a holder; past all nodes where the holder is not reached
+abbrev pub IsPlaceOf : Wave → ℕ → ℕ → ℕ → Type 0
+IsPlaceOf wave level h place =
+    (IsReached wave level h → (place ≡ node_above wave level h) × (place < 4096))
+    × ((IsReached wave level h → ⊥) → place ≡ 4096)
+
+abbrev pub ArePlaces : Wave → List ℕ → ℕ → List ℕ → Type 0
+ArePlaces wave holders level places = (j : ℕ) → j < length holders
+    → IsPlaceOf wave level (slice_index holders j) (slice_index places j)
 
 -- of the first n holders, one below the first node of a level from a place on
 pub record IsNext (wave : Wave) (holders : List ℕ) (level place n : ℕ) (next : Option ℕ) : Type 0 where

@@ -1,7 +1,8 @@
 -- The numbering of the nodes of the rack network: each arc leads to a higher place.
 use Rattle.std.specs.Prelude.{ℕ, ◌+◌, ◌-◌, Bool, true, cond, nat_lt, if◌then◌else◌, ◌==◌}
 use Rattle.rack_network.specs.declared.layout.RackNode.{RackNode}
-use Rattle.rack_network.specs.declared.layout.RackNode.TheVariants.{Split, Cluster, Centre, Rack, Worker, Unstarted, Sink}
+use Rattle.rack_network.specs.declared.layout.RackNode.TheVariants.{Split, Cluster, Centre, Rack, Worker}
+use Rattle.rack_network.specs.declared.layout.RackNode.TheVariants.{Unstarted, Sink}
 
 -- how many nodes stand above those of so many data centres: one where there are several
 abbrev pub clusters : ℕ → ℕ

@@ -1,9 +1,11 @@
 -- The laws of the numbering, proved here since an impl cites them: each node has a place of its own, and each
 -- place a node.
-use Rattle.std.proofs.Common.{◌≡◌, ℕ, ◌+◌, ◌-◌, ◌<◌, ◌≤◌, Bool, true, cond, ◌⊎◌, inl, inr, refl, sym, ap, ◌∙◌, arith}
+use Rattle.std.proofs.Common.{◌≡◌, ℕ, ◌+◌, ◌-◌, ◌<◌, ◌≤◌, Bool, true, cond, ◌⊎◌, inl, inr, refl, sym, ap, ◌∙◌}
+use Rattle.std.proofs.Common.{arith}
 use Rattle.std.proofs.lemmas.Bool.{cases_lt, lt-ltb, le-ltb, ltb-true, eq-eqb, ne_eqb}
 use Rattle.rack_network.specs.declared.layout.RackNode.{RackNode}
-use Rattle.rack_network.specs.declared.layout.RackNode.TheVariants.{Split, Cluster, Centre, Rack, Worker, Unstarted, Sink}
+use Rattle.rack_network.specs.declared.layout.RackNode.TheVariants.{Split, Cluster, Centre, Rack, Worker}
+use Rattle.rack_network.specs.declared.layout.RackNode.TheVariants.{Unstarted, Sink}
 use Rattle.rack_network.specs.Layout.{clusters, place_of, node_of, is_node}
 
 -- the node of the cluster, where there are several centres

@@ -1,5 +1,6 @@
 -- The rack network of a wave: its nodes by their places, and its arcs.
-use Rattle.std.specs.Prelude.{ℕ, ◌≡◌, ◌+◌, ◌*◌, ◌<◌, ◌==◌, nat_lt, true, cond, List, [], ◌∷◌, length, unwrap_or, slice_index, Option}
+use Rattle.std.specs.Prelude.{ℕ, ◌≡◌, ◌+◌, ◌*◌, ◌<◌, ◌==◌, nat_lt, true, cond, List, [], ◌∷◌, length}
+use Rattle.std.specs.Prelude.{unwrap_or, slice_index, Option}
 use Rattle.node_ids.specs.Sets.{HasPair}
 use Rattle.wave_problem.specs.Wave.{Wave, IsAdmissible, split_at, worker_at, live_holders, cost, reward}
 use Rattle.wave_problem.specs.Sums.{sum_below}
@@ -14,7 +15,8 @@ use Rattle.network_prices.specs.Tables.{AreRows}
 use Rattle.network_prices.specs.Prices.{IsShipped, IsPlanOf, ArePricesOf, CostsAsMuch}
 use Rattle.rack_network.specs.declared.layout.RackLayout.{RackLayout}
 use Rattle.rack_network.specs.declared.arcs.RackArc.{RackArc}
-use Rattle.rack_network.specs.declared.arcs.RackArc.TheVariants.{Pair, Reach, Wait, Trunk, Branch, Feed, Slot, Rest}
+use Rattle.rack_network.specs.declared.arcs.RackArc.TheVariants.{Pair, Reach, Wait, Trunk, Branch, Feed, Slot}
+use Rattle.rack_network.specs.declared.arcs.RackArc.TheVariants.{Rest}
 use Rattle.rack_network.specs.Layout.{clusters}
 
 -- a layout of the wave's size

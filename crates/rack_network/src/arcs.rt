@@ -4,7 +4,8 @@ ghost use Rattle.wave_problem.specs.Wave.{worker_at};
 ghost use Rattle.wave_problem.specs.declared.TheConstants.{MAX_SPLITS};
 ghost use Rattle.network_prices.specs.Pending.{pending_splits};
 ghost use Rattle.rack_network.specs.Layout.{is_node, place_of};
-ghost use Rattle.rack_network.specs.Racks.{arc_of, level_count, node_above, slots_below, slots_within, IsWanted};
+ghost use Rattle.rack_network.specs.Racks.{arc_of, level_count, node_above, slots_below, slots_within};
+ghost use Rattle.rack_network.specs.Racks.{IsWanted};
 
 use crate::RackNode;
 use network_prices::pending_count;

@@ -74,6 +74,7 @@ impl Layout for RackLayout {
         usize::from(self.splits) + hubs + usize::from(self.workers) + 2
     }
 
+    #[inline(always)]
     fn index(&self, node: RackNode) -> usize {
         let centres = usize::from(self.splits) + clusters(usize::from(self.centres));
         let racks = centres + usize::from(self.centres);

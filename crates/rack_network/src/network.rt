@@ -1,18 +1,26 @@
 //! Builds the rack network of a problem.
-ghost use Rattle.std.specs.Prelude.{◌≡◌, ℕ, ◌+◌, ◌-◌, ◌*◌, ◌<◌, ◌≤◌, ◌^◌, ◌∷◌, ◌++◌, ◌↔◌, [], true, length, All, IfOk, IfSome, IsTrue, OnOk, Some, slice_index};
-ghost use Rattle.wave_problem.specs.Wave.{reward, split_at, worker_at};
+ghost use Rattle.std.specs.Prelude.{◌≡◌, ℕ, ◌+◌, ◌-◌, ◌*◌, ◌<◌, ◌≤◌, ◌^◌, ◌∷◌, ◌++◌, ◌↔◌, [], true, length};
+ghost use Rattle.std.specs.Prelude.{All, IfOk, IfSome, IsTrue, OnOk, Some, slice_index};
+ghost use Rattle.wave_problem.specs.Wave.{reward, split_at, worker_at, Wave};
 ghost use Rattle.wave_problem.specs.declared.TheConstants.{MAX_HOLDERS, MAX_SPLITS};
 ghost use Rattle.rack_network.specs.declared.arcs.TheConstants.{LEVELS, MAX_ARCS};
 ghost use Rattle.network_prices.specs.Pending.{IsUsable};
-ghost use Rattle.rack_network.specs.Racks.{arc_of, centre_node, centre_of, cluster_node, level_count, node_above, rack_node, rack_of, worker_node, unstarted_node, HasBars, IsRackNetwork, IsSized, IsTree, IsWanted};
-ghost use Rattle.rack_network.specs.Build.{branch_arcs, feed_arcs, in_places, level_end, level_start, split_arcs, trunk_arcs, IsBuilt, IsNearer, IsNext, IsReached};
+ghost use Rattle.rack_network.specs.Racks.{arc_of, centre_node, centre_of, cluster_node, level_count};
+ghost use Rattle.rack_network.specs.Racks.{node_above, rack_node, rack_of, worker_node, unstarted_node};
+ghost use Rattle.rack_network.specs.Racks.{HasBars, IsRackNetwork, IsSized, IsTree, IsWanted};
+ghost use Rattle.rack_network.specs.Build.{branch_arcs, feed_arcs, in_places, level_end, level_start};
+ghost use Rattle.rack_network.specs.Build.{split_arcs, trunk_arcs, ArePlaces, IsBuilt, IsNext, IsPlaceOf};
+ghost use Rattle.rack_network.specs.Build.{IsReached};
 
 use crate::places::{first_centre, first_rack, first_worker, place_above};
-use crate::{LEVELS, RackArc, RackLayout};
+use crate::{LEVELS, RackArc, RackLayout, RackNode};
 use flow_network::{NetError, Network};
 use node_ids::{CentreNo, RackNo, SplitNo, WorkerNo};
 use std::alloc::{AllocError, Global};
-use wave_problem::{Problem, SplitCosts};
+use wave_problem::{MAX_HOLDERS, Problem, SplitCosts};
+
+// A place past all nodes.
+const NO_PLACE: usize = 4096;
 
 /// The rack network of a problem, without flow, row by row: of each split the arcs to `Cluster`, to data
 /// centres, to racks, to workers and to `Unstarted`, then those of `Cluster`, of the centres, of the racks
@@ -81,8 +89,29 @@ fn add_split(
     requires built { IsBuilt problem.now split 0 (257 * split) network.old }
     ensures built { OnOk result (IsBuilt problem.now (split + 1) 0 (257 * split + 257) network.new) }
 {
+    make_room(network, problem, split)?;
     add_ways(network, problem, split)?;
     add(network, problem, RackArc::Wait(split), worth)?;
+    Ok(())
+}
+
+// Takes the memory for the arcs of a split's row at once.
+fn make_room(
+    network: &mut Network<RackLayout>,
+    problem: &Problem,
+    split: SplitNo,
+) -> Result<(), AllocError>
+    requires split { split < length problem.now.splits }
+    requires layout { IsSized problem.now network.old.layout }
+    ensures { network.new ≡ network.old }
+{
+    let bars = problem.bars(split);
+    let arcs = if bars.is_empty() {
+        3 * problem.holders(split).len() + 2
+    } else {
+        problem.workers()
+    };
+    network.make_room(RackNode::Split(split), arcs)?;
     Ok(())
 }
 
@@ -109,6 +138,18 @@ fn add_ways(
 
 // Whether a pair of the split is barred.
 fn has_bars(problem: &Problem, split: SplitNo) -> bool
+    requires { split < length problem.now.splits }
+    ensures { IsTrue result ↔ HasBars problem.now split }
+{
+    let _workers = problem.workers();
+    if problem.bars(split).is_empty() {
+        return false;
+    }
+    is_any_barred(problem, split)
+}
+
+// The same, pair by pair.
+fn is_any_barred(problem: &Problem, split: SplitNo) -> bool
     requires { split < length problem.now.splits }
     ensures { IsTrue result ↔ HasBars problem.now split }
 {
@@ -210,73 +251,81 @@ fn add_level(
         (257 * split + 8 * (3 - level) + 8) network.new) }
 {
     let holders = problem.holders(split);
+    let places = places_of(problem, holders, level, first);
     let cost = problem.bytes(split) * (2 * u64::from(level));
     let mut place = first;
-    while let Some(holder) = next_reached(problem, holders, level, place) {
+    while let Some(holder) = next_reached(holders, &places, place) {
         add(network, problem, RackArc::Reach(split, level, holder), cost)?;
-        place = place_above(problem, level, holder) + 1;
+        place = place_above(problem, level, first, holder) + 1;
     }
     Ok(())
 }
 
-// The first of the nodes of a level from a place on that stand above a live holder, by such a holder.
+// The places of the nodes of a level above the holders, the first of which is told; past all nodes where a
+// holder is not reached.
 #[inline(always)]
-fn next_reached(
+fn places_of(
     problem: &Problem,
     holders: &[WorkerNo],
     level: u8,
-    place: usize,
-) -> Option<WorkerNo>
+    first: usize,
+) -> [usize; MAX_HOLDERS]
     requires known { All (λ h. h < length problem.now.workers) holders.now }
+    requires few { length holders.now ≤ MAX_HOLDERS }
     requires level { level < LEVELS }
-    ensures { IsNext problem.now holders.now level place (length holders.now) result }
+    requires first { first ≡ level_start problem.now level }
+    ensures { ArePlaces problem.now holders.now level result }
+{
+    let mut places = [NO_PLACE; MAX_HOLDERS];
+    for i in 0..holders.len() {
+        places[i] = place_of(problem, level, first, holders[i]);
+    }
+    places
+}
+
+// The same of one holder.
+#[inline(always)]
+fn place_of(problem: &Problem, level: u8, first: usize, holder: WorkerNo) -> usize
+    requires level { level < LEVELS }
+    requires first { first ≡ level_start problem.now level }
+    requires holder { holder < length problem.now.workers }
+    ensures { IsPlaceOf problem.now level holder result }
+{
+    if is_reached(problem, level, holder) {
+        place_above(problem, level, first, holder)
+    } else {
+        NO_PLACE
+    }
+}
+
+// The first of the nodes at these places, one for each holder, from a place on, by its holder.
+#[inline(always)]
+fn next_reached(holders: &[WorkerNo], places: &[usize], place: usize) -> Option<WorkerNo>
+    requires { length holders.now ≤ length places.now }
+    ensures { (wave : Wave) (level : ℕ) → ArePlaces wave holders.now level places.now
+        → IsNext wave holders.now level place (length holders.now) result }
 {
     let mut next = None;
+    let mut least = NO_PLACE;
     for i in 0..holders.len() {
-        next = nearer_of(problem, level, place, next, holders[i]);
+        if is_nearer(place, places[i], least) {
+            next = Some(holders[i]);
+            least = places[i];
+        }
     }
     next
 }
 
-// The holder where it is reached and the node above it is no earlier than the place, and earlier than that
-// above the next one so far; else that one.
+// Whether a node is no earlier than the place, and earlier than the first one so far.
 #[inline(always)]
-fn nearer_of(
-    problem: &Problem,
-    level: u8,
-    place: usize,
-    next: Option<WorkerNo>,
-    holder: WorkerNo,
-) -> Option<WorkerNo>
-    requires level { level < LEVELS }
-    requires holder { holder < length problem.now.workers }
-    requires next { IfSome next (λ h. h < length problem.now.workers) }
-    ensures known { IfSome result (λ h. h < length problem.now.workers) }
-    ensures taken { IsReached problem.now level holder → IsNearer problem.now level place holder next
-        → result ≡ Some holder }
-    ensures kept { (IsReached problem.now level holder → IsNearer problem.now level place holder next → ⊥)
-        → result ≡ next }
+fn is_nearer(place: usize, node: usize, least: usize) -> bool
+    ensures { IsTrue result ↔ ((place ≤ node) × (node < least)) }
 {
-    if !is_reached(problem, level, holder) {
-        return next;
-    }
-    let node = place_above(problem, level, holder);
-    if node < place {
-        return next;
-    }
-    match next {
-        None => Some(holder),
-        Some(known) => {
-            if node < place_above(problem, level, known) {
-                Some(holder)
-            } else {
-                Some(known)
-            }
-        }
-    }
+    place <= node && node < least
 }
 
 // Whether a holder lives and, where its own node is meant, has a free slot.
+#[inline(always)]
 fn is_reached(problem: &Problem, level: u8, holder: WorkerNo) -> bool
     requires { holder < length problem.now.workers }
     ensures { IsTrue result ↔ IsReached problem.now level holder }
@@ -306,6 +355,7 @@ fn add_trunk_row(network: &mut Network<RackLayout>, problem: &Problem) -> Result
     ensures built { OnOk result (IsBuilt problem.now (centre_node problem.now 0) 0 (trunk_arcs problem.now)
         network.new) }
 {
+    // (there are few of each)
     let _splits = problem.splits();
     for i in 0..problem.tree().centres() {
         add(network, problem, RackArc::Trunk(CentreNo::new(i as u8)), 0)?;
@@ -343,6 +393,7 @@ fn add_branches(
         + in_places (centre_of problem.now) (length problem.now.tree.centre_of) (centre + 1))
         network.new) }
 {
+    // (there are few of each)
     let _splits = problem.splits();
     let tree = problem.tree();
     let _centres = tree.centres();
@@ -383,6 +434,7 @@ fn add_feeds(
         (branch_arcs problem.now + in_places (rack_of problem.now) (length problem.now.workers) (rack + 1))
         network.new) }
 {
+    // (there are few of each)
     let _splits = problem.splits();
     let _centres = problem.tree().centres();
     let _racks = problem.tree().racks();
@@ -410,6 +462,7 @@ fn add_slots(network: &mut Network<RackLayout>, problem: &Problem) -> Result<(),
     ensures built { OnOk result (IsBuilt problem.now (worker_node problem.now (length problem.now.workers)) 0
         (feed_arcs problem.now + length problem.now.workers) network.new) }
 {
+    // (there are few of each)
     let _splits = problem.splits();
     let _centres = problem.tree().centres();
     let _racks = problem.tree().racks();

@@ -1,6 +1,7 @@
 //! Where the nodes of a problem's rack network stand.
 ghost use Rattle.std.specs.Prelude.{◌≡◌, ◌<◌, ◌≤◌, length};
 ghost use Rattle.rack_network.specs.declared.arcs.TheConstants.{LEVELS};
+ghost use Rattle.rack_network.specs.Build.{level_start};
 ghost use Rattle.rack_network.specs.Racks.{first_centre, first_rack, first_worker, node_above};
 
 use crate::layout::clusters;
@@ -31,20 +32,24 @@ pub fn first_worker(problem: &Problem) -> usize
     first_rack(problem) + problem.tree().racks()
 }
 
-/// The place of the node at a level above a worker: 0 its own, 1 its rack's, 2 its centre's, 3 the cluster's.
+/// The place of the node at a level above a worker, told from where the level begins: 0 its own, 1 its
+/// rack's, 2 its centre's, 3 the cluster's.
 #[inline(always)]
-pub fn place_above(problem: &Problem, level: u8, worker: WorkerNo) -> usize
+pub fn place_above(problem: &Problem, level: u8, first: usize, worker: WorkerNo) -> usize
     requires level { level < LEVELS }
+    requires first { first ≡ level_start problem.now level }
     requires worker { worker < length problem.now.workers }
     ensures place { result ≡ node_above problem.now level worker }
     ensures limit { result < 4096 }
 {
+    let _splits = problem.splits();
     let tree = problem.tree();
-    let rack = tree.rack_of(worker);
+    let _centres = tree.centres();
+    let _racks = tree.racks();
     match level {
-        0 => first_worker(problem) + worker.index(),
-        1 => first_rack(problem) + rack.index(),
-        2 => first_centre(problem) + tree.centre_of(rack).index(),
-        _ => problem.splits(),
+        0 => first + worker.index(),
+        1 => first + tree.rack_of(worker).index(),
+        2 => first + tree.centre_of(tree.rack_of(worker)).index(),
+        _ => first,
     }
 }

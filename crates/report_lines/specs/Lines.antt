@@ -1,5 +1,6 @@
 -- The lines of a report.
-use Rattle.std.specs.Prelude.{ℕ, List, [], ◌∷◌, ◌++◌, Bool, not, if◌then◌else◌, codes, count_by, length, slice_index_or}
+use Rattle.std.specs.Prelude.{ℕ, List, [], ◌∷◌, ◌++◌, Bool, not, if◌then◌else◌, codes, count_by, length}
+use Rattle.std.specs.Prelude.{slice_index_or}
 use Rattle.std.specs.Fmt.{decimal}
 use Rattle.std.specs.List.{flat_map, range_with_len}
 use Rattle.node_ids.specs.Sets.{has_number}
@@ -61,16 +62,19 @@ wave_line count cost = codes "wave " ++ decimal count ++ codes " " ++ decimal co
 -- an attempt of a split, on a worker
 abbrev pub started_line : List Word → List Word → ℕ → ℕ → ℕ → List ℕ
 started_line splits workers attempt split w =
-    codes "start " ++ decimal attempt ++ codes " " ++ name_of splits split ++ codes " " ++ name_of workers w ++ 10 ∷ []
+    codes "start " ++ decimal attempt ++ codes " " ++ name_of splits split ++ codes " " ++ name_of workers w
+    ++ 10 ∷ []
 
 abbrev pub backup_line : List Word → List Word → ℕ → ℕ → ℕ → List ℕ
 backup_line splits workers attempt split w =
-    codes "backup " ++ decimal attempt ++ codes " " ++ name_of splits split ++ codes " " ++ name_of workers w ++ 10 ∷ []
+    codes "backup " ++ decimal attempt ++ codes " " ++ name_of splits split ++ codes " " ++ name_of workers w
+    ++ 10 ∷ []
 
 -- an attempt of a part, on a worker
 abbrev pub reduce_line : List Word → ℕ → ℕ → ℕ → List ℕ
 reduce_line workers attempt part w =
-    codes "reduce " ++ decimal attempt ++ codes " " ++ decimal part ++ codes " " ++ name_of workers w ++ 10 ∷ []
+    codes "reduce " ++ decimal attempt ++ codes " " ++ decimal part ++ codes " " ++ name_of workers w
+    ++ 10 ∷ []
 
 abbrev pub dead_line : List Word → ℕ → List ℕ
 dead_line workers w = codes "dead " ++ name_of workers w ++ 10 ∷ []

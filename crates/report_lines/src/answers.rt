@@ -120,7 +120,8 @@ pub fn add_dead(
     dead: &WorkerSet,
 ) -> Result<(), AllocError>
     requires { length workers.now ≤ MAX_WORKERS }
-    ensures { OnOk result (string_bytes lines.new ≡ string_bytes lines.old ++ dead_lines workers.now dead.now) }
+    ensures { OnOk result (string_bytes lines.new ≡ string_bytes lines.old
+        ++ dead_lines workers.now dead.now) }
 {
     for number in 0..workers.len() {
         let is_dead = dead.has(WorkerNo::new(number as u16));

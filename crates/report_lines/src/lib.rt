@@ -1,9 +1,9 @@
 //! The lines of a report: what a master answered, by names.
 //!
 //! Each call appends the lines of one answer to a text in memory; its contract says which bytes these are, by
-//! the words of `specs/Lines.antt`. Names stand in tables by number, as a text declared them; a number past the
-//! last has the empty name. After an error the text may hold a front of the lines; its owner drops it. Below
-//! stand the answers of `master_state` and the entries of an index.
+//! the words of `specs/Lines.antt`. Names stand in tables by number, as a text declared them; a number past
+//! the last has the empty name. After an error the text may hold a front of the lines; its owner drops it.
+//! Below stand the answers of `master_state` and the entries of an index.
 #![tactic(auto)]
 
 mod answers;

@@ -1,11 +1,14 @@
--- Commands of a text without a fault are not too many, and none gives more counts than there may be workers.
-use Rattle.std.proofs.Common.{ℕ, List, [], ◌∷◌, ◌++◌, ◌≡◌, ◌≤◌, ◌<◌, ◌∙◌, Option, Some, append-nil, arith, length}
+-- Commands of a text without a fault are not too many, none gives more counts than there may be workers, and
+-- the words of each keep to their places in view of all rows.
+use Rattle.std.proofs.Common.{ℕ, List, [], ◌∷◌, ◌++◌, ◌≡◌, ◌≤◌, ◌<◌, ◌∙◌, Option, Some, append-nil, arith}
+use Rattle.std.proofs.Common.{length}
 use Rattle.std.proofs.Common.{length-append, refl, subst, sym, ap, take}
 use Rattle.std.specs.List.{All}
 use Rattle.std.proofs.lemmas.List.{length_push}
-use Rattle.std.proofs.lemmas.List.Elements.{All-append, All-cons, All-nil, filter-append}
+use Rattle.std.proofs.lemmas.List.Elements.{All-append, All-cons, All-nil, All-weaker, filter-append}
 use Rattle.text_lines.specs.Texts.{Line, lines_of}
 use Rattle.line_shapes.specs.Lines.{Statement}
+use Rattle.line_shapes.specs.Places.{places_of}
 use Rattle.line_shapes.specs.declared.keyword.Keyword.{Keyword}
 use Rattle.line_shapes.specs.declared.keyword.Keyword.TheVariants as keyword
 use Rattle.line_rules.specs.Entering.{command_of, entered_of, entering_of, in_turn, most_of}
@@ -17,15 +20,22 @@ use Rattle.line_rules.specs.declared.entering.Entering.TheVariants.{Nothing, InT
 use Rattle.line_rules.specs.declared.entering.Entering.TheVariants.{Word as ByWord, Pair as ByPair}
 use Rattle.line_rules.specs.declared.purpose.Purpose.{Purpose}
 use Rattle.line_rules.proofs.FitLines.{known_after, names_after}
-use Rattle.plan_text.proofs.Tidy.{tidy-read}
+use Rattle.plan_text.specs.Tidy.{IsTidyRow}
+use Rattle.plan_text.proofs.Tidy.{tidy-more, tidy-read, tidy_of}
 
 -- a sweep has no more counts than this
 abbrev pub IsShort : ℕ → Statement → Type 0
 IsShort n s = s.keyword ≡ keyword.Sweep → length s.words ≤ n
 
-pub record AreBounded (n : ℕ) (commands : List Statement) : Type 0 where
+-- it is a command, and tidy as a row is
+pub record IsTidyCommand (rows : List Statement) (s : Statement) : Type 0 where
+  pub in_turn : entering_of s.keyword ≡ InTurn
+  pub tidy : IsTidyRow rows s
+
+pub record AreBounded (n : ℕ) (rows commands : List Statement) : Type 0 where
   pub few : length commands ≤ 65536
   pub short : All (IsShort n) commands
+  pub tidy : All (IsTidyCommand rows) commands
 
 most_of_command : (purpose : Purpose) (k : Keyword) → entering_of k ≡ InTurn → most_of purpose k ≡ Some 65536
 most_of_command purpose keyword.Problem is = absurd cc
@@ -73,54 +83,71 @@ workers_grow k (s ∷ ss) =
       length-append (rows_of keyword.Worker k.rows) (rows_of keyword.Worker (entered_of s)),
     )
 
-bounded_more : (n : ℕ) (k : Known) (s : Statement) → IsFit k s → workers_in k ≤ n → AreBounded n k.commands
-    → AreBounded n (k.commands ++ command_of s)
-bounded_more n k s fit few bounded = by (entering_of s.keyword) refl
-  where
-    none : AreBounded n (k.commands ++ [])
-    none = subst (AreBounded n) (sym (append-nil k.commands)) bounded
+module _ (n : ℕ) (k : Known) (s : Statement) (whole : length (places_of s.keyword) ≤ length s.words)
+    (fit : IsFit k s) (few : workers_in k ≤ n) (bounded : AreBounded n k.rows k.commands) where
+  abbrev rows : List Statement
+  rows = k.rows ++ entered_of s
 
-    short : IsShort n s
-    short same =
-        let whole : length s.words ≡ workers_in k =
-        subst (λ (j : Keyword). IsWhole k (record { keyword = j; words = s.words })) same fit.whole in
-        omega (arith, whole, few)
+  tidier : (t : Statement) → IsTidyCommand k.rows t → IsTidyCommand rows t
+  tidier t h = record { in_turn = h.in_turn; tidy = tidy-more k.rows (entered_of s) t h.tidy }
 
-    one : entering_of s.keyword ≡ InTurn → AreBounded n (k.commands ++ s ∷ [])
-    one is =
-        let Room : Entering → Type 0 = λ e. HasRoom (most_of k.purpose s.keyword) (counted_by e k s.keyword) in
-        let counted = subst Room is fit.within_limit.room in
-        let room : length k.commands < 65536 =
-        subst (λ (m : Option ℕ). HasRoom m (length k.commands)) (most_of_command k.purpose s.keyword is)
-        counted in
-        record {
-          few = omega (arith, room, length_push k.commands s);
-          short = All-append (IsShort n) k.commands (s ∷ []) bounded.short
-              (All-cons (IsShort n) s [] short (All-nil (IsShort n)));
-        }
+  before : All (IsTidyCommand rows) k.commands
+  before = All-weaker (IsTidyCommand k.rows) (IsTidyCommand rows) tidier k.commands bounded.tidy
 
-    by : (e : Entering) → entering_of s.keyword ≡ e → AreBounded n (k.commands ++ in_turn e s)
-    by Nothing is = none
-    by InTurn is = one is
-    by Alone is = none
-    by ByWord is = none
-    by ByPair is = none
+  none : AreBounded n rows (k.commands ++ [])
+  none = subst (AreBounded n rows) (sym (append-nil k.commands))
+      (record { few = bounded.few; short = bounded.short; tidy = before })
+
+  short : IsShort n s
+  short same =
+      let whole : length s.words ≡ workers_in k =
+      subst (λ (j : Keyword). IsWhole k (record { keyword = j; words = s.words })) same fit.whole in
+      omega (arith, whole, few)
+
+  command : entering_of s.keyword ≡ InTurn → IsTidyCommand k.rows s
+  command is = record { in_turn = is; tidy = tidy_of k s whole fit }
+
+  one : entering_of s.keyword ≡ InTurn → AreBounded n rows (k.commands ++ s ∷ [])
+  one is =
+      let Room : Entering → Type 0 = λ e. HasRoom (most_of k.purpose s.keyword) (counted_by e k s.keyword) in
+      let counted = subst Room is fit.within_limit.room in
+      let room : length k.commands < 65536 =
+      subst (λ (m : Option ℕ). HasRoom m (length k.commands)) (most_of_command k.purpose s.keyword is)
+      counted in
+      record {
+        few = omega (arith, room, length_push k.commands s);
+        short = All-append (IsShort n) k.commands (s ∷ []) bounded.short
+            (All-cons (IsShort n) s [] short (All-nil (IsShort n)));
+        tidy = All-append (IsTidyCommand rows) k.commands (s ∷ []) before
+            (All-cons (IsTidyCommand rows) s [] (tidier s (command is)) (All-nil (IsTidyCommand rows)));
+      }
+
+  by : (e : Entering) → entering_of s.keyword ≡ e → AreBounded n rows (k.commands ++ in_turn e s)
+  by Nothing is = none
+  by InTurn is = one is
+  by Alone is = none
+  by ByWord is = none
+  by ByPair is = none
+
+  bounded_more : AreBounded n rows (k.commands ++ command_of s)
+  bounded_more = by (entering_of s.keyword) refl
 
 bounded_after : (n : ℕ) (k : Known) (ls : List Line) (ss : List Statement) → AreFitLines k ls ss
-    → workers_in (names_after k ss) ≤ n → AreBounded n k.commands → AreBounded n (names_after k ss).commands
+    → workers_in (names_after k ss) ≤ n → AreBounded n k.rows k.commands
+    → AreBounded n (names_after k ss).rows (names_after k ss).commands
 bounded_after n k [] [] fits few bounded = bounded
 bounded_after n k [] (s ∷ ss) fits few bounded = absurd fits
 bounded_after n k (l ∷ ls) [] fits few bounded = absurd fits
 bounded_after n k (l ∷ ls) (s ∷ ss) fits few bounded =
     bounded_after n (entered k s) ls ss fits.1 few
-    (bounded_more n k s fits.0.fit (omega (arith, few, workers_grow k (s ∷ ss))) bounded)
+    (bounded_more n k s fits.0.says.many fits.0.fit (omega (arith, few, workers_grow k (s ∷ ss))) bounded)
 
 pub bounded-read : (purpose : Purpose) (text : List ℕ) (k : Known) → IsAllRead purpose text k
-    → AreBounded 256 k.commands
+    → AreBounded 256 k.rows k.commands
 bounded-read purpose text k read =
     let same = known_after purpose read.statements ∙ sym read.known in
     let few : workers_in k ≤ 256 = (tidy-read purpose text k read).few_workers in
-    subst (λ (j : Known). AreBounded 256 j.commands) same
+    subst (λ (j : Known). AreBounded 256 j.rows j.commands) same
     (bounded_after 256 (known_at purpose []) (take (length read.statements) (lines_of text)) read.statements
     read.fit (subst (λ (j : Known). workers_in j ≤ 256) (sym same) few)
-    (record { few = omega arith; short = All-nil (IsShort 256) }))
+    (record { few = omega arith; short = All-nil (IsShort 256); tidy = All-nil (IsTidyCommand []) }))

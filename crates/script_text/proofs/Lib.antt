@@ -1,3 +1,4 @@
 pub mod Growing
 pub mod Bounds
+pub mod Ready
 pub mod OfHead

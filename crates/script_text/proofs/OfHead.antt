@@ -66,7 +66,8 @@ module _ (text : List ℕ) (value : ScriptText) (is : IsScriptOf text value) whe
       let bounded = bounded-read Playing text is.known is.read in
       let nowhere : Statement = record { keyword = End; words = [] } in
       let says = is.declares.commands in
-      is_known value.script.names (get_or is.known.commands i nowhere) (get_or value.script.commands.items i d)
+      is_known value.script.names (get_or is.known.commands i nowhere)
+      (get_or value.script.commands.items i d)
       (bounded.short i nowhere (omega (arith, says.many, lt))) (says.each i nowhere d lt)
 
   pub is_of_head : IsOfHead value.head value.script

@@ -22,7 +22,8 @@ IsTold word n = IsNumber word × (number_of word ≡ n)
 -- the words from a place on are the names of these numbers
 pub record AreNumbered (names : List Word) (ws : List Word) (first : ℕ) (numbers : List ℕ) : Type 0 where
   pub many : length ws ≡ first + length numbers
-  pub each : (k d : ℕ) → k < length numbers → IsNumbered names (word_at ws (first + k)) (slice_index_or numbers k d)
+  pub each : (k d : ℕ) → k < length numbers →
+      IsNumbered names (word_at ws (first + k)) (slice_index_or numbers k d)
 
 -- the words are these numbers
 pub record AreTold (ws : List Word) (numbers : List ℕ) : Type 0 where
@@ -47,8 +48,10 @@ SaysCommand names s (command.Die worker) =
     (s.keyword ≡ keyword.Die) × IsNumbered names.workers (word_at s.words 0) worker
 SaysCommand names s (command.Join worker splits) = (s.keyword ≡ keyword.Join)
     × IsNumbered names.workers (word_at s.words 0) worker × AreNumbered names.splits s.words 1 splits.items
-SaysCommand names s (command.Add split worker) = (s.keyword ≡ keyword.Add) × ArePair names s.words split worker
-SaysCommand names s (command.Lose split worker) = (s.keyword ≡ keyword.Lose) × ArePair names s.words split worker
+SaysCommand names s (command.Add split worker) =
+    (s.keyword ≡ keyword.Add) × ArePair names s.words split worker
+SaysCommand names s (command.Lose split worker) =
+    (s.keyword ≡ keyword.Lose) × ArePair names s.words split worker
 SaysCommand names s (command.Sweep counts) = (s.keyword ≡ keyword.Sweep) × AreTold s.words counts.items
 SaysCommand names s command.Reduce = s.keyword ≡ keyword.Reduce
 SaysCommand names s command.Copies = s.keyword ≡ keyword.Copies
@@ -59,7 +62,8 @@ pub record SayCommands (names : Names) (lines : List Statement) (commands : List
   pub each : (k : ℕ) (s : Statement) (c : Command) → k < length commands
       → SaysCommand names (slice_index_or lines k s) (slice_index_or commands k c)
 
--- the command names workers and splits below these numbers, and gives no more counts than there may be workers
+-- the command names workers and splits below these numbers, and gives no more counts than there may be
+-- workers
 abbrev pub IsKnownIn : ℕ → ℕ → Command → Type 0
 IsKnownIn workers splits (command.Backup s w) = (s < splits) × (w < workers)
 IsKnownIn workers splits (command.Die w) = w < workers

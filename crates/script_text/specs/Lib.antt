@@ -1,3 +1,4 @@
 pub mod Commands
+pub mod Ready
 pub mod Heads
 pub mod Scripts

@@ -1,21 +1,24 @@
-ghost use Rattle.std.specs.Prelude.{IfOk, IfSome, slice_index_or};
+ghost use Rattle.std.specs.Prelude.{◌<◌, All, IfOk, length, map, slice_index_or};
 ghost use Rattle.line_shapes.specs.Lines.{Statement, stated, statement_of};
-ghost use Rattle.line_shapes.specs.declared.keyword.Keyword.TheVariants.{Join, Sweep};
-ghost use Rattle.script_text.specs.Commands.{SayCommands, SaysCommand};
+ghost use Rattle.line_shapes.specs.declared.keyword.Keyword.TheVariants.{Join};
+ghost use Rattle.script_text.specs.Commands.{ArePair, SayCommands, SaysCommand};
+ghost use Rattle.script_text.specs.Ready.{AreFew, HavePair, HasWords, IsReady};
 
 use crate::numbers::{attempt_at, numbers_in, split_at, splits_from, worker_at};
 use crate::script::{Command, Names};
 use line_rules::Commands;
 use line_shapes::{KeyedLine, Keyword};
+use node_ids::{SplitNo, WorkerNo};
 use std::alloc::{AllocError, Global};
 
-/// The commands that the lines say, by numbers. A line of a text without a fault says one; where one says
-/// none, the commands are as those that found no memory.
+/// The commands that the lines say, by numbers.
 pub fn commands_of(
     alloc: Global,
     names: &Names<'_>,
     lines: &Commands<'_>,
 ) -> Result<Vec<Command>, AllocError>
+    requires few { AreFew names.now }
+    requires ready { All (IsReady names.now) lines.now }
     ensures { IfOk result (λ commands. SayCommands names.now lines.now commands.items) }
 {
     let mut commands = Vec::new(alloc);
@@ -32,113 +35,75 @@ fn command_at(
     lines: &Commands<'_>,
     place: usize,
 ) -> Result<Command, AllocError>
+    requires few { AreFew names.now }
+    requires ready { All (IsReady names.now) lines.now }
+    requires inside { place < length lines.now }
     ensures { IfOk result (λ command. (s : Statement)
         → SaysCommand names.now (slice_index_or lines.now place s) command) }
 {
-    let Some(line) = lines.command(place) else {
-        return Err(AllocError);
-    };
-    match command_of(alloc, names, &line)? {
-        Some(command) => Ok(command),
-        None => Err(AllocError),
+    match lines.command(place) {
+        Some(line) => command_of(alloc, names, &line),
+        None => unreachable!(),
     }
 }
 
-// The command that a line says, if it says one.
+// The command that a line says.
 fn command_of(
     alloc: Global,
     names: &Names<'_>,
     line: &KeyedLine<'_, '_>,
-) -> Result<Option<Command>, AllocError>
-    ensures { IfOk result (λ found. IfSome found (SaysCommand names.now (statement_of line.now))) }
+) -> Result<Command, AllocError>
+    requires few { AreFew names.now }
+    requires ready { IsReady names.now (statement_of line.now) }
+    ensures { IfOk result (SaysCommand names.now (statement_of line.now)) }
 {
+    let words = line.words;
     match line.keyword {
-        Keyword::Join => join_of(alloc, names, line.words),
-        Keyword::Sweep => sweep_of(alloc, names, line.words),
-        Keyword::Problem
-        | Keyword::Script
-        | Keyword::Job
-        | Keyword::Centre
-        | Keyword::Rack
-        | Keyword::Worker
-        | Keyword::Split
-        | Keyword::Barred
-        | Keyword::Dead
-        | Keyword::Busy
-        | Keyword::Parts
-        | Keyword::Target
-        | Keyword::Silence
-        | Keyword::Doc
-        | Keyword::Plan
-        | Keyword::Start
-        | Keyword::Price
-        | Keyword::Begin
-        | Keyword::Wave
-        | Keyword::Done
-        | Keyword::Fail
-        | Keyword::Withdraw
-        | Keyword::Die
-        | Keyword::Add
-        | Keyword::Lose
-        | Keyword::Reduce
-        | Keyword::Copies
-        | Keyword::Backup
-        | Keyword::End => { Ok(plain_command(names, line.keyword, line.words)) }
-    }
-}
-
-// The command of a line that names no list.
-fn plain_command(names: &Names<'_>, keyword: Keyword, words: &[&str]) -> Option<Command>
-    ensures { IfSome result (SaysCommand names.now (stated keyword words.now)) }
-{
-    match keyword {
-        Keyword::Wave => Some(Command::Wave),
-        Keyword::Done => Some(Command::Done(attempt_at(words, 0)?)),
-        Keyword::Fail => Some(Command::Fail(attempt_at(words, 0)?)),
-        Keyword::Withdraw => Some(Command::Withdraw(attempt_at(words, 0)?)),
-        Keyword::Die => Some(Command::Die(worker_at(&names.workers, words, 0)?)),
+        Keyword::Wave => Ok(Command::Wave),
+        Keyword::Done => Ok(Command::Done(attempt_at(words, 0))),
+        Keyword::Fail => Ok(Command::Fail(attempt_at(words, 0))),
+        Keyword::Withdraw => Ok(Command::Withdraw(attempt_at(words, 0))),
+        Keyword::Die => Ok(Command::Die(worker_at(&names.workers, words, 0))),
+        Keyword::Join => join_of(alloc, names, words),
         Keyword::Add => {
-            let split = split_at(&names.splits, words, 0)?;
-            Some(Command::Add(split, worker_at(&names.workers, words, 1)?))
+            let (split, worker) = pair_of(names, words);
+            Ok(Command::Add(split, worker))
         }
         Keyword::Lose => {
-            let split = split_at(&names.splits, words, 0)?;
-            Some(Command::Lose(split, worker_at(&names.workers, words, 1)?))
+            let (split, worker) = pair_of(names, words);
+            Ok(Command::Lose(split, worker))
         }
         Keyword::Backup => {
-            let split = split_at(&names.splits, words, 0)?;
-            Some(Command::Backup(split, worker_at(&names.workers, words, 1)?))
+            let (split, worker) = pair_of(names, words);
+            Ok(Command::Backup(split, worker))
         }
-        Keyword::Reduce => Some(Command::Reduce),
-        Keyword::Copies => Some(Command::Copies),
-        Keyword::Problem | Keyword::Script | Keyword::Job | Keyword::Centre => None,
-        Keyword::Rack | Keyword::Worker | Keyword::Split | Keyword::Barred => None,
-        Keyword::Dead | Keyword::Busy | Keyword::Parts | Keyword::Target => None,
-        Keyword::Silence | Keyword::Doc | Keyword::Plan | Keyword::Start => None,
-        Keyword::Price | Keyword::Begin | Keyword::Join | Keyword::Sweep | Keyword::End => None,
+        Keyword::Sweep => Ok(Command::Sweep(numbers_in(alloc, words)?)),
+        Keyword::Reduce => Ok(Command::Reduce),
+        Keyword::Copies => Ok(Command::Copies),
+        Keyword::Problem | Keyword::Script | Keyword::Job | Keyword::Centre => unreachable!(),
+        Keyword::Rack | Keyword::Worker | Keyword::Split | Keyword::Barred => unreachable!(),
+        Keyword::Dead | Keyword::Busy | Keyword::Parts | Keyword::Target => unreachable!(),
+        Keyword::Silence | Keyword::Doc | Keyword::Plan | Keyword::Start => unreachable!(),
+        Keyword::Price | Keyword::Begin | Keyword::End => unreachable!(),
     }
 }
 
-fn join_of(alloc: Global, names: &Names<'_>, words: &[&str]) -> Result<Option<Command>, AllocError>
-    ensures { IfOk result (λ found. IfSome found (SaysCommand names.now (stated Join words.now))) }
+// The split and the worker that stand first.
+fn pair_of(names: &Names<'_>, words: &[&str]) -> (SplitNo, WorkerNo)
+    requires few { AreFew names.now }
+    requires pair { HavePair names.now (map (λ w. w.now) words.now) }
+    ensures { ArePair names.now (map (λ w. w.now) words.now) result.0 result.1 }
 {
-    if words.is_empty() {
-        return Ok(None);
-    }
-    let Some(worker) = worker_at(&names.workers, words, 0) else {
-        return Ok(None);
-    };
-    match splits_from(alloc, &names.splits, words, 1)? {
-        Some(splits) => Ok(Some(Command::Join(worker, splits))),
-        None => Ok(None),
-    }
+    let split = split_at(&names.splits, words, 0);
+    (split, worker_at(&names.workers, words, 1))
 }
 
-fn sweep_of(alloc: Global, names: &Names<'_>, words: &[&str]) -> Result<Option<Command>, AllocError>
-    ensures { IfOk result (λ found. IfSome found (SaysCommand names.now (stated Sweep words.now))) }
+fn join_of(alloc: Global, names: &Names<'_>, words: &[&str]) -> Result<Command, AllocError>
+    requires few { AreFew names.now }
+    requires words { HasWords names.now Join (map (λ w. w.now) words.now) }
+    ensures { IfOk result (SaysCommand names.now (stated Join words.now)) }
 {
-    match numbers_in(alloc, words)? {
-        Some(counts) => Ok(Some(Command::Sweep(counts))),
-        None => Ok(None),
-    }
+    let worker = worker_at(&names.workers, words, 0);
+    let splits = splits_from(alloc, &names.splits, words, 1)?;
+    Ok(Command::Join(worker, splits))
 }

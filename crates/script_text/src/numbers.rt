@@ -1,92 +1,94 @@
-ghost use Rattle.std.specs.Prelude.{◌≡◌, ◌≤◌, IfOk, IfSome, length, map};
+ghost use Rattle.std.specs.Prelude.{◌≤◌, ◌<◌, ◌≡◌, IfOk, length, map};
 ghost use Rattle.script_text.specs.Commands.{AreNumbered, AreTold, IsNumbered, IsTold, word_at};
+ghost use Rattle.script_text.specs.Ready.{HasName, HasNumber, HaveNames, HaveNumbers};
 
 use node_ids::{AttemptNo, SplitNo, WorkerNo};
+use plan_text::row_lists::number;
 use std::alloc::{AllocError, Global};
-use text_lines::{NameTable, Number};
+use text_lines::NameTable;
 
 // The word at a place.
-fn word_in<'t>(words: &[&'t str], place: usize) -> Option<&'t str>
-    ensures { IfSome result (λ word. word.now ≡ word_at (map (λ w. w.now) words.now) place) }
+fn word_in<'t>(words: &[&'t str], place: usize) -> &'t str
+    requires { place < length words.now }
+    ensures { result.now ≡ word_at (map (λ w. w.now) words.now) place }
 {
-    match words.get(place) {
-        Some(word) => Some(word),
-        None => None,
+    words[place]
+}
+
+// The number of the name that stands at a place.
+fn number_in(names: &NameTable<'_>, words: &[&str], place: usize) -> usize
+    requires { HasName names.now (map (λ w. w.now) words.now) place }
+    ensures value { IsNumbered names.now (word_at (map (λ w. w.now) words.now) place) result }
+    ensures within { result < length names.now }
+{
+    match names.number(word_in(words, place)) {
+        Some(number) => number,
+        None => unreachable!(),
     }
 }
 
-// The number of the name that stands at a place, if it has one.
-fn number_in(names: &NameTable<'_>, words: &[&str], place: usize) -> Option<usize>
-    ensures { IfSome result (λ n. IsNumbered names.now (word_at (map (λ w. w.now) words.now) place) n) }
+/// The number of the split that the word at a place names.
+pub fn split_at(names: &NameTable<'_>, words: &[&str], place: usize) -> SplitNo
+    requires few { length names.now ≤ 1024 }
+    requires known { HasName names.now (map (λ w. w.now) words.now) place }
+    ensures { IsNumbered names.now (word_at (map (λ w. w.now) words.now) place) result }
 {
-    let word = word_in(words, place)?;
-    let number = names.number(word)?;
-    Some(number)
+    SplitNo::new(number_in(names, words, place) as u16)
 }
 
-/// The number of the split that the word at a place names, if it names one.
-pub fn split_at(names: &NameTable<'_>, words: &[&str], place: usize) -> Option<SplitNo>
-    ensures { IfSome result (λ split. IsNumbered names.now (word_at (map (λ w. w.now) words.now) place) split) }
+/// The number of the worker that the word at a place names.
+pub fn worker_at(names: &NameTable<'_>, words: &[&str], place: usize) -> WorkerNo
+    requires few { length names.now ≤ 256 }
+    requires known { HasName names.now (map (λ w. w.now) words.now) place }
+    ensures { IsNumbered names.now (word_at (map (λ w. w.now) words.now) place) result }
 {
-    let number = number_in(names, words, place)?;
-    Some(SplitNo::new(u16::try_from(number).ok()?))
+    WorkerNo::new(number_in(names, words, place) as u16)
 }
 
-/// The number of the worker that the word at a place names, if it names one.
-pub fn worker_at(names: &NameTable<'_>, words: &[&str], place: usize) -> Option<WorkerNo>
-    ensures { IfSome result (λ worker. IsNumbered names.now (word_at (map (λ w. w.now) words.now) place) worker) }
+// The number that stands at a place.
+fn number_at(words: &[&str], place: usize) -> u64
+    requires { HasNumber 1099511627776 (map (λ w. w.now) words.now) place }
+    ensures { IsTold (word_at (map (λ w. w.now) words.now) place) result }
 {
-    let number = number_in(names, words, place)?;
-    Some(WorkerNo::new(u16::try_from(number).ok()?))
+    number(word_in(words, place))
 }
 
-/// The number that the word at a place is, if it is one below 2 ^ 64.
-pub fn number_at(words: &[&str], place: usize) -> Option<u64>
-    ensures { IfSome result (λ n. IsTold (word_at (map (λ w. w.now) words.now) place) n) }
+/// The attempt whose number stands at a place.
+pub fn attempt_at(words: &[&str], place: usize) -> AttemptNo
+    requires { HasNumber 1000000 (map (λ w. w.now) words.now) place }
+    ensures { IsTold (word_at (map (λ w. w.now) words.now) place) result }
 {
-    Number::of(words.get(place)?)?.value()
+    AttemptNo::new(number_at(words, place) as u32)
 }
 
-/// The attempt whose number the word at a place is, if it is one.
-pub fn attempt_at(words: &[&str], place: usize) -> Option<AttemptNo>
-    ensures { IfSome result (λ attempt. IsTold (word_at (map (λ w. w.now) words.now) place) attempt) }
-{
-    let number = number_at(words, place)?;
-    Some(AttemptNo::new(u32::try_from(number).ok()?))
-}
-
-/// The numbers of the splits that the words from a place on name, if each names one.
+/// The numbers of the splits that the words from a place on name.
 pub fn splits_from(
     alloc: Global,
     names: &NameTable<'_>,
     words: &[&str],
     first: usize,
-) -> Result<Option<Vec<SplitNo>>, AllocError>
-    requires { first ≤ length words.now }
-    ensures { IfOk result (λ found. IfSome found (λ splits.
-        AreNumbered names.now (map (λ w. w.now) words.now) first splits.items)) }
+) -> Result<Vec<SplitNo>, AllocError>
+    requires few { length names.now ≤ 1024 }
+    requires whole { first ≤ length words.now }
+    requires known { HaveNames names.now (map (λ w. w.now) words.now) first }
+    ensures { IfOk result (λ splits.
+        AreNumbered names.now (map (λ w. w.now) words.now) first splits.items) }
 {
     let mut splits = Vec::new(alloc);
     for place in first..words.len() {
-        let Some(split) = split_at(names, words, place) else {
-            return Ok(None);
-        };
-        splits.push(split)?;
+        splits.push(split_at(names, words, place))?;
     }
-    Ok(Some(splits))
+    Ok(splits)
 }
 
-/// The numbers that the words are, if each is one.
-pub fn numbers_in(alloc: Global, words: &[&str]) -> Result<Option<Vec<u64>>, AllocError>
-    ensures { IfOk result (λ found. IfSome found (λ numbers.
-        AreTold (map (λ w. w.now) words.now) numbers.items)) }
+/// The numbers that the words are.
+pub fn numbers_in(alloc: Global, words: &[&str]) -> Result<Vec<u64>, AllocError>
+    requires { HaveNumbers 1099511627776 (map (λ w. w.now) words.now) }
+    ensures { IfOk result (λ numbers. AreTold (map (λ w. w.now) words.now) numbers.items) }
 {
     let mut numbers = Vec::new(alloc);
     for place in 0..words.len() {
-        let Some(number) = number_at(words, place) else {
-            return Ok(None);
-        };
-        numbers.push(number)?;
+        numbers.push(number_at(words, place))?;
     }
-    Ok(Some(numbers))
+    Ok(numbers)
 }

@@ -1,4 +1,4 @@
-ghost use Rattle.std.specs.Prelude.{◌≡◌, ◌≤◌, IfErr, IfOk, length};
+ghost use Rattle.std.specs.Prelude.{◌≡◌, ◌≤◌, All, IfErr, IfOk, length};
 ghost use Rattle.line_shapes.specs.declared.keyword.Keyword.TheVariants.{Doc, Target};
 ghost use Rattle.line_rules.specs.Known.{rows_of};
 ghost use Rattle.line_rules.specs.Reading.{IsReadingError};
@@ -7,6 +7,7 @@ ghost use Rattle.plan_text.specs.Tidy.{AreTidy};
 ghost use Rattle.head_text.specs.Heads.{IsFitHead, MakesHead};
 ghost use Rattle.head_text.specs.Settings.{setting};
 ghost use Rattle.script_text.specs.Heads.{AreNames};
+ghost use Rattle.script_text.specs.Ready.{IsReady, told_names};
 ghost use Rattle.script_text.specs.Scripts.{Declares, IsJobOf, IsOfHead, IsScriptOf};
 
 use crate::commands::commands_of;
@@ -47,21 +48,31 @@ pub fn read_job(alloc: Global, text: &[u8]) -> Result<JobText<'_>, ReadingError>
 // What the lines of a script declare.
 fn script_of<'t>(alloc: Global, known: &KnownLines<'t>) -> Result<ScriptText<'t>, AllocError>
     requires tidy { AreTidy known.now.rows }
+    requires ready { All (IsReady (told_names known.now.rows)) known.now.commands }
     requires few_documents { length (rows_of Doc known.now.rows) ≤ 65536 }
     ensures script { IfOk result (λ value. Declares known.now value.script) }
     ensures head { IfOk result (λ value. MakesHead known.now.rows value.head) }
     ensures fit { IfOk result (λ value. IsFitHead value.head) }
 {
-    let names = all_names(alloc, known.rows())?;
-    let target = target_of(alloc, known.rows())?;
-    let commands = commands_of(alloc, &names, known.commands())?;
     let head = build_head(alloc, known.rows())?;
-    let script = Script {
+    let script = told_script(alloc, known)?;
+    Ok(ScriptText { head, script })
+}
+
+// The script without its head.
+fn told_script<'t>(alloc: Global, known: &KnownLines<'t>) -> Result<Script<'t>, AllocError>
+    requires tidy { AreTidy known.now.rows }
+    requires ready { All (IsReady (told_names known.now.rows)) known.now.commands }
+    ensures { IfOk result (Declares known.now) }
+{
+    let target = target_of(alloc, known.rows())?;
+    let names = all_names(alloc, known.rows())?;
+    let commands = commands_of(alloc, &names, known.commands())?;
+    Ok(Script {
         names,
         target,
         commands,
-    };
-    Ok(ScriptText { head, script })
+    })
 }
 
 // What the lines of a job declare.
@@ -73,8 +84,8 @@ fn job_of<'t>(alloc: Global, known: &KnownLines<'t>) -> Result<JobText<'t>, Allo
     ensures head { IfOk result (λ job. MakesHead known.now.rows job.head) }
     ensures fit { IfOk result (λ job. IsFitHead job.head) }
 {
-    let names = all_names(alloc, known.rows())?;
     let target = target_of(alloc, known.rows())?;
+    let names = all_names(alloc, known.rows())?;
     let head = build_head(alloc, known.rows())?;
     Ok(JobText {
         names,

@@ -1,8 +1,8 @@
 -- What a step under the lock says of the hand, of the book and to the caller.
-use Rattle.std.proofs.Common.{◌≡◌, ℕ, zero, suc, ◌+◌, ◌<◌, ◌≤◌, ◌-◌, get_or, Bool, true, false, ◌++◌, None, List, [], ◌∷◌, length, Some, refl, sym, ap, subst, ◌∙◌, arith, inl, inr}
+use Rattle.std.proofs.Common.{◌≡◌, ℕ, zero, suc, ◌+◌, ◌<◌, ◌≤◌, ◌-◌, get_or, Bool, true, false, ◌++◌, None}
+use Rattle.std.proofs.Common.{List, [], ◌∷◌, length, Some, refl, sym, ap, subst, ◌∙◌, arith, inl, inr}
 use Rattle.std.specs.Prelude.{slice_get}
 use Rattle.std.proofs.lemmas.Option.{slice_get_read, slice_get_within}
-use Rattle.std.proofs.lemmas.List.{length-append}
 use Rattle.master_state.specs.declared.answers.Answer.{Answer}
 use Rattle.master_state.specs.declared.answers.Answer.TheVariants.{Accepted, Ignored}
 use Rattle.master_state.specs.declared.answers.AnswerWith.{AnswerWith}
@@ -15,14 +15,19 @@ use Rattle.master_state.specs.declared.answers.Reply.{Reply}
 use Rattle.master_state.specs.declared.answers.Why.{Why}
 use Rattle.master_state.specs.declared.events.Event.{Event}
 use Rattle.master_state.specs.declared.events.Event.TheVariants as events
-use Rattle.master_state.specs.Jobs.{Job, died_in, Answers, AnswersBackup, AnswersReduce, AnswersWith, IsAccepted, IsReply, event_of}
-use Rattle.master_state.specs.Refusals.{Call, Add, Backup, Die, IsKnown, Join, Lose, MapFailed, PartFailed, ReduceStart, Sweep, Withdraw}
-use Rattle.hand_ledger.specs.Hands.{HandValue, Kept, counts_in, has_room, kept, last_place, starts_in, with_call}
+use Rattle.master_state.specs.Jobs.{Job, died_in, Answers, AnswersBackup, AnswersReduce, AnswersWith}
+use Rattle.master_state.specs.Jobs.{IsAccepted, IsReply, event_of}
+use Rattle.master_state.specs.Refusals.{Call, Backup}
+use Rattle.master_state.specs.Refusals.{ReduceStart, Sweep}
+use Rattle.hand_ledger.specs.Hands.{HandValue, Kept, counts_in, has_room, kept, last_place, starts_in}
+use Rattle.hand_ledger.specs.Hands.{with_call}
 use Rattle.hand_ledger.specs.Settling.{Stands, event_at}
-use Rattle.shared_master.specs.declared.calls.PlainCall.{PlainCall}
 use Rattle.shared_master.specs.declared.calls.PlainCall.TheVariants as plain
 use Rattle.shared_master.specs.declared.sizes.Sizes.{Sizes}
-use Rattle.shared_master.specs.Steps.{answered, HasCounts, IsAt, IsBarrier, IsBehind, IsHandedBack, IsKeptAs, IsKeptBackup, IsKeptReduce, IsKnownTo, IsLast, IsNextOf, IsOwn, IsReduceStep, IsStep, NamesNext, call_of, plain_backup, plain_reduce, plain_with, total_after}
+use Rattle.shared_master.specs.Steps.{answered, HasCounts, IsAt, IsBarrier, IsBehind, IsHandedBack, IsKeptAs}
+use Rattle.shared_master.specs.Steps.{IsKeptBackup, IsKeptReduce, IsLast, IsNextOf, IsOwn}
+use Rattle.shared_master.specs.Steps.{IsReduceStep, IsStep, NamesNext, plain_backup, plain_reduce}
+use Rattle.shared_master.specs.Steps.{plain_with}
 
 -- the call was accepted, or the master is unchanged
 abbrev pub Takes : Job → Call → Answer → Job → Type 0
@@ -64,20 +69,6 @@ at_end history event =
     let next : length history + 1 ≡ suc (length history) = omega arith in
     ap (event_at (history ++ event ∷ [])) next ∙ last_at history event
 
--- an accepted call's event is the last of the history, and stands at the place that was answered
-pub is_last : (old : Job) (call : Call) (given : Answer) (new : Job) → Takes old call given new →
-    IsLast new.history given
-is_last old call (Accepted place) new accepted = (
-  omega (arith, accepted.next.place_is),
-  omega (
-    arith,
-    accepted.next.place_is,
-    ap length accepted.next.history,
-    length-append old.history (event_of old.state call ∷ []),
-  ),
-)
-is_last old call (Ignored why) new same = tt
-
 pub is_at : (old : Job) (call : Call) (given : Answer) (new : Job) → Takes old call given new →
     IsAt new.history given (event_of old.state call)
 is_at old call (Accepted place) new accepted =
@@ -85,54 +76,10 @@ is_at old call (Accepted place) new accepted =
     ∙ at_end old.history (event_of old.state call)
 is_at old call (Ignored why) new same = tt
 
--- no other event stands there
-pub has_counts : (old : Job) (call : Call) (given : Answer) (new : Job) (n : ℕ) → Takes old call given new →
-    counts_in (event_of old.state call) ≡ n → starts_in (event_of old.state call) ≡ 0 →
-    HasCounts new.history given n
-has_counts old call (Accepted place) new n accepted counts starts = λ event at.
-    let is : Some (event_of old.state call) ≡ Some event =
-    sym (is_at old call (Accepted place) new accepted) ∙ at in
-    let same : event_of old.state call ≡ event = cc in
-    (ap counts_in (sym same) ∙ counts, ap starts_in (sym same) ∙ starts)
-has_counts old call (Ignored why) new n same counts starts = tt
-
--- a plain call has neither
-pub plain_counts : (old : Job) (call : PlainCall) (given : Answer) (new : Job) →
-    Takes old (call_of call) given new → HasCounts new.history given 0
-plain_counts old (plain.Add split w) given new taken = has_counts old (Add split w) given new 0 taken refl refl
-plain_counts old (plain.Lose split w) given new taken = has_counts old (Lose split w) given new 0 taken refl refl
-plain_counts old (plain.Join w set) given new taken = has_counts old (Join w set) given new 0 taken refl refl
-plain_counts old (plain.Die w) given new taken = has_counts old (Die w) given new 0 taken refl refl
-plain_counts old (plain.MapFailed a) given new taken = has_counts old (MapFailed a) given new 0 taken refl refl
-plain_counts old (plain.Withdraw a) given new taken = has_counts old (Withdraw a) given new 0 taken refl refl
-plain_counts old (plain.PartFailed a) given new taken = has_counts old (PartFailed a) given new 0 taken refl refl
-
--- what is known of the sizes is known of the cluster
-pub known_of : (sizes : Sizes) (job : Job) (hand : HandValue) (call : PlainCall) → IsOwn sizes job hand →
-    IsKnownTo sizes (call_of call) → IsKnown job.setup (call_of call)
-known_of sizes job hand (plain.Add split w) own known = (subst (λ n. split < n) own.splits known.0, subst (λ n. w < n) own.workers known.1)
-known_of sizes job hand (plain.Lose split w) own known = (subst (λ n. split < n) own.splits known.0, subst (λ n. w < n) own.workers known.1)
-known_of sizes job hand (plain.Join w set) own known = (subst (λ n. w < n) own.workers known.0, λ split has. subst (λ n. split < n) own.splits (known.1 split has))
-known_of sizes job hand (plain.Die w) own known = subst (λ n. w < n) own.workers known
-known_of sizes job hand (plain.MapFailed a) own known = tt
-known_of sizes job hand (plain.Withdraw a) own known = tt
-known_of sizes job hand (plain.PartFailed a) own known = tt
-
--- the book counts it
-pub total_is : (old : Job) (call : Call) (given : Answer) (new : Job) (total : ℕ) → Takes old call given new →
-    total ≡ length old.history → total_after total given ≡ length new.history
-total_is old call (Accepted place) new total accepted is =
-    omega (
-      arith,
-      is,
-      ap length accepted.next.history,
-      length-append old.history (event_of old.state call ∷ []),
-    )
-total_is old call (Ignored why) new total same is = is ∙ ap (λ (job : Job). length job.history) (sym same)
-
 -- a step that reached the master
 pub stepped : (sizes : Sizes) (old : Job) (hand : HandValue) (call : Call) (counts : List (List ℕ))
-    (given : Answer) (new : Job) (after : HandValue) → IsOwn sizes old hand → has_room hand (length counts) 0 ≡ true →
+    (given : Answer) (new : Job) (after : HandValue) → IsOwn sizes old hand →
+    has_room hand (length counts) 0 ≡ true →
     Answers old call given new →
     ((event : Event) → IsAt new.history given event → after ≡ answered hand event counts given) →
     IsStep sizes old hand call counts given new after
@@ -150,9 +97,11 @@ pub stepped_with : {R : Type 0} (sizes : Sizes) (inside old : Job) (hand : HandV
 stepped_with sizes inside old hand call made given told new after same barrier is told_is entered =
     stepped sizes old hand call [] (plain_with given) new after barrier.0 barrier.1
     (subst (λ j. Answers j call (plain_with given) new) same (answers_with inside call made given new is).0)
-    (subst (λ t. (event : Event) → IsAt new.history t event → after ≡ answered hand event [] t) told_is entered)
+    (subst (λ t. (event : Event) → IsAt new.history t event →
+    after ≡ answered hand event [] t) told_is entered)
 
-pub stepped_backup : (sizes : Sizes) (inside old : Job) (hand : HandValue) (split w : ℕ) (given : BackupAnswer)
+pub stepped_backup : (sizes : Sizes) (inside old : Job) (hand : HandValue) (split w : ℕ)
+    (given : BackupAnswer)
     (told : Answer) (new : Job) (after : HandValue) → inside ≡ old → IsBarrier sizes old hand 0 0 None →
     AnswersBackup inside split w given new → told ≡ plain_backup given →
     ((event : Event) → IsAt new.history told event → after ≡ answered hand event [] told) →
@@ -161,9 +110,11 @@ stepped_backup sizes inside old hand split w given told new after same barrier i
     stepped sizes old hand (Backup split w) [] (plain_backup given) new after barrier.0 barrier.1
     (subst (λ j. Answers j (Backup split w) (plain_backup given) new) same
     (answers_backup inside split w given new is).0)
-    (subst (λ t. (event : Event) → IsAt new.history t event → after ≡ answered hand event [] t) told_is entered)
+    (subst (λ t. (event : Event) → IsAt new.history t event →
+    after ≡ answered hand event [] t) told_is entered)
 
-pub stepped_reduce : (sizes : Sizes) (inside old : Job) (hand : HandValue) (given : ReduceAnswer) (told : Answer)
+pub stepped_reduce : (sizes : Sizes) (inside old : Job) (hand : HandValue) (given : ReduceAnswer)
+    (told : Answer)
     (new : Job) (after : HandValue) → inside ≡ old → IsBarrier sizes old hand 0 0 None →
     AnswersReduce inside given new → told ≡ plain_reduce given →
     ((event : Event) → IsAt new.history told event → after ≡ answered hand event [] told) →
@@ -172,7 +123,8 @@ stepped_reduce sizes inside old hand given told new after same barrier is told_i
     let reached : AnswersReduce old given new = subst (λ j. AnswersReduce j given new) same is in
     let keeps : (event : Event) → IsAt new.history (plain_reduce given) event →
     after ≡ answered hand event [] (plain_reduce given) =
-    subst (λ t. (event : Event) → IsAt new.history t event → after ≡ answered hand event [] t) told_is entered in
+    subst (λ t. (event : Event) → IsAt new.history t event →
+    after ≡ answered hand event [] t) told_is entered in
     record {
       answer = inr (barrier, reached);
       hand_is = keeps (event_of old.state ReduceStart)
@@ -189,7 +141,8 @@ event_read history (suc k) event some last is =
     (is ∙ ap (λ i. get_or history i event) same)
 
 pub last_event : (history : List Event) (given : Answer) (place : ℕ) (event : Event) →
-    given ≡ Accepted place → IsLast history given → event ≡ get_or history (place - 1) event → event_at history place ≡ Some event
+    given ≡ Accepted place → IsLast history given → event ≡ get_or history (place - 1) event →
+    event_at history place ≡ Some event
 last_event history given place event accepted last is =
     let there : IsLast history (Accepted place) = subst (λ a. IsLast history a) accepted last in
     event_read history place event there.0 there.1 is
@@ -238,8 +191,10 @@ next_of : (sizes : Sizes) (old : Job) (hand : HandValue) (call : Call) (counts :
     (given : Answer) (new : Job) →
     IsBehind sizes old hand (length counts) given new (Takes old call given new) → IsNextOf hand counts given
 next_of sizes old hand call counts (Accepted place) new (inl ignored) = absurd (cc ignored.2)
-next_of sizes old hand call counts (Accepted place) new (inr reached) =
-    (omega (arith, last_within old.history hand.calls reached.0.0.stands, reached.1.next.place_is), reached.0.1)
+next_of sizes old hand call counts (Accepted place) new (inr reached) = (
+  omega (arith, last_within old.history hand.calls reached.0.0.stands, reached.1.next.place_is),
+  reached.0.1,
+)
 next_of sizes old hand call counts (Ignored why) new is = tt
 
 behind_takes : (sizes : Sizes) (old : Job) (hand : HandValue) (call : Call) (n : ℕ) (given : Answer)
@@ -247,7 +202,8 @@ behind_takes : (sizes : Sizes) (old : Job) (hand : HandValue) (call : Call) (n :
     IsBehind sizes old hand n given new (Answers old call given new) →
     IsBehind sizes old hand n given new (Takes old call given new)
 behind_takes sizes old hand call n given new (inl ignored) = inl ignored
-behind_takes sizes old hand call n given new (inr reached) = inr (reached.0, takes old call given new reached.1)
+behind_takes sizes old hand call n given new (inr reached) =
+    inr (reached.0, takes old call given new reached.1)
 
 behind_reduce : (sizes : Sizes) (old : Job) (hand : HandValue) (given : ReduceAnswer) (new : Job) →
     IsBehind sizes old hand 0 (plain_reduce given) new (AnswersReduce old given new) →
@@ -265,7 +221,8 @@ kept_as sizes old hand call counts given new after step = record {
 }
 
 pub kept_backup : (sizes : Sizes) (old : Job) (hand : HandValue) (split w : ℕ) (given : BackupAnswer)
-    (new : Job) (after : HandValue) → IsStep sizes old hand (Backup split w) [] (plain_backup given) new after →
+    (new : Job) (after : HandValue) →
+    IsStep sizes old hand (Backup split w) [] (plain_backup given) new after →
     NamesNext old given → IsKeptBackup hand split w given after
 kept_backup sizes old hand split w (backup.Accepted place a) new after step names =
     subst (λ n. IsKeptAs hand (events.Backup n split w) [] (Accepted place) after) (sym names)

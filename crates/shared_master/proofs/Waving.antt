@@ -1,5 +1,6 @@
 -- What a wave under the lock says to its caller.
-use Rattle.std.proofs.Common.{◌≡◌, ℕ, ◌+◌, ◌-◌, ◌≤◌, ◌<◌, ◌&&◌, Bool, true, false, List, [], ◌∷◌, length, drop, Option, refl, sym, ap, subst, ◌∙◌, arith}
+use Rattle.std.proofs.Common.{◌≡◌, ℕ, ◌+◌, ◌-◌, ◌≤◌, ◌&&◌, Bool, true, false, List, [], ◌∷◌, length}
+use Rattle.std.proofs.Common.{drop, Option, refl, sym, ap, subst, ◌∙◌, arith}
 use Rattle.std.specs.Prelude.{fold, not, Ok, Err}
 use Rattle.std.specs.declared.result.Result.{Result}
 use Rattle.price_certificate.specs.Certificate.{Certifies}
@@ -12,7 +13,7 @@ use Rattle.master_state.specs.declared.states.Work.TheVariants as works
 use Rattle.master_state.specs.States.{State}
 use Rattle.master_state.specs.Changes.{split_started}
 use Rattle.master_state.specs.Jobs.{IsCommitted, Job, present}
-use Rattle.hand_ledger.specs.Hands.{HandValue, has_room, last_place, with_call}
+use Rattle.hand_ledger.specs.Hands.{HandValue, has_room, with_call}
 use Rattle.shared_master.specs.declared.sizes.Sizes.{Sizes}
 use Rattle.shared_master.specs.declared.waves.SharedWave.{SharedWave}
 use Rattle.shared_master.specs.Waves.{IsKeptWave, IsSharedWave, PlansAs, WavesAs, kept_wave}
@@ -75,18 +76,6 @@ starts_counted old plan wave new committed =
       length-drop (wave.first - 1) new.state.starts,
     )
 
--- the book counts the wave
-pub wave_counted : (old : Job) (plan : List (Option ℕ)) (wave : Wave) (new : Job) (total after : ℕ) →
-    IsCommitted old plan wave new → total ≡ length old.history → after ≡ total + 1 → after ≡ length new.history
-wave_counted old plan wave new total after committed is more =
-    omega (
-      arith,
-      is,
-      more,
-      ap length committed.next.history,
-      length-append old.history (events.Wave wave.first wave.count wave.cost ∷ []),
-    )
-
 pub wave_last : (old : Job) (plan : List (Option ℕ)) (wave : Wave) (new : Job) →
     IsCommitted old plan wave new →
     wave.place ≡ length new.history
@@ -100,7 +89,8 @@ wave_last old plan wave new committed =
 
 -- a plan that was committed under the lock, with its starts
 pub shared_wave : (sizes : Sizes) (inside old : Job) (hand : HandValue) (plan : List (Option ℕ))
-    (prices : PriceList) (shared : SharedWave) (new : Job) (after : HandValue) → inside ≡ old → IsOwn sizes old hand →
+    (prices : PriceList) (shared : SharedWave) (new : Job) (after : HandValue) → inside ≡ old →
+    IsOwn sizes old hand →
     has_room hand 0 shared.wave.count ≡ true →
     Certifies (present inside plan prices) × IsCommitted inside plan shared.wave new →
     shared.starts.items ≡ drop (shared.wave.first - 1) new.state.starts →

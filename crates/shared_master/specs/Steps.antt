@@ -15,8 +15,10 @@ use Rattle.master_state.specs.declared.events.Event.{Event}
 use Rattle.master_state.specs.declared.events.Event.TheVariants as events
 use Rattle.master_state.specs.States.{next_attempt}
 use Rattle.master_state.specs.Jobs.{Job, Answers, AnswersReduce, event_of}
-use Rattle.master_state.specs.Refusals.{Call, MapFailed, Withdraw, Die, Join, Add, Lose, ReduceStart, PartFailed, Backup}
-use Rattle.hand_ledger.specs.Hands.{HandValue, counts_in, has_room, kept, last_place, noted, starts_in, with_call}
+use Rattle.master_state.specs.Refusals.{Call, MapFailed, Withdraw, Die, Join, Add, Lose, ReduceStart}
+use Rattle.master_state.specs.Refusals.{PartFailed, Backup}
+use Rattle.hand_ledger.specs.Hands.{HandValue, counts_in, has_room, kept, last_place, noted, starts_in}
+use Rattle.hand_ledger.specs.Hands.{with_call}
 use Rattle.hand_ledger.specs.Settling.{Stands, event_at}
 use Rattle.shared_master.specs.declared.calls.PlainCall.{PlainCall}
 use Rattle.shared_master.specs.declared.calls.PlainCall.TheVariants as plain

@@ -1,5 +1,6 @@
 -- Waves that are planned outside the lock and committed under it.
-use Rattle.std.specs.Prelude.{ℕ, ◌≡◌, ◌-◌, ◌<◌, ◌⊎◌, ◌&&◌, not, Bool, true, false, List, [], Option, Some, None, Ok, Err, length, drop}
+use Rattle.std.specs.Prelude.{ℕ, ◌≡◌, ◌-◌, ◌<◌, ◌⊎◌, ◌&&◌, not, Bool, true, false, List, [], Option, Some}
+use Rattle.std.specs.Prelude.{None, Ok, Err, length, drop}
 use Rattle.std.specs.declared.result.Result.{Result}
 use Rattle.wave_problem.specs.Wave.{Wave}
 use Rattle.wave_problem.specs.Assignment.{IsBest, Plan, pairs_of}

@@ -1,87 +1,88 @@
-ghost use Rattle.std.specs.Prelude.{◌≡◌, ℕ, ◌<◌, length, MatchResult};
-ghost use Rattle.hand_ledger.specs.Settling.{Holds, IsLowestTorn};
+ghost use Rattle.std.specs.Prelude.{◌≡◌, ℕ, ◌<◌, ◌≤◌, length, MatchResult};
+ghost use Rattle.hand_ledger.specs.Settling.{all_calls, Holds, IsLowestTorn};
 ghost use Rattle.shared_master.specs.Held.{is_short, log_of};
 
 use crate::held::Held;
 use hand_ledger::{Hand, Log, torn_place};
 use master_core::Master;
 use std::marker::Model;
-use std::sync::ledger::{Book, Ledger, Share};
+use std::sync::ledger::Ledger;
 
 /// A master that no thread shares any more, with the book of its hands: its history is as long as the book
 /// says.
 #[derive(Drop)]
 pub struct Closed<L: Ledger> {
-    master: Master,
-    book: Book<L>,
+    held: Held<L>,
 }
 
 impl<L: Ledger> Model for Closed<L> {
-    ghost use Rattle.std.specs.Prelude.{◌≡◌, length};
-    ghost use Rattle.master_state.specs.Jobs.{Job};
+    ghost use Rattle.shared_master.specs.Held.{HeldValue};
 
-    ghost Value = { Job };
+    ghost Value = { HeldValue };
 
-    ghost view = { λ c. c.master };
-
-    ghost invariant = { λ c. c.book.total ≡ length c.master.history };
+    ghost view = { λ c. c.held };
 }
 
 impl<L: Ledger> Closed<L> {
     // What the lock kept.
     pub(crate) fn of(held: Held<L>) -> Closed<L>
-        ensures { result ≡ held.job }
+        ensures { result ≡ held }
     {
-        let Held {
-            master,
-            book,
-            rest: _,
-            made: _,
-        } = held;
-        Closed { master, book }
+        Closed { held }
     }
 
     /// The master.
     pub fn master(&self) -> &Master
-        ensures { result.now ≡ self.now }
+        ensures { result.now ≡ self.now.job }
     {
-        &self.master
+        &self.held.master
     }
 
-    /// With every share of the ledger together, the history is as long as their amount.
-    pub fn audit(&mut self, all: &mut Share<L>)
-        requires { all.old.parts ≡ L.parts }
-        ensures count { length self.new.history ≡ all.new.amount }
+    /// How many hands were made.
+    pub fn made(&self) -> u64
+        ensures { result ≡ self.now.made }
+    {
+        self.held.made
+    }
+
+    /// A law of its hands: they have no more calls than the history has events, and just as many where all
+    /// hands that were made are there.
+    pub fn audit(&mut self, hands: &mut [Hand<L>])
+        requires { L.parts ≡ 4096 }
+        ensures bound { length (all_calls hands.old) ≤ length self.old.job.history }
+        ensures all { length hands.old ≡ self.old.made
+            → length (all_calls hands.old) ≡ length self.old.job.history }
+        ensures hands { hands.new ≡ hands.old }
         ensures same { self.new ≡ self.old }
     {
-        self.book.audit(all);
+        self.held.audit(hands);
     }
 
     // The lowest place at which the history and the hands disagree, if there is one.
     fn torn_place(&self, hands: &[Hand<L>]) -> Option<u32>
-        ensures { IsLowestTorn (log_of self.now) (is_short self.now) hands.now result }
+        ensures { IsLowestTorn (log_of self.now.job) (is_short self.now.job) hands.now result }
     {
-        let _events = self.master.events();
+        let _events = self.held.master.events();
         let log = Log::new(
-            self.master.history(),
-            self.master.starts(),
-            self.master.sweeps(),
+            self.held.master.history(),
+            self.held.master.starts(),
+            self.held.master.sweeps(),
         );
         torn_place(&log, self.is_short(), hands)
     }
 
     // Whether the master is short of some room.
     fn is_short(&self) -> bool
-        ensures { result ≡ is_short self.now }
+        ensures { result ≡ is_short self.now.job }
     {
-        let limits = self.master.limits();
-        let events = self.master.events();
-        let starts = self.master.starts().len() as u64;
-        let splits = self.master.cluster().splits().len() as u64;
+        let limits = self.held.master.limits();
+        let events = self.held.master.events();
+        let starts = self.held.master.starts().len() as u64;
+        let splits = self.held.master.cluster().splits().len() as u64;
         if events >= limits.events {
             return true;
         }
-        if self.master.sweeps().len() as u64 >= limits.sweeps as u64 {
+        if self.held.master.sweeps().len() as u64 >= limits.sweeps as u64 {
             return true;
         }
         if starts + 1 > limits.attempts as u64 {
@@ -110,16 +111,20 @@ pub struct Torn<L: Ledger> {
 /// past the last event; and the notes of all hands are true.
 pub fn settle<L: Ledger>(closed: Closed<L>, hands: Vec<Hand<L>>) -> Result<Settled, Torn<L>>
     ensures { MatchResult result
-        (λ s. (s.master ≡ closed) × ((place : ℕ) → Holds (log_of closed) (is_short closed) hands.items place))
+        (λ s. (s.master ≡ closed.job)
+        × ((place : ℕ) → Holds (log_of closed.job) (is_short closed.job) hands.items place))
         (λ t. (t.closed ≡ closed) × (t.hands ≡ hands)
-        × (Holds (log_of closed) (is_short closed) hands.items t.place → ⊥)
-        × ((place : ℕ) → place < t.place → Holds (log_of closed) (is_short closed) hands.items place)) }
+        × (Holds (log_of closed.job) (is_short closed.job) hands.items t.place → ⊥)
+        × ((place : ℕ) → place < t.place
+        → Holds (log_of closed.job) (is_short closed.job) hands.items place)) }
 {
     let torn = closed.torn_place(&hands);
     match torn {
         None => {
-            let Closed { master, book: _ } = closed;
-            Ok(Settled { master })
+            let Closed { held } = closed;
+            Ok(Settled {
+                master: held.into_master(),
+            })
         }
         Some(place) => Err(Torn {
             place,

@@ -1,10 +1,12 @@
-ghost use Rattle.std.specs.Prelude.{◌≡◌, ℕ, ◌+◌, ◌<◌, ◌≤◌, ◌↔◌, [], ◌∷◌, true, false, length, IsTrue, IfOk, OnErr, OnOk, Err};
+ghost use Rattle.std.specs.Prelude.{◌≡◌, ℕ, ◌+◌, ◌<◌, ◌≤◌, ◌↔◌, [], ◌∷◌, true, false, length, IsTrue, IfOk};
+ghost use Rattle.std.specs.Prelude.{OnErr, OnOk, Err};
 ghost use Rattle.node_ids.specs.Sets.{has_number};
 ghost use Rattle.block_map.specs.Copies.{AreCopies, holdings};
 ghost use Rattle.master_state.specs.Jobs.{died_in, IsGlance, IsKept};
 ghost use Rattle.master_state.specs.Refusals.{Call};
 ghost use Rattle.master_state.specs.declared.events.Event.{Event};
 ghost use Rattle.hand_ledger.specs.Hands.{has_room, noted};
+ghost use Rattle.hand_ledger.specs.Settling.{all_calls};
 ghost use Rattle.shared_master.specs.Steps.{
   answered,
   call_of,
@@ -28,7 +30,7 @@ use crate::calls::{PlainCall, plain_backup, plain_reduce, plain_with};
 use crate::shared::HandError;
 use crate::sizes::Sizes;
 use block_map::CopyOrder;
-use hand_ledger::{Hand, are_few};
+use hand_ledger::{Hand, are_few, audit};
 use master_core::Master;
 use master_state::{Answer, AnswerWith, BackupAnswer, Glance, Limits, ReduceAnswer, Swept, Why};
 use node_ids::{AttemptNo, SplitNo, WorkerNo, WorkerSet};
@@ -46,17 +48,26 @@ pub(crate) struct Held<L: Ledger> {
     pub(crate) book: Book<L>,
     pub(crate) rest: Share<L>,
     pub(crate) made: u64,
+    pub(crate) seen: Option<Seen>,
+}
+
+// What was seen at a glance, and how many events there were by then.
+#[derive(Clone, Copy)]
+pub(crate) struct Seen {
+    events: u32,
+    glance: Glance,
 }
 
 impl<L: Ledger> Model for Held<L> {
     ghost use Rattle.std.specs.Prelude.{◌≡◌, ◌+◌, ◌≤◌, length};
-    ghost use Rattle.shared_master.specs.Held.{HeldValue};
+    ghost use Rattle.shared_master.specs.Held.{HeldValue, IsStillSeen};
 
     ghost Value = { HeldValue };
 
     ghost view = { λ h. record { job = h.master; made = h.made } };
 
-    ghost invariant = { λ h. (h.book.total ≡ length h.master.history) × (h.rest.parts + h.made ≡ 4096) × (h.rest.amount ≡ 0) × (h.made ≤ 4095) };
+    ghost invariant = { λ h. (h.book.total ≡ length h.master.history) × (h.rest.parts + h.made ≡ 4096)
+        × (h.rest.amount ≡ 0) × (h.made ≤ 4095) × IsStillSeen h.master h.seen };
 }
 
 impl<L: Ledger> Held<L> {
@@ -66,7 +77,12 @@ impl<L: Ledger> Held<L> {
         ensures made { OnOk result (self.new.made ≡ self.old.made + 1) }
         ensures err { OnErr result (self.new ≡ self.old) }
         ensures limit { (result ≡ Err HandError.Limit) ↔ (self.old.made ≡ 4095) }
-        ensures hand { IfOk result (λ h. h ≡ record { calls = []; room = room; strange = false; full = false }) }
+        ensures hand { IfOk result (λ h. h ≡ record {
+          calls = [];
+          room = room;
+          strange = false;
+          full = false;
+        }) }
     {
         if self.made >= 4095 {
             return Err(HandError::Limit);
@@ -87,6 +103,32 @@ impl<L: Ledger> Held<L> {
         ensures held { self.new ≡ self.old }
     {
         are_few(hands, &mut self.rest);
+    }
+
+    // They have no more calls than there are events, and just as many where they are all that were made.
+    pub(crate) fn audit(&mut self, hands: &mut [Hand<L>])
+        requires { L.parts ≡ 4096 }
+        ensures bound { length (all_calls hands.old) ≤ length self.old.job.history }
+        ensures all { length hands.old ≡ self.old.made
+            → length (all_calls hands.old) ≡ length self.old.job.history }
+        ensures hands { hands.new ≡ hands.old }
+        ensures held { self.new ≡ self.old }
+    {
+        audit(&mut self.book, hands, &mut self.rest);
+    }
+
+    // The master, without its book.
+    pub(crate) fn into_master(self) -> Master
+        ensures { result ≡ self.job }
+    {
+        let Held {
+            master,
+            book: _,
+            rest: _,
+            made: _,
+            seen: _,
+        } = self;
+        master
     }
 
     // Whether the sizes are the master's, and the hand's last call stands in the history.
@@ -229,12 +271,23 @@ impl<L: Ledger> Held<L> {
         swept
     }
 
-    pub(crate) fn glance(&self) -> Glance
-        ensures kept { IsKept self.now.job }
-        ensures glance { IsGlance self.now.job result }
+    // What is seen at a glance. It is told again, without a look, where nothing was accepted since.
+    pub(crate) fn glance(&mut self) -> Glance
+        ensures kept { IsKept self.old.job }
+        ensures glance { IsGlance self.old.job result }
+        ensures same { self.new ≡ self.old }
     {
+        // (the present state is one that a history leads to)
         let _history = self.master.history();
-        self.master.glance()
+        let events = self.master.events();
+        if let Some(seen) = self.seen {
+            if seen.events == events {
+                return seen.glance;
+            }
+        }
+        let glance = self.master.glance();
+        self.seen = Some(Seen { events, glance });
+        glance
     }
 
     pub(crate) fn copy_orders(
@@ -246,6 +299,7 @@ impl<L: Ledger> Held<L> {
         ensures copies { IfOk result (λ orders. AreCopies (holdings self.now.job.state.workers
             self.now.job.setup.cluster.tree self.now.job.state.holders target) orders.items) }
     {
+        // (the present state is one that a history leads to)
         let _history = self.master.history();
         self.master.copy_orders(alloc, target)
     }
@@ -277,6 +331,7 @@ fn enter<L: Ledger>(
 {
     match answer {
         Answer::Accepted(place) => {
+            // (how long the history is)
             let _events = master.events();
             let event = master.history()[place as usize - 1];
             hand.keep(book, place, event, counts, &[]);

@@ -1,4 +1,5 @@
-ghost use Rattle.std.specs.Prelude.{◌≡◌, ◌+◌, ◌-◌, ◌<◌, ◌≤◌, [], ◌++◌, drop, length, vec_capacity, vec_len, Err, IfOk, MatchResult};
+ghost use Rattle.std.specs.Prelude.{◌≡◌, ◌+◌, ◌-◌, ◌<◌, ◌≤◌, [], ◌++◌, drop, length, vec_capacity, vec_len};
+ghost use Rattle.std.specs.Prelude.{Err, IfOk, MatchResult};
 ghost use Rattle.wave_problem.specs.Assignment.{IsBest, pairs_of};
 ghost use Rattle.price_certificate.specs.Certificate.{claim, Certifies, HasOneSize};
 ghost use Rattle.shared_master.specs.declared.waves.WaveError.{WaveError};
@@ -73,7 +74,8 @@ pub(crate) enum Uncommitted {
 
 // Plans a wave.
 pub(crate) fn solve(alloc: Global, problem: &Problem) -> Result<Solved, WaveError>
-    ensures certifies { IfOk result (λ s. Certifies (claim problem.now s.planned.plan.starts s.planned.prices)) }
+    ensures certifies { IfOk result
+        (λ s. Certifies (claim problem.now s.planned.plan.starts s.planned.prices)) }
     ensures best { IfOk result (λ s. IsBest problem.now (pairs_of s.planned.plan.starts)) }
     ensures sizes { IfOk result (λ s. HasOneSize (claim problem.now s.planned.plan.starts s.planned.prices)
         s.planned.plan.workers) }
@@ -155,6 +157,7 @@ impl<L: Ledger> Held<L> {
             }
             Err(CommitError::Memory) => return Err(Uncommitted::Refused(WaveError::Memory)),
         };
+        // (how long the history is)
         let _events = self.master.events();
         let Wave {
             place,

@@ -1,9 +1,10 @@
-ghost use Rattle.std.specs.Prelude.{◌≡◌, ◌<◌, vec_len};
+ghost use Rattle.std.specs.Prelude.{◌≡◌, ◌<◌, length, vec_len, IsTrue};
+ghost use Rattle.hand_ledger.specs.Settling.{all_calls};
 
-use crate::masters::{AMPLE, SplitRow, list_of, share};
+use crate::masters::{AMPLE, SplitRow, hand_of, list_of, shared_of, wave_of};
 use master_core::Master;
 use master_state::{Answer, Limits, Why};
-use shared_master::{Closed, Hand, HandError, Settled, SharedMaster, Torn, settle};
+use shared_master::{Closed, Hand, HandError, SharedMaster, Torn, settle};
 use std::alloc::Global;
 use std::marker::Brand;
 use std::process::Abort;
@@ -28,8 +29,24 @@ fn sweep_place<L: Ledger, R: Wait>(
     }
 }
 
-// A hundred calls of a thread, of which each is accepted: every fourth is a wave, and the others are sweeps,
-// whose counts tell them apart. The place of the first.
+// The place of a call of a thread: every fourth is a wave, and the others are sweeps.
+fn call_once<L: Ledger, R: Wait>(
+    rt: &R,
+    alloc: Global,
+    shared: &SharedMaster<L>,
+    hand: &mut Hand<L>,
+    call: u64,
+) -> Option<u32> {
+    if call % 4 == 0 {
+        let wave = wave_of(rt, alloc, shared, hand)?;
+        Some(wave.place)
+    } else {
+        sweep_place(rt, shared, hand, call)
+    }
+}
+
+// A hundred calls of a thread, of which each is accepted; the counts of sweeps tell them apart. The place of
+// the first.
 fn call_often<L: Ledger, R: Wait>(
     rt: &R,
     alloc: Global,
@@ -41,11 +58,7 @@ fn call_often<L: Ledger, R: Wait>(
 {
     let mut first = None;
     for call in 0..100u64 {
-        let place = if call % 4 == 0 {
-            shared.plan_wave(rt, alloc, hand).ok()?.wave.place
-        } else {
-            sweep_place(rt, shared, hand, 1000 * mark + call)?
-        };
+        let place = call_once(rt, alloc, shared, hand, 1000 * mark + call)?;
         first = first.or(Some(place));
     }
     first
@@ -73,30 +86,70 @@ fn is_full<L: Ledger, R: Wait>(rt: &R, shared: &SharedMaster<L>, hand: &mut Hand
     shared.sweep(rt, hand, &[0; 256]).answer == Answer::Ignored(Why::HistoryFull)
 }
 
-// One hand alone is torn at the lowest place of the other; both settle.
+fn is_full_for_both<L: Ledger, R: Wait>(
+    rt: &R,
+    shared: &SharedMaster<L>,
+    one: &mut Hand<L>,
+    two: &mut Hand<L>,
+) -> bool {
+    is_full(rt, shared, one) && is_full(rt, shared, two)
+}
+
+// Whether these are all hands: then every event is a call of theirs.
+fn are_all<L: Ledger>(closed: &mut Closed<L>, hands: &mut [Hand<L>]) -> bool
+    requires { L.parts ≡ 4096 }
+    ensures { IsTrue result → length (all_calls hands.old) ≡ length closed.old.job.history }
+{
+    closed.audit(hands);
+    hands.len() as u64 == closed.made()
+}
+
+// One hand is not all, and its history is torn.
+fn settle_one<L: Ledger>(rt: &impl Abort, mut closed: Closed<L>, mut hands: Vec<Hand<L>>) -> Torn<L>
+    requires { L.parts ≡ 4096 }
+{
+    assert!(rt; !are_all(&mut closed, &mut hands));
+    settle(closed, hands).err().expect(rt, "a hand is left out")
+}
+
+// How many events there are, and how many sweeps.
+fn counts_of(master: Master) -> (usize, usize) {
+    (master.history().len(), master.sweeps().len())
+}
+
+// Both are all, and settle.
+fn settle_both<L: Ledger>(
+    rt: &impl Abort,
+    mut closed: Closed<L>,
+    mut hands: Vec<Hand<L>>,
+    two: Hand<L>,
+) -> (usize, usize)
+    requires { L.parts ≡ 4096 }
+{
+    hands.push(two).expect(rt, "no memory");
+    assert!(rt; are_all(&mut closed, &mut hands));
+    counts_of(
+        settle(closed, hands)
+            .ok()
+            .expect(rt, "every hand is there")
+            .master,
+    )
+}
+
+// One hand alone is torn at the lowest place of the other; both settle. How many events there are, and how
+// many sweeps.
 fn settle_one_and_both<L: Ledger>(
     rt: &impl Abort,
-    alloc: Global,
     closed: Closed<L>,
-    one: Hand<L>,
+    one: Vec<Hand<L>>,
     two: Hand<L>,
     lowest: u32,
-) -> Master {
-    let alone = list_of(alloc, one).expect(rt, "no memory");
-    let Err(torn) = settle(closed, alone) else {
-        panic!(rt; "a hand is left out")
-    };
-    let Torn {
-        place,
-        closed,
-        mut hands,
-    } = torn;
-    assert_eq!(rt; place, lowest);
-    hands.push(two).expect(rt, "no memory");
-    let Ok(Settled { master }) = settle(closed, hands) else {
-        panic!(rt; "every hand is there")
-    };
-    master
+) -> (usize, usize)
+    requires { L.parts ≡ 4096 }
+{
+    let torn = settle_one(rt, closed, one);
+    assert_eq!(rt; torn.place, lowest);
+    settle_both(rt, torn.closed, torn.hands, two)
 }
 
 fn settle_two_hands<L: Ledger + Send + Sync, R: Threads + Wait + Abort + Sync>(
@@ -106,16 +159,14 @@ fn settle_two_hands<L: Ledger + Send + Sync, R: Threads + Wait + Abort + Sync>(
 )
     requires { (blank.name ≡ L.name) × (blank.parts ≡ L.parts) × (blank.parts ≡ 4096) }
 {
-    let shared: SharedMaster<L> = share(rt, alloc, blank, (2, 0), &TWO_SPLITS, AMPLE).expect(
-        rt,
-        "no master",
-    );
-    let mut one = shared.hand(rt, alloc, AMPLE).expect(rt, "no hand");
-    let mut two = shared.hand(rt, alloc, AMPLE).expect(rt, "no hand");
+    let shared: SharedMaster<L> = shared_of(rt, alloc, blank, (2, 0), &TWO_SPLITS, AMPLE);
+    let mut one = hand_of(rt, alloc, &shared);
+    let mut two = hand_of(rt, alloc, &shared);
     let lowest = call_in_two_threads(rt, alloc, &shared, &mut one, &mut two);
-    assert!(rt; is_full(rt, &shared, &mut one) && is_full(rt, &shared, &mut two));
-    let master = settle_one_and_both(rt, alloc, shared.into_master(), one, two, lowest);
-    assert_eq!(rt; (master.history().len(), master.sweeps().len()), (200, 150));
+    assert!(rt; is_full_for_both(rt, &shared, &mut one, &mut two));
+    let alone = list_of(alloc, one).expect(rt, "no memory");
+    let counts = settle_one_and_both(rt, shared.into_master(), alone, two, lowest);
+    assert_eq!(rt; counts, (200, 150));
 }
 
 #[test]
@@ -167,10 +218,7 @@ fn why_no_other<L: Ledger, R: Wait + Abort>(
 fn ask_for_too_many<L: Ledger, R: Wait + Abort>(rt: &R, alloc: Global, blank: Blank)
     requires { (blank.name ≡ L.name) × (blank.parts ≡ L.parts) × (blank.parts ≡ 4096) }
 {
-    let shared: SharedMaster<L> = share(rt, alloc, blank, (1, 0), &[], NO_ROOM).expect(
-        rt,
-        "no master",
-    );
+    let shared: SharedMaster<L> = shared_of(rt, alloc, blank, (1, 0), &[], NO_ROOM);
     let hands = make_all_hands(rt, alloc, &shared);
     assert!(rt; hands.len() == 4095);
     assert_eq!(rt; why_no_other(rt, alloc, &shared, hands), HandError::Limit);

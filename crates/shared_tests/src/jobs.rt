@@ -1,6 +1,7 @@
 ghost use Rattle.std.specs.Prelude.{◌≡◌};
 
-use crate::masters::{AMPLE, SplitRow, list_of, made_of, settled, share};
+use crate::masters::{AMPLE, SplitRow, hand_of, list_of, made_of, settled, shared_of, wave_of};
+use master_core::Master;
 use master_state::{AnswerWith, BackupAnswer, Event, ReduceAnswer, Reply, Why};
 use node_ids::{AttemptNo, SplitNo, WorkerNo};
 use shared_master::{Hand, SharedMaster};
@@ -22,12 +23,17 @@ fn start_twice<L: Ledger, R: Wait + Abort>(
     hand: &mut Hand<L>,
 ) {
     let (b, s, two) = (WorkerNo::new(1), SplitNo::new(0), AttemptNo::new(2));
-    let wave = shared.plan_wave(rt, alloc, hand).expect(rt, "no wave").wave;
-    assert_eq!(rt; (wave.place, wave.count), (1, 1));
+    let wave = wave_of(rt, alloc, shared, hand).expect(rt, "no wave");
     assert!(rt; b.index() < shared.sizes().workers && s.index() < shared.sizes().splits);
     let answer = shared.backup(rt, hand, s, b);
-    assert_eq!(rt; answer, BackupAnswer::Accepted(2, two));
-    assert_eq!(rt; hand.last(), Some(Event::Backup(two, s, b)));
+    let backup = (
+        BackupAnswer::Accepted(2, two),
+        Some(Event::Backup(two, s, b)),
+    );
+    assert_eq!(rt;
+        (wave.place, wave.count, answer, hand.last()),
+        (1, 1, backup.0, backup.1)
+    );
 }
 
 // What an attempt of the split is answered.
@@ -76,28 +82,35 @@ fn run_a_job<L: Ledger, R: Wait + Abort>(
     hand: &mut Hand<L>,
 ) {
     start_twice(rt, alloc, shared, hand);
-    assert_eq!(rt; hand_in(rt, alloc, shared, hand, 2), Ok(3));
-    assert_eq!(rt; hand_in(rt, alloc, shared, hand, 1), Err(Why::OldAttempt));
-    assert!(rt; shared.glance(rt).reducible);
-    assert_eq!(rt; reduce_one(rt, alloc, shared, hand), Some(5));
-    assert_eq!(rt; reduce_one(rt, alloc, shared, hand), Some(7));
-    assert_eq!(rt; reduce_one(rt, alloc, shared, hand), None);
-    assert_eq!(rt; shared.glance(rt).open_parts, 0);
+    let second = hand_in(rt, alloc, shared, hand, 2);
+    let first = hand_in(rt, alloc, shared, hand, 1);
+    let reducible = shared.glance(rt).reducible;
+    assert_eq!(rt;
+        (second, first, reducible),
+        (Ok(3), Err(Why::OldAttempt), true)
+    );
+    let parts = [
+        reduce_one(rt, alloc, shared, hand),
+        reduce_one(rt, alloc, shared, hand),
+        reduce_one(rt, alloc, shared, hand),
+    ];
+    let open = shared.glance(rt).open_parts;
+    assert_eq!(rt; (parts, open), ([Some(5), Some(7), None], 0));
 }
 
-// It settles by this hand alone, with both parts.
+fn results_in(settled: Option<Master>) -> Option<usize> {
+    Some(settled?.results().len())
+}
+
+// It settles by this hand alone, which made every call, with both parts.
 fn settle_a_job<L: Ledger, R: Wait + Abort>(rt: &R, alloc: Global, blank: Blank)
     requires { (blank.name ≡ L.name) × (blank.parts ≡ L.parts) × (blank.parts ≡ 4096) }
 {
-    let shared: SharedMaster<L> = share(rt, alloc, blank, (2, 0), &ROWS, AMPLE).expect(
-        rt,
-        "no master",
-    );
-    let mut hand = shared.hand(rt, alloc, AMPLE).expect(rt, "no hand");
+    let shared: SharedMaster<L> = shared_of(rt, alloc, blank, (2, 0), &ROWS, AMPLE);
+    let mut hand = hand_of(rt, alloc, &shared);
     run_a_job(rt, alloc, &shared, &mut hand);
     let hands = list_of(alloc, hand).expect(rt, "no list");
-    let master = settled(shared, hands).expect(rt, "the hand made every call");
-    assert_eq!(rt; master.results().len(), 2);
+    assert_eq!(rt; results_in(settled(shared, hands)), Some(2));
 }
 
 #[test]

@@ -14,6 +14,8 @@ mod masters;
 #[cfg(test)]
 mod numbers;
 #[cfg(test)]
+mod own_threads;
+#[cfg(test)]
 mod refusals;
 #[cfg(test)]
 mod runs;

@@ -1,6 +1,6 @@
 ghost use Rattle.std.specs.Prelude.{◌≡◌, ◌<◌};
 
-use crate::masters::{AMPLE, SplitRow, share};
+use crate::masters::{AMPLE, SplitRow, hand_of, shared_of, wave_of};
 use block_map::CopyOrder;
 use master_state::{Answer, Event, Why};
 use node_ids::{AttemptNo, SplitNo, SplitSet, WorkerNo};
@@ -14,20 +14,39 @@ use std::sync::ledger::{Blank, Ledger};
 // One split, on the first of the workers.
 const ROWS: [SplitRow<'static>; 1] = [(5, &[0], "one")];
 
+// A worker comes back without a split.
+fn join<L: Ledger, R: Wait + Abort>(
+    rt: &R,
+    shared: &SharedMaster<L>,
+    hand: &mut Hand<L>,
+    worker: WorkerNo,
+) -> Answer {
+    let (none, sizes) = (SplitSet::new(), shared.sizes());
+    assert!(rt; worker.index() < sizes.workers && none.are_below(sizes.splits));
+    shared.join(rt, hand, worker, &none)
+}
+
 // The calls that change where a split lies and which workers live, each accepted.
 fn call_of_workers<L: Ledger, R: Wait + Abort>(
     rt: &R,
     shared: &SharedMaster<L>,
     hand: &mut Hand<L>,
 ) {
-    let (b, s, none) = (WorkerNo::new(1), SplitNo::new(0), SplitSet::new());
-    let sizes = shared.sizes();
-    assert!(rt; b.index() < sizes.workers && s.index() < sizes.splits);
-    assert_eq!(rt; shared.add(rt, hand, s, b), Answer::Accepted(1));
-    assert_eq!(rt; shared.lose(rt, hand, s, b), Answer::Accepted(2));
-    assert_eq!(rt; shared.die(rt, hand, b), Answer::Accepted(3));
-    assert!(rt; none.are_below(sizes.splits));
-    assert_eq!(rt; shared.join(rt, hand, b, &none), Answer::Accepted(4));
+    let (b, s) = (WorkerNo::new(1), SplitNo::new(0));
+    assert!(rt; b.index() < shared.sizes().workers && s.index() < shared.sizes().splits);
+    let told = [
+        shared.add(rt, hand, s, b),
+        shared.lose(rt, hand, s, b),
+        shared.die(rt, hand, b),
+        join(rt, shared, hand, b),
+    ];
+    let wanted = [
+        Answer::Accepted(1),
+        Answer::Accepted(2),
+        Answer::Accepted(3),
+        Answer::Accepted(4),
+    ];
+    assert_eq!(rt; told, wanted);
 }
 
 // Those of an attempt, which is withdrawn and then old.
@@ -39,21 +58,21 @@ fn call_of_attempts<L: Ledger, R: Wait + Abort>(
 ) {
     let one = AttemptNo::new(1);
     let old = Answer::Ignored(Why::OldAttempt);
-    assert!(rt; shared.plan_wave(rt, alloc, hand).is_ok());
-    assert_eq!(rt; shared.withdraw(rt, hand, one), Answer::Accepted(6));
-    assert_eq!(rt; shared.map_failed(rt, hand, one), old);
-    assert_eq!(rt; shared.part_failed(rt, hand, one), old);
-    assert_eq!(rt; hand.last(), Some(Event::Withdraw(one)));
+    assert!(rt; wave_of(rt, alloc, shared, hand).is_some());
+    let told = [
+        shared.withdraw(rt, hand, one),
+        shared.map_failed(rt, hand, one),
+        shared.part_failed(rt, hand, one),
+    ];
+    let wanted = ([Answer::Accepted(6), old, old], Some(Event::Withdraw(one)));
+    assert_eq!(rt; (told, hand.last()), wanted);
 }
 
 fn call_by_numbers<L: Ledger, R: Wait + Abort>(rt: &R, alloc: Global, blank: Blank)
     requires { (blank.name ≡ L.name) × (blank.parts ≡ L.parts) × (blank.parts ≡ 4096) }
 {
-    let shared: SharedMaster<L> = share(rt, alloc, blank, (2, 0), &ROWS, AMPLE).expect(
-        rt,
-        "no master",
-    );
-    let mut hand = shared.hand(rt, alloc, AMPLE).expect(rt, "no hand");
+    let shared: SharedMaster<L> = shared_of(rt, alloc, blank, (2, 0), &ROWS, AMPLE);
+    let mut hand = hand_of(rt, alloc, &shared);
     call_of_workers(rt, &shared, &mut hand);
     call_of_attempts(rt, alloc, &shared, &mut hand);
 }
@@ -67,10 +86,7 @@ fn calls_by_numbers_come_one_after_another(rt: HostRuntime) {
 fn order_copies<L: Ledger, R: Wait + Abort>(rt: &R, alloc: Global, blank: Blank)
     requires { (blank.name ≡ L.name) × (blank.parts ≡ L.parts) × (blank.parts ≡ 4096) }
 {
-    let shared: SharedMaster<L> = share(rt, alloc, blank, (2, 1), &ROWS, AMPLE).expect(
-        rt,
-        "no master",
-    );
+    let shared: SharedMaster<L> = shared_of(rt, alloc, blank, (2, 1), &ROWS, AMPLE);
     let orders = shared.copy_orders(rt, alloc, 2).expect(rt, "no memory");
     let order = CopyOrder {
         split: SplitNo::new(0),

@@ -2,7 +2,7 @@
 ghost use Rattle.std.specs.Prelude.{◌≡◌, ◌<◌};
 
 use crate::jobs::reduce_one;
-use crate::masters::{SplitRow, made_of, settled, share};
+use crate::masters::{SplitRow, made_of, settles, shared_of, wave_of};
 use master_state::Limits;
 use node_ids::{AttemptNo, SplitNo, SplitSet, WorkerNo};
 use shared_master::{Hand, SharedMaster};
@@ -111,6 +111,31 @@ fn hand_in<L: Ledger, R: Wait + Abort>(
     shared.map_done(rt, hand, attempt, made);
 }
 
+// The call that a number draws, of those that take no memory.
+fn call_without_memory<L: Ledger, R: Wait + Abort>(
+    rt: &R,
+    shared: &SharedMaster<L>,
+    hand: &mut Hand<L>,
+    draw: u64,
+) {
+    let kind = draw % 16;
+    let (split, attempt) = split_and_attempt(draw);
+    let worker = WorkerNo::new((draw / 32 % 3) as u16);
+    assert!(rt; split.index() < shared.sizes().splits && worker.index() < shared.sizes().workers);
+    match kind {
+        0..=3 => call_of_pair(rt, shared, hand, split, worker, kind),
+        4..=5 => come_back(rt, shared, hand, worker),
+        _ => call_of_attempt(rt, shared, hand, attempt, kind % 3),
+    }
+}
+
+// The split and the attempt that a number draws.
+fn split_and_attempt(draw: u64) -> (SplitNo, AttemptNo) {
+    let split = SplitNo::new((draw / 16 % 2) as u16);
+    let attempt = AttemptNo::new((1 + draw / 128 % 8) as u32);
+    (split, attempt)
+}
+
 // The call that a number draws.
 fn call<L: Ledger, R: Wait + Abort>(
     rt: &R,
@@ -119,23 +144,19 @@ fn call<L: Ledger, R: Wait + Abort>(
     hand: &mut Hand<L>,
     draw: u64,
 ) {
-    let kind = draw % 16;
-    let split = SplitNo::new((draw / 16 % 2) as u16);
-    let worker = WorkerNo::new((draw / 32 % 3) as u16);
-    let attempt = AttemptNo::new((1 + draw / 128 % 8) as u32);
-    assert!(rt; split.index() < shared.sizes().splits && worker.index() < shared.sizes().workers);
-    match kind {
-        0..=3 => call_of_pair(rt, shared, hand, split, worker, kind),
-        4..=5 => come_back(rt, shared, hand, worker),
-        6..=8 => call_of_attempt(rt, shared, hand, attempt, kind - 6),
+    match draw % 16 {
+        0..=8 => call_without_memory(rt, shared, hand, draw),
         9 => {
             shared.sweep(rt, hand, &[draw / 16; 256]);
         }
         10..=11 => {
             reduce_one(rt, alloc, shared, hand);
         }
-        12..=13 => hand_in(rt, alloc, shared, hand, split, attempt),
-        _ => assert!(rt; shared.plan_wave(rt, alloc, hand).is_ok()),
+        12..=13 => {
+            let (split, attempt) = split_and_attempt(draw);
+            hand_in(rt, alloc, shared, hand, split, attempt);
+        }
+        _ => assert!(rt; wave_of(rt, alloc, shared, hand).is_some()),
     }
 }
 
@@ -180,16 +201,13 @@ fn run<L: Ledger + Send + Sync, R: Threads + Wait + Abort + Sync>(
 )
     requires { (blank.name ≡ L.name) × (blank.parts ≡ L.parts) × (blank.parts ≡ 4096) }
 {
-    let shared: SharedMaster<L> = share(rt, alloc, blank, (2, 1), &ROWS, ROOM).expect(
-        rt,
-        "no master",
-    );
+    let shared: SharedMaster<L> = shared_of(rt, alloc, blank, (2, 1), &ROWS, ROOM);
     let players = players_of(rt, alloc, &shared, seed);
     let hands = thread::map_vec(rt, players, &|player| play(rt, alloc, &shared, player)).expect(
         rt,
         "no memory",
     );
-    assert!(rt; settled(shared, hands).is_some(), "run {seed}");
+    assert!(rt; settles(shared, hands), "run {seed}");
 }
 
 #[test]

@@ -1,6 +1,8 @@
 ghost use Rattle.std.specs.Prelude.{◌≡◌};
 
-use crate::masters::{AMPLE, SplitRow, list_of, made_of, settled, share};
+use crate::masters::{
+    AMPLE, SplitRow, hand_of, list_of_both, made_of, settles, shared_of, wave_of,
+};
 use master_state::{Answer, AnswerWith, Start, Wave, Work};
 use node_ids::{AttemptNo, SplitNo, WorkerNo};
 use shared_master::{Between, Hand, SharedMaster, SharedWave};
@@ -51,8 +53,16 @@ impl<'a, R: Wait> Between for Waits<'a, R> {
     }
 }
 
+fn put<R: Wait>(rt: &R, number: &Mutex<u32>, value: u32) {
+    *number.lock(rt) = value;
+}
+
 fn is_accepted(answer: Answer) -> bool {
     matches!(answer, Answer::Accepted(_))
+}
+
+fn is_taken(answer: AnswerWith<MapResult>) -> bool {
+    matches!(answer, AnswerWith::Accepted(_))
 }
 
 // Worker a gets split s, or loses it. Whether it was accepted.
@@ -71,8 +81,23 @@ fn change_holder<L: Ledger, R: Wait + Abort>(
     })
 }
 
-// In the first turn u is done; where there are three, s loses its holder in the second and gets it again in
-// the third. Whether all was accepted.
+// s loses its holder in the second turn and gets it again in the third. Whether all was accepted.
+fn change_twice<L: Ledger, R: Wait + Abort>(
+    rt: &R,
+    shared: &SharedMaster<L>,
+    hand: &mut Hand<L>,
+    meeting: &Meeting,
+) -> bool {
+    put(rt, &meeting.called, 1);
+    let is_second = is_reached(rt, &meeting.solved, 2);
+    let is_lost = change_holder(rt, shared, hand, false);
+    put(rt, &meeting.called, 2);
+    let is_third = is_reached(rt, &meeting.solved, 3);
+    let is_added = change_holder(rt, shared, hand, true);
+    is_second & is_lost & is_third & is_added
+}
+
+// In the first turn u is done; where there are three, s changes its holder twice. Whether all was accepted.
 fn call_in_turns<L: Ledger, R: Wait + Abort>(
     rt: &R,
     shared: &SharedMaster<L>,
@@ -81,19 +106,11 @@ fn call_in_turns<L: Ledger, R: Wait + Abort>(
     turns: u32,
     made: MapResult,
 ) -> bool {
-    let mut all = is_reached(rt, &meeting.solved, 1);
-    let done = shared.map_done(rt, hand, AttemptNo::new(1), made);
-    all = all && matches!(&done, AnswerWith::Accepted(_));
-    if turns == 3 {
-        *meeting.called.lock(rt) = 1;
-        all = is_reached(rt, &meeting.solved, 2) && all;
-        all = change_holder(rt, shared, hand, false) && all;
-        *meeting.called.lock(rt) = 2;
-        all = is_reached(rt, &meeting.solved, 3) && all;
-        all = change_holder(rt, shared, hand, true) && all;
-    }
-    *meeting.called.lock(rt) = 4;
-    all
+    let is_first = is_reached(rt, &meeting.solved, 1);
+    let is_done = is_taken(shared.map_done(rt, hand, AttemptNo::new(1), made));
+    let is_changed = turns != 3 || change_twice(rt, shared, hand, meeting);
+    put(rt, &meeting.called, 4);
+    is_first & is_done & is_changed
 }
 
 // A wave of one hand, with these turns of the other's calls between its solutions, and how often it was
@@ -129,7 +146,7 @@ fn plan_beside<L: Ledger + Send + Sync, R: Threads + Wait + Abort + Sync>(
 }
 
 // The second attempt, of s on a, which holds it.
-fn expect(rt: &impl Abort, shared: &SharedWave, place: u32) {
+fn expect(rt: &impl Abort, shared: SharedWave, place: u32) {
     let wave = Wave {
         place,
         first: AttemptNo::new(2),
@@ -140,43 +157,51 @@ fn expect(rt: &impl Abort, shared: &SharedWave, place: u32) {
         work: Work::Split(SplitNo::new(1)),
         worker: WorkerNo::new(0),
     };
-    assert_eq!(rt; shared.wave, wave);
-    assert_eq!(rt; shared.starts.as_slice(), [start].as_slice());
+    assert_eq!(rt;
+        (shared.wave, shared.starts.as_slice()),
+        (wave, [start].as_slice())
+    );
 }
 
-// With these turns the wave has this place, and was solved so often; both hands settle.
+// With these turns the second wave has this place, and was solved so often.
+fn plan_in_turns<L: Ledger + Send + Sync, R: Threads + Wait + Abort + Sync>(
+    rt: &R,
+    alloc: Global,
+    shared: &SharedMaster<L>,
+    one: &mut Hand<L>,
+    two: &mut Hand<L>,
+    (turns, place, solved): (u32, u32, u32),
+) {
+    assert!(rt; wave_of(rt, alloc, shared, one).is_some());
+    assert!(rt; change_holder(rt, shared, one, true));
+    let (wave, often) = plan_beside(rt, alloc, shared, one, two, turns);
+    expect(rt, wave, place);
+    assert_eq!(rt; often, solved);
+}
+
+// So it is, and both hands settle.
 fn wave_in_turns<L: Ledger + Send + Sync, R: Threads + Wait + Abort + Sync>(
     rt: &R,
     alloc: Global,
     blank: Blank,
-    turns: u32,
-    place: u32,
-    solved: u32,
+    wanted: (u32, u32, u32),
 )
     requires { (blank.name ≡ L.name) × (blank.parts ≡ L.parts) × (blank.parts ≡ 4096) }
 {
-    let shared: SharedMaster<L> = share(rt, alloc, blank, (2, 0), &ROWS, AMPLE).expect(
-        rt,
-        "no master",
-    );
-    let mut one = shared.hand(rt, alloc, AMPLE).expect(rt, "no hand");
-    let mut two = shared.hand(rt, alloc, AMPLE).expect(rt, "no hand");
-    assert!(rt; shared.plan_wave(rt, alloc, &mut one).is_ok());
-    assert!(rt; change_holder(rt, &shared, &mut one, true));
-    let (wave, often) = plan_beside(rt, alloc, &shared, &mut one, &mut two, turns);
-    expect(rt, &wave, place);
-    assert_eq!(rt; often, solved);
-    let mut hands = list_of(alloc, one).expect(rt, "no memory");
-    hands.push(two).expect(rt, "no memory");
-    assert!(rt; settled(shared, hands).is_some());
+    let shared: SharedMaster<L> = shared_of(rt, alloc, blank, (2, 0), &ROWS, AMPLE);
+    let mut one = hand_of(rt, alloc, &shared);
+    let mut two = hand_of(rt, alloc, &shared);
+    plan_in_turns(rt, alloc, &shared, &mut one, &mut two, wanted);
+    let hands = list_of_both(alloc, one, two).expect(rt, "no memory");
+    assert!(rt; settles(shared, hands));
 }
 
 #[test]
 fn a_stale_plan_is_made_again(rt: HostRuntime) {
-    wave_in_turns::<Brand, _>(&rt, rt.alloc(), Blank::new(4096), 1, 4, 2)
+    wave_in_turns::<Brand, _>(&rt, rt.alloc(), Blank::new(4096), (1, 4, 2))
 }
 
 #[test]
 fn after_three_stale_plans_one_is_made_under_the_lock(rt: HostRuntime) {
-    wave_in_turns::<Brand, _>(&rt, rt.alloc(), Blank::new(4096), 3, 6, 3)
+    wave_in_turns::<Brand, _>(&rt, rt.alloc(), Blank::new(4096), (3, 6, 3))
 }

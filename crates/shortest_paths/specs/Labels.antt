@@ -1,5 +1,6 @@
 -- Labels of nodes, and the paths that they go back.
-use Rattle.std.specs.Prelude.{◌≡◌, ℕ, ◌+◌, ◌≤◌, Bool, cond, nat_le, false, List, [], ◌∷◌, ◌++◌, map, zero, suc, slice_index_or, slice_set, Option, Some, None}
+use Rattle.std.specs.Prelude.{◌≡◌, ℕ, ◌+◌, ◌≤◌, Bool, cond, nat_le, false, List, [], ◌∷◌, ◌++◌, map, zero}
+use Rattle.std.specs.Prelude.{suc, slice_index_or, slice_set, Option, Some, None}
 use Rattle.flow_network.specs.declared.arcs.FlowArc.{FlowArc}
 use Rattle.flow_network.specs.declared.arcs.ArcNo.{ArcNo}
 use Rattle.flow_network.specs.Flows.{reduced_cost}

@@ -1,8 +1,10 @@
 -- What a search keeps while it settles one node after the other.
-use Rattle.std.specs.Prelude.{◌≡◌, ℕ, ◌+◌, ◌<◌, ◌≤◌, ◌*◌, ◌^◌, Bool, true, false, List, ◌++◌, length, Option, Some, None, ◌⊎◌}
+use Rattle.std.specs.Prelude.{◌≡◌, ℕ, ◌+◌, ◌<◌, ◌≤◌, ◌*◌, ◌^◌, Bool, true, false, List, ◌++◌, length, Option}
+use Rattle.std.specs.Prelude.{Some, None, ◌⊎◌}
 use Rattle.flow_network.specs.declared.arcs.FlowArc.{FlowArc}
 use Rattle.flow_network.specs.declared.arcs.ArcNo.{ArcNo}
-use Rattle.flow_network.specs.Flows.{tail_of, head_of, IsResidual, IsPath, IsDistinct, reduced_cost, path_cost}
+use Rattle.flow_network.specs.Flows.{tail_of, head_of, IsResidual, IsPath, IsDistinct, reduced_cost}
+use Rattle.flow_network.specs.Flows.{path_cost}
 use Rattle.flow_network.specs.Leaving.{IsIn}
 use Rattle.shortest_paths.specs.declared.labels.Step.{Step}
 use Rattle.shortest_paths.specs.declared.labels.Label.{Label}

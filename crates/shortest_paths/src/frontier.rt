@@ -43,7 +43,9 @@ impl Frontier {
     /// Adds a node.
     pub fn put(&mut self, distance: u64, node: usize) -> Result<(), AllocError>
         ensures level { self.new.level ≡ self.old.level }
-        ensures adds { OnOk result (Adds self.old.level self.old.near.items self.old.far self.new.near.items self.new.far distance node) }
+        ensures adds { OnOk result
+            (Adds self.old.level self.old.near.items self.old.far self.new.near.items self.new.far distance
+            node) }
     {
         if distance == self.level {
             self.near.push(node)?;
@@ -58,7 +60,8 @@ impl Frontier {
         requires sizes { length settled.now ≡ length labels.now }
         requires waits { IsFrontier labels.now settled.now self.old.level self.old.near.items self.old.far }
         ensures nearest { IsNearest labels.now settled.now result }
-        ensures taken { IfSome result (λ p. IsTaken labels.now settled.now p.0 self.new.level self.new.near.items self.new.far) }
+        ensures taken { IfSome result
+            (λ p. IsTaken labels.now settled.now p.0 self.new.level self.new.near.items self.new.far) }
     {
         let node = self.take_node(labels, settled)?;
         match labels[node] {
@@ -71,7 +74,8 @@ impl Frontier {
     fn take_node(&mut self, labels: &[Option<Label>], settled: &[bool]) -> Option<usize>
         requires sizes { length settled.now ≡ length labels.now }
         requires waits { IsFrontier labels.now settled.now self.old.level self.old.near.items self.old.far }
-        ensures taken { IfSome result (λ v. IsTaken labels.now settled.now v self.new.level self.new.near.items self.new.far) }
+        ensures taken { IfSome result
+            (λ v. IsTaken labels.now settled.now v self.new.level self.new.near.items self.new.far) }
         ensures none { IfNone result (IsNearest labels.now settled.now None) }
     {
         match self.take_near(labels, settled) {
@@ -84,7 +88,8 @@ impl Frontier {
     fn take_near(&mut self, labels: &[Option<Label>], settled: &[bool]) -> Option<usize>
         requires sizes { length settled.now ≡ length labels.now }
         requires waits { IsFrontier labels.now settled.now self.old.level self.old.near.items self.old.far }
-        ensures taken { IfSome result (λ v. IsTaken labels.now settled.now v self.new.level self.new.near.items self.new.far) }
+        ensures taken { IfSome result
+            (λ v. IsTaken labels.now settled.now v self.new.level self.new.near.items self.new.far) }
         ensures none { IfNone result (IsFrontier labels.now settled.now self.new.level [] self.new.far) }
         ensures empty { IfNone result (self.new.near.items ≡ []) }
     {
@@ -101,7 +106,8 @@ impl Frontier {
         requires sizes { length settled.now ≡ length labels.now }
         requires waits { IsFrontier labels.now settled.now self.old.level [] self.old.far }
         requires empty { self.old.near.items ≡ [] }
-        ensures taken { IfSome result (λ v. IsTaken labels.now settled.now v self.new.level self.new.near.items self.new.far) }
+        ensures taken { IfSome result
+            (λ v. IsTaken labels.now settled.now v self.new.level self.new.near.items self.new.far) }
         ensures none { IfNone result (IsFrontier labels.now settled.now self.new.level [] []) }
     {
         while let Some((distance, node)) = self.far.take() {

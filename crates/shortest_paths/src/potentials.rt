@@ -1,5 +1,6 @@
 //! Potentials of nodes, none above 0.
-ghost use Rattle.std.specs.Prelude.{◌≡◌, ℕ, ◌+◌, ◌<◌, ◌≤◌, ◌^◌, length, replicate, slice_index, slice_set, pos, ◌≤ℤ◌, neg_ℤ, unsigned_abs, IfOk};
+ghost use Rattle.std.specs.Prelude.{◌≡◌, ℕ, ◌+◌, ◌<◌, ◌≤◌, ◌^◌, length, replicate, slice_index, slice_set};
+ghost use Rattle.std.specs.Prelude.{pos, ◌≤ℤ◌, neg_ℤ, unsigned_abs, IfOk};
 
 use std::alloc::{AllocError, Global};
 use std::marker::Model;

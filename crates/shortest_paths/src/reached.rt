@@ -1,5 +1,7 @@
 //! What a search found: the least distances of all nodes from one, with their paths.
-ghost use Rattle.std.specs.Prelude.{◌≡◌, ℕ, ◌+◌, ◌*◌, ◌<◌, ◌≤◌, List, [], ◌∷◌, ◌++◌, length, false, replicate, slice_index, slice_index_or, Option, None, Some, OnOk, IfOk, MatchOption};
+ghost use Rattle.std.specs.Prelude.{◌≡◌, ℕ, ◌+◌, ◌*◌, ◌<◌, ◌≤◌, List, [], ◌∷◌, ◌++◌, length, false};
+ghost use Rattle.std.specs.Prelude.{replicate, slice_index, slice_index_or, Option, None, Some, OnOk, IfOk};
+ghost use Rattle.std.specs.Prelude.{MatchOption};
 ghost use Rattle.flow_network.specs.Flows.{NoNegative};
 ghost use Rattle.shortest_paths.specs.Labels.{trace, IsTraced, IsLinked};
 ghost use Rattle.shortest_paths.specs.Paths.{option_distance, option_path, AreLeastPaths};

@@ -1,5 +1,5 @@
 -- The test whether two lists have the same texts.
-use Rattle.std.proofs.Common.{◌≡◌, Bool, true, false, ◌&&◌, List, get_or, refl, subst, sym, ◌∙◌, arith}
+use Rattle.std.proofs.Common.{◌≡◌, Bool, true, false, ◌&&◌, List, get_or, refl, sym, ◌∙◌, arith}
 use Rattle.std.proofs.lemmas.Bool.{false≢true}
 use Rattle.std.specs.Prelude.{◌↔◌, Contains, IsTrue}
 use Rattle.std.specs.Bool.{Decides}
@@ -48,14 +48,6 @@ Decides-same_texts xs ys = (
     are_among-all ys xs
         (λ text. (same text).1),
   ) refl),
-)
-
--- lists that are one have the same texts
-pub same_from_equal : (xs ys : List SplitDocuments) → xs ≡ ys → AreSameTexts xs ys
-same_from_equal xs ys equal text = (
-  subst (λ ts. Contains ts text) equal,
-  subst (λ ts. Contains ts text)
-      (sym equal),
 )
 
 -- the first list is the second's, and the answer says whether the second is the first's

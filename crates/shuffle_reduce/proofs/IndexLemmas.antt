@@ -1,9 +1,11 @@
 -- The index from the results of all parts.
-use Rattle.std.proofs.Common.{◌≡◌, Bool, true, false, cond, ℕ, ◌+◌, ◌<◌, List, [], ◌∷◌, ◌++◌, length, get_or, take, sym, refl, ap, ◌∙◌, subst, arith}
+use Rattle.std.proofs.Common.{◌≡◌, Bool, true, false, cond, ℕ, ◌+◌, ◌<◌, List, [], ◌∷◌, ◌++◌, length, get_or}
+use Rattle.std.proofs.Common.{take, sym, refl, ap, ◌∙◌, subst, arith}
 use Rattle.std.specs.Prelude.{◌↔◌, ◌==◌, Contains, All, Any, count_by, fold}
 use Rattle.std.proofs.lemmas.Bool.{eqb-true}
 use Rattle.std.proofs.lemmas.List.{take_more}
-use Rattle.std.proofs.lemmas.List.Elements.{All-push, All-contains, Contains-push, Contains-append_left, Contains-append_right}
+use Rattle.std.proofs.lemmas.List.Elements.{All-push, All-contains, Contains-push, Contains-append_left}
+use Rattle.std.proofs.lemmas.List.Elements.{Contains-append_right}
 use Rattle.word_map.specs.declared.text.Document.{Document}
 use Rattle.word_map.specs.Words.{part_of, IsWordOf}
 use Rattle.word_map.specs.Texts.{Pair, SplitDocuments, IsPairOf}

@@ -1,5 +1,6 @@
 -- What one more run or result adds, and what has been gathered in the end.
-use Rattle.std.proofs.Common.{◌≡◌, ℕ, ◌+◌, ◌<◌, List, [], ◌∷◌, ◌++◌, length, get_or, take, inl, inr, ◌⊎◌, ⊎_elim, sym, ap, ◌∙◌, subst, arith}
+use Rattle.std.proofs.Common.{◌≡◌, ℕ, ◌+◌, ◌<◌, List, [], ◌∷◌, ◌++◌, length, get_or, take, inl, inr, ◌⊎◌}
+use Rattle.std.proofs.Common.{⊎_elim, sym, ap, ◌∙◌, subst}
 use Rattle.std.specs.Prelude.{◌↔◌, Contains, Any}
 use Rattle.std.proofs.lemmas.List.{take_more}
 use Rattle.std.proofs.lemmas.List.Elements.{All-push, All-contains}
@@ -11,14 +12,10 @@ use Rattle.word_map.specs.Texts.{Pair, IsPairOf}
 use Rattle.word_map.specs.Runs.{RunView, IsRunOf}
 use Rattle.word_map.specs.Entries.{EntryView, AreEntries, pairs_of_index}
 use Rattle.word_map.proofs.EntryLemmas.{pairs_of_entries_rise}
-use Rattle.word_map.proofs.PairLemmas.{any_push_cases, any_push_old, any_push_new, any_from_member, member_from_any, any_map, any_from_map}
+use Rattle.word_map.proofs.PairLemmas.{any_push_cases, any_push_old, any_push_new, any_from_member}
+use Rattle.word_map.proofs.PairLemmas.{member_from_any, any_map, any_from_map}
 use Rattle.shuffle_reduce.specs.Merged.{IsPairOfTexts, IsPartOf, PartView}
 use Rattle.shuffle_reduce.specs.Gather.{AreOfPart, ArePairsOfRuns, GathersRuns, GathersResults, texts_of}
-
--- where pairs are gathered: nothing has none
-pub members_of_none : {X : Type 0} (f : X → List Pair) (pair : Pair) →
-    Contains [] pair ↔ Any (λ (x : X). Contains (f x) pair) []
-members_of_none f pair = ((λ h. absurd (omega (arith, h.1))), (λ h. absurd (omega (arith, h.2))))
 
 -- one more gives its pairs
 pub members_of_more : {X : Type 0} (f : X → List Pair) (xs : List X) (x : X) (pairs new : List Pair)
@@ -41,13 +38,6 @@ abbrev RunIs : Arc RunView Global → Type 0
 RunIs run = IsRunOf (arc_value run).text.documents (arc_value run).part (arc_value run).parts
     (arc_value run).pairs
 
--- no run, no pair
-pub gathers_no_run : GathersRuns [] []
-gathers_no_run = record {
-  members = members_of_none (λ (run : Arc RunView Global). (arc_value run).pairs);
-  runs_are = λ k d low. absurd (omega arith);
-}
-
 -- the pairs of one more run
 pub gathers_one_more_run : (runs : List (Arc RunView Global))
     (i : ℕ) {run : Arc RunView Global} {pairs new : List Pair} → i < length runs → run ≡ get_or runs i run →
@@ -62,14 +52,6 @@ gathers_one_more_run runs i {run} {pairs} {new} inside is before own adds =
           (take i runs) run pairs new pair (before.members pair) (adds pair);
       runs_are = All-push RunIs (take i runs) run before.runs_are own;
     })
-
--- no result, no pair
-pub gathers_no_result : GathersResults [] []
-gathers_no_result = record {
-  members = members_of_none (λ (result : PartView). result.pairs);
-  results_are =
-      λ k d low. absurd (omega arith);
-}
 
 -- the pairs of one more result
 pub gathers_one_more_result : (results : List PartView) (i : ℕ) {part : PartView} {pairs new : List Pair} →

@@ -9,7 +9,8 @@ use Rattle.shuffle_reduce.specs.Merged.{PartView, IsPartOf}
 
 -- each run is of this part and this number of parts
 abbrev pub AreOfPart : List (Arc RunView Global) → ℕ → ℕ → Type 0
-AreOfPart runs part parts = All (λ (run : Arc RunView Global). ((arc_value run).part ≡ part) × ((arc_value run).parts ≡ parts)) runs
+AreOfPart runs part parts =
+    All (λ (run : Arc RunView Global). ((arc_value run).part ≡ part) × ((arc_value run).parts ≡ parts)) runs
 
 -- the texts of the runs
 abbrev pub texts_of : List (Arc RunView Global) → List SplitDocuments
@@ -27,7 +28,8 @@ pub record ArePairsOfRuns (runs : List (Arc RunView Global)) (pairs : List Pair)
 -- the pairs of the runs in any order, each run with the pairs of its text for its part
 pub record GathersRuns (runs : List (Arc RunView Global)) (pairs : List Pair) : Type 0 where
   pub members : (pair : Pair) → Contains pairs pair ↔ IsPairOfRuns runs pair
-  pub runs_are : All (λ (run : Arc RunView Global). IsRunOf (arc_value run).text.documents (arc_value run).part (arc_value run).parts (arc_value run).pairs) runs
+  pub runs_are : All (λ (run : Arc RunView Global). IsRunOf (arc_value run).text.documents
+      (arc_value run).part (arc_value run).parts (arc_value run).pairs) runs
 
 -- one of the results has the pair
 abbrev pub IsPairOfResults : List PartView → Pair → Type 0
@@ -36,7 +38,8 @@ IsPairOfResults results pair = Any (λ (result : PartView). Contains result.pair
 -- the pairs of the results in any order, each result with the pairs of its texts for its part
 pub record GathersResults (results : List PartView) (pairs : List Pair) : Type 0 where
   pub members : (pair : Pair) → Contains pairs pair ↔ IsPairOfResults results pair
-  pub results_are : All (λ (result : PartView). IsPartOf result.texts result.part result.parts result.pairs) results
+  pub results_are : All (λ (result : PartView). IsPartOf result.texts result.part result.parts result.pairs)
+      results
 
 -- the texts themselves
 abbrev pub values_of : List (Arc SplitDocuments Global) → List SplitDocuments

@@ -1,12 +1,14 @@
 -- The index of some texts, and which parts are there.
 pub use Rattle.word_map.specs.Entries.{EntryView, pair_of, pairs_of_entry, pairs_of_index, WordIsBelow}
-use Rattle.std.specs.Prelude.{◌≡◌, ◌↔◌, ◌==◌, ℕ, ◌<◌, ◌≤◌, List, length, All, AllPairs, Any, Contains, count_by}
+use Rattle.std.specs.Prelude.{◌≡◌, ◌↔◌, ◌==◌, ℕ, ◌<◌, ◌≤◌, List, length, All, AllPairs, Any, Contains}
+use Rattle.std.specs.Prelude.{count_by}
 use Rattle.word_map.specs.declared.text.Document.{Document}
 use Rattle.word_map.specs.Texts.{SplitDocuments, Pair, IsPairOf}
 use Rattle.word_map.specs.Runs.{AreRising}
 use Rattle.shuffle_reduce.specs.Merged.{PartView, AreSameTexts, IsPairOfTexts}
 
--- the words in byte order, each once, each word's documents by number, and each pair of the texts and no other
+-- the words in byte order, each once, each word's documents by number, and each pair of the texts and no
+-- other
 pub record IsIndexOf (texts : List SplitDocuments) (entries : List EntryView) : Type 0 where
   pub words : AllPairs WordIsBelow entries
   pub rising : AreRising (pairs_of_index entries)

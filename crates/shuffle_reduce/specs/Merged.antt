@@ -12,7 +12,8 @@ IsPairOfTexts texts pair = Any (λ text. IsPairOf text.documents pair) texts
 -- the pairs of the texts whose word belongs to the part, rising
 pub record IsPartOf (texts : List SplitDocuments) (part parts : ℕ) (pairs : List Pair) : Type 0 where
   pub rising : AreRising pairs
-  pub exact : (pair : Pair) → Contains pairs pair ↔ (IsPairOfTexts texts pair × (part_of pair.word parts ≡ part))
+  pub exact : (pair : Pair) →
+      Contains pairs pair ↔ (IsPairOfTexts texts pair × (part_of pair.word parts ≡ part))
 
 -- what a part's result keeps: its part is one of the parts, and its pairs are those of the texts for it
 pub record IsPart (texts : List SplitDocuments) (part parts : ℕ) (pairs : List Pair) : Type 0 where

@@ -17,7 +17,9 @@ text_cmp a b = ordering_then (nat_cmp a.split b.split) (slice_cmp document_cmp a
 
 -- both are total
 pub document_cmp_total : IsTotalOrder document_cmp
-document_cmp_total = then_total (on_total (λ (d : Document). d.number) nat_cmp_total) (on_total (λ (d : Document). d.text) nat_list_cmp_total)
+document_cmp_total = then_total (on_total (λ (d : Document). d.number) nat_cmp_total)
+    (on_total (λ (d : Document). d.text) nat_list_cmp_total)
 
 pub text_cmp_total : IsTotalOrder text_cmp
-text_cmp_total = then_total (on_total (λ (t : SplitDocuments). t.split) nat_cmp_total) (on_total (λ (t : SplitDocuments). t.documents) (lists_total document_cmp_total))
+text_cmp_total = then_total (on_total (λ (t : SplitDocuments). t.split) nat_cmp_total)
+    (on_total (λ (t : SplitDocuments). t.documents) (lists_total document_cmp_total))

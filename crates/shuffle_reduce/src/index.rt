@@ -2,7 +2,8 @@ ghost use Rattle.std.specs.Prelude.{◌≡◌, ◌↔◌, ◌<◌, ◌≤◌, Al
 ghost use Rattle.word_map.specs.declared.text.Document.{Document};
 ghost use Rattle.shuffle_reduce.specs.Merged.{AreSameTexts, PartView};
 ghost use Rattle.shuffle_reduce.specs.Gather.{values_of};
-ghost use Rattle.shuffle_reduce.specs.Indexed.{IsIndexOf, IsIndexOfDocuments, AreDocumentsOf, AreReady, HasDouble, HasMissing};
+ghost use Rattle.shuffle_reduce.specs.Indexed.{IsIndexOf, IsIndexOfDocuments, AreDocumentsOf, AreReady};
+ghost use Rattle.shuffle_reduce.specs.Indexed.{HasDouble, HasMissing};
 
 use crate::counts::{has_double, has_missing};
 use crate::gather::gathered_results;

@@ -1,15 +1,12 @@
 -- A table of keys as the list of what the keys show, where a test decides which keys show the same.
-use Rattle.std.proofs.Common.{ℕ, List, [], ◌∷◌, ◌≡◌, ◌++◌, ◌<◌, ◌∙◌, length, map, Bool, true, false, not, zero, suc, Option, Some, None, sym, ap, refl, subst, arith}
-use Rattle.std.specs.Prelude.{◌↔◌, ◌&&◌, ◌||◌, if◌then◌else◌, All, Contains, IsTrue, MatchBool}
+use Rattle.std.proofs.Common.{ℕ, List, [], ◌∷◌, ◌≡◌, ◌++◌, ◌<◌, ◌∙◌, length, map, Bool, true, false, not}
+use Rattle.std.proofs.Common.{zero, suc, Option, Some, None, sym, ap, refl, arith}
+use Rattle.std.specs.Prelude.{◌↔◌, ◌||◌, if◌then◌else◌, Contains, IsTrue}
 use Rattle.std.specs.Bool.{Decides}
-use Rattle.std.specs.List.{AllWithin, HoldsAt, list_any, position, prefix_len, slice_index_or}
-use Rattle.std.specs.Str.{bytes_eq}
+use Rattle.std.specs.List.{list_any, position, prefix_len, slice_index_or}
 use Rattle.std.specs.Option.{IsSome, is_some}
-use Rattle.std.proofs.lemmas.Iterator.Search.{true_from_All}
 use Rattle.std.proofs.lemmas.Map.Views.{Contains-from_any}
-use Rattle.std.proofs.lemmas.Slice.Eq.{bytes_eq-Decides}
-use Rattle.std.proofs.lemmas.List.{get_or-map, length-map, map-append}
-use Rattle.std.proofs.lemmas.List.Elements.{All-from_all_within, All-map}
+use Rattle.std.proofs.lemmas.List.{length-map, map-append}
 
 module _ {X Y : Type 0} (f : X → Y) where
   pub list_any-map : (p : Y → Bool) (xs : List X) → list_any p (map f xs) ≡ list_any (λ x. p (f x)) xs
@@ -22,29 +19,6 @@ module _ {X Y : Type 0} (f : X → Y) where
 
   pub position-map : (p : Y → Bool) (xs : List X) → position p (map f xs) ≡ position (λ x. p (f x)) xs
   position-map p xs = rw (prefix_len-map (λ y. not (p y)) xs, length-map) refl
-
-  All-from_map : (P : Y → Type 0) (xs : List X) → All P (map f xs) → All (λ x. P (f x)) xs
-  All-from_map P xs h k d lt =
-      subst P (get_or-map f xs k d (f d) lt) (h k (f d) (rw (length-map xs f) lt))
-
-  abbrev ShowsOneOf : List Y → X → Type 0
-  ShowsOneOf others x = Contains others (f x)
-
-  -- each key shows one of the others
-  pub all_shown : (r : Bool) (xs : List X) (ys others : List Y) → map f xs ≡ ys
-      → MatchBool r (AllWithin (ShowsOneOf others) xs 0 (length xs))
-      ((k : ℕ) × (k < length xs) × HoldsAt (λ x. ShowsOneOf others x → ⊥) xs k)
-      → IsTrue r ↔ All (Contains others) ys
-  all_shown r xs ys others shown cases = (
-    λ h. subst (All (Contains others)) shown
-        (All-map (Contains others) f xs (All-from_all_within (ShowsOneOf others) xs (when_true _ r h cases))),
-    λ h. true_from_All (ShowsOneOf others) (λ x. ShowsOneOf others x → ⊥) r xs (λ x yes no. no yes) cases
-        (All-from_map (Contains others) xs (subst (All (Contains others)) (sym shown) h)),
-  )
-    where
-      when_true : {P : Type 0} (Q : Type 0) (b : Bool) → b ≡ true → MatchBool b P Q → P
-      when_true Q true e h = h
-      when_true Q false e h = cc
 
 not_true : (b : Bool) → (b ≡ true → ⊥) → b ≡ false
 not_true true h = absurd (h refl)
@@ -92,16 +66,3 @@ pub some_by_test : {X : Type 0} (o : Option X) (b : Bool) (P : Type 0) → is_so
     → IsSome o ↔ P
 some_by_test None b P e h = (λ none. absurd (no_some none), λ p. let bad : false ≡ true = e ∙ h.1 p in cc)
 some_by_test (Some x) b P e h = (λ some. h.0 (sym e), λ p. refl)
-
--- two pairs of names are the same
-abbrev pub same_pair : List ℕ × List ℕ → List ℕ × List ℕ → Bool
-same_pair p q = bytes_eq p.0 q.0 && bytes_eq p.1 q.1
-
-pub same_pair-Decides : (p q : List ℕ × List ℕ) → Decides (same_pair p q) (p ≡ q)
-same_pair-Decides p q =
-    by (bytes_eq p.0 q.0) (bytes_eq p.1 q.1) (bytes_eq-Decides p.0 q.0) (bytes_eq-Decides p.1 q.1)
-  where
-    by : (a b : Bool) → Decides a (p.0 ≡ q.0) → Decides b (p.1 ≡ q.1) → Decides (a && b) (p ≡ q)
-    by true true left right = (λ h. λ i. (left.0 refl i, right.0 refl i), λ h. refl)
-    by true false left right = (λ h. cc, λ h. right.1 (ap (λ r. r.1) h))
-    by false b left right = (λ h. cc, λ h. left.1 (ap (λ r. r.0) h))

@@ -1,6 +1,8 @@
 -- Piece by piece: what was read so far, and what was written so far.
 use Rattle.std.specs.Result.{IfErr, IfOk}
-use Rattle.std.proofs.Common.{Result, Ok, Err, ℕ, List, ◌≡◌, ◌++◌, ◌+◌, ◌≤◌, ◌∙◌, length, take, Option, Some, None, IfSome, sym, ap, subst, arith, append-nil, append_assoc, length-append, take_all, drop_of_length-le}
+use Rattle.std.proofs.Common.{Result, Ok, Err, ℕ, List, ◌≡◌, ◌++◌, ◌+◌, ◌≤◌, ◌∙◌, length, take, Option, Some}
+use Rattle.std.proofs.Common.{None, IfSome, sym, ap, subst, arith, append-nil, append_assoc, length-append}
+use Rattle.std.proofs.Common.{take_all, drop_of_length-le}
 use Rattle.std.proofs.lemmas.List.{take-append-le}
 use Rattle.std.specs.Io.KnownBytes.{Appends, Consumes, IsAtEnd, Keeps}
 use Rattle.std.proofs.KnownBytes.{Appends-trans, Consumes-trans}

@@ -1,7 +1,10 @@
 -- The numbers by which faults are told. Of two faults of one line the lower is answered.
 use Rattle.std.specs.Prelude.{ℕ}
 use Rattle.text_lines.specs.declared.fault.Fault.{Fault}
-use Rattle.text_lines.specs.declared.fault.Fault.TheVariants.{Shape, Misnamed, Unknown, Repeated, OutOfRange, PassesLimit, Misplaced, RepeatedHolder, SecondEntry, NoPrice, TooLong, NoFeed, Unprintable, AfterEnd}
+use Rattle.text_lines.specs.declared.fault.Fault.TheVariants.{Shape, Misnamed, Unknown, Repeated, OutOfRange}
+use Rattle.text_lines.specs.declared.fault.Fault.TheVariants.{PassesLimit, Misplaced, RepeatedHolder}
+use Rattle.text_lines.specs.declared.fault.Fault.TheVariants.{SecondEntry, NoPrice, TooLong, NoFeed}
+use Rattle.text_lines.specs.declared.fault.Fault.TheVariants.{Unprintable, AfterEnd}
 
 abbrev pub number_of_fault : Fault → ℕ
 number_of_fault Shape = 1

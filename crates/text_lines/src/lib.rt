@@ -18,4 +18,4 @@ pub use lines::{printable, split_line, words};
 pub use names::is_name;
 pub use number::Number;
 pub use streams::{MAX_READ_BYTES, MAX_READS, ReadError, WriteError, read_text, write_text};
-pub use tables::{NameTable, PairTable};
+pub use tables::NameTable;

@@ -1,7 +1,11 @@
-ghost use Rattle.std.specs.Prelude.{◌≡◌, ◌∷◌, [], ◌<◌, ◌↔◌, ◌==◌, IfOk, IsTrue, MatchOption, length, map, position, All};
+ghost use Rattle.std.specs.Prelude.{◌≡◌, ◌∷◌, [], ◌<◌, ◌↔◌, ◌==◌, IfOk, IsTrue, MatchOption, length, map};
+ghost use Rattle.std.specs.Prelude.{position, All};
 ghost use Rattle.text_lines.specs.Texts.{IsPrintable, lines_of, words_of};
 
 use std::alloc::{AllocError, Global};
+
+// Room for as many words as most lines have.
+const USUAL_WORDS: usize = 12;
 
 /// The first line of a text, without its line feed, and what follows the line feed, if it has one.
 pub fn split_line(text: &[u8]) -> (&[u8], Option<&[u8]>)
@@ -45,5 +49,7 @@ fn is_printable(line: &[u8]) -> bool
 pub fn words(alloc: Global, line: &str) -> Result<Vec<&str>, AllocError>
     ensures { IfOk result (λ words. map (λ w. w.now) words.items ≡ words_of line.entry.now) }
 {
-    line.split(' ').collect(alloc)
+    let mut words = Vec::with_capacity(alloc, USUAL_WORDS)?;
+    words.extend(line.split(' '))?;
+    Ok(words)
 }

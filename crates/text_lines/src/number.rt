@@ -2,7 +2,7 @@ ghost use Rattle.std.specs.Prelude.{◌≡◌, ◌^◌, ◌<◌, ◌↔◌, All,
 ghost use Rattle.text_lines.specs.Texts.{IsDigit, IsNumber, number_of};
 
 /// A number of any size, as the digits of its word.
-#[derive(Clone, Copy, Debug)]
+#[derive(Clone, Copy)]
 pub struct Number<'t> {
     /// Decimal digits: `0` alone, or without a leading zero.
     pub digits: &'t str,

@@ -1,4 +1,5 @@
-ghost use Rattle.std.specs.Prelude.{◌≡◌, ◌++◌, ◌-◌, ◌≤◌, ◌<◌, take, length, vec_len, IfOk, OnOk, OnErr, IfSome, MatchResult};
+ghost use Rattle.std.specs.Prelude.{◌≡◌, ◌++◌, ◌-◌, ◌≤◌, ◌<◌, take, length, vec_len, IfOk, OnOk, OnErr};
+ghost use Rattle.std.specs.Prelude.{IfSome, MatchResult};
 ghost use Rattle.std.specs.Io.KnownBytes.{Appends, Consumes, IsAtEnd, Keeps};
 ghost use Rattle.text_lines.specs.Streams.{AppendsFront, ConsumesAtMost, Moves, Reads};
 
@@ -31,7 +32,7 @@ pub enum ReadError {
 #[error("write fault")]
 pub struct WriteError;
 
-#[derive(Clone, Copy, PartialEq, Eq)]
+#[derive(Clone, Copy)]
 enum Progress {
     More,
     End,
@@ -72,7 +73,8 @@ fn read_piece<R: Read>(
         (Reads (R.remaining reader.old) (R.remaining reader.new) text.old.items text.new.items) }
     ensures end { result ≡ Ok Progress.End → IsAtEnd (R.remaining reader.new) }
     ensures err { OnErr result
-        (ConsumesAtMost (R.remaining reader.old) (R.remaining reader.new) (MAX_READ_BYTES - vec_len text.old)) }
+        (ConsumesAtMost (R.remaining reader.old) (R.remaining reader.new)
+        (MAX_READ_BYTES - vec_len text.old)) }
 {
     let room = PIECE.min(MAX_READ_BYTES - text.len());
     match reader.read(&mut piece[..room]) {

@@ -1,5 +1,6 @@
 -- A command whose texts have one answer each wrote that of its text.
-use Rattle.std.proofs.Common.{ℕ, List, Option, Some, None, Result, Ok, Err, ◌≡◌, ◌∙◌, IfSome, subst, sym, take}
+use Rattle.std.proofs.Common.{ℕ, List, Option, Some, None, Result, Ok, Err, ◌≡◌, ◌∙◌, IfSome, subst, sym}
+use Rattle.std.proofs.Common.{take}
 use Rattle.std.specs.Io.KnownBytes.{Appends}
 use Rattle.text_lines.specs.declared.fault.TextFault.{TextFault}
 use Rattle.text_lines.specs.declared.streams.TheConstants.{MAX_READ_BYTES}
@@ -17,11 +18,14 @@ pub wrote_its_answer : {End : Type 0} (Answers : List ℕ → Result End TextFau
     (SameEnd : Result End TextFault → Result End TextFault → Type 0) (Alike : List ℕ → List ℕ → Type 0)
     (unread old new : Option (List ℕ)) (read text line bytes : List ℕ) (mine : Result End TextFault)
     (result : Result End ToolError) → HasOneAnswer Answers SameEnd Alike → result ≡ outcome mine
-    → IfSome unread (λ input. read ≡ take MAX_READ_BYTES input) → text ≡ read → Answers text mine line → bytes ≡ line
+    → IfSome unread (λ input. read ≡ take MAX_READ_BYTES input) → text ≡ read → Answers text mine line →
+    bytes ≡ line
     → Appends old new bytes → WroteItsAnswer Answers SameEnd Alike unread old new result
-wrote_its_answer Answers SameEnd Alike None old new read text line bytes mine result one ended given shown answers told
+wrote_its_answer Answers SameEnd Alike None old new read text line bytes mine result one ended given shown
+    answers told
     appended = λ end is. tt
-wrote_its_answer Answers SameEnd Alike (Some input) old new read text line bytes mine result one ended given shown answers
+wrote_its_answer Answers SameEnd Alike (Some input) old new read text line bytes mine result one ended given
+    shown answers
     told appended = λ end is other said right.
     let own = outcome-injective end mine (sym is ∙ ended) in
     let ours = subst (λ t. Answers t mine line) (shown ∙ given) answers in

@@ -6,4 +6,5 @@ use Rattle.text_lines.specs.declared.fault.TextFault.{TextFault}
 
 abbrev pub fault_line : TextFault → List ℕ
 fault_line fault =
-    codes "line " ++ decimal fault.line ++ codes ": fault " ++ decimal (number_of_fault fault.number) ++ 10 ∷ []
+    codes "line " ++ decimal fault.line ++ codes ": fault " ++ decimal (number_of_fault fault.number)
+    ++ 10 ∷ []

@@ -6,7 +6,8 @@ use Rattle.text_lines.specs.Streams.{AppendsFront, ConsumesAtMost}
 use Rattle.text_lines.specs.declared.fault.TextFault.{TextFault}
 use Rattle.text_lines.specs.declared.streams.TheConstants.{MAX_READ_BYTES}
 use Rattle.text_reading.specs.declared.tool_error.ToolError.{ToolError}
-use Rattle.text_reading.specs.declared.tool_error.ToolError.TheVariants.{HistoryFull, Memory, Read, Text, Write}
+use Rattle.text_reading.specs.declared.tool_error.ToolError.TheVariants.{HistoryFull, Memory, Read, Text}
+use Rattle.text_reading.specs.declared.tool_error.ToolError.TheVariants.{Write}
 use Rattle.text_reading.specs.declared.tool_error.NoAnswer.{NoAnswer}
 use Rattle.text_reading.specs.declared.tool_error.NoAnswer.TheVariants as none
 
@@ -44,7 +45,8 @@ abbrev pub NoText : List ℕ → Type 0
 NoText text = ⊥
 
 -- the lines are some with which a command ends
-pub record IsSomeAnswer {End : Type 0} (Answers : Result End TextFault → List ℕ → Type 0) (lines : List ℕ) : Type 0 where
+pub record IsSomeAnswer {End : Type 0} (Answers : Result End TextFault → List ℕ →
+    Type 0) (lines : List ℕ) : Type 0 where
   pub end : Result End TextFault
   pub answers : Answers end lines
 
@@ -71,6 +73,8 @@ HasOneAnswer {End} Answers SameEnd Alike = (text : List ℕ) (a b : Result End T
 abbrev pub WroteItsAnswer : {End : Type 0} → (List ℕ → Result End TextFault → List ℕ → Type 0)
     → (Result End TextFault → Result End TextFault → Type 0) → (List ℕ → List ℕ → Type 0)
     → Option (List ℕ) → Option (List ℕ) → Option (List ℕ) → Result End ToolError → Type 0
-WroteItsAnswer {End} Answers SameEnd Alike unread old new result = (end : Result End TextFault) → result ≡ outcome end
-    → IfSome unread (λ input. (other : Result End TextFault) (line : List ℕ) → Answers (take MAX_READ_BYTES input) other line
+WroteItsAnswer {End} Answers SameEnd Alike unread old new result = (end : Result End TextFault) →
+    result ≡ outcome end
+    → IfSome unread (λ input. (other : Result End TextFault) (line : List ℕ) →
+    Answers (take MAX_READ_BYTES input) other line
     → SameEnd end other × Wrote old new (λ written. Alike written line))

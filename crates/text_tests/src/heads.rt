@@ -1,7 +1,7 @@
 use head_text::Head;
 use line_rules::ReadingError;
 use node_ids::{CentreNo, RackNo, WorkerNo};
-use script_text::{JobText, read_job, read_script};
+use script_text::{read_job, read_script};
 use std::alloc::Global;
 use std::test::Fail;
 
@@ -119,17 +119,41 @@ fn settings_are_those_of_their_lines(rt: HostRuntime) {
 const JOB: &str =
     "job 1\ntarget 2\nrack r\nworker a r 1\nsplit s 3 a\ndoc d s The cat\ndoc e s dog\nend\n";
 
+// The target, the parts and the silence of a job, and how many centres it has.
+fn job_numbers(alloc: Global, text: &str) -> Option<(usize, usize, u32, usize)> {
+    let job = read_job(alloc, text.as_bytes()).ok()?;
+    let head = &job.head;
+    Some((job.target, head.parts, head.silence, head.tree.centres()))
+}
+
+// The names of a job's first worker, first split and second document.
+fn job_names(alloc: Global, text: &str) -> Option<(Option<&str>, Option<&str>, Option<&str>)> {
+    let names = read_job(alloc, text.as_bytes()).ok()?.names;
+    let document = names.documents.name(1);
+    Some((names.workers.name(0), names.splits.name(0), document))
+}
+
+// The number of a document of the first split, and whether it has this text.
+fn told_document(head: &Head, place: usize, want: &str) -> Option<(usize, bool)> {
+    let (number, document) = document_at(head, 0, place)?;
+    Some((number, document == want))
+}
+
+fn job_document(alloc: Global, text: &str, place: usize, want: &str) -> Option<(usize, bool)> {
+    let job = read_job(alloc, text.as_bytes()).ok()?;
+    told_document(&job.head, place, want)
+}
+
 #[test]
-fn a_job_has_names_and_a_head(rt: HostRuntime) -> Result<(), Fail> {
-    let job: JobText<'_> = read_job(rt.alloc(), JOB.as_bytes()).ok().ok_or("no job")?;
-    assert_eq!(rt; (job.target, job.head.parts, job.head.silence), (2, 1, 3));
-    assert_eq!(rt; job.names.workers.name(0), Some("a"));
-    assert_eq!(rt; job.names.splits.name(0), Some("s"));
-    assert_eq!(rt; job.names.documents.name(1), Some("e"));
-    assert_eq!(rt; job.head.tree.centres(), 1);
-    assert_eq!(rt; document_at(&job.head, 0, 0), Some((0, "The cat")));
-    assert_eq!(rt; document_at(&job.head, 0, 1), Some((1, "dog")));
-    Ok(())
+fn a_job_has_names_and_a_head(rt: HostRuntime) {
+    let alloc = rt.alloc();
+    assert_eq!(rt; job_numbers(alloc, JOB), Some((2, 1, 3, 1)));
+    assert_eq!(rt;
+        job_names(alloc, JOB),
+        Some((Some("a"), Some("s"), Some("e")))
+    );
+    assert_eq!(rt; job_document(alloc, JOB, 0, "The cat"), Some((0, true)));
+    assert_eq!(rt; job_document(alloc, JOB, 1, "dog"), Some((1, true)));
 }
 
 // The line and the number of a job's fault.

@@ -56,15 +56,22 @@ fn commands_have_numbers(rt: HostRuntime) {
 }
 
 // The target, and the numbers of a worker, a split and a document.
-fn head_of(alloc: Global, text: &str) -> Option<(usize, usize, usize, usize)> {
+fn head_of(
+    alloc: Global,
+    text: &str,
+) -> Option<(usize, Option<usize>, Option<usize>, Option<usize>)> {
     let script = read_script(alloc, text.as_bytes()).ok()?.script;
-    let worker = script.names.workers.number("b")?;
-    let split = script.names.splits.number("t")?;
-    let document = script.names.documents.number("d")?;
+    let names = &script.names;
+    let worker = names.workers.number("b");
+    let split = names.splits.number("t");
+    let document = names.documents.number("d");
     Some((script.target, worker, split, document))
 }
 
 #[test]
 fn names_have_numbers(rt: HostRuntime) {
-    assert_eq!(rt; head_of(rt.alloc(), TEXT), Some((2, 1, 1, 0)));
+    assert_eq!(rt;
+        head_of(rt.alloc(), TEXT),
+        Some((2, Some(1), Some(1), Some(0)))
+    );
 }

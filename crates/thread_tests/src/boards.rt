@@ -1,12 +1,12 @@
-ghost use Rattle.std.specs.Prelude.{◌≡◌, ◌+◌, ◌*◌, ◌<◌, ◌≤◌, length, IfOk, IfSome, IsTrue};
+ghost use Rattle.std.specs.Prelude.{◌≡◌, ◌+◌, ◌*◌, ◌<◌, ◌≤◌, length, [], ◌∷◌, IfOk, IfSome, IsTrue};
 ghost use Rattle.std.specs.List.{All};
 ghost use Rattle.beat_board.specs.declared.TheConstants.{MAX_BEATS};
 
-use beat_board::{Board, Reader, Seat};
+use beat_board::{Board, Maker, Reader, Seat, Totals, Worn};
 use node_ids::WorkerNo;
 use std::alloc::{AllocError, Global};
+use std::process::Abort;
 use std::sync::{Condvar, Mutex, Wait};
-use std::test::Fail;
 use std::thread;
 use std::thread::Threads;
 
@@ -48,7 +48,8 @@ fn each_beats<R: Threads + Wait + Sync>(
     seats: Vec<Seat>,
     times: u64,
 ) -> Result<Vec<Seat>, AllocError>
-    requires seats { All (λ s. (s.board ≡ board.now.board) × (s.worker ≡ worker) × (s.beats ≡ 0)) seats.items }
+    requires seats { All (λ s. (s.board ≡ board.now.board) × (s.worker ≡ worker) × (s.beats ≡ 0))
+        seats.items }
     requires room { times ≤ MAX_BEATS }
     ensures seats { IfOk result (λ back. All (λ s. (s.board ≡ board.now.board) × (s.worker ≡ worker)
         × (s.beats ≡ times)) back.items) }
@@ -58,7 +59,8 @@ fn each_beats<R: Threads + Wait + Sync>(
         thread::scope_env(),
         rt,
         |scope| -> Result<Vec<Seat>, AllocError>
-            requires { All (λ s. (s.board ≡ board.now.board) × (s.worker ≡ worker) × (s.beats ≡ 0)) seats.items
+            requires { All (λ s. (s.board ≡ board.now.board) × (s.worker ≡ worker) × (s.beats ≡ 0))
+                seats.items
                 × (times ≤ MAX_BEATS) }
             ensures { IfOk result (λ back. All (λ s. (s.board ≡ board.entry.now.board) × (s.worker ≡ worker)
                 × (s.beats ≡ times)) back.items × (length back.items ≡ length seats.items)) }
@@ -122,7 +124,8 @@ fn beat_and_look<R: Threads + Wait + Sync>(
     seats: Vec<Seat>,
     reader: Reader,
 ) -> (Result<Vec<Seat>, AllocError>, (Reader, bool))
-    requires seats { All (λ s. (s.board ≡ board.now.board) × (s.worker ≡ worker) × (s.beats ≡ 0)) seats.items }
+    requires seats { All (λ s. (s.board ≡ board.now.board) × (s.worker ≡ worker) × (s.beats ≡ 0))
+        seats.items }
     requires reader { (reader.board ≡ board.now.board) × (worker < board.now.workers) }
     ensures seats { IfOk result.0 (λ back. All (λ s. s.board ≡ board.now.board) back.items) }
     ensures reader { result.1.0.board ≡ board.now.board }
@@ -130,7 +133,8 @@ fn beat_and_look<R: Threads + Wait + Sync>(
     thread::join(
         rt,
         || -> Result<Vec<Seat>, AllocError>
-            requires { All (λ s. (s.board ≡ board.now.board) × (s.worker ≡ worker) × (s.beats ≡ 0)) seats.items }
+            requires { All (λ s. (s.board ≡ board.now.board) × (s.worker ≡ worker) × (s.beats ≡ 0))
+                seats.items }
             ensures { IfOk result (λ back. All (λ s. s.board ≡ board.entry.now.board) back.items) }
         { each_beats(rt, alloc, board, worker, seats, 1000) },
         move || -> (Reader, bool)
@@ -163,30 +167,67 @@ fn beat_together<R: Threads + Wait + Sync>(
     Some(totals.beats[0])
 }
 
+// A board of two workers, and two seats of the first.
+fn two_seats(alloc: Global) -> Option<(Board, Maker, Vec<Seat>)>
+    ensures maker { IfSome result (λ r. (r.1.board ≡ r.0.board) × (r.1.seats ≡ 2) × (r.1.readers ≡ 0)) }
+    ensures workers { IfSome result (λ r. r.0.workers ≡ 2) }
+    ensures seats { IfSome result (λ r. All (λ s. (s.board ≡ r.0.board) × (s.worker ≡ 0) × (s.beats ≡ 0))
+        r.2.items) }
+{
+    let worker = WorkerNo::new(0);
+    let (board, mut maker) = Board::new(alloc, 2).ok()?;
+    let mut seats = Vec::with_capacity(alloc, 2).ok()?;
+    seats.push_reserved(board.seat(&mut maker, worker).ok()?);
+    seats.push_reserved(board.seat(&mut maker, worker).ok()?);
+    Some((board, maker, seats))
+}
+
+// Closes without the seats, which are out, and then with them: how many were missing, and the totals.
+fn close_in_two(
+    rt: &impl Abort,
+    board: Board,
+    maker: Maker,
+    seats: Vec<Seat>,
+    readers: Vec<Reader>,
+) -> (u64, Totals)
+    requires maker { maker.board ≡ board.board }
+    requires seats { All (λ s. s.board ≡ board.board) seats.items }
+    requires readers { All (λ r. r.board ≡ board.board) readers.items }
+{
+    let alloc = *seats.allocator();
+    let missing = board
+        .close(maker, Vec::new(alloc), readers)
+        .err()
+        .expect(rt, "seats are out");
+    let totals = missing
+        .board
+        .close(missing.maker, seats, missing.readers)
+        .ok();
+    (missing.count, totals.expect(rt, "no seat is out"))
+}
+
+fn list_of(alloc: Global, reader: Reader) -> Option<Vec<Reader>>
+    ensures { IfSome result (λ readers. readers.items ≡ reader ∷ []) }
+{
+    let mut readers = Vec::new(alloc);
+    readers.push(reader).ok()?;
+    Some(readers)
+}
+
 // Two threads beat a thousand times each for one worker, and a third looks on.
 #[test]
-fn two_threads_beat_for_one_worker(rt: HostRuntime) -> Result<(), Fail> {
-    let alloc = rt.alloc();
-    let worker = WorkerNo::new(0);
-    let (board, mut maker) = Board::new(alloc, 2)?;
-    let mut seats = Vec::with_capacity(alloc, 2)?;
-    seats.push_reserved(board.seat(&mut maker, worker)?);
-    seats.push_reserved(board.seat(&mut maker, worker)?);
-    let reader = board.reader(&mut maker)?;
+fn two_threads_beat_for_one_worker(rt: HostRuntime) {
+    let (alloc, worker) = (rt.alloc(), WorkerNo::new(0));
+    let (board, mut maker, seats) = two_seats(alloc).expect(&rt, "no board");
+    let reader = board.reader(&mut maker).expect(&rt, "no reader");
     let (seats, (reader, rose)) = beat_and_look(&rt, alloc, &board, worker, seats, reader);
-    assert!(rt; rose);
-    let mut readers = Vec::new(alloc);
-    readers.push(reader)?;
-    let Err(missing) = board.close(maker, Vec::new(alloc), readers) else {
-        panic!(rt; "both seats are out")
-    };
-    assert_eq!(rt; missing.count, 2);
-    let Ok(totals) = missing.board.close(missing.maker, seats?, missing.readers) else {
-        panic!(rt; "no seat is out")
-    };
-    assert_eq!(rt; totals.beats[0], 2000);
-    assert_eq!(rt; totals.beats[1], 0);
-    Ok(())
+    let readers = list_of(alloc, reader).expect(&rt, "no memory");
+    let seats = seats.expect(&rt, "no memory");
+    let (missing, totals) = close_in_two(&rt, board, maker, seats, readers);
+    assert_eq!(rt;
+        (rose, missing, totals.beats[0], totals.beats[1]),
+        (true, 2, 2000, 0)
+    );
 }
 
 #[test]
@@ -194,28 +235,53 @@ fn seats_that_beat_together(rt: HostRuntime) {
     assert_eq!(rt; beat_together(&rt, rt.alloc(), 5, 1000), Some(5000));
 }
 
+// Beats with each seat, the first one first: what they are answered.
+fn beat_in_turn(board: &Board, one: &mut Seat, two: &mut Seat) -> [Result<u64, Worn>; 2]
+    requires { (one.old.board ≡ board.now.board) × (two.old.board ≡ board.now.board) }
+    ensures { (one.new.board ≡ board.now.board) × (two.new.board ≡ board.now.board) }
+{
+    [board.beat(one), board.beat(two)]
+}
+
+// Closes with one seat of two, and then with both: how many were missing, and the beats of the first worker.
+fn close_one_by_one(
+    rt: &impl Abort,
+    alloc: Global,
+    board: Board,
+    maker: Maker,
+    one: Seat,
+    two: Seat,
+) -> (u64, u64)
+    requires maker { (maker.board ≡ board.board) × (maker.seats ≡ 2) }
+    requires seats { (one.board ≡ board.board) × (two.board ≡ board.board) }
+{
+    let mut seats = Vec::with_capacity(alloc, 2).expect(rt, "no memory");
+    seats.push_reserved(one);
+    let missing = board
+        .close(maker, seats, Vec::new(alloc))
+        .err()
+        .expect(rt, "a seat is out");
+    let mut seats = missing.seats;
+    seats.push(two).expect(rt, "no memory");
+    let totals = missing
+        .board
+        .close(missing.maker, seats, missing.readers)
+        .ok();
+    (missing.count, totals.expect(rt, "no seat is out").beats[0])
+}
+
 // The second beat for a worker answers two, whoever made the first. A seat that is kept back is missing.
 #[test]
-fn beats_of_two_seats_count_on(rt: HostRuntime) -> Result<(), Fail> {
-    let worker = WorkerNo::new(0);
-    let (board, mut maker) = Board::new(rt.alloc(), 1)?;
-    let mut one = board.seat(&mut maker, worker)?;
-    let mut two = board.seat(&mut maker, worker)?;
-    assert_eq!(rt; board.beat(&mut one), Ok(1));
-    assert_eq!(rt; board.beat(&mut two), Ok(2));
-    let mut seats = Vec::with_capacity(rt.alloc(), 2)?;
-    seats.push_reserved(one);
-    let Err(missing) = board.close(maker, seats, Vec::new(rt.alloc())) else {
-        panic!(rt; "a seat is out")
-    };
-    assert_eq!(rt; missing.count, 1);
-    let mut seats = missing.seats;
-    seats.push(two)?;
-    let Ok(totals) = missing.board.close(missing.maker, seats, missing.readers) else {
-        panic!(rt; "no seat is out")
-    };
-    assert_eq!(rt; totals.beats[0], 2);
-    Ok(())
+fn beats_of_two_seats_count_on(rt: HostRuntime) {
+    let (alloc, worker) = (rt.alloc(), WorkerNo::new(0));
+    let (board, mut maker) = Board::new(alloc, 1).expect(&rt, "no board");
+    let mut one = board.seat(&mut maker, worker).expect(&rt, "no seat");
+    let mut two = board.seat(&mut maker, worker).expect(&rt, "no seat");
+    assert_eq!(rt; beat_in_turn(&board, &mut one, &mut two), [Ok(1), Ok(2)]);
+    assert_eq!(rt;
+        close_one_by_one(&rt, alloc, board, maker, one, two),
+        (1, 2)
+    );
 }
 
 // Beats once, and tells the reader, which then looks.
@@ -298,37 +364,33 @@ fn tell<R: Threads + Wait + Sync>(
 
 // A thread that was told the answer of a beat sees at least that many beats.
 #[test]
-fn a_look_sees_the_beat_that_it_was_told_of(rt: HostRuntime) -> Result<(), Fail> {
+fn a_look_sees_the_beat_that_it_was_told_of(rt: HostRuntime) {
     let worker = WorkerNo::new(1);
-    let (board, mut maker) = Board::new(rt.alloc(), 2)?;
-    let seat = board.seat(&mut maker, worker)?;
-    let reader = board.reader(&mut maker)?;
+    let (board, mut maker) = Board::new(rt.alloc(), 2).expect(&rt, "no board");
+    let seat = board.seat(&mut maker, worker).expect(&rt, "no seat");
+    let reader = board.reader(&mut maker).expect(&rt, "no reader");
     let (answer, seen) = tell(&rt, &board, seat, reader, worker);
-    assert_eq!(rt; answer, Some(1));
-    assert!(rt; seen >= 1);
-    Ok(())
+    assert_eq!(rt; (answer, seen >= 1), (Some(1), true));
+}
+
+// The answer of one beat on a new board, the look after it and the total, unless an allocation is refused.
+fn beat_once(rt: &impl Abort, alloc: Global) -> Option<(u64, u64, u64)> {
+    let worker = WorkerNo::new(0);
+    let mut seats = Vec::with_capacity(alloc, 1).ok()?;
+    let (board, mut maker) = Board::new(alloc, 1).ok()?;
+    let mut seat = board.seat(&mut maker, worker).expect(rt, "no seat");
+    let mut reader = board.reader(&mut maker).expect(rt, "no reader");
+    let told = beat_and_look_after(&board, &mut seat, &mut reader, worker);
+    let (answer, seen) = told.expect(rt, "no beat");
+    seats.push_reserved(seat);
+    let totals = board.close(maker, seats, Vec::new(alloc)).ok();
+    Some((answer, seen, totals.expect(rt, "no seat is out").beats[0]))
 }
 
 // Whatever allocation is refused, there is a whole board or none; and a look after a beat sees it.
 #[test]
-fn a_refused_board_leaves_no_trace(rt: HostRuntime) -> Result<(), Fail> {
-    let worker = WorkerNo::new(0);
-    let Ok((board, mut maker)) = Board::new(rt.alloc(), 1) else {
-        return Ok(());
-    };
-    let mut seat = board.seat(&mut maker, worker)?;
-    let mut reader = board.reader(&mut maker)?;
-    assert_eq!(rt;
-        beat_and_look_after(&board, &mut seat, &mut reader, worker),
-        Some((1, 1))
-    );
-    let Ok(mut seats) = Vec::with_capacity(rt.alloc(), 1) else {
-        return Ok(());
-    };
-    seats.push_reserved(seat);
-    let Ok(totals) = board.close(maker, seats, Vec::new(rt.alloc())) else {
-        panic!(rt; "no seat is out")
-    };
-    assert_eq!(rt; totals.beats[0], 1);
-    Ok(())
+fn a_refused_board_leaves_no_trace(rt: HostRuntime) {
+    if let Some(told) = beat_once(&rt, rt.alloc()) {
+        assert_eq!(rt; told, (1, 1, 1));
+    }
 }

@@ -1,11 +1,12 @@
-ghost use Rattle.std.specs.Prelude.{◌≡◌, ◌<◌, ◌≤◌, ◌++◌, [], ◌∷◌, length, vec_len, vec_capacity, IfOk, IfSome};
+ghost use Rattle.std.specs.Prelude.{◌≡◌, ◌<◌, ◌≤◌, ◌++◌, [], ◌∷◌, length, vec_len, vec_capacity, IfOk};
+ghost use Rattle.std.specs.Prelude.{IfSome};
 ghost use Rattle.std.specs.List.{All};
 
 use lane_queue::{Lane, Order, Pass};
 use node_ids::{AttemptNo, PartNo, SplitNo};
 use std::alloc::{AllocError, Global};
+use std::process::Abort;
 use std::sync::{Arc, Wait};
-use std::test::Fail;
 use std::thread;
 use std::thread::Threads;
 use word_map::SplitText;
@@ -94,7 +95,8 @@ fn put_and_take<R: Threads + Wait + Sync>(
         { put_all(rt, lane, putter, orders) },
         || -> (Pass, Vec<Order>)
             requires { (taker.lane ≡ lane.now.lane) × (taken.items ≡ []) × (count ≤ vec_capacity taken) }
-            ensures { (result.0 ≡ record taker { takes = taker.takes ++ result.1.items }) × (length result.1.items ≡ count) }
+            ensures { (result.0 ≡ record taker { takes = taker.takes ++ result.1.items })
+                × (length result.1.items ≡ count) }
         { take_many(rt, lane, taker, taken, count) },
     );
     (putter, taker, taken)
@@ -140,7 +142,8 @@ impl<'a> thread::Promise<Pass> for PassOf<'a> {
     ghost kept_by = { λ p s. s.lane ≡ p.0.now.lane };
 }
 
-// A thread for each pass, which puts an order, and the passes that come back. The attempts are numbered from 1.
+// A thread for each pass, which puts an order, and the passes that come back. The attempts are numbered from
+// 1.
 fn each_puts<R: Threads + Wait + Sync>(
     rt: &R,
     alloc: Global,
@@ -181,118 +184,188 @@ fn each_puts<R: Threads + Wait + Sync>(
     )
 }
 
+// The attempts of orders, each below 10, as the digits of a number.
+fn digits(orders: &[Order]) -> usize {
+    let mut seen = 0usize;
+    for order in orders {
+        seen = seen.wrapping_mul(10).wrapping_add(order.attempt().index());
+    }
+    seen
+}
+
+// A lane with room for two orders, and two passes of it.
+fn two_passes(alloc: Global) -> Option<(Lane, Pass, Pass)>
+    ensures { IfSome result (λ r. (r.1.lane ≡ r.0.lane) × (r.2.lane ≡ r.0.lane)) }
+{
+    let (lane, mut one) = Lane::new(alloc, 2).ok()?;
+    let two = lane.share(&mut one).ok()?;
+    Some((lane, one, two))
+}
+
+fn list_of_two(alloc: Global, one: Pass, two: Pass) -> Option<Vec<Pass>>
+    ensures { IfSome result (λ passes. passes.items ≡ one ∷ two ∷ []) }
+{
+    let mut passes = Vec::with_capacity(alloc, 2).ok()?;
+    passes.push_reserved(one);
+    passes.push_reserved(two);
+    Some(passes)
+}
+
+// The attempts of what is left in the lane, which these passes close.
+fn left_in<R: Wait + Abort>(rt: &R, alloc: Global, lane: Lane, passes: Vec<Pass>) -> usize
+    requires { All (λ p. p.lane ≡ lane.lane) passes.items }
+{
+    let tally = lane.close(rt, alloc, passes).ok().expect(rt, "not closed");
+    digits(&tally.left)
+}
+
+// Whether there was room for an order with the attempt's text.
+fn put_map<R: Wait + Abort>(
+    rt: &R,
+    alloc: Global,
+    lane: &Lane,
+    pass: &mut Pass,
+    attempt: u32,
+) -> bool
+    requires { pass.old.lane ≡ lane.now.lane }
+    ensures { pass.new.lane ≡ lane.now.lane }
+{
+    let order = map_order(alloc, attempt).expect(rt, "no memory");
+    lane.put(rt, pass, order).is_ok()
+}
+
+// The attempt of the order that comes back, where there is no room for it.
+fn put_in_vain<R: Wait>(rt: &R, alloc: Global, lane: &Lane, pass: &mut Pass) -> Option<usize>
+    requires { pass.old.lane ≡ lane.now.lane }
+    ensures { pass.new.lane ≡ lane.now.lane }
+{
+    let full = lane.put(rt, pass, reduce_order(alloc, 3)).err()?;
+    Some(full.order.attempt().index())
+}
+
+// The attempt of the order that is taken.
+fn take<R: Wait>(rt: &R, lane: &Lane, pass: &mut Pass) -> Option<usize>
+    requires { pass.old.lane ≡ lane.now.lane }
+    ensures { pass.new.lane ≡ lane.now.lane }
+{
+    let order = lane.take(rt, pass)?;
+    Some(order.attempt().index())
+}
+
 // A lane of two places: the third order comes back, the first is taken, and the second is left.
 #[test]
-fn the_third_order_comes_back(rt: HostRuntime) -> Result<(), Fail> {
+fn the_third_order_comes_back(rt: HostRuntime) {
     let alloc = rt.alloc();
-    let (lane, mut putter) = Lane::new(alloc, 2)?;
-    let mut taker = lane.share(&mut putter)?;
-    assert!(rt; lane.put(&rt, &mut putter, map_order(alloc, 1)?).is_ok());
-    assert!(rt; lane.put(&rt, &mut putter, map_order(alloc, 2)?).is_ok());
-    let Err(full) = lane.put(&rt, &mut putter, reduce_order(alloc, 3)) else {
-        panic!(rt; "the lane is full")
-    };
-    assert_eq!(rt; full.order.attempt().index(), 3);
-    let Some(first) = lane.take(&rt, &mut taker) else {
-        panic!(rt; "the lane has two orders")
-    };
-    assert_eq!(rt; first.attempt().index(), 1);
-    let mut passes = Vec::with_capacity(alloc, 2)?;
-    passes.push_reserved(putter);
-    passes.push_reserved(taker);
-    let Ok(tally) = lane.close(&rt, alloc, passes) else {
-        panic!(rt; "there is memory")
-    };
-    assert_eq!(rt; tally.left.len(), 1);
-    assert_eq!(rt; tally.left[0].attempt().index(), 2);
-    Ok(())
+    let (lane, mut putter, mut taker) = two_passes(alloc).expect(&rt, "no lane");
+    assert!(rt; put_map(&rt, alloc, &lane, &mut putter, 1));
+    assert!(rt; put_map(&rt, alloc, &lane, &mut putter, 2));
+    let back = put_in_vain(&rt, alloc, &lane, &mut putter);
+    let taken = take(&rt, &lane, &mut taker);
+    let passes = list_of_two(alloc, putter, taker).expect(&rt, "no memory");
+    assert_eq!(rt;
+        (back, taken, left_in(&rt, alloc, lane, passes)),
+        (Some(3), Some(1), 2)
+    );
+}
+
+fn five_orders(alloc: Global) -> Option<Vec<Order>> {
+    let mut orders = Vec::new(alloc);
+    for attempt in 1..6u32 {
+        orders.push(reduce_order(alloc, attempt)).ok()?;
+    }
+    Some(orders)
 }
 
 #[test]
-fn another_thread_takes_all_in_order(rt: HostRuntime) -> Result<(), Fail> {
-    let mut orders = Vec::new(rt.alloc());
-    for attempt in 1..6u32 {
-        orders.push(reduce_order(rt.alloc(), attempt))?;
-    }
-    let Some(taken) = hand_over(&rt, rt.alloc(), orders) else {
-        panic!(rt; "there is memory")
-    };
-    let mut wanted = 1usize;
-    for order in &taken {
-        assert_eq!(rt; order.attempt().index(), wanted);
-        wanted = wanted.wrapping_add(1);
-    }
-    assert_eq!(rt; wanted, 6);
-    Ok(())
+fn another_thread_takes_all_in_order(rt: HostRuntime) {
+    let orders = five_orders(rt.alloc()).expect(&rt, "no memory");
+    let taken = hand_over(&rt, rt.alloc(), orders).expect(&rt, "no memory");
+    assert_eq!(rt; digits(&taken), 12345);
+}
+
+// A lane with room for four orders, and three passes of it.
+fn three_passes(alloc: Global) -> Option<(Lane, Vec<Pass>)>
+    ensures { IfSome result (λ r. All (λ p. p.lane ≡ r.0.lane) r.1.items) }
+{
+    let mut passes = Vec::with_capacity(alloc, 3).ok()?;
+    let (lane, mut one) = Lane::new(alloc, 4).ok()?;
+    let mut two = lane.share(&mut one).ok()?;
+    let three = lane.share(&mut two).ok()?;
+    passes.push_reserved(one);
+    passes.push_reserved(two);
+    passes.push_reserved(three);
+    Some((lane, passes))
 }
 
 // Three threads put an order each, and all three are left, each once.
 #[test]
-fn each_thread_puts_an_order(rt: HostRuntime) -> Result<(), Fail> {
-    let alloc = rt.alloc();
-    let mut passes = Vec::with_capacity(alloc, 3)?;
-    let (lane, mut one) = Lane::new(alloc, 4)?;
-    let mut two = lane.share(&mut one)?;
-    let three = lane.share(&mut two)?;
-    passes.push_reserved(one);
-    passes.push_reserved(two);
-    passes.push_reserved(three);
-    let passes = each_puts(&rt, alloc, &lane, passes)?;
-    let Ok(tally) = lane.close(&rt, alloc, passes) else {
-        panic!(rt; "there is memory")
-    };
-    let mut seen = 0usize;
-    for order in &tally.left {
-        seen = seen.wrapping_mul(10).wrapping_add(order.attempt().index());
-    }
-    assert!(rt; matches!(seen, 123 | 132 | 213 | 231 | 312 | 321));
-    Ok(())
+fn each_thread_puts_an_order(rt: HostRuntime) {
+    let (lane, passes) = three_passes(rt.alloc()).expect(&rt, "no lane");
+    let passes = each_puts(&rt, rt.alloc(), &lane, passes).expect(&rt, "no memory");
+    let seen = left_in(&rt, rt.alloc(), lane, passes);
+    assert!(rt; [123, 132, 213, 231, 312, 321].contains(&seen), "{seen}");
+}
+
+// Closes the lane with no pass, and then with this one: the attempts of what is left.
+fn close_again<R: Wait + Abort>(rt: &R, alloc: Global, lane: Lane, pass: Pass) -> usize
+    requires { pass.lane ≡ lane.lane }
+{
+    let refused = lane
+        .close(rt, alloc, Vec::new(alloc))
+        .err()
+        .expect(rt, "no pass came");
+    let mut passes = refused.passes;
+    passes.push(pass).expect(rt, "no memory");
+    left_in(rt, alloc, refused.lane, passes)
 }
 
 // What is left comes with any pass of the lane; without one the lane comes back.
 #[test]
-fn what_is_left_comes_with_any_pass(rt: HostRuntime) -> Result<(), Fail> {
-    let alloc = rt.alloc();
-    let (lane, mut putter) = Lane::new(alloc, 2)?;
-    let other = lane.share(&mut putter)?;
-    assert!(rt; lane.put(&rt, &mut putter, reduce_order(alloc, 1)).is_ok());
-    let Err(refused) = lane.close(&rt, alloc, Vec::new(alloc)) else {
-        panic!(rt; "no pass came")
-    };
-    let mut passes = refused.passes;
-    passes.push(other)?;
-    let Ok(tally) = refused.lane.close(&rt, alloc, passes) else {
-        panic!(rt; "there is memory")
-    };
-    assert_eq!(rt; tally.left.len(), 1);
-    Ok(())
+fn what_is_left_comes_with_any_pass(rt: HostRuntime) {
+    let (lane, mut putter, other) = two_passes(rt.alloc()).expect(&rt, "no lane");
+    assert!(rt;
+        lane.put(&rt, &mut putter, reduce_order(rt.alloc(), 1))
+            .is_ok()
+    );
+    assert_eq!(rt; close_again(&rt, rt.alloc(), lane, other), 1);
+}
+
+// Takes from the lane, which is empty, and puts an order.
+fn take_and_put<R: Wait + Abort>(
+    rt: &R,
+    alloc: Global,
+    lane: &Lane,
+    mut one: Pass,
+    mut two: Pass,
+) -> Option<Vec<Pass>>
+    requires { (one.lane ≡ lane.now.lane) × (two.lane ≡ lane.now.lane) }
+    ensures { IfSome result (λ passes. All (λ p. p.lane ≡ lane.now.lane) passes.items) }
+{
+    assert!(rt; lane.take(rt, &mut two).is_none());
+    assert!(rt; lane.put(rt, &mut one, reduce_order(alloc, 1)).is_ok());
+    list_of_two(alloc, one, two)
+}
+
+// The attempts of what is left, told at the second call where the first is refused.
+fn close_in_two<R: Wait + Abort>(rt: &R, alloc: Global, lane: Lane, passes: Vec<Pass>) -> usize
+    requires { All (λ p. p.lane ≡ lane.lane) passes.items }
+{
+    match lane.close(rt, alloc, passes) {
+        Ok(tally) => digits(&tally.left),
+        Err(refused) => {
+            assert_eq!(rt; refused.passes.len(), 2);
+            left_in(rt, alloc, refused.lane, refused.passes)
+        }
+    }
 }
 
 // Whatever allocation is refused, there is a whole lane or none, and a close that is refused gives all back.
 #[test]
-fn a_refused_close_gives_all_back(rt: HostRuntime) -> Result<(), Fail> {
-    let alloc = rt.alloc();
-    let Ok(mut passes) = Vec::with_capacity(alloc, 2) else {
-        return Ok(());
+fn a_refused_close_gives_all_back(rt: HostRuntime) {
+    let Some((lane, one, two)) = two_passes(rt.alloc()) else {
+        return;
     };
-    let Ok((lane, mut one)) = Lane::new(alloc, 2) else {
-        return Ok(());
-    };
-    let mut two = lane.share(&mut one)?;
-    assert!(rt; lane.take(&rt, &mut two).is_none());
-    assert!(rt; lane.put(&rt, &mut one, reduce_order(alloc, 1)).is_ok());
-    passes.push_reserved(one);
-    passes.push_reserved(two);
-    let tally = match lane.close(&rt, alloc, passes) {
-        Ok(tally) => tally,
-        Err(refused) => {
-            assert_eq!(rt; refused.passes.len(), 2);
-            let Ok(tally) = refused.lane.close(&rt, alloc, refused.passes) else {
-                panic!(rt; "one allocation is refused")
-            };
-            tally
-        }
-    };
-    assert_eq!(rt; tally.left.len(), 1);
-    Ok(())
+    if let Some(passes) = take_and_put(&rt, rt.alloc(), &lane, one, two) {
+        assert_eq!(rt; close_in_two(&rt, rt.alloc(), lane, passes), 1);
+    }
 }

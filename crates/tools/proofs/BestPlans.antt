@@ -1,6 +1,7 @@
 -- What is said of a plan of the problem that was read is said of the text, and a check of what is written
 -- certifies it.
-use Rattle.std.proofs.Common.{ℕ, zero, suc, List, [], ◌∷◌, ◌++◌, Option, Bool, ◌≡◌, ◌<◌, ◌≤◌, ◌^◌, ◌∙◌, length, slice_index, refl, sym, subst, ap, arith, true, false}
+use Rattle.std.proofs.Common.{ℕ, zero, suc, List, [], ◌∷◌, ◌++◌, Option, Bool, ◌≡◌, ◌<◌, ◌≤◌, ◌^◌, ◌∙◌}
+use Rattle.std.proofs.Common.{length, slice_index, refl, sym, subst, ap, arith, true, false}
 use Rattle.std.specs.List.{All}
 use Rattle.std.proofs.lemmas.List.{append-nil}
 use Rattle.std.proofs.lemmas.List.Elements.{All-cons, All-nil}
@@ -20,7 +21,8 @@ use Rattle.plan_text.specs.declared.built.ProblemText.{ProblemText}
 use Rattle.written_plan.specs.Joined.{IsPlanFor, ReadsBack, with_plan}
 use Rattle.written_plan.proofs.ReadBack.{written_plan_reads_back}
 use Rattle.tools.specs.CheckAnswer.{AnswersRead, SaysCertified}
-use Rattle.tools.specs.PlanAnswer.{ChecksAgain, PlansProblem, PlansRead, SaysPlanned, asked_prices, cost_of, count_of}
+use Rattle.tools.specs.PlanAnswer.{ChecksAgain, PlansProblem, PlansRead, SaysPlanned, asked_prices, cost_of}
+use Rattle.tools.specs.PlanAnswer.{count_of}
 use Rattle.tools.specs.declared.ending.CheckEnd.TheVariants.{Certified}
 
 -- the line on a plan that is certified

@@ -59,7 +59,8 @@ one_check_answer text (Err f) (Err g) x y p q =
     let one = one_fault Checking text f g x y p q in (ap Err one.0, one.1)
 
 -- at most one end of planning answers a text
-pub one_plan_answer : (with_prices : Bool) → HasOneAnswer (λ text. PlanAnswer text with_prices) (λ a b. a ≡ b) AnyLines
+pub one_plan_answer : (with_prices : Bool) →
+    HasOneAnswer (λ text. PlanAnswer text with_prices) (λ a b. a ≡ b) AnyLines
 one_plan_answer with_prices text (Ok Planned) (Ok Planned) x y g h = (refl, tt)
 one_plan_answer with_prices text (Ok a) (Err f) x y g h =
     absurd (reads-faultless Planning text g.statements f.line f.number g.reads h.least)

@@ -143,6 +143,7 @@ fn judge(
         (claim read.now.problem read.now.plan.starts read.now.prices)
         read.now.splits read.now.workers (string_bytes given.0)) }
 {
+    // (bounds the reward)
     let _reach = read.problem.tree().reach();
     match verdict {
         Ok(answer) => Ok((

@@ -1,5 +1,6 @@
 -- What holds of each view of a list, where one view is changed or one is added.
-use Rattle.std.proofs.Common.{◌≡◌, ◌≢◌, ℕ, zero, suc, ◌<◌, List, [], ◌∷◌, ◌++◌, length, set, sym, subst, ⊎_elim, arith}
+use Rattle.std.proofs.Common.{◌≡◌, ◌≢◌, ℕ, zero, suc, ◌<◌, List, [], ◌∷◌, ◌++◌, length, set, sym, subst}
+use Rattle.std.proofs.Common.{⊎_elim, arith}
 use mathlib.Core.Option.{some, some-ne-none}
 use lib.ListN.{get_elem?}
 use Rattle.atomic_table.proofs.Lists.{at_set, at_snoc}
@@ -21,7 +22,8 @@ module _ {V : Type 0} where
       (at_set vs i j w u e)
 
   -- one view is added
-  pub each_snoc : (P : V → Type 0) (vs : List V) (w : V) → ((j : ℕ) (u : V) → get_elem? vs j ≡ some u → P u) → P w
+  pub each_snoc : (P : V → Type 0) (vs : List V) (w : V) → ((j : ℕ) (u : V) → get_elem? vs j ≡ some u → P u)
+      → P w
       → (j : ℕ) (u : V) → get_elem? (vs ++ w ∷ []) j ≡ some u → P u
   each_snoc P vs w others mine j u e = ⊎_elim
       (λ (x : get_elem? vs j ≡ some u). others j u x)

@@ -5,7 +5,8 @@ use Rattle.std.proofs.Math.Seq.{get_or-append_seam}
 use Rattle.std.specs.List.{All}
 
 -- what holds of all elements holds of those that stay, and of the last
-pub all_but_last : {A : Type 0} (P : A → Type 0) (xs ys : List A) (x : A) → ys ≡ xs ++ x ∷ [] → All P ys → All P xs × P x
+pub all_but_last : {A : Type 0} (P : A → Type 0) (xs ys : List A) (x : A) → ys ≡ xs ++ x ∷ [] → All P ys →
+    All P xs × P x
 all_but_last P xs ys x is h =
     let longer = length-append xs (x ∷ []) in (
       (λ k d lt.

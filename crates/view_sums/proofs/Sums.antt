@@ -1,5 +1,6 @@
 -- Sums over a list of views, and what one changed view does to them.
-use Rattle.std.proofs.Common.{◌≡◌, ℕ, zero, suc, ◌+◌, ◌*◌, ◌≤◌, List, [], ◌∷◌, length, set, refl, sym, ap, arith}
+use Rattle.std.proofs.Common.{◌≡◌, ℕ, zero, suc, ◌+◌, ◌*◌, ◌≤◌, List, [], ◌∷◌, length, set, refl, sym, ap}
+use Rattle.std.proofs.Common.{arith}
 use Rattle.std.specs.List.{sum_by}
 use Rattle.std.proofs.lemmas.List.Sums.{sum_by-cons}
 use mathlib.Core.Option.{some, some-injective, some-ne-none}
@@ -22,7 +23,8 @@ module _ {V : Type 0} where
   term_within f (x ∷ xs) (suc i) v e = omega (arith, sum_by-cons f x xs, term_within f xs i v e)
 
   -- a bound on each term, in proportion, is one on the sum
-  pub sum_within : (f g : V → ℕ) (b : ℕ) (vs : List V) → ((i : ℕ) (v : V) → get_elem? vs i ≡ some v → f v ≤ g v * b)
+  pub sum_within : (f g : V → ℕ) (b : ℕ) (vs : List V) → ((i : ℕ) (v : V) → get_elem? vs i ≡ some v →
+      f v ≤ g v * b)
       → sum_by f vs ≤ sum_by g vs * b
   sum_within f g b [] h = omega arith
   sum_within f g b (x ∷ xs) h =
@@ -33,7 +35,8 @@ module _ {V : Type 0} where
       rw (fs, gs) (omega (arith, here, rest))
 
   -- terms that are in proportion have sums that are
-  pub sum_scaled : (f g : V → ℕ) (b : ℕ) (vs : List V) → ((i : ℕ) (v : V) → get_elem? vs i ≡ some v → f v ≡ b * g v)
+  pub sum_scaled : (f g : V → ℕ) (b : ℕ) (vs : List V) → ((i : ℕ) (v : V) → get_elem? vs i ≡ some v →
+      f v ≡ b * g v)
       → sum_by f vs ≡ b * sum_by g vs
   sum_scaled f g b [] h = omega arith
   sum_scaled f g b (x ∷ xs) h =
@@ -48,10 +51,17 @@ module _ {V : Type 0} where
   sum_none f g [] h e = refl
   sum_none f g (x ∷ xs) h e =
       let gs = sum_by-cons g x xs in
-      omega (arith, sum_by-cons f x xs, h 0 x refl (omega arith), sum_none f g xs (λ i v a. h (suc i) v a) (omega arith))
+      omega (
+        arith,
+        sum_by-cons f x xs,
+        h 0 x refl (omega arith),
+        sum_none f g xs (λ i v a. h (suc i) v a)
+            (omega arith),
+      )
 
   -- where one view has all of the one sum, it has all of the other
-  pub sum_alone : (f g : V → ℕ) (vs : List V) → ((i : ℕ) (v : V) → get_elem? vs i ≡ some v → g v ≡ 0 → f v ≡ 0)
+  pub sum_alone : (f g : V → ℕ) (vs : List V) → ((i : ℕ) (v : V) → get_elem? vs i ≡ some v → g v ≡ 0 →
+      f v ≡ 0)
       → (i : ℕ) (v : V) → get_elem? vs i ≡ some v → sum_by g vs ≡ g v → sum_by f vs ≡ f v
   sum_alone f g [] h i v e all = absurd (some-ne-none v (sym e))
   sum_alone f g (x ∷ xs) h zero v e all =

@@ -72,7 +72,8 @@ pub fn plan(alloc: Global, problem: &Problem) -> Result<Planned, PlanError>
         IsMadeOver NetworkKind.Racks problem.now planned.plan.starts planned.prices) }
     ensures sizes { IfOk result (λ planned.
         HasOneSize (claim problem.now planned.plan.starts planned.prices) planned.plan.workers) }
-    ensures certifies { IfOk result (λ planned. Certifies (claim problem.now planned.plan.starts planned.prices)) }
+    ensures certifies { IfOk result
+        (λ planned. Certifies (claim problem.now planned.plan.starts planned.prices)) }
     ensures best { IfOk result (λ planned. IsBest problem.now (pairs_of planned.plan.starts)) }
     ensures count { IfOk result (λ planned. planned.certified.count ≡ length (pairs_of planned.plan.starts)) }
     ensures cost { IfOk result (λ planned.
@@ -86,7 +87,8 @@ pub fn plan_with(alloc: Global, problem: &Problem, kind: NetworkKind) -> Result<
     ensures over { IfOk result (λ planned. IsMadeOver kind problem.now planned.plan.starts planned.prices) }
     ensures sizes { IfOk result (λ planned.
         HasOneSize (claim problem.now planned.plan.starts planned.prices) planned.plan.workers) }
-    ensures certifies { IfOk result (λ planned. Certifies (claim problem.now planned.plan.starts planned.prices)) }
+    ensures certifies { IfOk result
+        (λ planned. Certifies (claim problem.now planned.plan.starts planned.prices)) }
     ensures best { IfOk result (λ planned. IsBest problem.now (pairs_of planned.plan.starts)) }
     ensures count { IfOk result (λ planned. planned.certified.count ≡ length (pairs_of planned.plan.starts)) }
     ensures cost { IfOk result (λ planned.

@@ -1,5 +1,7 @@
 -- What tables of the live holders of a split tell of the least distance.
-use Rattle.std.proofs.Common.{◌≡◌, ℕ, ◌<◌, ◌≤◌, ◌↔◌, min, Bool, true, false, List, [], ◌∷◌, ◌++◌, length, map, fold, Some, refl, sym, ap, ◌∙◌, ◌⊎◌, inl, inr, arith, get_or, set, ◌||◌, get_or-set_same, get_or-set_other, slice_index}
+use Rattle.std.proofs.Common.{◌≡◌, ℕ, ◌<◌, ◌≤◌, ◌↔◌, min, Bool, true, false, List, [], ◌∷◌, ◌++◌, length, map}
+use Rattle.std.proofs.Common.{fold, Some, refl, sym, ap, ◌∙◌, ◌⊎◌, inl, inr, arith, get_or, set, ◌||◌}
+use Rattle.std.proofs.Common.{get_or-set_same, get_or-set_other, slice_index}
 use Rattle.std.specs.Prelude.{◌==◌, if◌then◌else◌}
 use Rattle.std.specs.List.{list_any}
 use Rattle.std.proofs.Math.Nat.{zero-min, min-zero}
@@ -41,7 +43,8 @@ put_more old new live x members shown w =
     ∙ ap (λ (b : Bool). b || (x == w)) (shown w) ∙ sym (list_any-push (λ h. h == w) live x)
 
 -- a table of the places of workers, by their racks or by their centres, after one was marked
-pub marked_more : (marks : List Bool) (place_of : ℕ → ℕ) (live : List ℕ) (x mark r : ℕ) → mark < length marks →
+pub marked_more : (marks : List Bool) (place_of : ℕ → ℕ) (live : List ℕ) (x mark r : ℕ) → mark < length marks
+    →
     place_of x ≡ mark →
     get_or marks r false ≡ list_any (λ h. place_of h == r) live →
     get_or (set marks mark true) r false ≡ list_any (λ h. place_of h == r) (live ++ x ∷ [])
@@ -113,7 +116,8 @@ least_near tree w (h ∷ live) some =
 pub steps_shown : (tree : Tree) (w rack centre : ℕ) (live : List ℕ) (one racks centres : Bool) →
     slice_index tree.rack_of w ≡ rack → centre_at tree w ≡ centre →
     one ≡ list_any (λ h. h == w) live → racks ≡ list_any (λ h. slice_index tree.rack_of h == rack) live →
-    centres ≡ list_any (λ h. centre_at tree h == centre) live → steps_to tree w live ≡ steps_by one racks centres
+    centres ≡ list_any (λ h. centre_at tree h == centre) live →
+    steps_to tree w live ≡ steps_by one racks centres
 steps_shown tree w rack centre live one racks centres r c here near by =
     let far : list_any (λ h. centre_at tree h == centre_at tree w) live ≡ centres =
     ap (λ (z : ℕ). list_any (λ h. centre_at tree h == z) live) c ∙ sym by in

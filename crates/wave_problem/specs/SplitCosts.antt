@@ -1,5 +1,6 @@
 -- A split with its live holders gathered in tables.
-use Rattle.std.specs.Prelude.{ℕ, ◌≡◌, ◌<◌, ◌↔◌, ◌==◌, false, List, length, IsTrue, slice_index, slice_index_or}
+use Rattle.std.specs.Prelude.{ℕ, ◌≡◌, ◌<◌, ◌↔◌, ◌==◌, false, List, length, IsTrue, slice_index}
+use Rattle.std.specs.Prelude.{slice_index_or}
 use Rattle.std.specs.List.{list_any}
 use Rattle.node_ids.specs.Sets.{has_number}
 use Rattle.rack_tree.specs.Tree.{Tree, centre_at}

@@ -1,4 +1,5 @@
-ghost use Rattle.std.specs.Prelude.{◌≡◌, ◌≢◌, ℕ, ◌<◌, ◌≤◌, ◌↔◌, length, All, AllPairs, IsTrue, false, slice_index_or};
+ghost use Rattle.std.specs.Prelude.{◌≡◌, ◌≢◌, ℕ, ◌<◌, ◌≤◌, ◌↔◌, length, All, AllPairs, IsTrue, false};
+ghost use Rattle.std.specs.Prelude.{slice_index_or};
 ghost use Rattle.wave_problem.specs.declared.TheConstants.{MAX_SLOTS};
 ghost use Rattle.wave_problem.specs.Wave.{AreHeldWell, AreSmall, AreSmallSplits, IsHeldWell, IsSmall};
 

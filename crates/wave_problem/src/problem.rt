@@ -1,14 +1,17 @@
-ghost use Rattle.std.specs.Prelude.{◌≡◌, ◌≢◌, ℕ, List, [], ◌∷◌, ◌++◌, ◌+◌, ◌*◌, ◌<◌, ◌≤◌, ◌↔◌, length, map, sum_by, All, AllPairs, IsTrue, OnOk, IfOk, IfSome, Err};
-ghost use Rattle.node_ids.specs.Sets.{HasPair};
+ghost use Rattle.std.specs.Prelude.{◌≡◌, ◌≢◌, ℕ, List, [], ◌∷◌, ◌++◌, ◌+◌, ◌*◌, ◌<◌, ◌≤◌, ◌↔◌, length, map};
+ghost use Rattle.std.specs.Prelude.{sum_by, All, AllPairs, IsTrue, OnOk, IfOk, IfSome, Err};
+ghost use Rattle.node_ids.specs.Sets.{Has, HasPair};
 ghost use Rattle.rack_tree.specs.Tree.{distance};
 ghost use Rattle.rack_tree.specs.declared.TheConstants.{MAX_DISTANCE, MAX_WORKERS};
 ghost use Rattle.wave_problem.specs.declared.TheConstants.{MAX_SPLITS, MAX_HOLDERS, MAX_SLOTS, MAX_BYTES};
 ghost use Rattle.wave_problem.specs.Sums.{least};
 ghost use Rattle.rack_tree.specs.View as tree;
-ghost use Rattle.wave_problem.specs.Wave.{cost, live_among, live_holders, reward, split_at, wave_from, worker_at, worker_in, AreHeldWell, AreSmall, IsAdmissible, IsWithinLimits};
+ghost use Rattle.wave_problem.specs.Wave.{cost, live_among, live_holders, reward, split_at, wave_from};
+ghost use Rattle.wave_problem.specs.Wave.{worker_at, worker_in, AreHeldWell, AreSmall, IsAdmissible};
+ghost use Rattle.wave_problem.specs.Wave.{IsWithinLimits};
 
 use crate::lines::{SplitLine, SplitRef, WorkerLine, are_held_well, are_small};
-use node_ids::{PairSet, SplitNo, WorkerNo};
+use node_ids::{PairSet, SplitNo, WorkerNo, WorkerSet};
 use rack_tree::RackTree;
 use smallvec::SmallVec;
 use std::alloc::{AllocError, Global};
@@ -244,6 +247,14 @@ impl Problem {
         ensures { IsTrue result ↔ HasPair self.now.barred split worker }
     {
         self.barred.has(split, worker)
+    }
+
+    /// The workers on which the split may not start.
+    pub fn bars(&self, split: SplitNo) -> WorkerSet
+        requires { split < length self.now.splits }
+        ensures { (w : ℕ) → w < MAX_WORKERS → Has result w ↔ HasPair self.now.barred split w }
+    {
+        self.barred.row(split)
     }
 
     /// Whether a live worker holds a replica of the split.

@@ -1,4 +1,5 @@
-ghost use Rattle.std.specs.Prelude.{◌≡◌, ℕ, List, [], ◌∷◌, ◌++◌, ◌*◌, ◌<◌, ◌≤◌, ◌↔◌, length, map, true, All, IsTrue, IfSome, slice_index};
+ghost use Rattle.std.specs.Prelude.{◌≡◌, ℕ, List, [], ◌∷◌, ◌++◌, ◌*◌, ◌<◌, ◌≤◌, ◌↔◌, length, map, true, All};
+ghost use Rattle.std.specs.Prelude.{IsTrue, IfSome, slice_index};
 ghost use Rattle.rack_tree.specs.Tree.{centre_at, distance, Tree};
 ghost use Rattle.rack_tree.specs.declared.TheConstants.{MAX_CENTRES, MAX_DISTANCE, MAX_RACKS, MAX_WORKERS};
 ghost use Rattle.wave_problem.specs.declared.TheConstants.{MAX_BYTES};
@@ -37,7 +38,8 @@ impl LiveHolders {
         requires rack { rack < MAX_RACKS }
         requires centre { centre < MAX_CENTRES }
         ensures { (tree : Tree) (live : List ℕ) → slice_index tree.rack_of worker ≡ rack
-            → centre_at tree worker ≡ centre → Shows tree live self.old → Shows tree (live ++ worker ∷ []) self.new }
+            → centre_at tree worker ≡ centre → Shows tree live self.old →
+            Shows tree (live ++ worker ∷ []) self.new }
     {
         self.workers.put(worker);
         self.racks[rack.index()] = true;

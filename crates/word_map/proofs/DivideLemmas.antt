@@ -1,11 +1,13 @@
 -- Room for one more part, one more entry in its part, and what the entries of a part are.
-use Rattle.std.proofs.Common.{◌≡◌, ◌≢◌, ℕ, ◌+◌, ◌<◌, Bool, true, false, cond, List, [], ◌∷◌, ◌++◌, length, get_or, set, map, ⊎_elim, sym, ap, ◌∙◌, subst, arith, append-nil, append_assoc, Vec, eqb, eq-eqb}
+use Rattle.std.proofs.Common.{◌≡◌, ◌≢◌, ℕ, ◌+◌, ◌<◌, Bool, true, false, cond, List, [], ◌∷◌, ◌++◌, length}
+use Rattle.std.proofs.Common.{get_or, set, map, ⊎_elim, sym, ap, ◌∙◌, subst, arith, append_assoc}
+use Rattle.std.proofs.Common.{Vec, eqb, eq-eqb}
 use Rattle.std.specs.Prelude.{◌↔◌, ◌==◌, Any, Contains}
 use Rattle.std.specs.declared.alloc.Global.{Global}
-use Rattle.std.proofs.lemmas.Bool.{cases_lt, eqb-true}
+use Rattle.std.proofs.lemmas.Bool.{eqb-true}
 use Rattle.std.proofs.lemmas.Bool.Decides.{eqb_tells}
-use Rattle.std.proofs.Math.Seq.{get_or-append_seam}
-use Rattle.std.proofs.lemmas.List.{length_push, get_or_append_left, get_or-set_same, get_or-set_other, length-set}
+use Rattle.std.proofs.lemmas.List.{get_or-set_same, get_or-set_other}
+use Rattle.std.proofs.lemmas.List.{length-set}
 use Rattle.std.proofs.lemmas.List.Elements.{All-filter}
 use Rattle.std.proofs.lemmas.List.Kept.{AllPairs-filter}
 use Rattle.word_map.specs.declared.text.Document.{Document}
@@ -14,24 +16,9 @@ use Rattle.word_map.specs.Texts.{Pair, IsPairOf, in_lower_case}
 use Rattle.word_map.specs.Tokens.{AreRunsOf, IsRunOfDocument}
 use Rattle.word_map.specs.Entries.{EntryView, AreEntries, pairs_of_index, WordIsBelow, DocumentsRise}
 use Rattle.word_map.specs.Divided.{AreDivided, AreEntriesOfParts, AreRunEntries, own_entries}
-use Rattle.word_map.proofs.PairLemmas.{any_from_member, member_from_any, Contains-from_filter, Contains-filter, pairs_of_lower}
+use Rattle.word_map.proofs.PairLemmas.{any_from_member, member_from_any, Contains-from_filter}
+use Rattle.word_map.proofs.PairLemmas.{Contains-filter, pairs_of_lower}
 use Rattle.word_map.proofs.EntryLemmas.{HasPair, entries_of_pair, pair_in_entries, pairs_of_entries_rise}
-
--- room for one more part
-pub divided_room : {parts : ℕ} (divided : List (Vec EntryView Global)) (room : Vec EntryView Global) →
-    AreDivided [] parts divided → room.items ≡ [] → AreDivided [] (parts + 1) (divided ++ room ∷ [])
-divided_room {parts} divided room was empty = record {
-  count = length_push divided room ∙ ap (λ n. n + 1) was.count;
-  each = λ part d low.
-      ⊎_elim
-      (λ (before : part < length divided). ap (λ v. v.items)
-      (get_or_append_left divided (room ∷ []) d part before)
-      ∙ was.each part d (omega (arith, was.count)))
-      (λ after. let last : part ≡ length divided = omega (arith, was.count) in
-      ap (λ n. (get_or (divided ++ room ∷ []) n d).items) last
-      ∙ ap (λ v. v.items) (get_or-append_seam divided room [] d) ∙ empty)
-      (cases_lt part (length divided));
-}
 
 -- each part has its entries but for those that are left
 pub record AreDividedBut (left entries : List EntryView) (parts : ℕ)
@@ -39,20 +26,6 @@ pub record AreDividedBut (left entries : List EntryView) (parts : ℕ)
   pub count : length divided ≡ parts
   pub each : (part : ℕ) (d : Vec EntryView Global) → part < parts →
       (get_or divided part d).items ++ own_entries part parts left ≡ own_entries part parts entries
-
-pub divided_none : {parts : ℕ} (entries : List EntryView) (divided : List (Vec EntryView Global)) →
-    AreDivided [] parts divided → AreDividedBut entries entries parts divided
-divided_none {parts} entries divided none = record {
-  count = none.count;
-  each = λ part d low. ap (λ es. es ++ own_entries part parts entries) (none.each part d low);
-}
-
-pub divided_all : {parts : ℕ} (entries : List EntryView) (divided : List (Vec EntryView Global)) →
-    AreDividedBut [] entries parts divided → AreDivided entries parts divided
-divided_all {parts} entries divided all = record {
-  count = all.count;
-  each = λ part d low. sym (append-nil (get_or divided part d).items) ∙ all.each part d low;
-}
 
 -- an entry goes before the others of its part
 own_first : (part parts : ℕ) (entry : EntryView) (left : List EntryView) (b : Bool) →

@@ -1,5 +1,6 @@
 -- The pairs of entries: which they are, and that they rise.
-use Rattle.std.proofs.Common.{◌≡◌, ℕ, suc, List, [], ◌∷◌, ◌++◌, map, get_or, sym, refl, ap, ◌∙◌, subst, arith, ⊎_elim}
+use Rattle.std.proofs.Common.{◌≡◌, ℕ, suc, List, [], ◌∷◌, ◌++◌, map, get_or, sym, refl, ap, ◌∙◌, subst, arith}
+use Rattle.std.proofs.Common.{⊎_elim}
 use Rattle.std.specs.Prelude.{Contains, Any, All, AllPairs}
 use Rattle.std.specs.List.{AllByRecursion}
 use Rattle.std.specs.List.Sorted.{IsStrictlySortedBy}
@@ -8,10 +9,14 @@ use Rattle.std.specs.Ordering.{nat_cmp, ordering_then}
 use Rattle.std.specs.declared.cmp.Ordering.{Ordering}
 use Rattle.std.specs.declared.cmp.Ordering.TheVariants.{Less}
 use Rattle.std.proofs.lemmas.Cmp.{nat_list_cmp_total, tied_itself}
-use Rattle.std.proofs.lemmas.List.Elements.{All-append, All-from_recursion, recursion_from_All, All-contains, Contains-get_or, Contains-push, Contains-push_cases, Contains-append_left, Contains-append_right, Contains-append_cases}
+use Rattle.std.proofs.lemmas.List.Elements.{All-append, All-from_recursion, recursion_from_All, All-contains}
+use Rattle.std.proofs.lemmas.List.Elements.{Contains-get_or, Contains-push, Contains-push_cases}
+use Rattle.std.proofs.lemmas.List.Elements.{Contains-append_left, Contains-append_right}
+use Rattle.std.proofs.lemmas.List.Elements.{Contains-append_cases}
 use Rattle.word_map.specs.Texts.{Pair}
 use Rattle.word_map.specs.Runs.{AreRising, pair_cmp}
-use Rattle.word_map.specs.Entries.{EntryView, pair_of, pairs_of_entry, pairs_of_index, WordIsBelow, DocumentsRise}
+use Rattle.word_map.specs.Entries.{EntryView, pair_of, pairs_of_entry, pairs_of_index, WordIsBelow}
+use Rattle.word_map.specs.Entries.{DocumentsRise}
 use Rattle.word_map.proofs.PairLemmas.{any_from_member, member_from_any, any_map, any_from_map}
 use Rattle.word_map.proofs.RunLemmas.{same_pair}
 

@@ -1,9 +1,10 @@
 -- Longest runs of letters: two that overlap are one, and what one more run adds.
-use Rattle.std.proofs.Common.{◌≡◌, ℕ, ◌+◌, ◌-◌, ◌<◌, ◌≤◌, true, false, List, length, get_or, inl, inr, ◌⊎◌, ⊎_elim, sym, ap, ◌∙◌, subst, arith}
+use Rattle.std.proofs.Common.{◌≡◌, ℕ, ◌+◌, ◌-◌, ◌<◌, ◌≤◌, true, false, List, length, get_or, inl, inr, ◌⊎◌}
+use Rattle.std.proofs.Common.{⊎_elim, sym, ap, ◌∙◌, subst, arith}
 use Rattle.std.specs.Prelude.{◌↔◌, Contains, slice_range}
 use Rattle.std.proofs.lemmas.Bool.{cases_lt, false≢true}
 use Rattle.std.proofs.lemmas.Bool.Decides.{nat_tests}
-use Rattle.std.proofs.lemmas.Str.{IsCharBoundary-after_ascii, IsCharBoundary-before_ascii}
+use Rattle.std.proofs.lemmas.Str.{IsCharBoundary-after_ascii}
 use Rattle.std.specs.Char.{is_ascii_alphabetic}
 use Rattle.std.specs.Str.{IsUtf8, IsCharBoundary}
 use Rattle.word_map.specs.Words.{letter_at, IsLongestRun}
@@ -74,13 +75,6 @@ begins_after {text} {start} {stop} {next} run gap = record {
       (cases_lt prior stop);
 }
 
-pub begins_first : {text : List ℕ} {next : ℕ} → IsSpan text false 0 next → BeginsRun text next
-begins_first {text} {next} gap = record {
-  within = gap.within;
-  letter = gap.ends;
-  none_before = λ inside prior is. gap.same prior (omega arith) (omega arith);
-}
-
 -- up to the next run's start there is one more run
 pub one_more_run : {text : List ℕ} {start stop next c d : ℕ} → IsLongestRun text start stop →
     IsSpan text false stop next → IsLongestRun text c d → d ≤ next →
@@ -135,7 +129,8 @@ pub adds_one_more : {old new newer : List Pair} {bytes : List ℕ} {document sta
     ((pair : Pair) → Contains newer pair ↔ (Contains new pair ⊎
     ((pair.word ≡ slice_range bytes start stop) × (pair.document ≡ document)))) →
     AddsRunsBefore old newer bytes document next
-adds_one_more {old} {new} {newer} {bytes} {document} {start} {stop} {next} begins inside span gap adds more = record { exact = λ pair. (forth pair, back pair) }
+adds_one_more {old} {new} {newer} {bytes} {document} {start} {stop} {next} begins inside span gap adds more =
+    record { exact = λ pair. (forth pair, back pair) }
   where
     run : IsLongestRun bytes start stop
     run = run_from_span begins inside span
@@ -232,10 +227,3 @@ boundary_after_run {text} {start} {stop} utf8 run =
     (omega (arith, run.nonempty)) in
     subst (IsCharBoundary text) last (IsCharBoundary-after_ascii text (stop - 1) utf8 inside
     (letter_is_ascii (get_or text (stop - 1) 0) letter))
-
--- a run begins between characters
-pub boundary_before_run : {text : List ℕ} {start stop : ℕ} → IsLongestRun text start stop →
-    IsCharBoundary text start
-boundary_before_run {text} {start} {stop} run =
-    IsCharBoundary-before_ascii text start (omega (arith, run.nonempty, run.within))
-    (letter_is_ascii (get_or text start 0) (run.letters start (omega arith) run.nonempty))

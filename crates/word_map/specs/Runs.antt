@@ -22,7 +22,8 @@ AreRising pairs = IsStrictlySortedBy pair_cmp pairs
 -- the pairs of the documents whose word belongs to the part, rising
 pub record IsRunOf (documents : List Document) (part parts : ℕ) (pairs : List Pair) : Type 0 where
   pub rising : AreRising pairs
-  pub exact : (pair : Pair) → Contains pairs pair ↔ (IsPairOf documents pair × (part_of pair.word parts ≡ part))
+  pub exact : (pair : Pair) →
+      Contains pairs pair ↔ (IsPairOf documents pair × (part_of pair.word parts ≡ part))
 
 -- what a run keeps: its part is one of the parts, and its pairs are those of the documents for it
 pub record IsRun (documents : List Document) (part parts : ℕ) (pairs : List Pair) : Type 0 where
@@ -49,4 +50,5 @@ pub record MapView : Type 0 where
 
 -- each run is of the text, of its part, and of as many parts as there are runs
 pub record AreRunsOfText (text : SplitDocuments) (runs : List (Arc RunView Global)) : Type 0 where
-  pub each : (part : ℕ) (d : Arc RunView Global) → part < length runs → IsRunFor text part (length runs) (arc_value (slice_index_or runs part d))
+  pub each : (part : ℕ) (d : Arc RunView Global) → part < length runs →
+      IsRunFor text part (length runs) (arc_value (slice_index_or runs part d))

@@ -1,5 +1,6 @@
 -- The workers of a job: who lives, whose slots are taken, who is silent, and what is barred.
-use Rattle.std.specs.Prelude.{ℕ, ◌+◌, ◌-◌, ◌≤◌, ◌&&◌, ◌==◌, Bool, true, false, nat_lt, min, if◌then◌else◌, List, All, length, map, slice_index, slice_index_or}
+use Rattle.std.specs.Prelude.{ℕ, ◌+◌, ◌-◌, ◌≤◌, ◌&&◌, ◌==◌, Bool, true, false, nat_lt, min, if◌then◌else◌}
+use Rattle.std.specs.Prelude.{List, All, length, map, slice_index, slice_index_or}
 use Rattle.std.specs.List.{enumerate_from}
 use Rattle.node_ids.specs.Sets.{has_number, place_of_pair, no_pairs, with_pair}
 use Rattle.node_ids.specs.Updates.{updated}

@@ -6,7 +6,8 @@
 //! been silent too long and marks nobody dead. Only `new` takes memory. It stands on the sets of `node_ids`.
 #![tactic(auto)]
 
-ghost use Rattle.std.specs.Prelude.{◌≡◌, ℕ, ◌<◌, ◌≤◌, [], length, All, IfOk, IfSome, is_some, map, ◌&&◌, ◌==◌};
+ghost use Rattle.std.specs.Prelude.{◌≡◌, ℕ, ◌<◌, ◌≤◌, [], length, All, IfOk, IfSome, is_some, map, ◌&&◌};
+ghost use Rattle.std.specs.Prelude.{◌==◌};
 ghost use Rattle.std.specs.List.{list_any, position_or_len};
 ghost use Rattle.node_ids.specs.Sets.{has_number};
 ghost use Rattle.worker_table.specs.Workers.{

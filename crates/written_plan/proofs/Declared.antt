@@ -1,5 +1,6 @@
 -- The names and values that the lines of a head and a plan declare.
-use Rattle.std.proofs.Common.{ℕ, List, [], ◌∷◌, ◌++◌, ◌≡◌, ◌≢◌, ◌≤◌, ◌<◌, ◌^◌, ◌∙◌, Option, Some, append-nil, ap, arith}
+use Rattle.std.proofs.Common.{ℕ, List, [], ◌∷◌, ◌++◌, ◌≡◌, ◌≢◌, ◌≤◌, ◌<◌, ◌^◌, ◌∙◌, Option, Some, append-nil}
+use Rattle.std.proofs.Common.{ap, arith}
 use Rattle.std.proofs.Common.{get_or, length, map, refl, subst, sym}
 use Rattle.std.specs.Prelude.{◌↔◌}
 use Rattle.std.specs.List.{All, AllPairs}
@@ -26,12 +27,15 @@ use Rattle.line_rules.specs.Known.{is_of, rows_of}
 use Rattle.line_rules.specs.declared.entering.Entering.TheVariants.{Word as ByWord}
 use Rattle.plan_text.specs.Names.{names_in, names_of, word_at}
 use Rattle.plan_text.specs.Tidy.{AreTidy, IsTidyRow}
-use Rattle.plan_text.specs.Value.{IsBarred, MakesWave, price_at, prices_in, split_line, start_at, starts_in, tree_of, worker_line}
+use Rattle.plan_text.specs.Value.{IsBarred, MakesWave, price_at, prices_in, split_line, start_at, starts_in}
+use Rattle.plan_text.specs.Value.{tree_of, worker_line}
 use Rattle.plan_text.proofs.Named.{key_by_word, keyword_of, named_row}
 use Rattle.written_plan.proofs.Heads.{AreApart, IsBare}
-use Rattle.written_plan.proofs.Pairs.{new-none, price_pairs, price_said, priced_amounts, priced_names, start_pairs}
+use Rattle.written_plan.proofs.Pairs.{new-none, price_pairs, price_said, priced_amounts, priced_names}
+use Rattle.written_plan.proofs.Pairs.{start_pairs}
 use Rattle.written_plan.proofs.Pairs.{start_said}
-use Rattle.written_plan.proofs.PlanPart.{AreNames, plan_rows, price_names, rows-other, rows-price, rows-start, start_names}
+use Rattle.written_plan.proofs.PlanPart.{AreNames, plan_rows, price_names, rows-other, rows-price, rows-start}
+use Rattle.written_plan.proofs.PlanPart.{start_names}
 use Rattle.written_plan.proofs.Values.{priced_at, prices_read, started_on, starts_read}
 use Rattle.written_plan.proofs.Words.{number_of-decimal}
 
@@ -40,7 +44,8 @@ use Rattle.written_plan.proofs.Words.{number_of-decimal}
 abbrev AreNamed : Keyword → List Statement → Type 0
 AreNamed k rows = (s : Statement) → s.keyword ≡ k → IsTidyRow rows s → IsName (word_at 0 s)
 
-named_in : (k : Keyword) (rows : List Statement) → AreTidy rows → AreNamed k rows → All IsName (names_of k rows)
+named_in : (k : Keyword) (rows : List Statement) → AreTidy rows → AreNamed k rows →
+    All IsName (names_of k rows)
 named_in k rows tidy named =
     All-map IsName (word_at 0) (rows_of k rows)
     (λ i d lt. named (get_or (rows_of k rows) i d) (keyword_of k (get_or (rows_of k rows) i d)
@@ -109,7 +114,8 @@ same_wave rows a b c w h =
           (subst (λ (l : List Statement). HasPair w.barred s n
           ↔ IsBarred (names_of Split all) (names_in l) (rows_of Barred rows) s n) workers
           (subst (λ (l : List Statement). HasPair w.barred s n
-          ↔ IsBarred (names_in l) (names_of Worker rows) (rows_of Barred rows) s n) splits (h.barred s n few)));
+          ↔ IsBarred (names_in l) (names_of Worker rows) (rows_of Barred rows) s n) splits
+          (h.barred s n few)));
     }
 
 -- ---- the starts
@@ -121,7 +127,8 @@ start_words (p ∷ ps) = ap (λ (ws : List Word). p.1 ∷ ws) (start_words ps)
 pub starts-back : (rows : List Statement) (starts : List (Option ℕ)) (b c : List (Word × ℕ)) → IsBare rows
     → AreNames (names_of Split rows) (names_of Worker rows) → length starts ≡ length (names_of Split rows)
     → ((s w : ℕ) → start_of starts s ≡ Some w → w < length (names_of Worker rows))
-    → starts_in (rows ++ plan_rows (start_pairs (names_of Worker rows) (names_of Split rows) starts) b c) ≡ starts
+    → starts_in (rows ++ plan_rows (start_pairs (names_of Worker rows) (names_of Split rows) starts) b c)
+    ≡ starts
 starts-back rows starts b c bare names count of_workers =
     let splits = names_of Split rows in
     let workers = names_of Worker rows in
@@ -168,7 +175,8 @@ prices-back priced amounts splits workers prices names count more_count all_name
     ∙ ap (λ ns. priced_all (splits ++ workers) ns splits workers) all_amounts
     ∙ ap (λ ps. both_kinds ps (map (priced_at (splits ++ workers) (prices.splits ++ prices.workers)) workers))
     (split_prices-back splits workers prices.splits prices.workers names count)
-    ∙ ap (both_kinds prices.splits) (worker_prices-back splits workers prices.splits prices.workers names count
+    ∙ ap (both_kinds prices.splits)
+    (worker_prices-back splits workers prices.splits prices.workers names count
     more_count)
 
 amount_words : (b : List (Word × ℕ)) → All (λ a. a < 2 ^ 64) (map (λ p. p.1) b)
@@ -187,7 +195,8 @@ amounts_back names amounts count small =
     amount_words (price_pairs names amounts) (subst (All (λ a. a < 2 ^ 64)) (sym back) small) ∙ back
 
 pub prices-read_back : (rows : List Statement) (a : List (Word × Word)) (prices : PriceList) → IsBare rows
-    → AreNames (names_of Split rows) (names_of Worker rows) → length prices.splits ≡ length (names_of Split rows)
+    → AreNames (names_of Split rows) (names_of Worker rows) →
+    length prices.splits ≡ length (names_of Split rows)
     → length prices.workers ≡ length (names_of Worker rows) → All (λ x. x < 2 ^ 64) prices.splits
     → All (λ x. x < 2 ^ 64) prices.workers
     → prices_in (rows ++ plan_rows a (price_pairs (names_of Split rows) prices.splits)
@@ -212,5 +221,6 @@ prices-read_back rows a prices bare names count more_count small more_small =
     ++ amounts_back workers prices.workers more_count more_small i) in
     (λ i. both_kinds (map (price_at (lines i)) (names_in (split_rows i)))
     (map (price_at (lines i)) (names_in (worker_rows i))))
-    ∙ prices-back (names_in (bs ++ cs)) (map (λ s. number_of (word_at 1 s)) (bs ++ cs)) splits workers prices names
+    ∙ prices-back (names_in (bs ++ cs)) (map (λ s. number_of (word_at 1 s)) (bs ++ cs)) splits workers prices
+    names
     count more_count priced amounts

@@ -1,5 +1,6 @@
 -- The starts and prices of a plan fit, one after the other.
-use Rattle.std.proofs.Common.{ℕ, List, [], ◌∷◌, ◌++◌, ◌≡◌, ◌≢◌, ◌≤◌, ◌<◌, ◌^◌, ◌∙◌, ◌⊎◌, Option, Some, None, inl, inr}
+use Rattle.std.proofs.Common.{ℕ, List, [], ◌∷◌, ◌++◌, ◌≡◌, ◌≢◌, ◌≤◌, ◌<◌, ◌^◌, ◌∙◌, ◌⊎◌, Option, Some, None}
+use Rattle.std.proofs.Common.{inl, inr}
 use Rattle.std.proofs.Common.{ap, append-nil, arith, codes, get_or, length, map, refl, subst, suc, sym}
 use Rattle.std.specs.Fmt.{decimal}
 use Rattle.std.specs.List.{All, Contains}
@@ -24,7 +25,8 @@ use Rattle.plan_text.specs.Names.{names_in, names_of, word_at}
 use Rattle.plan_text.proofs.Named.{named_row, row_named}
 use Rattle.written_plan.proofs.Words.{IsMade, both_of, line_of, made-end, made-plan, made-price, made-start}
 use Rattle.written_plan.proofs.Words.{none_of, number-decimal, number_of-decimal, said}
-use Rattle.written_plan.proofs.Pairs.{AreNew, new-first, new-next, new-skip, price_pairs, price_said, price_text}
+use Rattle.written_plan.proofs.Pairs.{AreNew, new-first, new-next, new-skip, price_pairs, price_said}
+use Rattle.written_plan.proofs.Pairs.{price_text}
 use Rattle.written_plan.proofs.Pairs.{start_pairs, start_said, start_text}
 
 -- ---- what stands in the rows
@@ -77,13 +79,16 @@ module _ (rows more : List Statement) (splits workers started priced : List Word
   }
 
   pub has_split : (n : Word) → Contains splits n → HasRow rows Split n
-  has_split n has = named_row Split refl rows n (subst (λ (l : List Word). Contains l n) (sym h.splits_are) has)
+  has_split n has =
+      named_row Split refl rows n (subst (λ (l : List Word). Contains l n) (sym h.splits_are) has)
 
   pub has_worker : (n : Word) → Contains workers n → HasRow rows Worker n
-  has_worker n has = named_row Worker refl rows n (subst (λ (l : List Word). Contains l n) (sym h.workers_are) has)
+  has_worker n has =
+      named_row Worker refl rows n (subst (λ (l : List Word). Contains l n) (sym h.workers_are) has)
 
   pub has_price : (n : Word) → Contains priced n → HasRow rows Price n
-  has_price n has = named_row Price refl rows n (subst (λ (l : List Word). Contains l n) (sym h.priced_are) has)
+  has_price n has =
+      named_row Price refl rows n (subst (λ (l : List Word). Contains l n) (sym h.priced_are) has)
 
   pub not_started : (n : Word) → (Contains started n → ⊥) → HasRow rows Start n → ⊥
   not_started n new has =
@@ -142,7 +147,8 @@ pub are_starts : (splits workers started xs : List Word) (os : List (Option ℕ)
 are_starts splits workers started [] os known named workers_named new of_workers = tt
 are_starts splits workers started (x ∷ xs) [] known named workers_named new of_workers = tt
 are_starts splits workers started (x ∷ xs) (None ∷ os) known named workers_named new of_workers =
-    are_starts splits workers started xs os (All-tail (Contains splits) x xs known) (All-tail IsName x xs named)
+    are_starts splits workers started xs os (All-tail (Contains splits) x xs known)
+    (All-tail IsName x xs named)
     workers_named (new-skip started x xs new) (λ s. of_workers (suc s))
 are_starts splits workers started (x ∷ xs) (Some w ∷ os) known named workers_named new of_workers =
     let inside : w < length workers = of_workers 0 w refl in (
@@ -159,7 +165,8 @@ are_starts splits workers started (x ∷ xs) (Some w ∷ os) known named workers
     )
 
 fit-start : (k : Known) (splits workers started priced : List Word) (p : Word × Word) → IsBegun k
-    → HasNames k.rows splits workers started priced → IsStart splits workers started p → IsFit k (start_said p)
+    → HasNames k.rows splits workers started priced → IsStart splits workers started p →
+    IsFit k (start_said p)
 fit-start k splits workers started priced p begun names h =
     let split = has_split k.rows [] splits workers started priced names p.0 h.split in
     let worker = has_worker k.rows [] splits workers started priced names p.1 h.worker in
@@ -188,7 +195,8 @@ fit-starts k splits workers started priced (p ∷ ps) begun names h = (
       (fit-start k splits workers started priced p begun names h.0),
   fit-starts (entered k (start_said p)) splits workers (started ++ p.0 ∷ []) priced ps
       (record { checking = begun.checking; body = refl })
-      (names-started k.rows (start_said p ∷ []) splits workers started priced names (p.0 ∷ []) refl refl refl refl)
+      (names-started k.rows (start_said p ∷ []) splits workers started priced names
+      (p.0 ∷ []) refl refl refl refl)
       h.1,
 )
 
@@ -260,7 +268,8 @@ fit-prices k splits workers started priced (p ∷ ps) begun names h = (
       (fit-price k splits workers started priced p begun names h.0),
   fit-prices (entered k (price_said p)) splits workers started (priced ++ p.0 ∷ []) ps
       (record { checking = begun.checking; body = refl })
-      (names-priced k.rows (price_said p ∷ []) splits workers started priced names (p.0 ∷ []) refl refl refl refl)
+      (names-priced k.rows (price_said p ∷ []) splits workers started priced names
+      (p.0 ∷ []) refl refl refl refl)
       h.1,
 )
 

@@ -1,5 +1,6 @@
 -- A text whose lines fit, and end, reads as what they say.
-use Rattle.std.proofs.Common.{ℕ, List, [], ◌∷◌, ◌++◌, ◌≡◌, ◌+◌, ◌≤◌, ◌<◌, ◌∙◌, inl, length, take, refl, sym, ap}
+use Rattle.std.proofs.Common.{ℕ, List, [], ◌∷◌, ◌++◌, ◌≡◌, ◌+◌, ◌≤◌, ◌<◌, ◌∙◌, inl, length, take, refl, sym}
+use Rattle.std.proofs.Common.{ap}
 use Rattle.std.proofs.Common.{subst, arith, length-append}
 use Rattle.std.proofs.Math.Seq.{take-append_seam}
 use Rattle.text_lines.specs.Texts.{Line, lines_of}
@@ -25,7 +26,8 @@ pub fit-append : (k : Known) (ls more : List Line) (ss ts : List Statement) → 
 fit-append k [] more [] ts fits rest = rest
 fit-append k [] more (s ∷ ss) ts fits rest = absurd fits
 fit-append k (l ∷ ls) more [] ts fits rest = absurd fits
-fit-append k (l ∷ ls) more (s ∷ ss) ts fits rest = (fits.0, fit-append (entered k s) ls more ss ts fits.1 rest)
+fit-append k (l ∷ ls) more (s ∷ ss) ts fits rest =
+    (fits.0, fit-append (entered k s) ls more ss ts fits.1 rest)
 
 pub after-append : (k : Known) (ss ts : List Statement)
     → names_after k (ss ++ ts) ≡ names_after (names_after k ss) ts
@@ -53,17 +55,22 @@ read_fit purpose text [] (s ∷ ss) n k read fits = absurd fits
 read_fit purpose text (l ∷ ls) [] n k read fits = absurd fits
 read_fit purpose text (l ∷ ls) (s ∷ ss) n k read fits =
     read_fit purpose text ls ss (n + 1) (entered k s)
-    (read_more purpose text (l ∷ ls ++ [] ∷ []) l (ls ++ [] ∷ []) n k (entered k s) read refl (some_left ls [])
+    (read_more purpose text (l ∷ ls ++ [] ∷ []) l (ls ++ [] ∷ []) n k (entered k s) read refl
+    (some_left ls [])
     (fit_taken k l s fits.0)) fits.1
 
 -- the lines that fit are all but the last, so what the text says is what they say
 same_statements : (purpose : Purpose) (text : List ℕ) (ls : List Line) (ss ts : List Statement)
-    → lines_of text ≡ ls ++ [] ∷ [] → AreFitLines (known_at purpose []) ls ss → Reads purpose text ts → ts ≡ ss
+    → lines_of text ≡ ls ++ [] ∷ [] → AreFitLines (known_at purpose []) ls ss → Reads purpose text ts →
+    ts ≡ ss
 same_statements purpose text ls ss ts lines fits reads =
-    let count : length ls ≡ length ts = omega (arith, ap length lines, length-append ls ([] ∷ []), reads.whole) in
+    let count : length ls ≡ length ts =
+    omega (arith, ap length lines, length-append ls ([] ∷ []), reads.whole) in
     let front : take (length ts) (lines_of text) ≡ ls =
-    ap (take (length ts)) lines ∙ ap (λ n. take n (ls ++ [] ∷ [])) (sym count) ∙ take-append_seam ls ([] ∷ []) in
-    declare-unique ls ts ss (subst (λ l. Declare l ts) front reads.says) (fit-declare (known_at purpose []) ls ss fits)
+    ap (take (length ts)) lines ∙ ap (λ n. take n (ls ++ [] ∷ [])) (sym count) ∙ take-append_seam ls
+    ([] ∷ []) in
+    declare-unique ls ts ss (subst (λ l. Declare l ts) front reads.says)
+    (fit-declare (known_at purpose []) ls ss fits)
 
 pub reads_fit : (purpose : Purpose) (text : List ℕ) (ls : List Line) (ss : List Statement)
     → length text ≤ longest → lines_of text ≡ ls ++ [] ∷ [] → AreFitLines (known_at purpose []) ls ss
@@ -75,4 +82,5 @@ reads_fit purpose text ls ss short lines fits ended =
     let read = read_fit purpose text ls ss 0 start none fits in
     let all : IsAllRead purpose text (names_after start ss) =
     reads_all purpose text ([] ∷ []) read.0 _ short read.1 refl ended in
-    subst (Reads purpose text) (same_statements purpose text ls ss all.statements lines fits all.reads) all.reads
+    subst (Reads purpose text) (same_statements purpose text ls ss all.statements lines fits all.reads)
+    all.reads

@@ -69,7 +69,8 @@ row-entered s key = by (entering_of s.keyword)
     by ByPair h = one_element (key_of s) key h
 
 -- a row stood before, or is of this line
-row_cases : (rows : List Statement) (s : Statement) (k : Keyword) (n : Word) → HasRow (rows ++ entered_of s) k n
+row_cases : (rows : List Statement) (s : Statement) (k : Keyword) (n : Word) →
+    HasRow (rows ++ entered_of s) k n
     → HasRow rows k n ⊎ (key_of s ≡ (k, n, []))
 row_cases rows s k n h =
     let key : Key = (k, n, []) in
@@ -100,7 +101,8 @@ pub record IsBare (rows : List Statement) : Type 0 where
 none-more : (k : Keyword) (rows : List Statement) (s : Statement) → (s.keyword ≡ k → ⊥) → rows_of k rows ≡ []
     → rows_of k (rows ++ entered_of s) ≡ []
 none-more k rows s other none =
-    filter-append (is_of k) rows (entered_of s) ∙ ap (λ (l : List Statement). l ++ rows_of k (entered_of s)) none
+    filter-append (is_of k) rows (entered_of s) ∙ ap (λ (l : List Statement). l ++ rows_of k (entered_of s))
+    none
     ∙ rows_of-entered k s other
 
 bare-entered : (rows : List Statement) (s : Statement) → IsOfHead s.keyword → IsBare rows
@@ -133,7 +135,8 @@ apart-entered rows s whole free apart n split worker =
     elim (row_cases rows s Split n split) [
       | inl old ↦ elim (row_cases rows s Worker n worker) [
         | inl still ↦ apart n old still
-        | inr new ↦ new_name Worker refl refl (omega arith) rows s n whole free new (inr (inr (inr (inl old))))
+        | inr new ↦ new_name Worker refl refl (omega arith) rows s n whole free new
+            (inr (inr (inr (inl old))))
       ]
       | inr first ↦ elim (row_cases rows s Worker n worker) [
         | inl still ↦ new_name Split refl refl (omega arith) rows s n whole free first (inr (inr (inl still)))
@@ -152,7 +155,8 @@ same_follows k Any = refl
 same_follows k Centre = refl
 same_follows k Counts = refl
 
-same_count : (k : Known) (word : Keyword) (e : Entering) → counted_by e (checking k) word ≡ counted_by e k word
+same_count : (k : Known) (word : Keyword) (e : Entering) →
+    counted_by e (checking k) word ≡ counted_by e k word
 same_count k word Nothing = refl
 same_count k word InTurn = refl
 same_count k word Alone = refl
@@ -162,7 +166,8 @@ same_count k word ByPair = refl
 fit-checking : (k : Known) (s : Statement) → k.purpose ≡ Planning → IsOfHead s.keyword → IsFit k s
     → IsFit (checking k) s
 fit-checking k s planning head fit = record {
-  whole = subst (λ (o : Option ℕ). AreAsMany o (length (tail_of s))) (sym (same_follows k (follow_of s.keyword)))
+  whole = subst (λ (o : Option ℕ). AreAsMany o (length (tail_of s)))
+      (sym (same_follows k (follow_of s.keyword)))
       fit.whole;
   may_stand = (
     head.same ∙ ap (λ (p : Purpose). section_of p s.keyword) (sym planning) ∙ fit.may_stand.0,
@@ -233,8 +238,10 @@ at_end k l ls ss planning bare apart first rest =
       apart = apart;
     }
 
-before_end : (k : Known) (l : Line) (s : Statement) (ls : List Line) (ss : List Statement) → k.purpose ≡ Planning
-    → IsOfHead s.keyword → IsFitLine k l s → IsHeadAndEnd (entered k s) ls ss → IsHeadAndEnd k (l ∷ ls) (s ∷ ss)
+before_end : (k : Known) (l : Line) (s : Statement) (ls : List Line) (ss : List Statement) →
+    k.purpose ≡ Planning
+    → IsOfHead s.keyword → IsFitLine k l s → IsHeadAndEnd (entered k s) ls ss →
+    IsHeadAndEnd k (l ∷ ls) (s ∷ ss)
 before_end k l s ls ss planning head first rest = record {
   lines = l ∷ rest.lines;
   head = s ∷ rest.head;

@@ -1,5 +1,6 @@
 -- A text and its last line, and the text with a plan behind its head.
-use Rattle.std.proofs.Common.{ℕ, List, [], ◌∷◌, ◌++◌, ◌≡◌, ◌≢◌, ◌-◌, ◌∙◌, Option, codes, length, map, take, drop, refl, sym, ap, arith}
+use Rattle.std.proofs.Common.{ℕ, List, [], ◌∷◌, ◌++◌, ◌≡◌, ◌≢◌, ◌-◌, ◌∙◌, Option, codes, length, map, take}
+use Rattle.std.proofs.Common.{drop, refl, sym, ap, arith}
 use Rattle.std.proofs.lemmas.List.{append_assoc, length-append, length-drop, take-append-drop, take_at}
 use Rattle.price_certificate.specs.PriceList.{PriceList}
 use Rattle.text_lines.specs.Texts.{Line, Word, lines_of}
@@ -14,7 +15,8 @@ use Rattle.line_rules.specs.declared.section.Section.TheVariants.{First, Head, B
 use Rattle.plan_text.specs.Report.{lines_of_plan, price_lines_of}
 use Rattle.written_plan.specs.Joined.{IsPlanFor, end_line, head_of, with_plan}
 use Rattle.written_plan.proofs.Lines.{joined, joined-append}
-use Rattle.written_plan.proofs.Pairs.{price_lines-text, price_pairs, price_text, start_lines-text, start_pairs, start_text}
+use Rattle.written_plan.proofs.Pairs.{price_lines-text, price_pairs, price_text, start_lines-text}
+use Rattle.written_plan.proofs.Pairs.{start_pairs, start_text}
 use Rattle.written_plan.proofs.PlanPart.{plan_texts}
 
 -- ---- the last line
@@ -69,7 +71,8 @@ joined-plan a b c =
     ∙ ap (λ rest. joined (map price_text b) ++ rest) (joined-append (map price_text c) (codes "end" ∷ []))))
 
 -- the plan behind the head is lines put together as well
-pub text-with_plan : (text : List ℕ) (lines : List Line) (splits workers : List Word) (starts : List (Option ℕ))
+pub text-with_plan : (text : List ℕ) (lines : List Line) (splits workers : List Word)
+    (starts : List (Option ℕ))
     (prices : PriceList)
     → text ≡ joined (lines ++ codes "end" ∷ []) → IsPlanFor splits workers starts prices
     → with_plan text (lines_of_plan splits workers starts prices)
@@ -91,6 +94,7 @@ text-with_plan text lines splits workers starts prices whole plan =
     ∙ ap (λ x. joined lines ++ codes "plan" ++ (10 ∷
     (joined (map start_text a) ++ (joined (map price_text b) ++ x))) ++ end_line)
     (price_lines-text workers prices.workers plan.worker_prices)
-    ∙ regroup (joined lines) (joined (map start_text a)) (joined (map price_text b)) (joined (map price_text c))
+    ∙ regroup (joined lines) (joined (map start_text a)) (joined (map price_text b))
+    (joined (map price_text c))
     ∙ ap (λ rest. joined lines ++ rest) (sym (joined-plan a b c))
     ∙ sym (joined-append lines (plan_texts a b c))

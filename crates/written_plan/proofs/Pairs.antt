@@ -1,5 +1,6 @@
 -- The starts and prices of a plan as pairs, in the order of their lines.
-use Rattle.std.proofs.Common.{ℕ, List, [], ◌∷◌, ◌++◌, ◌≡◌, ◌≢◌, ◌+◌, ◌<◌, ◌∙◌, Option, Some, None, inl, inr, codes, length, map, refl, sym, ap, subst, arith, get_or, suc, zero, add-one}
+use Rattle.std.proofs.Common.{ℕ, List, [], ◌∷◌, ◌++◌, ◌≡◌, ◌≢◌, ◌+◌, ◌<◌, ◌∙◌, Option, Some, None, inl, inr}
+use Rattle.std.proofs.Common.{codes, length, map, refl, sym, ap, subst, arith, get_or, suc, zero, add-one}
 use Rattle.std.specs.Fmt.{decimal}
 use Rattle.std.specs.List.{AllPairs, Contains, flat_map, range_with_len}
 use Rattle.std.proofs.lemmas.List.{append_assoc}
@@ -123,7 +124,8 @@ flat_map-later f a zero = refl
 flat_map-later f a (suc n) =
     let more = flat_map-later f (a + 1) n in
     let same : a + 1 ≡ suc a = add-one a in
-    ap (λ xs. f (a + 1) ++ xs) more ∙ ap (λ m. f m ++ flat_map (λ i. f (suc i)) (range_with_len (a + 1) n)) same
+    ap (λ xs. f (a + 1) ++ xs) more ∙ ap (λ m. f m ++ flat_map (λ i. f (suc i)) (range_with_len (a + 1) n))
+    same
 
 by_numbers : {X Y : Type 0} (f : X → Y → List ℕ) (d : X) (e : Y) (xs : List X) (ys : List Y)
     → length ys ≡ length xs
@@ -169,4 +171,5 @@ prices-text (n ∷ ns) (a ∷ amounts) =
 
 pub price_lines-text : (names : List Word) (amounts : List ℕ) → length amounts ≡ length names
     → price_lines_of names amounts ≡ joined (map price_text (price_pairs names amounts))
-price_lines-text names amounts same = by_numbers price_line [] 0 names amounts same ∙ prices-text names amounts
+price_lines-text names amounts same = by_numbers price_line [] 0 names amounts same
+    ∙ prices-text names amounts

@@ -1,10 +1,12 @@
 -- The lines of a plan, with `plan` before and `end` after them: they fit, and what they leave in the rows.
 use Rattle.std.proofs.Common.{ℕ, List, [], ◌∷◌, ◌++◌, ◌≡◌, ◌≢◌, ◌<◌, ◌^◌, ◌∙◌, ◌⊎◌, Option, inl, inr}
-use Rattle.std.proofs.Common.{ap, append-nil, append_assoc, arith, codes, get_or, length, map, refl, subst, sym}
+use Rattle.std.proofs.Common.{ap, append-nil, append_assoc, arith, codes, get_or, length, map, refl, subst}
+use Rattle.std.proofs.Common.{sym}
 use Rattle.std.specs.List.{All, AllPairs, Contains}
 use Rattle.std.proofs.lemmas.Grind.{flat_map-append}
 use Rattle.std.proofs.lemmas.List.Elements.{All-contains_itself, All-weaker, Contains-append_cases}
-use Rattle.std.proofs.lemmas.List.Elements.{Contains-append_left, Contains-append_right, Contains-get_or, filter-append}
+use Rattle.std.proofs.lemmas.List.Elements.{Contains-append_left, Contains-append_right, Contains-get_or}
+use Rattle.std.proofs.lemmas.List.Elements.{filter-append}
 use Rattle.std.proofs.lemmas.List.{get_or-map, length-map, map-append}
 use Rattle.price_certificate.specs.PriceList.{PriceList}
 use Rattle.text_lines.specs.Texts.{IsName, Line, Word}
@@ -24,7 +26,8 @@ use Rattle.line_rules.proofs.FitLines.{names_after}
 use Rattle.plan_text.specs.Names.{names_in, names_of, rows_in, word_at}
 use Rattle.plan_text.proofs.Named.{at_element, key_by_word, row_named}
 use Rattle.written_plan.specs.Joined.{IsPlanFor}
-use Rattle.written_plan.proofs.Entered.{HasNames, IsBegun, are_prices, are_starts, fit-end, fit-plan, fit-prices}
+use Rattle.written_plan.proofs.Entered.{HasNames, IsBegun, are_prices, are_starts, fit-end, fit-plan}
+use Rattle.written_plan.proofs.Entered.{fit-prices}
 use Rattle.written_plan.proofs.Entered.{fit-starts, has_price, names-priced, names-started, with_rows}
 use Rattle.written_plan.proofs.FitText.{fit-append}
 use Rattle.written_plan.proofs.Heads.{one_element}
@@ -69,7 +72,8 @@ start_rows a = each_row Start start_said (λ x ss. refl) a
 pub price_rows : (b : List (Word × ℕ)) → rows_of Price (map price_said b) ≡ map price_said b
 price_rows b = each_row Price price_said (λ x ss. refl) b
 
-names-map : {X : Type 0} (f : X → Statement) (g : X → Word) → ((x : X) → word_at 0 (f x) ≡ g x) → (xs : List X)
+names-map : {X : Type 0} (f : X → Statement) (g : X → Word) → ((x : X) → word_at 0 (f x) ≡ g x) →
+    (xs : List X)
     → names_in (map f xs) ≡ map g xs
 names-map f g same [] = refl
 names-map f g same (x ∷ xs) =
@@ -87,7 +91,8 @@ names-starts : (rows : List Statement) (splits workers started priced : List Wor
     → HasNames (rows ++ map start_said a) splits workers (started ++ map (λ p. p.0) a) priced
 names-starts rows splits workers started priced a h =
     names-started rows (map start_said a) splits workers started priced h (map (λ p. p.0) a)
-    (ap names_in (no_name Split start_said (λ x ss. refl) a)) (ap names_in (no_name Worker start_said (λ x ss. refl) a))
+    (ap names_in (no_name Split start_said (λ x ss. refl) a))
+    (ap names_in (no_name Worker start_said (λ x ss. refl) a))
     (ap names_in (start_rows a) ∙ start_names a) (ap names_in (no_name Price start_said (λ x ss. refl) a))
 
 names-prices : (rows : List Statement) (splits workers started priced : List Word) (b : List (Word × ℕ))
@@ -95,7 +100,8 @@ names-prices : (rows : List Statement) (splits workers started priced : List Wor
     → HasNames (rows ++ map price_said b) splits workers started (priced ++ map (λ p. p.0) b)
 names-prices rows splits workers started priced b h =
     names-priced rows (map price_said b) splits workers started priced h (map (λ p. p.0) b)
-    (ap names_in (no_name Split price_said (λ x ss. refl) b)) (ap names_in (no_name Worker price_said (λ x ss. refl) b))
+    (ap names_in (no_name Split price_said (λ x ss. refl) b))
+    (ap names_in (no_name Worker price_said (λ x ss. refl) b))
     (ap names_in (no_name Start price_said (λ x ss. refl) b)) (ap names_in (price_rows b) ∙ price_names b)
 
 -- ---- what is known after them
@@ -145,19 +151,22 @@ key_named k by rows key same has =
     (row_named k by rows (word_at 0 s) (subst (Contains (keys_of rows)) whole has))
 
 all_priced : (rows : List Statement) (splits workers started priced : List Word)
-    → HasNames rows splits workers started priced → All (Contains priced) splits → All (Contains priced) workers
+    → HasNames rows splits workers started priced → All (Contains priced) splits →
+    All (Contains priced) workers
     → All (HasItsPrice rows) (keys_of rows)
 all_priced rows splits workers started priced h split_prices worker_prices i d lt wants =
     let key : Key = get_or (keys_of rows) i d in
     let has : Contains (keys_of rows) key = Contains-get_or (keys_of rows) i d lt in
-    let of : (names : List Word) → All (Contains priced) names → Contains names key.1 → HasRow rows Price key.1 =
+    let of : (names : List Word) → All (Contains priced) names → Contains names key.1 →
+    HasRow rows Price key.1 =
     λ names all one. has_price rows [] splits workers started priced h key.1
     (at_element (Contains priced) names key.1 all one) in
     elim (priced_kinds key.0 wants) [
       | inl split ↦ of splits split_prices
           (subst (λ (l : List Word). Contains l key.1) h.splits_are (key_named Split refl rows key split has))
       | inr worker ↦ of workers worker_prices
-          (subst (λ (l : List Word). Contains l key.1) h.workers_are (key_named Worker refl rows key worker has))
+          (subst (λ (l : List Word). Contains l key.1) h.workers_are
+          (key_named Worker refl rows key worker has))
     ]
 
 -- what has its price keeps it, and these names have it
@@ -224,7 +233,8 @@ module _ (splits workers : List Word) (names : AreNames splits workers) where
       (map price_said qs ++ said End [] ∷ [])
       (fit-prices k splits workers started [] ps begun h
       (are_prices splits workers [] splits prices.splits known names.splits_named new small))
-      (subst (λ j. AreFitLines j (map price_text qs ++ codes "end" ∷ []) (map price_said qs ++ said End [] ∷ []))
+      (subst (λ j. AreFitLines j (map price_text qs ++ codes "end" ∷ [])
+      (map price_said qs ++ said End [] ∷ []))
       (sym (after-prices k ps begun))
       (fit-worker_prices (with_rows k (map price_said ps)) started priced prices.workers
       (begun-rows k (map price_said ps) begun)
@@ -326,14 +336,16 @@ pub rows-other : (k : Keyword) (rows : List Statement) (a : List (Word × Word))
 rows-other k rows a b c no_start no_price =
     let none : rows_of k (plan_rows a b c) ≡ [] =
     filter-append (is_of k) (map start_said a) (map price_said b ++ map price_said c)
-    ∙ ap (λ (l : List Statement). l ++ rows_of k (map price_said b ++ map price_said c)) (no_name k start_said no_start a)
+    ∙ ap (λ (l : List Statement). l ++ rows_of k (map price_said b ++ map price_said c))
+    (no_name k start_said no_start a)
     ∙ filter-append (is_of k) (map price_said b) (map price_said c)
     ∙ ap (λ (l : List Statement). l ++ rows_of k (map price_said c)) (no_name k price_said no_price b)
     ∙ no_name k price_said no_price c in
     filter-append (is_of k) rows (plan_rows a b c) ∙ ap (λ (l : List Statement). rows_of k rows ++ l) none
     ∙ append-nil (rows_of k rows)
 
-pub rows-start : (rows : List Statement) (a : List (Word × Word)) (b c : List (Word × ℕ)) → rows_of Start rows ≡ []
+pub rows-start : (rows : List Statement) (a : List (Word × Word)) (b c : List (Word × ℕ)) →
+    rows_of Start rows ≡ []
     → rows_of Start (rows ++ plan_rows a b c) ≡ map start_said a
 rows-start rows a b c none =
     filter-append (is_of Start) rows (plan_rows a b c)
@@ -345,7 +357,8 @@ rows-start rows a b c none =
     ∙ (λ i. no_name Start price_said (λ x ss. refl) b i ++ no_name Start price_said (λ x ss. refl) c i))
     ∙ append-nil (map start_said a)
 
-pub rows-price : (rows : List Statement) (a : List (Word × Word)) (b c : List (Word × ℕ)) → rows_of Price rows ≡ []
+pub rows-price : (rows : List Statement) (a : List (Word × Word)) (b c : List (Word × ℕ)) →
+    rows_of Price rows ≡ []
     → rows_of Price (rows ++ plan_rows a b c) ≡ map price_said b ++ map price_said c
 rows-price rows a b c none =
     filter-append (is_of Price) rows (plan_rows a b c)

@@ -1,5 +1,6 @@
 -- A plan that was written, put together with the head that it was made from, reads back as itself.
-use Rattle.std.proofs.Common.{ℕ, List, [], ◌∷◌, ◌++◌, ◌≡◌, ◌≤◌, ◌∙◌, Option, length, map, take, refl, sym, ap, subst}
+use Rattle.std.proofs.Common.{ℕ, List, [], ◌∷◌, ◌++◌, ◌≡◌, ◌≤◌, ◌∙◌, Option, length, map, take, refl, sym, ap}
+use Rattle.std.proofs.Common.{subst}
 use Rattle.wave_problem.specs.Wave.{Wave}
 use Rattle.price_certificate.specs.PriceList.{PriceList}
 use Rattle.text_lines.specs.Texts.{Word, lines_of}
@@ -27,7 +28,8 @@ use Rattle.written_plan.proofs.Heads.{fit-printable, head_and_end}
 use Rattle.written_plan.proofs.Joins.{all_lines, last_line, text-with_plan}
 use Rattle.written_plan.proofs.Lines.{joined, lines_of-joined, text-joined}
 use Rattle.written_plan.proofs.Pairs.{price_pairs, price_said, start_pairs, start_said}
-use Rattle.written_plan.proofs.PlanPart.{AreNames, fit-plan_part, not_entered, plan_rows, plan_said, plan_texts}
+use Rattle.written_plan.proofs.PlanPart.{AreNames, fit-plan_part, not_entered, plan_rows, plan_said}
+use Rattle.written_plan.proofs.PlanPart.{plan_texts}
 use Rattle.written_plan.proofs.PlanPart.{rows-end, rows-plan}
 use Rattle.written_plan.proofs.Words.{said}
 
@@ -74,7 +76,8 @@ joined-reads_back text ss wave starts prices lines h makes plan short =
     let written = h.lines ++ plan_texts a b c in
     let new_text = joined_by text rows starts prices in
     let first = known_at Checking [] in
-    let after : names_after (known_at Planning []) h.head ≡ known_at Planning h.head = known_after Planning h.head in
+    let after : names_after (known_at Planning []) h.head ≡ known_at Planning h.head =
+    known_after Planning h.head in
     let tidy : AreTidy rows = tidy-rows Checking h.lines h.head h.fit in
     let bare : IsBare rows = subst (λ (k : Known). IsBare k.rows) after h.bare in
     let names : AreNames splits workers =
@@ -85,13 +88,15 @@ joined-reads_back text ss wave starts prices lines h makes plan short =
       started_are = ap names_in bare.no_starts;
       priced_are = ap names_in bare.no_prices;
     } in
-    let in_head : (known_at Checking h.head).section ≡ Head = ap (λ (k : Known). k.section) (sym after) ∙ h.in_head in
+    let in_head : (known_at Checking h.head).section ≡ Head =
+    ap (λ (k : Known). k.section) (sym after) ∙ h.in_head in
     let joins : new_text ≡ joined written =
     text-with_plan text h.lines splits workers starts prices
     (text-joined text (take (length ss) (lines_of text)) lines ∙ ap joined h.whole_lines) plan in
     let fit : AreFitLines first written all =
     fit-append first h.lines (plan_texts a b c) h.head (plan_said a b c) h.fit
-    (subst (λ (k : Known). AreFitLines k (plan_texts a b c) (plan_said a b c)) (sym (known_after Checking h.head))
+    (subst (λ (k : Known). AreFitLines k (plan_texts a b c) (plan_said a b c))
+    (sym (known_after Checking h.head))
     (fit-plan_part splits workers names (known_at Checking h.head) starts prices refl in_head
     (not_entered Plan refl [] h.head) named plan)) in
     let new_lines : lines_of new_text ≡ written ++ [] ∷ [] =
@@ -102,8 +107,10 @@ joined-reads_back text ss wave starts prices lines h makes plan short =
     record {
       statements = all;
       reads = reads_fit Checking new_text written all short new_lines fit ended;
-      declared = subst (λ (r : List Statement). MakesWave r wave) (sym whole) (same_wave rows a b c wave makes);
-      same_starts = ap starts_in whole ∙ starts-back rows starts b c bare names plan.split_starts plan.of_workers;
+      declared = subst (λ (r : List Statement). MakesWave r wave) (sym whole)
+          (same_wave rows a b c wave makes);
+      same_starts =
+          ap starts_in whole ∙ starts-back rows starts b c bare names plan.split_starts plan.of_workers;
       same_prices = ap prices_in whole ∙ prices-read_back rows a prices bare names plan.split_prices
           plan.worker_prices plan.split_amounts plan.worker_amounts;
     }
@@ -120,7 +127,8 @@ written_plan_reads_back text v starts prices problem fit plan short =
     let rows = rows_in h.head in
     let same : rows_in ss ≡ rows = ap rows_in h.whole ∙ rows-end h.head in
     let splits : names_of Split rows ≡ v.splits = sym (problem.declares.splits ∙ ap (names_of Split) same) in
-    let workers : names_of Worker rows ≡ v.workers = sym (problem.declares.workers ∙ ap (names_of Worker) same) in
+    let workers : names_of Worker rows ≡ v.workers =
+    sym (problem.declares.workers ∙ ap (names_of Worker) same) in
     let Holds : List Word → List Word → Type 0 =
     λ xs ws. IsPlanFor xs ws starts prices
     → length (with_plan text (lines_of_plan xs ws starts prices)) ≤ longest

@@ -1,5 +1,7 @@
 -- The starts and prices that the lines of a plan declare are those that they were made from.
-use Rattle.std.proofs.Common.{ℕ, List, [], ◌∷◌, ◌++◌, ◌≡◌, ◌≢◌, ◌<◌, ◌∙◌, Option, Some, None, inl, inr, true, false, length, map, refl, sym, ap, subst, arith, get_or, suc, unwrap_or, Decides}
+use Rattle.std.proofs.Common.{ℕ, List, [], ◌∷◌, ◌++◌, ◌≡◌, ◌≢◌, ◌<◌, ◌∙◌, Option, Some, None, inl, inr, true}
+use Rattle.std.proofs.Common.{false, length, map, refl, sym, ap, subst, arith, get_or, suc, unwrap_or}
+use Rattle.std.proofs.Common.{Decides}
 use Rattle.std.specs.List.{AllPairs, Contains, position}
 use Rattle.std.specs.Option.{option_map}
 use Rattle.std.specs.Str.{bytes_eq}
@@ -11,7 +13,8 @@ use Rattle.text_lines.specs.Texts.{Word}
 use Rattle.plan_text.specs.Report.{name_of}
 use Rattle.plan_text.specs.Value.{beside, number_in}
 use borrow.Author.Tests.{le-ltb, lt-ltb}
-use Rattle.written_plan.proofs.Pairs.{AreNew, new-first, new-gone, new-next, new-skip, start_pairs, started_are_splits}
+use Rattle.written_plan.proofs.Pairs.{AreNew, new-first, new-gone, new-next, new-skip, start_pairs}
+use Rattle.written_plan.proofs.Pairs.{started_are_splits}
 
 -- ---- the place of a name
 
@@ -88,7 +91,8 @@ pub starts_read : (workers xs : List Word) (os : List (Option ℕ)) (before old 
     → AllPairs (λ a b. a ≢ b) workers
     → length before ≡ length old → length os ≡ length xs → AreNew before xs
     → ((s w : ℕ) → get_or os s None ≡ Some w → w < length workers)
-    → map (started_on workers (before ++ started_names workers xs os) (old ++ start_workers workers xs os)) xs ≡
+    → map (started_on workers (before ++ started_names workers xs os) (old ++ start_workers workers xs os))
+    xs ≡
     os
 starts_read workers [] [] before old differ same count new of_workers = refl
 starts_read workers [] (o ∷ os) before old differ same count new of_workers = absurd (omega arith)
@@ -121,7 +125,8 @@ starts_read workers (x ∷ xs) (Some w ∷ os) before old differ same count new 
     (new-next before x xs new) (λ s. of_workers (suc s)) in
     let moved : map (started_on workers (before ++ x ∷ names) (old ++ y ∷ on)) xs ≡ os =
     ap (λ ns. map (started_on workers ns (old ++ y ∷ on)) xs) (sym (append_assoc before (x ∷ []) names))
-    ∙ ap (λ ns. map (started_on workers (before ++ x ∷ [] ++ names) ns) xs) (sym (append_assoc old (y ∷ []) on))
+    ∙ ap (λ ns. map (started_on workers (before ++ x ∷ [] ++ names) ns) xs)
+    (sym (append_assoc old (y ∷ []) on))
     ∙ rest in
     ap (λ o. o ∷ map (started_on workers (before ++ x ∷ names) (old ++ y ∷ on)) xs) first
     ∙ ap (λ more. Some w ∷ more) moved
@@ -145,10 +150,12 @@ prices_read (x ∷ xs) (v ∷ vs) before more old rest same count new =
     let first : priced_at (before ++ x ∷ names) (old ++ v ∷ amounts) x ≡ v =
     ap (λ o. unwrap_or o 0) (beside_here 0 before x names old v amounts same (new-first before x xs new)) in
     let later : map (priced_at (before ++ x ∷ [] ++ names) (old ++ v ∷ [] ++ amounts)) xs ≡ vs =
-    prices_read xs vs (before ++ x ∷ []) more (old ++ v ∷ []) rest (one_more before old x v same) (omega arith)
+    prices_read xs vs (before ++ x ∷ []) more (old ++ v ∷ []) rest (one_more before old x v same)
+    (omega arith)
     (new-next before x xs new) in
     let moved : map (priced_at (before ++ x ∷ names) (old ++ v ∷ amounts)) xs ≡ vs =
     ap (λ ns. map (priced_at ns (old ++ v ∷ amounts)) xs) (sym (append_assoc before (x ∷ []) names))
     ∙ ap (λ ns. map (priced_at (before ++ x ∷ [] ++ names) ns) xs) (sym (append_assoc old (v ∷ []) amounts))
     ∙ later in
-    ap (λ p. p ∷ map (priced_at (before ++ x ∷ names) (old ++ v ∷ amounts)) xs) first ∙ ap (λ ps. v ∷ ps) moved
+    ap (λ p. p ∷ map (priced_at (before ++ x ∷ names) (old ++ v ∷ amounts)) xs) first
+    ∙ ap (λ ps. v ∷ ps) moved

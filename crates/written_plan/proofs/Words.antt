@@ -1,12 +1,16 @@
 -- Words that a line can be put together from: names, numbers, and given words.
-use Rattle.std.proofs.Common.{ℕ, List, [], ◌∷◌, ◌≡◌, ◌<◌, ◌^◌, ◌∙◌, inl, inr, length, codes, ap, arith, rules, get_or, suc, zero}
+use Rattle.std.proofs.Common.{ℕ, List, [], ◌∷◌, ◌≡◌, ◌<◌, ◌^◌, ◌∙◌, inl, inr, length, codes, ap, arith, rules}
+use Rattle.std.proofs.Common.{get_or, suc, zero}
 use Rattle.std.specs.Fmt.{decimal}
 use Rattle.std.specs.List.{All}
 use Rattle.std.proofs.lemmas.Bool.{cases_lt}
-use Rattle.std.proofs.lemmas.Fmt.{decimal_digit, decimal_nonempty, digits_decimal, digits_value-decimal, first_decimal}
-use Rattle.std.proofs.lemmas.List.Elements.{All-append, All-cons, All-from_recursion, All-head, All-nil, All-tail, All-weaker}
+use Rattle.std.proofs.lemmas.Fmt.{decimal_digit, decimal_nonempty, digits_decimal, digits_value-decimal}
+use Rattle.std.proofs.lemmas.Fmt.{first_decimal}
+use Rattle.std.proofs.lemmas.List.Elements.{All-append, All-cons, All-from_recursion, All-head, All-nil}
+use Rattle.std.proofs.lemmas.List.Elements.{All-tail, All-weaker}
 use Rattle.std.proofs.lemmas.Str.Parse.{IsDigitsTest, IsNumeralModel, numerals_by_fold}
-use Rattle.text_lines.specs.Texts.{IsDigit, IsName, IsNameByte, IsNumber, IsPrintable, Word, number_from, number_of}
+use Rattle.text_lines.specs.Texts.{IsDigit, IsName, IsNameByte, IsNumber, IsPrintable, Word, number_from}
+use Rattle.text_lines.specs.Texts.{number_of}
 use Rattle.line_shapes.specs.Demands.{Meets}
 use Rattle.line_shapes.specs.Keywords.{text_of}
 use Rattle.line_shapes.specs.Lines.{Says, Statement}
@@ -99,7 +103,8 @@ pub record IsMade (k : Keyword) (ws : List Word) : Type 0 where
   pub says : Says (line_of k ws) (said k ws)
 
 all_three : {X : Type 0} (P : X → Type 0) (a b c : X) → P a → P b → P c → All P (a ∷ b ∷ c ∷ [])
-all_three P a b c p q r = All-cons P a (b ∷ c ∷ []) p (All-cons P b (c ∷ []) q (All-cons P c [] r (All-nil P)))
+all_three P a b c p q r =
+    All-cons P a (b ∷ c ∷ []) p (All-cons P b (c ∷ []) q (All-cons P c [] r (All-nil P)))
 
 all_one : {X : Type 0} (P : X → Type 0) (a : X) → P a → All P (a ∷ [])
 all_one P a p = All-cons P a [] p (All-nil P)

@@ -1,5 +1,6 @@
 -- A plan that was written, put together with the head that it was made from, and what reads back from it.
-use Rattle.std.specs.Prelude.{ℕ, List, ◌∷◌, ◌++◌, ◌≡◌, ◌-◌, ◌^◌, ◌<◌, ◌≤◌, [], Option, Some, codes, length, take}
+use Rattle.std.specs.Prelude.{ℕ, List, ◌∷◌, ◌++◌, ◌≡◌, ◌-◌, ◌^◌, ◌<◌, ◌≤◌, [], Option, Some, codes, length}
+use Rattle.std.specs.Prelude.{take}
 use Rattle.std.specs.List.{All}
 use Rattle.wave_problem.specs.Wave.{Wave}
 use Rattle.wave_problem.specs.Assignment.{start_of}
@@ -28,7 +29,8 @@ with_plan text lines = head_of text ++ codes "plan" ++ (10 ∷ lines) ++ end_lin
 
 -- starts and prices for as many splits and workers as these; each start is of one of the workers, and each
 -- price can be read
-pub record IsPlanFor (splits workers : List Word) (starts : List (Option ℕ)) (prices : PriceList) : Type 0 where
+pub record IsPlanFor (splits workers : List Word) (starts : List (Option ℕ))
+    (prices : PriceList) : Type 0 where
   pub split_starts : length starts ≡ length splits
   pub split_prices : length prices.splits ≡ length splits
   pub worker_prices : length prices.workers ≡ length workers
@@ -37,7 +39,8 @@ pub record IsPlanFor (splits workers : List Word) (starts : List (Option ℕ)) (
   pub worker_amounts : All (λ amount. amount < 2 ^ 64) prices.workers
 
 -- the text to check has no fault, and declares the wave, the starts and the prices
-pub record ReadsBack (text : List ℕ) (wave : Wave) (starts : List (Option ℕ)) (prices : PriceList) : Type 0 where
+pub record ReadsBack (text : List ℕ) (wave : Wave) (starts : List (Option ℕ))
+    (prices : PriceList) : Type 0 where
   pub statements : List Statement
   pub reads : Reads Checking text statements
   pub declared : DeclaresWave statements wave

@@ -1,4 +1,5 @@
-use Rattle.std.proofs.Common.{rules, ap, sym, subst, true≢false, ℕ, List, inl, inr, Result, Ok, Err, ◌≡◌, ◌∙◌, Some, codes}
+use Rattle.std.proofs.Common.{rules, ap, sym, subst, true≢false, ℕ, List, inl, inr, Result, Ok, Err, ◌≡◌, ◌∙◌}
+use Rattle.std.proofs.Common.{Some, codes}
 use Rattle.clap.specs.Kinds.{IsAmong}
 use Rattle.clap.specs.Walk.{texts}
 use Rattle.clap.specs.Words.{kind_of}
@@ -40,10 +41,12 @@ returns-in-check-clause-ok c ok =
 
 pub unreachable-requires-in_default-name : goal.unreachable-requires-in_default-name
 unreachable-requires-in_default-name c =
-    let is : (name : List ℕ) → subcommand_name_of c.in-Ok-try_get_matches_from.matches ≡ Some name → c.in-Some.name.now ≡ name =
+    let is : (name : List ℕ) → subcommand_name_of c.in-Ok-try_get_matches_from.matches ≡ Some name →
+    c.in-Some.name.now ≡ name =
     λ name same. the_some _ _ (c.in-Some.ensures.name ∙ same) in
     elim (found_named c.in-Ok.commands _ c.in-Ok.ensures
-    c.in-Ok-try_get_matches_from.matches c.in-Ok-try_get_matches_from.ensures.matches c.in-Ok-try_get_matches_from.ensures.kinds) [
+    c.in-Ok-try_get_matches_from.matches c.in-Ok-try_get_matches_from.ensures.matches
+    c.in-Ok-try_get_matches_from.ensures.kinds) [
       | inl check ↦ c.in_default-name.not-check (is _ check)
       | inr (inl plan) ↦ c.in_default-name.not-plan (is _ plan)
       | inr (inr (inl play)) ↦ c.in_default-name.not-play (is _ play)

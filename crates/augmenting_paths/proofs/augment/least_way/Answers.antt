@@ -1,4 +1,5 @@
-use Rattle.std.proofs.Common.{◌≡◌, ◌+◌, ◌<◌, ◌≤◌, ℕ, List, [], ◌∷◌, ◌++◌, inl, inr, length, get_or, take, ap, sym, ◌∙◌, subst, arith}
+use Rattle.std.proofs.Common.{◌≡◌, ◌+◌, List, [], ◌∷◌, ◌++◌, inl, inr, length, get_or, take, ap}
+use Rattle.std.proofs.Common.{sym, ◌∙◌, subst, arith}
 use Rattle.std.proofs.Math.Seq.{take-length}
 use Rattle.std.proofs.lemmas.List.{take_more}
 use Rattle.flow_network.specs.Flow.{Flow}
@@ -15,7 +16,8 @@ lesser_way-least-requires-clause-listed g c =
     c.leaving-arc-items.ensures
     ∙ ap (λ (f : Flow g.row.L.Denot). leaving_of f.arcs c.args.node) c.new-meter.ensures.network in
     let here = in_at c.leaving-arc-items.result.now c.loop-arc.arc-index (Forward 0) c.loop-arc-test.true in
-    let held = subst (λ (xs : List ArcNo). IsIn (get_or c.leaving-arc-items.result.now c.loop-arc.arc-index (Forward 0)) xs)
+    let held = subst (λ (xs : List ArcNo). IsIn (get_or c.leaving-arc-items.result.now c.loop-arc.arc-index
+    (Forward 0)) xs)
     same here in
     rw c.all_arcs.ensures ((each_arc c.args.network.now.arcs c.args.node _).1 held).0
 
@@ -31,9 +33,11 @@ loop-arc-preserved g c = λ k i room.
     ∙ take_more c.leaving-arc-items.result.now c.loop-arc.arc-index (Forward 0) c.loop-arc-test.true
     ∙ ap (λ (xs : List ArcNo). take c.loop-arc.arc-index xs ++ arc ∷ []) same in
     let way = rw c.all_arcs.ensures at c.lesser_way-least.ensures.way in
-    elim (in_split (Forward k) (take c.loop-arc.arc-index (leaving_of c.args.network.now.arcs c.args.node)) (arc ∷ [])
+    elim (in_split (Forward k) (take c.loop-arc.arc-index (leaving_of c.args.network.now.arcs c.args.node))
+    (arc ∷ [])
     (subst (λ (xs : List ArcNo). IsIn (Forward k) xs) more i)) [
-      | inl old ↦ (let most = c.loop-arc.invariant k old room in let less = c.lesser_way-least.ensures.known in omega arith)
+      | inl old ↦ (let most = c.loop-arc.invariant k old room in
+          let less = c.lesser_way-least.ensures.known in omega arith)
       | inr new ↦ elim new [ inl e ↦ way k (sym e) room | inr n ↦ absurd n ]
     ]
 

@@ -1,4 +1,4 @@
-use Rattle.std.proofs.Common.{◌≡◌, ℕ, ◌+◌, ◌<◌, ◌≤◌, length, get_or, take}
+use Rattle.std.proofs.Common.{ℕ, ◌+◌, ◌<◌, ◌≤◌, get_or, take}
 use Rattle.flow_network.specs.declared.arcs.ArcNo.TheVariants.{Forward}
 use Rattle.flow_network.specs.Flows.{arc_at, leaving_of}
 use Rattle.flow_network.specs.Leaving.{IsIn}

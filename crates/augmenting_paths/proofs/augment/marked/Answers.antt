@@ -1,4 +1,5 @@
-use Rattle.std.proofs.Common.{◌≡◌, ◌+◌, ◌<◌, ℕ, List, ◌∷◌, ◌++◌, length, get_or, take, true, ap, sym, ◌∙◌, subst, length-set, arith}
+use Rattle.std.proofs.Common.{◌≡◌, ◌<◌, ℕ, List, length, get_or, take, true, ap, ◌∙◌}
+use Rattle.std.proofs.Common.{subst, length-set, arith}
 use Rattle.std.proofs.Math.Seq.{take-length}
 use Rattle.std.proofs.lemmas.List.{take_more}
 use Rattle.augmenting_paths.specs.Shipping.{AreMarked}
@@ -14,7 +15,8 @@ loop-source-preserved c =
     record {
       size = length-set c.loop-source.marks.items source true ∙ c.loop-source.invariant.size;
       marks = rw (take_more c.args.sources.now c.loop-source.source-index 0 c.loop-source-test.true)
-          (marks_more (take c.loop-source.source-index c.args.sources.now) c.loop-source.marks.items source inside
+          (marks_more (take c.loop-source.source-index c.args.sources.now) c.loop-source.marks.items source
+          inside
           c.loop-source.invariant.marks);
     }
 

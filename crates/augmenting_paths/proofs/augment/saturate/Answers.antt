@@ -1,4 +1,5 @@
-use Rattle.std.proofs.Common.{◌≡◌, ◌≤◌, ◌<◌, ℕ, List, Bool, false, length, map, get_or, refl, sym, ap, ◌∙◌, subst, arith}
+use Rattle.std.proofs.Common.{◌≡◌, ℕ, List, Bool, false, length, map, get_or, refl, ap, ◌∙◌}
+use Rattle.std.proofs.Common.{subst, arith}
 use Rattle.std.specs.List.Sorted.{IsPermutation}
 use Rattle.std.proofs.lemmas.List.{length-replicate}
 use Rattle.std.proofs.lemmas.List.Sorted.{length_permutation}
@@ -11,9 +12,11 @@ pub shipping_order-requires : goal.shipping_order-requires
 shipping_order-requires g c =
     let end : c.index-end.result ≡ g.L.Layout.index_of c.args.network.now.layout c.args.sink =
     c.index-end.ensures ∙ ap (λ l. g.L.Layout.index_of l c.args.sink) c.layout-2.ensures in
-    let starts : c.in_ok-starts.starts.items ≡ map (g.L.Layout.index_of c.args.network.now.layout) c.args.sources.now =
+    let starts : c.in_ok-starts.starts.items
+    ≡ map (g.L.Layout.index_of c.args.network.now.layout) c.args.sources.now =
     c.in_ok-starts.ensures ∙ ap (λ l. map (g.L.Layout.index_of l) c.args.sources.now) c.layout-3.ensures in
-    let can : CanShip (g.L.Layout.node_count c.args.network.now.layout) c.args.network.now.arcs c.in_ok-starts.starts.items
+    let can : CanShip (g.L.Layout.node_count c.args.network.now.layout) c.args.network.now.arcs
+    c.in_ok-starts.starts.items
     c.index-end.result = rw (starts, end) c.requires.can in
     rw c.deref.ensures.value (sources_in _ _ _ _ can)
 
@@ -23,9 +26,11 @@ marked-requires g c =
     c.size-nodes.ensures ∙ ap (λ l. g.L.Layout.node_count l) c.layout.ensures in
     let end : c.index-end.result ≡ g.L.Layout.index_of c.args.network.now.layout c.args.sink =
     c.index-end.ensures ∙ ap (λ l. g.L.Layout.index_of l c.args.sink) c.layout-2.ensures in
-    let starts : c.in_ok-starts.starts.items ≡ map (g.L.Layout.index_of c.args.network.now.layout) c.args.sources.now =
+    let starts : c.in_ok-starts.starts.items
+    ≡ map (g.L.Layout.index_of c.args.network.now.layout) c.args.sources.now =
     c.in_ok-starts.ensures ∙ ap (λ l. map (g.L.Layout.index_of l) c.args.sources.now) c.layout-3.ensures in
-    let can : CanShip (g.L.Layout.node_count c.args.network.now.layout) c.args.network.now.arcs c.in_ok-starts.starts.items
+    let can : CanShip (g.L.Layout.node_count c.args.network.now.layout) c.args.network.now.arcs
+    c.in_ok-starts.starts.items
     c.index-end.result = rw (starts, end) c.requires.can in
     rw (c.deref-2.ensures.value, nodes) (sources_in _ _ _ _ can)
 
@@ -39,9 +44,11 @@ pub new-requires-2-clause-no_entry : goal.new-requires-2-clause-no_entry
 new-requires-2-clause-no_entry g c =
     let end : c.index-end.result ≡ g.L.Layout.index_of c.args.network.now.layout c.args.sink =
     c.index-end.ensures ∙ ap (λ l. g.L.Layout.index_of l c.args.sink) c.layout-2.ensures in
-    let starts : c.in_ok-starts.starts.items ≡ map (g.L.Layout.index_of c.args.network.now.layout) c.args.sources.now =
+    let starts : c.in_ok-starts.starts.items
+    ≡ map (g.L.Layout.index_of c.args.network.now.layout) c.args.sources.now =
     c.in_ok-starts.ensures ∙ ap (λ l. map (g.L.Layout.index_of l) c.args.sources.now) c.layout-3.ensures in
-    let can : CanShip (g.L.Layout.node_count c.args.network.now.layout) c.args.network.now.arcs c.in_ok-starts.starts.items
+    let can : CanShip (g.L.Layout.node_count c.args.network.now.layout) c.args.network.now.arcs
+    c.in_ok-starts.starts.items
     c.index-end.result = rw (starts, end) c.requires.can in
     let marks : AreMarked c.in_ok-starts.starts.items c.in_ok-marks.marks.items =
     rw c.deref-2.ensures.value at c.in_ok-marks.ensures.marks in
@@ -53,9 +60,11 @@ loop-count-init g c =
     c.size-nodes.ensures ∙ ap (λ l. g.L.Layout.node_count l) c.layout.ensures in
     let end : c.index-end.result ≡ g.L.Layout.index_of c.args.network.now.layout c.args.sink =
     c.index-end.ensures ∙ ap (λ l. g.L.Layout.index_of l c.args.sink) c.layout-2.ensures in
-    let starts : c.in_ok-starts.starts.items ≡ map (g.L.Layout.index_of c.args.network.now.layout) c.args.sources.now =
+    let starts : c.in_ok-starts.starts.items
+    ≡ map (g.L.Layout.index_of c.args.network.now.layout) c.args.sources.now =
     c.in_ok-starts.ensures ∙ ap (λ l. map (g.L.Layout.index_of l) c.args.sources.now) c.layout-3.ensures in
-    let can : CanShip (g.L.Layout.node_count c.args.network.now.layout) c.args.network.now.arcs c.in_ok-starts.starts.items
+    let can : CanShip (g.L.Layout.node_count c.args.network.now.layout) c.args.network.now.arcs
+    c.in_ok-starts.starts.items
     c.index-end.result = rw (starts, end) c.requires.can in
     let marks : AreMarked c.in_ok-starts.starts.items c.in_ok-marks.marks.items =
     rw c.deref-2.ensures.value at c.in_ok-marks.ensures.marks in
@@ -88,9 +97,11 @@ pub ship-requires-clause-can : goal.ship-requires-clause-can
 ship-requires-clause-can g c =
     let end : c.index-end.result ≡ g.L.Layout.index_of c.args.network.now.layout c.args.sink =
     c.index-end.ensures ∙ ap (λ l. g.L.Layout.index_of l c.args.sink) c.layout-2.ensures in
-    let starts : c.in_ok-starts.starts.items ≡ map (g.L.Layout.index_of c.args.network.now.layout) c.args.sources.now =
+    let starts : c.in_ok-starts.starts.items
+    ≡ map (g.L.Layout.index_of c.args.network.now.layout) c.args.sources.now =
     c.in_ok-starts.ensures ∙ ap (λ l. map (g.L.Layout.index_of l) c.args.sources.now) c.layout-3.ensures in
-    let can : CanShip (g.L.Layout.node_count c.args.network.now.layout) c.args.network.now.arcs c.in_ok-starts.starts.items
+    let can : CanShip (g.L.Layout.node_count c.args.network.now.layout) c.args.network.now.arcs
+    c.in_ok-starts.starts.items
     c.index-end.result = rw (starts, end) c.requires.can in
     let order : IsPermutation c.in_ok-starts.starts.items c.in_ok-order.order.items =
     rw c.deref.ensures.value at c.in_ok-order.ensures in
@@ -110,8 +121,10 @@ loop-count-preserved g c = record {
   arcs = c.ship.ensures.arcs ∙ c.loop-count.invariant.arcs;
   layout = c.ship.ensures.layout ∙ c.loop-count.invariant.layout;
   size = c.in_ok-shipping.ensures.size ∙ ap (λ l. g.L.Layout.node_count l) c.loop-count.invariant.layout;
-  buffers = c.in_ok-shipping.ensures.buffers ∙ ap (λ l. g.L.Layout.node_count l) c.loop-count.invariant.layout;
-  state = rw (c.loop-count.invariant.arcs, c.deref-in-loop-count.ensures.value) at c.in_ok-shipping.ensures.state;
+  buffers = c.in_ok-shipping.ensures.buffers
+      ∙ ap (λ l. g.L.Layout.node_count l) c.loop-count.invariant.layout;
+  state = rw (c.loop-count.invariant.arcs, c.deref-in-loop-count.ensures.value) at
+      c.in_ok-shipping.ensures.state;
   guests = rw (c.loop-count.invariant.layout, c.loop-count.invariant.arcs) at c.in_ok-shipping.ensures.guests;
 }
 
@@ -119,30 +132,38 @@ pub returns-clause-shipped : goal.returns-clause-shipped
 returns-clause-shipped g c =
     let end : c.index-end.result ≡ g.L.Layout.index_of c.args.network.now.layout c.args.sink =
     c.index-end.ensures ∙ ap (λ l. g.L.Layout.index_of l c.args.sink) c.layout-2.ensures in
-    let starts : c.in_ok-starts.starts.items ≡ map (g.L.Layout.index_of c.args.network.now.layout) c.args.sources.now =
+    let starts : c.in_ok-starts.starts.items
+    ≡ map (g.L.Layout.index_of c.args.network.now.layout) c.args.sources.now =
     c.in_ok-starts.ensures ∙ ap (λ l. map (g.L.Layout.index_of l) c.args.sources.now) c.layout-3.ensures in
-    let can : CanShip (g.L.Layout.node_count c.args.network.now.layout) c.args.network.now.arcs c.in_ok-starts.starts.items
+    let can : CanShip (g.L.Layout.node_count c.args.network.now.layout) c.args.network.now.arcs
+    c.in_ok-starts.starts.items
     c.index-end.result = rw (starts, end) c.requires.can in
     let order : IsPermutation c.in_ok-starts.starts.items c.in_ok-order.order.items =
     rw c.deref.ensures.value at c.in_ok-order.ensures in
     let size : c.loop-count.count ≡ length c.in_ok-order.order.items =
-    (let past = c.loop-count-test.false in let most = c.loop-count.auto.count-end in let all = c.len-count-end.ensures in omega arith) in
+    (let past = c.loop-count-test.false in let most = c.loop-count.auto.count-end in
+    let all = c.len-count-end.ensures in omega arith) in
     let h : ℕ → ℕ = λ v. get_or c.loop-count.shipping.potentials v 0 in
     let done : HasShipped c.args.network.now.arcs c.in_ok-order.order.items c.index-end.result
     (length c.in_ok-order.order.items) c.loop-count.network.flows h =
-    subst (λ n. HasShipped c.args.network.now.arcs c.in_ok-order.order.items c.index-end.result n c.loop-count.network.flows h)
+    subst (λ n. HasShipped c.args.network.now.arcs c.in_ok-order.order.items c.index-end.result n
+    c.loop-count.network.flows h)
     size c.loop-count.invariant.state in
     let given : HasShipped c.args.network.now.arcs c.in_ok-starts.starts.items c.index-end.result
     (length c.in_ok-starts.starts.items) c.loop-count.network.flows h =
     order_shipped _ _ _ _ _ _ order done in
     let at_sink = subst (λ v. HasShipped c.args.network.now.arcs c.in_ok-starts.starts.items v
     (length c.in_ok-starts.starts.items) c.loop-count.network.flows h) end given in
-    let all : HasShipped c.args.network.now.arcs (map (g.L.Layout.index_of c.args.network.now.layout) c.args.sources.now)
+    let all : HasShipped c.args.network.now.arcs
+    (map (g.L.Layout.index_of c.args.network.now.layout) c.args.sources.now)
     (g.L.Layout.index_of c.args.network.now.layout c.args.sink)
-    (length (map (g.L.Layout.index_of c.args.network.now.layout) c.args.sources.now)) c.loop-count.network.flows h =
+    (length (map (g.L.Layout.index_of c.args.network.now.layout) c.args.sources.now))
+    c.loop-count.network.flows h =
     subst (λ (xs : List ℕ). HasShipped c.args.network.now.arcs xs
-    (g.L.Layout.index_of c.args.network.now.layout c.args.sink) (length xs) c.loop-count.network.flows h) starts at_sink in
-    subst (λ n. HasShipped c.args.network.now.arcs (map (g.L.Layout.index_of c.args.network.now.layout) c.args.sources.now)
+    (g.L.Layout.index_of c.args.network.now.layout c.args.sink) (length xs) c.loop-count.network.flows h)
+    starts at_sink in
+    subst (λ n. HasShipped c.args.network.now.arcs
+    (map (g.L.Layout.index_of c.args.network.now.layout) c.args.sources.now)
     (g.L.Layout.index_of c.args.network.now.layout c.args.sink) n c.loop-count.network.flows h)
     (length-indices (g.L.Layout.index_of c.args.network.now.layout) c.args.sources.now) all
 
@@ -150,27 +171,35 @@ pub returns-clause-cheapest : goal.returns-clause-cheapest
 returns-clause-cheapest g c =
     let end : c.index-end.result ≡ g.L.Layout.index_of c.args.network.now.layout c.args.sink =
     c.index-end.ensures ∙ ap (λ l. g.L.Layout.index_of l c.args.sink) c.layout-2.ensures in
-    let starts : c.in_ok-starts.starts.items ≡ map (g.L.Layout.index_of c.args.network.now.layout) c.args.sources.now =
+    let starts : c.in_ok-starts.starts.items
+    ≡ map (g.L.Layout.index_of c.args.network.now.layout) c.args.sources.now =
     c.in_ok-starts.ensures ∙ ap (λ l. map (g.L.Layout.index_of l) c.args.sources.now) c.layout-3.ensures in
-    let can : CanShip (g.L.Layout.node_count c.args.network.now.layout) c.args.network.now.arcs c.in_ok-starts.starts.items
+    let can : CanShip (g.L.Layout.node_count c.args.network.now.layout) c.args.network.now.arcs
+    c.in_ok-starts.starts.items
     c.index-end.result = rw (starts, end) c.requires.can in
     let order : IsPermutation c.in_ok-starts.starts.items c.in_ok-order.order.items =
     rw c.deref.ensures.value at c.in_ok-order.ensures in
     let size : c.loop-count.count ≡ length c.in_ok-order.order.items =
-    (let past = c.loop-count-test.false in let most = c.loop-count.auto.count-end in let all = c.len-count-end.ensures in omega arith) in
+    (let past = c.loop-count-test.false in let most = c.loop-count.auto.count-end in
+    let all = c.len-count-end.ensures in omega arith) in
     let h : ℕ → ℕ = λ v. get_or c.loop-count.shipping.potentials v 0 in
     let done : HasShipped c.args.network.now.arcs c.in_ok-order.order.items c.index-end.result
     (length c.in_ok-order.order.items) c.loop-count.network.flows h =
-    subst (λ n. HasShipped c.args.network.now.arcs c.in_ok-order.order.items c.index-end.result n c.loop-count.network.flows h)
+    subst (λ n. HasShipped c.args.network.now.arcs c.in_ok-order.order.items c.index-end.result n
+    c.loop-count.network.flows h)
     size c.loop-count.invariant.state in
     let given : HasShipped c.args.network.now.arcs c.in_ok-starts.starts.items c.index-end.result
     (length c.in_ok-starts.starts.items) c.loop-count.network.flows h =
     order_shipped _ _ _ _ _ _ order done in
     let at_sink = subst (λ v. HasShipped c.args.network.now.arcs c.in_ok-starts.starts.items v
     (length c.in_ok-starts.starts.items) c.loop-count.network.flows h) end given in
-    let all : HasShipped c.args.network.now.arcs (map (g.L.Layout.index_of c.args.network.now.layout) c.args.sources.now)
+    let all : HasShipped c.args.network.now.arcs
+    (map (g.L.Layout.index_of c.args.network.now.layout) c.args.sources.now)
     (g.L.Layout.index_of c.args.network.now.layout c.args.sink)
-    (length (map (g.L.Layout.index_of c.args.network.now.layout) c.args.sources.now)) c.loop-count.network.flows h =
+    (length (map (g.L.Layout.index_of c.args.network.now.layout) c.args.sources.now))
+    c.loop-count.network.flows h =
     subst (λ (xs : List ℕ). HasShipped c.args.network.now.arcs xs
-    (g.L.Layout.index_of c.args.network.now.layout c.args.sink) (length xs) c.loop-count.network.flows h) starts at_sink in
-    cheapest _ _ _ _ _ _ _ refl c.limits.ensures.arcs_in (rw c.loop-count.invariant.arcs at c.limits-2.ensures.within) all
+    (g.L.Layout.index_of c.args.network.now.layout c.args.sink) (length xs) c.loop-count.network.flows h)
+    starts at_sink in
+    cheapest _ _ _ _ _ _ _ refl c.limits.ensures.arcs_in
+    (rw c.loop-count.invariant.arcs at c.limits-2.ensures.within) all

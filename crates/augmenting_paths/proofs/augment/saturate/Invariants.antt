@@ -8,6 +8,8 @@ invariant-loop-count g l = record {
   layout : l.network.layout ≡ l.fn.network.layout;
   size : length l.shipping.potentials ≡ g.L.Layout.node_count l.fn.network.layout;
   buffers : l.shipping.buffers ≡ g.L.Layout.node_count l.fn.network.layout;
-  state : HasShipped l.fn.network.arcs l.order.items l.end l.count l.network.flows (λ v. get_or l.shipping.potentials v 0);
-  guests : KeepsGuests (g.L.Layout.node_count l.fn.network.layout) l.fn.network.arcs l.network.flows l.end l.shipping.guests;
+  state : HasShipped l.fn.network.arcs l.order.items l.end l.count l.network.flows
+      (λ v. get_or l.shipping.potentials v 0);
+  guests : KeepsGuests (g.L.Layout.node_count l.fn.network.layout) l.fn.network.arcs l.network.flows l.end
+      l.shipping.guests;
 }

@@ -3,4 +3,6 @@ use Rattle.augmenting_paths.specs.Shipping.{IsStart}
 use Rattle.augmenting_paths.proofs.ways.are_starts.Goals as goal
 
 pub loop-k-preserved : goal.loop-k-preserved
-loop-k-preserved c = below_more (λ i. IsStart c.args.arcs.now c.args.sources.now c.args.sink i) _ c.loop-k.invariant (c.is_start.ensures.0 c.if-not-is_start.false)
+loop-k-preserved c =
+    below_more (λ i. IsStart c.args.arcs.now c.args.sources.now c.args.sink i) _ c.loop-k.invariant
+    (c.is_start.ensures.0 c.if-not-is_start.false)

@@ -4,4 +4,5 @@ use Rattle.augmenting_paths.specs.Shipping.{LeadsOn}
 use Rattle.augmenting_paths.proofs.ways.has_way.Given as goal
 
 abbrev pub invariant-loop-arc : goal.invariant-loop-arc
-invariant-loop-arc l = (j : ℕ) → j < l.arc-index → (arc_at l.arcs j).from ≡ l.source → 0 < (arc_at l.arcs j).capacity → LeadsOn l.arcs (length l.sources) l.sink (arc_at l.arcs j).to → ⊥
+invariant-loop-arc l = (j : ℕ) → j < l.arc-index → (arc_at l.arcs j).from ≡ l.source →
+    0 < (arc_at l.arcs j).capacity → LeadsOn l.arcs (length l.sources) l.sink (arc_at l.arcs j).to → ⊥

@@ -1,11 +1,10 @@
-use Rattle.std.proofs.Common.{◌≡◌, arith, ap, sym, refl, subst, ◌∙◌, [], length, List, ◌++◌}
-use Rattle.std.proofs.lemmas.List.{append-nil}
+use Rattle.std.proofs.Common.{◌≡◌, arith, ap, sym, subst, ◌∙◌}
 use Rattle.std.proofs.lemmas.List.Elements.{All-nil}
 use Rattle.std.specs.List.{All}
 use Rattle.view_sums.proofs.Last.{all_but_last}
 use Rattle.beat_board.specs.declared.view.View.{View}
 use Rattle.beat_board.specs.Values.{ReaderValue, AreWithin}
-use Rattle.beat_board.specs.Views.{making, reading}
+use Rattle.beat_board.specs.Views.{reading}
 use Rattle.beat_board.specs.Steps.{gathers}
 use Rattle.beat_board.proofs.Keeps.{hears_as}
 use Rattle.beat_board.proofs.Gathers.{more_seen, remade_looks, none_left}
@@ -39,7 +38,8 @@ loop-reader-preserved c =
       ap (λ m. m.1) j.2 ∙ i.2,
       remade_looks new old looks _ _ _ _ now i.3,
       λ words within others.
-          let s = more_seen words old new looks c.in-Some.reader c.pop.new.self.items c.loop-reader.readers.items now
+          let s = more_seen words old new looks c.in-Some.reader c.pop.new.self.items
+          c.loop-reader.readers.items now
           (ap (λ y. y.looks) c.reader.view_is) items within in
           i.4 words s.1 (s.0 s.1 others),
       last.0,

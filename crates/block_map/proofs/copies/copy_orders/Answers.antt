@@ -3,7 +3,8 @@ use Rattle.block_map.specs.Holdings.{holders_of}
 use Rattle.block_map.specs.Copies.{WantsCopy, holdings, live_count}
 use Rattle.block_map.proofs.Orders.{copies_none, copies_push, copies_skip, copies_all}
 use Rattle.block_map.proofs.copies.copy_orders.Goals as goal
-use Rattle.block_map.proofs.copies.copy_orders.Goals.{then-count-gt0+then-count-limit+in_ok-push, else-count-gt0}
+use Rattle.block_map.proofs.copies.copy_orders.Goals.{then-count-gt0+then-count-limit+in_ok-push}
+use Rattle.block_map.proofs.copies.copy_orders.Goals.{else-count-gt0}
 
 pub loop-i-init : goal.loop-i-init
 loop-i-init c =

@@ -37,7 +37,8 @@ loop-i-preserved c =
             places = ap (λ (z : List ℕ). length z) w.loads-is ∙ length-set loads at_place
                 (get_or loads at_place 0 + 1) ∙ c.loop-i.invariant.places;
             counted = λ v below. ap (λ (z : List ℕ). get_or z v 0) w.loads-is
-                ∙ loads_more starts loads i w.in-Some.worker at_place v c.of.result within here w.in-Some.is w.index.ensures.value inside (c.loop-i.invariant.counted v below);
+                ∙ loads_more starts loads i w.in-Some.worker at_place v c.of.result within here w.in-Some.is
+                w.index.ensures.value inside (c.loop-i.invariant.counted v below);
             few = λ v below. omega (
               arith,
               ap (λ (z : List ℕ). get_or z v 0) w.loads-is,

@@ -8,7 +8,8 @@ use Rattle.command_line.proofs.commands.all_commands.Goals as goal
 pub returns : goal.returns
 returns c =
     let is_program : app_of c.subcommand_required.result ≡ program = search rules in
-    let with_check = added _ _ _ program check c.in_ok-subcommand.ensures is_program c.check_command.ensures refl in
+    let with_check =
+    added _ _ _ program check c.in_ok-subcommand.ensures is_program c.check_command.ensures refl in
     let with_plan = added _ _ _ _ plan c.in_ok-subcommand-2.ensures with_check c.in_ok-plan.ensures refl in
     IfOk-weaker c.subcommand-3.result _ _
     (λ commands adds. added _ _ _ _ play adds with_plan c.play_command.ensures refl) c.subcommand-3.ensures

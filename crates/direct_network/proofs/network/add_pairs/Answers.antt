@@ -19,21 +19,29 @@ loop-i-preserved c =
     let next : ℕ = 257 * s + (c.loop-i.i + 1) in
     elim c.if-admissible.branch [
       | then-admissible+in_ok-add w ↦ rw w.network-is
-          (pair_step c.args.problem.now s c.loop-i.i c.new-worker.result limit next c.loop-i.network w.add.new.network
+          (pair_step c.args.problem.now s c.loop-i.i c.new-worker.result limit next c.loop-i.network
+          w.add.new.network
           (omega arith) (omega arith) c.requires.split (omega arith)
           (subst (λ z. IsAdmissible z s c.new-worker.result) c.new-costs.ensures.wave
-          (subst (λ z. IsAdmissible c.new-costs.result.wave z c.new-worker.result) c.new-costs.ensures.split (c.admissible.ensures.0 w.if-admissible.true)))
-          c.loop-i.invariant (w.in_ok-add.ensures.layout, w.in_ok-add.ensures.arcs, w.in_ok-add.ensures.flows))
+          (subst (λ z. IsAdmissible c.new-costs.result.wave z c.new-worker.result) c.new-costs.ensures.split
+          (c.admissible.ensures.0 w.if-admissible.true)))
+          c.loop-i.invariant (
+            w.in_ok-add.ensures.layout,
+            w.in_ok-add.ensures.arcs,
+            w.in_ok-add.ensures.flows,
+          ))
       | else-admissible w ↦ rw w.network-is
           (pair_skip c.args.problem.now s c.loop-i.i c.new-worker.result limit next c.loop-i.network
           (omega arith) (omega arith) c.requires.split (omega arith)
           (λ may. false≢true (sym w.if-admissible.false ∙ c.admissible.ensures.1
-          (subst (λ z. IsAdmissible c.new-costs.result.wave z c.new-worker.result) (sym c.new-costs.ensures.split)
+          (subst (λ z. IsAdmissible c.new-costs.result.wave z c.new-worker.result)
+          (sym c.new-costs.ensures.split)
           (subst (λ z. IsAdmissible z s c.new-worker.result) (sym c.new-costs.ensures.wave) may))))
           c.loop-i.invariant)
     ]
 
 pub loop-i-init : goal.loop-i-init
 loop-i-init c =
-    to_pairs c.args.problem.now c.args.split (257 * c.args.split) (257 * c.args.split + 0) c.args.network.now (omega arith) c.requires.split
+    to_pairs c.args.problem.now c.args.split (257 * c.args.split) (257 * c.args.split + 0) c.args.network.now
+    (omega arith) c.requires.split
     c.requires.built

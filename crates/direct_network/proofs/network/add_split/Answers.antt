@@ -11,14 +11,18 @@ add-requires-clause-room c =
 pub returns-in_ok-add : goal.returns-in_ok-add
 returns-in_ok-add c = record {
   built =
-      wait_step c.args.problem.now c.args.split (257 * c.args.split + 256) (257 * c.args.split + 257) c.add_pairs.new.network c.add.new.network
-      (omega arith) c.requires.split (sym c.is_pending.ensures ∙ c.if-is_pending.true) c.in_ok-add_pairs.ensures.built
+      wait_step c.args.problem.now c.args.split (257 * c.args.split + 256)
+      (257 * c.args.split + 257) c.add_pairs.new.network c.add.new.network
+      (omega arith) c.requires.split (sym c.is_pending.ensures ∙ c.if-is_pending.true)
+      c.in_ok-add_pairs.ensures.built
       (c.in_ok-add.ensures.layout, c.in_ok-add.ensures.arcs, c.in_ok-add.ensures.flows);
 }
 
 pub returns-else-is_pending : goal.returns-else-is_pending
 returns-else-is_pending c = record {
   built =
-      wait_skip c.args.problem.now c.args.split (257 * c.args.split + 256) (257 * c.args.split + 257) c.add_pairs.new.network
-      (omega arith) c.requires.split (sym c.is_pending.ensures ∙ c.if-is_pending.false) c.in_ok-add_pairs.ensures.built;
+      wait_skip c.args.problem.now c.args.split (257 * c.args.split + 256)
+      (257 * c.args.split + 257) c.add_pairs.new.network
+      (omega arith) c.requires.split (sym c.is_pending.ensures ∙ c.if-is_pending.false)
+      c.in_ok-add_pairs.ensures.built;
 }

@@ -21,11 +21,15 @@ returns-clause-read c =
     let flows = c.args.network.now.flows in
     IfOk-weaker c.read_plan.result
     (λ plan. (above : ℕ → List ℕ)
-    → IsPlanOf wave (nodes_from wave c.splits-workers.result above) c.all_arcs.result.now c.all_flows.result.now plan.starts)
+    → IsPlanOf wave (nodes_from wave c.splits-workers.result above) c.all_arcs.result.now
+    c.all_flows.result.now plan.starts)
     (λ plan. IsPlanOf wave (direct_nodes wave) arcs flows plan.starts)
     (λ plan read.
-    subst (λ (n : ℕ). IsPlanOf wave (nodes_from wave n (λ w. [])) arcs flows plan.starts) c.splits-workers.ensures.count
-    (subst (λ (fs : List ℕ). IsPlanOf wave (nodes_from wave c.splits-workers.result (λ w. [])) arcs fs plan.starts) c.all_flows.ensures
-    (subst (λ (xs : List FlowArc). IsPlanOf wave (nodes_from wave c.splits-workers.result (λ w. [])) xs c.all_flows.result.now plan.starts)
+    subst (λ (n : ℕ). IsPlanOf wave (nodes_from wave n (λ w. [])) arcs flows plan.starts)
+    c.splits-workers.ensures.count
+    (subst (λ (fs : List ℕ). IsPlanOf wave (nodes_from wave c.splits-workers.result (λ w. [])) arcs fs
+    plan.starts) c.all_flows.ensures
+    (subst (λ (xs : List FlowArc). IsPlanOf wave (nodes_from wave c.splits-workers.result (λ w. [])) xs
+    c.all_flows.result.now plan.starts)
     c.all_arcs.ensures (read (λ w. [])))))
     c.read_plan.ensures.read

@@ -7,14 +7,19 @@ use Rattle.flow_network.proofs.network.outflow_of.Goals.{then-arcs-k, else-arcs-
 
 pub loop-k-preserved : goal.loop-k-preserved
 loop-k-preserved c =
-    let more = outflow-more c.args.arcs.now c.args.flows.now c.args.node c.loop-k.k c.requires.sizes c.loop-k-test.true in
+    let more = outflow-more c.args.arcs.now c.args.flows.now c.args.node c.loop-k.k c.requires.sizes
+    c.loop-k-test.true in
     let within = c.requires.within c.loop-k.k c.loop-k-test.true in
     let limit = (c.requires.arcs c.loop-k.k c.loop-k-test.true).capacity_in in
     let old = c.loop-k.invariant.sum in
     let bound = c.loop-k.invariant.bound in
     elim c.if-arcs-k.branch [
-      | then-arcs-k w ↦ (let here = ap (λ b. cond b (get_or c.args.flows.now c.loop-k.k 0) 0) (eq-eqb (arc_at c.args.arcs.now c.loop-k.k).from c.args.node w.if-arcs-k.true) in
+      | then-arcs-k w ↦
+          (let here = ap (λ b. cond b (get_or c.args.flows.now c.loop-k.k 0) 0)
+          (eq-eqb (arc_at c.args.arcs.now c.loop-k.k).from c.args.node w.if-arcs-k.true) in
           let is = w.given-is in record { sum = omega arith; bound = omega arith })
-      | else-arcs-k w ↦ (let here = ap (λ b. cond b (get_or c.args.flows.now c.loop-k.k 0) 0) (ne_eqb (arc_at c.args.arcs.now c.loop-k.k).from c.args.node w.if-arcs-k.false) in
+      | else-arcs-k w ↦
+          (let here = ap (λ b. cond b (get_or c.args.flows.now c.loop-k.k 0) 0)
+          (ne_eqb (arc_at c.args.arcs.now c.loop-k.k).from c.args.node w.if-arcs-k.false) in
           let is = w.given-is in record { sum = omega arith; bound = omega arith })
     ]

@@ -13,6 +13,8 @@ overflow_add-flows c =
 
 pub loop-arc-preserved : goal.loop-arc-preserved
 loop-arc-preserved c = elim c.match-arc.branch [
-  | in-Forward w ↦ pushing_turn _ _ _ _ _ _ _ c.loop-arc-test.true w.in-Forward.is c.loop-arc.invariant w.flows-is
-  | in-Reverse w ↦ pushing_turn _ _ _ _ _ _ _ c.loop-arc-test.true w.in-Reverse.is c.loop-arc.invariant w.flows-is
+  | in-Forward w ↦
+      pushing_turn _ _ _ _ _ _ _ c.loop-arc-test.true w.in-Forward.is c.loop-arc.invariant w.flows-is
+  | in-Reverse w ↦
+      pushing_turn _ _ _ _ _ _ _ c.loop-arc-test.true w.in-Reverse.is c.loop-arc.invariant w.flows-is
 ]

@@ -1,9 +1,11 @@
-use Rattle.std.proofs.Common.{take}
-use Rattle.flow_network.specs.Flows.{leaving_of}
-use Rattle.guest_lists.specs.Ways.{AreWays}
+use Rattle.std.proofs.Common.{◌≡◌, length, take}
+use Rattle.guest_lists.specs.Ways.{AreListed}
 use Rattle.guest_lists.proofs.ways.ways_of.Given as goal
 
-abbrev pub invariant-loop-arc : goal.invariant-loop-arc
-invariant-loop-arc g l =
-    AreWays l.network.arcs l.is_source l.sink (take l.arc-index (leaving_of l.network.arcs l.node))
-    l.ways.exit l.ways.inner.items
+abbrev pub invariant-loop-k : goal.invariant-loop-k
+invariant-loop-k g l = record {
+  exits : length l.ways.exits.items ≡ length l.is_source;
+  inner : length l.ways.inner.items ≡ length l.is_source;
+  listed : AreListed l.network.arcs l.is_source l.sink (take l.k l.network.arcs) l.ways.exits.items
+      l.ways.inner.items;
+}

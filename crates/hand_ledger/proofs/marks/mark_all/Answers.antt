@@ -15,14 +15,25 @@ loop-entry-preserved c =
     let kept_so = c.loop-entry.invariant in
     record {
       size = c.mark.ensures.size;
-      counts = omega (arith, kept_so.counts, c.counts_in-new_counts.ensures, counts_step es i e c.loop-entry-test.true c.entry-item.is);
-      starts = omega (arith, kept_so.starts, c.starts_in-new_starts.ensures.value, starts_step es i e c.loop-entry-test.true c.entry-item.is);
+      counts = omega (
+        arith,
+        kept_so.counts,
+        c.counts_in-new_counts.ensures,
+        counts_step es i e c.loop-entry-test.true c.entry-item.is,
+      );
+      starts = omega (
+        arith,
+        kept_so.starts,
+        c.starts_in-new_starts.ensures.value,
+        starts_step es i e c.loop-entry-test.true c.entry-item.is,
+      );
       marks = λ before m.
           subst (λ (l : List Kept). Marks c.args.log.now l c.mark.new.found)
           (ap (λ (call : Kept). (before ++ calls_of (take i es) cs ss) ++ call ∷ [])
           (λ k. kept e.place e.event
           ((c.part.ensures ∙ (λ j. take (c.counts_in-new_counts.ensures j) (drop (kept_so.counts j) cs))) k)
-          ((c.part-in-loop-entry.ensures ∙ (λ j. take (c.starts_in-new_starts.ensures.value j) (drop (kept_so.starts j) ss))) k))
+          ((c.part-in-loop-entry.ensures
+          ∙ (λ j. take (c.starts_in-new_starts.ensures.value j) (drop (kept_so.starts j) ss))) k))
           ∙ calls_step before es i e cs ss c.loop-entry-test.true c.entry-item.is)
           (c.mark.ensures.marks c.args.log.now (before ++ calls_of (take i es) cs ss)
           (kept e.place e.event c.part.result.now c.part-in-loop-entry.result.now) refl c.has-is_right.ensures

@@ -3,4 +3,5 @@ use Rattle.job_run.proofs.ending.add_end.Goals as goal
 
 pub add_stuck-requires : goal.add_stuck-requires
 add_stuck-requires c =
-    c.requires ∙ sym c.know.ensures.tidy.splits ∙ sym (ap length (c.as_slice.ensures.value ∙ c.in-Some.ensures))
+    c.requires ∙ sym c.know.ensures.tidy.splits
+    ∙ sym (ap length (c.as_slice.ensures.value ∙ c.in-Some.ensures))

@@ -25,7 +25,8 @@ hand_part-requires-clause-started c = (
 
 pub returns-in_ok-answer-in-Split : goal.returns-in_ok-answer-in-Split
 returns-in_ok-answer-in-Split c = λ names target.
-    let start = start_with c.args.master.now.state c.args.attempt c.in-Some.start.worker c.in-Some.start.work _
+    let start = start_with c.args.master.now.state c.args.attempt c.in-Some.start.worker c.in-Some.start.work
+    _
     (sym c.in-Some.ensures) c.in-Split.is in
     on_ok_weaker _
     (λ next. done_split names target _ _ _ _ _ _ _ _ start c.in_ok-answer-in-Split.ensures next)
@@ -33,7 +34,8 @@ returns-in_ok-answer-in-Split c = λ names target.
 
 pub returns-in_ok-answer-in-Part : goal.returns-in_ok-answer-in-Part
 returns-in_ok-answer-in-Part c = λ names target.
-    let start = start_with c.args.master.now.state c.args.attempt c.in-Some.start.worker c.in-Some.start.work _
+    let start = start_with c.args.master.now.state c.args.attempt c.in-Some.start.worker c.in-Some.start.work
+    _
     (sym c.in-Some.ensures) c.in-Part.is in
     on_ok_weaker _
     (λ next. done_part names target _ _ _ _ _ _ _ _ start c.in_ok-answer-in-Part.ensures next)

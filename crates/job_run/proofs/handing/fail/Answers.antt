@@ -11,7 +11,8 @@ returns-in-None c = λ names target. on_ok_weaker _
 
 pub returns-in-Split : goal.returns-in-Split
 returns-in-Split c = λ names target.
-    let start = start_with c.args.master.now.state c.args.attempt c.in-Some.start.worker c.in-Some.start.work _
+    let start = start_with c.args.master.now.state c.args.attempt c.in-Some.start.worker c.in-Some.start.work
+    _
     (sym c.in-Some.ensures) c.in-Split.is in
     on_ok_weaker _
     (λ next. fail_split names target _ _ _ _ _ _ _ _ start c.map_failed.ensures next)
@@ -19,7 +20,8 @@ returns-in-Split c = λ names target.
 
 pub returns-in-Part : goal.returns-in-Part
 returns-in-Part c = λ names target.
-    let start = start_with c.args.master.now.state c.args.attempt c.in-Some.start.worker c.in-Some.start.work _
+    let start = start_with c.args.master.now.state c.args.attempt c.in-Some.start.worker c.in-Some.start.work
+    _
     (sym c.in-Some.ensures) c.in-Part.is in
     on_ok_weaker _
     (λ next. fail_part names target _ _ _ _ _ _ _ _ start c.part_failed.ensures next)

@@ -9,7 +9,8 @@ use Rattle.job_run.proofs.handing.hand_part.Goals as goal
 
 pub returns-then-not-part_runs : goal.returns-then-not-part_runs
 returns-then-not-part_runs c =
-    old_part c.args.master.now c.args.attempt c.args.part c.requires.started.0 c.part_state.result c.know.ensures
+    old_part c.args.master.now c.args.attempt c.args.part c.requires.started.0 c.part_state.result
+    c.know.ensures
     c.requires.started.1 c.part_state.ensures (sym c.part_runs.ensures ∙ c.if-not-part_runs.true)
 
 pub of-requires : goal.of-requires
@@ -34,7 +35,8 @@ merge-requires-clause-same c =
 pub returns : goal.returns
 returns c =
     let job = c.args.master.now in
-    let runs = runs_given job c.args.given.now c.args.attempt c.args.part c.requires.started.0 c.requires.given
+    let runs = runs_given job c.args.given.now c.args.attempt c.args.part c.requires.started.0
+    c.requires.given
     c.requires.started.1 in
     let texts = c.in_ok-made.ensures.texts ∙ ap texts_of c.of.ensures ∙ runs.texts in
     record {

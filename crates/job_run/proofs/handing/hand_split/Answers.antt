@@ -12,12 +12,14 @@ use Rattle.job_run.proofs.handing.hand_split.Goals as goal
 
 pub returns-then-not-split_runs : goal.returns-then-not-split_runs
 returns-then-not-split_runs c =
-    old_split c.args.master.now c.args.attempt c.args.split c.requires.0 c.state.result c.know.ensures c.requires.1
+    old_split c.args.master.now c.args.attempt c.args.split c.requires.0 c.state.result c.know.ensures
+    c.requires.1
     c.state.ensures (sym c.split_runs.ensures ∙ c.if-not-split_runs.true)
 
 pub bounds-texts-index : goal.bounds-texts-index
 bounds-texts-index c =
-    let inside = text_inside c.args.master.now c.args.attempt c.args.split c.requires.0 c.know.ensures c.requires.1
+    let inside = text_inside c.args.master.now c.args.attempt c.args.split c.requires.0 c.know.ensures
+    c.requires.1
     in
     omega (
       arith,

@@ -8,7 +8,8 @@ pub returns-in_ok-add_accepted-in-Accepted : goal.returns-in_ok-add_accepted-in-
 returns-in_ok-add_accepted-in-Accepted c =
     let told = rw c.in-Accepted.is at (rw c.counts_of.ensures at c.sweep-swept.ensures) in
     on_ok_weaker c.add_dead.result
-    (λ next. sweep_accepted c.args.names.now c.args.master.now c.sweep-swept.new.self (padded c.args.counts.now)
+    (λ next. sweep_accepted c.args.names.now c.args.master.now c.sweep-swept.new.self
+    (padded c.args.counts.now)
     c.sweep-swept.result.dead c.in-Accepted.place (string_bytes c.args.lines.now)
     (string_bytes c.add_accepted.new.lines) (string_bytes c.add_dead.new.lines) told
     c.in_ok-add_accepted-in-Accepted.ensures next)
@@ -18,7 +19,8 @@ pub returns-in-Ignored : goal.returns-in-Ignored
 returns-in-Ignored c =
     let told = rw c.in-Ignored.is at (rw c.counts_of.ensures at c.sweep-swept.ensures) in
     on_ok_weaker c.add_ignored.result
-    (λ next. sweep_ignored c.args.names.now c.args.master.now c.sweep-swept.new.self (padded c.args.counts.now)
+    (λ next. sweep_ignored c.args.names.now c.args.master.now c.sweep-swept.new.self
+    (padded c.args.counts.now)
     c.sweep-swept.result.dead c.in-Ignored.why (string_bytes c.args.lines.now)
     (string_bytes c.add_ignored.new.lines) told next)
     c.add_ignored.ensures

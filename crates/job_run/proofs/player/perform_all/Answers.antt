@@ -12,7 +12,8 @@ loop-command-preserved c =
       setup = performed_setup done ∙ c.loop-command.invariant.setup;
       given = c.in_ok-perform.ensures.given;
       performed = performed_more _ _ _ _ _ c.deref-command-items.result.now c.loop-command.command-index
-          c.command-item.result _ _ _ (search rules) c.command-item.is c.loop-command.invariant.performed done;
+          c.command-item.result _ _ _ (search rules) c.command-item.is c.loop-command.invariant.performed
+          done;
     }
 
 pub returns-in_err-perform-clause-full : goal.returns-in_err-perform-clause-full
@@ -20,6 +21,7 @@ returns-in_err-perform-clause-full c full =
     let left = c.from_residual-in_err-perform in
     let is = err_is left.result c.in_err-perform.field-0.0 left.ensures.1 in
     let wave = c.in_err-perform.ensures.full (sym is ∙ full) in
-    runs_out c.args.script.now c.deref-command-items.result.now c.args.master.now _ c.loop-command.command-index
+    runs_out c.args.script.now c.deref-command-items.result.now c.args.master.now _
+    c.loop-command.command-index
     c.command-item.result _ _ (search rules) c.requires.opening (search rules) c.command-item.is wave.0
     c.loop-command.invariant.setup c.loop-command.invariant.performed wave.1

@@ -7,6 +7,7 @@ abbrev pub invariant-loop-command : goal.invariant-loop-command
 invariant-loop-command l = record {
   setup : l.master.setup ≡ l.initial.master.setup;
   given : HoldsRuns l.given l.master;
-  performed : PerformedAll l.script.names l.script.target l.initial.master (take l.command-index l.command-items)
+  performed : PerformedAll l.script.names l.script.target l.initial.master
+      (take l.command-index l.command-items)
       (string_bytes l.initial.lines) (string_bytes l.lines) l.master;
 }

@@ -8,7 +8,8 @@ pub unreachable-requires : goal.unreachable-requires
 unreachable-requires c =
     let head = c.args.head in
     c.new.ensures.limit.0 (c.in-Err-Limit.is ∙ ap Err c.in-Err-Limit.field-0-is)
-    (subst (λ (slots : List ℕ). AreFewAndSmall slots head.splits.items head.parts) (sym c.as_slice.ensures.value)
+    (subst (λ (slots : List ℕ). AreFewAndSmall slots head.splits.items head.parts)
+    (sym c.as_slice.ensures.value)
     (few_and_small head c.requires))
 
 pub unreachable-requires-in-Err-Holder : goal.unreachable-requires-in-Err-Holder

@@ -43,7 +43,8 @@ loop-pass-preserved c =
       last.0,
       (
         x ∷ i.2.0,
-        moved c.args.passes.items c.loop-pass.passes.items c.pop-in-loop-pass.new.self.items i.2.0 x i.2.1 c.in-Some.ensures.items,
+        moved c.args.passes.items c.loop-pass.passes.items c.pop-in-loop-pass.new.self.items i.2.0 x i.2.1
+            c.in-Some.ensures.items,
         more,
         c.absorb.ensures.rule ∙ known,
       ),

@@ -1,7 +1,7 @@
-use Rattle.std.proofs.Common.{rules, ◌≡◌, ◌∷◌, ◌∙◌, ap, map, subst, sym}
+use Rattle.std.proofs.Common.{rules, ◌≡◌, ◌∷◌, ◌∙◌, ap, map, sym}
 use Rattle.std.proofs.lemmas.Result.{IfErr-weaker}
 use Rattle.line_shapes.specs.Keywords.{text_of}
-use Rattle.line_shapes.specs.Lines.{Says, statement_of, words_in}
+use Rattle.line_shapes.specs.Lines.{statement_of, words_in}
 use Rattle.line_rules.specs.Texts.{IsSound}
 use Rattle.line_rules.proofs.LineErrors.{error_of_line}
 use Rattle.line_rules.proofs.Saying.{no_shape, says_same}

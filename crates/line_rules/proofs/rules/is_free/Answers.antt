@@ -1,4 +1,4 @@
-use Rattle.std.proofs.Common.{◌≡◌, Bool, true, false, not, refl, sym, true≢false}
+use Rattle.std.proofs.Common.{Bool, true, false, not, refl, sym, true≢false}
 use Rattle.std.specs.Prelude.{◌↔◌, IsTrue}
 use Rattle.line_rules.proofs.rules.is_free.Goals as goal
 

@@ -1,4 +1,5 @@
-use Rattle.std.proofs.Common.{ℕ, List, [], ◌≡◌, ◌≢◌, ◌<◌, ◌∙◌, inl, inr, Bor, false, true≢false, sym, ap, length, get_or, arith}
+use Rattle.std.proofs.Common.{ℕ, List, [], ◌≡◌, ◌≢◌, ◌<◌, ◌∙◌, inl, inr, Bor, false, true≢false, sym, ap}
+use Rattle.std.proofs.Common.{length, get_or, arith}
 use Rattle.std.specs.Str.{bytes_eq}
 use Rattle.std.proofs.lemmas.Bool.{cases_lt}
 use Rattle.std.proofs.lemmas.List.{get_or_default}

@@ -1,4 +1,5 @@
-use Rattle.std.proofs.Common.{ℕ, List, [], ◌∷◌, ◌++◌, ◌≡◌, ◌∙◌, ◌-◌, ◌+◌, suc, Some, Bor, ap, arith, map, sym, append-nil}
+use Rattle.std.proofs.Common.{ℕ, List, [], ◌∷◌, ◌++◌, ◌≡◌, ◌∙◌, ◌-◌, ◌+◌, suc, Some, Bor, ap, arith, map, sym}
+use Rattle.std.proofs.Common.{append-nil}
 use Rattle.std.proofs.Common.{append_assoc, rules}
 use Rattle.std.proofs.lemmas.List.{map-append}
 use Rattle.text_lines.specs.Texts.{Word}
@@ -33,6 +34,7 @@ loop-number-preserved c =
     let more = rw c.in-Some.is at (c.first_word.ensures (Some Text) n) in (
       cut_one c.loop-number.words.items word _ (first_words n c.in-Some.after.now) _ n c.loop-number.rest.now
           c.loop-number.invariant.0 (omega (arith, c.loop-number-test.true)) more
-          ∙ ap (λ ws. map (λ w. w.now) ws ++ first_words n c.in-Some.after.now) (sym c.in_ok-push.ensures.items),
+          ∙ ap (λ ws. map (λ w. w.now) ws ++ first_words n c.in-Some.after.now)
+          (sym c.in_ok-push.ensures.items),
       search rules,
     )

@@ -1,4 +1,4 @@
-use Rattle.std.proofs.Common.{◌≡◌, ◌==◌, ap, not, refl, sym, ◌∙◌, subst, ◌<◌, length, List, [], ℕ}
+use Rattle.std.proofs.Common.{◌==◌, ap, not, sym, ◌∙◌, subst, ◌<◌, length, [], ℕ}
 use Rattle.master_state.specs.States.{Cluster}
 use Rattle.master_state.specs.Refusals.{is_same_text, text_of}
 use Rattle.master_core.proofs.Handed.{compared, text_at, wrong_first, wrong_later}

@@ -1,9 +1,10 @@
 use Rattle.std.proofs.Common.{◌≡◌, take, drop, ◌++◌, map}
+use Rattle.master_tables.specs.Ends.{ends}
 use Rattle.master_tables.specs.Entries.{entry_after_death}
 use Rattle.master_tables.proofs.deaths.lose_entries.Given as goal
 
 abbrev pub invariant-loop-entry : goal.invariant-loop-entry
 invariant-loop-entry l =
-    take l.entry-index l.entry-items ++ map (entry_after_death l.stays l.worker) (drop l.entry-index
-    l.entry-items)
-    ≡ map (entry_after_death l.stays l.worker) l.fn.entries.items
+    let change = entry_after_death l.stays (ends l.ending) in
+    take l.entry-index l.entry-items ++ map change (drop l.entry-index l.entry-items)
+    ≡ map change l.fn.entries.items

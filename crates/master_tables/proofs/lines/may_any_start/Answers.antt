@@ -7,7 +7,8 @@ use Rattle.master_tables.proofs.lines.may_any_start.Goals as goal
 pub returns-then-may_start : goal.returns-then-may_start
 returns-then-may_start c wave workers barred splits =
     let here = seen_at wave c.args.lines.now c.args.entries.now c.args.holders.now c.loop-i.i
-    c.new-split.result c.index-lines-i.result c.split_line-line.result c.index-entries-i.result c.holders.result.now splits
+    c.new-split.result c.index-lines-i.result c.split_line-line.result c.index-entries-i.result
+    c.holders.result.now splits
     c.new-split.ensures (omega arith) c.requires.entries c.requires.holders c.index-lines-i.is
     c.index-entries-i.is c.holders.ensures.value c.split_line-line.ensures in
     let some = (c.may_start.ensures wave workers barred here).0 c.if-may_start.true in

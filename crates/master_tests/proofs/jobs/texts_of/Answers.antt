@@ -1,4 +1,5 @@
-use Rattle.std.proofs.Common.{◌≡◌, ◌∙◌, ◌+◌, ◌∷◌, ◌++◌, [], ℕ, List, zero, suc, ap, arith, sym, map, add-one, rules}
+use Rattle.std.proofs.Common.{◌≡◌, ◌∙◌, ◌+◌, ◌∷◌, ◌++◌, [], ℕ, zero, suc, ap, arith, sym, map, add-one}
+use Rattle.std.proofs.Common.{rules}
 use Rattle.std.proofs.lemmas.List.{map-append}
 use Rattle.std.specs.declared.alloc.Global.{Global}
 use Rattle.std.specs.declared.sync.Arc.{Arc}
@@ -22,10 +23,13 @@ loop-number-preserved g c =
     let value = λ (text : Arc SplitDocuments Global). arc_value text in
     let grown : c.push.new.self.items ≡ texts ++ arc ∷ [] = search rules in
     let here : split (value arc) ≡ n = search rules in
-    let all : map split (map value (texts ++ arc ∷ [])) ≡ map split (map value texts) ++ split (value arc) ∷ [] =
-    ap (map split) (map-append value texts (arc ∷ [])) ∙ map-append split (map value texts) (value arc ∷ []) in
+    let all : map split (map value (texts ++ arc ∷ [])) ≡ map split (map value texts)
+    ++ split (value arc) ∷ [] =
+    ap (map split) (map-append value texts (arc ∷ [])) ∙ map-append split (map value texts) (value arc ∷ [])
+    in
     let place : 0 + n ≡ n = omega arith in
     let range : range_with_len 0 (n + 1) ≡ range_with_len 0 n ++ n ∷ [] =
     rw add-one (range_more 0 n ∙ ap (λ i. range_with_len 0 n ++ i ∷ []) place) in
-    ap (λ t. map split (map value t)) grown ∙ all ∙ ap (λ front. front ++ split (value arc) ∷ []) c.loop-number.invariant
+    ap (λ t. map split (map value t)) grown ∙ all
+    ∙ ap (λ front. front ++ split (value arc) ∷ []) c.loop-number.invariant
     ∙ ap (λ s. range_with_len 0 n ++ s ∷ []) here ∙ sym range

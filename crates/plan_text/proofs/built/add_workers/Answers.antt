@@ -10,7 +10,8 @@ use Rattle.plan_text.proofs.built.add_workers.Goals as goal
 pub add_worker-requires-clause-known : goal.add_worker-requires-clause-known
 add_worker-requires-clause-known c =
     let racks = c.args.racks.now in
-    let tidy = All-unmap (IsTidyWorker racks) said_in c.args.rows.now c.requires.known c.loop-row.row-index no_row
+    let tidy = All-unmap (IsTidyWorker racks) said_in c.args.rows.now c.requires.known c.loop-row.row-index
+    no_row
     c.loop-row-test.true in
     subst (Contains racks) (sym c.word.ensures) tidy.rack
 

@@ -24,7 +24,8 @@ bar-requires-clause-known c =
     let found = c.in-Some.ensures in
     let same : row.keyword ≡ Barred =
     same_true the_type tt row.keyword Barred (sym c.eq.ensures ∙ c.if-eq.true) in
-    let bar = at_element (IsTidyBar (names_of Split rows) (names_of Worker rows)) (rows_of Barred rows) (said_in row)
+    let bar = at_element (IsTidyBar (names_of Split rows) (names_of Worker rows)) (rows_of Barred rows)
+    (said_in row)
     (tidy_bars rows c.requires.tidy)
     (row_of_keyword Barred rows c.loop-place.place (said_in row) found.0 found.1 same) in
     subst (λ (splits : List Word). IsTidyBar splits c.args.workers.now (said_in row)) (sym c.requires.splits)
@@ -43,7 +44,8 @@ loop-place-preserved c s n lt =
     let splits = c.args.splits.now in
     let workers = c.args.workers.now in
     let place = c.loop-place.place in
-    let Bars : List Statement → Type 0 = λ lines. HasPair c.match-row.set s n ↔ IsBarred splits workers lines s n in
+    let Bars : List Statement → Type 0 =
+    λ lines. HasPair c.match-row.set s n ↔ IsBarred splits workers lines s n in
     elim c.match-row.branch [
       | in-Some+then-eq w ↦
           let row : Row = w.in-Some.row in
@@ -54,7 +56,8 @@ loop-place-preserved c s n lt =
           (w.bar.ensures s n lt) (c.loop-place.invariant s n lt) in
           subst Bars (sym (rows_more Barred rows place (said_in row) found.0 found.1 same))
           (subst (λ set. HasPair set s n
-          ↔ IsBarred splits workers (rows_of Barred (take place rows) ++ said_in row ∷ []) s n) (sym w.set-is) step)
+          ↔ IsBarred splits workers (rows_of Barred (take place rows) ++ said_in row ∷ []) s n)
+          (sym w.set-is) step)
       | in-Some+else-eq w ↦
           let row : Row = w.in-Some.row in
           let found = w.in-Some.ensures in

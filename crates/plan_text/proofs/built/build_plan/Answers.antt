@@ -19,13 +19,13 @@ build_starts-requires-clause-few c =
 
 pub build_starts-requires-clause-names : goal.build_starts-requires-clause-names
 build_starts-requires-clause-names c =
-    c.in_ok-started.ensures
-    ∙ sym (ap names_in (ap (map said_in) c.deref.ensures.value ∙ c.in_ok-start_rows.ensures))
+    c.in_ok-started.ensures.names
+    ∙ sym (ap names_in (ap (map said_in) c.deref.ensures.value ∙ c.in_ok-started.ensures.rows))
 
 pub build_starts-requires-clause-known : goal.build_starts-requires-clause-known
 build_starts-requires-clause-known c =
     let rows = c.args.rows.now in
-    let lines = ap (map said_in) c.deref.ensures.value ∙ c.in_ok-start_rows.ensures in
+    let lines = ap (map said_in) c.deref.ensures.value ∙ c.in_ok-started.ensures.rows in
     subst (λ (l : List Statement). All (IsTidyStart c.args.workers.now) l) (sym lines)
     (subst (λ (ws : List Word). All (IsTidyStart ws) (rows_of Start rows)) (sym c.requires.workers)
     (tidy_starts rows c.requires.tidy))
@@ -33,7 +33,7 @@ build_starts-requires-clause-known c =
 pub from_starts-requires-clause-known : goal.from_starts-requires-clause-known
 from_starts-requires-clause-known c =
     let rows = c.args.rows.now in
-    let lines = ap (map said_in) c.deref.ensures.value ∙ c.in_ok-start_rows.ensures in
+    let lines = ap (map said_in) c.deref.ensures.value ∙ c.in_ok-started.ensures.rows in
     let starts : c.in_ok-starts.starts.items ≡ starts_in rows =
     c.in_ok-starts.ensures ∙ (λ i. map (start_at (c.requires.workers i) (lines i)) (c.requires.splits i)) in
     let count : c.len.result ≡ length (names_of Worker rows) = c.len.ensures ∙ ap length c.requires.workers in
@@ -43,6 +43,6 @@ from_starts-requires-clause-known c =
 
 pub returns-clause-starts : goal.returns-clause-starts
 returns-clause-starts c =
-    let lines = ap (map said_in) c.deref.ensures.value ∙ c.in_ok-start_rows.ensures in
+    let lines = ap (map said_in) c.deref.ensures.value ∙ c.in_ok-started.ensures.rows in
     c.from_starts.ensures.starts ∙ c.in_ok-starts.ensures
     ∙ (λ i. map (start_at (c.requires.workers i) (lines i)) (c.requires.splits i))

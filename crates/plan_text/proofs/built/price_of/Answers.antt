@@ -8,7 +8,8 @@ use Rattle.plan_text.proofs.built.price_of.Goals as goal
 pub number-requires-in-Some-clause-number : goal.number-requires-in-Some-clause-number
 number-requires-in-Some-clause-number c =
     let rows = c.args.rows.now in
-    let inside = row_inside rows c.args.priced.now c.args.name.now c.number.result c.in-Some.place c.requires.names
+    let inside = row_inside rows c.args.priced.now c.args.name.now c.number.result c.in-Some.place
+    c.requires.names
     c.number.ensures.number c.in-Some.is in
     subst IsNumber (sym c.word.ensures)
     (All-unmap IsTidyPrice said_in rows c.requires.amounts c.in-Some.place no_row inside).number
@@ -16,7 +17,8 @@ number-requires-in-Some-clause-number c =
 pub number-requires-in-Some-clause-small : goal.number-requires-in-Some-clause-small
 number-requires-in-Some-clause-small c =
     let rows = c.args.rows.now in
-    let inside = row_inside rows c.args.priced.now c.args.name.now c.number.result c.in-Some.place c.requires.names
+    let inside = row_inside rows c.args.priced.now c.args.name.now c.number.result c.in-Some.place
+    c.requires.names
     c.number.ensures.number c.in-Some.is in
     let small : number_of c.word.result.now ≤ 18446744073709551615 =
     subst (λ (w : Word). number_of w ≤ 18446744073709551615) (sym c.word.ensures)

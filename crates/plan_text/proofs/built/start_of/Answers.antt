@@ -19,6 +19,7 @@ worker_no-requires-clause-known c =
 pub returns : goal.returns
 returns c =
     let number = number_in c.args.workers.now in
-    let beside = beside_at c.args.rows.now c.args.started.now c.args.split.now c.number.result c.in_ok-place.place
+    let beside = beside_at c.args.rows.now c.args.started.now c.args.split.now c.number.result
+    c.in_ok-place.place
     c.requires.names c.number.ensures.number c.in_ok-place.was [] (word_at 1) in
     ap Some (c.worker_no.ensures.value ∙ ap number c.word.ensures) ∙ sym (ap (option_map number) beside)

@@ -14,7 +14,8 @@ loop-row-preserved c =
       ap (λ (t : Tree). t.centres) c.add_rack.ensures ∙ c.loop-row.invariant.0,
       ap (λ (t : Tree). t.centre_of) c.add_rack.ensures
           ∙ ap (λ (l : List ℕ). l ++ c.centre_no.result ∷ []) c.loop-row.invariant.1
-          ∙ ap (λ (n : ℕ). before ++ n ∷ []) (c.centre_no.ensures.value ∙ ap (number_in centres) c.word.ensures)
+          ∙ ap (λ (n : ℕ). before ++ n ∷ []) (c.centre_no.ensures.value
+          ∙ ap (number_in centres) c.word.ensures)
           ∙ sym (mapped_more (centre_number centres) said_in rows i no_row c.loop-row-test.true),
       ap (λ (t : Tree). t.rack_of) c.add_rack.ensures ∙ c.loop-row.invariant.2,
     )

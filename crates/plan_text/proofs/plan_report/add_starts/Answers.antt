@@ -1,7 +1,7 @@
 use Rattle.std.proofs.Common.{◌++◌, ◌≡◌, ◌∙◌, ap, string_bytes}
 use Rattle.wave_problem.specs.Assignment.{start_of}
 use Rattle.plan_text.specs.Report.{name_of, start_line}
-use Rattle.plan_text.proofs.PlanLines.{lines_more}
+use Rattle.text_lines.proofs.NumberedLines.{lines_more}
 use Rattle.plan_text.proofs.plan_report.add_starts.Goals as goal
 
 pub loop-number-preserved : goal.loop-number-preserved
@@ -10,10 +10,13 @@ loop-number-preserved c =
     let workers = c.args.workers.now in
     let starts = c.args.plan.now.starts in
     let n = c.loop-number.number in
-    let start : c.of-start.result ≡ start_of starts n = c.of-start.ensures.start ∙ ap (start_of starts) c.new.ensures in
+    let start : c.of-start.result ≡ start_of starts n =
+    c.of-start.ensures.start ∙ ap (start_of starts) c.new.ensures in
     let one : string_bytes c.add_start.new.lines
     ≡ string_bytes c.loop-number.lines ++ start_line workers (name_of splits n) (start_of starts n) =
     c.in_ok-add_start.ensures
-    ∙ ap (λ name. string_bytes c.loop-number.lines ++ start_line workers name c.of-start.result) c.name_at.ensures
+    ∙ ap (λ name. string_bytes c.loop-number.lines ++ start_line workers name c.of-start.result)
+    c.name_at.ensures
     ∙ ap (λ worker. string_bytes c.loop-number.lines ++ start_line workers (name_of splits n) worker) start in
-    lines_more (λ i. start_line workers (name_of splits i) (start_of starts i)) _ _ _ n c.loop-number.invariant one
+    lines_more (λ i. start_line workers (name_of splits i) (start_of starts i)) _ _ _ n
+    c.loop-number.invariant one

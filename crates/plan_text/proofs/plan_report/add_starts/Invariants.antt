@@ -7,4 +7,5 @@ use Rattle.plan_text.proofs.plan_report.add_starts.Given as goal
 abbrev pub invariant-loop-number : goal.invariant-loop-number
 invariant-loop-number l =
     string_bytes l.lines ≡ string_bytes l.initial.lines
-    ++ flat_map (λ s. start_line l.workers (name_of l.splits s) (start_of l.plan.starts s)) (range_with_len 0 l.number)
+    ++ flat_map (λ s. start_line l.workers (name_of l.splits s) (start_of l.plan.starts s))
+    (range_with_len 0 l.number)

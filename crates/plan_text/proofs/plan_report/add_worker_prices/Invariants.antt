@@ -6,4 +6,5 @@ use Rattle.plan_text.proofs.plan_report.add_worker_prices.Given as goal
 abbrev pub invariant-loop-number : goal.invariant-loop-number
 invariant-loop-number l =
     string_bytes l.lines ≡ string_bytes l.initial.lines
-    ++ flat_map (λ n. price_line (name_of l.workers n) (slice_index l.prices.workers n)) (range_with_len 0 l.number)
+    ++ flat_map (λ n. price_line (name_of l.workers n) (slice_index l.prices.workers n))
+    (range_with_len 0 l.number)

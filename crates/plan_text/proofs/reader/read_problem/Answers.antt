@@ -4,7 +4,8 @@ use Rattle.plan_text.proofs.reader.read_problem.Goals as goal
 
 pub build_problem_text-requires : goal.build_problem_text-requires
 build_problem_text-requires c =
-    rows_tidy Planning c.args.text.now c.in_ok-known.known c.in_ok-known.ensures.ok c.rows.result.now c.rows.ensures
+    rows_tidy Planning c.args.text.now c.in_ok-known.known c.in_ok-known.ensures.ok c.rows.result.now
+    c.rows.ensures
 
 pub returns-in-Ok-clause-ok : goal.returns-in-Ok-clause-ok
 returns-in-Ok-clause-ok c =

@@ -25,15 +25,18 @@ loop-place-preserved c = elim c.match-key.branch [
       same_true the_type tt w.in-Some.of c.args.keyword (sym w.eq.ensures ∙ w.if-eq.true) in
       w.names-is ∙ w.in_ok-declare-in-Some.ensures.ok
       ∙ ap (λ (l : List Word). l ++ w.in-Some.name.now ∷ []) c.loop-place.invariant
-      ∙ sym (names_more c.args.keyword c.requires.by_word c.args.rows.now c.loop-place.place w.in-Some.name.now
+      ∙ sym (names_more c.args.keyword c.requires.by_word c.args.rows.now c.loop-place.place
+      w.in-Some.name.now
       found.0 w.in-Some.of found.1 same)
   | in-Some+else-eq w ↦
       let found = w.in-Some.ensures in
       let other : w.in-Some.of ≡ c.args.keyword → ⊥ =
-      λ e. let same = sym (true_same the_type w.in-Some.of c.args.keyword e) ∙ sym w.eq.ensures ∙ w.if-eq.false in
+      λ e. let same = sym (true_same the_type w.in-Some.of c.args.keyword e) ∙ sym w.eq.ensures
+      ∙ w.if-eq.false in
       absurd cc in
       w.names-is ∙ c.loop-place.invariant
-      ∙ sym (names_same c.args.keyword c.requires.by_word c.args.rows.now c.loop-place.place w.in-Some.name.now
+      ∙ sym (names_same c.args.keyword c.requires.by_word c.args.rows.now c.loop-place.place
+      w.in-Some.name.now
       found.0 w.in-Some.of found.1 other)
   | in-None w ↦
       let past = w.in-None.ensures in

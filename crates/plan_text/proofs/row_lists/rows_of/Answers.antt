@@ -25,7 +25,8 @@ loop-place-preserved c = elim c.match-row.branch [
       let found = w.in-Some.ensures in
       let row : Row = w.in-Some.row in
       let other : row.keyword ≡ c.args.keyword → ⊥ =
-      λ e. let same = sym (true_same the_type row.keyword c.args.keyword e) ∙ sym w.eq.ensures ∙ w.if-eq.false in
+      λ e. let same = sym (true_same the_type row.keyword c.args.keyword e) ∙ sym w.eq.ensures
+      ∙ w.if-eq.false in
       absurd cc in
       ap (λ (v : _). map said_in v.items) w.found-is ∙ c.loop-place.invariant
       ∙ sym (rows_same c.args.keyword c.args.rows.now c.loop-place.place (said_in row) found.0 found.1 other)

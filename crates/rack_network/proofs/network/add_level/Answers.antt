@@ -1,10 +1,12 @@
 use Rattle.std.proofs.Common.{ℕ, ◌≡◌, ◌+◌, ◌-◌, ◌*◌, List, length, sym, ap, subst, Some, None, arith}
 use Rattle.wave_problem.specs.Wave.{split_at}
+use Rattle.wave_problem.proofs.Bound.{live_known}
 use Rattle.rack_network.specs.Racks.{node_above}
 use Rattle.rack_network.specs.Build.{passed, IsBuilt, IsNext}
 use Rattle.rack_network.proofs.Counts.{passed-le}
 use Rattle.rack_network.proofs.Nearest.{next_reach, next_past, next_least, next_none, next_passed}
 use Rattle.rack_network.proofs.Heights.{four_levels, level_opens}
+use Rattle.rack_network.proofs.Levels.{holder_live}
 use Rattle.rack_network.proofs.Rows.{reach_at, reach_step, reach_end, raise}
 use Rattle.rack_network.proofs.network.add_level.Goals as goal
 
@@ -33,8 +35,21 @@ add-requires-clause-wanted c =
     let place : ℕ = c.loop-holder.place in
     let next : IsNext wave (split_at wave s).holders level place (length (split_at wave s).holders) (Some h) =
     subst (λ (hs : List ℕ). IsNext wave hs level place (length hs) (Some h)) c.holders-holders.ensures.holders
-    c.in-Some.ensures in
+    (c.in-Some.ensures wave level c.places_of-places.ensures) in
     next_reach wave s level place c.requires.pending c.requires.no_bars c.requires.level h next
+
+pub place_above-place-requires-clause-worker : goal.place_above-place-requires-clause-worker
+place_above-place-requires-clause-worker c =
+    let wave = c.args.problem.now in
+    let s : ℕ = c.args.split in
+    let level : ℕ = c.args.level in
+    let h : ℕ = c.in-Some.holder in
+    let place : ℕ = c.loop-holder.place in
+    let next : IsNext wave (split_at wave s).holders level place (length (split_at wave s).holders) (Some h) =
+    subst (λ (hs : List ℕ). IsNext wave hs level place (length hs) (Some h)) c.holders-holders.ensures.holders
+    (c.in-Some.ensures wave level c.places_of-places.ensures) in
+    let reach = next_reach wave s level place c.requires.pending c.requires.no_bars c.requires.level h next in
+    live_known wave h (holder_live wave s h reach.holder)
 
 pub add-requires-clause-room : goal.add-requires-clause-room
 add-requires-clause-room c =
@@ -55,7 +70,7 @@ loop-holder-smaller c =
     let place : ℕ = c.loop-holder.place in
     let next : IsNext wave (split_at wave s).holders level place (length (split_at wave s).holders) (Some h) =
     subst (λ (hs : List ℕ). IsNext wave hs level place (length hs) (Some h)) c.holders-holders.ensures.holders
-    c.in-Some.ensures in
+    (c.in-Some.ensures wave level c.places_of-places.ensures) in
     let past = next_past wave s level place c.requires.pending c.requires.no_bars c.requires.level h next in
     let reach = next_reach wave s level place c.requires.pending c.requires.no_bars c.requires.level h next in
     let up = (reach_at wave c.requires.tree s level h reach).1 in
@@ -71,7 +86,7 @@ loop-holder-preserved c =
     let place : ℕ = c.loop-holder.place in
     let next : IsNext wave (split_at wave s).holders level place (length (split_at wave s).holders) (Some h) =
     subst (λ (hs : List ℕ). IsNext wave hs level place (length hs) (Some h)) c.holders-holders.ensures.holders
-    c.in-Some.ensures in
+    (c.in-Some.ensures wave level c.places_of-places.ensures) in
     let past = next_past wave s level place c.requires.pending c.requires.no_bars c.requires.level h next in
     let reach = next_reach wave s level place c.requires.pending c.requires.no_bars c.requires.level h next in
     let least = next_least wave s level place c.requires.pending c.requires.no_bars c.requires.level h next in
@@ -106,7 +121,7 @@ returns c =
     let limit : ℕ = 257 * s + 8 * (3 - level) in
     let next : IsNext wave (split_at wave s).holders level place (length (split_at wave s).holders) None =
     subst (λ (hs : List ℕ). IsNext wave hs level place (length hs) None) c.holders-holders.ensures.holders
-    c.in_default.ensures in
+    (c.in_default.ensures wave level c.places_of-places.ensures) in
     let none = next_none wave s level place c.requires.pending c.requires.no_bars c.requires.level next in
     let most = passed-le wave level place (split_at wave s).holders in
     let size = ap (λ (z : List ℕ). length z) c.holders-holders.ensures.holders in

@@ -8,6 +8,9 @@ add-requires-clause-room c =
     let few = c.requires.few in
     omega arith
 
+pub add_ways-requires-clause-built : goal.add_ways-requires-clause-built
+add_ways-requires-clause-built c = rw c.make_room.ensures c.requires.built
+
 pub returns : goal.returns
 returns c = record {
   built =

@@ -1,8 +1,9 @@
-use Rattle.std.proofs.Common.{◌<◌, length}
-use Rattle.std.specs.Prelude.{IfSome}
-use Rattle.rack_network.specs.Build.{IsNext}
+use Rattle.std.proofs.Common.{ℕ}
+use Rattle.wave_problem.specs.Wave.{Wave}
+use Rattle.rack_network.specs.Build.{ArePlaces, IsNext}
+use Rattle.rack_network.proofs.Nearest.{IsLeast}
 use Rattle.rack_network.proofs.network.next_reached.Given as goal
 
 abbrev pub invariant-loop-i : goal.invariant-loop-i
-invariant-loop-i l = IsNext l.problem l.holders l.level l.place l.i l.next
-    × IfSome l.next (λ h. h < length l.problem.workers)
+invariant-loop-i l = (wave : Wave) (level : ℕ) → ArePlaces wave l.holders level l.places
+    → IsNext wave l.holders level l.place l.i l.next × IsLeast wave level l.next l.least

@@ -1,7 +1,7 @@
 use Rattle.std.proofs.Common.{◌++◌, ◌≡◌, ◌∙◌, ℕ, List, [], ap, if◌then◌else◌, string_bytes}
 use Rattle.node_ids.specs.Sets.{has_number}
 use Rattle.report_lines.specs.Lines.{dead_line}
-use Rattle.report_lines.proofs.Growing.{lines_more}
+use Rattle.text_lines.proofs.NumberedLines.{lines_more}
 use Rattle.report_lines.proofs.answers.add_dead.Goals as goal
 
 pub loop-number-preserved : goal.loop-number-preserved

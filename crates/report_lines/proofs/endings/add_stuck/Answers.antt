@@ -1,9 +1,10 @@
-use Rattle.std.proofs.Common.{◌++◌, ◌≡◌, ◌∙◌, ℕ, List, [], ap, not, rules, if◌then◌else◌, slice_index_or, string_bytes}
+use Rattle.std.proofs.Common.{◌++◌, ◌≡◌, ◌∙◌, ℕ, List, [], ap, not, rules, if◌then◌else◌, slice_index_or}
+use Rattle.std.proofs.Common.{string_bytes}
 use Rattle.std.proofs.lemmas.List.{get_or_default}
 use Rattle.master_state.specs.declared.states.SplitState.TheVariants.{Pending}
 use Rattle.master_state.specs.Tests.{is_done}
 use Rattle.report_lines.specs.Lines.{is_open, open_line}
-use Rattle.report_lines.proofs.Growing.{lines_more}
+use Rattle.text_lines.proofs.NumberedLines.{lines_more}
 use Rattle.report_lines.proofs.endings.add_stuck.Goals as goal
 
 pub loop-number-preserved : goal.loop-number-preserved

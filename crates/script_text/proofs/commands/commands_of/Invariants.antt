@@ -9,4 +9,5 @@ abbrev pub invariant-loop-place : goal.invariant-loop-place
 invariant-loop-place l =
     (length l.commands.items ≡ l.place)
     × ((k : ℕ) (c : Command) → k < length l.commands.items
-    → (s : Statement) → SaysCommand l.names (slice_index_or l.lines k s) (slice_index_or l.commands.items k c))
+    → (s : Statement) →
+    SaysCommand l.names (slice_index_or l.lines k s) (slice_index_or l.commands.items k c))

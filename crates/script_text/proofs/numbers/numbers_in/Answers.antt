@@ -8,11 +8,11 @@ pub loop-place-preserved : goal.loop-place-preserved
 loop-place-preserved c =
     let ws = map (λ w. w.now) c.args.words.now in
     let xs = c.loop-place.numbers.items in
-    let number = c.in-Some.number in
+    let number = c.number_at.result in
     let items = c.in_ok-push.ensures.items in
     let P : ℕ → ℕ → Type 0 = λ k n. IsTold (word_at ws k) n in
     let last : P (length xs) number =
-    subst (λ i. IsTold (word_at ws i) number) (sym c.loop-place.invariant.0) c.in-Some.ensures in (
+    subst (λ i. IsTold (word_at ws i) number) (sym c.loop-place.invariant.0) c.number_at.ensures in (
       omega (arith, c.loop-place.invariant.0, ap length items, length-append xs (number ∷ [])),
       subst (λ (ys : List ℕ). (k d : ℕ) → k < length ys → P k (get_or ys k d)) (sym items)
           (each_pushed P xs number c.loop-place.invariant.1 last),

@@ -17,23 +17,28 @@ keep-requires-clause-counts g c =
     let history = c.args.master.now.history in
     let event = c.index-history-place.result in
     let stands = last_event history c.args.answer c.in-Accepted.place event c.in-Accepted.is c.requires.place
-    (subst (λ (h : List Event). event ≡ get_or h (c.in-Accepted.place - 1) event) c.history.ensures.value c.index-history-place.is) in
-    sym (last_counts history c.args.answer c.in-Accepted.place _ event c.in-Accepted.is c.requires.counts stands).0
+    (subst (λ (h : List Event). event ≡ get_or h (c.in-Accepted.place - 1) event) c.history.ensures.value
+    c.index-history-place.is) in
+    sym (last_counts history c.args.answer c.in-Accepted.place _ event c.in-Accepted.is c.requires.counts
+    stands).0
 
 pub keep-requires-clause-starts : goal.keep-requires-clause-starts
 keep-requires-clause-starts g c =
     let history = c.args.master.now.history in
     let event = c.index-history-place.result in
     let stands = last_event history c.args.answer c.in-Accepted.place event c.in-Accepted.is c.requires.place
-    (subst (λ (h : List Event). event ≡ get_or h (c.in-Accepted.place - 1) event) c.history.ensures.value c.index-history-place.is) in
-    sym (last_counts history c.args.answer c.in-Accepted.place _ event c.in-Accepted.is c.requires.counts stands).1
+    (subst (λ (h : List Event). event ≡ get_or h (c.in-Accepted.place - 1) event) c.history.ensures.value
+    c.index-history-place.is) in
+    sym (last_counts history c.args.answer c.in-Accepted.place _ event c.in-Accepted.is c.requires.counts
+    stands).1
 
 pub keep-requires-clause-room : goal.keep-requires-clause-room
 keep-requires-clause-room g c =
     let history = c.args.master.now.history in
     let event = c.index-history-place.result in
     let stands = last_event history c.args.answer c.in-Accepted.place event c.in-Accepted.is c.requires.place
-    (subst (λ (h : List Event). event ≡ get_or h (c.in-Accepted.place - 1) event) c.history.ensures.value c.index-history-place.is) in
+    (subst (λ (h : List Event). event ≡ get_or h (c.in-Accepted.place - 1) event) c.history.ensures.value
+    c.index-history-place.is) in
     last_room c.args.hand.now _ event
     (last_counts history c.args.answer c.in-Accepted.place _ event c.in-Accepted.is c.requires.counts stands)
     c.requires.room
@@ -43,7 +48,8 @@ returns-in-Accepted-clause-hand g c = λ e at.
     let history = c.args.master.now.history in
     let event = c.index-history-place.result in
     let stands = last_event history c.args.answer c.in-Accepted.place event c.in-Accepted.is c.requires.place
-    (subst (λ (h : List Event). event ≡ get_or h (c.in-Accepted.place - 1) event) c.history.ensures.value c.index-history-place.is) in
+    (subst (λ (h : List Event). event ≡ get_or h (c.in-Accepted.place - 1) event) c.history.ensures.value
+    c.index-history-place.is) in
     c.keep.ensures.value
     ∙ last_kept history c.args.answer c.in-Accepted.place event e c.args.hand.now c.args.counts.now
     c.in-Accepted.is stands at

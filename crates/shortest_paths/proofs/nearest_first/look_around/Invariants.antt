@@ -12,6 +12,7 @@ invariant-loop-arc g l = record {
   level : l.frontier.level ≡ l.fn.frontier.level;
   over : LooksOver l.fn.meter.network.arcs l.fn.meter.network.flows (slice_index l.potentials) l.node l.known
       (take l.arc-index (leaving_of l.fn.meter.network.arcs l.node)) l.fn.labels l.labels;
-  waits : (settled : List Bool) → IsFrontier l.fn.labels settled l.fn.frontier.level l.fn.frontier.near.items l.fn.frontier.far
+  waits : (settled : List Bool) →
+      IsFrontier l.fn.labels settled l.fn.frontier.level l.fn.frontier.near.items l.fn.frontier.far
       → IsFrontier l.labels settled l.frontier.level l.frontier.near.items l.frontier.far;
 }

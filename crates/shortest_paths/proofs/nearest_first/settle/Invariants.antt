@@ -10,7 +10,8 @@ abbrev pub invariant-loop-node : goal.invariant-loop-node
 invariant-loop-node g l = record {
   network : l.meter.network ≡ l.fn.meter.network;
   count : l.meter.count ≡ marked_sum l.settled 0 (λ u. length (leaving_of l.fn.meter.network.arcs u));
-  search : IsSearch l.fn.meter.network.arcs l.fn.meter.network.flows (slice_index l.potentials) l.start (length l.potentials) l.settled l.labels;
+  search : IsSearch l.fn.meter.network.arcs l.fn.meter.network.flows (slice_index l.potentials) l.start
+      (length l.potentials) l.settled l.labels;
   waits : IsFrontier l.labels l.settled l.frontier.level l.frontier.near.items l.frontier.far;
 }
 

@@ -8,5 +8,7 @@ pub loop-result-preserved : goal.loop-result-preserved
 loop-result-preserved c = record {
   value = grind (arith, common_steps);
   bound = grind (arith, common_steps);
-  in_range = all_more (λ (one : PartView). one.part < one.parts) c.args.results.now c.loop-result.result-index c.loop-result-test.true c.result-item.is c.loop-result.invariant.in_range c.part.ensures.in_range;
+  in_range = all_more (λ (one : PartView). one.part < one.parts) c.args.results.now
+      c.loop-result.result-index c.loop-result-test.true c.result-item.is c.loop-result.invariant.in_range
+      c.part.ensures.in_range;
 }

@@ -15,7 +15,9 @@ returns c = (
   (λ h. absurd (false≢true h)),
   (λ m.
       let some : 0 < c.loop-part.part = omega (arith, c.requires.some, c.loop-part-test.false) in
-      let low : m.0 < c.args.parts = part_in_range c.args.results.now c.args.parts m.0 (c.loop-part.invariant.in_range some) c.requires.same (omega (arith, m.1)) in
+      let low : m.0 < c.args.parts =
+      part_in_range c.args.results.now c.args.parts m.0 (c.loop-part.invariant.in_range some)
+      c.requires.same (omega (arith, m.1)) in
       let counted : m.0 < c.loop-part.part = omega (arith, c.loop-part-test.false) in
       absurd (omega (arith, c.loop-part.invariant.single m.0 counted, m.1))),
 )

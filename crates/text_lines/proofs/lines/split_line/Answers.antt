@@ -1,4 +1,5 @@
-use Rattle.std.proofs.Common.{rules, ℕ, List, ◌==◌, ◌+◌, ◌-◌, ◌≡◌, arith, ◌∙◌, ap, sym, ◌∷◌, take, drop, length, take_all, length-drop}
+use Rattle.std.proofs.Common.{rules, ℕ, List, ◌==◌, ◌+◌, ◌-◌, ◌≡◌, arith, ◌∙◌, ap, sym, ◌∷◌, take, drop}
+use Rattle.std.proofs.Common.{length, take_all, length-drop}
 use Rattle.text_lines.proofs.Splitting.{cut_none, cut_some}
 use Rattle.std.proofs.lemmas.List.Quantifiers.{position-Some}
 use Rattle.text_lines.specs.Texts.{lines_of}

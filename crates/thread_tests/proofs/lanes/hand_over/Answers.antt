@@ -13,7 +13,13 @@ returns-in-Ok g c =
     ≡ record { lane = c.in_ok-lane.lane.lane; puts = []; takes = []; depth = 0 } = search rules in
     let half = c.share.ensures.half in
     let shared : c.in_ok-taker.taker
-    ≡ record { lane = c.in_ok-lane.lane.lane; puts = []; takes = []; depth = c.in_ok-lane.putter.depth + 1 } = search rules in
+    ≡ record {
+      lane = c.in_ok-lane.lane.lane;
+      puts = [];
+      takes = [];
+      depth =
+          c.in_ok-lane.putter.depth + 1;
+    } = search rules in
     let empty : c.in_ok-passes.passes.items ≡ [] = search rules in
     let puts : p.puts ≡ orders =
     ap (λ x. x.puts) done.ensures.putter ∙ ap (λ x. x.puts ++ orders) half

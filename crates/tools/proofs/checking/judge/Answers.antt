@@ -19,7 +19,8 @@ returns-in_ok-certified-in-Ok c =
     subst (λ (r : Result Certified Condition). IsVerdict made r) c.in-Ok.is c.requires in
     record {
       certifies = is.certifies;
-      best = certified-best made (subst IsWithinReach c.tree.ensures.tree c.reach-reach.ensures.most) is.certifies;
+      best = certified-best made (subst IsWithinReach c.tree.ensures.tree c.reach-reach.ensures.most)
+          is.certifies;
       said = c.in_ok-certified-in-Ok.ensures ∙ ap (λ (n : ℕ). certified_line n said.cost) is.count
           ∙ ap (λ (n : ℕ). certified_line (count_of made) n) is.cost;
     }

@@ -1,4 +1,5 @@
-use Rattle.word_map.proofs.RunLemmas.{run_from_span, begins_after, adds_one_more, adds_all, boundary_after_run}
+use Rattle.word_map.proofs.RunLemmas.{run_from_span, begins_after, adds_one_more, adds_all}
+use Rattle.word_map.proofs.RunLemmas.{boundary_after_run}
 use Rattle.word_map.proofs.tokens.note_words.Goals as goal
 
 pub range-requires-clause-end_boundary : goal.range-requires-clause-end_boundary

@@ -1,4 +1,4 @@
-use Rattle.std.proofs.Common.{◌≡◌, arith, ap, sym, subst, ◌∙◌, length, slice_index}
+use Rattle.std.proofs.Common.{arith, ap, sym, subst, ◌∙◌, length, slice_index}
 use Rattle.std.specs.List.{sum_by, All}
 use Rattle.beat_board.specs.declared.view.View.{View}
 use Rattle.beat_board.specs.Values.{ReaderValue, AreWithin, down_from}

@@ -6,7 +6,8 @@ use Rattle.certificate_checker.proofs.checker.Checker.check_open.Goals as goal
 
 pub returns-then-not-opens-clause-err : goal.returns-then-not-opens-clause-err
 returns-then-not-opens-clause-err c =
-    series_first c.args.self.now 1 Open open_series c.loop-i.i c.new-split.result c.opens.result c.new-split.ensures c.opens.ensures c.if-not-opens.true c.loop-i.invariant
+    series_first c.args.self.now 1 Open open_series c.loop-i.i c.new-split.result c.opens.result
+    c.new-split.ensures c.opens.ensures c.if-not-opens.true c.loop-i.invariant
 
 pub returns-clause-ok : goal.returns-clause-ok
 returns-clause-ok c =

@@ -4,7 +4,8 @@ use Rattle.price_certificate.specs.Certificate.{priced_at}
 use Rattle.wave_problem.specs.Wave.{reward}
 use Rattle.certificate_checker.proofs.Past.{rows_more, started_here, started_none}
 use Rattle.certificate_checker.proofs.checker.Checker.check_tight.Goals as goal
-use Rattle.certificate_checker.proofs.checker.Checker.check_tight.Goals.{in-Some+else-not-is_tight, in_default}
+use Rattle.certificate_checker.proofs.checker.Checker.check_tight.Goals.{in-Some+else-not-is_tight}
+use Rattle.certificate_checker.proofs.checker.Checker.check_tight.Goals.{in_default}
 
 pub loop-i-preserved : goal.loop-i-preserved
 loop-i-preserved c =
@@ -16,5 +17,6 @@ loop-i-preserved c =
           (λ v. priced_at claim.wave claim.prices s v ≡ reward claim.wave) c.start.ensures.start w.in-Some.is
           (w.is_tight.ensures.0 w.if-not-is_tight.false)
       | in_default w ↦ started_none claim.starts s c.start.result
-          (λ v. priced_at claim.wave claim.prices s v ≡ reward claim.wave) c.start.ensures.start w.in_default.is
+          (λ v. priced_at claim.wave claim.prices s v ≡ reward claim.wave) c.start.ensures.start
+          w.in_default.is
     ])

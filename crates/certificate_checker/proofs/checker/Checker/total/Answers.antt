@@ -14,7 +14,8 @@ loop-i-preserved c =
     let within : i < length claim.starts = omega arith in
     elim c.match-start.branch [
       | in-Some w ↦
-          let more = total_more claim.wave claim.starts i w.in-Some.worker c.start.result within here w.in-Some.is in
+          let more = total_more claim.wave claim.starts i w.in-Some.worker c.start.result within here
+          w.in-Some.is in
           let same : w.cost-total.result ≡ unwrap_or (cost claim.wave i w.in-Some.worker) 0 =
           w.cost-total.ensures.cost
           ∙ ap (λ (z : ℕ). unwrap_or (cost claim.wave z w.in-Some.worker) 0) c.new-split.ensures in (

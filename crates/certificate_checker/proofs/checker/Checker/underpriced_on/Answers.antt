@@ -1,6 +1,6 @@
 use Rattle.std.proofs.Common.{◌≡◌, ◌<◌, ◌-◌, ◌∙◌, length, ap, arith}
 use Rattle.std.specs.List.{range_with_len}
-use Rattle.price_certificate.specs.Certificate.{AllHold}
+use Rattle.price_certificate.specs.Certificate.{AllHold, of_split_price, of_worker_price}
 use Rattle.certificate_checker.specs.Verdict.{IsFirstUnderpriced}
 use Rattle.certificate_checker.proofs.Rows.{rows-at, rows-long}
 use Rattle.rayon.specs.Numbers.{nat_range}
@@ -14,9 +14,16 @@ collect-requires-clause-ready g c κs within =
     let claim = c.args.self.now in
     let ends = c.into_par_iter.ensures in
     let n = c.splits.result in
-    let inside = nat_range-All (λ i. (i < length claim.wave.splits) × (i < 1024) × AllHold claim 4 × AllHold claim 5) 0 n
-    (λ i low high. (omega (arith, c.splits.ensures.count), omega (arith, c.splits.ensures.limit), c.requires.split_prices, c.requires.worker_prices)) in
-    rw (c.with_min_len.ensures.base, c.map.ensures.base, c.map.ensures.f, ends.0, ends.1) (λ k d lt. (inside k d lt, λ y p. tt))
+    let inside = nat_range-All (λ i. (i < length claim.wave.splits) × (i < 1024)
+    × AllHold claim of_split_price × AllHold claim of_worker_price) 0 n
+    (λ i low high. (
+      omega (arith, c.splits.ensures.count),
+      omega (arith, c.splits.ensures.limit),
+      c.requires.split_prices,
+      c.requires.worker_prices,
+    )) in
+    rw (c.with_min_len.ensures.base, c.map.ensures.base, c.map.ensures.f, ends.0, ends.1)
+    (λ k d lt. (inside k d lt, λ y p. tt))
 
 pub returns-clause-one_each : goal.returns-clause-one_each
 returns-clause-one_each g c =

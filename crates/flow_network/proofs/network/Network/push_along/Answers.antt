@@ -7,4 +7,5 @@ pub push_units-requires-clause-residual : goal.push_units-requires-clause-residu
 push_units-requires-clause-residual g c =
     let arcs = ap (λ (f : Flow g.row.L.Denot). f.arcs) c.self.view_is in
     let flows = ap (λ (f : Flow g.row.L.Denot). f.flows) c.self.view_is in
-    rw (c.deref.ensures.value, c.deref_mut.ensures.value, arcs, flows) (AllResidual-path _ _ _ _ _ c.requires.path)
+    rw (c.deref.ensures.value, c.deref_mut.ensures.value, arcs, flows)
+    (AllResidual-path _ _ _ _ _ c.requires.path)

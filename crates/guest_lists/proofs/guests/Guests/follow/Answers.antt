@@ -1,4 +1,5 @@
-use Rattle.std.proofs.Common.{◌≡◌, ◌<◌, ◌≤◌, ◌+◌, ℕ, suc, List, ◌∷◌, length, get_or, drop, refl, ap, sym, ◌∙◌, subst, arith}
+use Rattle.std.proofs.Common.{◌≡◌, ◌<◌, ◌+◌, ℕ, suc, List, ◌∷◌, length, get_or, drop, refl, ap, ◌∙◌}
+use Rattle.std.proofs.Common.{subst, arith}
 use Rattle.std.proofs.Math.Seq.{drop-cons}
 use Rattle.std.proofs.Math.ListN.{drop_of_length-le}
 use Rattle.flow_network.specs.declared.arcs.FlowArc.{FlowArc}
@@ -15,12 +16,13 @@ pub loop-arc-init : goal.loop-arc-init
 loop-arc-init g c = record {
   lists = refl;
   size = refl;
-  following = λ flows e t. following_begins _ _ _ _ _ e t;
+  following = λ flows e once t. following_begins _ _ _ _ _ e once t;
 }
 
 pub offset_bounds-all_arcs-k : goal.offset_bounds-all_arcs-k
 offset_bounds-all_arcs-k g c =
-    let here : arc_index (get_or c.args.path.now c.loop-arc.arc-index (Forward 0)) < length c.args.network.now.arcs =
+    let here : arc_index (get_or c.args.path.now c.loop-arc.arc-index (Forward 0)) < length
+    c.args.network.now.arcs =
     c.requires.path _ (in_at c.args.path.now c.loop-arc.arc-index (Forward 0) c.loop-arc-test.true) in
     let number = c.number-k.ensures in
     let size = ap length c.all_arcs.ensures in
@@ -29,7 +31,8 @@ offset_bounds-all_arcs-k g c =
 
 pub bounds-all_arcs-k : goal.bounds-all_arcs-k
 bounds-all_arcs-k g c =
-    let here : arc_index (get_or c.args.path.now c.loop-arc.arc-index (Forward 0)) < length c.args.network.now.arcs =
+    let here : arc_index (get_or c.args.path.now c.loop-arc.arc-index (Forward 0)) < length
+    c.args.network.now.arcs =
     c.requires.path _ (in_at c.args.path.now c.loop-arc.arc-index (Forward 0) c.loop-arc-test.true) in
     let number = c.number-k.ensures in
     let size = ap length c.all_arcs.ensures in
@@ -38,7 +41,8 @@ bounds-all_arcs-k g c =
 
 pub offset_bounds-all_flows-k : goal.offset_bounds-all_flows-k
 offset_bounds-all_flows-k g c =
-    let here : arc_index (get_or c.args.path.now c.loop-arc.arc-index (Forward 0)) < length c.args.network.now.arcs =
+    let here : arc_index (get_or c.args.path.now c.loop-arc.arc-index (Forward 0)) < length
+    c.args.network.now.arcs =
     c.requires.path _ (in_at c.args.path.now c.loop-arc.arc-index (Forward 0) c.loop-arc-test.true) in
     let number = c.number-k.ensures in
     let size = ap length c.all_arcs.ensures in
@@ -49,7 +53,8 @@ offset_bounds-all_flows-k g c =
 
 pub bounds-all_flows-k : goal.bounds-all_flows-k
 bounds-all_flows-k g c =
-    let here : arc_index (get_or c.args.path.now c.loop-arc.arc-index (Forward 0)) < length c.args.network.now.arcs =
+    let here : arc_index (get_or c.args.path.now c.loop-arc.arc-index (Forward 0)) < length
+    c.args.network.now.arcs =
     c.requires.path _ (in_at c.args.path.now c.loop-arc.arc-index (Forward 0) c.loop-arc-test.true) in
     let number = c.number-k.ensures in
     let size = ap length c.all_arcs.ensures in
@@ -60,7 +65,8 @@ bounds-all_flows-k g c =
 
 pub settle-requires-clause-from : goal.settle-requires-clause-from
 settle-requires-clause-from g c =
-    let here : arc_index (get_or c.args.path.now c.loop-arc.arc-index (Forward 0)) < length c.args.network.now.arcs =
+    let here : arc_index (get_or c.args.path.now c.loop-arc.arc-index (Forward 0)) < length
+    c.args.network.now.arcs =
     c.requires.path _ (in_at c.args.path.now c.loop-arc.arc-index (Forward 0) c.loop-arc-test.true) in
     let number = c.number-k.ensures in
     let size = ap length c.all_arcs.ensures in
@@ -72,7 +78,8 @@ settle-requires-clause-from g c =
 
 pub settle-requires-clause-to : goal.settle-requires-clause-to
 settle-requires-clause-to g c =
-    let here : arc_index (get_or c.args.path.now c.loop-arc.arc-index (Forward 0)) < length c.args.network.now.arcs =
+    let here : arc_index (get_or c.args.path.now c.loop-arc.arc-index (Forward 0)) < length
+    c.args.network.now.arcs =
     c.requires.path _ (in_at c.args.path.now c.loop-arc.arc-index (Forward 0) c.loop-arc-test.true) in
     let number = c.number-k.ensures in
     let size = ap length c.all_arcs.ensures in
@@ -84,30 +91,37 @@ settle-requires-clause-to g c =
 
 pub loop-arc-preserved : goal.loop-arc-preserved
 loop-arc-preserved g c =
-    let here : arc_index (get_or c.args.path.now c.loop-arc.arc-index (Forward 0)) < length c.args.network.now.arcs =
+    let here : arc_index (get_or c.args.path.now c.loop-arc.arc-index (Forward 0)) < length
+    c.args.network.now.arcs =
     c.requires.path _ (in_at c.args.path.now c.loop-arc.arc-index (Forward 0) c.loop-arc-test.true) in
     let number = c.number-k.ensures in
     let size = ap length c.all_arcs.ensures in
     let inside : c.number-k.result < length c.args.network.now.arcs = omega arith in
     let more : suc c.loop-arc.arc-index ≡ c.loop-arc.arc-index + 1 = omega arith in
     let rest : drop c.loop-arc.arc-index c.args.path.now
-    ≡ get_or c.args.path.now c.loop-arc.arc-index (Forward 0) ∷ drop (c.loop-arc.arc-index + 1) c.args.path.now =
+    ≡ get_or c.args.path.now c.loop-arc.arc-index (Forward 0) ∷ drop (c.loop-arc.arc-index
+    + 1) c.args.path.now =
     drop-cons c.args.path.now c.loop-arc.arc-index (Forward 0) c.loop-arc-test.true
     ∙ ap (λ n. get_or c.args.path.now c.loop-arc.arc-index (Forward 0) ∷ drop n c.args.path.now) more in
     record {
       lists = c.settle.ensures.lists
-          ∙ ap (λ (w : GuestLists). record w { standing = c.settle.new.self.standing }) c.loop-arc.invariant.lists;
+          ∙ ap (λ (w : GuestLists). record w { standing = c.settle.new.self.standing })
+          c.loop-arc.invariant.lists;
       size = c.settle.ensures.size ∙ c.loop-arc.invariant.size;
-      following = λ flows e t. c.in_ok-settle.ensures.following c.args.network.now.arcs c.args.network.now.flows
-          (get_or c.args.path.now c.loop-arc.arc-index (Forward 0)) (drop (c.loop-arc.arc-index + 1) c.args.path.now)
-          inside (sym number) (ap (λ (arcs : List FlowArc). arc_at arcs c.number-k.result) c.all_arcs.ensures)
-          (ap (λ (f : List ℕ). get_or f c.number-k.result 0) c.all_flows.ensures)
-          (subst (λ (path : List ArcNo). IsFollowing c.args.network.now.arcs c.args.network.now.flows path c.loop-arc.self)
-          rest (c.loop-arc.invariant.following flows e t));
+      following = λ flows e once t. c.in_ok-settle.ensures.following c.args.network.now.arcs
+          c.args.network.now.flows (drop (c.loop-arc.arc-index + 1) c.args.path.now) here
+          (ap (λ (arcs : List FlowArc). arc_at arcs c.number-k.result) c.all_arcs.ensures
+          ∙ ap (arc_at c.args.network.now.arcs) number)
+          (ap (λ (f : List ℕ). get_or f c.number-k.result 0) c.all_flows.ensures
+          ∙ ap (λ (k : ℕ). get_or c.args.network.now.flows k 0) number)
+          (subst (λ (path : List ArcNo). IsFollowing c.args.network.now.arcs c.args.network.now.flows path
+          c.loop-arc.self)
+          rest (c.loop-arc.invariant.following flows e once t));
     }
 
 pub returns-clause-standing : goal.returns-clause-standing
-returns-clause-standing g c = λ flows e t. following_ends _ _ _
-    (subst (λ (path : List ArcNo). IsFollowing c.args.network.now.arcs c.args.network.now.flows path c.loop-arc.self)
+returns-clause-standing g c = λ flows e once t. following_ends _ _ _
+    (subst (λ (path : List ArcNo). IsFollowing c.args.network.now.arcs c.args.network.now.flows path
+    c.loop-arc.self)
     (drop_of_length-le c.args.path.now {i = c.loop-arc.arc-index} c.loop-arc-test.false)
-    (c.loop-arc.invariant.following flows e t))
+    (c.loop-arc.invariant.following flows e once t))

@@ -11,7 +11,8 @@ use Rattle.job_run.proofs.given.GivenRuns.put.Goals as goal
 pub returns : goal.returns
 returns c =
     let given = c.args.runs.items in
-    map-set (λ (runs : Vec (Arc RunView Global) Global). runs.items) c.self.inside.of_parts.items c.index.result
+    map-set (λ (runs : Vec (Arc RunView Global) Global). runs.items) c.self.inside.of_parts.items
+    c.index.result
     c.args.runs
     ∙ ap (λ (table : List Runs). slice_set table c.index.result given) c.self.view_is
     ∙ ap (λ (i : ℕ). slice_set c.args.self.now i given) c.index.ensures.value

@@ -12,4 +12,5 @@ pub returns-then-not-is_new : goal.returns-then-not-is_new
 returns-then-not-is_new c =
     least_repeated _ _ (c.is_whole.ensures.0 c.if-not-is_whole.false)
     (c.may_stand.ensures.0 c.if-not-may_stand.false) (c.is_named.ensures.0 c.if-not-is_named.false)
-    (c.is_known.ensures.0 c.if-not-is_known.false) (λ h. true≢false (sym (c.is_new.ensures.1 h) ∙ c.if-not-is_new.true))
+    (c.is_known.ensures.0 c.if-not-is_known.false)
+    (λ h. true≢false (sym (c.is_new.ensures.1 h) ∙ c.if-not-is_new.true))

@@ -1,4 +1,4 @@
-use Rattle.std.proofs.Common.{◌≡◌, None, refl, ap, sym, ◌∙◌}
+use Rattle.std.proofs.Common.{◌≡◌, None, refl, ap, ◌∙◌}
 use Rattle.master_state.specs.declared.states.Attempt.{Attempt}
 use Rattle.master_state.specs.States.{next_attempt}
 use Rattle.master_state.specs.Refusals.{Call, Backup, refusal}

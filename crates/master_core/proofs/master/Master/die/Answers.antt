@@ -7,7 +7,8 @@ use Rattle.master_state.specs.Changes.{died}
 use Rattle.master_state.proofs.Reasons.{none_applies}
 use Rattle.master_core.specs.declared.master.Master.TheInside.{Inside}
 use Rattle.master_core.specs.Inside.{setup_of, state_of}
-use Rattle.master_core.proofs.Accepting.{refusal_of, has_place, few_events, accepted, counted_from, master_after, worker_in_table, known_at, one_more}
+use Rattle.master_core.proofs.Accepting.{refusal_of, has_place, few_events, accepted, counted_from}
+use Rattle.master_core.proofs.Accepting.{master_after, worker_in_table, known_at, one_more}
 use Rattle.master_core.proofs.master.Master.die.Goals as goal
 
 pub bury-requires : goal.bury-requires

@@ -8,7 +8,8 @@ use Rattle.master_state.specs.Changes.{after}
 use Rattle.master_state.proofs.Reasons.{none_applies}
 use Rattle.master_core.specs.declared.master.Master.TheInside.{Inside}
 use Rattle.master_core.specs.Inside.{setup_of, state_of}
-use Rattle.master_core.proofs.Accepting.{refusal_of, has_place, few_events, accepted, master_after, split_in_map, known_at, one_more}
+use Rattle.master_core.proofs.Accepting.{refusal_of, has_place, few_events, accepted, master_after}
+use Rattle.master_core.proofs.Accepting.{split_in_map, known_at, one_more}
 use Rattle.master_core.proofs.master.Master.lose.Goals as goal
 
 pub drop_holder-requires : goal.drop_holder-requires

@@ -1,6 +1,5 @@
 use Rattle.std.proofs.Common.{◌≡◌, refl, ap, sym, ◌∙◌, subst, false, true}
 use Rattle.master_state.specs.Refusals.{MapDone, is_full, is_wrong_map, no_split_runs}
-use Rattle.master_state.specs.declared.answers.Why.TheVariants.{WrongInput, HistoryFull}
 use Rattle.master_state.specs.Jobs.{IsAccepted, Job}
 use Rattle.master_core.specs.declared.master.Master.TheInside.{Inside}
 use Rattle.master_core.specs.Inside.{job_of, setup_of, state_of}
@@ -8,7 +7,8 @@ use Rattle.master_tables.specs.Places.{RunsSplit}
 use Rattle.master_core.proofs.Accepting.{accepted_at, master_after}
 use Rattle.master_core.proofs.Ended.{is_false}
 use Rattle.master_core.proofs.Found.{entry_at, text_known, tidy_at}
-use Rattle.master_core.proofs.Completing.{done_accepted, first_reason, made_done, map_refusal, numbered, of_split, second_reason, split_taken}
+use Rattle.master_core.proofs.Completing.{done_accepted, first_reason, made_done, map_refusal, numbered}
+use Rattle.master_core.proofs.Completing.{of_split, second_reason, split_taken}
 use Rattle.master_core.proofs.master.Master.map_done.Goals as goal
 
 pub is_wrong_map-requires : goal.is_wrong_map-requires

@@ -57,7 +57,8 @@ invariant_of-self c =
     let old = c.self.inside in
     let a = c.args.attempt in
     let split = c.in-Some.found.split in
-    master_after old (new_of c) (MapFailed c.args.attempt) c.record_event.result c.self.invariant (accepted_here c)
+    master_after old (new_of c) (MapFailed c.args.attempt) c.record_event.result c.self.invariant
+    (accepted_here c)
     (record {
       events = rw c.record_event.ensures.capacity c.self.invariant.room.events;
       attempts = c.self.invariant.room.attempts;
@@ -70,5 +71,6 @@ invariant_of-self c =
 
 pub returns : goal.returns
 returns c =
-    accepted_at c.self.inside (new_of c) c.args.self.now (MapFailed c.args.attempt) c.record_event.result c.self.view_is
+    accepted_at c.self.inside (new_of c) c.args.self.now (MapFailed c.args.attempt) c.record_event.result
+    c.self.view_is
     (accepted_here c)

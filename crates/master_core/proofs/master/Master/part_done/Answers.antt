@@ -1,4 +1,4 @@
-use Rattle.std.proofs.Common.{◌≡◌, ◌<◌, refl, ap, sym, ◌∙◌, subst, arith, false, true, length}
+use Rattle.std.proofs.Common.{◌≡◌, refl, ap, sym, ◌∙◌, subst, false, true}
 use Rattle.master_state.specs.Refusals.{PartDone, is_full, is_wrong_part, no_part_runs}
 use Rattle.master_state.specs.Jobs.{IsAccepted, Job}
 use Rattle.master_core.specs.declared.master.Master.TheInside.{Inside}
@@ -6,7 +6,7 @@ use Rattle.master_core.specs.Inside.{job_of, setup_of, state_of}
 use Rattle.master_tables.specs.Places.{RunsPart}
 use Rattle.master_core.proofs.Accepting.{accepted_at, master_after}
 use Rattle.master_core.proofs.Ended.{is_false, part_takes}
-use Rattle.master_core.proofs.Found.{part_in_list, tidy_at}
+use Rattle.master_core.proofs.Found.{tidy_at}
 use Rattle.master_core.proofs.Completing.{first_reason, part_done_accepted, part_refusal, second_reason}
 use Rattle.master_core.proofs.ResultRoom.{result_room}
 use Rattle.master_core.proofs.master.Master.part_done.Goals as goal

@@ -46,7 +46,8 @@ accepted_here c =
 pub invariant_of-self : goal.invariant_of-self
 invariant_of-self c =
     let old = c.self.inside in
-    master_after old (new_of c) (PartFailed c.args.attempt) c.record_event.result c.self.invariant (accepted_here c)
+    master_after old (new_of c) (PartFailed c.args.attempt) c.record_event.result c.self.invariant
+    (accepted_here c)
     (record {
       events = rw c.record_event.ensures.capacity c.self.invariant.room.events;
       attempts = c.self.invariant.room.attempts;
@@ -57,5 +58,6 @@ invariant_of-self c =
 
 pub returns : goal.returns
 returns c =
-    accepted_at c.self.inside (new_of c) c.args.self.now (PartFailed c.args.attempt) c.record_event.result c.self.view_is
+    accepted_at c.self.inside (new_of c) c.args.self.now (PartFailed c.args.attempt) c.record_event.result
+    c.self.view_is
     (accepted_here c)

@@ -80,7 +80,8 @@ invariant_of-self c =
 
 pub returns : goal.returns
 returns c =
-    let next = next_in c.self.inside c.args.self.now c.in-Some.next.part c.in-Some.next.worker c.self.invariant
+    let next = next_in c.self.inside c.args.self.now c.in-Some.next.part c.in-Some.next.worker
+    c.self.invariant
     c.self.view_is (is_false _ c.in-Some.ensures.ready) c.in-Some.ensures.part c.in-Some.ensures.worker in
     let reply : Reply = record {
       attempt = c.new-attempt.result;

@@ -2,7 +2,8 @@ use Rattle.std.proofs.Common.{◌≡◌, None, ap, sym, ◌∙◌, arith, true, 
 use Rattle.std.specs.Prelude.{is_some}
 use Rattle.master_state.specs.declared.states.Work.TheVariants as works
 use Rattle.master_state.specs.States.{start_of}
-use Rattle.master_core.proofs.Found.{tidy_at, part_absent, part_missing, part_told, start_with, part_found, part_in_list, part_run}
+use Rattle.master_core.proofs.Found.{tidy_at, part_absent, part_missing, part_told, start_with, part_found}
+use Rattle.master_core.proofs.Found.{part_in_list, part_run}
 use Rattle.master_core.proofs.master.Master.running_part.Goals as goal
 
 pub returns-in_err-start-clause-found : goal.returns-in_err-start-clause-found

@@ -2,7 +2,8 @@ use Rattle.std.proofs.Common.{◌≡◌, None, ap, sym, ◌∙◌, arith, true, 
 use Rattle.std.specs.Prelude.{is_some}
 use Rattle.master_state.specs.declared.states.Work.TheVariants as works
 use Rattle.master_state.specs.States.{start_of}
-use Rattle.master_core.proofs.Found.{tidy_at, split_absent, split_missing, split_told, start_with, split_found, split_in_list, split_run}
+use Rattle.master_core.proofs.Found.{tidy_at, split_absent, split_missing, split_told, start_with}
+use Rattle.master_core.proofs.Found.{split_found, split_in_list, split_run}
 use Rattle.master_core.proofs.master.Master.running_split.Goals as goal
 
 pub returns-in_err-start-clause-found : goal.returns-in_err-start-clause-found

@@ -36,15 +36,18 @@ keep-requires-clause-place g c =
 
 pub keep-requires-clause-starts : goal.keep-requires-clause-starts
 keep-requires-clause-starts g c =
-    let items : c.with_all-starts.result.items ≡ drop (c.in-Ok.wave.first - 1) c.commit.new.self.state.starts =
-    c.with_all-starts.ensures ∙ ap (λ l. l ++ c.starts_from.result.now) c.requires.starts ∙ c.starts_from.ensures in
+    let items : c.with_all-starts.result.items ≡ drop (c.in-Ok.wave.first - 1) c.commit.new.self.state.starts
+    =
+    c.with_all-starts.ensures ∙ ap (λ l. l ++ c.starts_from.result.now) c.requires.starts
+    ∙ c.starts_from.ensures in
     ap length (c.deref.ensures.value ∙ items) ∙ starts_counted _ _ _ _ c.in-Ok.ensures.1
 
 pub returns : goal.returns
 returns g c =
     let wave = c.in-Ok.wave in
     let items : c.with_all-starts.result.items ≡ drop (wave.first - 1) c.commit.new.self.state.starts =
-    c.with_all-starts.ensures ∙ ap (λ l. l ++ c.starts_from.result.now) c.requires.starts ∙ c.starts_from.ensures in
+    c.with_all-starts.ensures ∙ ap (λ l. l ++ c.starts_from.result.now) c.requires.starts
+    ∙ c.starts_from.ensures in
     let own : IsOwn c.args.sizes c.args.self.now.job c.args.hand.now = search rules in
     let room : has_room c.args.hand.now 0 wave.count ≡ true = search rules in
     shared_wave c.args.sizes c.self.inside.master c.args.self.now.job c.args.hand.now

@@ -1,4 +1,5 @@
-use Rattle.std.proofs.Common.{◌<◌, arith, length, length-append, length-set, refl, slice_index, true, ◌∷◌, [], sym, ◌∙◌}
+use Rattle.std.proofs.Common.{◌<◌, arith, length, length-append, length-set, refl, slice_index, true, ◌∷◌, []}
+use Rattle.std.proofs.Common.{sym, ◌∙◌}
 use Rattle.rack_tree.specs.Tree.{centre_at}
 use Rattle.wave_problem.proofs.Gathered.{marked_more, put_more}
 use Rattle.wave_problem.proofs.split_costs.LiveHolders.add.Goals as goal

@@ -34,7 +34,8 @@ returns-then-self-index-2-clause-least c tree live here there shown =
     let centre = c.args.centre in
     let unmarked = ap (λ (z : ℕ). get_or c.args.self.now.racks z false) (sym c.index.ensures.value)
     ∙ c.if-self-index.false in
-    let marked = ap (λ (z : ℕ). get_or c.args.self.now.centres z false) (sym c.index-else-self-index.ensures.value)
+    let marked = ap (λ (z : ℕ). get_or c.args.self.now.centres z false)
+    (sym c.index-else-self-index.ensures.value)
     ∙ c.if-self-index-2.true in
     sym (least_near tree w live (shown.some.0 c.if-not-self.false)
     ∙ ap Some (steps_shown tree w rack centre live false false true here there
@@ -48,7 +49,8 @@ returns-else-self-index-2-clause-least c tree live here there shown =
     let centre = c.args.centre in
     let unmarked = ap (λ (z : ℕ). get_or c.args.self.now.racks z false) (sym c.index.ensures.value)
     ∙ c.if-self-index.false in
-    let marked = ap (λ (z : ℕ). get_or c.args.self.now.centres z false) (sym c.index-else-self-index.ensures.value)
+    let marked = ap (λ (z : ℕ). get_or c.args.self.now.centres z false)
+    (sym c.index-else-self-index.ensures.value)
     ∙ c.if-self-index-2.false in
     sym (least_near tree w live (shown.some.0 c.if-not-self.false)
     ∙ ap Some (steps_shown tree w rack centre live false false false here there

@@ -1,4 +1,4 @@
-use Rattle.std.proofs.Common.{rules, arith, ◌≡◌, ◌+◌, ap, sym, ◌∙◌, length, length-append, [], ◌∷◌}
+use Rattle.std.proofs.Common.{rules, arith, ◌≡◌, ap, sym, ◌∙◌, length, length-append, [], ◌∷◌}
 use Rattle.std.proofs.lemmas.List.Elements.{All-head, All-push, All-rest, All-same}
 use Rattle.std.specs.declared.thread.PromisedHandle.{PromisedHandle}
 use Rattle.beat_board.specs.Values.{SeatValue}

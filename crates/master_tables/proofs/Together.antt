@@ -1,0 +1,142 @@
+-- Changes made one after another, and all at once.
+use Rattle.std.proofs.Common.{◌≡◌, ℕ, zero, suc, ◌<◌, ◌≤◌, List, [], ◌∷◌, length, map, cond, not, Bool, true}
+use Rattle.std.proofs.Common.{false, ◌||◌, ◌==◌, inl, inr, Option, Some, None, refl, ap, sym, ◌∙◌, arith}
+use Rattle.std.specs.Prelude.{filter, find, slice_index_or}
+use Rattle.std.specs.List.{list_any}
+use Rattle.std.proofs.lemmas.Bool.{cases_eq, eq-eqb, ne_eqb, or_left, or_right, false≢true}
+use Rattle.std.proofs.lemmas.List.Sums.{length-filter, count_by-le-length}
+use Rattle.node_ids.specs.Updates.{updated}
+
+-- what passes neither of two tests, one after the other
+passes_neither : {X : Type 0} (q : X → Bool) (p_here q_here : Bool) (x : X) (rest both : List X) →
+    q x ≡ q_here → filter (λ y. not (q y)) rest ≡ both →
+    filter (λ y. not (q y)) (cond (not p_here) (x ∷ rest) rest)
+    ≡ cond (not (p_here || q_here)) (x ∷ both) both
+passes_neither q true q_here x rest both here same = same
+passes_neither q false q_here x rest both here same = rw (here, same) refl
+
+pub filter-both : {X : Type 0} (p q either : X → Bool) → ((x : X) → either x ≡ (p x || q x)) → (xs : List X) →
+    filter (λ x. not (q x)) (filter (λ x. not (p x)) xs) ≡ filter (λ x. not (either x)) xs
+filter-both p q either same [] = refl
+filter-both p q either same (x ∷ xs) =
+    rw (same x)
+    (passes_neither q (p x) (q x) x (filter (λ y. not (p y)) xs) (filter (λ y. not (either y)) xs) refl
+    (filter-both p q either same xs))
+
+-- a test that nothing passes
+pub filter-none : {X : Type 0} (test : X → Bool) → ((x : X) → test x ≡ false) → (xs : List X) →
+    filter (λ x. not (test x)) xs ≡ xs
+filter-none test none [] = refl
+filter-none test none (x ∷ xs) = rw (none x) (ap (λ ys. x ∷ ys) (filter-none test none xs))
+
+-- two changes of each element, one after the other
+pub map-both : {X : Type 0} (f g both : X → X) → ((x : X) → g (f x) ≡ both x) → (xs : List X) →
+    map g (map f xs) ≡ map both xs
+map-both f g both same [] = refl
+map-both f g both same (x ∷ xs) = rw (same x, map-both f g both same xs) refl
+
+pub map-nothing : {X : Type 0} (f : X → X) → ((x : X) → f x ≡ x) → (xs : List X) → map f xs ≡ xs
+map-nothing f same [] = refl
+map-nothing f same (x ∷ xs) = rw (same x) (ap (λ ys. x ∷ ys) (map-nothing f same xs))
+
+-- the first elements changed
+abbrev pub front_changed : {X : Type 0} → (X → X) → ℕ → List X → List X
+front_changed change zero xs = xs
+front_changed change (suc i) [] = []
+front_changed change (suc i) (x ∷ xs) = change x ∷ front_changed change i xs
+
+pub length-front_changed : {X : Type 0} (change : X → X) (i : ℕ) (xs : List X) →
+    length (front_changed change i xs) ≡ length xs
+length-front_changed change zero xs = refl
+length-front_changed change (suc i) [] = refl
+length-front_changed change (suc i) (x ∷ xs) = ap suc (length-front_changed change i xs)
+
+-- one more, and all
+pub front_changed-more : {X : Type 0} (change : X → X) (i : ℕ) (xs : List X) →
+    updated change (front_changed change i xs) i ≡ front_changed change (suc i) xs
+front_changed-more change zero [] = refl
+front_changed-more change zero (x ∷ xs) = refl
+front_changed-more change (suc i) [] = refl
+front_changed-more change (suc i) (x ∷ xs) = ap (λ ys. change x ∷ ys) (front_changed-more change i xs)
+
+pub front_changed-all : {X : Type 0} (change : X → X) (i : ℕ) (xs : List X) → length xs ≤ i →
+    front_changed change i xs ≡ map change xs
+front_changed-all change zero [] past = refl
+front_changed-all change zero (x ∷ xs) past = absurd (omega (arith, past))
+front_changed-all change (suc i) [] past = refl
+front_changed-all change (suc i) (x ∷ xs) past =
+    ap (λ ys. change x ∷ ys) (front_changed-all change i xs (omega (arith, past)))
+
+-- two changes at one place, and one that changes nothing there
+pub updated-both : {X : Type 0} (f g : X → X) → ((x : X) → g (f x) ≡ g x) → (xs : List X) (n : ℕ) →
+    updated g (updated f xs n) n ≡ updated g xs n
+updated-both f g same [] n = refl
+updated-both f g same (x ∷ xs) zero = ap (λ y. y ∷ xs) (same x)
+updated-both f g same (x ∷ xs) (suc n) = ap (λ ys. x ∷ ys) (updated-both f g same xs n)
+
+pub updated-nothing : {X : Type 0} (change : X → X) (xs : List X) (n : ℕ) (d : X) →
+    change (slice_index_or xs n d) ≡ slice_index_or xs n d → updated change xs n ≡ xs
+updated-nothing change [] n d same = refl
+updated-nothing change (x ∷ xs) zero d same = ap (λ y. y ∷ xs) same
+updated-nothing change (x ∷ xs) (suc n) d same = ap (λ ys. x ∷ ys) (updated-nothing change xs n d same)
+
+find_none_step : {X : Type 0} (test : X → Bool) (b : Bool) (x : X) (xs : List X) → test x ≡ b →
+    cond b (Some x) (find test xs) ≡ None → (find test xs ≡ None → filter (λ y. not (test y)) xs ≡ xs) →
+    filter (λ y. not (test y)) (x ∷ xs) ≡ x ∷ xs
+find_none_step test true x xs here found rest = cc
+find_none_step test false x xs here found rest = rw here (ap (λ ys. x ∷ ys) (rest found))
+
+-- nothing is found where nothing passes
+pub find-none : {X : Type 0} (test : X → Bool) (xs : List X) → find test xs ≡ None →
+    filter (λ x. not (test x)) xs ≡ xs
+find-none test [] found = refl
+find-none test (x ∷ xs) found = find_none_step test (test x) x xs refl found (find-none test xs)
+
+find_some_step : (test : ℕ → Bool) (b : Bool) (x y : ℕ) (rest : Option ℕ) (more : Bool) → test x ≡ b →
+    cond b (Some x) rest ≡ Some y → (rest ≡ Some y → (more ≡ true) × (test y ≡ true)) →
+    ((x == y || more) ≡ true) × (test y ≡ true)
+find_some_step test true x y rest more here found inner =
+    let same : x ≡ y = cc in
+    (or_left (x == y) more (eq-eqb x y same), ap test (sym same) ∙ here)
+find_some_step test false x y rest more here found inner =
+    (or_right (x == y) more (inner found).0, (inner found).1)
+
+-- what is found stands there, and passes
+pub find-some : (test : ℕ → Bool) (xs : List ℕ) (y : ℕ) → find test xs ≡ Some y →
+    (list_any (λ x. x == y) xs ≡ true) × (test y ≡ true)
+find-some test [] y found = cc
+find-some test (x ∷ xs) y found =
+    find_some_step test (test x) x y (find test xs) (list_any (λ k. k == y) xs) refl found
+    (find-some test xs y)
+
+length_less : (b any : Bool) (x : ℕ) (xs ys : List ℕ) → length ys ≤ length xs →
+    (any ≡ true → length ys < length xs) → (b || any) ≡ true →
+    length (cond (not b) (x ∷ ys) ys) < length (x ∷ xs)
+length_less true any x xs ys le less has = omega (arith, le)
+length_less false any x xs ys le less has = omega (arith, less has)
+
+-- fewer stand there without one that does
+pub length-without : (xs : List ℕ) (y : ℕ) → list_any (λ x. x == y) xs ≡ true →
+    length (filter (λ x. not (x == y)) xs) < length xs
+length-without [] y has = absurd (false≢true has)
+length-without (x ∷ xs) y has =
+    let rest = filter (λ k. not (k == y)) xs in
+    length_less (x == y) (list_any (λ k. k == y) xs) x xs rest
+    (omega (arith, length-filter (λ k. not (k == y)) xs, count_by-le-length (λ k. not (k == y)) xs))
+    (length-without xs y) has
+
+-- what passes a test passes it also where it is named
+passes_too : (test : ℕ → Bool) (y : ℕ) → test y ≡ true → (x : ℕ) → test x ≡ (x == y || test x)
+passes_too test y passes x = elim (cases_eq x y) [
+  | inl here ↦ ap test here ∙ passes ∙ sym (or_left (x == y) (test x) (eq-eqb x y here))
+  | inr other ↦ sym (ap (λ (b : Bool). b || test x) (ne_eqb x y other))
+]
+
+-- without one that passes, and then without all that do
+pub filter-after : (test : ℕ → Bool) (y : ℕ) → test y ≡ true → (xs : List ℕ) →
+    filter (λ x. not (test x)) (filter (λ x. not (x == y)) xs) ≡ filter (λ x. not (test x)) xs
+filter-after test y passes = filter-both (λ x. x == y) test test (passes_too test y passes)
+
+pub filter-empty : {X : Type 0} (test : X → Bool) (xs : List X) → length xs ≤ 0 → filter test xs ≡ xs
+filter-empty test [] none = refl
+filter-empty test (x ∷ xs) none = absurd (omega (arith, none))
