@@ -315,6 +315,10 @@ fn least_distance(
     ensures least { result ≡ least (map (λ h. distance tree.now h to) (live_among workers.now holders.now)) }
     ensures limit { IfSome result (λ steps. steps ≤ MAX_DISTANCE) }
 {
+    // (no holder is nearer than the worker itself)
+    if holders.contains(&to) && lives(workers, to) {
+        return Some(0);
+    }
     let mut nearest = None;
     for holder in holders {
         if lives(workers, *holder) {
