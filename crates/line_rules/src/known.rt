@@ -13,7 +13,9 @@ use crate::entering::{Entering, Follow, entering_of, follow_of, most_of};
 use crate::purpose::Purpose;
 use crate::rows::Rows;
 use crate::rule::Rule;
-use crate::rules::{are_priced, is_few, is_first_of_body, is_first_of_head, keep};
+use crate::rules::{
+    are_priced, is_entered_by_new_name, is_few, is_first_of_body, is_first_of_head, keep,
+};
 use crate::section::{Section, section_after, section_of};
 use line_shapes::{KeyedLine, Keyword};
 use std::alloc::{AllocError, Global};
@@ -137,10 +139,12 @@ impl<'t> KnownLines<'t> {
     }
 
     fn is_new(&self, line: &KeyedLine<'_, 't>) -> bool
+        requires { length (places_of line.now.keyword) ≤ length line.now.words.now }
         ensures { IsTrue result ↔ IsNew self.now.rows (statement_of line.now) }
     {
         keep(Rule::Free, &self.rows, line)
-            && is_first_of_head(section_after(line.keyword), &self.rows, line)
+            && (is_entered_by_new_name(line.keyword)
+                || is_first_of_head(section_after(line.keyword), &self.rows, line))
     }
 
     fn is_within_limit(&self, line: &KeyedLine<'_, 't>) -> bool

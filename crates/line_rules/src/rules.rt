@@ -1,10 +1,15 @@
-ghost use Rattle.std.specs.Prelude.{◌≡◌, ◌↔◌, ◌<◌, IsTrue, Contains, length, map, slice_index_or, [], All};
-ghost use Rattle.line_shapes.specs.Lines.{statement_of, tail_of};
+ghost use Rattle.std.specs.Prelude.{◌≡◌, ◌↔◌, ◌≤◌, ◌<◌, ℕ, List, IsTrue, Contains, length, map, slice_index_or};
+ghost use Rattle.std.specs.Prelude.{[], All};
+ghost use Rattle.std.specs.Borrow.{Bor};
+ghost use Rattle.text_lines.specs.Texts.{Word};
+ghost use Rattle.line_shapes.specs.Lines.{Statement, stated, statement_of, tail_of};
+ghost use Rattle.line_shapes.specs.Places.{place_at, places_of};
 ghost use Rattle.line_rules.specs.Entering.{Key, entering_of as entering, first_of};
 ghost use Rattle.line_rules.specs.Entering.{most_more_of as most_words, second_of};
 ghost use Rattle.line_rules.specs.Faults.{HasItsPrice, IsDeclaredIn, IsFew, IsFirst, IsFirstOfBody};
 ghost use Rattle.line_rules.specs.Faults.{IsFirstOfHead, IsFreeIn, Keep, KeepIn, KeepsTo};
 ghost use Rattle.line_rules.specs.Known.{HasRow, IsDeclared, IsTaken, keys_of};
+ghost use Rattle.line_rules.specs.declared.rule.Rule.TheVariants.{Free};
 
 use crate::entering::{Entering, entering_of, is_priced, most_more_of};
 use crate::rows::Rows;
@@ -24,12 +29,39 @@ pub fn keep(rule: Rule, rows: &Rows<'_>, line: &KeyedLine<'_, '_>) -> bool
 fn keep_words(rule: Rule, rows: &Rows<'_>, keyword: Keyword, words: &[&str]) -> bool
     ensures { IsTrue result ↔ KeepIn rule rows.now keyword words.now }
 {
-    for i in 0..words.len() {
+    for i in 0..asked(rule, keyword, words.len()) {
         if !keeps_to(rule, rows, keyword.place(i), words[i]) {
             return false;
         }
     }
     true
+}
+
+// Of how many of the words the rule asks something: of those in the places alone, where any word that may
+// follow them keeps to it.
+#[inline(always)]
+fn asked(rule: Rule, keyword: Keyword, count: usize) -> usize
+    ensures within { result ≤ count }
+    ensures rest { (rows : List Statement) (i : ℕ) (w : Word) → result ≤ i → i < count
+        → KeepsTo rule rows (place_at keyword i) w }
+{
+    if any_keeps_to(rule, keyword.more()) {
+        count.min(keyword.places().len())
+    } else {
+        count
+    }
+}
+
+// Whether any word that may follow the places keeps to the rule; told of free names alone.
+#[inline(always)]
+fn any_keeps_to(rule: Rule, more: Option<Place>) -> bool
+    ensures { IsTrue result → (rows : List Statement) (w : Word) → KeepsTo rule rows more w }
+{
+    match (rule, more) {
+        (Rule::Declared, _) => false,
+        (Rule::Free, Some(Place::New)) => false,
+        (Rule::Free, None | Some(Place::Used(_) | Place::Number(_, _) | Place::Text)) => true,
+    }
 }
 
 #[inline(always)]
@@ -171,6 +203,19 @@ fn has_its_price(rows: &Rows<'_>, row: usize) -> bool
         Some((keyword, name)) => !is_priced(keyword) || has_row(rows, Keyword::Price, name),
         None => true,
     }
+}
+
+/// Whether lines of this keyword are entered by the name that they declare; such a line is the first where
+/// its name is free.
+pub fn is_entered_by_new_name(keyword: Keyword) -> bool
+    ensures { IsTrue result → (rows : List Statement) (words : List (Bor (List ℕ)))
+        → length (places_of keyword) ≤ length words → Keep Free rows (stated keyword words)
+        → IsFirst rows (stated keyword words) }
+{
+    matches!(
+        keyword,
+        Keyword::Centre | Keyword::Rack | Keyword::Worker | Keyword::Split | Keyword::Doc
+    )
 }
 
 /// Whether a line that declares something does so for the first time; `after` is the section after it.

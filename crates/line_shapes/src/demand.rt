@@ -1,5 +1,6 @@
-ghost use Rattle.std.specs.Prelude.{◌≡◌, ◌↔◌, ◌≤◌, IsTrue};
-ghost use Rattle.text_lines.specs.Texts.{number_of};
+ghost use Rattle.std.specs.Prelude.{◌≡◌, ◌↔◌, ◌≤◌, ◌<◌, ℕ, IsTrue};
+ghost use Rattle.text_lines.specs.Texts.{Word, number_of};
+ghost use Rattle.line_shapes.specs.Places.{place_at};
 ghost use Rattle.line_shapes.specs.Demands.{HasShape, IsNamedIn, IsWithin, IsWithinIn, MeetIn, Meets};
 
 use crate::keyword::Keyword;
@@ -22,12 +23,38 @@ pub enum Demand {
 pub fn meet(demand: Demand, keyword: Keyword, words: &[&str]) -> bool
     ensures { IsTrue result ↔ MeetIn demand keyword words.now }
 {
-    for i in 0..words.len() {
+    for i in 0..asked(demand, keyword, words.len()) {
         if !meets(demand, keyword.place(i), words[i]) {
             return false;
         }
     }
     true
+}
+
+// Of how many of the words the demand asks something: of those in the places alone, where any word that may
+// follow them meets it.
+#[inline(always)]
+fn asked(demand: Demand, keyword: Keyword, count: usize) -> usize
+    ensures within { result ≤ count }
+    ensures rest { (i : ℕ) (w : Word) → result ≤ i → i < count → Meets demand (place_at keyword i) w }
+{
+    if any_meets(demand, keyword.more()) {
+        count.min(keyword.places().len())
+    } else {
+        count
+    }
+}
+
+// Whether any word that may follow the places meets the demand; told of ranges alone.
+#[inline(always)]
+fn any_meets(demand: Demand, more: Option<Place>) -> bool
+    ensures { IsTrue result → (w : Word) → Meets demand more w }
+{
+    match (demand, more) {
+        (Demand::Shape | Demand::Name, _) => false,
+        (Demand::Range, Some(Place::Number(_, _))) => false,
+        (Demand::Range, None | Some(Place::New | Place::Used(_) | Place::Text)) => true,
+    }
 }
 
 #[inline(always)]

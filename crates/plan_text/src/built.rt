@@ -470,7 +470,7 @@ fn build_splits(
     ensures { IfOk result (λ lines. lines.items
         ≡ map (split_line workers.now busy.now) (map said_in rows.now)) }
 {
-    let mut lines = Vec::new(alloc);
+    let mut lines = Vec::with_capacity(alloc, rows.len())?;
     for row in rows {
         lines.push(split_line_of(alloc, workers, busy, row)?)?;
     }
@@ -504,7 +504,7 @@ fn worker_nos(
     requires known { All (λ n. Contains workers.now n.now) names.now }
     ensures { IfOk result (λ numbers. numbers.items ≡ map (λ n. number_in workers.now n.now) names.now) }
 {
-    let mut numbers = Vec::new(alloc);
+    let mut numbers = Vec::with_capacity(alloc, names.len())?;
     for name in names {
         numbers.push(worker_no(workers, name))?;
     }

@@ -3,3 +3,4 @@ pub mod Pieces
 pub mod Splitting
 pub mod Keys
 pub mod NumberedLines
+pub mod FirstByte

@@ -3,7 +3,7 @@
 //! A whole text is read from any reader within bounds, and written to any writer. Of a text the
 //! layer tells its lines, words, names and numbers; tables number the names that a text declares;
 //! and a fault of a text has a line and a number. The definitions are in `specs/Texts.antt`. Above
-//! it stand the readers of problems, plans, scripts and jobs; below it only std and `indexmap`.
+//! it stand the readers of problems, plans, scripts and jobs; below it only std, `indexmap` and `memchr`.
 #![tactic(auto)]
 
 pub mod fault;

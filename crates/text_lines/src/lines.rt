@@ -2,6 +2,7 @@ ghost use Rattle.std.specs.Prelude.{◌≡◌, ◌∷◌, [], ◌<◌, ◌↔◌
 ghost use Rattle.std.specs.Prelude.{position, All};
 ghost use Rattle.text_lines.specs.Texts.{IsPrintable, lines_of, words_of};
 
+use memchr::memchr;
 use std::alloc::{AllocError, Global};
 
 // Room for as many words as most lines have.
@@ -23,7 +24,7 @@ pub fn split_line(text: &[u8]) -> (&[u8], Option<&[u8]>)
 fn line_end(text: &[u8]) -> Option<usize>
     ensures { result ≡ position (λ b. b == 10) text.now }
 {
-    text.iter().position(|byte| *byte == b'\n')
+    memchr(b'\n', text)
 }
 
 /// The line as text, where all its bytes are printable ASCII.
@@ -38,10 +39,21 @@ pub fn printable(line: &[u8]) -> Option<&str>
     }
 }
 
+// Every byte is looked at, so that many can be tested in one step.
 fn is_printable(line: &[u8]) -> bool
     ensures { IsTrue result ↔ All IsPrintable line.now }
 {
-    line.iter().all(|byte| (b' '..=b'~').contains(byte))
+    let mut all = true;
+    for byte in line {
+        all &= is_printable_byte(*byte);
+    }
+    all
+}
+
+fn is_printable_byte(byte: u8) -> bool
+    ensures { IsTrue result ↔ IsPrintable byte }
+{
+    (b' '..=b'~').contains(&byte)
 }
 
 /// The words of a line. Between two spaces side by side stands an empty word, as it does before a

@@ -1,4 +1,4 @@
-use Rattle.std.proofs.Common.{[], get_or, subst}
+use Rattle.std.proofs.Common.{[], get_or, subst, arith}
 use Rattle.line_shapes.specs.Demands.{Meets}
 use Rattle.line_shapes.specs.Places.{place_at}
 use Rattle.line_shapes.proofs.Each.{each_more}
@@ -8,5 +8,6 @@ pub loop-i-preserved : goal.loop-i-preserved
 loop-i-preserved c =
     let word = (get_or c.args.words.now c.loop-i.i (record { ref_ptr = (0, 0); now = [] })).now in
     each_more (λ k w. Meets c.args.demand (place_at c.args.keyword k) w.now) c.args.words.now c.loop-i.i
-    (record { ref_ptr = (0, 0); now = [] }) c.loop-i-test.true c.loop-i.invariant
+    (record { ref_ptr = (0, 0); now = [] })
+    (omega (arith, c.loop-i-test.true, c.asked-i-end.ensures.within)) c.loop-i.invariant
     (subst (λ p. Meets c.args.demand p word) c.place.ensures (c.meets.ensures.0 c.if-not-meets.false))

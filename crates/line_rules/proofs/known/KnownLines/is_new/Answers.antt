@@ -1,0 +1,29 @@
+use Rattle.std.proofs.Common.{List, subst}
+use Rattle.line_shapes.specs.Lines.{Statement, statement_of}
+use Rattle.line_rules.specs.Faults.{IsFirst, IsFirstOfHead, Keep}
+use Rattle.line_rules.specs.Known.{Known}
+use Rattle.line_rules.specs.declared.rule.Rule.TheVariants.{Free}
+use Rattle.line_rules.specs.declared.section.Section.{Section}
+use Rattle.line_rules.specs.declared.section.Section.TheVariants.{First, Head, Body, Ended}
+use Rattle.line_rules.proofs.known.KnownLines.is_new.Goals as goal
+
+first_of_head : (after : Section) (rows : List Statement) (s : Statement) → IsFirst rows s
+    → IsFirstOfHead after rows s
+first_of_head First rows s first = tt
+first_of_head Head rows s first = first
+first_of_head Body rows s first = tt
+first_of_head Ended rows s first = tt
+
+pub returns-then-is_entered_by_new_name : goal.returns-then-is_entered_by_new_name
+returns-then-is_entered_by_new_name c =
+    let line = statement_of c.args.line.now in
+    let free : Keep Free c.args.self.now.rows line =
+    subst (λ (known : Known). Keep Free known.rows line) c.self.view_is (c.keep.ensures.0 c.if-keep.true) in
+    let entered = c.if-is_entered_by_new_name.true in (
+      λ t. record {
+        names = free;
+        first = first_of_head _ _ _ (c.is_entered_by_new_name.ensures entered c.args.self.now.rows
+            c.args.line.now.words.now c.requires free);
+      },
+      λ new. entered,
+    )
