@@ -213,8 +213,8 @@ pub fn is_entered_by_new_name(keyword: Keyword) -> bool
         → IsFirst rows (stated keyword words) }
 {
     matches!(
-        keyword,
-        Keyword::Centre | Keyword::Rack | Keyword::Worker | Keyword::Split | Keyword::Doc
+        (entering_of(keyword), keyword.place(0)),
+        (Entering::Word, Some(Place::New))
     )
 }
 
