@@ -446,8 +446,8 @@ impl<'a> Checker<'a> {
         ensures { IsTrue result → IsPricedFar self.now floors.now split }
     {
         let wanted = self.reward();
-        let worth = self.split_price(split) + floors.all + 4 * self.problem.bytes(split);
-        worth >= wanted
+        let paid = self.split_price(split) + floors.all + 4 * self.problem.bytes(split);
+        paid >= wanted
     }
 
     // Whether the floors tell it of the live holders of the split and of their neighbours.

@@ -1,7 +1,7 @@
 //! Builds the direct network of a problem.
 ghost use Rattle.std.specs.Prelude.{◌≡◌, ℕ, ◌+◌, ◌*◌, ◌<◌, ◌≤◌, ◌^◌, ◌∷◌, ◌++◌, [], length, IfOk, OnOk};
 ghost use Rattle.std.specs.Prelude.{slice_index};
-ghost use Rattle.wave_problem.specs.Wave.{reward};
+ghost use Rattle.wave_problem.specs.Wave.{reward as reward_in};
 ghost use Rattle.wave_problem.specs.declared.TheConstants.{MAX_SPLITS};
 ghost use Rattle.direct_network.specs.declared.arcs.TheConstants.{MAX_ARCS};
 ghost use Rattle.direct_network.specs.Direct.{arc_of, worker_node, IsDirect, IsSized, IsWanted};
@@ -38,9 +38,9 @@ fn add_splits(network: &mut Network<DirectLayout>, problem: &Problem) -> Result<
     ensures { OnOk result
         (IsBuilt problem.now (length problem.now.splits) 0 (257 * length problem.now.splits) network.new) }
 {
-    let worth = problem.reward();
+    let reward = problem.reward();
     for i in 0..problem.splits() {
-        add_split(network, problem, SplitNo::new(i as u16), worth)?;
+        add_split(network, problem, SplitNo::new(i as u16), reward)?;
     }
     Ok(())
 }
@@ -50,18 +50,18 @@ fn add_split(
     network: &mut Network<DirectLayout>,
     problem: &Problem,
     split: SplitNo,
-    worth: u64,
+    reward: u64,
 ) -> Result<(), AllocError>
     requires split { split < length problem.now.splits }
     requires few { split < MAX_SPLITS }
-    requires worth { worth ≡ reward problem.now }
-    requires small { worth < 2 ^ 39 }
+    requires reward { reward ≡ reward_in problem.now }
+    requires small { reward < 2 ^ 39 }
     requires built { IsBuilt problem.now split 0 (257 * split) network.old }
     ensures built { OnOk result (IsBuilt problem.now (split + 1) 0 (257 * split + 257) network.new) }
 {
     add_pairs(network, problem, split)?;
     if problem.is_pending(split) {
-        add(network, problem, DirectArc::Wait(split), worth)?;
+        add(network, problem, DirectArc::Wait(split), reward)?;
     }
     Ok(())
 }

@@ -162,7 +162,7 @@ impl Guests {
 fn nobody(alloc: Global, nodes: usize) -> Result<Vec<Standing>, AllocError>
     ensures { IfOk result (λ s. s.items ≡ replicate nodes []) }
 {
-    let mut standing = Vec::new(alloc);
+    let mut standing = Vec::with_capacity(alloc, nodes)?;
     for _node in 0..nodes {
         standing.push(Standing::new(alloc))?;
     }

@@ -65,8 +65,8 @@ impl Ways {
         ensures exits { IfOk result (λ w. w.exits.items ≡ replicate nodes None) }
         ensures inner { IfOk result (λ w. w.inner.items ≡ replicate nodes []) }
     {
-        let mut exits = Vec::new(alloc);
-        let mut inner = Vec::new(alloc);
+        let mut exits = Vec::with_capacity(alloc, nodes)?;
+        let mut inner = Vec::with_capacity(alloc, nodes)?;
         for _node in 0..nodes {
             exits.push(None)?;
             inner.push(ArcList::new(alloc))?;

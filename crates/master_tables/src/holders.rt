@@ -11,6 +11,7 @@ pub fn add_holder(holders: &mut BlockMap, split: SplitNo, worker: WorkerNo)
     requires few { are_eight (holders_of holders.old split) ≡ false }
     ensures { holders.new ≡ with_holder holders.old split worker }
 {
+    // (there is room for it, as is required)
     let _added = holders.add(split, worker);
 }
 
@@ -20,5 +21,6 @@ pub fn drop_holder(holders: &mut BlockMap, split: SplitNo, worker: WorkerNo)
     requires holder { is_holder holders.old split worker ≡ true }
     ensures { holders.new ≡ without_holder holders.old split worker }
 {
+    // (it is there, as is required)
     let _dropped = holders.drop_one(split, worker);
 }

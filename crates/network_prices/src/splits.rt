@@ -1,5 +1,5 @@
 ghost use Rattle.std.specs.Prelude.{◌≡◌, ℕ, ◌<◌, ◌≤◌, length, slice_index, IfOk};
-ghost use Rattle.wave_problem.specs.Wave.{reward};
+ghost use Rattle.wave_problem.specs.Wave.{reward as reward_in};
 ghost use Rattle.wave_problem.specs.declared.TheConstants.{MAX_SPLITS};
 ghost use Rattle.network_prices.specs.Pending.{pending_splits};
 ghost use Rattle.network_prices.specs.Pricing.{IsSplitPrice};
@@ -37,26 +37,26 @@ pub fn split_prices(
     ensures each { IfOk result (λ prices. (s : ℕ) → s < length problem.now.splits
         → IsSplitPrice problem.now workers.now plan.now.starts s (slice_index prices.items s)) }
 {
-    let worth = problem.reward();
+    let reward = problem.reward();
     let mut prices = Vec::new(alloc);
     for i in 0..problem.splits() {
-        prices.push(split_price(problem, plan, workers, worth, SplitNo::new(i as u16)))?;
+        prices.push(split_price(problem, plan, workers, reward, SplitNo::new(i as u16)))?;
     }
     Ok(prices)
 }
 
-fn split_price(problem: &Problem, plan: &Plan, workers: &[u64], worth: u64, split: SplitNo) -> u64
+fn split_price(problem: &Problem, plan: &Plan, workers: &[u64], reward: u64, split: SplitNo) -> u64
     requires split { split < length problem.now.splits }
     requires starts { length plan.now.starts ≡ length problem.now.splits }
     requires known { plan.now.workers ≡ length problem.now.workers }
     requires workers { length workers.now ≡ length problem.now.workers }
-    requires worth { worth ≡ reward problem.now }
+    requires reward { reward ≡ reward_in problem.now }
     ensures { IsSplitPrice problem.now workers.now plan.now.starts split result }
 {
     match plan.of(split) {
         Some(worker) => {
             let cost = problem.cost(split, worker).unwrap_or(0);
-            worth
+            reward
                 .saturating_sub(workers[worker.index()])
                 .saturating_sub(cost)
         }

@@ -1,7 +1,7 @@
 //! Builds the rack network of a problem.
 ghost use Rattle.std.specs.Prelude.{◌≡◌, ℕ, ◌+◌, ◌-◌, ◌*◌, ◌<◌, ◌≤◌, ◌^◌, ◌∷◌, ◌++◌, ◌↔◌, [], true, length};
 ghost use Rattle.std.specs.Prelude.{All, IfOk, IfSome, IsTrue, OnOk, Some, slice_index};
-ghost use Rattle.wave_problem.specs.Wave.{reward, split_at, worker_at, Wave};
+ghost use Rattle.wave_problem.specs.Wave.{reward as reward_in, split_at, worker_at, Wave};
 ghost use Rattle.wave_problem.specs.declared.TheConstants.{MAX_HOLDERS, MAX_SPLITS};
 ghost use Rattle.rack_network.specs.declared.arcs.TheConstants.{LEVELS, MAX_ARCS};
 ghost use Rattle.network_prices.specs.Pending.{IsUsable};
@@ -63,11 +63,11 @@ fn add_splits(network: &mut Network<RackLayout>, problem: &Problem) -> Result<()
     ensures built { OnOk result (IsBuilt problem.now (cluster_node problem.now) 0 (split_arcs problem.now)
         network.new) }
 {
-    let worth = problem.reward();
+    let reward = problem.reward();
     for i in 0..problem.splits() {
         let split = SplitNo::new(i as u16);
         if problem.is_pending(split) {
-            add_split(network, problem, split, worth)?;
+            add_split(network, problem, split, reward)?;
         }
     }
     Ok(())
@@ -78,20 +78,20 @@ fn add_split(
     network: &mut Network<RackLayout>,
     problem: &Problem,
     split: SplitNo,
-    worth: u64,
+    reward: u64,
 ) -> Result<(), AllocError>
     requires split { split < length problem.now.splits }
     requires few { split < MAX_SPLITS }
     requires pending { (split_at problem.now split).pending ≡ true }
-    requires worth { worth ≡ reward problem.now }
-    requires small { worth < 2 ^ 39 }
+    requires reward { reward ≡ reward_in problem.now }
+    requires small { reward < 2 ^ 39 }
     requires tree { IsTree problem.now }
     requires built { IsBuilt problem.now split 0 (257 * split) network.old }
     ensures built { OnOk result (IsBuilt problem.now (split + 1) 0 (257 * split + 257) network.new) }
 {
     make_room(network, problem, split)?;
     add_ways(network, problem, split)?;
-    add(network, problem, RackArc::Wait(split), worth)?;
+    add(network, problem, RackArc::Wait(split), reward)?;
     Ok(())
 }
 
@@ -141,6 +141,7 @@ fn has_bars(problem: &Problem, split: SplitNo) -> bool
     requires { split < length problem.now.splits }
     ensures { IsTrue result ↔ HasBars problem.now split }
 {
+    // (there are few of them)
     let _workers = problem.workers();
     if problem.bars(split).is_empty() {
         return false;

@@ -42,6 +42,7 @@ pub fn place_above(problem: &Problem, level: u8, first: usize, worker: WorkerNo)
     ensures place { result ≡ node_above problem.now level worker }
     ensures limit { result < 4096 }
 {
+    // (there are few of each)
     let _splits = problem.splits();
     let tree = problem.tree();
     let _centres = tree.centres();

@@ -256,8 +256,8 @@ impl<L: Ledger> SharedMaster<L> {
         self.lock.lock(rt).sweep(self.sizes, hand, counts)
     }
 
-    /// What a master shows at a glance that the lock kept at some time in this call. Where no event came since
-    /// the last glance, that is told again in constant time.
+    /// What a master shows at a glance that the lock kept at some time in this call. Where no event came
+    /// since the last glance, that is told again in constant time.
     pub fn glance<R: Wait>(&self, rt: &R) -> Glance
         ensures { (job : Job) × IsKept job × IsGlance job result }
     {

@@ -1,5 +1,4 @@
 use line_rules::{KnownLines, Purpose, ReadingError, read_lines};
-use line_shapes::Keyword;
 use std::alloc::Global;
 use std::test::Fail;
 
@@ -96,29 +95,10 @@ fn texts_to_check(rt: HostRuntime) -> Result<(), Fail> {
 fn a_ninth_holder_passes_the_limit(rt: HostRuntime) {
     let text =
         "problem 1\nrack r\nworker a r 0\nworker b r 0\nworker c r 0\nworker d r 0\nworker e r 0\n\
-worker f r 0\nworker g r 0\nworker h r 0\nworker i r 0\nsplit s 1 a b c d e f g h\nsplit t 1 a b c d e f g h i\n";
+worker f r 0\nworker g r 0\nworker h r 0\nworker i r 0\nsplit s 1 a b c d e f g h\n\
+split t 1 a b c d e f g h i\n";
     assert_eq!(rt;
         fault_of(rt.alloc(), Purpose::Planning, text),
         Some((13, 6))
     );
-}
-
-// The keyword, the first two words of its key and how many words follow, of a row.
-fn row_of(alloc: Global, text: &str, row: usize) -> Option<(bool, bool, usize)> {
-    let known = read_lines(alloc, Purpose::Planning, text.as_bytes()).ok()?;
-    let row = known.rows().row(row)?;
-    let is_bar = row.keyword == Keyword::Barred;
-    Some((
-        is_bar,
-        row.first == "s" && row.second == "a",
-        row.rest.len(),
-    ))
-}
-
-#[test]
-fn lines_are_entered_in_their_order(rt: HostRuntime) {
-    let text = "problem 1\nrack r\nworker a r 1\nsplit s 1 a\nbarred s a\nend\n";
-    assert_eq!(rt; row_of(rt.alloc(), text, 3), Some((true, true, 0)));
-    assert_eq!(rt; row_of(rt.alloc(), text, 2), Some((false, false, 2)));
-    assert_eq!(rt; row_of(rt.alloc(), text, 4), None);
 }

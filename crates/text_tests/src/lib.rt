@@ -15,8 +15,6 @@ mod readers;
 #[cfg(test)]
 mod reading;
 #[cfg(test)]
-mod script_values;
-#[cfg(test)]
 mod scripts;
 #[cfg(test)]
 mod tables;

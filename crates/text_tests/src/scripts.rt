@@ -4,13 +4,17 @@ use std::alloc::Global;
 use std::test::Fail;
 
 // The line and the number of a text's fault, None where it has none or memory ran out.
-fn fault_of(alloc: Global, purpose: Purpose, text: &str) -> Option<(u32, u8)> {
-    let read: Result<KnownLines<'_>, ReadingError> = read_lines(alloc, purpose, text.as_bytes());
+fn fault_in(alloc: Global, purpose: Purpose, text: &[u8]) -> Option<(u32, u8)> {
+    let read: Result<KnownLines<'_>, ReadingError> = read_lines(alloc, purpose, text);
     match read {
         Ok(_) => None,
         Err(ReadingError::Text(fault)) => Some((fault.line, fault.number.number())),
         Err(ReadingError::Memory) => None,
     }
+}
+
+fn fault_of(alloc: Global, purpose: Purpose, text: &str) -> Option<(u32, u8)> {
+    fault_in(alloc, purpose, text.as_bytes())
 }
 
 // What stands in a script after `script 1`, a rack r, the workers a and b and a split s: its lines from the
@@ -138,30 +142,23 @@ const PLAYED: &str = "script 1\nparts 2\nrack r\nworker a r 1\nworker b r 1\nspl
 doc d1 s The cat\ndoc d2 s cat, THE dog\nbegin\nwave\ndone 1\nadd s b\ndie a\nwave\ndone 2\nreduce\n\
 reduce\ndone 3\nreduce\ndone 4\nend\n";
 
+const JOB: &str = "job 1\nparts 2\nrack r\nworker a r 1\nsplit s 3 a\ndoc d1 s The cat\n\
+doc d2 s cat, THE dog\nend\n";
+
 #[test]
-fn each_front_of_a_script_has_a_fault(rt: HostRuntime) {
-    let bytes = PLAYED.as_bytes();
+fn each_front_of_a_job_has_a_fault(rt: HostRuntime) {
     let mut line = 1;
-    for end in 0..bytes.len() {
-        let whole = end == 0 || bytes[end - 1] == b'\n';
-        let number = if whole { 7 } else { 12 };
-        match read_lines(rt.alloc(), Purpose::Playing, &bytes[..end]) {
-            Err(ReadingError::Text(fault)) => {
-                assert_eq!(rt;
-                    (fault.line, fault.number.number()),
-                    (line, number),
-                    "{end}"
-                );
-            }
-            Ok(_) | Err(ReadingError::Memory) => {
-                assert!(rt; false, "{end}");
-            }
-        }
-        if bytes[end] == b'\n' {
-            line = line.wrapping_add(1);
+    for end in 0..JOB.len() {
+        let front = &JOB.as_bytes()[..end];
+        let is_whole = matches!(front.last(), None | Some(b'\n'));
+        let want = if is_whole { 7 } else { 12 };
+        let told = fault_in(rt.alloc(), Purpose::Running, front);
+        assert_eq!(rt; told, Some((line, want)), "{end}");
+        if JOB.as_bytes()[end] == b'\n' {
+            line += 1;
         }
     }
-    assert_eq!(rt; fault_of(rt.alloc(), Purpose::Playing, PLAYED), None);
+    assert_eq!(rt; fault_of(rt.alloc(), Purpose::Running, JOB), None);
 }
 
 // How many commands a script has, whether its second document has its words, and whether it is in version 1.

@@ -47,15 +47,15 @@ fn keep_inline(alloc: Global, line: &SplitRef<'_>) -> Result<SplitEntry, AllocEr
 fn keep_all(alloc: Global, lines: &[SplitLine]) -> Result<Vec<SplitEntry>, AllocError>
     ensures { IfOk result (λ entries. entries.items ≡ lines.now) }
 {
-    let mut entries = Vec::new(alloc);
+    let mut entries = Vec::with_capacity(alloc, lines.len())?;
     for line in lines {
         let entry = keep_inline(alloc, &line.lent())?;
-        entries.push(entry)?;
+        entries.push_reserved(entry);
     }
     Ok(entries)
 }
 
-// As `keep_all`, with room taken at once.
+// As `keep_all`, of lines that are lent.
 fn keep_lent(alloc: Global, lines: &[SplitRef<'_>]) -> Result<Vec<SplitEntry>, AllocError>
     ensures { IfOk result (λ entries. entries.items ≡ lines.now) }
 {

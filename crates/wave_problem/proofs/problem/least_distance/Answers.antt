@@ -12,4 +12,5 @@ returns-then-lives-clause-least c =
     let to = c.args.to in
     let none : distance tree to to ≡ 0 = rw (distance_by tree to to, eq-eqb to to refl) refl in
     sym (least_zero (λ h. distance tree h to) (λ h. (worker_in c.args.workers.now h).live) to none
-    (sym c.lives.ensures ∙ c.if-lives.true) c.args.holders.now (sym c.contains.ensures.value ∙ c.if-contains.true))
+    (sym c.lives.ensures ∙ c.if-lives.true) c.args.holders.now
+    (sym c.contains.ensures.value ∙ c.if-contains.true))
