@@ -128,8 +128,8 @@ fn ship_straight<L: Layout>(
     order: &[usize],
     sink: usize,
     count: usize,
-    out: usize,
-    on: usize,
+    out: u32,
+    on: u32,
 ) -> Result<Shipping, AllocError>
     requires limit { length order.now ≤ 4096 }
     requires count { count < length order.now }
@@ -223,7 +223,7 @@ fn straight_way<L: Layout>(
     guests: &Guests,
     node: usize,
     sink: usize,
-) -> Option<(usize, usize)>
+) -> Option<(u32, u32)>
     requires may { MaySearch (L.node_count network.now.layout) network.now.arcs network.now.flows
         potentials.now guests.now sink }
     requires node { node < length potentials.now }
@@ -247,7 +247,7 @@ fn straight_on<L: Layout>(
     guests: &Guests,
     arc: ArcNo,
     sink: usize,
-) -> Option<(usize, usize)>
+) -> Option<(u32, u32)>
     requires may { MaySearch (L.node_count network.now.layout) network.now.arcs network.now.flows
         potentials.now guests.now sink }
     requires listed { arc_index arc < length network.now.arcs }
@@ -256,11 +256,11 @@ fn straight_on<L: Layout>(
 {
     match arc {
         ArcNo::Forward(out) => {
-            if !is_open(network, potentials, out) {
+            if !is_open(network, potentials, out as usize) {
                 return None;
             }
-            let on = guests.exit(network.all_arcs()[out].to)?;
-            if is_open(network, potentials, on) {
+            let on = guests.exit(network.all_arcs()[out as usize].to as usize)?;
+            if is_open(network, potentials, on as usize) {
                 return Some((out, on));
             }
             None
@@ -278,7 +278,8 @@ fn is_open<L: Layout>(network: &Network<L>, potentials: &Potentials, number: usi
     network.limits();
     let arc = network.all_arcs()[number];
     let depths = potentials.depths();
-    depths[arc.from] == arc.cost + depths[arc.to] && network.all_flows()[number] < arc.capacity
+    depths[arc.from as usize] == arc.cost + depths[arc.to as usize]
+        && network.all_flows()[number] < arc.capacity as u64
 }
 
 /// Lowers the potential of a source, which is 0, by the least of what an arc of its own costs together with
@@ -327,8 +328,9 @@ fn lesser_way(arcs: &[FlowArc], depths: &[u64], arc: ArcNo, least: u64) -> u64
         → result ≤ (arc_at arcs.now k).cost + slice_index depths.now (arc_at arcs.now k).to }
 {
     match arc {
-        ArcNo::Forward(k) if arcs[k].capacity > 0 => {
-            least.min(arcs[k].cost + depths[arcs[k].to])
+        ArcNo::Forward(k) if arcs[k as usize].capacity > 0 => {
+            let arc = arcs[k as usize];
+            least.min(arc.cost + depths[arc.to as usize])
         }
         _ => least,
     }

@@ -60,7 +60,8 @@ fn costs_of<L: Layout>(alloc: Global, network: &Network<L>) -> Result<Vec<Costs>
     let none = Costs { most: 0, next: 0 };
     let mut costs = vec![in alloc; none; network.layout().size()]?;
     for arc in network.all_arcs() {
-        costs[arc.from] = costs[arc.from].with(arc.cost);
+        let from = arc.from as usize;
+        costs[from] = costs[from].with(arc.cost);
     }
     Ok(costs)
 }
@@ -96,7 +97,7 @@ fn nodes_of(alloc: Global, keys: &[(u64, usize)]) -> Result<Vec<usize>, AllocErr
 fn narrow_room(arcs: &[FlowArc], sink: usize, units: u64) -> usize {
     let mut room: usize = 0;
     for arc in arcs {
-        if arc.to == sink && arc.capacity < units {
+        if arc.to as usize == sink && (arc.capacity as u64) < units {
             room = room.saturating_add(arc.capacity as usize);
         }
     }

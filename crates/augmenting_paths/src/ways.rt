@@ -103,7 +103,7 @@ fn leads_on(arcs: &[FlowArc], units: usize, sink: usize, node: usize) -> bool
     ensures { IsTrue result ↔ LeadsOn arcs.now units sink node }
 {
     for arc in arcs {
-        if arc.from == node && arc.to == sink && units as u64 <= arc.capacity {
+        if arc.from as usize == node && arc.to as usize == sink && units <= arc.capacity as usize {
             return true;
         }
     }
@@ -115,7 +115,10 @@ fn has_way(arcs: &[FlowArc], sources: &[usize], sink: usize, source: usize) -> b
     ensures { IsTrue result ↔ HasWay arcs.now sources.now sink source }
 {
     for arc in arcs {
-        if arc.from == source && arc.capacity > 0 && leads_on(arcs, sources.len(), sink, arc.to) {
+        if arc.from as usize == source
+            && arc.capacity > 0
+            && leads_on(arcs, sources.len(), sink, arc.to as usize)
+        {
             return true;
         }
     }
@@ -140,7 +143,7 @@ fn is_entered(arcs: &[FlowArc], node: usize) -> bool
     ensures { IsTrue result ↔ IsEntered arcs.now node }
 {
     for arc in arcs {
-        if arc.to == node {
+        if arc.to as usize == node {
             return true;
         }
     }

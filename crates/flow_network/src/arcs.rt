@@ -4,9 +4,9 @@
 /// of one unit.
 #[derive(Clone, Copy, Debug, PartialEq, Eq)]
 pub struct FlowArc {
-    pub from: usize,
-    pub to: usize,
-    pub capacity: u64,
+    pub from: u16,
+    pub to: u16,
+    pub capacity: u16,
     pub cost: u64,
 }
 
@@ -14,6 +14,6 @@ pub struct FlowArc {
 /// it carries less than its capacity, or its reverse, which has room while there is a unit to take back.
 #[derive(Clone, Copy, Debug, PartialEq, Eq)]
 pub enum ArcNo {
-    Forward(usize),
-    Reverse(usize),
+    Forward(u32),
+    Reverse(u32),
 }

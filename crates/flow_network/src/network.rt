@@ -83,8 +83,8 @@ impl<L: Layout> Network<L> {
         ensures { result ≡ slice_index self.now.flows (arc_index arc) }
     {
         match arc {
-            ArcNo::Forward(k) => self.flows[k],
-            ArcNo::Reverse(k) => self.flows[k],
+            ArcNo::Forward(k) => self.flows[k as usize],
+            ArcNo::Reverse(k) => self.flows[k as usize],
         }
     }
 
@@ -119,18 +119,18 @@ impl<L: Layout> Network<L> {
     {
         match arc {
             ArcNo::Forward(k) => {
-                let seen = self.arcs[k];
+                let seen = self.arcs[k as usize];
                 Look {
-                    to: seen.to,
-                    residual: seen.capacity - self.flows[k],
+                    to: seen.to as usize,
+                    residual: seen.capacity as u64 - self.flows[k as usize],
                     cost: seen.cost as i64,
                 }
             }
             ArcNo::Reverse(k) => {
-                let seen = self.arcs[k];
+                let seen = self.arcs[k as usize];
                 Look {
-                    to: seen.from,
-                    residual: self.flows[k],
+                    to: seen.from as usize,
+                    residual: self.flows[k as usize],
                     cost: -(seen.cost as i64),
                 }
             }
@@ -143,8 +143,8 @@ impl<L: Layout> Network<L> {
         ensures { result ≡ residual_of self.now.arcs self.now.flows arc }
     {
         match arc {
-            ArcNo::Forward(k) => self.arcs[k].capacity - self.flows[k],
-            ArcNo::Reverse(k) => self.flows[k],
+            ArcNo::Forward(k) => self.arcs[k as usize].capacity as u64 - self.flows[k as usize],
+            ArcNo::Reverse(k) => self.flows[k as usize],
         }
     }
 
@@ -251,9 +251,9 @@ impl<L: Layout> Network<L> {
         if self
             .arcs
             .push(FlowArc {
-                from,
-                to,
-                capacity,
+                from: from as u16,
+                to: to as u16,
+                capacity: capacity as u16,
                 cost,
             })
             .is_err()
@@ -264,8 +264,8 @@ impl<L: Layout> Network<L> {
             self.arcs.truncate(number);
             return Err(NetError::Memory);
         }
-        match list_arc(&mut self.leaving, from, to, number) {
-            Ok(()) => Ok(ArcNo::Forward(number)),
+        match list_arc(&mut self.leaving, from, to, number as u32) {
+            Ok(()) => Ok(ArcNo::Forward(number as u32)),
             Err(_) => {
                 self.arcs.truncate(number);
                 self.flows.truncate(number);
@@ -287,8 +287,8 @@ fn push_units(arcs: &[FlowArc], flows: &mut [u64], path: &[ArcNo])
 {
     for arc in path {
         match *arc {
-            ArcNo::Forward(k) => flows[k] += 1,
-            ArcNo::Reverse(k) => flows[k] -= 1,
+            ArcNo::Forward(k) => flows[k as usize] += 1,
+            ArcNo::Reverse(k) => flows[k as usize] -= 1,
         }
     }
 }
@@ -304,7 +304,7 @@ fn inflow_of(arcs: &[FlowArc], flows: &[u64], node: usize) -> u64
 {
     let mut gained = 0;
     for k in 0..arcs.len() {
-        if arcs[k].to == node {
+        if arcs[k].to as usize == node {
             gained += flows[k];
         }
     }
@@ -322,7 +322,7 @@ fn outflow_of(arcs: &[FlowArc], flows: &[u64], node: usize) -> u64
 {
     let mut given = 0;
     for k in 0..arcs.len() {
-        if arcs[k].from == node {
+        if arcs[k].from as usize == node {
             given += flows[k];
         }
     }

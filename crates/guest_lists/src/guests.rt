@@ -22,7 +22,7 @@ use std::marker::Model;
 #[derive(Drop)]
 pub struct Guests {
     is_source: Vec<bool>,
-    exits: Vec<Option<usize>>,
+    exits: Vec<Option<u32>>,
     inner: Vec<ArcList>,
     standing: Vec<Standing>,
 }
@@ -78,7 +78,7 @@ impl Guests {
     }
 
     /// An arc to the sink.
-    pub fn exit(&self, node: usize) -> Option<usize>
+    pub fn exit(&self, node: usize) -> Option<u32>
         requires { node < length self.now.exits }
         ensures { result ≡ slice_index_or self.now.exits node None }
     {
@@ -94,7 +94,7 @@ impl Guests {
     }
 
     /// The sources' arcs whose units stand at a node.
-    pub fn standing(&self, node: usize) -> &[usize]
+    pub fn standing(&self, node: usize) -> &[u32]
         requires { node < length self.now.standing }
         ensures { result.now ≡ standing_at self.now node }
     {
@@ -136,20 +136,20 @@ impl Guests {
             → flow ≡ slice_index last (arc_index arc)
             → IsFollowing arcs last (arc ∷ rest) self.old → IsFollowing arcs last rest self.new) }
     {
-        if !self.is_source[ends.from] {
+        if !self.is_source[ends.from as usize] {
             return Ok(());
         }
         match arc {
             ArcNo::Forward(k) => {
                 if flow == 1 {
-                    self.standing[ends.to].enter(k)?;
+                    self.standing[ends.to as usize].enter(k)?;
                     return Ok(());
                 }
                 Ok(())
             }
             ArcNo::Reverse(k) => {
                 if flow == 0 {
-                    self.standing[ends.to].leave(k);
+                    self.standing[ends.to as usize].leave(k);
                     return Ok(());
                 }
                 Ok(())
@@ -174,7 +174,7 @@ fn number(arc: ArcNo) -> usize
     ensures { result ≡ arc_index arc }
 {
     match arc {
-        ArcNo::Forward(k) => k,
-        ArcNo::Reverse(k) => k,
+        ArcNo::Forward(k) => k as usize,
+        ArcNo::Reverse(k) => k as usize,
     }
 }

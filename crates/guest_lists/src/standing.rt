@@ -9,7 +9,7 @@ use std::marker::Model;
 /// The arcs of sources whose units stand at one node.
 #[derive(Drop)]
 pub struct Standing {
-    arcs: Vec<usize>,
+    arcs: Vec<u32>,
 }
 
 impl Model for Standing {
@@ -31,14 +31,14 @@ impl Standing {
     }
 
     /// The numbers of the arcs, counted from 0 as in the network.
-    pub fn all(&self) -> &[usize]
+    pub fn all(&self) -> &[u32]
         ensures { result.now ≡ self.now }
     {
         &self.arcs
     }
 
     /// One arc more.
-    pub fn enter(&mut self, arc: usize) -> Result<(), AllocError>
+    pub fn enter(&mut self, arc: u32) -> Result<(), AllocError>
         ensures { OnOk result (self.new ≡ self.old ++ arc ∷ []) }
     {
         self.arcs.push(arc)?;
@@ -46,7 +46,7 @@ impl Standing {
     }
 
     /// One arc less, where it is here.
-    pub fn leave(&mut self, arc: usize)
+    pub fn leave(&mut self, arc: u32)
         ensures { IsDistinct nat_eq self.old → Leaves self.old arc self.new }
     {
         for i in 0..self.arcs.len() {

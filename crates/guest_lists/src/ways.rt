@@ -55,7 +55,7 @@ impl ArcList {
 /// but for those back to sources; of a source none.
 #[derive(Drop)]
 pub struct Ways {
-    pub exits: Vec<Option<usize>>,
+    pub exits: Vec<Option<u32>>,
     pub inner: Vec<ArcList>,
 }
 
@@ -75,7 +75,7 @@ impl Ways {
     }
 
     /// An arc of this number becomes the exit of a node.
-    fn set_exit(&mut self, node: usize, number: usize)
+    fn set_exit(&mut self, node: usize, number: u32)
         requires { node < length self.old.exits.items }
         ensures exits { self.new.exits.items ≡ slice_set self.old.exits.items node (Some number) }
         ensures inner { self.new.inner.items ≡ self.old.inner.items }
@@ -95,7 +95,7 @@ impl Ways {
     }
 
     /// Lists an arc of this number at its start: it is the exit where it is the first to the sink.
-    fn list_own(&mut self, number: usize, arc: FlowArc, sink: usize) -> Result<(), AllocError>
+    fn list_own(&mut self, number: u32, arc: FlowArc, sink: usize) -> Result<(), AllocError>
         requires exits { arc.from < length self.old.exits.items }
         requires inner { arc.from < length self.old.inner.items }
         ensures exits { length self.new.exits.items ≡ length self.old.exits.items }
@@ -104,11 +104,12 @@ impl Ways {
             → IsListed arcs sink arc.from (ArcNo.Forward number) self.old.exits.items self.old.inner.items
             self.new.exits.items self.new.inner.items) }
     {
-        if arc.to == sink && self.exits[arc.from].is_none() {
-            self.set_exit(arc.from, number);
+        let from = arc.from as usize;
+        if arc.to as usize == sink && self.exits[from].is_none() {
+            self.set_exit(from, number);
             return Ok(());
         }
-        self.put(arc.from, ArcNo::Forward(number))?;
+        self.put(from, ArcNo::Forward(number))?;
         Ok(())
     }
 
@@ -117,7 +118,7 @@ impl Ways {
     fn list(
         &mut self,
         is_source: &[bool],
-        number: usize,
+        number: u32,
         arc: FlowArc,
         sink: usize,
     ) -> Result<(), AllocError>
@@ -134,11 +135,11 @@ impl Ways {
             → AreListed arcs is_source.now sink (some ++ arc ∷ []) self.new.exits.items
             self.new.inner.items) }
     {
-        if is_source[arc.from] {
+        if is_source[arc.from as usize] {
             return Ok(());
         }
         self.list_own(number, arc, sink)?;
-        self.put(arc.to, ArcNo::Reverse(number))?;
+        self.put(arc.to as usize, ArcNo::Reverse(number))?;
         Ok(())
     }
 }
@@ -162,7 +163,7 @@ pub fn ways_of<L: Layout>(
     let arcs = network.all_arcs();
     let mut ways = Ways::none(alloc, is_source.len())?;
     for k in 0..arcs.len() {
-        ways.list(is_source, k, arcs[k], sink)?;
+        ways.list(is_source, k as u32, arcs[k], sink)?;
     }
     Ok(ways)
 }

@@ -14,8 +14,8 @@ pub fn decompose_flow(places: &mut [usize], arcs: &[FlowArc], flows: &[u64], sin
 {
     for k in 0..arcs.len() {
         let arc = arcs[k];
-        if arc.to != sink {
-            move_units(places, arc.from, arc.to, flows[k]);
+        if arc.to as usize != sink {
+            move_units(places, arc.from as usize, arc.to as usize, flows[k]);
         }
     }
 }

@@ -168,11 +168,13 @@ impl Walk {
     fn longer(self, potentials: &Potentials, arc: FlowArc, carried: u64) -> [Option<Walk>; 2] {
         let cost = arc.cost.cast_signed();
         let mut longer = [None; 2];
-        if carried < arc.capacity {
-            longer[0] = self.over(potentials, arc.from, arc.to, cost);
+        let from = arc.from as usize;
+        let to = arc.to as usize;
+        if carried < arc.capacity as u64 {
+            longer[0] = self.over(potentials, from, to, cost);
         }
         if carried > 0 {
-            longer[1] = self.over(potentials, arc.to, arc.from, cost.wrapping_neg());
+            longer[1] = self.over(potentials, to, from, cost.wrapping_neg());
         }
         longer
     }

@@ -95,7 +95,7 @@ fn add_split(
     Ok(())
 }
 
-// Takes the memory for the arcs of a split's row at once.
+// Takes the memory for the arcs of a split's row at once; several data centres may want a few more.
 fn make_room(
     network: &mut Network<RackLayout>,
     problem: &Problem,
@@ -107,7 +107,7 @@ fn make_room(
 {
     let bars = problem.bars(split);
     let arcs = if bars.is_empty() {
-        3 * problem.holders(split).len() + 2
+        2 * problem.holders(split).len() + 2
     } else {
         problem.workers()
     };

@@ -39,7 +39,7 @@ fn is_priced_arc(arc: FlowArc, flow: u64, depths: &[u64]) -> bool
     requires deep { (v : ℕ) → slice_index depths.now v ≤ 2 ^ 52 }
     ensures { IsTrue result ↔ NoNegativeArc (slice_index depths.now) arc flow }
 {
-    let from = depths[arc.from];
-    let through = arc.cost + depths[arc.to];
-    (flow >= arc.capacity || from <= through) && (flow == 0 || through <= from)
+    let from = depths[arc.from as usize];
+    let through = arc.cost + depths[arc.to as usize];
+    (flow >= arc.capacity as u64 || from <= through) && (flow == 0 || through <= from)
 }

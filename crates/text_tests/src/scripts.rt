@@ -155,7 +155,7 @@ fn each_front_of_a_job_has_a_fault(rt: HostRuntime) {
         let told = fault_in(rt.alloc(), Purpose::Running, front);
         assert_eq!(rt; told, Some((line, want)), "{end}");
         if JOB.as_bytes()[end] == b'\n' {
-            line += 1;
+            line = line.wrapping_add(1);
         }
     }
     assert_eq!(rt; fault_of(rt.alloc(), Purpose::Running, JOB), None);
