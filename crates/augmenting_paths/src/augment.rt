@@ -19,7 +19,7 @@ use node_ids::Layout;
 use shortest_paths::{Potentials, leaving};
 use std::alloc::{AllocError, Global};
 
-/// What is kept from unit to unit.
+// What is kept from unit to unit.
 #[derive(Drop)]
 struct Shipping {
     potentials: Potentials,
@@ -72,9 +72,9 @@ pub fn saturate<L: Layout>(
     Ok(potentials)
 }
 
-/// Ships the unit of the source that stands at this place of the order along a least path, and lowers the
-/// potentials. The source is lifted first, so that an arc of reduced cost 0 leaves it; often it leads to a
-/// node from which another one goes on to the sink.
+// Ships the unit of the source that stands at this place of the order along a least path, and lowers the
+// potentials. The source is lifted first, so that an arc of reduced cost 0 leaves it; often it leads to a
+// node from which another one goes on to the sink.
 fn ship<L: Layout>(
     alloc: Global,
     network: &mut Network<L>,
@@ -121,7 +121,7 @@ fn ship<L: Layout>(
     }
 }
 
-/// Ships the unit of the next source, which is lifted, over an arc of its own and one to the sink.
+// Ships the unit of the next source, which is lifted, over an arc of its own and one to the sink.
 fn ship_straight<L: Layout>(
     network: &mut Network<L>,
     shipping: Shipping,
@@ -167,7 +167,7 @@ fn ship_straight<L: Layout>(
     })
 }
 
-/// Ships the unit of the next source, which is lifted, along the path that a search finds.
+// Ships the unit of the next source, which is lifted, along the path that a search finds.
 fn ship_found<L: Layout>(
     alloc: Global,
     network: &mut Network<L>,
@@ -216,7 +216,7 @@ fn ship_found<L: Layout>(
     })
 }
 
-/// An arc of a node's own and one from there to the sink, both with room and at no reduced cost.
+// An arc of a node's own and one from there to the sink, both with room and at no reduced cost.
 fn straight_way<L: Layout>(
     network: &Network<L>,
     potentials: &Potentials,
@@ -240,7 +240,7 @@ fn straight_way<L: Layout>(
     None
 }
 
-/// The same, by one residual arc.
+// The same, by one residual arc.
 fn straight_on<L: Layout>(
     network: &Network<L>,
     potentials: &Potentials,
@@ -269,7 +269,7 @@ fn straight_on<L: Layout>(
     }
 }
 
-/// Whether an arc has room and costs nothing under the potentials.
+// Whether an arc has room and costs nothing under the potentials.
 fn is_open<L: Layout>(network: &Network<L>, potentials: &Potentials, number: usize) -> bool
     requires size { length potentials.now ≡ L.node_count network.now.layout }
     requires listed { number < length network.now.arcs }
@@ -282,8 +282,8 @@ fn is_open<L: Layout>(network: &Network<L>, potentials: &Potentials, number: usi
         && network.all_flows()[number] < arc.capacity as u64
 }
 
-/// Lowers the potential of a source, which is 0, by the least of what an arc of its own costs together with
-/// the depth of its end.
+// Lowers the potential of a source, which is 0, by the least of what an arc of its own costs together with
+// the depth of its end.
 fn lift<L: Layout>(network: &Network<L>, potentials: &mut Potentials, source: usize)
     requires size { length potentials.old ≡ L.node_count network.now.layout }
     requires source { source < L.node_count network.now.layout }
@@ -300,7 +300,7 @@ fn lift<L: Layout>(network: &Network<L>, potentials: &mut Potentials, source: us
     potentials.lower(source, way);
 }
 
-/// The least of what an arc with room of a node's own costs together with the depth of its end.
+// The least of what an arc with room of a node's own costs together with the depth of its end.
 fn least_way<L: Layout>(network: &Network<L>, depths: &[u64], node: usize) -> u64
     requires size { length depths.now ≡ L.node_count network.now.layout }
     requires node { node < L.node_count network.now.layout }
@@ -318,7 +318,7 @@ fn least_way<L: Layout>(network: &Network<L>, depths: &[u64], node: usize) -> u6
     least
 }
 
-/// The same of one arc, and of what is known.
+// The same of one arc, and of what is known.
 fn lesser_way(arcs: &[FlowArc], depths: &[u64], arc: ArcNo, least: u64) -> u64
     requires arcs { AreArcs (length depths.now) arcs.now }
     requires listed { arc_index arc < length arcs.now }
@@ -336,7 +336,7 @@ fn lesser_way(arcs: &[FlowArc], depths: &[u64], arc: ArcNo, least: u64) -> u64
     }
 }
 
-/// Searches for the sink. The search is lent a meter, under which it looks at most twice at each arc.
+// Searches for the sink. The search is lent a meter, under which it looks at most twice at each arc.
 fn find<L: Layout>(
     buffers: Buffers,
     network: &Network<L>,
@@ -363,7 +363,7 @@ fn find<L: Layout>(
     Ok(found)
 }
 
-/// Which of so many nodes are sources.
+// Which of so many nodes are sources.
 fn marked(alloc: Global, nodes: usize, sources: &[usize]) -> Result<Vec<bool>, AllocError>
     requires { (k : ℕ) → k < length sources.now → slice_index sources.now k < nodes }
     ensures size { IfOk result (λ m. length m.items ≡ nodes) }

@@ -5,8 +5,8 @@ use flow_network::{FlowArc, Network};
 use node_ids::Layout;
 use std::alloc::{AllocError, Global};
 
-/// The greatest cost of a node's own arcs, and the greatest that is less: what its unit costs at most where
-/// it need not take the dearest way.
+// The greatest cost of a node's own arcs, and the greatest that is less: what its unit costs at most where
+// it need not take the dearest way.
 #[derive(Clone, Copy)]
 struct Costs {
     most: u64,
@@ -52,7 +52,7 @@ pub fn shipping_order<L: Layout>(
     Ok(order)
 }
 
-/// The costs of each node's own arcs, by the nodes' indices.
+// The costs of each node's own arcs, by the nodes' indices.
 fn costs_of<L: Layout>(alloc: Global, network: &Network<L>) -> Result<Vec<Costs>, AllocError>
     ensures { IfOk result (λ c. length c.items ≡ L.node_count network.now.layout) }
 {
@@ -66,7 +66,7 @@ fn costs_of<L: Layout>(alloc: Global, network: &Network<L>) -> Result<Vec<Costs>
     Ok(costs)
 }
 
-/// Each source, after what its unit costs.
+// Each source, after what its unit costs.
 fn keys_of(
     alloc: Global,
     sources: &[usize],
@@ -82,7 +82,7 @@ fn keys_of(
     Ok(keys)
 }
 
-/// The nodes of the keys.
+// The nodes of the keys.
 fn nodes_of(alloc: Global, keys: &[(u64, usize)]) -> Result<Vec<usize>, AllocError>
     ensures { IfOk result (λ n. n.items ≡ map (λ p. p.1) keys.now) }
 {
@@ -93,7 +93,7 @@ fn nodes_of(alloc: Global, keys: &[(u64, usize)]) -> Result<Vec<usize>, AllocErr
     Ok(nodes)
 }
 
-/// What the arcs to the sink take together that cannot take all units.
+// What the arcs to the sink take together that cannot take all units.
 fn narrow_room(arcs: &[FlowArc], sink: usize, units: u64) -> usize {
     let mut room: usize = 0;
     for arc in arcs {

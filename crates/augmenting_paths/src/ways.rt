@@ -38,7 +38,7 @@ pub fn can_ship<L: Layout>(
     have_paths(alloc, network, sources, sink)
 }
 
-/// Whether each source has a way of its own to the sink.
+// Whether each source has a way of its own to the sink.
 fn have_paths<L: Layout>(
     alloc: Global,
     network: &Network<L>,
@@ -58,7 +58,7 @@ fn have_paths<L: Layout>(
     Ok(may_ship)
 }
 
-/// Whether each node is one of the layout's.
+// Whether each node is one of the layout's.
 fn are_members<L: Layout>(layout: &L, nodes: &[L::Node]) -> bool
     ensures { IsTrue result ↔ AreMembers (L.is_member layout.now) nodes.now }
 {
@@ -70,7 +70,7 @@ fn are_members<L: Layout>(layout: &L, nodes: &[L::Node]) -> bool
     true
 }
 
-/// Whether nothing flows.
+// Whether nothing flows.
 fn are_zero(flows: &[u64]) -> bool
     ensures { IsTrue result ↔ ((k : ℕ) → slice_index flows.now k ≡ 0) }
 {
@@ -98,7 +98,7 @@ pub fn indices<L: Layout>(
     Ok(indices)
 }
 
-/// Whether an arc leads from the node to the sink with room for so many units.
+// Whether an arc leads from the node to the sink with room for so many units.
 fn leads_on(arcs: &[FlowArc], units: usize, sink: usize, node: usize) -> bool
     ensures { IsTrue result ↔ LeadsOn arcs.now units sink node }
 {
@@ -110,7 +110,7 @@ fn leads_on(arcs: &[FlowArc], units: usize, sink: usize, node: usize) -> bool
     false
 }
 
-/// Whether the source has a way to the sink.
+// Whether the source has a way to the sink.
 fn has_way(arcs: &[FlowArc], sources: &[usize], sink: usize, source: usize) -> bool
     ensures { IsTrue result ↔ HasWay arcs.now sources.now sink source }
 {
@@ -125,7 +125,7 @@ fn has_way(arcs: &[FlowArc], sources: &[usize], sink: usize, source: usize) -> b
     false
 }
 
-/// Whether each source has a way to the sink.
+// Whether each source has a way to the sink.
 fn have_ways(arcs: &[FlowArc], sources: &[usize], sink: usize) -> bool
     ensures { IsTrue result ↔ ((k : ℕ) → k < length sources.now
         → HasWay arcs.now sources.now sink (slice_index sources.now k)) }
@@ -138,7 +138,7 @@ fn have_ways(arcs: &[FlowArc], sources: &[usize], sink: usize) -> bool
     true
 }
 
-/// Whether an arc leads to the node.
+// Whether an arc leads to the node.
 fn is_entered(arcs: &[FlowArc], node: usize) -> bool
     ensures { IsTrue result ↔ IsEntered arcs.now node }
 {
@@ -150,7 +150,7 @@ fn is_entered(arcs: &[FlowArc], node: usize) -> bool
     false
 }
 
-/// Whether a source stands before its place too.
+// Whether a source stands before its place too.
 fn stands_before(sources: &[usize], place: usize) -> bool
     requires { place < length sources.now }
     ensures { IsTrue result ↔ ((j : ℕ) × (j < place)
@@ -164,7 +164,7 @@ fn stands_before(sources: &[usize], place: usize) -> bool
     false
 }
 
-/// Whether the source of this number stands once, is not the sink, and no arc leads to it.
+// Whether the source of this number stands once, is not the sink, and no arc leads to it.
 fn is_start(arcs: &[FlowArc], sources: &[usize], sink: usize, k: usize) -> bool
     requires { k < length sources.now }
     ensures { IsTrue result ↔ IsStart arcs.now sources.now sink k }
@@ -172,7 +172,7 @@ fn is_start(arcs: &[FlowArc], sources: &[usize], sink: usize, k: usize) -> bool
     sources[k] != sink && !is_entered(arcs, sources[k]) && !stands_before(sources, k)
 }
 
-/// Whether each source stands once, is not the sink, and no arc leads to it.
+// Whether each source stands once, is not the sink, and no arc leads to it.
 fn are_starts(arcs: &[FlowArc], sources: &[usize], sink: usize) -> bool
     ensures { IsTrue result ↔ AreStarts arcs.now sources.now sink }
 {
@@ -184,7 +184,7 @@ fn are_starts(arcs: &[FlowArc], sources: &[usize], sink: usize) -> bool
     true
 }
 
-/// Both of each source.
+// Both of each source.
 fn are_starts_with_ways(arcs: &[FlowArc], sources: &[usize], sink: usize) -> bool
     ensures { IsTrue result ↔ (AreStarts arcs.now sources.now sink
         × ((k : ℕ) → k < length sources.now → HasWay arcs.now sources.now sink (slice_index sources.now k))) }

@@ -195,7 +195,7 @@ impl<L: Layout> Network<L> {
         self.push_along(path);
     }
 
-    /// `push`, without what it says of balances.
+    // `push`, without what it says of balances.
     fn push_along(&mut self, path: &[ArcNo])
         requires distinct { IsDistinct path.now }
         requires path { IsPath self.old.arcs self.old.flows path.now (path_start self.old.arcs path.now)
@@ -275,7 +275,7 @@ impl<L: Layout> Network<L> {
     }
 }
 
-/// Moves one unit over each arc of a path.
+// Moves one unit over each arc of a path.
 fn push_units(arcs: &[FlowArc], flows: &mut [u64], path: &[ArcNo])
     requires arcs { AreArcs 4096 arcs.now }
     requires sizes { length flows.old ≡ length arcs.now }
@@ -293,7 +293,7 @@ fn push_units(arcs: &[FlowArc], flows: &mut [u64], path: &[ArcNo])
     }
 }
 
-/// What flows into a node.
+// What flows into a node.
 fn inflow_of(arcs: &[FlowArc], flows: &[u64], node: usize) -> u64
     requires arcs { AreArcs 4096 arcs.now }
     requires limit { length arcs.now ≤ 1048576 }
@@ -311,7 +311,7 @@ fn inflow_of(arcs: &[FlowArc], flows: &[u64], node: usize) -> u64
     gained
 }
 
-/// What flows out of a node.
+// What flows out of a node.
 fn outflow_of(arcs: &[FlowArc], flows: &[u64], node: usize) -> u64
     requires arcs { AreArcs 4096 arcs.now }
     requires limit { length arcs.now ≤ 1048576 }

@@ -125,7 +125,7 @@ impl Guests {
         Ok(())
     }
 
-    /// Follows the unit over one residual arc between these ends, which carries so many now.
+    // Follows the unit over one residual arc between these ends, which carries so many now.
     fn settle(&mut self, arc: ArcNo, ends: FlowArc, flow: u64) -> Result<(), AllocError>
         requires from { ends.from < length self.old.is_source }
         requires to { ends.to < length self.old.standing }
@@ -158,7 +158,7 @@ impl Guests {
     }
 }
 
-/// Nobody stands at any of so many nodes.
+// Nobody stands at any of so many nodes.
 fn nobody(alloc: Global, nodes: usize) -> Result<Vec<Standing>, AllocError>
     ensures { IfOk result (λ s. s.items ≡ replicate nodes []) }
 {
@@ -169,7 +169,7 @@ fn nobody(alloc: Global, nodes: usize) -> Result<Vec<Standing>, AllocError>
     Ok(standing)
 }
 
-/// The number of the arc that a residual arc goes over.
+// The number of the arc that a residual arc goes over.
 fn number(arc: ArcNo) -> usize
     ensures { result ≡ arc_index arc }
 {

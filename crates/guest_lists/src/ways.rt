@@ -27,7 +27,7 @@ impl Model for ArcList {
 }
 
 impl ArcList {
-    /// No arc; nothing is allocated.
+    // No arc; nothing is allocated.
     fn new(alloc: Global) -> ArcList
         ensures { result ≡ [] }
     {
@@ -60,7 +60,7 @@ pub struct Ways {
 }
 
 impl Ways {
-    /// No arc at so many nodes.
+    // No arc at so many nodes.
     fn none(alloc: Global, nodes: usize) -> Result<Ways, AllocError>
         ensures exits { IfOk result (λ w. w.exits.items ≡ replicate nodes None) }
         ensures inner { IfOk result (λ w. w.inner.items ≡ replicate nodes []) }
@@ -74,7 +74,7 @@ impl Ways {
         Ok(Ways { exits, inner })
     }
 
-    /// An arc of this number becomes the exit of a node.
+    // An arc of this number becomes the exit of a node.
     fn set_exit(&mut self, node: usize, number: u32)
         requires { node < length self.old.exits.items }
         ensures exits { self.new.exits.items ≡ slice_set self.old.exits.items node (Some number) }
@@ -83,7 +83,7 @@ impl Ways {
         self.exits[node] = Some(number);
     }
 
-    /// One arc more among the others of a node.
+    // One arc more among the others of a node.
     fn put(&mut self, node: usize, arc: ArcNo) -> Result<(), AllocError>
         requires { node < length self.old.inner.items }
         ensures exits { self.new.exits.items ≡ self.old.exits.items }
@@ -94,7 +94,7 @@ impl Ways {
         Ok(())
     }
 
-    /// Lists an arc of this number at its start: it is the exit where it is the first to the sink.
+    // Lists an arc of this number at its start: it is the exit where it is the first to the sink.
     fn list_own(&mut self, number: u32, arc: FlowArc, sink: usize) -> Result<(), AllocError>
         requires exits { arc.from < length self.old.exits.items }
         requires inner { arc.from < length self.old.inner.items }
@@ -113,7 +113,7 @@ impl Ways {
         Ok(())
     }
 
-    /// Lists the next arc, of this number, at its start, and its reverse at its end, where no source has it.
+    // Lists the next arc, of this number, at its start, and its reverse at its end, where no source has it.
     #[inline(always)]
     fn list(
         &mut self,

@@ -54,7 +54,7 @@ impl Search {
         })
     }
 
-    /// Takes a path to a node that is shorter than what is known.
+    // Takes a path to a node that is shorter than what is known.
     fn reach(&mut self, node: usize, distance: u64, arrival: Arrival) -> Result<(), AllocError>
         requires distances { node < length self.old.distances.items }
         requires arrivals { node < length self.old.arrivals.items }
@@ -74,7 +74,7 @@ impl Search {
         Ok(())
     }
 
-    /// Looks at a residual arc that leaves a settled node of the level; which node is to be entered next.
+    // Looks at a residual arc that leaves a settled node of the level; which node is to be entered next.
     #[inline(always)]
     fn look<L: Layout>(
         &mut self,
@@ -128,7 +128,7 @@ impl Search {
         Ok(None)
     }
 
-    /// Settles a node that is no source: it goes on the stack, with all its arcs still to be looked at.
+    // Settles a node that is no source: it goes on the stack, with all its arcs still to be looked at.
     fn open(&mut self, guests: &Guests, node: usize) -> Result<(), AllocError>
         requires sized { AreSized (length self.old.settled.items) guests.now }
         requires node { node < length self.old.settled.items }
@@ -148,7 +148,7 @@ impl Search {
         Ok(())
     }
 
-    /// Settles a node that is no source, and looks at its exit; whether the sink is entered next.
+    // Settles a node that is no source, and looks at its exit; whether the sink is entered next.
     fn stand<L: Layout>(
         &mut self,
         meter: &mut Meter<L>,
@@ -188,8 +188,8 @@ impl Search {
         }
     }
 
-    /// Looks at an arc that leads to no source, and settles its end where that costs nothing; whether the
-    /// sink is entered next.
+    // Looks at an arc that leads to no source, and settles its end where that costs nothing; whether the
+    // sink is entered next.
     fn pass<L: Layout>(
         &mut self,
         meter: &mut Meter<L>,
@@ -228,8 +228,8 @@ impl Search {
         }
     }
 
-    /// Settles a source, and looks over its arcs from the last on, so that what is added first, the highest
-    /// node, is gone on from first; whether the sink is entered next.
+    // Settles a source, and looks over its arcs from the last on, so that what is added first, the highest
+    // node, is gone on from first; whether the sink is entered next.
     fn scan<L: Layout>(
         &mut self,
         meter: &mut Meter<L>,
@@ -270,8 +270,8 @@ impl Search {
         Ok(false)
     }
 
-    /// Settles the node that is entered: a source looks over its arcs, another stands on the stack; whether
-    /// the sink is entered next.
+    // Settles the node that is entered: a source looks over its arcs, another stands on the stack; whether
+    // the sink is entered next.
     fn enter<L: Layout>(
         &mut self,
         meter: &mut Meter<L>,
@@ -305,8 +305,8 @@ impl Search {
         Ok(found)
     }
 
-    /// Looks at an arc that leaves a node on the stack, and settles its end where that costs nothing;
-    /// whether the sink is entered next.
+    // Looks at an arc that leaves a node on the stack, and settles its end where that costs nothing;
+    // whether the sink is entered next.
     fn step<L: Layout>(
         &mut self,
         meter: &mut Meter<L>,
@@ -341,7 +341,7 @@ impl Search {
         }
     }
 
-    /// Looks at the next inner arc of the node on top of the stack; whether the sink is entered next.
+    // Looks at the next inner arc of the node on top of the stack; whether the sink is entered next.
     fn turn_inner<L: Layout>(
         &mut self,
         meter: &mut Meter<L>,
@@ -374,8 +374,8 @@ impl Search {
         Ok(found)
     }
 
-    /// Looks back over the arc of the next guest of the node on top of the stack; whether the sink is
-    /// entered next.
+    // Looks back over the arc of the next guest of the node on top of the stack; whether the sink is
+    // entered next.
     fn turn_standing<L: Layout>(
         &mut self,
         meter: &mut Meter<L>,
@@ -408,8 +408,8 @@ impl Search {
         Ok(found)
     }
 
-    /// One turn of the node on top of the stack: its next arc is looked at, or it leaves the stack; whether
-    /// the sink is entered next.
+    // One turn of the node on top of the stack: its next arc is looked at, or it leaves the stack; whether
+    // the sink is entered next.
     fn turn<L: Layout>(
         &mut self,
         meter: &mut Meter<L>,
@@ -447,8 +447,8 @@ impl Search {
         Ok(false)
     }
 
-    /// Goes on along arcs of reduced cost 0 from the nodes on the stack, depth first; whether the sink is
-    /// entered next.
+    // Goes on along arcs of reduced cost 0 from the nodes on the stack, depth first; whether the sink is
+    // entered next.
     fn follow<L: Layout>(
         &mut self,
         meter: &mut Meter<L>,
@@ -480,8 +480,8 @@ impl Search {
         Ok(false)
     }
 
-    /// Settles a node, and those to which arcs of reduced cost 0 lead from it; whether the sink is entered
-    /// next.
+    // Settles a node, and those to which arcs of reduced cost 0 lead from it; whether the sink is entered
+    // next.
     fn settle<L: Layout>(
         &mut self,
         meter: &mut Meter<L>,
@@ -515,7 +515,7 @@ impl Search {
         Ok(found)
     }
 
-    /// Settles the nodes that wait in the queue, nearest first; the sink's distance, if it is entered next.
+    // Settles the nodes that wait in the queue, nearest first; the sink's distance, if it is entered next.
     fn empty_queue<L: Layout>(
         &mut self,
         meter: &mut Meter<L>,
@@ -592,7 +592,7 @@ impl Search {
         }
     }
 
-    /// Forgets the distance of a node.
+    // Forgets the distance of a node.
     fn clear(&mut self, node: usize)
         requires node { node < length self.old.distances.items }
         requires settled { node < length self.old.settled.items }

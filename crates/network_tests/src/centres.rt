@@ -6,7 +6,7 @@ use rack_network::{RackLayout, RackNode, build};
 use std::alloc::Global;
 use std::process::Abort;
 
-/// A worker in each of three racks; the first has no slot.
+// A worker in each of three racks; the first has no slot.
 const WORKERS: &'static [(u16, u8)] = &[(0, 0), (1, 1), (2, 1)];
 
 const TWO: &'static [(u64, usize, usize)] = &[(7, 0, NONE), (1, 0, NONE)];
@@ -15,7 +15,7 @@ const ONE: &'static [(u64, usize, usize)] = &[(7, 1, NONE)];
 
 const BARRED: &'static [(u64, usize, usize)] = &[(7, 0, 1)];
 
-/// Splits and data centres, with how many arcs there are.
+// Splits and data centres, with how many arcs there are.
 const ROWS: [(&'static [(u64, usize, usize)], (u8, [u8; 3]), usize); 7] = [
     (TWO, ONE_CENTRE, 2 * 3 + 3 + 2 + 3 + 1),
     (TWO, (2, [0, 0, 1]), 2 * 4 + 2 + 3 + 2 + 3 + 1),
@@ -31,10 +31,10 @@ fn arcs_of(rt: &impl Abort, alloc: Global, row: &Row) -> usize {
     build(alloc, &problem).expect(rt, "no network").arcs()
 }
 
-/// A split has an arc to each node above its live holder, to the holder where it has a slot, and to
-/// `Unstarted`; with a barred pair to each worker on which it may start, and to `Unstarted`. Then come the
-/// arcs of the cluster to the centres, of the centres to three racks, of the racks to the workers with a
-/// slot, of the workers, and the last.
+// A split has an arc to each node above its live holder, to the holder where it has a slot, and to
+// `Unstarted`; with a barred pair to each worker on which it may start, and to `Unstarted`. Then come the
+// arcs of the cluster to the centres, of the centres to three racks, of the racks to the workers with a
+// slot, of the workers, and the last.
 #[test]
 fn arcs_of_racks_and_centres(rt: HostRuntime) {
     for (splits, centres, arcs) in ROWS {
@@ -48,8 +48,8 @@ fn arcs_of_racks_and_centres(rt: HostRuntime) {
     }
 }
 
-/// How many nodes there are, what stands past the splits, whether there is a cluster above, and whether a
-/// centre past the last.
+// How many nodes there are, what stands past the splits, whether there is a cluster above, and whether a
+// centre past the last.
 fn nodes_of(rt: &impl Abort, layout: &RackLayout) -> (usize, RackNode, bool, bool) {
     let past = RackNode::Centre(CentreNo::new(layout.centres));
     assert!(rt; layout.size() > 2);
@@ -61,7 +61,7 @@ fn nodes_of(rt: &impl Abort, layout: &RackLayout) -> (usize, RackNode, bool, boo
     )
 }
 
-/// Two splits, so many centres, three racks, four workers, `Unstarted`, `Sink`; and `Cluster` above several.
+// Two splits, so many centres, three racks, four workers, `Unstarted`, `Sink`; and `Cluster` above several.
 #[test]
 fn one_centre_takes_the_place_of_the_cluster(rt: HostRuntime) {
     let rows: [(u8, usize, RackNode); 3] = [

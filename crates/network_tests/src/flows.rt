@@ -5,7 +5,7 @@ use std::process::Abort;
 
 const ARC: ArcNo = ArcNo::Forward(0);
 
-/// The units on the one arc, the room that is left on it, and the excess at each of its ends.
+// The units on the one arc, the room that is left on it, and the excess at each of its ends.
 fn standing(rt: &impl Abort, network: &Network<Numbered>) -> [i64; 4] {
     assert!(rt; network.arcs() == 1);
     [
@@ -42,12 +42,12 @@ fn leaving(network: &Network<Numbered>, node: usize) -> usize {
     }
 }
 
-/// How many arcs there are, and how many are listed at each end.
+// How many arcs there are, and how many are listed at each end.
 fn sizes(network: &Network<Numbered>) -> (usize, usize, usize) {
     (network.arcs(), leaving(network, 0), leaving(network, 1))
 }
 
-/// Whatever allocation is refused, an arc is listed at both ends or not at all.
+// Whatever allocation is refused, an arc is listed at both ends or not at all.
 #[test]
 fn refused_arcs_leave_no_trace(rt: HostRuntime) {
     if let Ok(mut network) = Network::new(rt.alloc(), Numbered { nodes: 2 }) {

@@ -7,12 +7,12 @@ use node_ids::Numbered;
 use std::alloc::Global;
 use std::process::Abort;
 
-/// Four sources, nodes 0 to 3; three places and one where any unit may wait, nodes 4 to 7; and the sink.
+// Four sources, nodes 0 to 3; three places and one where any unit may wait, nodes 4 to 7; and the sink.
 const NODES: usize = 9;
 
 const SINK: usize = 8;
 
-/// What a unit of each source pays at each of the four, and how many units each of them takes.
+// What a unit of each source pays at each of the four, and how many units each of them takes.
 #[derive(Drop)]
 struct Fair {
     costs: [[u64; 4]; 4],
@@ -43,8 +43,8 @@ fn rows(fair: &Fair) -> [Row; 20] {
     rows
 }
 
-/// What the units pay where each source takes the way that a number with a digit for each says, if there is
-/// room.
+// What the units pay where each source takes the way that a number with a digit for each says, if there is
+// room.
 fn price(fair: &Fair, choice: u32) -> Option<u64> {
     let mut left = fair.room;
     let mut paid: u64 = 0;
@@ -58,7 +58,7 @@ fn price(fair: &Fair, choice: u32) -> Option<u64> {
     Some(paid)
 }
 
-/// The least that they pay.
+// The least that they pay.
 fn least(fair: &Fair) -> Option<u64> {
     let mut least = None;
     for choice in 0..256u32 {
@@ -71,7 +71,7 @@ fn least(fair: &Fair) -> Option<u64> {
     least
 }
 
-/// What the units of a network pay.
+// What the units of a network pay.
 fn paid(network: &Network<Numbered>) -> u64 {
     let mut paid: u64 = 0;
     for (arc, carried) in network.all_arcs().iter().zip(network.all_flows()) {
@@ -80,7 +80,7 @@ fn paid(network: &Network<Numbered>) -> u64 {
     paid
 }
 
-/// What the shipment of the sources costs, in the order in which they are given.
+// What the shipment of the sources costs, in the order in which they are given.
 fn shipped(rt: &impl Abort, alloc: Global, fair: &Fair, sources: &[usize]) -> u64 {
     let mut network = network(rt, alloc, NODES, &rows(fair));
     let _potentials = ship(rt, alloc, &mut network, sources, SINK);
@@ -96,7 +96,7 @@ const ORDERS: [[usize; 4]; 6] = [
     [2, 0, 3, 1],
 ];
 
-/// That the sources of a seed's fair pay the least in each order.
+// That the sources of a seed's fair pay the least in each order.
 fn assert_orders(rt: &impl Abort, alloc: Global, seed: u64) {
     let fair = made(seed);
     let want = least(&fair);

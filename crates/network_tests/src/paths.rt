@@ -7,7 +7,7 @@ use shortest_paths::{Distances, Potentials, distances, distances_by, has_no_nega
 use std::alloc::Global;
 use std::process::Abort;
 
-/// A cycle without cost between 0 and 1, two arcs from there to 2, one on to 4 without room, and 3 apart.
+// A cycle without cost between 0 and 1, two arcs from there to 2, one on to 4 without room, and 3 apart.
 const CYCLE: [Row; 7] = [
     (0, 1, 1, 0),
     (1, 0, 1, 0),
@@ -38,7 +38,7 @@ pub fn search(
     distances(alloc, network, potentials, from).expect(rt, "no memory")
 }
 
-/// The length of a least path to each of five nodes.
+// The length of a least path to each of five nodes.
 fn lengths(found: &Distances) -> [Option<u64>; 5]
     requires { 5 ≤ length found.now }
 {
@@ -51,7 +51,7 @@ fn lengths(found: &Distances) -> [Option<u64>; 5]
     ]
 }
 
-/// The arcs of a least path to a node, none where there is no path.
+// The arcs of a least path to a node, none where there is no path.
 fn assert_path(rt: &impl Abort, alloc: Global, found: &Distances, node: usize, want: &[ArcNo])
     requires { node < length found.now }
 {
@@ -60,7 +60,7 @@ fn assert_path(rt: &impl Abort, alloc: Global, found: &Distances, node: usize, w
     assert_eq!(rt; arcs.as_slice(), want);
 }
 
-/// The least paths from node 0: none leads to 3 or 4.
+// The least paths from node 0: none leads to 3 or 4.
 fn assert_from_0(rt: &impl Abort, alloc: Global, found: &Distances)
     requires { 5 ≤ length found.now }
 {
@@ -78,7 +78,7 @@ fn least_paths_from_the_cycle(rt: HostRuntime) {
     assert_from_0(&rt, rt.alloc(), &found);
 }
 
-/// Potentials under which a unit may be on the cheaper arc from 1 to 2.
+// Potentials under which a unit may be on the cheaper arc from 1 to 2.
 fn lowered(rt: &impl Abort, alloc: Global) -> Potentials {
     let mut potentials = Potentials::new(alloc, 5).expect(rt, "no memory");
     for node in [0, 1, 3] {
@@ -89,7 +89,7 @@ fn lowered(rt: &impl Abort, alloc: Global) -> Potentials {
     potentials
 }
 
-/// The cycle with a unit on the cheaper arc from 1 to 2.
+// The cycle with a unit on the cheaper arc from 1 to 2.
 fn with_a_unit(rt: &impl Abort, alloc: Global) -> Network<Numbered> {
     let mut network = network(rt, alloc, 5, &CYCLE);
     assert!(rt; network.arcs() == 7);
@@ -98,8 +98,8 @@ fn with_a_unit(rt: &impl Abort, alloc: Global) -> Network<Numbered> {
     network
 }
 
-/// The least paths from node 2, which lead over the reverse of the arc with a unit, and the potentials of two
-/// nodes.
+// The least paths from node 2, which lead over the reverse of the arc with a unit, and the potentials of two
+// nodes.
 fn assert_from_2(rt: &impl Abort, alloc: Global, found: &Distances, potentials: &Potentials)
     requires { (5 ≤ length found.now) × (5 ≤ length potentials.now) }
 {
@@ -108,7 +108,7 @@ fn assert_from_2(rt: &impl Abort, alloc: Global, found: &Distances, potentials: 
     assert_path(rt, alloc, found, 0, &[ArcNo::Reverse(3), ArcNo::Forward(1)]);
 }
 
-/// With a unit on the cheaper arc, its reverse gives the cost back.
+// With a unit on the cheaper arc, its reverse gives the cost back.
 #[test]
 fn a_path_takes_a_unit_back(rt: HostRuntime) {
     let network = with_a_unit(&rt, rt.alloc());
@@ -125,7 +125,7 @@ fn a_reverse_arc_wants_potentials(rt: HostRuntime) {
     assert!(rt; !may_search(&network, &potentials));
 }
 
-/// How many looks a search from node 0 takes.
+// How many looks a search from node 0 takes.
 fn looks(
     rt: &impl Abort,
     alloc: Global,
@@ -139,7 +139,7 @@ fn looks(
     meter.count()
 }
 
-/// Four arcs leave each of the nodes 0, 1 and 2 in one direction or the other.
+// Four arcs leave each of the nodes 0, 1 and 2 in one direction or the other.
 #[test]
 fn looks_are_few(rt: HostRuntime) {
     let network = network(&rt, rt.alloc(), 5, &CYCLE);

@@ -9,7 +9,7 @@ use std::process::Abort;
 use wave_planner::{NetworkKind, Planned, plan, plan_with};
 use wave_problem::Problem;
 
-/// That the plan over a network is certified, with this count and cost.
+// That the plan over a network is certified, with this count and cost.
 fn assert_certified(
     rt: &impl Abort,
     alloc: Global,
@@ -44,7 +44,7 @@ fn plans_are_best(rt: HostRuntime) {
     }
 }
 
-/// The worker of each split.
+// The worker of each split.
 fn assert_starts(rt: &impl Abort, planned: &Planned, starts: &[Option<u16>]) {
     let plan = planned.plan();
     assert_eq!(rt; plan.splits(), starts.len());
@@ -56,7 +56,7 @@ fn assert_starts(rt: &impl Abort, planned: &Planned, starts: &[Option<u16>]) {
     }
 }
 
-/// That over a network the splits start on these workers, at this cost.
+// That over a network the splits start on these workers, at this cost.
 fn assert_planned(
     rt: &impl Abort,
     alloc: Global,
@@ -76,16 +76,16 @@ fn assert_row(rt: &impl Abort, alloc: Global, row: &PlanRow) {
     assert_planned(rt, alloc, &problem, NetworkKind::Racks, row);
 }
 
-/// Two workers with a slot each in one rack.
+// Two workers with a slot each in one rack.
 const PAIR: &'static [(u16, u8)] = &[(0, 1), (0, 1)];
 
-/// A worker without slots, and one with a slot in another rack.
+// A worker without slots, and one with a slot in another rack.
 const APART: &'static [(u16, u8)] = &[(0, 0), (1, 1)];
 
-/// The second rack is in the second data centre.
+// The second rack is in the second data centre.
 const TWO_CENTRES: (u8, [u8; 3]) = (2, [0, 1, 0]);
 
-/// What a problem shows, the problem, what its plan costs, and the worker of each split.
+// What a problem shows, the problem, what its plan costs, and the worker of each split.
 type PlanRow = (&'static str, Row, u64, &'static [Option<u16>]);
 
 const ROWS: [PlanRow; 10] = [
@@ -209,7 +209,7 @@ fn plan_of(rt: &impl Abort, alloc: Global, row: &Row) -> Planned {
     plan(alloc, &problem).expect(rt, "no plan")
 }
 
-/// The price of the one split, and of the one worker.
+// The price of the one split, and of the one worker.
 fn prices_of(rt: &impl Abort, prices: &Prices) -> (u64, u64) {
     assert!(rt; prices.splits() == 1 && prices.workers() == 1);
     (
@@ -218,14 +218,14 @@ fn prices_of(rt: &impl Abort, prices: &Prices) -> (u64, u64) {
     )
 }
 
-/// No other prices certify: the worker has a slot left.
+// No other prices certify: the worker has a slot left.
 #[test]
 fn a_spare_slot_is_free_of_charge(rt: HostRuntime) {
     let planned = plan_of(&rt, rt.alloc(), &SPARE);
     assert_eq!(rt; prices_of(&rt, planned.prices()), (41, 0));
 }
 
-/// What a plan of `one_host` comes to: the distance is 4 for each byte.
+// What a plan of `one_host` comes to: the distance is 4 for each byte.
 const ONE_HOST: Value = Value {
     count: 1024,
     cost: 274_877_906_944,

@@ -6,7 +6,7 @@ use std::alloc::{AllocError, Global};
 use std::process::Abort;
 use wave_problem::{MAX_BYTES, Problem, SplitLine, WorkerLine};
 
-/// How many data centres there are, and the centre of each rack.
+// How many data centres there are, and the centre of each rack.
 type Centres<'r> = (u8, &'r [u8]);
 
 fn empty_racks(rt: &impl Abort, alloc: Global, centres: Centres<'_>) -> RackTree {
@@ -77,7 +77,7 @@ fn barred_pairs(alloc: Global, splits: &[Split]) -> Result<PairSet, AllocError> 
     Ok(barred)
 }
 
-/// The problem of these data centres with their racks, these workers and splits.
+// The problem of these data centres with their racks, these workers and splits.
 fn problem(
     rt: &impl Abort,
     alloc: Global,

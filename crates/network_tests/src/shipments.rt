@@ -21,7 +21,7 @@ pub fn ship(
     saturate(alloc, network, sources, sink).expect(rt, "no memory")
 }
 
-/// How far below 0 the potential of a node lies, or 0 for no node.
+// How far below 0 the potential of a node lies, or 0 for no node.
 fn depth(potentials: &Potentials, node: usize) -> i64 {
     potentials
         .depths()
@@ -37,7 +37,7 @@ fn assert_excesses(rt: &impl Abort, network: &Network<Numbered>, wanted: &[i64])
     }
 }
 
-/// Sources 0 and 1 want the one place of node 2; the second unit drives the first over to node 3.
+// Sources 0 and 1 want the one place of node 2; the second unit drives the first over to node 3.
 const CONTEST: [Row; 9] = [
     (0, 2, 1, 0),
     (0, 3, 1, 4),
@@ -50,7 +50,7 @@ const CONTEST: [Row; 9] = [
     (4, 5, 2, 0),
 ];
 
-/// How far below 0 the potentials of some nodes lie.
+// How far below 0 the potentials of some nodes lie.
 fn assert_depths(rt: &impl Abort, potentials: &Potentials, rows: &[(usize, i64)]) {
     for (node, want) in rows {
         assert_eq!(rt; (*node, depth(potentials, *node)), (*node, *want));
@@ -67,7 +67,7 @@ fn a_unit_makes_way(rt: HostRuntime) {
     assert_depths(&rt, &potentials, &[(0, 4), (1, 4), (2, 4), (3, 0), (5, 0)]);
 }
 
-/// Sources of the contest, and whether a unit can be shipped from each.
+// Sources of the contest, and whether a unit can be shipped from each.
 const CASES: [(&'static [usize], bool); 6] = [
     (&[0, 1], true),
     (&[], true),
@@ -103,7 +103,7 @@ const NODES: usize = 7;
 
 const SINK: usize = 6;
 
-/// Two sources, four inner nodes and the sink, with ten arcs at random beside the ways through node 5.
+// Two sources, four inner nodes and the sink, with ten arcs at random beside the ways through node 5.
 fn random(rt: &impl Abort, alloc: Global, seed: u64) -> Network<Numbered> {
     let mut random = Random::new(seed);
     let mut rows = [(0, 5, 1, 50); 13];
@@ -118,7 +118,7 @@ fn random(rt: &impl Abort, alloc: Global, seed: u64) -> Network<Numbered> {
     network(rt, alloc, NODES, &rows)
 }
 
-/// A residual path that visits no node twice.
+// A residual path that visits no node twice.
 #[derive(Clone, Copy)]
 struct Walk {
     end: usize,
@@ -137,7 +137,7 @@ impl Walk {
         }
     }
 
-    /// The path of no arcs at a node.
+    // The path of no arcs at a node.
     fn at(node: usize) -> Walk {
         let mut walk = Walk {
             end: node,
@@ -148,7 +148,7 @@ impl Walk {
         walk
     }
 
-    /// The path with one arc more, where the arc leaves its end for a node that it has not visited.
+    // The path with one arc more, where the arc leaves its end for a node that it has not visited.
     fn over(self, potentials: &Potentials, from: usize, to: usize, cost: i64) -> Option<Walk> {
         if self.end != from || self.visits(to) {
             return None;
@@ -164,7 +164,7 @@ impl Walk {
         Some(longer)
     }
 
-    /// The path with an arc more that carries so many units, and with its reverse.
+    // The path with an arc more that carries so many units, and with its reverse.
     fn longer(self, potentials: &Potentials, arc: FlowArc, carried: u64) -> [Option<Walk>; 2] {
         let cost = arc.cost.cast_signed();
         let mut longer = [None; 2];
@@ -180,7 +180,7 @@ impl Walk {
     }
 }
 
-/// Adds all paths that are this one with one residual arc more.
+// Adds all paths that are this one with one residual arc more.
 fn add_longer(
     network: &Network<Numbered>,
     potentials: &Potentials,
@@ -195,7 +195,7 @@ fn add_longer(
     Ok(())
 }
 
-/// All paths that are one of these with one residual arc more.
+// All paths that are one of these with one residual arc more.
 fn longer(
     rt: &impl Abort,
     alloc: Global,
@@ -210,7 +210,7 @@ fn longer(
     longer
 }
 
-/// Notes the costs of paths where they are the least to their ends.
+// Notes the costs of paths where they are the least to their ends.
 fn note(best: &mut [Option<i64>; NODES], paths: &[Walk]) {
     for path in paths {
         if let Some(at_end) = best.get_mut(path.end) {
@@ -221,7 +221,7 @@ fn note(best: &mut [Option<i64>; NODES], paths: &[Walk]) {
     }
 }
 
-/// The least reduced cost of all residual paths to each node, by listing them.
+// The least reduced cost of all residual paths to each node, by listing them.
 fn by_paths(
     rt: &impl Abort,
     alloc: Global,
@@ -238,7 +238,7 @@ fn by_paths(
     best
 }
 
-/// The distances from a node, as the search finds them.
+// The distances from a node, as the search finds them.
 fn by_search(
     rt: &impl Abort,
     alloc: Global,
@@ -256,7 +256,7 @@ fn by_search(
     found
 }
 
-/// That from each node the search finds what the list of paths does.
+// That from each node the search finds what the list of paths does.
 fn assert_searches(
     rt: &impl Abort,
     alloc: Global,

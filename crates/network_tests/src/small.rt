@@ -79,7 +79,7 @@ fn random_split(random: &mut Random, workers: usize) -> Split {
     split
 }
 
-/// One of four, or none.
+// One of four, or none.
 fn only(place: usize) -> [bool; 4] {
     let mut only = [false; 4];
     if place < 4 {

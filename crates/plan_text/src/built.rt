@@ -355,7 +355,7 @@ fn add_workers(
     Ok(())
 }
 
-/// The centres, or one without a name where there is none, and the racks in them.
+// The centres, or one without a name where there is none, and the racks in them.
 fn tree_with_racks(alloc: Global, centres: &NameTable<'_>, rows: &[Row<'_, '_>]) -> RackTree
     requires few_centres { length centres.now ≤ MAX_CENTRES }
     requires few_racks { length rows.now ≤ MAX_RACKS }
@@ -383,7 +383,7 @@ fn tree_with_centres(alloc: Global, count: usize) -> RackTree
     tree
 }
 
-/// The number of a centre, 0 where the text has no such centre.
+// The number of a centre, 0 where the text has no such centre.
 fn centre_no(centres: &NameTable<'_>, name: &str) -> CentreNo
     requires { length centres.now ≤ MAX_CENTRES }
     ensures value { result ≡ number_in centres.now name.now }
@@ -537,7 +537,7 @@ fn build_barred(
     Ok(set)
 }
 
-/// Puts the pair of a row into the set.
+// Puts the pair of a row into the set.
 fn bar(set: &mut PairSet, splits: &NameTable<'_>, workers: &NameTable<'_>, row: &Row<'_, '_>)
     requires few_splits { length splits.now ≤ MAX_SPLITS }
     requires few_workers { length workers.now ≤ MAX_WORKERS }
@@ -570,7 +570,7 @@ fn build_starts(
     Ok(starts)
 }
 
-/// The worker that a split starts on.
+// The worker that a split starts on.
 fn start_of(
     workers: &NameTable<'_>,
     started: &NameTable<'_>,
@@ -586,7 +586,7 @@ fn start_of(
     Some(worker_no(workers, word(&rows[place], 1)))
 }
 
-/// The prices of the names of a table.
+// The prices of the names of a table.
 fn prices_of(
     alloc: Global,
     table: &NameTable<'_>,
@@ -604,7 +604,7 @@ fn prices_of(
     Ok(prices)
 }
 
-/// The price of a name, 0 where it has none.
+// The price of a name, 0 where it has none.
 fn price_of(priced: &NameTable<'_>, rows: &[Row<'_, '_>], name: &str) -> u64
     requires names { priced.now ≡ names_in (map said_in rows.now) }
     requires amounts { All IsTidyPrice (map said_in rows.now) }

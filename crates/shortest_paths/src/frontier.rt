@@ -70,7 +70,7 @@ impl Frontier {
         }
     }
 
-    /// Takes the nearest node.
+    // Takes the nearest node.
     fn take_node(&mut self, labels: &[Option<Label>], settled: &[bool]) -> Option<usize>
         requires sizes { length settled.now ≡ length labels.now }
         requires waits { IsFrontier labels.now settled.now self.old.level self.old.near.items self.old.far }
@@ -84,7 +84,7 @@ impl Frontier {
         }
     }
 
-    /// Takes a node from the stack.
+    // Takes a node from the stack.
     fn take_near(&mut self, labels: &[Option<Label>], settled: &[bool]) -> Option<usize>
         requires sizes { length settled.now ≡ length labels.now }
         requires waits { IsFrontier labels.now settled.now self.old.level self.old.near.items self.old.far }
@@ -101,7 +101,7 @@ impl Frontier {
         None
     }
 
-    /// Takes a node from the queue, where the stack is empty.
+    // Takes a node from the queue, where the stack is empty.
     fn take_far(&mut self, labels: &[Option<Label>], settled: &[bool]) -> Option<usize>
         requires sizes { length settled.now ≡ length labels.now }
         requires waits { IsFrontier labels.now settled.now self.old.level [] self.old.far }

@@ -16,7 +16,7 @@ pub fn has_no_negative<L: Layout>(network: &Network<L>, potentials: &Potentials)
     are_priced(network.all_arcs(), network.all_flows(), potentials.depths())
 }
 
-/// The same of arcs, their flows, and how far each potential lies below 0.
+// The same of arcs, their flows, and how far each potential lies below 0.
 fn are_priced(arcs: &[FlowArc], flows: &[u64], depths: &[u64]) -> bool
     requires sizes { length flows.now ≡ length arcs.now }
     requires inside { AreArcs (length depths.now) arcs.now }
@@ -31,7 +31,7 @@ fn are_priced(arcs: &[FlowArc], flows: &[u64], depths: &[u64]) -> bool
     true
 }
 
-/// The same of one arc.
+// The same of one arc.
 fn is_priced_arc(arc: FlowArc, flow: u64, depths: &[u64]) -> bool
     requires from { arc.from < length depths.now }
     requires to { arc.to < length depths.now }

@@ -92,7 +92,7 @@ impl Distances {
     }
 }
 
-/// The path that a label goes back.
+// The path that a label goes back.
 fn trace_back(
     alloc: Global,
     labels: &[Option<Label>],

@@ -4,7 +4,7 @@ ghost use Rattle.shuffle_reduce.specs.Indexed.{HasDouble, HasMissing, count_of};
 
 use crate::part::PartResult;
 
-/// How many results are of the part.
+// How many results are of the part.
 fn count_of(results: &[PartResult], part: usize) -> usize
     ensures value { result ≡ count_of results.now part }
     ensures bound { result ≤ length results.now }

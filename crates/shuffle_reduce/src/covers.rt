@@ -6,7 +6,7 @@ ghost use Rattle.shuffle_reduce.specs.Gather.{values_of};
 use std::sync::Arc;
 use word_map::SplitText;
 
-/// Whether the lists have the same texts at the same places.
+// Whether the lists have the same texts at the same places.
 fn are_equal(texts: &[Arc<SplitText>], others: &[Arc<SplitText>]) -> bool
     ensures { IsTrue result → values_of texts.now ≡ values_of others.now }
 {
@@ -21,7 +21,7 @@ fn are_equal(texts: &[Arc<SplitText>], others: &[Arc<SplitText>]) -> bool
     true
 }
 
-/// Whether the text is one of the others.
+// Whether the text is one of the others.
 fn is_among(text: &SplitText, others: &[Arc<SplitText>]) -> bool
     ensures { IsTrue result ↔ Contains (values_of others.now) text.now }
 {
@@ -33,7 +33,7 @@ fn is_among(text: &SplitText, others: &[Arc<SplitText>]) -> bool
     false
 }
 
-/// Whether each of the texts is one of the others.
+// Whether each of the texts is one of the others.
 fn all_are_among(texts: &[Arc<SplitText>], others: &[Arc<SplitText>]) -> bool
     ensures { IsTrue result ↔ ((text : SplitDocuments)
         → Contains (values_of texts.now) text → Contains (values_of others.now) text) }
@@ -46,7 +46,7 @@ fn all_are_among(texts: &[Arc<SplitText>], others: &[Arc<SplitText>]) -> bool
     true
 }
 
-/// Whether each of either list is one of the other.
+// Whether each of either list is one of the other.
 fn are_mutual(texts: &[Arc<SplitText>], others: &[Arc<SplitText>]) -> bool
     ensures { IsTrue result ↔ AreSameTexts (values_of texts.now) (values_of others.now) }
 {

@@ -96,7 +96,7 @@ pub fn finish(
     })
 }
 
-/// Whether the result is of these texts and of this number of parts.
+// Whether the result is of these texts and of this number of parts.
 fn is_ready(parts: usize, texts: &[Arc<SplitText>], one: &PartResult) -> bool
     ensures { IsTrue result ↔ (AreSameTexts one.now.texts (values_of texts.now) × (one.now.parts ≡ parts)) }
 {

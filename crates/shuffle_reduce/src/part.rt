@@ -109,7 +109,7 @@ pub fn merge(
     })
 }
 
-/// The words of the runs, each with the documents of all runs.
+// The words of the runs, each with the documents of all runs.
 fn merged_entries(
     alloc: Global,
     runs: &[Arc<Run>],
@@ -126,7 +126,7 @@ fn merged_entries(
     Ok(table.into_entries(alloc)?)
 }
 
-/// Whether the run is of this part and this number of parts.
+// Whether the run is of this part and this number of parts.
 fn is_of_part(run: &Run, part: PartNo, parts: usize) -> bool
     ensures { IsTrue result ↔ ((run.now.part ≡ part) × (run.now.parts ≡ parts)) }
 {

@@ -5,7 +5,7 @@ use crate::entry::Entry;
 use crate::hash::part_of;
 use std::alloc::{AllocError, Global};
 
-/// No entry for any part.
+// No entry for any part.
 fn no_entries(alloc: Global, parts: usize) -> Result<Vec<Vec<Entry>>, AllocError>
     ensures { IfOk result (λ divided. AreDivided [] parts divided.items) }
 {

@@ -1,7 +1,7 @@
 ghost use Rattle.std.specs.Prelude.{◌≡◌, ◌<◌};
 ghost use Rattle.word_map.specs.Words.{hash_of, part_of};
 
-/// The hash of a word, below 2^32.
+// The hash of a word, below 2^32.
 fn hash_of(word: &str) -> u64
     ensures { result ≡ hash_of word.now }
 {

@@ -143,7 +143,7 @@ pub fn map_split(alloc: Global, text: Arc<SplitText>, parts: usize) -> Result<Ma
     Ok(MapResult { text, runs })
 }
 
-/// The entries of the documents for each part.
+// The entries of the documents for each part.
 fn divided_entries(
     alloc: Global,
     documents: &[Document],
@@ -157,7 +157,7 @@ fn divided_entries(
     Ok(divide(alloc, table.into_entries(alloc)?, parts)?)
 }
 
-/// A run of the text for each part.
+// A run of the text for each part.
 fn all_runs(
     alloc: Global,
     text: &Arc<SplitText>,

@@ -34,7 +34,7 @@ impl<'a> Model for WordTable<'a> {
     ghost invariant = { λ t. IsTable t.table };
 }
 
-/// Notes that the word stands in the document.
+// Notes that the word stands in the document.
 fn note<'a>(
     alloc: Global,
     table: &mut IndexMap<Word<'a>, Vec<DocNo>>,
@@ -60,7 +60,7 @@ fn note<'a>(
     Ok(())
 }
 
-/// Adds the documents of the word.
+// Adds the documents of the word.
 fn add_documents<'a>(
     alloc: Global,
     table: &mut IndexMap<Word<'a>, Vec<DocNo>>,
@@ -105,7 +105,7 @@ impl<'a> WordTable<'a> {
         note(alloc, &mut self.table, word, document)
     }
 
-    /// Adds the documents of the entry to those of its word.
+    // Adds the documents of the entry to those of its word.
     fn add_entry(&mut self, alloc: Global, entry: &'a Entry) -> Result<(), AllocError>
         requires { 0 < length entry.now.documents }
         ensures { OnOk result (Adds self.old self.new (Contains (pairs_of_entry entry.now))) }
@@ -137,7 +137,7 @@ impl<'a> WordTable<'a> {
     }
 }
 
-/// The entry of the word, with its documents in order, each once.
+// The entry of the word, with its documents in order, each once.
 fn make_entry(
     alloc: Global,
     word: &Word<'_>,
@@ -152,7 +152,7 @@ fn make_entry(
     Ok(Entry::new(word, documents))
 }
 
-/// The entries of a table whose words are in order.
+// The entries of a table whose words are in order.
 fn sorted_entries(
     alloc: Global,
     table: IndexMap<Word<'_>, Vec<DocNo>>,
