@@ -92,14 +92,14 @@ sweep_test() { # TESTS NAME
     if [ "$wrong" = 0 ] && [ "$calls" != 0 ] && [ "$nth" -le 10000 ]; then passed=$((passed + 1)); else failed=$((failed + 1)); fi
 }
 
-sweep_test crates/network_tests/out/network_tests_tests flows::refused_arcs_leave_no_trace
-sweep_test crates/word_tests/out/word_tests_tests indexes::a_refused_allocation_is_told
+sweep_test crates/plan_tests/out/plan_tests_tests flows::refused_arcs_leave_no_trace
+sweep_test crates/text_tests/out/text_tests_tests indexes::a_refused_allocation_is_told
 for name in commit_changes_nothing reduce_start_changes_nothing; do
     sweep_test crates/master_tests/out/master_tests_tests "refusals::a_refused_$name"
 done
 sweep_test crates/master_tests/out/master_tests_tests refusals::refused_readers_change_nothing
-sweep_test crates/shared_tests/out/shared_tests_tests refusals::a_refused_hand_changes_nothing
-sweep_test crates/shared_tests/out/shared_tests_tests refusals::a_refused_wave_changes_nothing
+sweep_test crates/master_tests/out/master_tests_tests hand_refusals::a_refused_hand_changes_nothing
+sweep_test crates/master_tests/out/master_tests_tests hand_refusals::a_refused_wave_changes_nothing
 sweep_test crates/thread_tests/out/thread_tests_tests boards::a_refused_board_leaves_no_trace
 sweep_test crates/thread_tests/out/thread_tests_tests lanes::a_refused_close_gives_all_back
 

@@ -1,8 +1,10 @@
-//! Tests of the master's crates, as a caller stands on them.
+//! Tests of the master's crates and of the shared master, called as any caller calls them.
 //!
-//! Each public call once with ample memory, and rows whose answers were worked out by hand: silences,
-//! slots, bars, the reasons of a map of holders, which copies are ordered, and what a master answers call by
-//! call.
+//! Each public call once with ample memory, and rows whose answers were worked out by hand: silences, slots,
+//! bars, the reasons of a map of holders, which copies are ordered, and what a master answers call by call.
+//! Calls of threads are accepted and settle, and where a hand is left out it is missed; other threads' calls
+//! go on while a wave is solved; a call that found no memory changed nothing. What is asserted of threads
+//! holds for every schedule.
 #![tactic(auto)]
 
 #[cfg(test)]
@@ -10,12 +12,28 @@ mod backups;
 #[cfg(test)]
 mod block_rows;
 #[cfg(test)]
+mod hand_refusals;
+#[cfg(test)]
+mod hands;
+#[cfg(test)]
 mod histories;
 #[cfg(test)]
 mod jobs;
 #[cfg(test)]
+mod numbers;
+#[cfg(test)]
+mod own_threads;
+#[cfg(test)]
 mod refusals;
 #[cfg(test)]
+mod runs;
+#[cfg(test)]
 mod seen;
+#[cfg(test)]
+mod shared_jobs;
+#[cfg(test)]
+mod shared_masters;
+#[cfg(test)]
+mod turns;
 #[cfg(test)]
 mod worker_rows;

@@ -1,15 +1,19 @@
 use line_rules::{KnownLines, Purpose, ReadingError, read_lines};
 use std::alloc::Global;
-use std::test::Fail;
 
-// The line and the number of a text's fault, None where it has none or memory ran out.
-fn fault_of(alloc: Global, purpose: Purpose, text: &str) -> Option<(u32, u8)> {
-    let read: Result<KnownLines<'_>, ReadingError> = read_lines(alloc, purpose, text.as_bytes());
+/// The line and the number of a text's fault, None where it has none or memory ran out.
+pub fn fault_in(alloc: Global, purpose: Purpose, text: &[u8]) -> Option<(u32, u8)> {
+    let read: Result<KnownLines<'_>, ReadingError> = read_lines(alloc, purpose, text);
     match read {
         Ok(_) => None,
         Err(ReadingError::Text(fault)) => Some((fault.line, fault.number.number())),
         Err(ReadingError::Memory) => None,
     }
+}
+
+/// The same of a text of characters.
+pub fn fault_of(alloc: Global, purpose: Purpose, text: &str) -> Option<(u32, u8)> {
+    fault_in(alloc, purpose, text.as_bytes())
 }
 
 // Texts to plan from.
@@ -78,17 +82,16 @@ const PLANS: [(&str, Option<(u32, u8)>); 9] = [
 ];
 
 #[test]
-fn texts_to_check(rt: HostRuntime) -> Result<(), Fail> {
+fn texts_to_check(rt: HostRuntime) {
     for (plan, fault) in PLANS {
         let head = "problem 1\nrack r\nworker a r 1\nsplit s 1 a\n";
-        let text = format!(in rt.alloc(); "{head}{plan}")?;
+        let text = format!(in rt.alloc(); "{head}{plan}").expect(&rt, "no text");
         assert_eq!(rt;
             fault_of(rt.alloc(), Purpose::Checking, &text),
             fault,
             "{plan}"
         );
     }
-    Ok(())
 }
 
 #[test]

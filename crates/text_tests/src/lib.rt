@@ -1,15 +1,21 @@
-//! Tests of the crates of texts, which stand on them as any caller does.
+//! Tests of texts, words and commands, called as any caller calls them.
 //!
 //! They show what no clause says: worked values from outside, that each call succeeds where there is memory,
-//! what comes of readers and writers that fail or are interrupted, which words are lines, and that a text is
-//! read to its end. The texts with their answers are in `examples/`. Nothing stands on this crate, and so the
-//! crates of texts are proved once, without their tests.
+//! what comes of readers and writers that fail, that are interrupted or that give one byte a call, which words
+//! are lines, that a text is read to its end, and what `clap` says of a command's words. The texts with their
+//! answers are in `examples/`. Nothing stands on this crate, and so the others are proved once, without tests.
 #![tactic(auto)]
 
+#[cfg(test)]
+mod asking;
 #[cfg(test)]
 mod faults;
 #[cfg(test)]
 mod heads;
+#[cfg(test)]
+mod indexes;
+#[cfg(test)]
+mod maps;
 #[cfg(test)]
 mod readers;
 #[cfg(test)]
@@ -17,7 +23,11 @@ mod reading;
 #[cfg(test)]
 mod scripts;
 #[cfg(test)]
+mod streams;
+#[cfg(test)]
 mod tables;
+#[cfg(test)]
+mod texts;
 #[cfg(test)]
 mod words;
 #[cfg(test)]

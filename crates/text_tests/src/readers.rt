@@ -1,6 +1,5 @@
 use std::io;
 use std::io::{ErrorKind, Read};
-use std::test::Fail;
 use text_lines::{MAX_READS, ReadError, read_text};
 
 // What ails a reader.
@@ -58,15 +57,14 @@ impl<'t> Read for Source<'t> {
 const TEXT: &[u8] = b"problem 1\nend\n";
 
 #[test]
-fn reads_a_text_by_any_steps(rt: HostRuntime) -> Result<(), Fail> {
+fn reads_a_text_by_any_steps(rt: HostRuntime) {
     for step in [1, 2, 5, 14, 4096] {
         for ails in [Ails::Nothing, Ails::EachSecondCall] {
             let mut source = Source::new(TEXT, step, ails);
-            let text = read_text(rt.alloc(), &mut source)?;
+            let text = read_text(rt.alloc(), &mut source).expect(&rt, "no text");
             assert_eq!(rt; text.as_slice(), TEXT, "by {step}, {ails:?}");
         }
     }
-    Ok(())
 }
 
 #[test]

@@ -1,21 +1,7 @@
-use line_rules::{KnownLines, Purpose, ReadingError, Version, read_lines};
+use crate::faults::{fault_in, fault_of};
+use line_rules::{Purpose, Version, read_lines};
 use line_shapes::Keyword;
-use std::alloc::Global;
-use std::test::Fail;
-
-// The line and the number of a text's fault, None where it has none or memory ran out.
-fn fault_in(alloc: Global, purpose: Purpose, text: &[u8]) -> Option<(u32, u8)> {
-    let read: Result<KnownLines<'_>, ReadingError> = read_lines(alloc, purpose, text);
-    match read {
-        Ok(_) => None,
-        Err(ReadingError::Text(fault)) => Some((fault.line, fault.number.number())),
-        Err(ReadingError::Memory) => None,
-    }
-}
-
-fn fault_of(alloc: Global, purpose: Purpose, text: &str) -> Option<(u32, u8)> {
-    fault_in(alloc, purpose, text.as_bytes())
-}
+use std::alloc::{AllocError, Global};
 
 // What stands in a script after `script 1`, a rack r, the workers a and b and a split s: its lines from the
 // sixth on.
@@ -56,17 +42,16 @@ const IN_SCRIPTS: [(&str, Option<(u32, u8)>); 30] = [
 ];
 
 #[test]
-fn faults_of_scripts(rt: HostRuntime) -> Result<(), Fail> {
+fn faults_of_scripts(rt: HostRuntime) {
     for (rest, fault) in IN_SCRIPTS {
         let head = "script 1\nrack r\nworker a r 1\nworker b r 1\nsplit s 5 a\n";
-        let text = format!(in rt.alloc(); "{head}{rest}")?;
+        let text = format!(in rt.alloc(); "{head}{rest}").expect(&rt, "no text");
         assert_eq!(rt;
             fault_of(rt.alloc(), Purpose::Playing, &text),
             fault,
             "{rest}"
         );
     }
-    Ok(())
 }
 
 // Texts of each kind, with the fault that each has.
@@ -124,18 +109,23 @@ fn faults_of_each_kind(rt: HostRuntime) {
     }
 }
 
-#[test]
-fn a_job_has_at_most_thirty_two_workers(rt: HostRuntime) -> Result<(), Fail> {
-    let mut text = format!(in rt.alloc(); "job 1\nrack r\n")?;
-    for worker in 0..33 {
-        text.push_str(&format!(in rt.alloc(); "worker w{worker} r 1\n")?)?;
+// A job of so many workers.
+fn job_of(alloc: Global, workers: u8) -> Result<String, AllocError> {
+    let mut text = String::from_str(alloc, "job 1\nrack r\n")?;
+    for worker in 0..workers {
+        text.push_str(&format!(in alloc; "worker w{worker} r 1\n")?)?;
     }
     text.push_str("end\n")?;
-    assert_eq!(rt;
-        fault_of(rt.alloc(), Purpose::Running, &text),
-        Some((35, 6))
-    );
-    Ok(())
+    Ok(text)
+}
+
+#[test]
+fn a_job_has_at_most_thirty_two_workers(rt: HostRuntime) {
+    for (workers, fault) in [(32, None), (33, Some((35, 6)))] {
+        let text = job_of(rt.alloc(), workers).expect(&rt, "no text");
+        let told = fault_of(rt.alloc(), Purpose::Running, &text);
+        assert_eq!(rt; (workers, told), (workers, fault));
+    }
 }
 
 const PLAYED: &str = "script 1\nparts 2\nrack r\nworker a r 1\nworker b r 1\nsplit s 3 a\n\

@@ -1,0 +1,115 @@
+//! Allocations that are refused: they hold whichever is, one or none.
+ghost use Rattle.std.specs.Prelude.{◌≡◌};
+
+use crate::jobs::SplitRow;
+use crate::shared_masters::{AMPLE, list_of, settles, share};
+use master_state::Answer;
+use shared_master::{Hand, HandError, SharedMaster, WaveError};
+use std::alloc::Global;
+use std::marker::Brand;
+use std::process::Abort;
+use std::sync::Wait;
+use std::sync::ledger::{Blank, Ledger};
+
+// Two splits on the first of two workers.
+const ROWS: [SplitRow<'static>; 2] = [(10, &[0], "one"), (20, &[0], "two one")];
+
+// A hand, unless an allocation is refused.
+fn make_hand<L: Ledger, R: Wait + Abort>(
+    rt: &R,
+    alloc: Global,
+    shared: &SharedMaster<L>,
+) -> Option<Hand<L>> {
+    match shared.hand(rt, alloc, AMPLE) {
+        Ok(hand) => Some(hand),
+        Err(why) => {
+            assert_eq!(rt; why, HandError::Memory);
+            None
+        }
+    }
+}
+
+// Of two hands one is made, and its call is accepted.
+fn sweep_by_either<L: Ledger, R: Wait + Abort>(
+    rt: &R,
+    alloc: Global,
+    shared: &SharedMaster<L>,
+) -> Option<Vec<Hand<L>>> {
+    let first = make_hand(rt, alloc, shared);
+    let second = make_hand(rt, alloc, shared);
+    let mut hand = first.or(second).expect(rt, "neither was made");
+    let told = shared.sweep(rt, &mut hand, &[1; 256]).answer;
+    assert_eq!(rt; told, Answer::Accepted(1));
+    list_of(alloc, hand)
+}
+
+// They settle, where there was memory for their list.
+fn assert_settles<L: Ledger>(
+    rt: &impl Abort,
+    shared: SharedMaster<L>,
+    hands: Option<Vec<Hand<L>>>,
+) {
+    if let Some(hands) = hands {
+        assert!(rt; settles(shared, hands));
+    }
+}
+
+fn call_by_either<L: Ledger, R: Wait + Abort>(rt: &R, alloc: Global, blank: Blank)
+    requires { (blank.name ≡ L.name) × (blank.parts ≡ L.parts) × (blank.parts ≡ 4096) }
+{
+    let made: Option<SharedMaster<L>> = share(rt, alloc, blank, (2, 0), &ROWS, AMPLE);
+    if let Some(shared) = made {
+        let hands = sweep_by_either(rt, alloc, &shared);
+        assert_settles(rt, shared, hands);
+    }
+}
+
+#[test]
+fn a_refused_hand_changes_nothing(rt: HostRuntime) {
+    call_by_either::<Brand, _>(&rt, rt.alloc(), Blank::new(4096))
+}
+
+// The place of a wave, unless an allocation is refused.
+fn plan<L: Ledger, R: Wait + Abort>(
+    rt: &R,
+    alloc: Global,
+    shared: &SharedMaster<L>,
+    hand: &mut Hand<L>,
+) -> Option<u32> {
+    let before = shared.glance(rt);
+    match shared.plan_wave(rt, alloc, hand) {
+        Ok(planned) => Some(planned.wave.place),
+        Err(why) => {
+            assert_eq!(rt; (why, shared.glance(rt)), (WaveError::Memory, before));
+            None
+        }
+    }
+}
+
+// The first wave is planned, at the second call where the first is refused.
+fn plan_by_one<L: Ledger, R: Wait + Abort>(
+    rt: &R,
+    alloc: Global,
+    shared: &SharedMaster<L>,
+) -> Option<Vec<Hand<L>>> {
+    let mut hand = make_hand(rt, alloc, shared)?;
+    let first = plan(rt, alloc, shared, &mut hand);
+    let second = plan(rt, alloc, shared, &mut hand);
+    assert_eq!(rt; first.or(second), Some(1));
+    list_of(alloc, hand)
+}
+
+fn plan_twice<L: Ledger, R: Wait + Abort>(rt: &R, alloc: Global, blank: Blank)
+    requires { (blank.name ≡ L.name) × (blank.parts ≡ L.parts) × (blank.parts ≡ 4096) }
+{
+    let made: Option<SharedMaster<L>> = share(rt, alloc, blank, (2, 0), &ROWS, AMPLE);
+    if let Some(shared) = made {
+        let hands = plan_by_one(rt, alloc, &shared);
+        assert_settles(rt, shared, hands);
+    }
+}
+
+#[test]
+fn a_refused_wave_changes_nothing(rt: HostRuntime) {
+    plan_twice::<Brand, _>(&rt, rt.alloc(), Blank::new(4096))
+}

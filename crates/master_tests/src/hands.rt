@@ -1,0 +1,231 @@
+ghost use Rattle.std.specs.Prelude.{◌≡◌, ◌<◌, length, vec_len, IsTrue};
+ghost use Rattle.hand_ledger.specs.Settling.{all_calls};
+
+use crate::jobs::SplitRow;
+use crate::shared_masters::{AMPLE, hand_of, list_of, shared_of, wave_of};
+use master_core::Master;
+use master_state::{Answer, Limits, Why};
+use shared_master::{Closed, Hand, HandError, SharedMaster, Torn, settle};
+use std::alloc::Global;
+use std::marker::Brand;
+use std::process::Abort;
+use std::sync::Wait;
+use std::sync::ledger::{Blank, Ledger};
+use std::thread;
+use std::thread::Threads;
+
+// Two splits on the first of two workers.
+const TWO_SPLITS: [SplitRow<'static>; 2] = [(10, &[0], "one two"), (20, &[0], "two")];
+
+// The place of a sweep with this count for each worker.
+fn sweep_place<L: Ledger, R: Wait>(
+    rt: &R,
+    shared: &SharedMaster<L>,
+    hand: &mut Hand<L>,
+    count: u64,
+) -> Option<u32> {
+    match shared.sweep(rt, hand, &[count; 256]).answer {
+        Answer::Accepted(place) => Some(place),
+        Answer::Ignored(_) => None,
+    }
+}
+
+// The place of a call of a thread: every fourth is a wave, and the others are sweeps.
+fn call_once<L: Ledger, R: Wait>(
+    rt: &R,
+    alloc: Global,
+    shared: &SharedMaster<L>,
+    hand: &mut Hand<L>,
+    call: u64,
+) -> Option<u32> {
+    if call % 4 == 0 {
+        let wave = wave_of(rt, alloc, shared, hand)?;
+        Some(wave.place)
+    } else {
+        sweep_place(rt, shared, hand, call)
+    }
+}
+
+// A hundred calls of a thread, of which each is accepted; the counts of sweeps tell them apart. The place of
+// the first.
+fn call_often<L: Ledger, R: Wait>(
+    rt: &R,
+    alloc: Global,
+    shared: &SharedMaster<L>,
+    hand: &mut Hand<L>,
+    mark: u64,
+) -> Option<u32>
+    requires { mark < 1000 }
+{
+    let mut first = None;
+    for call in 0..100u64 {
+        let place = call_once(rt, alloc, shared, hand, 1000 * mark + call)?;
+        first = first.or(Some(place));
+    }
+    first
+}
+
+// Two threads of a hundred accepted calls each, on a master with room for no more: the second one's first
+// place.
+fn call_in_two_threads<L: Ledger + Send + Sync, R: Threads + Wait + Abort + Sync>(
+    rt: &R,
+    alloc: Global,
+    shared: &SharedMaster<L>,
+    one: &mut Hand<L>,
+    two: &mut Hand<L>,
+) -> u32 {
+    let (first, second) = thread::join(
+        rt,
+        || call_often(rt, alloc, shared, one, 1),
+        || call_often(rt, alloc, shared, two, 2),
+    );
+    assert!(rt; first.is_some());
+    second.expect(rt, "a call was ignored")
+}
+
+fn is_full<L: Ledger, R: Wait>(rt: &R, shared: &SharedMaster<L>, hand: &mut Hand<L>) -> bool {
+    shared.sweep(rt, hand, &[0; 256]).answer == Answer::Ignored(Why::HistoryFull)
+}
+
+fn is_full_for_both<L: Ledger, R: Wait>(
+    rt: &R,
+    shared: &SharedMaster<L>,
+    one: &mut Hand<L>,
+    two: &mut Hand<L>,
+) -> bool {
+    is_full(rt, shared, one) && is_full(rt, shared, two)
+}
+
+// Whether these are all hands: then every event is a call of theirs.
+fn are_all<L: Ledger>(closed: &mut Closed<L>, hands: &mut [Hand<L>]) -> bool
+    requires { L.parts ≡ 4096 }
+    ensures { IsTrue result → length (all_calls hands.old) ≡ length closed.old.job.history }
+{
+    closed.audit(hands);
+    hands.len() as u64 == closed.made()
+}
+
+// One hand is not all, and its history is torn.
+fn settle_one<L: Ledger>(rt: &impl Abort, mut closed: Closed<L>, mut hands: Vec<Hand<L>>) -> Torn<L>
+    requires { L.parts ≡ 4096 }
+{
+    assert!(rt; !are_all(&mut closed, &mut hands));
+    settle(closed, hands).err().expect(rt, "a hand is left out")
+}
+
+// How many events there are, and how many sweeps.
+fn counts_of(master: Master) -> (usize, usize) {
+    (master.history().len(), master.sweeps().len())
+}
+
+// Both are all, and settle.
+fn settle_both<L: Ledger>(
+    rt: &impl Abort,
+    mut closed: Closed<L>,
+    mut hands: Vec<Hand<L>>,
+    two: Hand<L>,
+) -> (usize, usize)
+    requires { L.parts ≡ 4096 }
+{
+    hands.push(two).expect(rt, "no memory");
+    assert!(rt; are_all(&mut closed, &mut hands));
+    counts_of(
+        settle(closed, hands)
+            .ok()
+            .expect(rt, "every hand is there")
+            .master,
+    )
+}
+
+// One hand alone is torn at the lowest place of the other; both settle. How many events there are, and how
+// many sweeps.
+fn settle_one_and_both<L: Ledger>(
+    rt: &impl Abort,
+    closed: Closed<L>,
+    one: Vec<Hand<L>>,
+    two: Hand<L>,
+    lowest: u32,
+) -> (usize, usize)
+    requires { L.parts ≡ 4096 }
+{
+    let torn = settle_one(rt, closed, one);
+    assert_eq!(rt; torn.place, lowest);
+    settle_both(rt, torn.closed, torn.hands, two)
+}
+
+fn settle_two_hands<L: Ledger + Send + Sync, R: Threads + Wait + Abort + Sync>(
+    rt: &R,
+    alloc: Global,
+    blank: Blank,
+)
+    requires { (blank.name ≡ L.name) × (blank.parts ≡ L.parts) × (blank.parts ≡ 4096) }
+{
+    let shared: SharedMaster<L> = shared_of(rt, alloc, blank, (2, 0), &TWO_SPLITS, AMPLE);
+    let mut one = hand_of(rt, alloc, &shared);
+    let mut two = hand_of(rt, alloc, &shared);
+    let lowest = call_in_two_threads(rt, alloc, &shared, &mut one, &mut two);
+    assert!(rt; is_full_for_both(rt, &shared, &mut one, &mut two));
+    let alone = list_of(alloc, one).expect(rt, "no memory");
+    let counts = settle_one_and_both(rt, shared.into_master(), alone, two, lowest);
+    assert_eq!(rt; counts, (200, 150));
+}
+
+#[test]
+fn calls_of_two_threads_settle(rt: HostRuntime) {
+    settle_two_hands::<Brand, _>(&rt, rt.alloc(), Blank::new(4096))
+}
+
+const NO_ROOM: Limits = Limits {
+    events: 0,
+    attempts: 0,
+    sweeps: 0,
+};
+
+// All hands that a master has.
+fn make_all_hands<L: Ledger, R: Wait + Abort>(
+    rt: &R,
+    alloc: Global,
+    shared: &SharedMaster<L>,
+) -> Vec<Hand<L>> {
+    let mut hands = Vec::new(alloc);
+    for made in 0..4095u32 {
+        let Ok(hand) = shared.hand(rt, alloc, NO_ROOM) else {
+            panic!(rt; "no hand after {made}")
+        };
+        hands.push(hand).expect(rt, "no memory");
+    }
+    hands
+}
+
+// Why there is no other. That there is none the law says, and no test.
+fn why_no_other<L: Ledger, R: Wait + Abort>(
+    rt: &R,
+    alloc: Global,
+    shared: &SharedMaster<L>,
+    mut hands: Vec<Hand<L>>,
+) -> HandError
+    requires { (L.parts ≡ 4096) × (vec_len hands ≡ 4095) }
+{
+    match shared.hand(rt, alloc, NO_ROOM) {
+        Err(error) => error,
+        Ok(hand) => {
+            hands.push(hand).expect(rt, "no memory");
+            shared.are_few(rt, &mut hands);
+            unreachable!()
+        }
+    }
+}
+
+fn ask_for_too_many<L: Ledger, R: Wait + Abort>(rt: &R, alloc: Global, blank: Blank)
+    requires { (blank.name ≡ L.name) × (blank.parts ≡ L.parts) × (blank.parts ≡ 4096) }
+{
+    let shared: SharedMaster<L> = shared_of(rt, alloc, blank, (1, 0), &[], NO_ROOM);
+    let hands = make_all_hands(rt, alloc, &shared);
+    assert!(rt; hands.len() == 4095);
+    assert_eq!(rt; why_no_other(rt, alloc, &shared, hands), HandError::Limit);
+}
+
+#[test]
+fn the_hands_of_a_master_are_few(rt: HostRuntime) {
+    ask_for_too_many::<Brand, _>(&rt, rt.alloc(), Blank::new(4096))
+}

@@ -1,0 +1,103 @@
+ghost use Rattle.std.specs.Prelude.{◌≡◌, ◌<◌};
+
+use crate::jobs::SplitRow;
+use crate::shared_masters::{AMPLE, hand_of, shared_of, wave_of};
+use block_map::CopyOrder;
+use master_state::{Answer, Event, Why};
+use node_ids::{AttemptNo, SplitNo, SplitSet, WorkerNo};
+use shared_master::{Hand, SharedMaster};
+use std::alloc::Global;
+use std::marker::Brand;
+use std::process::Abort;
+use std::sync::Wait;
+use std::sync::ledger::{Blank, Ledger};
+
+// One split, on the first of the workers.
+const ROWS: [SplitRow<'static>; 1] = [(5, &[0], "one")];
+
+// A worker comes back without a split.
+fn join<L: Ledger, R: Wait + Abort>(
+    rt: &R,
+    shared: &SharedMaster<L>,
+    hand: &mut Hand<L>,
+    worker: WorkerNo,
+) -> Answer {
+    let (none, sizes) = (SplitSet::new(), shared.sizes());
+    assert!(rt; worker.index() < sizes.workers && none.are_below(sizes.splits));
+    shared.join(rt, hand, worker, &none)
+}
+
+// The calls that change where a split lies and which workers live, each accepted.
+fn call_of_workers<L: Ledger, R: Wait + Abort>(
+    rt: &R,
+    shared: &SharedMaster<L>,
+    hand: &mut Hand<L>,
+) {
+    let (b, s) = (WorkerNo::new(1), SplitNo::new(0));
+    assert!(rt; b.index() < shared.sizes().workers && s.index() < shared.sizes().splits);
+    let told = [
+        shared.add(rt, hand, s, b),
+        shared.lose(rt, hand, s, b),
+        shared.die(rt, hand, b),
+        join(rt, shared, hand, b),
+    ];
+    let wanted = [
+        Answer::Accepted(1),
+        Answer::Accepted(2),
+        Answer::Accepted(3),
+        Answer::Accepted(4),
+    ];
+    assert_eq!(rt; told, wanted);
+}
+
+// Those of an attempt, which is withdrawn and then old.
+fn call_of_attempts<L: Ledger, R: Wait + Abort>(
+    rt: &R,
+    alloc: Global,
+    shared: &SharedMaster<L>,
+    hand: &mut Hand<L>,
+) {
+    let one = AttemptNo::new(1);
+    let old = Answer::Ignored(Why::OldAttempt);
+    assert!(rt; wave_of(rt, alloc, shared, hand).is_some());
+    let told = [
+        shared.withdraw(rt, hand, one),
+        shared.map_failed(rt, hand, one),
+        shared.part_failed(rt, hand, one),
+    ];
+    let wanted = ([Answer::Accepted(6), old, old], Some(Event::Withdraw(one)));
+    assert_eq!(rt; (told, hand.last()), wanted);
+}
+
+fn call_by_numbers<L: Ledger, R: Wait + Abort>(rt: &R, alloc: Global, blank: Blank)
+    requires { (blank.name ≡ L.name) × (blank.parts ≡ L.parts) × (blank.parts ≡ 4096) }
+{
+    let shared: SharedMaster<L> = shared_of(rt, alloc, blank, (2, 0), &ROWS, AMPLE);
+    let mut hand = hand_of(rt, alloc, &shared);
+    call_of_workers(rt, &shared, &mut hand);
+    call_of_attempts(rt, alloc, &shared, &mut hand);
+}
+
+#[test]
+fn calls_by_numbers_come_one_after_another(rt: HostRuntime) {
+    call_by_numbers::<Brand, _>(&rt, rt.alloc(), Blank::new(4096))
+}
+
+// A replica goes to the other rack.
+fn order_copies<L: Ledger, R: Wait + Abort>(rt: &R, alloc: Global, blank: Blank)
+    requires { (blank.name ≡ L.name) × (blank.parts ≡ L.parts) × (blank.parts ≡ 4096) }
+{
+    let shared: SharedMaster<L> = shared_of(rt, alloc, blank, (2, 1), &ROWS, AMPLE);
+    let orders = shared.copy_orders(rt, alloc, 2).expect(rt, "no memory");
+    let order = CopyOrder {
+        split: SplitNo::new(0),
+        from: WorkerNo::new(0),
+        to: WorkerNo::new(2),
+    };
+    assert_eq!(rt; orders.as_slice(), [order].as_slice());
+}
+
+#[test]
+fn a_copy_is_ordered_under_the_lock(rt: HostRuntime) {
+    order_copies::<Brand, _>(&rt, rt.alloc(), Blank::new(4096))
+}

@@ -1,0 +1,219 @@
+//! Short runs of four threads whose calls are drawn at random.
+ghost use Rattle.std.specs.Prelude.{◌≡◌, ◌<◌};
+
+use crate::jobs::SplitRow;
+use crate::shared_jobs::reduce_one;
+use crate::shared_masters::{made_of, settles, shared_of, wave_of};
+use master_state::Limits;
+use node_ids::{AttemptNo, SplitNo, SplitSet, WorkerNo};
+use shared_master::{Hand, SharedMaster};
+use std::alloc::Global;
+use std::marker::Brand;
+use std::process::Abort;
+use std::sync::Wait;
+use std::sync::ledger::{Blank, Ledger};
+use std::thread;
+use std::thread::Threads;
+
+// Two splits of the same words, on two of three workers in two racks.
+const ROWS: [SplitRow<'static>; 2] = [(10, &[0], "one two"), (20, &[1], "one two")];
+
+const ROOM: Limits = Limits {
+    events: 64,
+    attempts: 64,
+    sweeps: 16,
+};
+
+// A hand, and the number that its calls are drawn from.
+#[derive(Drop)]
+struct Player<L: Ledger> {
+    hand: Hand<L>,
+    seed: u64,
+}
+
+// The next number of Knuth's linear congruential sequence, whose high bits look random.
+fn next(seed: u64) -> u64 {
+    seed.wrapping_mul(6_364_136_223_846_793_005)
+        .wrapping_add(1_442_695_040_888_963_407)
+}
+
+// A call of a split and a worker.
+fn call_of_pair<L: Ledger, R: Wait>(
+    rt: &R,
+    shared: &SharedMaster<L>,
+    hand: &mut Hand<L>,
+    split: SplitNo,
+    worker: WorkerNo,
+    kind: u64,
+)
+    requires split { split < shared.now.splits }
+    requires worker { worker < shared.now.workers }
+{
+    match kind {
+        0 => {
+            shared.add(rt, hand, split, worker);
+        }
+        1 => {
+            shared.lose(rt, hand, split, worker);
+        }
+        2 => {
+            shared.backup(rt, hand, split, worker);
+        }
+        _ => {
+            shared.die(rt, hand, worker);
+        }
+    }
+}
+
+// A worker comes back without a split.
+fn come_back<L: Ledger, R: Wait>(
+    rt: &R,
+    shared: &SharedMaster<L>,
+    hand: &mut Hand<L>,
+    worker: WorkerNo,
+) {
+    let (none, sizes) = (SplitSet::new(), shared.sizes());
+    if worker.index() < sizes.workers && none.are_below(sizes.splits) {
+        shared.join(rt, hand, worker, &none);
+    }
+}
+
+// A call of an attempt alone.
+fn call_of_attempt<L: Ledger, R: Wait>(
+    rt: &R,
+    shared: &SharedMaster<L>,
+    hand: &mut Hand<L>,
+    attempt: AttemptNo,
+    kind: u64,
+) {
+    match kind {
+        0 => {
+            shared.withdraw(rt, hand, attempt);
+        }
+        1 => {
+            shared.map_failed(rt, hand, attempt);
+        }
+        _ => {
+            shared.part_failed(rt, hand, attempt);
+        }
+    }
+}
+
+// Hands in what the split makes.
+fn hand_in<L: Ledger, R: Wait + Abort>(
+    rt: &R,
+    alloc: Global,
+    shared: &SharedMaster<L>,
+    hand: &mut Hand<L>,
+    split: SplitNo,
+    attempt: AttemptNo,
+) {
+    let made = made_of(alloc, split, "one two").expect(rt, "no result");
+    shared.map_done(rt, hand, attempt, made);
+}
+
+// The call that a number draws, of those that take no memory.
+fn call_without_memory<L: Ledger, R: Wait + Abort>(
+    rt: &R,
+    shared: &SharedMaster<L>,
+    hand: &mut Hand<L>,
+    draw: u64,
+) {
+    let kind = draw % 16;
+    let (split, attempt) = split_and_attempt(draw);
+    let worker = WorkerNo::new((draw / 32 % 3) as u16);
+    assert!(rt; split.index() < shared.sizes().splits && worker.index() < shared.sizes().workers);
+    match kind {
+        0..=3 => call_of_pair(rt, shared, hand, split, worker, kind),
+        4..=5 => come_back(rt, shared, hand, worker),
+        _ => call_of_attempt(rt, shared, hand, attempt, kind % 3),
+    }
+}
+
+// The split and the attempt that a number draws.
+fn split_and_attempt(draw: u64) -> (SplitNo, AttemptNo) {
+    let split = SplitNo::new((draw / 16 % 2) as u16);
+    let attempt = AttemptNo::new((1 + draw / 128 % 8) as u32);
+    (split, attempt)
+}
+
+// The call that a number draws.
+fn call<L: Ledger, R: Wait + Abort>(
+    rt: &R,
+    alloc: Global,
+    shared: &SharedMaster<L>,
+    hand: &mut Hand<L>,
+    draw: u64,
+) {
+    match draw % 16 {
+        0..=8 => call_without_memory(rt, shared, hand, draw),
+        9 => {
+            shared.sweep(rt, hand, &[draw / 16; 256]);
+        }
+        10..=11 => {
+            reduce_one(rt, alloc, shared, hand);
+        }
+        12..=13 => {
+            let (split, attempt) = split_and_attempt(draw);
+            hand_in(rt, alloc, shared, hand, split, attempt);
+        }
+        _ => assert!(rt; wave_of(rt, alloc, shared, hand).is_some()),
+    }
+}
+
+// Eight calls of a thread.
+fn play<L: Ledger, R: Wait + Abort>(
+    rt: &R,
+    alloc: Global,
+    shared: &SharedMaster<L>,
+    player: Player<L>,
+) -> Hand<L> {
+    let Player { mut hand, mut seed } = player;
+    for _ in 0..8u32 {
+        call(rt, alloc, shared, &mut hand, seed >> 33);
+        seed = next(seed);
+    }
+    hand
+}
+
+// Four hands, each with a number of its own.
+fn players_of<L: Ledger, R: Wait + Abort>(
+    rt: &R,
+    alloc: Global,
+    shared: &SharedMaster<L>,
+    seed: u64,
+) -> Vec<Player<L>> {
+    let mut players = Vec::new(alloc);
+    let mut seed = next(seed);
+    for _ in 0..4u32 {
+        let hand = shared.hand(rt, alloc, ROOM).expect(rt, "no hand");
+        players.push(Player { hand, seed }).expect(rt, "no memory");
+        seed = next(next(seed));
+    }
+    players
+}
+
+// A run of four threads, which settles.
+fn run<L: Ledger + Send + Sync, R: Threads + Wait + Abort + Sync>(
+    rt: &R,
+    alloc: Global,
+    blank: Blank,
+    seed: u64,
+)
+    requires { (blank.name ≡ L.name) × (blank.parts ≡ L.parts) × (blank.parts ≡ 4096) }
+{
+    let shared: SharedMaster<L> = shared_of(rt, alloc, blank, (2, 1), &ROWS, ROOM);
+    let players = players_of(rt, alloc, &shared, seed);
+    let hands = thread::map_vec(rt, players, &|player| play(rt, alloc, &shared, player)).expect(
+        rt,
+        "no memory",
+    );
+    assert!(rt; settles(shared, hands), "run {seed}");
+}
+
+#[test]
+fn a_thousand_short_runs_settle(rt: HostRuntime) {
+    for seed in 0..1000u64 {
+        run::<Brand, _>(&rt, rt.alloc(), Blank::new(4096), seed);
+    }
+}

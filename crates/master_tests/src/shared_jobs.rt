@@ -1,0 +1,120 @@
+ghost use Rattle.std.specs.Prelude.{◌≡◌};
+
+use crate::jobs::SplitRow;
+use crate::shared_masters::{AMPLE, hand_of, list_of, made_of, settled, shared_of, wave_of};
+use master_core::Master;
+use master_state::{AnswerWith, BackupAnswer, Event, ReduceAnswer, Reply, Why};
+use node_ids::{AttemptNo, SplitNo, WorkerNo};
+use shared_master::{Hand, SharedMaster};
+use shuffle_reduce::{PartResult, are_of_part, merge};
+use std::alloc::Global;
+use std::marker::Brand;
+use std::process::Abort;
+use std::sync::Wait;
+use std::sync::ledger::{Blank, Ledger};
+
+// One split, on the first of two workers.
+const ROWS: [SplitRow<'static>; 1] = [(5, &[0], "one two")];
+
+// A wave, and a backup of its attempt.
+fn start_twice<L: Ledger, R: Wait + Abort>(
+    rt: &R,
+    alloc: Global,
+    shared: &SharedMaster<L>,
+    hand: &mut Hand<L>,
+) {
+    let (b, s, two) = (WorkerNo::new(1), SplitNo::new(0), AttemptNo::new(2));
+    let wave = wave_of(rt, alloc, shared, hand).expect(rt, "no wave");
+    assert!(rt; b.index() < shared.sizes().workers && s.index() < shared.sizes().splits);
+    let answer = shared.backup(rt, hand, s, b);
+    let backup = (
+        BackupAnswer::Accepted(2, two),
+        Some(Event::Backup(two, s, b)),
+    );
+    assert_eq!(rt;
+        (wave.place, wave.count, answer, hand.last()),
+        (1, 1, backup.0, backup.1)
+    );
+}
+
+// What an attempt of the split is answered.
+fn hand_in<L: Ledger, R: Wait + Abort>(
+    rt: &R,
+    alloc: Global,
+    shared: &SharedMaster<L>,
+    hand: &mut Hand<L>,
+    attempt: u32,
+) -> Result<u32, Why> {
+    let made = made_of(alloc, SplitNo::new(0), "one two").expect(rt, "no result");
+    match shared.map_done(rt, hand, AttemptNo::new(attempt), made) {
+        AnswerWith::Accepted(place) => Ok(place),
+        AnswerWith::Ignored(why, _) => Err(why),
+    }
+}
+
+/// Starts a part and hands in what its runs make: the place of the second call, where both were accepted.
+pub fn reduce_one<L: Ledger, R: Wait + Abort>(
+    rt: &R,
+    alloc: Global,
+    shared: &SharedMaster<L>,
+    hand: &mut Hand<L>,
+) -> Option<u32> {
+    let ReduceAnswer::Accepted(_, reply) = shared.reduce_start(rt, alloc, hand) else {
+        return None;
+    };
+    let made = made_of_part(rt, alloc, &reply);
+    match shared.part_done(rt, hand, reply.attempt, made) {
+        AnswerWith::Accepted(place) => Some(place),
+        AnswerWith::Ignored(_, _) => None,
+    }
+}
+
+fn made_of_part(rt: &impl Abort, alloc: Global, reply: &Reply) -> PartResult {
+    let (part, runs) = (reply.part, reply.runs.as_slice());
+    assert!(rt; part.index() < 2 && are_of_part(runs, part, 2));
+    merge(alloc, 2, part, runs).expect(rt, "no memory")
+}
+
+// A job by one hand: the second attempt is done first.
+fn run_a_job<L: Ledger, R: Wait + Abort>(
+    rt: &R,
+    alloc: Global,
+    shared: &SharedMaster<L>,
+    hand: &mut Hand<L>,
+) {
+    start_twice(rt, alloc, shared, hand);
+    let second = hand_in(rt, alloc, shared, hand, 2);
+    let first = hand_in(rt, alloc, shared, hand, 1);
+    let reducible = shared.glance(rt).reducible;
+    assert_eq!(rt;
+        (second, first, reducible),
+        (Ok(3), Err(Why::OldAttempt), true)
+    );
+    let parts = [
+        reduce_one(rt, alloc, shared, hand),
+        reduce_one(rt, alloc, shared, hand),
+        reduce_one(rt, alloc, shared, hand),
+    ];
+    let open = shared.glance(rt).open_parts;
+    assert_eq!(rt; (parts, open), ([Some(5), Some(7), None], 0));
+}
+
+fn results_in(settled: Option<Master>) -> Option<usize> {
+    Some(settled?.results().len())
+}
+
+// It settles by this hand alone, which made every call, with both parts.
+fn settle_a_job<L: Ledger, R: Wait + Abort>(rt: &R, alloc: Global, blank: Blank)
+    requires { (blank.name ≡ L.name) × (blank.parts ≡ L.parts) × (blank.parts ≡ 4096) }
+{
+    let shared: SharedMaster<L> = shared_of(rt, alloc, blank, (2, 0), &ROWS, AMPLE);
+    let mut hand = hand_of(rt, alloc, &shared);
+    run_a_job(rt, alloc, &shared, &mut hand);
+    let hands = list_of(alloc, hand).expect(rt, "no list");
+    assert_eq!(rt; results_in(settled(shared, hands)), Some(2));
+}
+
+#[test]
+fn a_job_by_one_hand(rt: HostRuntime) {
+    settle_a_job::<Brand, _>(&rt, rt.alloc(), Blank::new(4096))
+}

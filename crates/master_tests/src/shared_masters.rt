@@ -1,0 +1,129 @@
+//! Shared masters made from rows, and what becomes of them.
+ghost use Rattle.std.specs.Prelude.{◌≡◌, [], IfSome};
+
+use crate::jobs::{Shape, SplitRow, make_cluster, text_of};
+use master_core::Master;
+use master_state::{Limits, Wave};
+use node_ids::SplitNo;
+use shared_master::{Hand, Settled, SharedMaster, settle};
+use std::alloc::Global;
+use std::process::Abort;
+use std::sync::ledger::{Blank, Ledger};
+use std::sync::{Arc, Wait};
+use word_map::{MapResult, map_split};
+
+/// How many workers the first rack has, and how many the second; each has a slot.
+pub type Racks = (usize, usize);
+
+/// Room for whatever a test does, but for two hundred events.
+pub const AMPLE: Limits = Limits {
+    events: 200,
+    attempts: 200,
+    sweeps: 200,
+};
+
+/// A master of these workers and splits, of two parts, of which nothing has happened.
+pub fn make_master(
+    rt: &impl Abort,
+    alloc: Global,
+    racks: Racks,
+    rows: &[SplitRow<'_>],
+    limits: Limits,
+) -> Option<Master>
+    ensures { IfSome result (λ master. master.history ≡ []) }
+{
+    assert!(rt; racks.0 <= 4 && racks.1 <= 4);
+    let of = Shape {
+        racks: &[racks.0, racks.1],
+        slots: &[1; 8][..racks.0 + racks.1],
+        splits: rows,
+        parts: 2,
+    };
+    let cluster = make_cluster(rt, alloc, &of)?.ok()?;
+    assert!(rt;
+        limits.events <= 65_536 && limits.attempts <= 1_000_000 && limits.sweeps <= limits.events
+    );
+    Master::new(alloc, cluster, limits).ok()
+}
+
+/// Such a master, shared.
+pub fn share<L: Ledger>(
+    rt: &impl Abort,
+    alloc: Global,
+    blank: Blank,
+    racks: Racks,
+    rows: &[SplitRow<'_>],
+    limits: Limits,
+) -> Option<SharedMaster<L>>
+    requires { (blank.name ≡ L.name) × (blank.parts ≡ L.parts) × (blank.parts ≡ 4096) }
+{
+    let master = make_master(rt, alloc, racks, rows, limits)?;
+    Some(SharedMaster::new(blank, master))
+}
+
+/// Such a master, where there is memory.
+pub fn shared_of<L: Ledger>(
+    rt: &impl Abort,
+    alloc: Global,
+    blank: Blank,
+    racks: Racks,
+    rows: &[SplitRow<'_>],
+    limits: Limits,
+) -> SharedMaster<L>
+    requires { (blank.name ≡ L.name) × (blank.parts ≡ L.parts) × (blank.parts ≡ 4096) }
+{
+    share(rt, alloc, blank, racks, rows, limits).expect(rt, "no master")
+}
+
+/// A hand with ample room.
+pub fn hand_of<L: Ledger, R: Wait + Abort>(
+    rt: &R,
+    alloc: Global,
+    shared: &SharedMaster<L>,
+) -> Hand<L> {
+    shared.hand(rt, alloc, AMPLE).expect(rt, "no hand")
+}
+
+/// What a split's words make.
+pub fn made_of(alloc: Global, split: SplitNo, words: &str) -> Option<MapResult> {
+    let text = text_of(alloc, split, words)?;
+    map_split(alloc, Arc::new(alloc, text).ok()?, 2).ok()
+}
+
+/// A list of one hand.
+pub fn list_of<L: Ledger>(alloc: Global, hand: Hand<L>) -> Option<Vec<Hand<L>>> {
+    let mut hands = Vec::new(alloc);
+    hands.push(hand).ok()?;
+    Some(hands)
+}
+
+/// A list of two hands.
+pub fn list_of_both<L: Ledger>(alloc: Global, one: Hand<L>, two: Hand<L>) -> Option<Vec<Hand<L>>> {
+    let mut hands = list_of(alloc, one)?;
+    hands.push(two).ok()?;
+    Some(hands)
+}
+
+/// The master, where its history is made of these hands.
+pub fn settled<L: Ledger>(shared: SharedMaster<L>, hands: Vec<Hand<L>>) -> Option<Master> {
+    match settle(shared.into_master(), hands) {
+        Ok(Settled { master }) => Some(master),
+        Err(_) => None,
+    }
+}
+
+/// Whether its history is made of these hands.
+pub fn settles<L: Ledger>(shared: SharedMaster<L>, hands: Vec<Hand<L>>) -> bool {
+    settled(shared, hands).is_some()
+}
+
+/// The wave that was planned and committed, if it was.
+pub fn wave_of<L: Ledger, R: Wait>(
+    rt: &R,
+    alloc: Global,
+    shared: &SharedMaster<L>,
+    hand: &mut Hand<L>,
+) -> Option<Wave> {
+    let planned = shared.plan_wave(rt, alloc, hand).ok()?;
+    Some(planned.wave)
+}

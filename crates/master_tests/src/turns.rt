@@ -1,0 +1,206 @@
+ghost use Rattle.std.specs.Prelude.{◌≡◌};
+
+use crate::jobs::SplitRow;
+use crate::shared_masters::{AMPLE, hand_of, list_of_both, made_of, settles, shared_of, wave_of};
+use master_state::{Answer, AnswerWith, Start, Wave, Work};
+use node_ids::{AttemptNo, SplitNo, WorkerNo};
+use shared_master::{Between, Hand, SharedMaster, SharedWave};
+use std::alloc::Global;
+use std::marker::Brand;
+use std::process::Abort;
+use std::sync::ledger::{Blank, Ledger};
+use std::sync::{Mutex, Wait};
+use std::thread;
+use std::thread::Threads;
+use word_map::MapResult;
+
+// Split u runs on worker a, which holds split s too, once it was added.
+const ROWS: [SplitRow<'static>; 2] = [(10, &[0], "one"), (10, &[], "two")];
+
+// Which turn is solved, in which turn the other thread has called, and whether it was waited for in vain.
+#[derive(Drop)]
+struct Meeting {
+    solved: Mutex<u32>,
+    called: Mutex<u32>,
+    late: Mutex<bool>,
+}
+
+// Waits for a number to be reached, at most ten million turns.
+fn is_reached<R: Wait>(rt: &R, number: &Mutex<u32>, least: u32) -> bool {
+    for _ in 0..10_000_000u32 {
+        if *number.lock(rt) >= least {
+            return true;
+        }
+        thread::yield_now();
+    }
+    false
+}
+
+// After each solution it waits for the other thread's call.
+#[derive(Drop)]
+struct Waits<'a, R: Wait> {
+    rt: &'a R,
+    meeting: &'a Meeting,
+}
+
+impl<'a, R: Wait> Between for Waits<'a, R> {
+    fn solved(&self, turn: u32) {
+        *self.meeting.solved.lock(self.rt) = turn;
+        if !is_reached(self.rt, &self.meeting.called, turn) {
+            *self.meeting.late.lock(self.rt) = true;
+        }
+    }
+}
+
+fn put<R: Wait>(rt: &R, number: &Mutex<u32>, value: u32) {
+    *number.lock(rt) = value;
+}
+
+fn is_accepted(answer: Answer) -> bool {
+    matches!(answer, Answer::Accepted(_))
+}
+
+fn is_taken(answer: AnswerWith<MapResult>) -> bool {
+    matches!(answer, AnswerWith::Accepted(_))
+}
+
+// Worker a gets split s, or loses it. Whether it was accepted.
+fn change_holder<L: Ledger, R: Wait + Abort>(
+    rt: &R,
+    shared: &SharedMaster<L>,
+    hand: &mut Hand<L>,
+    is_new: bool,
+) -> bool {
+    let (a, s) = (WorkerNo::new(0), SplitNo::new(1));
+    assert!(rt; a.index() < shared.sizes().workers && s.index() < shared.sizes().splits);
+    is_accepted(if is_new {
+        shared.add(rt, hand, s, a)
+    } else {
+        shared.lose(rt, hand, s, a)
+    })
+}
+
+// s loses its holder in the second turn and gets it again in the third. Whether all was accepted.
+fn change_twice<L: Ledger, R: Wait + Abort>(
+    rt: &R,
+    shared: &SharedMaster<L>,
+    hand: &mut Hand<L>,
+    meeting: &Meeting,
+) -> bool {
+    put(rt, &meeting.called, 1);
+    let is_second = is_reached(rt, &meeting.solved, 2);
+    let is_lost = change_holder(rt, shared, hand, false);
+    put(rt, &meeting.called, 2);
+    let is_third = is_reached(rt, &meeting.solved, 3);
+    let is_added = change_holder(rt, shared, hand, true);
+    is_second & is_lost & is_third & is_added
+}
+
+// In the first turn u is done; where there are three, s changes its holder twice. Whether all was accepted.
+fn call_in_turns<L: Ledger, R: Wait + Abort>(
+    rt: &R,
+    shared: &SharedMaster<L>,
+    hand: &mut Hand<L>,
+    meeting: &Meeting,
+    turns: u32,
+    made: MapResult,
+) -> bool {
+    let is_first = is_reached(rt, &meeting.solved, 1);
+    let is_done = is_taken(shared.map_done(rt, hand, AttemptNo::new(1), made));
+    let is_changed = turns != 3 || change_twice(rt, shared, hand, meeting);
+    put(rt, &meeting.called, 4);
+    is_first & is_done & is_changed
+}
+
+// A wave of one hand, with these turns of the other's calls between its solutions, and how often it was
+// solved.
+fn plan_beside<L: Ledger + Send + Sync, R: Threads + Wait + Abort + Sync>(
+    rt: &R,
+    alloc: Global,
+    shared: &SharedMaster<L>,
+    one: &mut Hand<L>,
+    two: &mut Hand<L>,
+    turns: u32,
+) -> (SharedWave, u32) {
+    let made = made_of(alloc, SplitNo::new(0), "one").expect(rt, "no result");
+    let meeting = Meeting {
+        solved: Mutex::new(0),
+        called: Mutex::new(0),
+        late: Mutex::new(false),
+    };
+    let (planned, accepted) = thread::join(
+        rt,
+        || {
+            let waits = Waits {
+                rt,
+                meeting: &meeting,
+            };
+            shared.plan_wave_with(rt, alloc, one, &waits)
+        },
+        || call_in_turns(rt, shared, two, &meeting, turns, made),
+    );
+    assert!(rt; accepted && !*meeting.late.lock(rt));
+    let solved = *meeting.solved.lock(rt);
+    (planned.expect(rt, "no wave"), solved)
+}
+
+// The second attempt, of s on a, which holds it.
+fn expect(rt: &impl Abort, shared: SharedWave, place: u32) {
+    let wave = Wave {
+        place,
+        first: AttemptNo::new(2),
+        count: 1,
+        cost: 0,
+    };
+    let start = Start {
+        work: Work::Split(SplitNo::new(1)),
+        worker: WorkerNo::new(0),
+    };
+    assert_eq!(rt;
+        (shared.wave, shared.starts.as_slice()),
+        (wave, [start].as_slice())
+    );
+}
+
+// With these turns the second wave has this place, and was solved so often.
+fn plan_in_turns<L: Ledger + Send + Sync, R: Threads + Wait + Abort + Sync>(
+    rt: &R,
+    alloc: Global,
+    shared: &SharedMaster<L>,
+    one: &mut Hand<L>,
+    two: &mut Hand<L>,
+    (turns, place, solved): (u32, u32, u32),
+) {
+    assert!(rt; wave_of(rt, alloc, shared, one).is_some());
+    assert!(rt; change_holder(rt, shared, one, true));
+    let (wave, often) = plan_beside(rt, alloc, shared, one, two, turns);
+    expect(rt, wave, place);
+    assert_eq!(rt; often, solved);
+}
+
+// So it is, and both hands settle.
+fn wave_in_turns<L: Ledger + Send + Sync, R: Threads + Wait + Abort + Sync>(
+    rt: &R,
+    alloc: Global,
+    blank: Blank,
+    wanted: (u32, u32, u32),
+)
+    requires { (blank.name ≡ L.name) × (blank.parts ≡ L.parts) × (blank.parts ≡ 4096) }
+{
+    let shared: SharedMaster<L> = shared_of(rt, alloc, blank, (2, 0), &ROWS, AMPLE);
+    let mut one = hand_of(rt, alloc, &shared);
+    let mut two = hand_of(rt, alloc, &shared);
+    plan_in_turns(rt, alloc, &shared, &mut one, &mut two, wanted);
+    let hands = list_of_both(alloc, one, two).expect(rt, "no memory");
+    assert!(rt; settles(shared, hands));
+}
+
+#[test]
+fn a_stale_plan_is_made_again(rt: HostRuntime) {
+    wave_in_turns::<Brand, _>(&rt, rt.alloc(), Blank::new(4096), (1, 4, 2))
+}
+
+#[test]
+fn after_three_stale_plans_one_is_made_under_the_lock(rt: HostRuntime) {
+    wave_in_turns::<Brand, _>(&rt, rt.alloc(), Blank::new(4096), (3, 6, 3))
+}

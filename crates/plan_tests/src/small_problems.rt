@@ -1,0 +1,109 @@
+//! Problems made of their descriptions.
+use crate::clusters::{Centres, empty_racks};
+use crate::small::{Small, Split, Worker};
+use node_ids::{PairSet, RackNo, SplitNo, WorkerNo};
+use rack_tree::RackTree;
+use std::alloc::{AllocError, Global};
+use std::process::Abort;
+use wave_problem::{MAX_BYTES, Problem, SplitLine, WorkerLine};
+
+fn tree(rt: &impl Abort, alloc: Global, centres: Centres<'_>, workers: &[Worker]) -> RackTree {
+    let mut tree = empty_racks(rt, alloc, centres);
+    for worker in workers {
+        let rack = RackNo::new(worker.rack);
+        assert!(rt; rack.index() < tree.racks());
+        tree.add_worker(rack).expect(rt, "no worker");
+    }
+    tree
+}
+
+fn worker_lines(alloc: Global, workers: &[Worker]) -> Result<Vec<WorkerLine>, AllocError> {
+    let mut lines = Vec::new(alloc);
+    for worker in workers {
+        lines.push(WorkerLine {
+            live: worker.live,
+            free: worker.free,
+        })?;
+    }
+    Ok(lines)
+}
+
+fn split_line(alloc: Global, split: &Split) -> Result<SplitLine, AllocError> {
+    let mut holders = Vec::new(alloc);
+    for w in 0..4u16 {
+        if split.held_by[usize::from(w)] {
+            holders.push(WorkerNo::new(w))?;
+        }
+    }
+    Ok(SplitLine {
+        bytes: split.bytes,
+        pending: split.pending,
+        holders,
+    })
+}
+
+fn split_lines(alloc: Global, splits: &[Split]) -> Result<Vec<SplitLine>, AllocError> {
+    let mut lines = Vec::new(alloc);
+    for split in splits {
+        lines.push(split_line(alloc, split)?)?;
+    }
+    Ok(lines)
+}
+
+fn barred_pairs(alloc: Global, splits: &[Split]) -> Result<PairSet, AllocError> {
+    let mut barred = PairSet::new(alloc)?;
+    for s in 0..splits.len().min(1024) {
+        for w in 0..4u16 {
+            if splits[s].barred_on[usize::from(w)] {
+                barred.put(SplitNo::new(s as u16), WorkerNo::new(w));
+            }
+        }
+    }
+    Ok(barred)
+}
+
+// The problem of these data centres with their racks, these workers and splits.
+fn problem(
+    rt: &impl Abort,
+    alloc: Global,
+    centres: Centres<'_>,
+    workers: &[Worker],
+    splits: &[Split],
+) -> Problem {
+    let tree = tree(rt, alloc, centres, workers);
+    let workers = worker_lines(alloc, workers).expect(rt, "no memory");
+    assert!(rt; workers.len() == tree.workers());
+    let lines = split_lines(alloc, splits).expect(rt, "no memory");
+    let barred = barred_pairs(alloc, splits).expect(rt, "no memory");
+    Problem::new(alloc, tree, workers, lines, barred).expect(rt, "no problem")
+}
+
+/// A small problem.
+pub fn of(rt: &impl Abort, alloc: Global, small: &Small) -> Problem {
+    let centres = (small.centres.max(1), small.centre_of.as_slice());
+    let workers = &small.worker[..small.workers.min(4)];
+    let splits = &small.split[..small.splits.min(4)];
+    problem(rt, alloc, centres, workers, splits)
+}
+
+/// A worker without slots holds 1,024 splits of full size; 64 workers of 16 slots stand in another rack.
+pub fn one_host(rt: &impl Abort, alloc: Global) -> Problem {
+    let far = Worker {
+        rack: 1,
+        live: true,
+        free: 16,
+    };
+    let mut workers = [far; 65];
+    workers[0] = Worker {
+        rack: 0,
+        live: true,
+        free: 0,
+    };
+    let split = Split {
+        bytes: MAX_BYTES,
+        pending: true,
+        held_by: [true, false, false, false],
+        barred_on: [false; 4],
+    };
+    problem(rt, alloc, (1, &[0, 0]), &workers, &[split; 1024])
+}
