@@ -5,10 +5,10 @@ use Rattle.std.proofs.lemmas.List.{take_more}
 use Rattle.std.proofs.lemmas.Bool.{cases_lt}
 use Rattle.flow_network.specs.declared.arcs.FlowArc.{FlowArc}
 use Rattle.flow_network.specs.Flows.{AreArcs}
-use Rattle.augmenting_paths.specs.Shipping.{HasWay, CanShip, AreStarts, AreMembers}
+use Rattle.augmenting_paths.specs.Shipping.{HasWay, CanShip, AreSources, AreMembers}
 
 pub can_ship_from : (nodes : ℕ) (arcs : List FlowArc) (sources : List ℕ) (sink : ℕ) → AreArcs nodes arcs →
-    AreStarts arcs sources sink
+    AreSources arcs sources sink
     → ((k : ℕ) → k < length sources → HasWay arcs sources sink (get_or sources k 0)) →
     CanShip nodes arcs sources sink
 can_ship_from nodes arcs sources sink are starts ways = record {
@@ -27,7 +27,7 @@ can_ship_from nodes arcs sources sink are starts ways = record {
 }
 
 pub starts_of : (nodes : ℕ) (arcs : List FlowArc) (sources : List ℕ) (sink : ℕ) →
-    CanShip nodes arcs sources sink → AreStarts arcs sources sink
+    CanShip nodes arcs sources sink → AreSources arcs sources sink
 starts_of nodes arcs sources sink can = λ k l. record {
   not_sink = can.not_sink k l;
   no_entry = λ e. can.no_entry k e.0 l e.1 e.2;

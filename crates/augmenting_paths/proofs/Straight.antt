@@ -13,8 +13,8 @@ use Rattle.guest_lists.specs.Guests.{GuestLists, AreGuests, exit_arcs, exits_at,
 use Rattle.guest_lists.specs.Standing.{GoesOnce}
 use Rattle.guest_search.specs.Lowering.{lowered}
 use Rattle.guest_search.specs.ToSink.{far, IsSearched, IsTrace}
-use Rattle.augmenting_paths.specs.Shipping.{CanShip, HasShipped, IsReady}
-use Rattle.augmenting_paths.specs.Straight.{IsOpen, IsStraight}
+use Rattle.augmenting_paths.specs.Shipping.{CanShip, HasShipped, HasLiftedNext}
+use Rattle.augmenting_paths.specs.Straight.{IsTightArc, IsStraight}
 use Rattle.augmenting_paths.proofs.Shipped.{shipped, same_depths}
 
 zero_or : (b : Bool) (x : ℕ) → x ≡ 0 → cond b 0 x ≡ 0
@@ -24,7 +24,7 @@ zero_or false x e = e
 zero_where : (u v : ℕ) (x : ℕ) → u ≡ v → cond (eqb u v) 0 x ≡ 0
 zero_where u v x e = rw (eq-eqb u v e) refl
 
-residual_of_open : (arcs : List FlowArc) (flows : List ℕ) (h : ℕ → ℕ) (k : ℕ) → IsOpen arcs flows h k
+residual_of_open : (arcs : List FlowArc) (flows : List ℕ) (h : ℕ → ℕ) (k : ℕ) → IsTightArc arcs flows h k
     → IsResidual arcs flows (Forward k)
 residual_of_open arcs flows h k o =
     record { listed = o.listed; room = (let room = o.room in omega arith) }
@@ -41,7 +41,7 @@ exit_on arcs flows sink g v on guests e =
 
 module _ (nodes : ℕ) (arcs : List FlowArc) (sources : List ℕ) (sink count : ℕ) (flows : List ℕ)
     (h' : ℕ → ℕ) (can : CanShip nodes arcs sources sink) (left : count < length sources)
-    (ready : IsReady arcs sources sink count flows h') (out on : ℕ)
+    (ready : HasLiftedNext arcs sources sink count flows h') (out on : ℕ)
     (way : IsStraight arcs flows h' (get_or sources count 0) sink out on) where
   abbrev straight : List ArcNo
   straight = Forward out ∷ (Forward on ∷ [])

@@ -73,7 +73,7 @@ pub record IsLifted (arcs : List FlowArc) (h h' : ℕ → ℕ) (s : ℕ) : Type 
       → h' s ≤ (arc_at arcs k).cost + h (arc_at arcs k).to
 
 -- the next source is lifted
-pub record IsReady (arcs : List FlowArc) (sources : List ℕ) (sink count : ℕ) (flows : List ℕ)
+pub record HasLiftedNext (arcs : List FlowArc) (sources : List ℕ) (sink count : ℕ) (flows : List ℕ)
     (h' : ℕ → ℕ) : Type 0 where
   pub h : ℕ → ℕ
   pub state : HasShipped arcs sources sink count flows h
@@ -126,13 +126,13 @@ abbrev pub IsEntered : List FlowArc → ℕ → Type 0
 IsEntered arcs node = (j : ℕ) × (j < length arcs) × ((arc_at arcs j).to ≡ node)
 
 -- a source that stands once, is not the sink, and to which no arc leads
-pub record IsStart (arcs : List FlowArc) (sources : List ℕ) (sink k : ℕ) : Type 0 where
+pub record IsSource (arcs : List FlowArc) (sources : List ℕ) (sink k : ℕ) : Type 0 where
   pub not_sink : slice_index sources k ≡ sink → ⊥
   pub no_entry : IsEntered arcs (slice_index sources k) → ⊥
   pub first : (j : ℕ) → j < k → slice_index sources j ≡ slice_index sources k → ⊥
 
-abbrev pub AreStarts : List FlowArc → List ℕ → ℕ → Type 0
-AreStarts arcs sources sink = (k : ℕ) → k < length sources → IsStart arcs sources sink k
+abbrev pub AreSources : List FlowArc → List ℕ → ℕ → Type 0
+AreSources arcs sources sink = (k : ℕ) → k < length sources → IsSource arcs sources sink k
 
 -- all that is asked before units are shipped
 pub record MayShip {X : Type 0} (is_member : X → Bool) (index_of : X → ℕ) (nodes : ℕ) (arcs : List FlowArc)

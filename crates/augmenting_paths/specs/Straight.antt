@@ -4,14 +4,14 @@ use Rattle.flow_network.specs.declared.arcs.FlowArc.{FlowArc}
 use Rattle.flow_network.specs.Flows.{arc_at}
 
 -- an arc with room that costs nothing
-pub record IsOpen (arcs : List FlowArc) (flows : List ℕ) (h : ℕ → ℕ) (k : ℕ) : Type 0 where
+pub record IsTightArc (arcs : List FlowArc) (flows : List ℕ) (h : ℕ → ℕ) (k : ℕ) : Type 0 where
   pub listed : k < length arcs
   pub room : slice_index flows k < (arc_at arcs k).capacity
   pub tight : h (arc_at arcs k).from ≡ (arc_at arcs k).cost + h (arc_at arcs k).to
 
 pub record IsStraight (arcs : List FlowArc) (flows : List ℕ) (h : ℕ → ℕ) (s sink out on : ℕ) : Type 0 where
-  pub first : IsOpen arcs flows h out
-  pub second : IsOpen arcs flows h on
+  pub first : IsTightArc arcs flows h out
+  pub second : IsTightArc arcs flows h on
   pub leaves : (arc_at arcs out).from ≡ s
   pub meets : (arc_at arcs on).from ≡ (arc_at arcs out).to
   pub arrives : (arc_at arcs on).to ≡ sink

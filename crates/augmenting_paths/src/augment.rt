@@ -7,8 +7,8 @@ ghost use Rattle.guest_search.specs.Search.{MaySearch};
 ghost use Rattle.guest_search.specs.Searching.{distance_at};
 ghost use Rattle.guest_search.specs.ToSink.{IsSearched, IsTrace};
 ghost use Rattle.augmenting_paths.specs.Shipping.{CanShip, HasShipped, IsCheapest, AreMembers, IsLifted};
-ghost use Rattle.augmenting_paths.specs.Shipping.{IsReady, KeepsGuests, AreMarked};
-ghost use Rattle.augmenting_paths.specs.Straight.{IsOpen, IsStraight};
+ghost use Rattle.augmenting_paths.specs.Shipping.{HasLiftedNext, KeepsGuests, AreMarked};
+ghost use Rattle.augmenting_paths.specs.Straight.{IsTightArc, IsStraight};
 
 use crate::order::shipping_order;
 use crate::ways::indices;
@@ -136,7 +136,7 @@ fn ship_straight<L: Layout>(
     requires size { length shipping.potentials ≡ L.node_count network.old.layout }
     requires buffers { shipping.buffers ≡ L.node_count network.old.layout }
     requires can { CanShip (L.node_count network.old.layout) network.old.arcs order.now sink }
-    requires lifted { IsReady network.old.arcs order.now sink count network.old.flows
+    requires lifted { HasLiftedNext network.old.arcs order.now sink count network.old.flows
         (slice_index shipping.potentials) }
     requires straight { IsStraight network.old.arcs network.old.flows (slice_index shipping.potentials)
         (slice_index order.now count) sink out on }
@@ -181,7 +181,7 @@ fn ship_found<L: Layout>(
     requires size { length shipping.potentials ≡ L.node_count network.old.layout }
     requires buffers { shipping.buffers ≡ L.node_count network.old.layout }
     requires can { CanShip (L.node_count network.old.layout) network.old.arcs order.now sink }
-    requires lifted { IsReady network.old.arcs order.now sink count network.old.flows
+    requires lifted { HasLiftedNext network.old.arcs order.now sink count network.old.flows
         (slice_index shipping.potentials) }
     requires guests { KeepsGuests (L.node_count network.old.layout) network.old.arcs network.old.flows sink
         shipping.guests }
@@ -273,7 +273,8 @@ fn straight_on<L: Layout>(
 fn is_open<L: Layout>(network: &Network<L>, potentials: &Potentials, number: usize) -> bool
     requires size { length potentials.now ≡ L.node_count network.now.layout }
     requires listed { number < length network.now.arcs }
-    ensures { IsTrue result → IsOpen network.now.arcs network.now.flows (slice_index potentials.now) number }
+    ensures { IsTrue result
+        → IsTightArc network.now.arcs network.now.flows (slice_index potentials.now) number }
 {
     network.limits();
     let arc = network.all_arcs()[number];

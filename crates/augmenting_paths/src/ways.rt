@@ -1,7 +1,7 @@
 //! The test of what `saturate` asks of a network and its sources.
 ghost use Rattle.std.specs.Prelude.{◌≡◌, ℕ, ◌<◌, ◌≤◌, length, map, slice_index, true, IsTrue, ◌↔◌, IfOk};
 ghost use Rattle.flow_network.specs.Flows.{arc_at};
-ghost use Rattle.augmenting_paths.specs.Shipping.{CanShip, HasWay, LeadsOn, IsEntered, IsStart, AreStarts};
+ghost use Rattle.augmenting_paths.specs.Shipping.{CanShip, HasWay, LeadsOn, IsEntered, IsSource, AreSources};
 ghost use Rattle.augmenting_paths.specs.Shipping.{AreMembers, MayShip};
 
 use flow_network::{FlowArc, Network};
@@ -167,14 +167,14 @@ fn stands_before(sources: &[usize], place: usize) -> bool
 // Whether the source of this number stands once, is not the sink, and no arc leads to it.
 fn is_start(arcs: &[FlowArc], sources: &[usize], sink: usize, k: usize) -> bool
     requires { k < length sources.now }
-    ensures { IsTrue result ↔ IsStart arcs.now sources.now sink k }
+    ensures { IsTrue result ↔ IsSource arcs.now sources.now sink k }
 {
     sources[k] != sink && !is_entered(arcs, sources[k]) && !stands_before(sources, k)
 }
 
 // Whether each source stands once, is not the sink, and no arc leads to it.
 fn are_starts(arcs: &[FlowArc], sources: &[usize], sink: usize) -> bool
-    ensures { IsTrue result ↔ AreStarts arcs.now sources.now sink }
+    ensures { IsTrue result ↔ AreSources arcs.now sources.now sink }
 {
     for k in 0..sources.len() {
         if !is_start(arcs, sources, sink, k) {
@@ -186,7 +186,7 @@ fn are_starts(arcs: &[FlowArc], sources: &[usize], sink: usize) -> bool
 
 // Both of each source.
 fn are_starts_with_ways(arcs: &[FlowArc], sources: &[usize], sink: usize) -> bool
-    ensures { IsTrue result ↔ (AreStarts arcs.now sources.now sink
+    ensures { IsTrue result ↔ (AreSources arcs.now sources.now sink
         × ((k : ℕ) → k < length sources.now → HasWay arcs.now sources.now sink (slice_index sources.now k))) }
 {
     are_starts(arcs, sources, sink) && have_ways(arcs, sources, sink)

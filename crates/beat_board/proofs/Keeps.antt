@@ -22,7 +22,7 @@ use Rattle.beat_board.specs.declared.view.Tally.{Tally}
 use Rattle.beat_board.specs.declared.view.Look.{Look}
 use Rattle.beat_board.specs.Values.{look, last_seen, AreWithin, down_from}
 use Rattle.beat_board.specs.Views.{tally, seated, reading, making, spent}
-use Rattle.beat_board.specs.Rule.{beats_of, told_of, seats_in, Fits, Counted, Rule}
+use Rattle.beat_board.specs.Rule.{beats_of, told_of, seats_in, Fits, AreCounted, Rule}
 use Rattle.beat_board.specs.Steps.{Beats, Looks, Turns, more, shown, gathers}
 
 abbrev pub worth : ℕ → View → ℕ
@@ -57,13 +57,13 @@ fits_rises words words' v rises h = record {
 }
 
 -- one view changes, and maybe the words
-pub keep : (words words' : List ℕ) (views : List View) (id : ℕ) (v w : View) → Counted words views
+pub keep : (words words' : List ℕ) (views : List View) (id : ℕ) (v w : View) → AreCounted words views
     → get_elem? views id ≡ some v → length words' ≡ length words → AreRising words words'
     → length w.tallies ≡ length v.tallies → w.made ≡ v.made
     → ((k : ℕ) → k < length words → slice_index words' k + worth k v ≡ slice_index words k + worth k w)
     → ((k : ℕ) → k < length words → (f : ℕ → ℕ)
     → up_to f words' k + told_worth k f v ≡ up_to f words k + told_worth k f w)
-    → Fits words' w → Counted words' (set views id w)
+    → Fits words' w → AreCounted words' (set views id w)
 keep words words' views id v w h at len rises same made sums told fits =
     let seats = sum_by-set seats_in views id v w at in record {
       width = omega (arith, len, h.width);
@@ -92,9 +92,9 @@ keep words words' views id v w h at len rises same made sums told fits =
     }
 
 -- one view changes, and neither the words nor its counts
-pub learns : (words : List ℕ) (views : List View) (id : ℕ) (v w : View) → Counted words views
+pub learns : (words : List ℕ) (views : List View) (id : ℕ) (v w : View) → AreCounted words views
     → get_elem? views id ≡ some v
-    → w.tallies ≡ v.tallies → w.made ≡ v.made → AreWithin words w.looks → Counted words (set views id w)
+    → w.tallies ≡ v.tallies → w.made ≡ v.made → AreWithin words w.looks → AreCounted words (set views id w)
 learns words views id v w h at tallies made seen =
     let old = h.each id v at in
     keep words words views id v w h at refl (λ k. omega arith) (ap length tallies) made
@@ -153,7 +153,7 @@ one_tally : (P : Tally → Type 0) (t : Tally) → P t → All P (t ∷ [])
 one_tally P t p = All-cons P t [] p (no_tallies P)
 
 -- no word passes 2 ^ 52
-pub bounded : (words : List ℕ) (views : List View) (k : ℕ) → Counted words views → k < length words
+pub bounded : (words : List ℕ) (views : List View) (k : ℕ) → AreCounted words views → k < length words
     → slice_index words k ≤ 2 ^ 52
 bounded words views k h lt =
     let all = sum_within (worth k) seats_in (2 ^ 40) views
@@ -252,7 +252,7 @@ beats id i n slots told lt small s h homes at fits =
       w,
       keeps,
       tt,
-      subst (λ m. Counted (set s.words i m) (set s.views id w)) (sym next) kept,
+      subst (λ m. AreCounted (set s.words i m) (set s.views id w)) (sym next) kept,
       (
         refl,
         refl,
@@ -270,12 +270,12 @@ beats_as id slots m i n told e f lt small =
     (both_are m (seated i n told) e f) (beats id i n slots told lt small)
 
 -- a step that leaves the words
-stays : (words : List ℕ) (views : List View) (id i : ℕ) (v w : View) → Counted words views
+stays : (words : List ℕ) (views : List View) (id i : ℕ) (v w : View) → AreCounted words views
     → get_elem? views id ≡ some v
     → w.tallies ≡ v.tallies → w.made ≡ v.made → AreWithin words w.looks
-    → Counted (set words i (slice_index words i)) (set views id w)
+    → AreCounted (set words i (slice_index words i)) (set views id w)
 stays words views id i v w h at tallies made seen =
-    subst (λ ws. Counted ws (set views id w)) (sym (set-get_or words i 0))
+    subst (λ ws. AreCounted ws (set views id w)) (sym (set-get_or words i 0))
     (learns words views id v w h at tallies made seen)
 
 looks : (id i slots : ℕ) (xs : List Look)
@@ -322,14 +322,14 @@ turns_as id slots m i next made e f =
     (both_are m (making [] [] next made) e f) (turns id i slots next made)
 
 -- a new view is made by another
-split : (words : List ℕ) (views : List View) (id : ℕ) (v left right : View) → Counted words views
+split : (words : List ℕ) (views : List View) (id : ℕ) (v left right : View) → AreCounted words views
     → get_elem? views id ≡ some v
     → left.tallies ≡ v.tallies → AreWithin words left.looks
     → ((k : ℕ) → worth k right ≡ 0) → ((k : ℕ) (f : ℕ → ℕ) → told_worth k f right ≡ 0)
     → ((u : View) → get_elem? (set views id left) 0 ≡ some u
     → sum_by seats_in views + seats_in right ≡ u.made)
     → sum_by seats_in views + seats_in right ≤ 4096 → Fits words right
-    → Counted words (set views id left ++ right ∷ [])
+    → AreCounted words (set views id left ++ right ∷ [])
 split words views id v left right h at tallies seen idle quiet made room theirs =
     let old = h.each id v at in
     let views' = set views id left in
@@ -525,8 +525,7 @@ no_told k f v e = none_of v.tallies e
     none_of (t ∷ ts) e = absurd (omega arith)
 
 -- The maker never has more than was made. Where it has all, each word is the sum of what it has, and what
--- that was told are
--- the numbers up to the word; and what it saw is within the words
+-- that was told are the numbers up to the word; and what it saw is within the words
 pub record Gathered (words : List ℕ) (ts : List Tally) (xs : List Look) (made : ℕ) : Type 0 where
   pub few : length ts ≤ made
   pub sums : made ≤ length ts → (k : ℕ) → k < 256 → slice_index words k ≡ beats_of k ts
@@ -534,7 +533,7 @@ pub record Gathered (words : List ℕ) (ts : List Tally) (xs : List Look) (made 
   pub seen : AreWithin words xs
 
 pub gathered : (words : List ℕ) (views : List View) (ts : List Tally) (xs : List Look) (next made : ℕ)
-    → Counted words views
+    → AreCounted words views
     → get_elem? views 0 ≡ some (making ts xs next made) → Gathered words ts xs made
 gathered words views ts xs next made h at =
     let v = making ts xs next made in
@@ -552,7 +551,7 @@ gathered words views ts xs next made h at =
     }
 
 pub begins : (ws : List ℕ) → length ws ≡ 256 → ((k : ℕ) → k < 256 → slice_index ws k ≡ 0)
-    → Counted ws (making [] [] 0 0 ∷ [])
+    → AreCounted ws (making [] [] 0 0 ∷ [])
 begins ws len zeros = record {
   width = len;
   sums = λ k lt. zeros k (omega arith);

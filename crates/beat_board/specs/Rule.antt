@@ -25,10 +25,9 @@ pub record Fits (words : List ℕ) (v : View) : Type 0 where
   pub told : All (λ t. All (λ n. n ≤ slice_index words t.worker) t.told) v.tallies
   pub seen : AreWithin words v.looks
 
--- the first view is the maker's, which knows how many seats were made; a worker's beats are told the numbers
--- up to its
--- word, each once
-pub record Counted (words : List ℕ) (views : List View) : Type 0 where
+-- the first view is the maker's, which knows how many seats were made; a worker's beats are told the
+-- numbers up to its word, each once
+pub record AreCounted (words : List ℕ) (views : List View) : Type 0 where
   pub width : length words ≡ 256
   pub sums : (w : ℕ) → w < length words → slice_index words w ≡ sum_by (λ v. beats_of w v.tallies) views
   pub told : (w : ℕ) → w < length words → (weight : ℕ → ℕ)
@@ -38,4 +37,4 @@ pub record Counted (words : List ℕ) (views : List View) : Type 0 where
   pub each : (id : ℕ) (v : View) → get_elem? views id ≡ some v → Fits words v
 
 abbrev pub Rule : State ℕ View → Type 0
-Rule s = Counted s.words s.views
+Rule s = AreCounted s.words s.views

@@ -15,9 +15,8 @@ seated w n told = record { tallies = tally w n told ∷ []; looks = []; next = 0
 abbrev pub reading : List Look → View
 reading xs = record { tallies = []; looks = xs; next = 0; made = 0 }
 
--- the maker, with the counts of the seats and the looks of the readers that came back, the worker whose seat
--- is next, and
--- how many seats it made
+-- the maker, with the counts of the seats and the looks of the readers that came back, the worker whose
+-- seat is next, and how many seats it made
 abbrev pub making : List Tally → List Look → ℕ → ℕ → View
 making ts xs next made = record { tallies = ts; looks = xs; next = next; made = made }
 

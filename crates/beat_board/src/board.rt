@@ -152,7 +152,7 @@ impl Board {
         ensures rises { IfOk result (λ word. All (λ n. n < word) seat.old.told) }
         ensures worn { IsErr result ↔ (seat.old.beats ≡ MAX_BEATS) }
         ensures err { OnErr result (seat.new ≡ seat.old) }
-        ensures limit { seat.new.beats ≤ MAX_BEATS }
+        ensures most { seat.new.beats ≤ MAX_BEATS }
     {
         if seat.beats >= MAX_BEATS {
             return Err(Worn);

@@ -95,7 +95,7 @@ impl BlockMap {
     /// How many splits there are.
     pub fn splits(&self) -> usize
         ensures count { result ≡ length self.now }
-        ensures limit { result ≤ 1024 }
+        ensures most { result ≤ 1024 }
     {
         self.lists.len()
     }

@@ -7,13 +7,13 @@ use Rattle.std.specs.Option.{option_map}
 use Rattle.std.proofs.lemmas.Bool.{cases_Bool, eqb-true, false≢true, or_cases}
 use Rattle.std.proofs.lemmas.List.Elements.{All-head, All-tail}
 use Rattle.rack_tree.specs.Tree.{centre_at}
-use Rattle.wave_problem.specs.Wave.{Wave, cost, live_holders, split_at, worker_at}
+use Rattle.wave_problem.specs.Wave.{Wave, cost, live_holders, split_at, worker_at, IsUsable}
 use Rattle.wave_problem.proofs.Bound.{live_known}
 use Rattle.wave_problem.proofs.Gathered.{least_near, steps_to}
 use Rattle.price_certificate.specs.declared.Condition.TheVariants.{Priced}
 use Rattle.price_certificate.specs.Certificate.{Claim, Holds}
 use Rattle.certificate_checker.specs.declared.floors.Floors.{Floors}
-use Rattle.certificate_checker.specs.Floors.{AreFloors, IsPricedFar, IsPricedNear, IsUsable}
+use Rattle.certificate_checker.specs.Floors.{AreFloors, IsPricedFar, IsPricedNear}
 
 -- where one that a filter keeps passes a test, all that holds of each holds of one that passes
 found : (q p : ℕ → Bool) (P : ℕ → Type 0) (xs : List ℕ) → All P xs → list_any p (filter q xs) ≡ true →

@@ -1,13 +1,9 @@
 -- The least prices of slots, by which whole rows of pairs are settled.
 use Rattle.std.specs.Prelude.{ℕ, ◌≡◌, ◌+◌, ◌*◌, ◌<◌, ◌≤◌, true, length, slice_index}
 use Rattle.rack_tree.specs.declared.TheConstants.{MAX_RACKS}
-use Rattle.wave_problem.specs.Wave.{Wave, worker_at, split_at, reward}
+use Rattle.wave_problem.specs.Wave.{IsUsable, worker_at, split_at, reward}
 use Rattle.price_certificate.specs.Certificate.{Claim, split_price, worker_price}
 use Rattle.certificate_checker.specs.declared.floors.Floors.{Floors}
-
--- the worker w lives and has a free slot
-abbrev pub IsUsable : Wave → ℕ → Type 0
-IsUsable wave w = ((worker_at wave w).live ≡ true) × (0 < (worker_at wave w).free)
 
 -- no usable worker below n has a slot for less than the floor of all, or than that of its rack
 pub record AreFloors (claim : Claim) (floors : Floors) (n : ℕ) : Type 0 where

@@ -3,7 +3,7 @@ ghost use Rattle.std.specs.Prelude.{unwrap_or, All, IsTrue, OnOk, Err, IfErr, If
 ghost use Rattle.rack_tree.specs.Tree.{IsWithinReach};
 ghost use Rattle.rack_tree.specs.declared.TheConstants.{MAX_DISTANCE, MAX_WORKERS};
 ghost use Rattle.wave_problem.specs.declared.TheConstants.{MAX_BYTES, MAX_SPLITS};
-ghost use Rattle.wave_problem.specs.Wave.{cost, reward, split_at, worker_at};
+ghost use Rattle.wave_problem.specs.Wave.{cost, reward, split_at, worker_at, IsUsable};
 ghost use Rattle.wave_problem.specs.Assignment.{load, pairs_of, start_of, total};
 ghost use Rattle.price_certificate.specs.Certificate.{AllHold, claim, Certifies, HasOneSize, Holds};
 ghost use Rattle.price_certificate.specs.Certificate.{IsFirstFailure, IsFirstOf, MayTake, priced_at};
@@ -11,7 +11,7 @@ ghost use Rattle.price_certificate.specs.Certificate.{split_price, worker_price,
 ghost use Rattle.price_certificate.specs.Certificate.{of_priced, of_room, of_spare, of_split_price, of_tight};
 ghost use Rattle.price_certificate.specs.Certificate.{of_unstarted, of_worker_price};
 ghost use Rattle.certificate_checker.specs.Verdict.{IfFailed, IsFirstUnderpriced, MayComparePairs};
-ghost use Rattle.certificate_checker.specs.Floors.{AreFloors, IsPricedFar, IsPricedNear, IsUsable};
+ghost use Rattle.certificate_checker.specs.Floors.{AreFloors, IsPricedFar, IsPricedNear};
 
 use crate::floors::Floors;
 use crate::{Certified, CheckError};
@@ -72,7 +72,7 @@ impl<'a> Checker<'a> {
         ensures count { result ≡ length self.now.wave.splits }
         ensures starts { result ≡ length self.now.starts }
         ensures prices { result ≡ length self.now.prices.splits }
-        ensures limit { result ≤ MAX_SPLITS }
+        ensures most { result ≤ MAX_SPLITS }
     {
         self.problem.splits()
     }
@@ -80,7 +80,7 @@ impl<'a> Checker<'a> {
     fn workers(&self) -> usize
         ensures count { result ≡ length self.now.wave.workers }
         ensures prices { result ≡ length self.now.prices.workers }
-        ensures limit { result ≤ MAX_WORKERS }
+        ensures most { result ≤ MAX_WORKERS }
     {
         self.problem.workers()
     }
@@ -109,7 +109,7 @@ impl<'a> Checker<'a> {
 
     fn reward(&self) -> u64
         ensures reward { result ≡ reward self.now.wave }
-        ensures limit { result ≤ 1 + MAX_DISTANCE * MAX_SPLITS * MAX_BYTES }
+        ensures most { result ≤ 1 + MAX_DISTANCE * MAX_SPLITS * MAX_BYTES }
     {
         self.reward
     }
@@ -135,7 +135,7 @@ impl<'a> Checker<'a> {
         requires split_prices { AllHold self.now of_split_price }
         requires worker_prices { AllHold self.now of_worker_price }
         ensures sum { result ≡ split_price self.now.prices split + worker_price self.now.prices worker }
-        ensures limit { result ≤ 2 * (1 + MAX_DISTANCE * MAX_SPLITS * MAX_BYTES) }
+        ensures most { result ≤ 2 * (1 + MAX_DISTANCE * MAX_SPLITS * MAX_BYTES) }
     {
         // (bounds the prices)
         let _reward = self.reward();
@@ -146,7 +146,7 @@ impl<'a> Checker<'a> {
         requires split { split < length self.now.wave.splits }
         requires worker { worker < length self.now.wave.workers }
         ensures cost { result ≡ unwrap_or (cost self.now.wave split worker) 0 }
-        ensures limit { result ≤ MAX_DISTANCE * MAX_BYTES }
+        ensures most { result ≤ MAX_DISTANCE * MAX_BYTES }
     {
         self.problem.cost(split, worker).unwrap_or(0)
     }

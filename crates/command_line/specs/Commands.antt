@@ -19,8 +19,8 @@ use Rattle.flow_network.specs.declared.NetworkKind.{NetworkKind}
 use Rattle.flow_network.specs.declared.NetworkKind.TheVariants.{Direct, Racks}
 
 -- the flag `--prices`, which takes no value
-abbrev pub prices : Rule
-prices = record (new_rule (codes "prices")) { long = Some (codes "prices"); action = Some SetTrue }
+abbrev pub prices_flag : Rule
+prices_flag = record (new_rule (codes "prices")) { long = Some (codes "prices"); action = Some SetTrue }
 
 -- the word by which a network is asked for
 abbrev pub word_of : NetworkKind → Text
@@ -39,7 +39,7 @@ abbrev pub check : App
 check = new_app (codes "check")
 
 abbrev pub plan : App
-plan = with_rule (with_rule (new_app (codes "plan")) prices) network
+plan = with_rule (with_rule (new_app (codes "plan")) prices_flag) network
 
 abbrev pub play : App
 play = new_app (codes "play")
@@ -76,10 +76,10 @@ abbrev pub faults_in : List Text → Kinds
 faults_in words = fault_of mrjob words
 
 -- the word by which a command is called
-abbrev pub name_of : Ask → Text
-name_of Check = codes "check"
-name_of (Plan options) = codes "plan"
-name_of Play = codes "play"
+abbrev pub command_word : Ask → Text
+command_word Check = codes "check"
+command_word (Plan options) = codes "plan"
+command_word Play = codes "play"
 
 -- the words have a fault of this kind: one that clap finds, or a network that is none
 abbrev pub HasFault : List Text → ErrorKind → Type 0

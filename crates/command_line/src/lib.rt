@@ -10,7 +10,7 @@ ghost use Rattle.std.specs.Prelude.{◌≡◌, [], Err, IfOk, IsOk, MatchOption,
 ghost use Rattle.clap.specs.Walk.{texts};
 ghost use Rattle.clap.specs.Words.{first_value, found_of, kind_of};
 ghost use Rattle.command_line.specs.Commands.{HasFault, NamesNoNetwork, command_in, faults_in, flag_in};
-ghost use Rattle.command_line.specs.Commands.{name_of};
+ghost use Rattle.command_line.specs.Commands.{command_word};
 ghost use Rattle.command_line.specs.Commands.{RefusesNetwork, is_set, value_in, word_of};
 
 pub mod asked;
@@ -29,7 +29,7 @@ invalid value for '--network <NETWORK>'
 
 /// The command that the words ask for with its options, the program's name being the first word.
 pub fn ask<'a>(alloc: Global, words: &'a [&'a str]) -> Result<Ask, AskError>
-    ensures command { IfOk result (λ ask. command_in (texts words.entry.now) ≡ Some (name_of ask)) }
+    ensures command { IfOk result (λ ask. command_in (texts words.entry.now) ≡ Some (command_word ask)) }
     ensures flag { (options : _) → result ≡ Ok (Ask.Plan options)
         → options.prices ≡ flag_in (codes "prices") (texts words.entry.now) }
     ensures network { (options : _) → result ≡ Ok (Ask.Plan options)

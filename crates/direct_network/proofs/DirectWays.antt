@@ -4,9 +4,8 @@ use Rattle.std.proofs.Common.{unwrap_or}
 use Rattle.flow_network.specs.declared.arcs.FlowArc.{FlowArc}
 use Rattle.flow_network.specs.Flows.{arc_at}
 use Rattle.flow_network.specs.Laws.{outroom}
-use Rattle.wave_problem.specs.Wave.{Wave, IsAdmissible, split_at, worker_at, cost}
+use Rattle.wave_problem.specs.Wave.{Wave, IsAdmissible, split_at, worker_at, cost, IsUsable}
 use Rattle.wave_problem.proofs.Bound.{live_known, pending_known}
-use Rattle.network_prices.specs.Pending.{IsUsable}
 use Rattle.network_prices.specs.Ways.{IsAmong}
 use Rattle.network_prices.specs.Networks.{way_of, IsArcFrom, IsOffer, IsWaveNetwork}
 use Rattle.network_prices.proofs.Arcs.{arc_standing}

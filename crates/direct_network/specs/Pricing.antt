@@ -1,8 +1,7 @@
 -- The price of a slot.
 use Rattle.std.specs.Prelude.{ℕ, ◌≡◌}
-use Rattle.wave_problem.specs.Wave.{Wave}
+use Rattle.wave_problem.specs.Wave.{Wave, IsUsable}
 use Rattle.direct_network.specs.Direct.{worker_node}
-use Rattle.network_prices.specs.Pending.{IsUsable}
 
 -- of a slot of w: how deep a usable worker's node lies, else nothing
 pub record IsSlotPrice (wave : Wave) (h : ℕ → ℕ) (w price : ℕ) : Type 0 where

@@ -63,7 +63,7 @@ impl DirectArc {
     pub fn capacity(&self, problem: &Problem) -> u64
         requires { IsWanted problem.now self.now }
         ensures capacity { result ≡ (arc_of problem.now self.now).capacity }
-        ensures limit { result ≤ MAX_SPLITS }
+        ensures most { result ≤ MAX_SPLITS }
     {
         match *self {
             DirectArc::Pair(_, _) => 1,

@@ -19,7 +19,7 @@ pub fn build(alloc: Global, problem: &Problem) -> Result<Network<DirectLayout>, 
     ensures layout { IfOk result (λ network. IsSized problem.now network.layout) }
     ensures arcs { IfOk result (λ network. IsDirect problem.now network.arcs) }
     ensures empty { IfOk result (λ network. (k : ℕ) → slice_index network.flows k ≡ 0) }
-    ensures limit { IfOk result (λ network. length network.arcs ≤ MAX_ARCS) }
+    ensures most { IfOk result (λ network. length network.arcs ≤ MAX_ARCS) }
 {
     let layout = DirectLayout {
         splits: problem.splits() as u16,

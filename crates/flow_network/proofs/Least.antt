@@ -7,7 +7,7 @@ use Rattle.flow_network.specs.declared.arcs.ArcNo.{ArcNo}
 use Rattle.flow_network.specs.declared.arcs.ArcNo.TheVariants.{Forward, Reverse}
 use Rattle.flow_network.specs.Flows.{arc_at, tail_of, head_of, arc_index, IsResidual, IsPath, shifted, pushed}
 use Rattle.flow_network.specs.Flows.{NoNegative, reduced_cost, path_cost}
-use Rattle.flow_network.specs.Laws.{IsWithin, IsLeast, short_of, PushKeepsOptimality}
+use Rattle.flow_network.specs.Laws.{IsReachedWithin, IsLeast, short_of, PushKeepsOptimality}
 
 -- paths one after the other
 pub IsPath-append : (arcs : List FlowArc) (flows : List ℕ) (p q : List ArcNo) (u x v : ℕ) →
@@ -24,12 +24,12 @@ module _ (arcs : List FlowArc) (flows : List ℕ) (h : ℕ → ℕ) (d : ℕ →
     (none_negative : NoNegative arcs flows h) (least : IsLeast arcs flows h u sink d)
     (at_sink : d sink ≡ Some total) where
   -- the sink is within a cost
-  total_within : (m : ℕ) → IsWithin d sink m → total ≤ m
+  total_within : (m : ℕ) → IsReachedWithin d sink m → total ≤ m
   total_within m w = let bound = w.2 in
       let same : total ≡ w.0 = (let q : Some total ≡ Some w.0 = sym at_sink ∙ w.1 in cc) in omega arith
 
   -- a node within a cost lacks no less of the sink's than the cost does
-  within_lacks : (v m : ℕ) → IsWithin d v m → total - m ≤ short_of total (d v)
+  within_lacks : (v m : ℕ) → IsReachedWithin d v m → total - m ≤ short_of total (d v)
   within_lacks v m w = let bound = w.2 in rw w.1 (omega arith)
 
   -- the end of a path lacks no less of the sink's distance than the path's cost does

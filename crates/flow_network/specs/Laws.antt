@@ -17,18 +17,17 @@ PushKeepsConservation =
     ≡ inflow arcs flows w + outflow arcs (pushed path flows) w + unit_at v w
 
 -- the node is reached at no more than this cost
-abbrev pub IsWithin : (ℕ → Option ℕ) → ℕ → ℕ → Type 0
-IsWithin d v most = (c : ℕ) × (d v ≡ Some c) × (c ≤ most)
+abbrev pub IsReachedWithin : (ℕ → Option ℕ) → ℕ → ℕ → Type 0
+IsReachedWithin d v most = (c : ℕ) × (d v ≡ Some c) × (c ≤ most)
 
 -- d is the least cost of a path from u, up to the cost of the sink: a path that is cheaper than what d says
--- of
--- its end costs no less than the sink. What d says is the cost of a path.
+-- of its end costs no less than the sink. What d says is the cost of a path.
 pub record IsLeast (arcs : List FlowArc) (flows : List ℕ) (h : ℕ → ℕ) (u sink : ℕ)
     (d : ℕ → Option ℕ) : Type 0 where
   pub reached : (v c : ℕ) → d v ≡ Some c → (path : List ArcNo) × IsPath arcs flows path u v
       × (path_cost arcs h path ≡ c)
   pub least : (v : ℕ) (path : List ArcNo) → IsPath arcs flows path u v
-      → IsWithin d v (path_cost arcs h path) ⊎ IsWithin d sink (path_cost arcs h path)
+      → IsReachedWithin d v (path_cost arcs h path) ⊎ IsReachedWithin d sink (path_cost arcs h path)
 
 -- how much a potential is lowered: what d lacks of the sink's distance
 abbrev pub short_of : ℕ → Option ℕ → ℕ
@@ -54,8 +53,7 @@ outroom [] v = 0
 outroom (a ∷ arcs) v = cond (a.from == v) a.capacity 0 + outroom arcs v
 
 -- an arc j leads to a node v whose own arcs can carry just as much. Where one of those has room, or another
--- arc
--- i brings v a unit, arc j has room.
+-- arc i brings v a unit, arc j has room.
 abbrev pub RoomBelowIsRoomAbove : Type 0
 RoomBelowIsRoomAbove =
     (arcs : List FlowArc) (flows : List ℕ) (v j : ℕ) → length flows ≡ length arcs
@@ -68,8 +66,7 @@ RoomBelowIsRoomAbove =
     → slice_index flows j < (arc_at arcs j).capacity)
 
 -- Units are handed on arc by arc, in an order in which no later arc leads back to a node that gave: at each
--- arc
--- enough units wait at its start. extra is 1 at a source, else 0.
+-- arc enough units wait at its start. extra is 1 at a source, else 0.
 abbrev pub EnoughWait : Type 0
 EnoughWait =
     (arcs : List FlowArc) (flows : List ℕ) (u j extra waiting : ℕ) → length flows ≡ length arcs

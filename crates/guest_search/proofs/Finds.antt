@@ -4,9 +4,9 @@ use Rattle.std.proofs.lemmas.Bool.{false≢true}
 use Rattle.std.specs.Prelude.{slice_index, IsSome}
 use Rattle.flow_network.specs.Flow.{Counted}
 use Rattle.guest_search.specs.declared.search.Search.{Search}
-use Rattle.guest_search.specs.Finding.{IsTotal, IsFound}
+use Rattle.guest_search.specs.Finding.{IsTotal, IsFinished}
 use Rattle.guest_lists.specs.Guests.{GuestLists}
-use Rattle.guest_search.specs.Search.{tables, problem, Ends}
+use Rattle.guest_search.specs.Search.{tables, problem, EndsSearch}
 use Rattle.guest_search.specs.Searching.{distance_at, IsLeft, trace_to}
 use Rattle.guest_search.specs.ToSink.{far, IsSearched, IsTrace}
 use Rattle.guest_search.proofs.SearchEnds.{trace_is, ends_at_sink, ends_with_none, is_left, leads_back}
@@ -20,11 +20,11 @@ pub record Finds {L : Type 0} (m : Counted L) (depths : List ℕ) (start sink : 
   pub path : IsSome found → IsTrace m.network.arcs m.network.flows (slice_index depths) start sink
       (distance_at s.distances.items) (trace_to s.arrivals.items sink)
   pub size : length s.distances.items ≡ length depths
-  pub kept : IsFound (tables s) sink found
+  pub kept : IsFinished (tables s) sink found
 
 pub finds : {L : Type 0} (m : Counted L) (depths : List ℕ) (g : GuestLists) (start sink count : ℕ)
     (s : Search)
-    (found : Option ℕ) → sink < length depths → Ends found m depths g start sink count s
+    (found : Option ℕ) → sink < length depths → EndsSearch found m depths g start sink count s
     → Finds m depths start sink s found
 finds m depths g start sink count s (Some total) inside e =
     let r = e.1 in
@@ -69,7 +69,7 @@ finds m depths g start sink count s None inside e =
 -- the end of a search depends on the network alone
 pub ends_over : {L : Type 0} (m m' : Counted L) (depths : List ℕ) (g : GuestLists) (start sink count : ℕ)
     (s : Search)
-    (found : Option ℕ) → m.network ≡ m'.network → Ends found m depths g start sink count s
-    → Ends found m' depths g start sink count s
+    (found : Option ℕ) → m.network ≡ m'.network → EndsSearch found m depths g start sink count s
+    → EndsSearch found m' depths g start sink count s
 ends_over m m' depths g start sink count s (Some total) e t = (t.0, rw (← e) t.1)
 ends_over m m' depths g start sink count s None e t = (t.0, (rw (← e) t.1.0, t.1.1))

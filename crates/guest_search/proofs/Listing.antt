@@ -5,14 +5,14 @@ use Rattle.std.proofs.Common.{get_or-set_other, length-set}
 use Rattle.std.proofs.lemmas.Bool.{cases_eq, false≢true}
 use Rattle.std.proofs.lemmas.List.Elements.{Contains-append_left, Contains-push, Contains-push_cases}
 use Rattle.guest_search.specs.declared.arrival.Arrival.{Arrival}
-use Rattle.guest_search.specs.Searching.{Tables, distance_at, arrival_at, AreListed, IsLeft}
+use Rattle.guest_search.specs.Searching.{Tables, distance_at, arrival_at, ListsReached, IsLeft}
 use Rattle.guest_search.specs.Searching.{LeadsBack, trace_of}
 use Rattle.guest_search.specs.ToSink.{far}
 use Rattle.shortest_paths.specs.Labels.{is_settled}
 
 -- a node that is listed already is reached on a shorter way
 pub reached_again : (distances listed : List ℕ) (v x : ℕ) → distance_at distances v < far
-    → AreListed distances listed → AreListed (set distances v x) listed
+    → ListsReached distances listed → ListsReached (set distances v x) listed
 reached_again distances listed v x near t = record {
   inside = λ w o. (let old = t.inside w o in let size = length-set distances v x in omega arith);
   all = λ w l. elim (cases_eq w v) [
@@ -23,7 +23,7 @@ reached_again distances listed v x near t = record {
 
 -- a node is reached for the first time
 pub reached_first : (distances listed : List ℕ) (v x : ℕ) → v < length distances
-    → AreListed distances listed → AreListed (set distances v x) (listed ++ v ∷ [])
+    → ListsReached distances listed → ListsReached (set distances v x) (listed ++ v ∷ [])
 reached_first distances listed v x inside t = record {
   inside = λ w o. (let size = length-set distances v x in elim (Contains-push_cases listed v w o) [
     | inl was ↦ (let old = t.inside w was in omega arith)

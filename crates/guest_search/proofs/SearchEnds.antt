@@ -13,10 +13,10 @@ use Rattle.flow_network.proofs.Least.{IsPath-append}
 use Rattle.guest_lists.specs.Standing.{GoesOver, GoesOnce}
 use Rattle.guest_search.specs.declared.arrival.Arrival.{Arrival}
 use Rattle.shortest_paths.specs.Labels.{is_settled}
-use Rattle.guest_search.specs.Lowering.{IsStep, AreSteps}
+use Rattle.guest_search.specs.Lowering.{IsSearchStep, AreSteps}
 use Rattle.guest_search.specs.ToSink.{far, AreTraced, IsSearched, IsTrace}
 use Rattle.guest_search.specs.Searching.{Problem, Tables, distance_at, no_arrival, arrival_at, rc, AreReached}
-use Rattle.guest_search.specs.Searching.{AreListed, IsSearching, IsAtRest, IsLeft, LeadsBack, trace_of}
+use Rattle.guest_search.specs.Searching.{ListsReached, IsSearching, IsAtRest, IsLeft, LeadsBack, trace_of}
 use Rattle.guest_search.specs.Searching.{trace_to}
 use Rattle.guest_search.proofs.Lowering.{steps_cost}
 use Rattle.guest_search.proofs.Sums.{unmarked_sum}
@@ -89,7 +89,7 @@ once-push arrivals p n (b ∷ path) a m w d = (
 )
 
 AreSteps-push : (p : Problem) (d : ℕ → ℕ) (path : List ArcNo) (a : ArcNo)
-    → AreSteps p.arcs (slice_index p.depths) d path → IsStep p.arcs (slice_index p.depths) d a
+    → AreSteps p.arcs (slice_index p.depths) d path → IsSearchStep p.arcs (slice_index p.depths) d a
     → AreSteps p.arcs (slice_index p.depths) d (path ++ a ∷ [])
 AreSteps-push p d [] a m n = (n, tt)
 AreSteps-push p d (c ∷ path) a m n = (m.0, AreSteps-push p d path a m.1 n)
@@ -135,7 +135,7 @@ module _ (p : Problem) (nodes level : ℕ) (distances : List ℕ) (arrivals : Li
         ≡ suc n = ap (λ w. (arrival_at arrivals w).arcs) r.comes ∙ e in
         let at_tail : (arrival_at arrivals (tail_of p.arcs a)).arcs ≡ n =
         (let before = ap (λ w. (arrival_at arrivals w).arcs) r.leaves in omega arith) in
-        let farther : IsStep p.arcs (slice_index p.depths) (distance_at distances) a =
+        let farther : IsSearchStep p.arcs (slice_index p.depths) (distance_at distances) a =
         ap (distance_at distances) r.comes ∙ r.distance ∙ ap (λ w. distance_at distances w + rc p a)
         (sym r.leaves) in (
           IsPath-append p.arcs p.flows (trace_of arrivals u n) (a ∷ []) p.start u v rest.0
@@ -231,7 +231,7 @@ ends_with_none p nodes level count t s empty none =
       ],
     )
 
-pub rest_listed : (nodes : ℕ) (t : Tables) → IsAtRest nodes t → AreListed t.distances t.reached
+pub rest_listed : (nodes : ℕ) (t : Tables) → IsAtRest nodes t → ListsReached t.distances t.reached
 rest_listed nodes t rest = record {
   inside = λ v o. absurd (nothing_in v (rw rest.none_listed at o));
   all = λ v near. absurd (let away = rest.unreached v in omega arith);
@@ -241,7 +241,7 @@ rest_listed nodes t rest = record {
 module _ (p : Problem) (nodes count : ℕ) (t : Tables) (rest : IsAtRest nodes t) (a : Arrival)
     (reached : List ℕ)
     (inside : p.start < nodes) (none : count ≡ 0) (first : a.arcs ≡ 0)
-    (listed : AreListed (set t.distances p.start 0) reached) where
+    (listed : ListsReached (set t.distances p.start 0) reached) where
   at_start : distance_at (set t.distances p.start 0) p.start ≡ 0
   at_start = let size = rest.size in get_or-set_same t.distances p.start 0 far (omega arith)
 

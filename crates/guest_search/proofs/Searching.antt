@@ -21,7 +21,7 @@ use Rattle.guest_lists.specs.Guests.{GuestLists, AreGuests, source_at, inner_at,
 use Rattle.guest_lists.specs.Guests.{exits_at, inner_ways}
 use Rattle.shortest_paths.specs.Labels.{is_settled}
 use Rattle.guest_search.specs.Searching.{Problem, Tables, distance_at, no_arrival, arrival_at, rc, AreReached}
-use Rattle.guest_search.specs.Searching.{AreListed, AreCovered, IsSearching}
+use Rattle.guest_search.specs.Searching.{ListsReached, AreCovered, IsSearching}
 use Rattle.shortest_paths.specs.Paths.{IsPriced}
 use Rattle.guest_search.specs.Search.{option_list, Comes}
 use Rattle.guest_search.specs.ToSink.{far}
@@ -235,7 +235,7 @@ module _ (p : Problem) (nodes level count : ℕ) (entering : List ℕ) (a : ArcN
 
     -- over an arc of reduced cost 0 it is entered next
     pub near_way : (reached : List ℕ)
-        → AreListed (set t.distances (head_of p.arcs a) (level + rc p a)) reached → rc p a ≡ 0
+        → ListsReached (set t.distances (head_of p.arcs a) (level + rc p a)) reached → rc p a ≡ 0
         → IsSearching p nodes level (count + 1) (head_of p.arcs a ∷ entering) rest (record t {
           distances = set t.distances (head_of p.arcs a) (level + rc p a);
           arrivals = set t.arrivals (head_of p.arcs a) next_arrival;
@@ -266,7 +266,7 @@ module _ (p : Problem) (nodes level count : ℕ) (entering : List ℕ) (a : ArcN
 
     -- over another it waits in the queue
     pub far_way : (queue : List (ℕ × ℕ)) (reached : List ℕ)
-        → AreListed (set t.distances (head_of p.arcs a) (level + rc p a)) reached → 0 < rc p a
+        → ListsReached (set t.distances (head_of p.arcs a) (level + rc p a)) reached → 0 < rc p a
         → level + rc p a < far → IsPermutation ((level + rc p a, head_of p.arcs a) ∷ t.queue) queue
         → IsSearching p nodes level (count + 1) entering rest (record t {
           distances = set t.distances (head_of p.arcs a) (level + rc p a);
@@ -354,7 +354,7 @@ module _ (n : ℕ) (p : Problem) (level count : ℕ) (entering : List ℕ) (a : 
     short : level + rc p a < distance_at t.distances (head_of p.arcs a)
     short = let k = knows in let c = is in omega arith
 
-    pub seen_near : (reached : List ℕ) → AreListed (set t.distances to (level + cost)) reached → cost ≡ 0
+    pub seen_near : (reached : List ℕ) → ListsReached (set t.distances to (level + cost)) reached → cost ≡ 0
         → IsSearching p (length p.depths) level (count + 1) (to ∷ entering) rest (record t {
           distances = set t.distances to (level + cost);
           arrivals = set t.arrivals to (record { arc = a; before = node; arcs = b.arcs + 1 });
@@ -367,7 +367,7 @@ module _ (n : ℕ) (p : Problem) (level count : ℕ) (entering : List ℕ) (a : 
         reached (rw (at, is) at listed) tight)
 
     pub seen_far : (queue : List (ℕ × ℕ)) (reached : List ℕ)
-        → AreListed (set t.distances to (level + cost)) reached → (cost ≡ 0 → ⊥)
+        → ListsReached (set t.distances to (level + cost)) reached → (cost ≡ 0 → ⊥)
         → IsPermutation ((level + cost, to) ∷ t.queue) queue
         → IsSearching p (length p.depths) level (count + 1) entering rest (record t {
           distances = set t.distances to (level + cost);

@@ -20,7 +20,7 @@ total_of None = 0
 total_of (Some total) = total
 
 -- what the tables of a finished search keep
-pub record IsFound (t : Tables) (sink : ℕ) (total : Option ℕ) : Type 0 where
+pub record IsFinished (t : Tables) (sink : ℕ) (total : Option ℕ) : Type 0 where
   pub left : IsLeft (length t.distances) t
   pub sink_in : sink < length t.distances
   pub back : IsSome total → LeadsBack t.arrivals sink (arrival_at t.arrivals sink).arcs

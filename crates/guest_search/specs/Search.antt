@@ -67,15 +67,17 @@ IsBetween m depths g sink count s = (s.stack.items ≡ []) × ((start : ℕ) × 
     × Searches m depths g start sink level count [] [] s))
 
 -- the sink is entered next, at its distance, or no node is left
-abbrev pub Ends : {L : Type 0} → Option ℕ → Counted L → List ℕ → GuestLists → ℕ → ℕ → ℕ → Search → Type 0
-Ends (Some total) m depths g start sink count s = (others : List ArcNo)
+abbrev pub EndsSearch : {L : Type 0} → Option ℕ → Counted L → List ℕ → GuestLists → ℕ → ℕ → ℕ → Search
+    → Type 0
+EndsSearch (Some total) m depths g start sink count s = (others : List ArcNo)
     × Searches m depths g start sink total count (sink ∷ []) others s
-Ends None m depths g start sink count s = (level : ℕ) × (Searches m depths g start sink level count [] [] s
+EndsSearch None m depths g start sink count s = (level : ℕ)
+    × (Searches m depths g start sink level count [] [] s
     × ((s.stack.items ≡ []) × (s.queue ≡ [])))
 
 -- some search stands here
-abbrev pub Stands : {L : Type 0} → Counted L → List ℕ → GuestLists → ℕ → ℕ → List ℕ → Tables → Type 0
-Stands m depths g sink level entering t = (start : ℕ) × ((rest : List ArcNo)
+abbrev pub IsSearchingAt : {L : Type 0} → Counted L → List ℕ → GuestLists → ℕ → ℕ → List ℕ → Tables → Type 0
+IsSearchingAt m depths g sink level entering t = (start : ℕ) × ((rest : List ArcNo)
     × IsSearching (problem m depths g start sink) (length depths) level m.count entering rest t)
 
 -- Each look pays for the entry and the node that it may bring: so the search ends.

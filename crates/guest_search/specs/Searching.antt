@@ -86,7 +86,7 @@ pub record AreWaiting (level : ℕ) (distances : List ℕ) (settled : List Bool)
   pub queued : (c v : ℕ) → Contains queue (c, v) → (level ≤ c) × (distance_at distances v ≤ c) × (c < far)
 
 -- the nodes that were reached are listed
-pub record AreListed (distances : List ℕ) (listed : List ℕ) : Type 0 where
+pub record ListsReached (distances : List ℕ) (listed : List ℕ) : Type 0 where
   pub inside : (v : ℕ) → Contains listed v → v < length distances
   pub all : (v : ℕ) → distance_at distances v < far → Contains listed v
 
@@ -118,7 +118,7 @@ pub record IsSearching (p : Problem) (nodes level count : ℕ) (entering : List 
   pub left_size : length t.left ≡ nodes
   pub left_standing_size : length t.left_standing ≡ nodes
   pub reached : AreReached p nodes level t.distances t.arrivals t.settled
-  pub listed : AreListed t.distances t.reached
+  pub listed : ListsReached t.distances t.reached
   pub waiting : AreWaiting level t.distances t.settled entering t.queue
   pub covered : AreCovered p level rest t
   pub looks : AreFewLooks p count rest t
@@ -146,7 +146,7 @@ pub record IsLeft (nodes : ℕ) (t : Tables) : Type 0 where
   pub left_size : length t.left ≡ nodes
   pub left_standing_size : length t.left_standing ≡ nodes
   pub within : (v : ℕ) → distance_at t.distances v ≤ far
-  pub listed : AreListed t.distances t.reached
+  pub listed : ListsReached t.distances t.reached
   pub marked : (v : ℕ) → is_settled t.settled v ≡ true → distance_at t.distances v < far
 
 -- one may go back so many arcs within the table

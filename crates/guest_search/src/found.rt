@@ -42,7 +42,7 @@ pub struct Found {
 }
 
 impl Model for Found {
-    ghost use Rattle.guest_search.specs.Finding.{Finding, IsFound};
+    ghost use Rattle.guest_search.specs.Finding.{Finding, IsFinished};
     ghost use Rattle.guest_search.specs.Search.{tables};
     ghost use Rattle.guest_search.specs.Searching.{trace_to};
 
@@ -54,7 +54,7 @@ impl Model for Found {
       path = trace_to f.search.arrivals.items f.sink;
     } };
 
-    ghost invariant = { λ f. IsFound (tables f.search) f.sink f.total };
+    ghost invariant = { λ f. IsFinished (tables f.search) f.sink f.total };
 }
 
 impl Buffers {

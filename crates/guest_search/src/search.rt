@@ -6,11 +6,11 @@ ghost use Rattle.guest_lists.specs.Guests.{GuestLists, AreSized, source_at, inne
 ghost use Rattle.guest_search.specs.Lowering.{lowered};
 ghost use Rattle.guest_search.specs.ToSink.{far};
 ghost use Rattle.shortest_paths.specs.Paths.{IsPriced};
-ghost use Rattle.guest_search.specs.Searching.{AreListed, IsAtRest, IsLeft, LeadsBack, distance_at};
+ghost use Rattle.guest_search.specs.Searching.{ListsReached, IsAtRest, IsLeft, LeadsBack, distance_at};
 ghost use Rattle.guest_search.specs.Searching.{arrival_at, trace_to};
 ghost use Rattle.flow_network.specs.declared.arcs.ArcNo.{ArcNo};
-ghost use Rattle.guest_search.specs.Search.{tables, option_list, MaySearch, Searches, ComesTo, Ends};
-ghost use Rattle.guest_search.specs.Search.{IsBetween, Stands, Spends, Falls};
+ghost use Rattle.guest_search.specs.Search.{tables, option_list, MaySearch, Searches, ComesTo, EndsSearch};
+ghost use Rattle.guest_search.specs.Search.{IsBetween, IsSearchingAt, Spends, Falls};
 
 use crate::arrival::Arrival;
 use flow_network::{ArcNo, Meter};
@@ -63,8 +63,8 @@ impl Search {
           arrivals = slice_set self.old.arrivals.items node arrival;
           reached = self.new.reached.items;
         }) }
-        ensures listed { OnOk result (AreListed self.old.distances.items self.old.reached.items
-            → AreListed (slice_set self.old.distances.items node distance) self.new.reached.items) }
+        ensures listed { OnOk result (ListsReached self.old.distances.items self.old.reached.items
+            → ListsReached (slice_set self.old.distances.items node distance) self.new.reached.items) }
     {
         if self.distances[node] == u64::MAX {
             self.reached.push(node)?;
@@ -162,7 +162,7 @@ impl Search {
             meter.old.network.flows potentials.now guests.now sink }
         requires node { node < length potentials.now }
         requires no_source { source_at guests.now node ≡ false }
-        requires stands { Stands meter.old potentials.now guests.now sink level (node ∷ [])
+        requires stands { IsSearchingAt meter.old potentials.now guests.now sink level (node ∷ [])
             (tables self.old) }
         ensures goes { IfOk result (λ found. (start : ℕ) (rest : List ArcNo)
             → Searches meter.old potentials.now guests.now start sink level meter.old.count
@@ -528,7 +528,7 @@ impl Search {
         requires stands { IsBetween meter.old potentials.now guests.now sink meter.old.count self.old }
         ensures ends { IfOk result (λ found. (start level : ℕ)
             → Searches meter.old potentials.now guests.now start sink level meter.old.count [] [] self.old
-            → Ends found meter.old potentials.now guests.now start sink meter.new.count self.new) }
+            → EndsSearch found meter.old potentials.now guests.now start sink meter.new.count self.new) }
         ensures network { meter.new.network ≡ meter.old.network }
         ensures steps { meter.new.count ≤ 2 * length meter.old.network.arcs }
     {
@@ -558,7 +558,7 @@ impl Search {
         requires start { start < length potentials.now }
         requires rest { IsAtRest (length potentials.now) (tables self.old) }
         ensures ends { IfOk result (λ found.
-            Ends found meter.old potentials.now guests.now start sink meter.new.count self.new) }
+            EndsSearch found meter.old potentials.now guests.now start sink meter.new.count self.new) }
         ensures network { meter.new.network ≡ meter.old.network }
         ensures steps { meter.new.count ≤ 2 * length meter.old.network.arcs }
     {

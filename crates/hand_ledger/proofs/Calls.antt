@@ -16,7 +16,8 @@ use Rattle.hand_ledger.specs.declared.hands.Entry.{Entry}
 use Rattle.hand_ledger.specs.Hands.{Kept, kept, HandValue, counts_in, starts_in, all_counts, all_starts}
 use Rattle.hand_ledger.specs.Hands.{last_event, has_room}
 use Rattle.hand_ledger.specs.Inside.{calls_of, counts_taken, starts_taken, AreKept, IsPlace}
-use Rattle.hand_ledger.specs.Settling.{LogValue, Stands, all_calls, event_at, call_at, counts_at, starts_at}
+use Rattle.hand_ledger.specs.Settling.{LogValue, LastStands, all_calls, event_at, call_at, counts_at}
+use Rattle.hand_ledger.specs.Settling.{starts_at}
 
 -- the call of an entry, whose counts and starts begin at these places
 abbrev pub call_of : Entry → List (List ℕ) → List Start → Kept
@@ -158,8 +159,8 @@ IsAtPlace history e = event_at history e.place ≡ Some e.event
 pub stands-calls : (history : List Event) (es : List Entry) (n : ℕ) (e : Entry) (cs : List (List ℕ))
     (ss : List Start) →
     n + 1 ≡ length es → slice_get es n ≡ Some e →
-    (Stands history (calls_of es cs ss) → IsAtPlace history e) × (IsAtPlace history e →
-    Stands history (calls_of es cs ss))
+    (LastStands history (calls_of es cs ss) → IsAtPlace history e) × (IsAtPlace history e →
+    LastStands history (calls_of es cs ss))
 stands-calls history [] n e cs ss len at = absurd (omega arith)
 stands-calls history (x ∷ []) zero e cs ss len at =
     let same : x ≡ e = cc in (subst (IsAtPlace history) same, subst (IsAtPlace history) (sym same))
@@ -178,8 +179,8 @@ last_event-is (x ∷ es) e cs ss at =
 
 pub stands-is : (history : List Event) (es : List Entry) (e : Entry) (cs : List (List ℕ)) (ss : List Start) →
     slice_get es (length es - 1) ≡ Some e →
-    (Stands history (calls_of es cs ss) → IsAtPlace history e) × (IsAtPlace history e →
-    Stands history (calls_of es cs ss))
+    (LastStands history (calls_of es cs ss) → IsAtPlace history e) × (IsAtPlace history e →
+    LastStands history (calls_of es cs ss))
 stands-is history [] e cs ss at = absurd cc
 stands-is history (x ∷ es) e cs ss at =
     stands-calls history (x ∷ es) (length es) e cs ss (omega arith)

@@ -16,9 +16,9 @@ use Rattle.hand_ledger.specs.declared.marks.Found.{Found}
 use Rattle.hand_ledger.specs.declared.marks.Found.TheVariants.{Nowhere, Once, Wrong}
 use Rattle.hand_ledger.specs.declared.marks.TheConstants.{PLACES}
 use Rattle.hand_ledger.specs.Hands.{Kept, kept, HandValue}
-use Rattle.hand_ledger.specs.Marks.{Says, Marks, found_more, wanted, IsRight, IsWanted, IsFirstWrong}
+use Rattle.hand_ledger.specs.Marks.{Describes, Marks, found_more, wanted, IsRight, IsAsWanted, IsFirstWrong}
 use Rattle.hand_ledger.specs.Settling.{LogValue, counts_at, starts_at, at_place, call_at, event_at, all_calls}
-use Rattle.hand_ledger.specs.Settling.{AreTrue, Holds, IsLowestTorn}
+use Rattle.hand_ledger.specs.Settling.{AreTrue, AgreesAt, IsLowestTorn}
 
 -- at most one call stands at a place
 at_most_one : (f : Event → Kept) (o : Option Event) → length (option_map_or (λ e. f e ∷ []) o []) ≤ 1
@@ -48,7 +48,7 @@ no_call log (suc k) past =
 
 -- a call more at a place
 pub says_more : (f : Found) (r : Bool) (calls ws : List Kept) (call : Kept) → length ws ≤ 1 →
-    (IsTrue r ↔ (ws ≡ call ∷ [])) → Says f calls ws → Says (found_more f r) (calls ++ call ∷ []) ws
+    (IsTrue r ↔ (ws ≡ call ∷ [])) → Describes f calls ws → Describes (found_more f r) (calls ++ call ∷ []) ws
 says_more Nowhere true calls ws call few right is =
     let w = right.0 refl in
     (ap (λ l. l ++ call ∷ []) is ∙ sym w, ap length w)
@@ -93,32 +93,33 @@ pub marks_more : (log : LogValue) (before : List Kept) (call : Kept) (found : Li
 marks_more log before call found place r old size small is right was marks =
     record { each = each; past = past }
   where
-    here : (d : Found) → Says (get_or (set found place (found_more old r)) place d)
+    here : (d : Found) → Describes (get_or (set found place (found_more old r)) place d)
         (at_place place (before ++ call ∷ [])) (call_at log place)
     here d =
-        subst (λ (f : Found). Says f (at_place place (before ++ call ∷ [])) (call_at log place))
+        subst (λ (f : Found). Describes f (at_place place (before ++ call ∷ [])) (call_at log place))
         (sym (get_or-set_same found place (found_more old r) d (omega arith)))
-        (subst (λ (l : List Kept). Says (found_more old r) l (call_at log place))
+        (subst (λ (l : List Kept). Describes (found_more old r) l (call_at log place))
         (sym (at_more place before call is))
         (says_more old r (at_place place before) (call_at log place) call (one_call log place) right
-        (subst (λ (f : Found). Says f (at_place place before) (call_at log place)) (sym was)
+        (subst (λ (f : Found). Describes f (at_place place before) (call_at log place)) (sym was)
         (marks.each place old (omega arith)))))
 
     cases : (p : ℕ) (d : Found) → p < PLACES → Dec (p ≡ place) →
-        Says (get_or (set found place (found_more old r)) p d) (at_place p (before ++ call ∷ []))
+        Describes (get_or (set found place (found_more old r)) p d) (at_place p (before ++ call ∷ []))
         (call_at log p)
     cases p d lt (yes e) =
-        subst (λ q. Says (get_or (set found place (found_more old r)) q d) (at_place q (before ++ call ∷ []))
+        subst (λ q. Describes (get_or (set found place (found_more old r)) q d)
+        (at_place q (before ++ call ∷ []))
         (call_at log q)) (sym e) (here d)
     cases p d lt (no other) =
-        subst (λ (f : Found). Says f (at_place p (before ++ call ∷ [])) (call_at log p))
+        subst (λ (f : Found). Describes f (at_place p (before ++ call ∷ [])) (call_at log p))
         (sym (get_or-set_other found place p (found_more old r) d other))
-        (subst (λ (l : List Kept). Says (get_or found p d) l (call_at log p))
+        (subst (λ (l : List Kept). Describes (get_or found p d) l (call_at log p))
         (sym (at_same p before call (λ q. other (sym q ∙ is))))
         (marks.each p d lt))
 
     each : (p : ℕ) (d : Found) → p < PLACES →
-        Says (get_or (set found place (found_more old r)) p d) (at_place p (before ++ call ∷ []))
+        Describes (get_or (set found place (found_more old r)) p d) (at_place p (before ++ call ∷ []))
         (call_at log p)
     each p d lt = cases p d lt (ℕ_discrete p place)
 
@@ -126,22 +127,22 @@ marks_more log before call found place r old size small is right was marks =
     past p le = at_same p before call (λ q. absurd (omega (arith, q, is))) ∙ marks.past p le
 
 -- what was found is right where the calls are those that are wanted, and nowhere else
-once_told : (f : Found) (calls ws : List Kept) → length ws ≡ 1 → f ≡ Once → Says f calls ws → calls ≡ ws
+once_told : (f : Found) (calls ws : List Kept) → length ws ≡ 1 → f ≡ Once → Describes f calls ws → calls ≡ ws
 once_told Nowhere calls ws one is says = absurd (cc is)
 once_told Once calls ws one is says = says.0
 once_told Wrong calls ws one is says = absurd (cc is)
 
-told_once : (f : Found) (calls ws : List Kept) → length ws ≡ 1 → calls ≡ ws → Says f calls ws → f ≡ Once
+told_once : (f : Found) (calls ws : List Kept) → length ws ≡ 1 → calls ≡ ws → Describes f calls ws → f ≡ Once
 told_once Nowhere calls ws one is says = absurd (omega (arith, ap length (sym is ∙ says)))
 told_once Once calls ws one is says = refl
 told_once Wrong calls ws one is says = absurd (says.1 is)
 
-nowhere_none : (f : Found) (calls : List Kept) → f ≡ Nowhere → Says f calls [] → calls ≡ []
+nowhere_none : (f : Found) (calls : List Kept) → f ≡ Nowhere → Describes f calls [] → calls ≡ []
 nowhere_none Nowhere calls is says = says
 nowhere_none Once calls is says = absurd (cc is)
 nowhere_none Wrong calls is says = absurd (cc is)
 
-none_nowhere : (f : Found) (calls : List Kept) → calls ≡ [] → Says f calls [] → f ≡ Nowhere
+none_nowhere : (f : Found) (calls : List Kept) → calls ≡ [] → Describes f calls [] → f ≡ Nowhere
 none_nowhere Nowhere calls is says = refl
 none_nowhere Once calls is says = absurd (omega (arith, says.1))
 none_nowhere Wrong calls is says = absurd (says.0 is)
@@ -168,11 +169,11 @@ where_is events (suc k) = cases (dec_le (suc k) events)
 
 -- the place is told exactly where what was found is wanted
 told_at : (log : LogValue) (calls : List Kept) (f : Found) (place : ℕ) → Where (length log.history) place →
-    Says f (at_place place calls) (call_at log place) →
+    Describes f (at_place place calls) (call_at log place) →
     (f ≡ wanted (length log.history) place) ↔ (at_place place calls ≡ call_at log place)
 told_at log calls f place (Before is) says = at_zero place is says
   where
-    at_zero : (p : ℕ) → p ≡ 0 → Says f (at_place p calls) (call_at log p) →
+    at_zero : (p : ℕ) → p ≡ 0 → Describes f (at_place p calls) (call_at log p) →
         (f ≡ wanted (length log.history) p) ↔ (at_place p calls ≡ call_at log p)
     at_zero zero is says =
         (λ e. nowhere_none f (at_place 0 calls) e says, λ e. none_nowhere f (at_place 0 calls) e says)
@@ -186,7 +187,7 @@ told_at log calls f place (At low high) says =
 told_at log calls f place (After past) says =
     let none = no_call log place past in
     let is = wanted_past (length log.history) place past in
-    let said = subst (λ (l : List Kept). Says f (at_place place calls) l) none says in (
+    let said = subst (λ (l : List Kept). Describes f (at_place place calls) l) none says in (
       λ e. nowhere_none f (at_place place calls) (e ∙ is) said ∙ sym none,
       λ e. none_nowhere f (at_place place calls) (e ∙ none) said ∙ sym is,
     )
@@ -195,7 +196,7 @@ told_at log calls f place (After past) says =
 pub right_holds : (log : LogValue) (short notes : Bool) (hands : List HandValue) (found : List Found)
     (place : ℕ) →
     place < PLACES → Marks log (all_calls hands) found → (IsTrue notes ↔ All (AreTrue short) hands) →
-    IsRight (length log.history) notes found place → Holds log short hands place
+    IsRight (length log.history) notes found place → AgreesAt log short hands place
 right_holds log short notes hands found place lt marks true_notes right = record {
   told = (told_at log (all_calls hands) (get_or found place Nowhere) place
       (where_is (length log.history) place)
@@ -206,7 +207,7 @@ right_holds log short notes hands found place lt marks true_notes right = record
 pub holds_right : (log : LogValue) (short notes : Bool) (hands : List HandValue) (found : List Found)
     (place : ℕ) →
     place < PLACES → Marks log (all_calls hands) found → (IsTrue notes ↔ All (AreTrue short) hands) →
-    Holds log short hands place → IsRight (length log.history) notes found place
+    AgreesAt log short hands place → IsRight (length log.history) notes found place
 holds_right log short notes hands found place lt marks true_notes holds d = record {
   seen = (told_at log (all_calls hands) (get_or found place d) place (where_is (length log.history) place)
       (marks.each place d lt)).1 holds.told;
@@ -216,7 +217,7 @@ holds_right log short notes hands found place lt marks true_notes holds d = reco
 -- past all places nothing is told, and nothing is asked for
 pub past_holds : (log : LogValue) (short : Bool) (hands : List HandValue) (found : List Found) (place : ℕ) →
     length log.history ≤ 65536 → PLACES ≤ place → Marks log (all_calls hands) found →
-    Holds log short hands place
+    AgreesAt log short hands place
 past_holds log short hands found place few past marks = record {
   told = marks.past place past ∙ sym (no_call log place (omega arith));
   notes = λ last. absurd (omega arith);
@@ -226,7 +227,7 @@ all_hold : (log : LogValue) (short notes : Bool) (hands : List HandValue) (found
     length log.history ≤ 65536 → Marks log (all_calls hands) found →
     (IsTrue notes ↔ All (AreTrue short) hands) →
     ((p : ℕ) → p < PLACES → IsRight (length log.history) notes found p) → Dec (PLACES ≤ place) →
-    Holds log short hands place
+    AgreesAt log short hands place
 all_hold log short notes hands found place few marks true_notes all (yes past) =
     past_holds log short hands found place few past marks
 all_hold log short notes hands found place few marks true_notes all (no within) =
@@ -251,18 +252,18 @@ lowest_torn log short notes hands found (Some t) few marks true_notes is = (
 pub marks_none : (log : LogValue) (found : List Found) →
     ((place : ℕ) (d : Found) → place < PLACES → get_or found place d ≡ Nowhere) → Marks log [] found
 marks_none log found none = record {
-  each = λ place d lt. subst (λ (f : Found). Says f [] (call_at log place)) (sym (none place d lt)) refl;
+  each = λ place d lt. subst (λ (f : Found). Describes f [] (call_at log place)) (sym (none place d lt)) refl;
   past = λ place le. refl;
 }
 
 -- one place on
 pub right_more : (events : ℕ) (notes : Bool) (found : List Found) (n : ℕ) → n < length found →
-    IsWanted events notes (get_or found n Nowhere) n → ((p : ℕ) → p < n → IsRight events notes found p) →
+    IsAsWanted events notes (get_or found n Nowhere) n → ((p : ℕ) → p < n → IsRight events notes found p) →
     (p : ℕ) → p < n + 1 → IsRight events notes found p
 right_more events notes found n within here before p lt d = cases (ℕ_discrete p n)
   where
-    cases : Dec (p ≡ n) → IsWanted events notes (get_or found p d) p
+    cases : Dec (p ≡ n) → IsAsWanted events notes (get_or found p d) p
     cases (yes e) =
-        subst (λ q. IsWanted events notes (get_or found q d) q) (sym e)
-        (subst (λ (f : Found). IsWanted events notes f n) (get_or_default found n Nowhere d within) here)
+        subst (λ q. IsAsWanted events notes (get_or found q d) q) (sym e)
+        (subst (λ (f : Found). IsAsWanted events notes f n) (get_or_default found n Nowhere d within) here)
     cases (no other) = before p (omega arith) d

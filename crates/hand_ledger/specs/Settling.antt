@@ -43,8 +43,8 @@ abbrev pub all_calls : List HandValue → List Kept
 all_calls hands = flat_map (λ hand. hand.calls) hands
 
 -- What stands at the place stands in one hand alone, just so; past the last event, nothing in any hand.
-abbrev pub IsTold : LogValue → List HandValue → ℕ → Type 0
-IsTold log hands place = at_place place (all_calls hands) ≡ call_at log place
+abbrev pub IsInOneHand : LogValue → List HandValue → ℕ → Type 0
+IsInOneHand log hands place = at_place place (all_calls hands) ≡ call_at log place
 
 -- No call was answered that the hand is strange; and that no place is left was answered, while the hand had
 -- room, only by a master that at last is short of some room.
@@ -53,19 +53,19 @@ pub record AreTrue (is_short : Bool) (hand : HandValue) : Type 0 where
   pub full : hand.full ≡ true → is_short ≡ true
 
 -- the place is told, and the place after the last event asks for the notes of all hands too
-pub record Holds (log : LogValue) (is_short : Bool) (hands : List HandValue) (place : ℕ) : Type 0 where
-  pub told : IsTold log hands place
+pub record AgreesAt (log : LogValue) (is_short : Bool) (hands : List HandValue) (place : ℕ) : Type 0 where
+  pub told : IsInOneHand log hands place
   pub notes : place ≡ length log.history + 1 → All (AreTrue is_short) hands
 
 -- the lowest place that does not hold, if there is one
 abbrev pub IsLowestTorn : LogValue → Bool → List HandValue → Option ℕ → Type 0
-IsLowestTorn log is_short hands None = (place : ℕ) → Holds log is_short hands place
+IsLowestTorn log is_short hands None = (place : ℕ) → AgreesAt log is_short hands place
 IsLowestTorn log is_short hands (Some torn) =
-    (Holds log is_short hands torn → ⊥)
-    × ((place : ℕ) → place < torn → Holds log is_short hands place)
+    (AgreesAt log is_short hands torn → ⊥)
+    × ((place : ℕ) → place < torn → AgreesAt log is_short hands place)
 
 -- the last call stands in the history at its place
-abbrev pub Stands : List Event → List Kept → Type 0
-Stands history [] = Unit {0}
-Stands history (call ∷ []) = event_at history call.place ≡ Some call.event
-Stands history (call ∷ next ∷ calls) = Stands history (next ∷ calls)
+abbrev pub LastStands : List Event → List Kept → Type 0
+LastStands history [] = Unit {0}
+LastStands history (call ∷ []) = event_at history call.place ≡ Some call.event
+LastStands history (call ∷ next ∷ calls) = LastStands history (next ∷ calls)

@@ -5,7 +5,7 @@ ghost use Rattle.hand_ledger.specs.Hands.{noted, with_call};
 ghost use Rattle.hand_ledger.specs.Inside.{IsPlace};
 ghost use Rattle.hand_ledger.specs.Marks.{Marks};
 ghost use Rattle.hand_ledger.specs.declared.marks.TheConstants.{PLACES};
-ghost use Rattle.hand_ledger.specs.Settling.{AreTrue, Stands, all_calls};
+ghost use Rattle.hand_ledger.specs.Settling.{AreTrue, LastStands, all_calls};
 
 use crate::logs::{Log, event_at};
 use crate::marks::{Found, mark_all};
@@ -115,7 +115,7 @@ impl<L: Ledger> Hand<L> {
 
     /// Whether its last call stands in the history at its place.
     pub fn stands(&self, history: &[Event]) -> bool
-        ensures { IsTrue result ↔ Stands history.now self.now.calls }
+        ensures { IsTrue result ↔ LastStands history.now self.now.calls }
     {
         let Some(entry) = self.entries.last() else {
             return true;

@@ -1,7 +1,7 @@
 ghost use Rattle.std.specs.Prelude.{◌≡◌, ℕ, ◌+◌, ◌<◌, ◌≤◌, ◌↔◌, List, [], ◌∷◌, ◌++◌, length, All, IsTrue};
 ghost use Rattle.hand_ledger.specs.Hands.{Kept};
 ghost use Rattle.hand_ledger.specs.Inside.{calls_of, counts_taken, starts_taken, IsPlace};
-ghost use Rattle.hand_ledger.specs.Marks.{found_more, IsFirstWrong, IsWanted, Marks, wanted};
+ghost use Rattle.hand_ledger.specs.Marks.{found_more, IsFirstWrong, IsAsWanted, Marks, wanted};
 ghost use Rattle.hand_ledger.specs.Settling.{call_at, LogValue};
 ghost use Rattle.hand_ledger.specs.declared.marks.TheConstants.{PLACES};
 
@@ -102,7 +102,7 @@ pub(crate) fn first_wrong(events: usize, notes: bool, found: &[Found]) -> Option
 // Whether it is what is wanted at the place.
 fn is_right(events: usize, notes: bool, found: Found, place: usize) -> bool
     requires { events ≤ 65536 }
-    ensures { IsTrue result ↔ IsWanted events notes found place }
+    ensures { IsTrue result ↔ IsAsWanted events notes found place }
 {
     if place == events + 1 && !notes {
         return false;

@@ -14,25 +14,25 @@ use Rattle.wave_problem.specs.Wave as wave
 use Rattle.word_map.specs.Texts.{SplitDocuments}
 use Rattle.word_map.specs.declared.text.Document.{Document}
 use Rattle.shuffle_reduce.specs.Gather.{values_of}
-use Rattle.plan_text.specs.Names.{names_of, word_at}
+use Rattle.plan_text.specs.Names.{names_of, nth_word}
 use Rattle.plan_text.specs.Tidy.{AreTidy}
-use Rattle.plan_text.specs.Value.{rack_number, split_line, worker_line}
+use Rattle.plan_text.specs.Value.{rack_number, declared_split, declared_worker}
 use Rattle.plan_text.proofs.Parts.{all_held, all_small}
 use Rattle.plan_text.proofs.Words.{tidy_workers}
-use Rattle.head_text.specs.Documents.{documents_of, text_of}
+use Rattle.head_text.specs.Documents.{documents_of, text_of_split}
 use Rattle.head_text.specs.Heads.{IsFitHead, MakesHead, slots_told}
 use Rattle.head_text.specs.declared.heads.Head.{Head}
 use Rattle.head_text.proofs.Lines.{parts_within, silence_within, told_within}
 
 texts_in_order : (n : ℕ) (lists : List (List Document))
-    → map (λ (text : SplitDocuments). text.split) (map text_of (enumerate_from n lists))
+    → map (λ (text : SplitDocuments). text.split) (map text_of_split (enumerate_from n lists))
     ≡ range_with_len n (length lists)
 texts_in_order n [] = refl
 texts_in_order n (l ∷ ls) = ap (λ ns. n ∷ ns) (texts_in_order (n + 1) ls)
 
 module _ (rows : List Statement) (tidy : AreTidy rows) (head : Head) (makes : MakesHead rows head) where
   abbrev line : Statement → wave.Split
-  line = split_line (names_of Worker rows) (names_of Busy rows)
+  line = declared_split (names_of Worker rows) (names_of Busy rows)
 
   slots_size : length head.slots.items ≡ length (rows_of Worker rows)
   slots_size = ap length makes.slots ∙ length-map (rows_of Worker rows) slots_told
@@ -51,7 +51,7 @@ module _ (rows : List Statement) (tidy : AreTidy rows) (head : Head) (makes : Ma
       let lists = map (documents_of (rows_of Doc rows)) (names_of Split rows) in
       ap (map (λ (text : SplitDocuments). text.split)) makes.texts ∙ texts_in_order 0 lists
       ∙ ap (range_with_len 0) (length-map (names_of Split rows) (documents_of (rows_of Doc rows))
-      ∙ length-map (rows_of Split rows) (word_at 0) ∙ sym splits_size)
+      ∙ length-map (rows_of Split rows) (nth_word 0) ∙ sym splits_size)
 
   small : AreSmallSplits head.splits.items
   small =
@@ -60,7 +60,7 @@ module _ (rows : List Statement) (tidy : AreTidy rows) (head : Head) (makes : Ma
 
   held : AreHeldWell (length head.slots.items) head.splits.items
   held =
-      let size = length-map (rows_of Worker rows) (worker_line (names_of Dead rows)) ∙ sym slots_size in
+      let size = length-map (rows_of Worker rows) (declared_worker (names_of Dead rows)) ∙ sym slots_size in
       subst (AreHeldWell (length head.slots.items)) (sym makes.splits)
       (subst (λ n. AreHeldWell n (map line (rows_of Split rows))) size (all_held rows tidy))
 

@@ -14,7 +14,7 @@ use Rattle.std.proofs.lemmas.Slice.Eq.{bytes_eq-Decides}
 use Rattle.text_lines.specs.Texts.{Word}
 use Rattle.line_shapes.specs.Lines.{Statement}
 use Rattle.word_map.specs.declared.text.Document.{Document}
-use Rattle.plan_text.specs.Names.{word_at}
+use Rattle.plan_text.specs.Names.{nth_word}
 use Rattle.plan_text.specs.Value.{number_in}
 use Rattle.plan_text.proofs.Numbers.{name_of_number, number_within}
 use Rattle.head_text.specs.Documents.{document_of, documents_of, is_in}
@@ -29,7 +29,7 @@ enumerate_push n j (y ∷ ys) x is = ap (λ l. (n, y) ∷ l) (enumerate_push (n 
 
 -- the line's document goes to the split that it names
 documents_more : (lines : List Statement) (line : Statement) (split : Word) (b : Bool)
-    → bytes_eq split (word_at 1 line) ≡ b
+    → bytes_eq split (nth_word 1 line) ≡ b
     → documents_of (lines ++ line ∷ []) split
     ≡ documents_of lines split ++ cond b (document_of (length lines, line) ∷ []) []
 documents_more lines line split b is =
@@ -40,7 +40,7 @@ documents_more lines line split b is =
     ∙ map-append document_of (filter (is_in split) (enumerate_from 0 lines)) (filter (is_in split) last)
     ∙ ap (λ l. documents_of lines split ++ l) (one b is)
   where
-    one : (b : Bool) → bytes_eq split (word_at 1 line) ≡ b
+    one : (b : Bool) → bytes_eq split (nth_word 1 line) ≡ b
         → map document_of (filter (is_in split) ((length lines, line) ∷ []))
         ≡ cond b (document_of (length lines, line) ∷ []) []
     one true is = ap (λ c. map document_of (cond c ((length lines, line) ∷ []) [])) is
@@ -60,7 +60,7 @@ documents_none (name ∷ names) = ap (λ l. [] ∷ l) (documents_none names)
 
 module _ (names : List Word) (lines : List Statement) (line : Statement) (lists : List (Vec Document Global))
     (split : ℕ) (was now : Vec Document Global) (differ : AllPairs (λ a b. a ≢ b) names)
-    (known : Contains names (word_at 1 line)) (number : split ≡ number_in names (word_at 1 line))
+    (known : Contains names (nth_word 1 line)) (number : split ≡ number_in names (nth_word 1 line))
     (before : items_of lists ≡ map (documents_of lines) names) (was_is : was ≡ get_or lists split was)
     (now_is : now.items ≡ was.items ++ document_of (length lines, line) ∷ []) where
   size : length lists ≡ length names
@@ -68,22 +68,22 @@ module _ (names : List Word) (lines : List Statement) (line : Statement) (lists 
       ∙ length-map names (documents_of lines)
 
   inside : split < length names
-  inside = rw number (number_within names (word_at 1 line) known)
+  inside = rw number (number_within names (nth_word 1 line) known)
 
-  named : get_or names split [] ≡ word_at 1 line
-  named = ap (λ i. get_or names i []) number ∙ name_of_number names (word_at 1 line) [] known
+  named : get_or names split [] ≡ nth_word 1 line
+  named = ap (λ i. get_or names i []) number ∙ name_of_number names (nth_word 1 line) [] known
 
   -- what the other splits have
   others : (k : ℕ) → k < length names → k ≢ split
       → documents_of (lines ++ line ∷ []) (get_or names k []) ≡ documents_of lines (get_or names k [])
   others k lt other =
       documents_more lines line (get_or names k []) false
-      (by (bytes_eq (get_or names k []) (word_at 1 line)) refl)
+      (by (bytes_eq (get_or names k []) (nth_word 1 line)) refl)
       ∙ append-nil (documents_of lines (get_or names k []))
     where
-      by : (b : Bool) → bytes_eq (get_or names k []) (word_at 1 line) ≡ b → b ≡ false
+      by : (b : Bool) → bytes_eq (get_or names k []) (nth_word 1 line) ≡ b → b ≡ false
       by true is = absurd (apart names differ k split [] lt inside other
-          ((bytes_eq-Decides (get_or names k []) (word_at 1 line)).0 is ∙ sym named))
+          ((bytes_eq-Decides (get_or names k []) (nth_word 1 line)).0 is ∙ sym named))
       by false is = refl
 
   -- and the split of the line

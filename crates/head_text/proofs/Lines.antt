@@ -5,7 +5,7 @@ use Rattle.std.specs.List.{All, AllPairs, Contains, slice_get}
 use Rattle.std.proofs.lemmas.List.Elements.{filter_passes}
 use Rattle.std.proofs.lemmas.List.Kept.{AllPairs-filter}
 use Rattle.text_lines.specs.Texts.{Word}
-use Rattle.line_shapes.specs.Demands.{IsWithin}
+use Rattle.line_shapes.specs.Demands.{IsNumberWithin}
 use Rattle.line_shapes.specs.Lines.{Statement}
 use Rattle.line_shapes.specs.declared.keyword.Keyword.{Keyword}
 use Rattle.line_shapes.specs.declared.keyword.Keyword.TheVariants.{Doc, Parts, Silence, Split, Target}
@@ -14,7 +14,7 @@ use Rattle.line_rules.specs.Entering.{entering_of, key_of}
 use Rattle.line_rules.specs.Known.{is_of, keys_of, rows_of}
 use Rattle.line_rules.specs.declared.entering.Entering.TheVariants.{Word as ByWord}
 use Rattle.line_rules.specs.declared.rows.Row.{Row}
-use Rattle.plan_text.specs.Names.{names_of, said_in, word_at}
+use Rattle.plan_text.specs.Names.{names_of, said_in, nth_word}
 use Rattle.plan_text.specs.Tidy.{AreTidy, IsAtMost, IsTidyRow}
 use Rattle.plan_text.proofs.Named.{key_by_word, keyword_of, row_named}
 use Rattle.plan_text.proofs.Parts.{All-unmap, no_row}
@@ -29,7 +29,7 @@ pub names_differ : (k : Keyword) → entering_of k ≡ ByWord → (rows : List S
 names_differ k by rows differ =
     let Apart : Statement → Statement → Type 0 = λ a b. key_of a ≢ key_of b in
     let apart = AllPairs-filter Apart (is_of k) rows (AllPairs-unmap (λ a b. a ≢ b) key_of rows differ) in
-    AllPairs-map (λ (a b : Word). a ≢ b) (word_at 0) (rows_of k rows)
+    AllPairs-map (λ (a b : Word). a ≢ b) (nth_word 0) (rows_of k rows)
     (λ i j d lt inside same.
     let a : Statement = get_or (rows_of k rows) i d in
     let b : Statement = get_or (rows_of k rows) j d in
@@ -41,33 +41,33 @@ names_differ k by rows differ =
 -- ---- documents
 
 tidy_doc : (rows : List Statement) (words : List Word) → IsTidyRow rows (line Doc words)
-    → Contains (names_of Split rows) (word_at 1 (line Doc words))
+    → Contains (names_of Split rows) (nth_word 1 (line Doc words))
 tidy_doc rows words row =
     let whole : 2 ≤ length words = row.whole in
     row_named Split refl rows (get_or words 1 []) (row.known 1 (omega arith))
 
 -- each line of a document names a split
 pub tidy_docs : (rows : List Statement) → AreTidy rows
-    → All (λ s. Contains (names_of Split rows) (word_at 1 s)) (rows_of Doc rows)
+    → All (λ s. Contains (names_of Split rows) (nth_word 1 s)) (rows_of Doc rows)
 tidy_docs rows tidy =
-    each_of_keyword Doc (λ s. Contains (names_of Split rows) (word_at 1 s)) rows tidy (tidy_doc rows)
+    each_of_keyword Doc (λ s. Contains (names_of Split rows) (nth_word 1 s)) rows tidy (tidy_doc rows)
 
 -- ---- settings
 
 abbrev pub AreWithin : ℕ → ℕ → List Statement → Type 0
-AreWithin least most lines = All (λ s. IsWithin least most (word_at 0 s)) lines
+AreWithin least most lines = All (λ s. IsNumberWithin least most (nth_word 0 s)) lines
 
 module _ (rows : List Statement) (tidy : AreTidy rows) where
   pub parts_within : AreWithin 1 64 (rows_of Parts rows)
-  parts_within = each_of_keyword Parts (λ s. IsWithin 1 64 (word_at 0 s)) rows tidy
+  parts_within = each_of_keyword Parts (λ s. IsNumberWithin 1 64 (nth_word 0 s)) rows tidy
       (λ words row. let whole : 1 ≤ length words = row.whole in row.in_range 0 (omega arith))
 
   pub silence_within : AreWithin 1 1000 (rows_of Silence rows)
-  silence_within = each_of_keyword Silence (λ s. IsWithin 1 1000 (word_at 0 s)) rows tidy
+  silence_within = each_of_keyword Silence (λ s. IsNumberWithin 1 1000 (nth_word 0 s)) rows tidy
       (λ words row. let whole : 1 ≤ length words = row.whole in row.in_range 0 (omega arith))
 
   pub target_within : AreWithin 1 8 (rows_of Target rows)
-  target_within = each_of_keyword Target (λ s. IsWithin 1 8 (word_at 0 s)) rows tidy
+  target_within = each_of_keyword Target (λ s. IsNumberWithin 1 8 (nth_word 0 s)) rows tidy
       (λ words row. let whole : 1 ≤ length words = row.whole in row.in_range 0 (omega arith))
 
 pub are_settings : (least most : ℕ) (lines : List Statement) → most ≤ 1000 → AreWithin least most lines
@@ -99,6 +99,6 @@ module _ (rows : List Row) (lines : List Statement) (row : Row) (same : map said
           (settings 0 (said_in r) some)
 
 -- the slots that the row of a worker tells
-pub slots_at : (rows : List Row) → All (λ s. IsAtMost (word_at 2 s) 16) (map said_in rows) → (i : ℕ)
-    → i < length rows → IsAtMost (word_at 2 (said_in (get_or rows i no_row))) 16
-slots_at rows slots i lt = All-unmap (λ s. IsAtMost (word_at 2 s) 16) said_in rows slots i no_row lt
+pub slots_at : (rows : List Row) → All (λ s. IsAtMost (nth_word 2 s) 16) (map said_in rows) → (i : ℕ)
+    → i < length rows → IsAtMost (nth_word 2 (said_in (get_or rows i no_row))) 16
+slots_at rows slots i lt = All-unmap (λ s. IsAtMost (nth_word 2 s) 16) said_in rows slots i no_row lt

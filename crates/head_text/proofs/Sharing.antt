@@ -11,17 +11,17 @@ use Rattle.std.proofs.lemmas.List.FromFn.{length-enumerate_from}
 use Rattle.word_map.specs.Texts.{SplitDocuments}
 use Rattle.word_map.specs.declared.text.Document.{Document}
 use Rattle.shuffle_reduce.specs.Gather.{values_of}
-use Rattle.head_text.specs.Documents.{text_of}
+use Rattle.head_text.specs.Documents.{text_of_split}
 use Rattle.head_text.proofs.Gathering.{items_of}
 
 -- the texts of these lists, from this number on
 abbrev pub texts_from : ℕ → List (Vec Document Global) → List SplitDocuments
-texts_from n lists = map text_of (enumerate_from n (items_of lists))
+texts_from n lists = map text_of_split (enumerate_from n (items_of lists))
 
 pub length-texts_from : (n : ℕ) (lists : List (Vec Document Global))
     → length (texts_from n lists) ≡ length lists
 length-texts_from n lists =
-    length-map (enumerate_from n (items_of lists)) text_of ∙ length-enumerate_from n (items_of lists)
+    length-map (enumerate_from n (items_of lists)) text_of_split ∙ length-enumerate_from n (items_of lists)
     ∙ length-map lists (λ list. list.items)
 
 -- the texts that are made are those of the lists but for those that are left

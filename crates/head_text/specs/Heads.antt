@@ -9,22 +9,22 @@ use Rattle.line_rules.specs.Known.{rows_of}
 use Rattle.wave_problem.specs.Wave.{AreHeldWell, AreSmallSplits}
 use Rattle.wave_problem.specs.declared.TheConstants.{MAX_SLOTS}
 use Rattle.shuffle_reduce.specs.Gather.{values_of}
-use Rattle.plan_text.specs.Names.{names_of, word_at}
-use Rattle.plan_text.specs.Value.{split_line, tree_of}
+use Rattle.plan_text.specs.Names.{names_of, nth_word}
+use Rattle.plan_text.specs.Value.{declared_split, declared_tree}
 use Rattle.head_text.specs.Documents.{texts_of}
 use Rattle.head_text.specs.Settings.{setting}
 use Rattle.head_text.specs.declared.heads.Head.{Head}
 
 -- `worker NAME RACK SLOTS`
 abbrev pub slots_told : Statement → ℕ
-slots_told s = number_of (word_at 2 s)
+slots_told s = number_of (nth_word 2 s)
 
 -- the head is what these rows make
 pub record MakesHead (rows : List Statement) (head : Head) : Type 0 where
-  pub tree : head.tree ≡ tree_of (names_of Centre rows) (rows_of Rack rows) (rows_of Worker rows)
+  pub tree : head.tree ≡ declared_tree (names_of Centre rows) (rows_of Rack rows) (rows_of Worker rows)
   pub slots : head.slots.items ≡ map slots_told (rows_of Worker rows)
   pub splits : head.splits.items
-      ≡ map (split_line (names_of Worker rows) (names_of Busy rows)) (rows_of Split rows)
+      ≡ map (declared_split (names_of Worker rows) (names_of Busy rows)) (rows_of Split rows)
   pub texts : values_of head.texts.items ≡ texts_of rows
   pub parts : head.parts ≡ setting Parts 1 rows
   pub silence : head.silence ≡ setting Silence 3 rows

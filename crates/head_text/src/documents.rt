@@ -3,9 +3,10 @@ ghost use Rattle.std.specs.List.{Contains, enumerate_from};
 ghost use Rattle.shuffle_reduce.specs.Gather.{values_of};
 ghost use Rattle.line_shapes.specs.declared.keyword.Keyword.TheVariants.{Doc};
 ghost use Rattle.line_rules.specs.Known.{rows_of as lines_of};
-ghost use Rattle.plan_text.specs.Names.{said_in, word_at};
+ghost use Rattle.plan_text.specs.Names.{said_in, nth_word};
 ghost use Rattle.plan_text.specs.Tidy.{AreTidy};
-ghost use Rattle.head_text.specs.Documents.{document_of as document_told, documents_of, text_of, texts_of};
+ghost use Rattle.head_text.specs.Documents.{document_of as document_told, documents_of, text_of_split};
+ghost use Rattle.head_text.specs.Documents.{texts_of};
 
 use line_rules::{Row, Rows};
 use line_shapes::Keyword;
@@ -37,7 +38,7 @@ fn documents_by_split(
 ) -> Result<Vec<Vec<Document>>, AllocError>
     requires few { length lines.now ≤ 65536 }
     requires differ { AllPairs (λ a b. a ≢ b) splits.now }
-    requires known { All (λ s. Contains splits.now (word_at 1 s)) (map said_in lines.now) }
+    requires known { All (λ s. Contains splits.now (nth_word 1 s)) (map said_in lines.now) }
     ensures { IfOk result (λ lists. map (λ list. list.items) lists.items
         ≡ map (documents_of (map said_in lines.now)) splits.now) }
 {
@@ -77,7 +78,7 @@ fn document_of(alloc: Global, line: &Row<'_, '_>, number: usize) -> Result<Docum
 fn shared_texts(alloc: Global, lists: Vec<Vec<Document>>) -> Result<Vec<Arc<SplitText>>, AllocError>
     requires { length lists.items ≤ 1024 }
     ensures { IfOk result (λ texts. values_of texts.items
-        ≡ map text_of (enumerate_from 0 (map (λ list. list.items) lists.items))) }
+        ≡ map text_of_split (enumerate_from 0 (map (λ list. list.items) lists.items))) }
 {
     let mut texts = Vec::with_capacity(alloc, lists.len())?;
     for documents in lists {

@@ -2,9 +2,9 @@ ghost use Rattle.std.specs.Prelude.{◌≡◌, ◌≤◌, IfOk, length, map, All
 ghost use Rattle.line_shapes.specs.declared.keyword.Keyword.TheVariants.{Busy, Centre, Doc, Parts, Rack};
 ghost use Rattle.line_shapes.specs.declared.keyword.Keyword.TheVariants.{Silence, Split, Worker};
 ghost use Rattle.line_rules.specs.Known.{rows_of as lines_of};
-ghost use Rattle.plan_text.specs.Names.{names_of as said_names, said_in, word_at};
+ghost use Rattle.plan_text.specs.Names.{names_of as said_names, said_in, nth_word};
 ghost use Rattle.plan_text.specs.Tidy.{AreTidy, IsAtMost};
-ghost use Rattle.plan_text.specs.Value.{split_line, tree_of};
+ghost use Rattle.plan_text.specs.Value.{declared_split, declared_tree};
 ghost use Rattle.head_text.specs.Heads.{IsFitHead, MakesHead, slots_told};
 ghost use Rattle.head_text.specs.Settings.{setting};
 
@@ -85,7 +85,7 @@ struct Standing {
 fn build_workers(alloc: Global, rows: &Rows<'_>) -> Result<Standing, AllocError>
     requires { AreTidy rows.now }
     ensures tree { IfOk result (λ stood. stood.tree
-        ≡ tree_of (said_names Centre rows.now) (lines_of Rack rows.now) (lines_of Worker rows.now)) }
+        ≡ declared_tree (said_names Centre rows.now) (lines_of Rack rows.now) (lines_of Worker rows.now)) }
     ensures slots { IfOk result (λ stood. stood.slots.items ≡ map slots_told (lines_of Worker rows.now)) }
 {
     let worker_rows = rows_of(alloc, rows, Keyword::Worker)?;
@@ -98,7 +98,7 @@ fn build_workers(alloc: Global, rows: &Rows<'_>) -> Result<Standing, AllocError>
 fn build_splits(alloc: Global, rows: &Rows<'_>) -> Result<Vec<SplitLine>, AllocError>
     requires { AreTidy rows.now }
     ensures { IfOk result (λ splits. splits.items
-        ≡ map (split_line (said_names Worker rows.now) (said_names Busy rows.now))
+        ≡ map (declared_split (said_names Worker rows.now) (said_names Busy rows.now))
         (lines_of Split rows.now)) }
 {
     let workers = names_of(alloc, rows, Keyword::Worker)?;
@@ -107,7 +107,7 @@ fn build_splits(alloc: Global, rows: &Rows<'_>) -> Result<Vec<SplitLine>, AllocE
 
 // The slots of each worker, by number.
 fn build_slots(alloc: Global, rows: &[Row<'_, '_>]) -> Result<Vec<u8>, AllocError>
-    requires { All (λ s. IsAtMost (word_at 2 s) 16) (map said_in rows.now) }
+    requires { All (λ s. IsAtMost (nth_word 2 s) 16) (map said_in rows.now) }
     ensures { IfOk result (λ slots. slots.items ≡ map slots_told (map said_in rows.now)) }
 {
     let mut slots = Vec::new(alloc);

@@ -13,14 +13,14 @@ use Rattle.script_text.specs.declared.script.Script.{Script}
 use Rattle.script_text.specs.declared.script.ScriptText.{ScriptText}
 use Rattle.job_run.specs.Reports.{IsReport}
 use Rattle.job_run.specs.Rooms.{IsScriptFor, RunsOut, setup_for}
-use Rattle.job_run.specs.PlayAnswer.{PlaysRead, RunsOutIn, cluster_in, cluster_of, want_of}
+use Rattle.job_run.specs.PlayAnswer.{PlaysRead, RunsOutIn, cluster_in, declared_cluster, want_of}
 use Rattle.job_run.specs.declared.player.PlayEnd.{PlayEnd}
 use Rattle.job_run.specs.declared.player.PlayError.{PlayError}
 use Rattle.job_run.specs.declared.player.PlayError.TheVariants.{HistoryFull, Memory}
 
 -- a head makes the cluster that its rows declare
 pub same_cluster : (rows : List Statement) (head : Head) → MakesHead rows head →
-    cluster_in head ≡ cluster_of rows
+    cluster_in head ≡ declared_cluster rows
 same_cluster rows head makes = λ i. record {
   tree = makes.tree i;
   slots = makes.slots i;

@@ -26,7 +26,8 @@ use Rattle.master_state.specs.Jobs.{Job, Answers}
 use Rattle.script_text.specs.declared.script.Names.{Names}
 use Rattle.script_text.specs.declared.script.Command.{Command}
 use Rattle.script_text.specs.declared.script.Command.TheVariants as command
-use Rattle.job_run.specs.Reports.{IsTold, Performs, PerformsAll, Does, DoesWork, Fails, FailsWork, Waves}
+use Rattle.job_run.specs.Reports.{IsTold, Performs, PerformsAll, Does, DoesWork, FailsAttempt, FailsWork}
+use Rattle.job_run.specs.Reports.{Waves}
 use Rattle.job_run.specs.Reports.{LacksRoom, opening_job}
 use Rattle.job_run.specs.Playing.{PerformedAll}
 use Rattle.job_run.specs.Rooms.{RunsOut, attempts_for, is_wave, starts_one, setup_for}
@@ -137,7 +138,8 @@ adds_work_failed : (old new : Job) (a : ℕ) (work : Work) (out : List ℕ) → 
 adds_work_failed old new a (works.Split split) out fails = adds_told old new (MapFailed a) _ out fails
 adds_work_failed old new a (works.Part part) out fails = adds_told old new (PartFailed a) _ out fails
 
-adds_failed : (old new : Job) (a : ℕ) (start : Option Start) (out : List ℕ) → Fails old a start out new →
+adds_failed : (old new : Job) (a : ℕ) (start : Option Start) (out : List ℕ)
+    → FailsAttempt old a start out new →
     Adds old.state new.state 0
 adds_failed old new a None out fails = adds_same old new 0 fails.unchanged
 adds_failed old new a (Some start) out fails = adds_work_failed old new a start.work out fails

@@ -15,7 +15,7 @@ use Rattle.master_state.specs.declared.states.Start.{Start}
 use Rattle.master_state.specs.declared.states.Work.TheVariants as works
 use Rattle.master_state.specs.States.{start_of}
 use Rattle.master_state.specs.Tests.{runs, part_runs, split_at, part_at}
-use Rattle.master_state.specs.Refusals.{no_split_runs, no_part_runs, text_of}
+use Rattle.master_state.specs.Refusals.{no_split_runs, no_part_runs, split_text}
 use Rattle.master_state.specs.Jobs.{Job, IsKept}
 use Rattle.master_state.proofs.Places.{no_split_is, no_part_is}
 use Rattle.master_state.proofs.Running.{start_known}
@@ -73,7 +73,7 @@ old_split job a split w state kept start here none =
     no_split_is job.setup job.state a split w kept.tidy start
     ∙ ap (λ (one : SplitState). not (runs a one)) at ∙ ap not none in
     record {
-      result = record { text = text_of job.setup split; parts = job.setup.cluster.parts };
+      result = record { text = split_text job.setup split; parts = job.setup.cluster.parts };
       text = refl;
       parts = refl;
       answers = record { refused = rw old refl; same = refl };

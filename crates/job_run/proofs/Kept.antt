@@ -20,7 +20,7 @@ use Rattle.script_text.specs.declared.script.Names.{Names}
 use Rattle.script_text.specs.declared.script.Command.{Command}
 use Rattle.script_text.specs.declared.script.Command.TheVariants as command
 use Rattle.job_run.specs.Given.{Runs, HasRuns, HoldsRuns}
-use Rattle.job_run.specs.Reports.{IsTold, Performs, Does, DoesWork, Fails, FailsWork, Waves}
+use Rattle.job_run.specs.Reports.{IsTold, Performs, Does, DoesWork, FailsAttempt, FailsWork, Waves}
 use Rattle.job_run.specs.Playing.{IsAnswered, Performed}
 
 -- ---- the starts of which each has its runs in the table
@@ -108,7 +108,8 @@ keeps_work_failed old new a (works.Split split) out fails =
 keeps_work_failed old new a (works.Part part) out fails =
     keeps_told old new (PartFailed a) _ out (λ e. cc) fails
 
-keeps_failed : (old new : Job) (a : ℕ) (start : Option Start) (out : List ℕ) → Fails old a start out new →
+keeps_failed : (old new : Job) (a : ℕ) (start : Option Start) (out : List ℕ)
+    → FailsAttempt old a start out new →
     Keeps old new
 keeps_failed old new a None out fails = keeps_same old new fails.unchanged
 keeps_failed old new a (Some start) out fails = keeps_work_failed old new a start.work out fails

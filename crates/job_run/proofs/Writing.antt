@@ -22,8 +22,9 @@ use Rattle.node_ids.specs.Sets.{has_number}
 use Rattle.script_text.specs.declared.script.Names.{Names}
 use Rattle.script_text.specs.declared.script.Command.TheVariants as command
 use Rattle.report_lines.specs.Lines.{accepted_line, answer_line, backup_line, dead_line, dead_lines}
-use Rattle.report_lines.specs.Lines.{ignored_line, numbers_of, reduce_line}
-use Rattle.job_run.specs.Reports.{IsTold, Does, DoesSplit, DoesPart, Fails, alone, deaths, told}
+use Rattle.report_lines.specs.Lines.{ignored_line, reduce_line}
+use Rattle.text_lines.specs.Texts.{numbers_of}
+use Rattle.job_run.specs.Reports.{IsTold, Does, DoesSplit, DoesPart, FailsAttempt, alone, deaths, told}
 use Rattle.job_run.specs.Handing.{HandsSplit, HandsPart, answer_from}
 use Rattle.job_run.specs.Playing.{IsAnswered, Performed}
 use Rattle.job_run.proofs.Telling.{those_agree}
@@ -100,8 +101,8 @@ pub fail_unknown : (names : Names) (target : ℕ) (old : Job) (a : ℕ) (before 
     Performed names target old (command.Fail a) before now old
 fail_unknown names target old a before now none written = record {
   out = ignored_line OldAttempt;
-  performs = subst (λ (start : Option Start). Fails old a start (ignored_line OldAttempt) old) (sym none)
-      (record { out_is = refl; unchanged = refl });
+  performs = subst (λ (start : Option Start). FailsAttempt old a start (ignored_line OldAttempt) old)
+      (sym none) (record { out_is = refl; unchanged = refl });
   written = written;
 }
 
@@ -111,7 +112,7 @@ pub fail_split : (names : Names) (target : ℕ) (old new : Job) (a split w : ℕ
     Performed names target old (command.Fail a) before now new
 fail_split names target old new a split w given before now start answers written = record {
   out = answer_line given;
-  performs = subst (λ (one : Option Start). Fails old a one (answer_line given) new) (sym start)
+  performs = subst (λ (one : Option Start). FailsAttempt old a one (answer_line given) new) (sym start)
       (is_told old new (MapFailed a) given answers);
   written = written;
 }
@@ -122,7 +123,7 @@ pub fail_part : (names : Names) (target : ℕ) (old new : Job) (a part w : ℕ) 
     Performed names target old (command.Fail a) before now new
 fail_part names target old new a part w given before now start answers written = record {
   out = answer_line given;
-  performs = subst (λ (one : Option Start). Fails old a one (answer_line given) new) (sym start)
+  performs = subst (λ (one : Option Start). FailsAttempt old a one (answer_line given) new) (sym start)
       (is_told old new (PartFailed a) given answers);
   written = written;
 }

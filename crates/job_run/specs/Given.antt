@@ -3,7 +3,7 @@ use Rattle.std.specs.Prelude.{ℕ, ◌≡◌, List, [], length, All, slice_index
 use Rattle.std.specs.declared.alloc.Global.{Global}
 use Rattle.std.specs.declared.sync.Arc.{Arc}
 use Rattle.word_map.specs.Runs.{RunView}
-use Rattle.shuffle_reduce.specs.Gather.{AreOfPart, texts_of}
+use Rattle.shuffle_reduce.specs.Gather.{AreOfPart, texts_of_runs}
 use Rattle.master_state.specs.declared.states.Work.{Work}
 use Rattle.master_state.specs.declared.states.Work.TheVariants as work
 use Rattle.master_state.specs.States.{Setup}
@@ -16,7 +16,7 @@ Runs = List (Arc RunView Global)
 -- a run of each text of the job, for this part
 pub record AreRunsFor (setup : Setup) (part : ℕ) (runs : Runs) : Type 0 where
   pub of_part : AreOfPart runs part setup.cluster.parts
-  pub texts : texts_of runs ≡ setup.cluster.texts
+  pub texts : texts_of_runs runs ≡ setup.cluster.texts
 
 -- the runs that stand in the table for a part
 abbrev pub runs_at : List Runs → ℕ → Runs

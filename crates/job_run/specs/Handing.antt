@@ -8,7 +8,7 @@ use Rattle.master_state.specs.declared.answers.AnswerWith.{AnswerWith}
 use Rattle.master_state.specs.declared.answers.AnswerWith.TheVariants as handed
 use Rattle.master_state.specs.declared.states.Work.{Work}
 use Rattle.master_state.specs.States.{State, start_of}
-use Rattle.master_state.specs.Refusals.{MapDone, PartDone, text_of}
+use Rattle.master_state.specs.Refusals.{MapDone, PartDone, split_text}
 use Rattle.master_state.specs.Jobs.{Job, Answers}
 
 -- the attempt was started for this work
@@ -23,7 +23,7 @@ answer_from (handed.Ignored why back) = answer.Ignored why
 -- what is made from the text of the attempt's split is answered so
 pub record HandsSplit (old : Job) (attempt split : ℕ) (given : Answer) (new : Job) : Type 0 where
   pub result : MapView
-  pub text : result.text ≡ text_of old.setup split
+  pub text : result.text ≡ split_text old.setup split
   pub parts : result.parts ≡ old.setup.cluster.parts
   pub answers : Answers old (MapDone attempt result) given new
 

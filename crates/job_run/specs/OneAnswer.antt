@@ -2,9 +2,9 @@
 use Rattle.std.proofs.Common.{Ok, Err}
 use Rattle.line_rules.specs.declared.purpose.Purpose.TheVariants.{Playing}
 use Rattle.line_rules.proofs.OneReading.{reads-faultless}
-use Rattle.text_reading.specs.Running.{HasOneAnswer}
+use Rattle.text_reading.specs.Running.{HasOneAnswer, AnyLines}
 use Rattle.fault_answers.proofs.OneFault.{one_fault}
-use Rattle.job_run.specs.PlayAnswer.{AnyLines, AreEnds, PlayAnswer}
+use Rattle.job_run.specs.PlayAnswer.{AreEnds, PlayAnswer}
 
 -- all ends of a text are ends of a script, or all are one fault
 pub one_play_answer : HasOneAnswer PlayAnswer AreEnds AnyLines

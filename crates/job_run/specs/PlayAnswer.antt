@@ -12,7 +12,7 @@ use Rattle.text_reading.specs.declared.tool_error.NoAnswer.{NoAnswer}
 use Rattle.text_reading.specs.declared.tool_error.NoAnswer.TheVariants as none
 use Rattle.fault_answers.specs.Faulty.{IsFaulty}
 use Rattle.plan_text.specs.Names.{names_of}
-use Rattle.plan_text.specs.Value.{split_line, tree_of}
+use Rattle.plan_text.specs.Value.{declared_split, declared_tree}
 use Rattle.head_text.specs.Documents.{texts_of}
 use Rattle.head_text.specs.Heads.{slots_told}
 use Rattle.head_text.specs.Settings.{setting}
@@ -28,11 +28,11 @@ use Rattle.job_run.specs.declared.player.PlayError.{PlayError}
 use Rattle.job_run.specs.declared.player.PlayError.TheVariants.{HistoryFull, Memory}
 
 -- the cluster that the rows of a head declare
-abbrev pub cluster_of : List Statement → Cluster
-cluster_of rows = record {
-  tree = tree_of (names_of Centre rows) (rows_of Rack rows) (rows_of Worker rows);
+abbrev pub declared_cluster : List Statement → Cluster
+declared_cluster rows = record {
+  tree = declared_tree (names_of Centre rows) (rows_of Rack rows) (rows_of Worker rows);
   slots = map slots_told (rows_of Worker rows);
-  splits = map (split_line (names_of Worker rows) (names_of Busy rows)) (rows_of Split rows);
+  splits = map (declared_split (names_of Worker rows) (names_of Busy rows)) (rows_of Split rows);
   texts = texts_of rows;
   parts = setting Parts 1 rows;
   silence = setting Silence 3 rows;
@@ -44,7 +44,7 @@ pub record PlaysRead (text : List ℕ) (end : PlayEnd) (lines : List ℕ) : Type
   pub script : Script
   pub read : IsAllRead Playing text known
   pub declares : Declares known script
-  pub report : IsReport (setup_for (cluster_of known.rows) script) script end lines
+  pub report : IsReport (setup_for (declared_cluster known.rows) script) script end lines
 
 -- the lines with which playing ends so
 abbrev pub PlayAnswer : List ℕ → Result PlayEnd TextFault → List ℕ → Type 0
@@ -57,7 +57,7 @@ pub record RunsOutIn (text : List ℕ) : Type 0 where
   pub script : Script
   pub read : IsAllRead Playing text known
   pub declares : Declares known script
-  pub runs_out : RunsOut (cluster_of known.rows) script
+  pub runs_out : RunsOut (declared_cluster known.rows) script
 
 -- which best waves are started stays free, and so does how a script ends; a fault is the same
 abbrev pub AreEnds : Result PlayEnd TextFault → Result PlayEnd TextFault → Type 0
@@ -65,9 +65,6 @@ AreEnds (Ok end) (Ok other) = ⊤
 AreEnds (Ok end) (Err fault) = ⊥
 AreEnds (Err fault) (Ok end) = ⊥
 AreEnds (Err fault) (Err other) = fault ≡ other
-
-abbrev pub AnyLines : List ℕ → List ℕ → Type 0
-AnyLines _ _ = ⊤
 
 -- the cluster that is made of a head
 abbrev pub cluster_in : Head → Cluster

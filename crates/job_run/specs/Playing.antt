@@ -5,7 +5,7 @@ use Rattle.master_state.specs.Refusals.{Call}
 use Rattle.master_state.specs.Jobs.{Job}
 use Rattle.script_text.specs.declared.script.Names.{Names}
 use Rattle.script_text.specs.declared.script.Command.{Command}
-use Rattle.job_run.specs.Reports.{IsTold, Performs, PerformsAll, Ends}
+use Rattle.job_run.specs.Reports.{IsTold, Performs, PerformsAll, EndsReport}
 use Rattle.job_run.specs.declared.player.PlayEnd.{PlayEnd}
 
 -- the answer to a call
@@ -33,5 +33,5 @@ pub record PerformedAll (names : Names) (target : ℕ) (old : Job) (commands : L
 -- the script ends
 pub record Ended (names : Names) (last : Job) (finish : PlayEnd) (before now : List ℕ) : Type 0 where
   pub out : List ℕ
-  pub ends : Ends names last finish out
+  pub ends : EndsReport names last finish out
   pub written : now ≡ before ++ out

@@ -19,7 +19,7 @@ use Rattle.master_state.specs.declared.states.Work.TheVariants as work
 use Rattle.master_state.specs.States.{Setup, next_attempt, opening, start_of}
 use Rattle.master_state.specs.Tests.{all_parts_done, next_part, next_worker}
 use Rattle.master_state.specs.Refusals.{Call, MapDone, MapFailed, Withdraw, Die, Join, Add, Lose, Sweep}
-use Rattle.master_state.specs.Refusals.{ReduceStart, PartDone, PartFailed, Backup, has_no_room, text_of}
+use Rattle.master_state.specs.Refusals.{ReduceStart, PartDone, PartFailed, Backup, has_no_room, split_text}
 use Rattle.master_state.specs.Steps.{IsLegal, problem_of}
 use Rattle.master_state.specs.Jobs.{Job, Answers, IsCommitted, died_in}
 use Rattle.script_text.specs.Commands.{IsKnownIn}
@@ -29,7 +29,8 @@ use Rattle.script_text.specs.declared.script.Command.{Command}
 use Rattle.script_text.specs.declared.script.Command.TheVariants as command
 use Rattle.report_lines.specs.Lines.{accepted_line, ignored_line, wave_line, started_line, backup_line}
 use Rattle.report_lines.specs.Lines.{reduce_line, dead_line, copy_lines, index_lines, stuck_lines}
-use Rattle.report_lines.specs.Lines.{lines_of_those, numbers_of}
+use Rattle.report_lines.specs.Lines.{lines_of_those}
+use Rattle.text_lines.specs.Texts.{numbers_of}
 use Rattle.job_run.specs.declared.player.PlayEnd.{PlayEnd}
 use Rattle.job_run.specs.declared.player.PlayEnd.TheVariants as finish
 
@@ -57,10 +58,10 @@ pub record IsUnknown (old : Job) (out : List ℕ) (new : Job) : Type 0 where
 -- ---- waves
 
 -- the starts, numbered from this attempt on
-abbrev pub start_lines : Names → ℕ → List (ℕ × ℕ) → List ℕ
-start_lines names attempt [] = []
-start_lines names attempt (pair ∷ pairs) =
-    started_line names.splits names.workers attempt pair.0 pair.1 ++ start_lines names (attempt + 1) pairs
+abbrev pub started_lines : Names → ℕ → List (ℕ × ℕ) → List ℕ
+started_lines names attempt [] = []
+started_lines names attempt (pair ∷ pairs) =
+    started_line names.splits names.workers attempt pair.0 pair.1 ++ started_lines names (attempt + 1) pairs
 
 -- some best plan is started, and the lines tell its count, its cost and each of its starts
 pub record Waves (names : Names) (old : Job) (out : List ℕ) (new : Job) : Type 0 where
@@ -68,14 +69,14 @@ pub record Waves (names : Names) (old : Job) (out : List ℕ) (new : Job) : Type
   pub wave : Wave
   pub committed : IsCommitted old plan wave new
   pub out_is : out ≡ accepted_line wave.place ++ wave_line wave.count wave.cost
-      ++ start_lines names wave.first (pairs_of plan)
+      ++ started_lines names wave.first (pairs_of plan)
 
 -- ---- completions and failures
 
 -- the result that is handed in is made from the text of the attempt's split
 pub record DoesSplit (old : Job) (attempt split : ℕ) (out : List ℕ) (new : Job) : Type 0 where
   pub result : MapView
-  pub text : result.text ≡ text_of old.setup split
+  pub text : result.text ≡ split_text old.setup split
   pub parts : result.parts ≡ old.setup.cluster.parts
   pub is_told : IsTold old (MapDone attempt result) alone out new
 
@@ -99,9 +100,9 @@ abbrev pub FailsWork : Job → ℕ → Work → List ℕ → Job → Type 0
 FailsWork old a (work.Split split) out new = IsTold old (MapFailed a) alone out new
 FailsWork old a (work.Part part) out new = IsTold old (PartFailed a) alone out new
 
-abbrev pub Fails : Job → ℕ → Option Start → List ℕ → Job → Type 0
-Fails old a None out new = IsUnknown old out new
-Fails old a (Some start) out new = FailsWork old a start.work out new
+abbrev pub FailsAttempt : Job → ℕ → Option Start → List ℕ → Job → Type 0
+FailsAttempt old a None out new = IsUnknown old out new
+FailsAttempt old a (Some start) out new = FailsWork old a start.work out new
 
 -- ---- the other commands
 
@@ -129,7 +130,7 @@ pub record Copies (names : Names) (target : ℕ) (old : Job) (out : List ℕ) (n
 abbrev pub Performs : Names → ℕ → Job → Command → List ℕ → Job → Type 0
 Performs names target old command.Wave out new = Waves names old out new
 Performs names target old (command.Done a) out new = Does old a (start_of old.state a) out new
-Performs names target old (command.Fail a) out new = Fails old a (start_of old.state a) out new
+Performs names target old (command.Fail a) out new = FailsAttempt old a (start_of old.state a) out new
 Performs names target old (command.Withdraw a) out new = IsTold old (Withdraw a) alone out new
 Performs names target old (command.Backup s w) out new =
     IsTold old (Backup s w) (λ _. backup_line names.splits names.workers (next_attempt old.state) s w) out new
@@ -155,12 +156,12 @@ PerformsAll names target old (c ∷ commands) out new =
     × (out ≡ front ++ back)
 
 -- the lines after the last command: the index of the documents where every part is done, else the open splits
-abbrev pub Ends : Names → Job → PlayEnd → List ℕ → Type 0
-Ends names last finish.Done out =
+abbrev pub EndsReport : Names → Job → PlayEnd → List ℕ → Type 0
+EndsReport names last finish.Done out =
     (all_parts_done last.state ≡ true)
     × ((entries : List EntryView) × IsIndexOf last.setup.cluster.texts entries
     × (out ≡ index_lines names.documents entries))
-Ends names last finish.Stuck out =
+EndsReport names last finish.Stuck out =
     (all_parts_done last.state ≡ false) × (out ≡ stuck_lines names.splits last.state.splits)
 
 -- a master of which nothing has happened
@@ -174,7 +175,7 @@ pub record IsReport (setup : Setup) (script : Script) (finish : PlayEnd) (out : 
   pub ending : List ℕ
   pub legal : IsLegal last.setup last.history last.state
   pub performs : PerformsAll script.names script.target (opening_job setup) script.commands.items answers last
-  pub ends : Ends script.names last finish ending
+  pub ends : EndsReport script.names last finish ending
   pub out_is : out ≡ answers ++ ending
 
 -- the command names workers and splits of the cluster of the job, and gives no more counts than there may be

@@ -52,8 +52,7 @@ pub record IsScriptFor (setup : Setup) (script : Script) : Type 0 where
   pub few : length script.commands.items ≤ MAX_COMMANDS
 
 -- A legal history answers the commands before a wave, and leaves fewer of the greatest number of attempts
--- than
--- some best plan starts there.
+-- than some best plan starts there.
 pub record RunsOut (cluster : Cluster) (script : Script) : Type 0 where
   pub before : List Command
   pub later : List Command

@@ -1,10 +1,10 @@
 ghost use Rattle.std.specs.Prelude.{◌≡◌, Err, IfOk, string_bytes};
-ghost use Rattle.text_reading.specs.Running.{HasRun};
+ghost use Rattle.text_reading.specs.Running.{HasRun, AnyLines};
 ghost use Rattle.head_text.specs.Heads.{IsFitHead};
 ghost use Rattle.script_text.specs.Scripts.{IsOfHead};
 ghost use Rattle.job_run.specs.Reports.{IsReport};
 ghost use Rattle.job_run.specs.Rooms.{RunsOut, setup_for};
-ghost use Rattle.job_run.specs.PlayAnswer.{AnyLines, AreEnds, PlayAnswer, RunsOutIn, cluster_in};
+ghost use Rattle.job_run.specs.PlayAnswer.{AreEnds, PlayAnswer, RunsOutIn, cluster_in};
 ghost use Rattle.job_run.specs.OneAnswer.{one_play_answer};
 
 use crate::player::{PlayEnd, PlayError, Report, play_script};

@@ -1,6 +1,6 @@
 ghost use Rattle.std.specs.Prelude.{◌≡◌, ◌≤◌, count_by, length};
 ghost use Rattle.wave_problem.specs.declared.TheConstants.{MAX_SPLITS};
-ghost use Rattle.master_state.specs.States.{AreSmall};
+ghost use Rattle.master_state.specs.States.{AreAllowed};
 ghost use Rattle.job_run.specs.Rooms.{is_sweep, is_wave, limits_for, starts_one};
 
 use master_state::Limits;
@@ -18,7 +18,7 @@ pub fn limits_for(splits: usize, commands: &[Command]) -> Limits
     requires splits { splits ≤ MAX_SPLITS }
     requires commands { length commands.now ≤ MAX_COMMANDS }
     ensures value { result ≡ limits_for splits commands.now }
-    ensures small { AreSmall result }
+    ensures small { AreAllowed result }
 {
     let attempts = splits * waves(commands) + single_starts(commands);
     Limits {
@@ -30,7 +30,7 @@ pub fn limits_for(splits: usize, commands: &[Command]) -> Limits
 
 fn waves(commands: &[Command]) -> usize
     ensures count { result ≡ count_by is_wave commands.now }
-    ensures limit { result ≤ length commands.now }
+    ensures most { result ≤ length commands.now }
 {
     commands.iter().filter(|command| is_wave(command)).count()
 }
@@ -43,7 +43,7 @@ fn is_wave(command: &Command) -> bool
 
 fn single_starts(commands: &[Command]) -> usize
     ensures count { result ≡ count_by starts_one commands.now }
-    ensures limit { result ≤ length commands.now }
+    ensures most { result ≤ length commands.now }
 {
     commands
         .iter()
@@ -59,7 +59,7 @@ fn starts_one(command: &Command) -> bool
 
 fn sweeps(commands: &[Command]) -> usize
     ensures count { result ≡ count_by is_sweep commands.now }
-    ensures limit { result ≤ length commands.now }
+    ensures most { result ≤ length commands.now }
 {
     commands.iter().filter(|command| is_sweep(command)).count()
 }

@@ -6,7 +6,7 @@ ghost use Rattle.master_state.specs.Steps.{problem_of};
 ghost use Rattle.master_core.specs.Starts.{HasSizesOf};
 ghost use Rattle.report_lines.specs.Lines.{accepted_line, wave_line};
 ghost use Rattle.script_text.specs.declared.script.Command.TheVariants as command;
-ghost use Rattle.job_run.specs.Reports.{LacksRoom, start_lines};
+ghost use Rattle.job_run.specs.Reports.{LacksRoom, started_lines};
 ghost use Rattle.job_run.specs.Playing.{Performed};
 
 use crate::ending::know;
@@ -66,7 +66,7 @@ fn tell_wave(
     requires { wave.first + length (pairs_of plan.now.starts) ≤ 2 ^ 32 - 1 }
     ensures { OnOk result (string_bytes lines.new ≡ string_bytes lines.old
         ++ (accepted_line wave.place ++ wave_line wave.count wave.cost
-        ++ start_lines names.now wave.first (pairs_of plan.now.starts))) }
+        ++ started_lines names.now wave.first (pairs_of plan.now.starts))) }
 {
     add_accepted(lines, wave.place)?;
     add_wave(lines, wave.count, wave.cost)?;
@@ -82,7 +82,7 @@ fn add_starts(
 ) -> Result<(), AllocError>
     requires { first + length (pairs_of plan.now.starts) ≤ 2 ^ 32 - 1 }
     ensures { OnOk result (string_bytes lines.new
-        ≡ string_bytes lines.old ++ start_lines names.now first (pairs_of plan.now.starts)) }
+        ≡ string_bytes lines.old ++ started_lines names.now first (pairs_of plan.now.starts)) }
 {
     let mut attempt = first.index();
     for number in 0..plan.splits() {

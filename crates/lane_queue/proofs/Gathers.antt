@@ -9,7 +9,7 @@ use Rattle.view_sums.proofs.Sums.{sum_by-one}
 use Rattle.lane_queue.specs.declared.order.Order.{Order}
 use Rattle.lane_queue.specs.declared.view.View.{View}
 use Rattle.lane_queue.specs.Orders.{is_alone}
-use Rattle.lane_queue.specs.Lanes.{PassValue, Knows, puts_of, takes_of, depths_of, one_each, IsWhole}
+use Rattle.lane_queue.specs.Lanes.{PassValue, Knows, puts_of, takes_of, depths_of, one_each, AreWhole}
 use Rattle.lane_queue.specs.Steps.{hand, both, depth_of, Totals}
 use Rattle.lane_queue.proofs.Parts.{undivided}
 
@@ -60,7 +60,7 @@ abbrev pub further : View → List Order → View
 further v left = hand v.puts (v.takes ++ left) v.depths v.ordered
 
 ends : (v : View) (left items : List Order) → Totals (further v left) items
-    → (IsWhole v.depths → length items ≡ 0) → Totals v left
+    → (AreWhole v.depths → length items ≡ 0) → Totals v left
 ends v left items t none whole =
     let is : items ≡ [] = empty_list items (none whole) in
     let told = t whole in record {

@@ -5,11 +5,11 @@ use Rattle.std.proofs.lemmas.Nat.{pow-add, pow_pos}
 use Rattle.std.proofs.Math.Nat.{mul-div_cancel_left}
 use Rattle.std.proofs.lemmas.List.Sums.{sum_by-append, sum_by-cons, sum_by_push}
 use Rattle.std.specs.List.{sum_by}
-use Rattle.lane_queue.specs.Lanes.{AreWithin, IsWhole}
+use Rattle.lane_queue.specs.Lanes.{AreAtMost, AreWhole}
 use Rattle.lane_queue.specs.Steps.{deeper}
 
 -- parts, counted in smaller parts
-pub scale : (most k : ℕ) (ds : List ℕ) → AreWithin most ds
+pub scale : (most k : ℕ) (ds : List ℕ) → AreAtMost most ds
     → sum_by (λ d. 2 ^ (most + k - d)) ds ≡ 2 ^ k * sum_by (λ d. 2 ^ (most - d)) ds
 scale most k [] h = omega arith
 scale most k (d ∷ ds) h =
@@ -25,7 +25,7 @@ cancel : (n x y : ℕ) → 0 < n → n * x ≡ n * y → x ≡ y
 cancel n x y pos e = sym (mul-div_cancel_left x pos) ∙ ap (λ z. z / n) e ∙ mul-div_cancel_left y pos
 
 -- parts that make up the whole do so however they are counted
-pub whole_at : (depth : ℕ) (ds : List ℕ) → AreWithin depth ds → IsWhole ds
+pub whole_at : (depth : ℕ) (ds : List ℕ) → AreAtMost depth ds → AreWhole ds
     → sum_by (λ d. 2 ^ (depth - d)) ds ≡ 2 ^ depth
 whole_at depth ds within w =
     let a = scale w.most depth ds w.within in
@@ -53,16 +53,16 @@ deeper_sum most (d ∷ ds) =
     let gs = sum_by-cons (λ e. 2 ^ (most - e)) d ds in
     omega (arith, ap (λ n. 2 ^ n) same, deeper_sum most ds, fs, gs)
 
-pub deeper_within : (most : ℕ) (ds : List ℕ) → AreWithin most ds → AreWithin (most + 1) (deeper ds)
+pub deeper_within : (most : ℕ) (ds : List ℕ) → AreAtMost most ds → AreAtMost (most + 1) (deeper ds)
 deeper_within most [] h = tt
 deeper_within most (d ∷ ds) h = let le = h.0 in (omega arith, deeper_within most ds h.1)
 
-pub within_more : (most : ℕ) (ds : List ℕ) → AreWithin most ds → AreWithin (most + 1) ds
+pub within_more : (most : ℕ) (ds : List ℕ) → AreAtMost most ds → AreAtMost (most + 1) ds
 within_more most [] h = tt
 within_more most (d ∷ ds) h = let le = h.0 in (omega arith, within_more most ds h.1)
 
-pub within_both : (most : ℕ) (ds es : List ℕ) → AreWithin most ds → AreWithin most es
-    → AreWithin most (ds ++ es)
+pub within_both : (most : ℕ) (ds es : List ℕ) → AreAtMost most ds → AreAtMost most es
+    → AreAtMost most (ds ++ es)
 within_both most [] es h k = k
 within_both most (d ∷ ds) es h k = (h.0, within_both most ds es h.1 k)
 
@@ -71,7 +71,7 @@ not_deeper [] e = refl
 not_deeper (d ∷ ds) e = absurd (omega (arith, ap length e))
 
 -- the part of a pass that was never shared is the whole
-pub undivided : (d : ℕ) → d ≡ 0 → IsWhole (d ∷ [])
+pub undivided : (d : ℕ) → d ≡ 0 → AreWhole (d ∷ [])
 undivided d e = record {
   most = 0;
   within = (omega arith, tt);
@@ -79,8 +79,8 @@ undivided d e = record {
       ap (λ n. sum_by (λ x. 2 ^ (0 - x)) (n ∷ [])) e;
 }
 
-within_shared : (most : ℕ) (before after : List ℕ) (d : ℕ) → AreWithin most (before ++ d ∷ after)
-    → (d ≤ most) × AreWithin (most + 1) (before ++ (d + 1) ∷ (after ++ (d + 1) ∷ []))
+within_shared : (most : ℕ) (before after : List ℕ) (d : ℕ) → AreAtMost most (before ++ d ∷ after)
+    → (d ≤ most) × AreAtMost (most + 1) (before ++ (d + 1) ∷ (after ++ (d + 1) ∷ []))
 within_shared most [] after d h =
     let le : d ≤ most = h.0 in
     let more : d + 1 ≤ most + 1 = omega arith in
@@ -91,8 +91,8 @@ within_shared most (b ∷ bs) after d h =
     (rest.0, (omega arith, rest.1))
 
 -- where a pass is shared, the passes with the new one are as whole as before
-pub shared_whole : (before after : List ℕ) (d : ℕ) → IsWhole (before ++ d ∷ after)
-    → IsWhole (before ++ (d + 1) ∷ (after ++ (d + 1) ∷ []))
+pub shared_whole : (before after : List ℕ) (d : ℕ) → AreWhole (before ++ d ∷ after)
+    → AreWhole (before ++ (d + 1) ∷ (after ++ (d + 1) ∷ []))
 shared_whole before after d w =
     let m = w.most in
     let f : ℕ → ℕ = λ e. 2 ^ (m + 1 - e) in

@@ -42,13 +42,13 @@ one_each [] = true
 one_each (p ∷ ps) = (is_alone p.puts (puts_of ps) && is_alone p.takes (takes_of ps)) && one_each ps
 
 -- no depth is more
-abbrev pub AreWithin : ℕ → List ℕ → Type 0
-AreWithin most [] = Unit {0}
-AreWithin most (d ∷ ds) = (d ≤ most) × AreWithin most ds
+abbrev pub AreAtMost : ℕ → List ℕ → Type 0
+AreAtMost most [] = Unit {0}
+AreAtMost most (d ∷ ds) = (d ≤ most) × AreAtMost most ds
 
 -- Parts of these depths make up the whole lane, so no other pass was made. It is counted in parts of the
 -- depth most.
-pub record IsWhole (depths : List ℕ) : Type 0 where
+pub record AreWhole (depths : List ℕ) : Type 0 where
   pub most : ℕ
-  pub within : AreWithin most depths
+  pub within : AreAtMost most depths
   pub sum : sum_by (λ d. 2 ^ (most - d)) depths ≡ 2 ^ most

@@ -26,8 +26,7 @@ is_alone (x ∷ xs) [] = true
 is_alone (x ∷ xs) (y ∷ ys) = false
 
 -- each order was taken or is left as often as it was put, however orders are weighed; and where one pass
--- alone put
--- and one alone took, what was taken and then what is left is what was put, in its order
+-- alone put and one alone took, what was taken and then what is left is what was put, in its order
 pub record Settles (one_each : Bool) (puts takes left : List Order) : Type 0 where
   pub as_often : (weight : Order → ℕ) → sum_by weight puts ≡ sum_by weight takes + sum_by weight left
   pub in_turn : one_each ≡ true → puts ≡ takes ++ left

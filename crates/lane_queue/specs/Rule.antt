@@ -6,7 +6,7 @@ use lib.ListN.{get_elem?}
 use Rattle.lane_queue.specs.declared.order.Order.{Order}
 use Rattle.lane_queue.specs.declared.view.View.{View}
 use Rattle.lane_queue.specs.Orders.{IsSub}
-use Rattle.lane_queue.specs.Lanes.{AreWithin}
+use Rattle.lane_queue.specs.Lanes.{AreAtMost}
 
 -- the parts of a view, counted in parts of a depth
 abbrev pub weight : ℕ → View → ℕ
@@ -16,7 +16,7 @@ weight depth v = sum_by (λ d. 2 ^ (depth - d)) v.depths
 -- neither
 pub record Fits (sent got : List Order) (depth : ℕ) (v : View) : Type 0 where
   pub subs : v.ordered ≡ true → IsSub v.puts sent × IsSub v.takes got
-  pub within : AreWithin depth v.depths
+  pub within : AreAtMost depth v.depths
   pub spent : v.depths ≡ [] → (v.puts ≡ []) × (v.takes ≡ [])
 
 -- There is one list of all that was sent and one of all that was got, whoever sent and got it

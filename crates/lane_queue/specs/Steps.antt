@@ -3,7 +3,7 @@ use Rattle.std.specs.Prelude.{ℕ, ◌+◌, Bool, ◌&&◌, List, [], ◌∷◌,
 use Rattle.lane_queue.specs.declared.order.Order.{Order}
 use Rattle.lane_queue.specs.declared.view.View.{View}
 use Rattle.lane_queue.specs.Orders.{is_alone, Settles}
-use Rattle.lane_queue.specs.Lanes.{IsWhole}
+use Rattle.lane_queue.specs.Lanes.{AreWhole}
 
 abbrev pub hand : List Order → List Order → List ℕ → Bool → View
 hand ps ts ds b = record { puts = ps; takes = ts; depths = ds; ordered = b }
@@ -33,4 +33,4 @@ depth_of (d ∷ ds) = d
 
 -- what a pass with every part knows of the orders in the lane
 abbrev pub Totals : View → List Order → Type 0
-Totals v items = IsWhole v.depths → Settles v.ordered v.puts v.takes items
+Totals v items = AreWhole v.depths → Settles v.ordered v.puts v.takes items

@@ -5,7 +5,7 @@ ghost use Rattle.crossbeam_queue.specs.Passes.{view, IsPassOf, ruled_capacity};
 ghost use Rattle.lane_queue.specs.declared.TheConstants.{MAX_CAPACITY};
 ghost use Rattle.lane_queue.specs.declared.order.Order.{Order};
 ghost use Rattle.lane_queue.specs.Orders.{Settles};
-ghost use Rattle.lane_queue.specs.Lanes.{Knows, IsWhole, puts_of, takes_of, depths_of, one_each};
+ghost use Rattle.lane_queue.specs.Lanes.{Knows, AreWhole, puts_of, takes_of, depths_of, one_each};
 ghost use Rattle.lane_queue.specs.Steps.{hand, Totals};
 
 use crate::MAX_CAPACITY;
@@ -150,7 +150,7 @@ impl Lane {
         passes: Vec<Pass>,
     ) -> Result<Tally, CloseRefused>
         requires { All (λ p. p.lane ≡ self.lane) passes.items }
-        ensures settled { IfOk result (λ t. IsWhole (depths_of passes.items)
+        ensures settled { IfOk result (λ t. AreWhole (depths_of passes.items)
             → Settles (one_each passes.items) (puts_of passes.items) (takes_of passes.items) t.left.items) }
         ensures few { IfOk result (λ t. length t.left.items ≤ self.capacity) }
         ensures some { IsOk result → 0 < length passes.items }

@@ -12,7 +12,7 @@ use Rattle.line_shapes.specs.declared.keyword.Keyword.TheVariants.{Join, Add, Lo
 use Rattle.line_shapes.specs.declared.keyword.Keyword.TheVariants.{Backup, End}
 use Rattle.line_rules.specs.Counts.{AreCounts, count_in, one_if}
 use Rattle.line_rules.specs.Entering.{entered_of, most_of, most_workers}
-use Rattle.line_rules.specs.Faults.{HasRoom, counted_of}
+use Rattle.line_rules.specs.Faults.{IsFewer, counted_of}
 use Rattle.line_rules.specs.Known.{Known, is_of, rows_of}
 use Rattle.line_rules.specs.declared.counts.Counts.{Counts}
 use Rattle.line_rules.specs.declared.purpose.Purpose.{Purpose}
@@ -26,7 +26,7 @@ few_workers Running = omega arith
 
 -- where there is room for one line more, the count of its keyword is small
 pub small_before : (k : Known) (c : Counts) (word : Keyword) → AreCounts c k.rows
-    → HasRoom (most_of k.purpose word) (counted_of k word) → count_in c word < 65536
+    → IsFewer (most_of k.purpose word) (counted_of k word) → count_in c word < 65536
 small_before k c Problem rowed room = omega arith
 small_before k c Script rowed room = omega arith
 small_before k c Job rowed room = omega arith

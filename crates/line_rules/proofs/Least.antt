@@ -7,11 +7,11 @@ use Rattle.text_lines.specs.declared.fault.Fault.TheVariants.{OutOfRange, Passes
 use Rattle.text_lines.specs.declared.fault.Fault.TheVariants.{RepeatedHolder, SecondEntry, NoPrice, TooLong}
 use Rattle.text_lines.specs.declared.fault.Fault.TheVariants.{NoFeed, Unprintable, AfterEnd}
 use Rattle.line_shapes.specs.Lines.{IsNamed, Statement}
-use Rattle.line_rules.specs.Faults.{Fails, IsLeastOf, IsNew, IsWhole, Keep, MayStand}
+use Rattle.line_rules.specs.Faults.{Fails, IsLeastOf, IsNew, IsComplete, Keep, MayStand}
 use Rattle.line_rules.specs.Known.{Known}
 use Rattle.line_rules.specs.declared.rule.Rule.TheVariants as rule
 
-past_names : (k : Known) (s : Statement) → IsWhole k s → IsNamed s → (g : Fault) → Fails k s g
+past_names : (k : Known) (s : Statement) → IsComplete k s → IsNamed s → (g : Fault) → Fails k s g
     → 3 ≤ number_of_fault g
 past_names k s whole named Shape h = absurd (h whole)
 past_names k s whole named Misnamed h = absurd (h.2 named)
@@ -28,8 +28,8 @@ past_names k s whole named NoFeed h = omega arith
 past_names k s whole named Unprintable h = omega arith
 past_names k s whole named AfterEnd h = omega arith
 
-past_known : (k : Known) (s : Statement) → IsWhole k s → IsNamed s → Keep rule.Declared k.rows s → (g : Fault)
-    → Fails k s g → 4 ≤ number_of_fault g
+past_known : (k : Known) (s : Statement) → IsComplete k s → IsNamed s → Keep rule.Declared k.rows s
+    → (g : Fault) → Fails k s g → 4 ≤ number_of_fault g
 past_known k s whole named known Shape h = absurd (h whole)
 past_known k s whole named known Misnamed h = absurd (h.2 named)
 past_known k s whole named known Unknown h = absurd (h.2 known)
@@ -45,14 +45,14 @@ past_known k s whole named known NoFeed h = omega arith
 past_known k s whole named known Unprintable h = omega arith
 past_known k s whole named known AfterEnd h = omega arith
 
-pub least_unknown : (k : Known) (s : Statement) → IsWhole k s → MayStand k s → IsNamed s
+pub least_unknown : (k : Known) (s : Statement) → IsComplete k s → MayStand k s → IsNamed s
     → (Keep rule.Declared k.rows s → ⊥) → IsLeastOf (Fails k s) Unknown
 least_unknown k s whole may_stand named fails = record {
   applies = (whole, may_stand, fails);
   least = λ g h. past_names k s whole named g h;
 }
 
-pub least_repeated : (k : Known) (s : Statement) → IsWhole k s → MayStand k s → IsNamed s
+pub least_repeated : (k : Known) (s : Statement) → IsComplete k s → MayStand k s → IsNamed s
     → Keep rule.Declared k.rows s → (IsNew k.rows s → ⊥) → IsLeastOf (Fails k s) Repeated
 least_repeated k s whole may_stand named known fails = record {
   applies = (whole, may_stand, fails);

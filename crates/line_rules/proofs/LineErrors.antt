@@ -9,8 +9,8 @@ use Rattle.text_lines.specs.declared.fault.Fault.TheVariants.{RepeatedHolder, Se
 use Rattle.text_lines.specs.declared.fault.Fault.TheVariants.{NoFeed, Unprintable, AfterEnd}
 use Rattle.line_shapes.specs.Lines.{Says, SaysNothing, Statement}
 use Rattle.line_rules.specs.Known.{Known}
-use Rattle.line_rules.specs.Faults.{Fails, IsFit, IsLeastOf, IsWhole}
-use Rattle.line_rules.specs.Texts.{IsSound, LineHas}
+use Rattle.line_rules.specs.Faults.{Fails, IsFit, IsLeastOf, IsComplete}
+use Rattle.line_rules.specs.Texts.{IsLegible, LineHas}
 use Rattle.line_rules.proofs.Fits.{fit_faultless}
 use Rattle.line_shapes.proofs.OneStatement.{says-unique}
 use Rattle.line_rules.specs.Reading.{IsLeastError}
@@ -18,10 +18,10 @@ use Rattle.line_rules.specs.declared.reading.LineError.{LineError}
 use Rattle.line_rules.specs.declared.reading.LineError.TheVariants as error
 
 -- a fault of the statement is one of the line
-fault_of_line : (k : Known) (line : Line) (s : Statement) → IsSound k line → Says line s → (f : Fault)
+fault_of_line : (k : Known) (line : Line) (s : Statement) → IsLegible k line → Says line s → (f : Fault)
     → Fails k s f → LineHas k line f
 fault_of_line k line s sound says Shape h =
-    (sound, λ t other whole. h (subst (λ u. IsWhole k u) (says-unique line t s other says) whole))
+    (sound, λ t other whole. h (subst (λ u. IsComplete k u) (says-unique line t s other says) whole))
 fault_of_line k line s sound says Misnamed h = (sound, (s, says, h))
 fault_of_line k line s sound says Unknown h = (sound, (s, says, h))
 fault_of_line k line s sound says Repeated h = (sound, (s, says, h))
@@ -42,7 +42,7 @@ same_fault : (k : Known) (line : Line) (s t : Statement) → Says line s → Say
 same_fault k line s t one other f h = subst (λ u. Fails k u f) (says-unique line t s other one) h
 
 -- a fault of the line is one of the statement
-fault_of_statement : (k : Known) (line : Line) (s : Statement) → IsSound k line → Says line s
+fault_of_statement : (k : Known) (line : Line) (s : Statement) → IsLegible k line → Says line s
     → (f : Fault) → LineHas k line f → Fails k s f
 fault_of_statement k line s sound says Shape h = h.1 s says
 fault_of_statement k line s sound says Misnamed h = same_fault k line s h.1.0 says h.1.1 Misnamed h.1.2
@@ -61,7 +61,7 @@ fault_of_statement k line s sound says Unprintable h = absurd (h sound.0)
 fault_of_statement k line s sound says AfterEnd h = absurd (sound.1 h)
 
 -- the least fault of the statement is the line's
-pub least_of_line : (k : Known) (line : Line) (s : Statement) → IsSound k line → Says line s
+pub least_of_line : (k : Known) (line : Line) (s : Statement) → IsLegible k line → Says line s
     → (f : Fault) → IsLeastOf (Fails k s) f → IsLeastOf (LineHas k line) f
 least_of_line k line s sound says f least = record {
   applies = fault_of_line k line s sound says f least.applies;
@@ -69,7 +69,7 @@ least_of_line k line s sound says f least = record {
 }
 
 -- a sound line that says a fit statement has no fault
-pub line_faultless : (k : Known) (line : Line) (s : Statement) → IsSound k line → Says line s → IsFit k s
+pub line_faultless : (k : Known) (line : Line) (s : Statement) → IsLegible k line → Says line s → IsFit k s
     → (f : Fault) → LineHas k line f → ⊥
 line_faultless k line s sound says fit f h = fit_faultless k s fit f
     (fault_of_statement k line s sound says f h)
@@ -91,7 +91,7 @@ lowest Unprintable = omega arith
 lowest AfterEnd = omega arith
 
 -- a line that says nothing has the lowest fault of all
-pub nothing_least : (k : Known) (line : Line) → IsSound k line → SaysNothing line
+pub nothing_least : (k : Known) (line : Line) → IsLegible k line → SaysNothing line
     → IsLeastOf (LineHas k line) Shape
 nothing_least k line sound nothing = record {
   applies = (sound, λ s says whole. nothing s says);
@@ -100,7 +100,7 @@ nothing_least k line sound nothing = record {
 }
 
 -- the least error of what the line says is the line's
-pub error_of_line : (k : Known) (line : Line) (s : Statement) → IsSound k line → Says line s
+pub error_of_line : (k : Known) (line : Line) (s : Statement) → IsLegible k line → Says line s
     → (e : LineError) → IsLeastError (Fails k s) e → IsLeastError (LineHas k line) e
 error_of_line k line s sound says (error.Fault f) h = least_of_line k line s sound says f h
 error_of_line k line s sound says error.Memory h = tt

@@ -11,7 +11,7 @@ use Rattle.text_lines.specs.declared.fault.Fault.TheVariants.{RepeatedHolder, Se
 use Rattle.text_lines.specs.declared.fault.Fault.TheVariants.{NoFeed, Unprintable, AfterEnd}
 use Rattle.line_shapes.specs.Lines.{Statement}
 use Rattle.line_shapes.proofs.OneStatement.{says-unique}
-use Rattle.line_rules.specs.Texts.{Declare, IsLeastAt, IsLeastFault, Reads, longest}
+use Rattle.line_rules.specs.Texts.{Declare, IsLeastAt, IsLeastFault, ReadsAs, longest}
 use Rattle.line_rules.specs.declared.purpose.Purpose.{Purpose}
 
 -- ---- the statements
@@ -33,8 +33,8 @@ declare-unique (l ∷ ls) (s ∷ ss) (t ∷ ts) (inl ha) (inr hb) = absurd (hb.0
 declare-unique (l ∷ ls) (s ∷ ss) (t ∷ ts) (inr ha) (inl hb) = absurd (ha.0 t hb.0)
 declare-unique (l ∷ ls) (s ∷ ss) (t ∷ ts) (inr ha) (inr hb) = declare-unique ls (s ∷ ss) (t ∷ ts) ha.1 hb.1
 
-pub reads-unique : (purpose : Purpose) (text : List ℕ) (ss ts : List Statement) → Reads purpose text ss
-    → Reads purpose text ts → ss ≡ ts
+pub reads-unique : (purpose : Purpose) (text : List ℕ) (ss ts : List Statement) → ReadsAs purpose text ss
+    → ReadsAs purpose text ts → ss ≡ ts
 reads-unique purpose text ss ts a b =
     let count : length ts ≡ length ss = omega (arith, a.whole, b.whole) in
     declare-unique (take (length ss) (lines_of text)) ss ts a.says
@@ -128,7 +128,7 @@ least_fault-unique purpose text line number f g a b =
 
 -- a text that says its statements has no least fault
 pub reads-faultless : (purpose : Purpose) (text : List ℕ) (ss : List Statement) (line : ℕ) (f : Fault)
-    → Reads purpose text ss → IsLeastFault purpose text line f → ⊥
+    → ReadsAs purpose text ss → IsLeastFault purpose text line f → ⊥
 reads-faultless purpose text ss line f reads h =
     by (of_length_or_line purpose text line f h)
   where

@@ -1,7 +1,7 @@
 -- How many rows there are of the keywords that have a limit.
 use Rattle.std.specs.Prelude.{ℕ, List, ◌≡◌, length, if◌then◌else◌}
 use Rattle.std.specs.Str.{bytes_eq}
-use Rattle.line_shapes.specs.Keywords.{text_of}
+use Rattle.line_shapes.specs.Keywords.{spelling_of}
 use Rattle.line_shapes.specs.Lines.{Statement}
 use Rattle.line_shapes.specs.declared.keyword.Keyword.{Keyword}
 use Rattle.line_shapes.specs.declared.keyword.Keyword.TheVariants.{Problem, Script, Job, Centre, Rack}
@@ -14,7 +14,7 @@ use Rattle.line_rules.specs.Known.{rows_of}
 use Rattle.line_rules.specs.declared.counts.Counts.{Counts}
 
 abbrev pub one_if : Keyword → Keyword → ℕ
-one_if k j = if bytes_eq (text_of k) (text_of j) then 1 else 0
+one_if k j = if bytes_eq (spelling_of k) (spelling_of j) then 1 else 0
 
 -- the count of a keyword whose rows have a limit
 abbrev pub count_in : Counts → Keyword → ℕ

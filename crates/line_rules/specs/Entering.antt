@@ -194,22 +194,22 @@ is_priced keyword.End = false
 abbrev pub Key : Type 0
 Key = Keyword × Word × Word
 
-abbrev pub first_of : Entering → List Word → Word
-first_of Nothing ws = []
-first_of Alone ws = []
-first_of InTurn ws = []
-first_of ByWord ws = slice_index_or ws 0 []
-first_of ByPair ws = slice_index_or ws 0 []
+abbrev pub first_key : Entering → List Word → Word
+first_key Nothing ws = []
+first_key Alone ws = []
+first_key InTurn ws = []
+first_key ByWord ws = slice_index_or ws 0 []
+first_key ByPair ws = slice_index_or ws 0 []
 
-abbrev pub second_of : Entering → List Word → Word
-second_of Nothing ws = []
-second_of Alone ws = []
-second_of InTurn ws = []
-second_of ByWord ws = []
-second_of ByPair ws = slice_index_or ws 1 []
+abbrev pub second_key : Entering → List Word → Word
+second_key Nothing ws = []
+second_key Alone ws = []
+second_key InTurn ws = []
+second_key ByWord ws = []
+second_key ByPair ws = slice_index_or ws 1 []
 
 abbrev pub key_of : Statement → Key
-key_of s = (s.keyword, first_of (entering_of s.keyword) s.words, second_of (entering_of s.keyword) s.words)
+key_of s = (s.keyword, first_key (entering_of s.keyword) s.words, second_key (entering_of s.keyword) s.words)
 
 abbrev pub entered_by : Entering → Statement → List Statement
 entered_by Nothing s = []

@@ -9,7 +9,7 @@ use Rattle.text_lines.specs.declared.fault.Fault.TheVariants.{Shape, Misnamed, U
 use Rattle.text_lines.specs.declared.fault.Fault.TheVariants.{OutOfRange, PassesLimit, Misplaced}
 use Rattle.text_lines.specs.declared.fault.Fault.TheVariants.{RepeatedHolder, SecondEntry, NoPrice, TooLong}
 use Rattle.text_lines.specs.declared.fault.Fault.TheVariants.{NoFeed, Unprintable, AfterEnd}
-use Rattle.line_shapes.specs.Lines.{HasTailApart, IsInRange, IsNamed, Statement, tail_of}
+use Rattle.line_shapes.specs.Lines.{HasTailApart, IsInRange, IsNamed, Statement, tail_words}
 use Rattle.line_shapes.specs.Places.{place_at}
 use Rattle.line_shapes.specs.declared.keyword.Keyword.{Keyword}
 use Rattle.line_shapes.specs.declared.keyword.Keyword.TheVariants as keyword
@@ -49,8 +49,8 @@ AreAsMany None n = Unit {0}
 AreAsMany (Some wanted) n = n ≡ wanted
 
 -- as many words follow as have to
-abbrev pub IsWhole : Known → Statement → Type 0
-IsWhole k s = AreAsMany (follows (follow_of s.keyword) k) (length (tail_of s))
+abbrev pub IsComplete : Known → Statement → Type 0
+IsComplete k s = AreAsMany (follows (follow_of s.keyword) k) (length (tail_words s))
 
 -- the kind of text has such a line in this section, and in this version
 abbrev pub MayStand : Known → Statement → Type 0
@@ -105,9 +105,9 @@ pub record IsNew (rows : List Statement) (s : Statement) : Type 0 where
   pub names : Keep rule.Free rows s
   pub first : IsFirstOfHead (section_after s.keyword) rows s
 
-abbrev pub HasRoom : Option ℕ → ℕ → Type 0
-HasRoom None n = Unit {0}
-HasRoom (Some most) n = n < most
+abbrev pub IsFewer : Option ℕ → ℕ → Type 0
+IsFewer None n = Unit {0}
+IsFewer (Some most) n = n < most
 
 abbrev pub IsFew : Option ℕ → ℕ → Type 0
 IsFew None n = Unit {0}
@@ -131,26 +131,26 @@ counted_of k word = counted_by (entering_of word) k word
 
 -- there may be one line more of its keyword, and no more words follow than may
 pub record IsWithinLimit (k : Known) (s : Statement) : Type 0 where
-  pub room : HasRoom (most_of k.purpose s.keyword) (counted_of k s.keyword)
-  pub few : IsFew (most_more_of s.keyword) (length (tail_of s))
+  pub room : IsFewer (most_of k.purpose s.keyword) (counted_of k s.keyword)
+  pub few : IsFew (most_more_of s.keyword) (length (tail_words s))
 
 -- a split or a worker has a price
 abbrev pub HasItsPrice : List Statement → Key → Type 0
 HasItsPrice rows key = is_priced key.0 ≡ true → HasRow rows keyword.Price key.1
 
 -- each of them, where there is a plan to check
-abbrev pub IsPriced : Purpose → List Statement → Type 0
-IsPriced Checking rows = All (HasItsPrice rows) (keys_of rows)
-IsPriced Planning rows = Unit {0}
-IsPriced Playing rows = Unit {0}
-IsPriced Running rows = Unit {0}
+abbrev pub AreAllPriced : Purpose → List Statement → Type 0
+AreAllPriced Checking rows = All (HasItsPrice rows) (keys_of rows)
+AreAllPriced Planning rows = Unit {0}
+AreAllPriced Playing rows = Unit {0}
+AreAllPriced Running rows = Unit {0}
 
 -- at the end nothing lacks its price
 abbrev pub IsPricedBefore : Section → Known → Type 0
 IsPricedBefore First k = Unit {0}
 IsPricedBefore Head k = Unit {0}
 IsPricedBefore Body k = Unit {0}
-IsPricedBefore Ended k = IsPriced k.purpose k.rows
+IsPricedBefore Ended k = AreAllPriced k.purpose k.rows
 
 -- ---- the faults
 
@@ -173,13 +173,13 @@ Meets k s AfterEnd = Unit {0}
 
 -- a line that is not whole has no other fault, and a misplaced line no other than that
 abbrev pub Fails : Known → Statement → Fault → Type 0
-Fails k s Shape = IsWhole k s → ⊥
-Fails k s Misplaced = IsWhole k s × (MayStand k s → ⊥)
-Fails k s f = IsWhole k s × MayStand k s × (Meets k s f → ⊥)
+Fails k s Shape = IsComplete k s → ⊥
+Fails k s Misplaced = IsComplete k s × (MayStand k s → ⊥)
+Fails k s f = IsComplete k s × MayStand k s × (Meets k s f → ⊥)
 
 -- the line has no fault
 pub record IsFit (k : Known) (s : Statement) : Type 0 where
-  pub whole : IsWhole k s
+  pub whole : IsComplete k s
   pub may_stand : MayStand k s
   pub named : IsNamed s
   pub known : Keep rule.Declared k.rows s

@@ -3,7 +3,7 @@ use Rattle.std.specs.Prelude.{List, [], ◌∷◌, ◌++◌, ◌⊎◌, Bool, ma
 use Rattle.std.specs.List.{Contains, filter, flat_map}
 use Rattle.std.specs.Str.{bytes_eq}
 use Rattle.text_lines.specs.Texts.{Word}
-use Rattle.line_shapes.specs.Keywords.{text_of}
+use Rattle.line_shapes.specs.Keywords.{spelling_of}
 use Rattle.line_shapes.specs.Lines.{Statement}
 use Rattle.line_shapes.specs.declared.keyword.Keyword.{Keyword}
 use Rattle.line_shapes.specs.declared.keyword.Keyword.TheVariants as keyword
@@ -83,7 +83,7 @@ IsTaken rows name = HasRow rows keyword.Centre name ⊎ (HasRow rows keyword.Rac
     ⊎ (HasRow rows keyword.Worker name ⊎ (HasRow rows keyword.Split name ⊎ HasRow rows keyword.Doc name)))
 
 abbrev pub is_of : Keyword → Statement → Bool
-is_of k s = bytes_eq (text_of k) (text_of s.keyword)
+is_of k s = bytes_eq (spelling_of k) (spelling_of s.keyword)
 
 -- the rows of one keyword
 abbrev pub rows_of : Keyword → List Statement → List Statement

@@ -6,7 +6,7 @@ use Rattle.text_lines.specs.declared.fault.Fault.{Fault}
 use Rattle.line_shapes.specs.Lines.{Says, Statement}
 use Rattle.line_rules.specs.Faults.{IsFit, IsLeastOf}
 use Rattle.line_rules.specs.Known.{Known, entered, known_at}
-use Rattle.line_rules.specs.Texts.{IsLeastFault, Reads}
+use Rattle.line_rules.specs.Texts.{IsLeastFault, ReadsAs}
 use Rattle.line_rules.specs.declared.purpose.Purpose.{Purpose}
 use Rattle.line_rules.specs.declared.reading.LineError.{LineError}
 use Rattle.line_rules.specs.declared.reading.LineError.TheVariants as error
@@ -49,7 +49,7 @@ AreFitLines k (line ∷ lines) (s ∷ ss) = IsFitLine k line s × AreFitLines (e
 -- the text has no fault, and this is what is known after its lines
 pub record IsAllRead (purpose : Purpose) (text : List ℕ) (k : Known) : Type 0 where
   pub statements : List Statement
-  pub reads : Reads purpose text statements
+  pub reads : ReadsAs purpose text statements
   pub fit : AreFitLines (known_at purpose []) (take (length statements) (lines_of text)) statements
   pub known : k ≡ known_at purpose statements
 

@@ -9,7 +9,7 @@ use Rattle.text_lines.specs.declared.fault.Fault.TheVariants.{Unprintable, After
 use Rattle.line_shapes.specs.Lines.{Says, SaysNothing, Statement}
 use Rattle.line_rules.specs.declared.purpose.Purpose.{Purpose}
 use Rattle.line_rules.specs.declared.section.Section.TheVariants.{Ended}
-use Rattle.line_rules.specs.Faults.{Fails, IsWhole}
+use Rattle.line_rules.specs.Faults.{Fails, IsComplete}
 use Rattle.line_rules.specs.Known.{Known, known_at}
 
 -- what the lines say, those that say nothing left out
@@ -20,8 +20,8 @@ Declare (l ∷ ls) [] = SaysNothing l × Declare ls []
 Declare (l ∷ ls) (s ∷ ss) = (Says l s × Declare ls ss) ⊎ (SaysNothing l × Declare ls (s ∷ ss))
 
 -- no fault of the bytes stands in the way of the words
-abbrev pub IsSound : Known → Line → Type 0
-IsSound k line = All IsPrintable line × (k.section ≢ Ended)
+abbrev pub IsLegible : Known → Line → Type 0
+IsLegible k line = All IsPrintable line × (k.section ≢ Ended)
 
 -- a line that has its line feed; it has no shape where it says nothing, or not as many words as have to
 -- follow
@@ -30,8 +30,8 @@ LineHas k line Unprintable = All IsPrintable line → ⊥
 LineHas k line AfterEnd = k.section ≡ Ended
 LineHas k line NoFeed = ⊥
 LineHas k line TooLong = ⊥
-LineHas k line Shape = IsSound k line × ((s : Statement) → Says line s → IsWhole k s → ⊥)
-LineHas k line f = IsSound k line × ((s : Statement) × Says line s × Fails k s f)
+LineHas k line Shape = IsLegible k line × ((s : Statement) → Says line s → IsComplete k s → ⊥)
+LineHas k line f = IsLegible k line × ((s : Statement) × Says line s × Fails k s f)
 
 -- what stands after the last line feed
 abbrev pub RestHas : Known → Line → Fault → Type 0
@@ -64,7 +64,7 @@ pub record IsFaultless (purpose : Purpose) (text : List ℕ) : Type 0 where
   pub none : (i : ℕ) (f : Fault) → Applies purpose text i f → ⊥
 
 -- the statements of a text without a fault: each line but what follows the last line feed says one
-pub record Reads (purpose : Purpose) (text : List ℕ) (ss : List Statement) : Type 0 where
+pub record ReadsAs (purpose : Purpose) (text : List ℕ) (ss : List Statement) : Type 0 where
   pub faultless : IsFaultless purpose text
   pub says : Declare (take (length ss) (lines_of text)) ss
   pub whole : length (lines_of text) ≡ length ss + 1

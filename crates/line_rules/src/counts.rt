@@ -2,7 +2,7 @@ ghost use Rattle.std.specs.Prelude.{◌≡◌, ◌+◌, ◌<◌, ◌↔◌, ℕ,
 ghost use Rattle.line_shapes.specs.declared.keyword.Keyword.TheVariants.{Centre, Doc, Rack, Split, Worker};
 ghost use Rattle.line_rules.specs.Counts.{count_in, one_if};
 ghost use Rattle.line_rules.specs.Entering.{most_of as most};
-ghost use Rattle.line_rules.specs.Faults.{HasRoom};
+ghost use Rattle.line_rules.specs.Faults.{IsFewer};
 
 use crate::entering::most_of;
 use crate::purpose::Purpose;
@@ -34,7 +34,7 @@ impl Counts {
 
     /// Whether there may be one line more of the keyword.
     pub fn has_room(self, purpose: Purpose, keyword: Keyword) -> bool
-        ensures { IsTrue result ↔ HasRoom (most purpose keyword) (count_in self keyword) }
+        ensures { IsTrue result ↔ IsFewer (most purpose keyword) (count_in self keyword) }
     {
         is_below(self.of(keyword), most_of(purpose, keyword))
     }
@@ -88,7 +88,7 @@ impl Counts {
 
 /// Whether the count is below the limit, where there is one.
 pub fn is_below(count: usize, most: Option<usize>) -> bool
-    ensures { IsTrue result ↔ HasRoom most count }
+    ensures { IsTrue result ↔ IsFewer most count }
 {
     match most {
         Some(most) => count < most,

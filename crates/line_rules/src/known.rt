@@ -55,8 +55,8 @@ impl<'t> KnownLines<'t> {
     ghost use Rattle.line_shapes.specs.Lines.{Statement};
     ghost use Rattle.line_shapes.specs.declared.keyword.Keyword.{Keyword};
     ghost use Rattle.line_rules.specs.Entering.{most_of as most_in};
-    ghost use Rattle.line_rules.specs.Faults.{Fails, HasRoom, IsFit, IsLeastOf, IsNew, IsPriced};
-    ghost use Rattle.line_rules.specs.Faults.{IsPricedBefore, IsWhole, Keep};
+    ghost use Rattle.line_rules.specs.Faults.{Fails, IsFewer, IsFit, IsLeastOf, IsNew, AreAllPriced};
+    ghost use Rattle.line_rules.specs.Faults.{IsPricedBefore, IsComplete, Keep};
     ghost use Rattle.line_rules.specs.Faults.{IsWithinLimit, MayStand, counted_of};
     ghost use Rattle.line_rules.specs.Known.{entered, known_at};
     ghost use Rattle.line_rules.specs.Sections.{section_of as section_in};
@@ -107,7 +107,7 @@ impl<'t> KnownLines<'t> {
     // Whether as many words follow those in the places of the line as have to.
     fn is_whole(&self, line: &KeyedLine<'_, 't>) -> bool
         requires { length (places_of line.now.keyword) ≤ length line.now.words.now }
-        ensures { IsTrue result ↔ IsWhole self.now (statement_of line.now) }
+        ensures { IsTrue result ↔ IsComplete self.now (statement_of line.now) }
     {
         let words = line.words.len() - line.keyword.places().len();
         match follow_of(line.keyword) {
@@ -155,7 +155,7 @@ impl<'t> KnownLines<'t> {
 
     fn has_room(&self, line: &KeyedLine<'_, 't>) -> bool
         ensures { IsTrue result
-            ↔ HasRoom (most_in self.now.purpose line.now.keyword) (counted_of self.now line.now.keyword) }
+            ↔ IsFewer (most_in self.now.purpose line.now.keyword) (counted_of self.now line.now.keyword) }
     {
         match entering_of(line.keyword) {
             Entering::InTurn => {
@@ -177,7 +177,7 @@ impl<'t> KnownLines<'t> {
     }
 
     fn is_priced(&self) -> bool
-        ensures { IsTrue result ↔ IsPriced self.now.purpose self.now.rows }
+        ensures { IsTrue result ↔ AreAllPriced self.now.purpose self.now.rows }
     {
         match self.purpose {
             Purpose::Checking => are_priced(&self.rows),

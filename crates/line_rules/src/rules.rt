@@ -3,10 +3,10 @@ ghost use Rattle.std.specs.Prelude.{slice_index_or};
 ghost use Rattle.std.specs.Prelude.{[], All};
 ghost use Rattle.std.specs.Borrow.{Bor};
 ghost use Rattle.text_lines.specs.Texts.{Word};
-ghost use Rattle.line_shapes.specs.Lines.{Statement, stated, statement_of, tail_of};
+ghost use Rattle.line_shapes.specs.Lines.{Statement, stated, statement_of, tail_words};
 ghost use Rattle.line_shapes.specs.Places.{place_at, places_of};
-ghost use Rattle.line_rules.specs.Entering.{Key, entering_of as entering, first_of};
-ghost use Rattle.line_rules.specs.Entering.{most_more_of as most_words, second_of};
+ghost use Rattle.line_rules.specs.Entering.{Key, entering_of as entering, first_key};
+ghost use Rattle.line_rules.specs.Entering.{most_more_of as most_words, second_key};
 ghost use Rattle.line_rules.specs.Faults.{HasItsPrice, IsDeclaredIn, IsFew, IsFirst, IsFirstOfBody};
 ghost use Rattle.line_rules.specs.Faults.{IsFirstOfHead, IsFreeIn, Keep, KeepIn, KeepsTo};
 ghost use Rattle.line_rules.specs.Known.{HasRow, IsDeclared, IsTaken, keys_of};
@@ -144,7 +144,7 @@ pub fn is_first(rows: &Rows<'_>, line: &KeyedLine<'_, '_>) -> bool
 }
 
 fn first_of_key<'t>(line: &KeyedLine<'_, 't>) -> &'t str
-    ensures { result.now ≡ first_of (entering line.now.keyword) (statement_of line.now).words }
+    ensures { result.now ≡ first_key (entering line.now.keyword) (statement_of line.now).words }
 {
     match entering_of(line.keyword) {
         Entering::Nothing | Entering::InTurn | Entering::Alone => "",
@@ -154,7 +154,7 @@ fn first_of_key<'t>(line: &KeyedLine<'_, 't>) -> &'t str
 }
 
 fn second_of_key<'t>(line: &KeyedLine<'_, 't>) -> &'t str
-    ensures { result.now ≡ second_of (entering line.now.keyword) (statement_of line.now).words }
+    ensures { result.now ≡ second_key (entering line.now.keyword) (statement_of line.now).words }
 {
     match entering_of(line.keyword) {
         Entering::Nothing | Entering::InTurn | Entering::Alone => "",
@@ -175,7 +175,8 @@ fn word_at<'t>(words: &[&'t str], place: usize) -> &'t str
 
 /// Whether no more words follow those in the places of the line than may.
 pub fn is_few(line: &KeyedLine<'_, '_>) -> bool
-    ensures { IsTrue result ↔ IsFew (most_words line.now.keyword) (length (tail_of (statement_of line.now))) }
+    ensures { IsTrue result
+        ↔ IsFew (most_words line.now.keyword) (length (tail_words (statement_of line.now))) }
 {
     match most_more_of(line.keyword) {
         Some(most) => line.words.len().saturating_sub(line.keyword.places().len()) <= most,

@@ -1,11 +1,10 @@
--- What holds of the words before a place, and of the one there, holds of those before the next; and the words
--- behind
--- references meet what the words meet.
+-- What holds of the words before a place, and of the one there, holds of those before the next; and the
+-- words behind references meet what the words meet.
 use Rattle.std.proofs.Common.{ℕ, List, [], ◌≡◌, ◌<◌, ◌+◌, inl, inr, length, map, get_or, subst, sym, arith}
 use Rattle.std.proofs.Common.{Bor}
 use Rattle.std.proofs.lemmas.Bool.{cases_lt}
 use Rattle.std.proofs.lemmas.List.{get_or_default, get_or-map, length-map}
-use Rattle.line_shapes.specs.Demands.{Meet, MeetIn, Meets}
+use Rattle.line_shapes.specs.Demands.{Meet, MeetIn, MeetsDemand}
 use Rattle.line_shapes.specs.Places.{place_at}
 use Rattle.line_shapes.specs.declared.demand.Demand.{Demand}
 use Rattle.line_shapes.specs.declared.keyword.Keyword.{Keyword}
@@ -28,11 +27,11 @@ pub meet_words : (demand : Demand) (k : Keyword) (ws : List (Bor (List ℕ))) �
     → Meet demand k (map (λ w. w.now) ws)
 meet_words demand k ws h i lt =
     let inside : i < length ws = rw length-map at lt in
-    subst (Meets demand (place_at k i)) (sym (get_or-map (λ w. w.now) ws i nothing [] inside))
+    subst (MeetsDemand demand (place_at k i)) (sym (get_or-map (λ w. w.now) ws i nothing [] inside))
     (h i nothing inside)
 
 pub meet_in : (demand : Demand) (k : Keyword) (ws : List (Bor (List ℕ))) → Meet demand k (map (λ w. w.now) ws)
     → MeetIn demand k ws
 meet_in demand k ws h i d inside =
-    subst (Meets demand (place_at k i)) (get_or-map (λ w. w.now) ws i d [] inside)
+    subst (MeetsDemand demand (place_at k i)) (get_or-map (λ w. w.now) ws i d [] inside)
     (h i (rw length-map inside))

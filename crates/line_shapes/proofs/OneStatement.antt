@@ -8,7 +8,7 @@ use Rattle.std.specs.Str.{bytes_eq}
 use Rattle.std.proofs.lemmas.List.Splits.{slice_split_first}
 use Rattle.text_lines.specs.Texts.{Line, Word, words_of}
 use Rattle.text_lines.proofs.Splitting.{cut_none}
-use Rattle.line_shapes.specs.Keywords.{text_of}
+use Rattle.line_shapes.specs.Keywords.{spelling_of}
 use Rattle.line_shapes.specs.Lines.{Says, Statement, first_words, has_space, is_space, pieces, words_in}
 use Rattle.line_shapes.specs.Places.{more_of, places_of}
 use Rattle.line_shapes.specs.declared.keyword.Keyword.{Keyword}
@@ -26,39 +26,39 @@ use borrow.Author.Tests.{ltb-true}
 
 abbrev keyword_told : Word → Keyword
 keyword_told w =
-    if bytes_eq w (text_of Problem) then Problem
-    else if bytes_eq w (text_of Script) then Script
-    else if bytes_eq w (text_of Job) then Job
-    else if bytes_eq w (text_of Centre) then Centre
-    else if bytes_eq w (text_of Rack) then Rack
-    else if bytes_eq w (text_of Worker) then Worker
-    else if bytes_eq w (text_of Split) then Split
-    else if bytes_eq w (text_of Barred) then Barred
-    else if bytes_eq w (text_of Dead) then Dead
-    else if bytes_eq w (text_of Busy) then Busy
-    else if bytes_eq w (text_of Parts) then Parts
-    else if bytes_eq w (text_of Target) then Target
-    else if bytes_eq w (text_of Silence) then Silence
-    else if bytes_eq w (text_of Doc) then Doc
-    else if bytes_eq w (text_of Plan) then Plan
-    else if bytes_eq w (text_of Start) then Start
-    else if bytes_eq w (text_of Price) then Price
-    else if bytes_eq w (text_of Begin) then Begin
-    else if bytes_eq w (text_of Wave) then Wave
-    else if bytes_eq w (text_of Done) then Done
-    else if bytes_eq w (text_of Fail) then Fail
-    else if bytes_eq w (text_of Withdraw) then Withdraw
-    else if bytes_eq w (text_of Die) then Die
-    else if bytes_eq w (text_of Join) then Join
-    else if bytes_eq w (text_of Add) then Add
-    else if bytes_eq w (text_of Lose) then Lose
-    else if bytes_eq w (text_of Sweep) then Sweep
-    else if bytes_eq w (text_of Reduce) then Reduce
-    else if bytes_eq w (text_of Copies) then Copies
-    else if bytes_eq w (text_of Backup) then Backup
+    if bytes_eq w (spelling_of Problem) then Problem
+    else if bytes_eq w (spelling_of Script) then Script
+    else if bytes_eq w (spelling_of Job) then Job
+    else if bytes_eq w (spelling_of Centre) then Centre
+    else if bytes_eq w (spelling_of Rack) then Rack
+    else if bytes_eq w (spelling_of Worker) then Worker
+    else if bytes_eq w (spelling_of Split) then Split
+    else if bytes_eq w (spelling_of Barred) then Barred
+    else if bytes_eq w (spelling_of Dead) then Dead
+    else if bytes_eq w (spelling_of Busy) then Busy
+    else if bytes_eq w (spelling_of Parts) then Parts
+    else if bytes_eq w (spelling_of Target) then Target
+    else if bytes_eq w (spelling_of Silence) then Silence
+    else if bytes_eq w (spelling_of Doc) then Doc
+    else if bytes_eq w (spelling_of Plan) then Plan
+    else if bytes_eq w (spelling_of Start) then Start
+    else if bytes_eq w (spelling_of Price) then Price
+    else if bytes_eq w (spelling_of Begin) then Begin
+    else if bytes_eq w (spelling_of Wave) then Wave
+    else if bytes_eq w (spelling_of Done) then Done
+    else if bytes_eq w (spelling_of Fail) then Fail
+    else if bytes_eq w (spelling_of Withdraw) then Withdraw
+    else if bytes_eq w (spelling_of Die) then Die
+    else if bytes_eq w (spelling_of Join) then Join
+    else if bytes_eq w (spelling_of Add) then Add
+    else if bytes_eq w (spelling_of Lose) then Lose
+    else if bytes_eq w (spelling_of Sweep) then Sweep
+    else if bytes_eq w (spelling_of Reduce) then Reduce
+    else if bytes_eq w (spelling_of Copies) then Copies
+    else if bytes_eq w (spelling_of Backup) then Backup
     else End
 
-told_back : (k : Keyword) → keyword_told (text_of k) ≡ k
+told_back : (k : Keyword) → keyword_told (spelling_of k) ≡ k
 told_back Problem = refl
 told_back Script = refl
 told_back Job = refl
@@ -129,17 +129,17 @@ front_pieces (Some (Number least most)) n line = front_words line
 front_pieces (Some Text) n line =
     front_cut (has_space line) (before_first is_space line) line (first_words n (after_first is_space line))
 
-spelled_first : (line : Line) (k : Keyword) (ws : List Word) → words_in k line ≡ text_of k ∷ ws
-    → text_of k ≡ front_of line
+spelled_first : (line : Line) (k : Keyword) (ws : List Word) → words_in k line ≡ spelling_of k ∷ ws
+    → spelling_of k ≡ front_of line
 spelled_first line k ws cut =
     sym (ap first_word cut) ∙ front_pieces (more_of k) (length (places_of k)) line
 
 -- the keyword and the words by which a line is cut are those of what it says
 pub stated_as : (line : Line) (k : Keyword) (ws : List Word) (s : Statement) →
-    words_in k line ≡ text_of k ∷ ws
+    words_in k line ≡ spelling_of k ∷ ws
     → Says line s → s ≡ record { keyword = k; words = ws }
 stated_as line k ws s cut says =
-    let text : text_of s.keyword ≡ text_of k =
+    let text : spelling_of s.keyword ≡ spelling_of k =
     spelled_first line s.keyword s.words says.spelled ∙ sym (spelled_first line k ws cut) in
     let keyword : s.keyword ≡ k = sym (told_back s.keyword) ∙ ap keyword_told text ∙ told_back k in
     let words : s.words ≡ ws =
@@ -150,5 +150,5 @@ pub says-unique : (line : Line) (s t : Statement) → Says line s → Says line 
 says-unique line s t a b = stated_as line t.keyword t.words s b.spelled a
 
 -- no two keywords are spelled alike
-pub text_of-injective : (j k : Keyword) → text_of j ≡ text_of k → j ≡ k
-text_of-injective j k same = sym (told_back j) ∙ ap keyword_told same ∙ told_back k
+pub spelling_of-injective : (j k : Keyword) → spelling_of j ≡ spelling_of k → j ≡ k
+spelling_of-injective j k same = sym (told_back j) ∙ ap keyword_told same ∙ told_back k

@@ -25,27 +25,27 @@ IsNamedIn (Some (Used kind)) w = IsName w
 IsNamedIn (Some (Number least most)) w = Unit {0}
 IsNamedIn (Some Text) w = Unit {0}
 
-abbrev pub IsWithin : ℕ → ℕ → Word → Type 0
-IsWithin least most w = IsNumber w × (least ≤ number_of w) × (number_of w ≤ most)
+abbrev pub IsNumberWithin : ℕ → ℕ → Word → Type 0
+IsNumberWithin least most w = IsNumber w × (least ≤ number_of w) × (number_of w ≤ most)
 
 -- a number is within its range
 abbrev pub IsWithinIn : Option Place → Word → Type 0
 IsWithinIn None w = Unit {0}
 IsWithinIn (Some New) w = Unit {0}
 IsWithinIn (Some (Used kind)) w = Unit {0}
-IsWithinIn (Some (Number least most)) w = IsWithin least most w
+IsWithinIn (Some (Number least most)) w = IsNumberWithin least most w
 IsWithinIn (Some Text) w = Unit {0}
 
-abbrev pub Meets : Demand → Option Place → Word → Type 0
-Meets Shape place w = HasShape place w
-Meets Name place w = IsNamedIn place w
-Meets Range place w = IsWithinIn place w
+abbrev pub MeetsDemand : Demand → Option Place → Word → Type 0
+MeetsDemand Shape place w = HasShape place w
+MeetsDemand Name place w = IsNamedIn place w
+MeetsDemand Range place w = IsWithinIn place w
 
 -- each word after the keyword meets the demand
 abbrev pub Meet : Demand → Keyword → List Word → Type 0
-Meet demand k ws = (i : ℕ) → i < length ws → Meets demand (place_at k i) (slice_index_or ws i [])
+Meet demand k ws = (i : ℕ) → i < length ws → MeetsDemand demand (place_at k i) (slice_index_or ws i [])
 
 -- the same of words behind references
 abbrev pub MeetIn : Demand → Keyword → List (Bor (List ℕ)) → Type 0
 MeetIn demand k ws = (i : ℕ) (d : Bor (List ℕ)) → i < length ws
-    → Meets demand (place_at k i) (slice_index_or ws i d).now
+    → MeetsDemand demand (place_at k i) (slice_index_or ws i d).now

@@ -10,7 +10,7 @@ use Rattle.line_shapes.specs.declared.line.KeyedLine.{KeyedLine}
 use Rattle.line_shapes.specs.declared.place.Place.{Place}
 use Rattle.line_shapes.specs.declared.place.Place.TheVariants.{New, Used, Number, Text}
 use Rattle.line_shapes.specs.Demands.{Meet}
-use Rattle.line_shapes.specs.Keywords.{text_of}
+use Rattle.line_shapes.specs.Keywords.{spelling_of}
 use Rattle.line_shapes.specs.Places.{more_of, places_of}
 
 -- ---- the words of a line
@@ -54,7 +54,7 @@ pub record IsShaped (s : Statement) : Type 0 where
 
 -- the line says this
 pub record Says (line : Line) (s : Statement) : Type 0 where
-  pub spelled : words_in s.keyword line ≡ text_of s.keyword ∷ s.words
+  pub spelled : words_in s.keyword line ≡ spelling_of s.keyword ∷ s.words
   pub many : length (places_of s.keyword) ≤ length s.words
   pub shape : Meet Shape s.keyword s.words
 
@@ -78,11 +78,11 @@ Differ (Some (Number least most)) ws = Unit {0}
 Differ (Some Text) ws = Unit {0}
 
 -- the words after the places
-abbrev pub tail_of : Statement → List Word
-tail_of s = drop (length (places_of s.keyword)) s.words
+abbrev pub tail_words : Statement → List Word
+tail_words s = drop (length (places_of s.keyword)) s.words
 
 abbrev pub HasTailApart : Statement → Type 0
-HasTailApart s = Differ (more_of s.keyword) (tail_of s)
+HasTailApart s = Differ (more_of s.keyword) (tail_words s)
 
 -- ---- lines of the code
 

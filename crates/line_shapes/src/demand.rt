@@ -1,7 +1,8 @@
 ghost use Rattle.std.specs.Prelude.{◌≡◌, ◌↔◌, ◌≤◌, ◌<◌, ℕ, IsTrue};
 ghost use Rattle.text_lines.specs.Texts.{Word, number_of};
 ghost use Rattle.line_shapes.specs.Places.{place_at};
-ghost use Rattle.line_shapes.specs.Demands.{HasShape, IsNamedIn, IsWithin, IsWithinIn, MeetIn, Meets};
+ghost use Rattle.line_shapes.specs.Demands.{HasShape, IsNamedIn, IsNumberWithin, IsWithinIn};
+ghost use Rattle.line_shapes.specs.Demands.{MeetIn, MeetsDemand};
 
 use crate::keyword::Keyword;
 use crate::place::Place;
@@ -36,7 +37,7 @@ pub fn meet(demand: Demand, keyword: Keyword, words: &[&str]) -> bool
 #[inline(always)]
 fn asked(demand: Demand, keyword: Keyword, count: usize) -> usize
     ensures within { result ≤ count }
-    ensures rest { (i : ℕ) (w : Word) → result ≤ i → i < count → Meets demand (place_at keyword i) w }
+    ensures rest { (i : ℕ) (w : Word) → result ≤ i → i < count → MeetsDemand demand (place_at keyword i) w }
 {
     if any_meets(demand, keyword.more()) {
         count.min(keyword.places().len())
@@ -48,7 +49,7 @@ fn asked(demand: Demand, keyword: Keyword, count: usize) -> usize
 // Whether any word that may follow the places meets the demand; told of ranges alone.
 #[inline(always)]
 fn any_meets(demand: Demand, more: Option<Place>) -> bool
-    ensures { IsTrue result → (w : Word) → Meets demand more w }
+    ensures { IsTrue result → (w : Word) → MeetsDemand demand more w }
 {
     match (demand, more) {
         (Demand::Shape | Demand::Name, _) => false,
@@ -59,7 +60,7 @@ fn any_meets(demand: Demand, more: Option<Place>) -> bool
 
 #[inline(always)]
 fn meets(demand: Demand, place: Option<Place>, word: &str) -> bool
-    ensures { IsTrue result ↔ Meets demand place word.now }
+    ensures { IsTrue result ↔ MeetsDemand demand place word.now }
 {
     match demand {
         Demand::Shape => has_shape(place, word),
@@ -110,7 +111,7 @@ fn is_within_in(place: Option<Place>, word: &str) -> bool
 
 // Whether the word is a number of at least and at most so much.
 fn is_within(word: &str, least: u64, most: u64) -> bool
-    ensures { IsTrue result ↔ IsWithin least most word.now }
+    ensures { IsTrue result ↔ IsNumberWithin least most word.now }
 {
     match Number::of(word) {
         Some(number) => is_between(number, least, most),

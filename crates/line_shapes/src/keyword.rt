@@ -1,6 +1,6 @@
 ghost use Rattle.std.specs.Prelude.{◌≡◌, ◌∷◌, MatchOption, ℕ, List};
 ghost use Rattle.text_lines.specs.Texts.{Word};
-ghost use Rattle.line_shapes.specs.Keywords.{text_of};
+ghost use Rattle.line_shapes.specs.Keywords.{spelling_of};
 ghost use Rattle.line_shapes.specs.Lines.{words_after, words_in};
 ghost use Rattle.line_shapes.specs.declared.keyword.Keyword.{Keyword};
 
@@ -44,12 +44,13 @@ pub enum Keyword {
 }
 
 impl Keyword {
-    ghost use Rattle.line_shapes.specs.Keywords.{text_of};
+    ghost use Rattle.line_shapes.specs.Keywords.{spelling_of};
     ghost use Rattle.line_shapes.specs.declared.keyword.Keyword.{Keyword};
 
     /// The keyword that is spelled so.
     pub fn of(word: &str) -> Option<Keyword>
-        ensures { MatchOption result ((k : Keyword) → text_of k ≡ word.now → ⊥) (λ k. text_of k ≡ word.now) }
+        ensures { MatchOption result ((k : Keyword) → spelling_of k ≡ word.now → ⊥)
+            (λ k. spelling_of k ≡ word.now) }
     {
         match word {
             "problem" => Some(Keyword::Problem),
@@ -157,8 +158,8 @@ impl Keyword {
 /// The keyword of a line, and what follows the space after it; no word after it is looked at.
 pub fn keyword_of(line: &str) -> Option<(Keyword, Option<&str>)>
     ensures { MatchOption result
-        ((k : Keyword) (ws : List Word) → words_in k line.entry.now ≡ text_of k ∷ ws → ⊥)
-        (λ cut. words_in cut.0 line.entry.now ≡ text_of cut.0 ∷ words_after cut.0 cut.1) }
+        ((k : Keyword) (ws : List Word) → words_in k line.entry.now ≡ spelling_of k ∷ ws → ⊥)
+        (λ cut. words_in cut.0 line.entry.now ≡ spelling_of cut.0 ∷ words_after cut.0 cut.1) }
 {
     let (first, rest) = first_word(line);
     Some((Keyword::of(first)?, rest))

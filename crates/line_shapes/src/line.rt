@@ -27,7 +27,7 @@ pub fn said_by<'w, 't>(keyword: Keyword, words: &'w [&'t str]) -> Option<KeyedLi
 
 impl<'w, 't> KeyedLine<'w, 't> {
     ghost use Rattle.std.specs.Prelude.{◌↔◌, ◌≡◌, ◌≤◌, IsTrue, length, map};
-    ghost use Rattle.line_shapes.specs.Lines.{HasTailApart, IsInRange, IsNamed, statement_of, tail_of};
+    ghost use Rattle.line_shapes.specs.Lines.{HasTailApart, IsInRange, IsNamed, statement_of, tail_words};
     ghost use Rattle.line_shapes.specs.Places.{places_of};
 
     /// Whether the words in the places of names are names.
@@ -61,7 +61,7 @@ impl<'w, 't> KeyedLine<'w, 't> {
     // The words after the places.
     fn tail(&self) -> &'w [&'t str]
         requires { length (places_of self.now.keyword) ≤ length self.now.words.now }
-        ensures { map (λ w. w.now) result.now ≡ tail_of (statement_of self.now) }
+        ensures { map (λ w. w.now) result.now ≡ tail_words (statement_of self.now) }
     {
         &self.words[self.keyword.places().len()..]
     }

@@ -10,7 +10,7 @@ use Rattle.worker_table.specs.Workers.{Workers, is_silent, swept}
 use Rattle.master_state.specs.declared.answers.Why.TheVariants.{HistoryFull}
 use Rattle.master_state.specs.declared.events.Event.TheVariants as events
 use Rattle.master_state.specs.States.{State}
-use Rattle.master_state.specs.Refusals.{Sweep, first_of, has_no_sweep}
+use Rattle.master_state.specs.Refusals.{Sweep, first_true, has_no_sweep}
 use Rattle.master_state.specs.Changes.{died, with_sweep}
 use Rattle.master_state.specs.Jobs.{IsAccepted, event_of}
 use Rattle.master_state.proofs.Sweeping.{heard_state}
@@ -33,7 +33,7 @@ swept_is s counts dead table next heard silent buried =
     (sym (filter_agree (has_number dead) (is_silent table) silent (range_with_len 0 (length table.each))))
     ∙ buried
 
-one_reason : (x : Bool) → x ≡ false → first_of ((x, HistoryFull) ∷ []) ≡ None
+one_reason : (x : Bool) → x ≡ false → first_true ((x, HistoryFull) ∷ []) ≡ None
 one_reason x e = rw e refl
 
 -- a master after the deaths of a sweep

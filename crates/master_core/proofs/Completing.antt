@@ -11,6 +11,8 @@ use Rattle.std.proofs.lemmas.Option.{same_Some, none-some}
 use Rattle.node_ids.specs.Updates.{updated}
 use Rattle.node_ids.proofs.Updating.{length-updated, get-updated_same, get-updated_other}
 use Rattle.word_map.specs.Runs.{MapView}
+use Rattle.word_map.specs.Texts.{same_text}
+use Rattle.word_map.proofs.TextLemmas.{Decides-same_text}
 use Rattle.shuffle_reduce.specs.Merged.{PartView}
 use Rattle.worker_table.specs.declared.Worker.{Worker}
 use Rattle.worker_table.specs.Workers.{Workers, taken_slots, with_slot_given}
@@ -21,13 +23,12 @@ use Rattle.master_state.specs.declared.states.Work.TheVariants as works
 use Rattle.master_state.specs.declared.states.SplitState.{SplitState}
 use Rattle.master_state.specs.declared.states.SplitState.TheVariants as states
 use Rattle.master_state.specs.States.{Setup, State, start_of, worker_of}
-use Rattle.master_state.specs.Refusals.{MapDone, PartDone, first_of, is_full, is_same_text, is_wrong_map}
-use Rattle.master_state.specs.Refusals.{is_wrong_part, no_part_runs, no_split_runs, refusal, text_of}
+use Rattle.master_state.specs.Refusals.{MapDone, PartDone, first_true, is_full, is_wrong_map}
+use Rattle.master_state.specs.Refusals.{is_wrong_part, no_part_runs, no_split_runs, refusal, split_text}
 use Rattle.master_state.specs.Tests.{attempts_of, is_numbered, split_at}
 use Rattle.master_state.specs.Changes.{done_by, part_done_by, with_map_done, with_part_done}
 use Rattle.master_state.specs.Tidy.{IsTidy, IsToldAs}
 use Rattle.master_state.specs.Jobs.{IsAccepted, event_of}
-use Rattle.master_state.proofs.Facts.{same_text}
 use Rattle.master_state.proofs.Lists.{updated-agree}
 use Rattle.master_state.proofs.Places.{done_at, part_done_at, part_running_is, split_running_is, worker_in}
 use Rattle.master_state.proofs.Running.{TakesSlot, split_takes_slots}
@@ -124,11 +125,11 @@ split_taken setup s split tidy =
 pub of_split : (setup : Setup) (split : ℕ) (result : MapView) → is_wrong_map setup split result ≡ false →
     IsOfSplit setup split result
 of_split setup split result right =
-    let tests = or_parts (not (is_same_text result.text (text_of setup split)))
+    let tests = or_parts (not (same_text result.text (split_text setup split)))
     (not (result.parts == setup.cluster.parts)) right in
     record {
-      text = (same_text result.text (text_of setup split)).0
-          (not-false (is_same_text result.text (text_of setup split)) tests.0);
+      text = (Decides-same_text result.text (split_text setup split)).0
+          (not-false (same_text result.text (split_text setup split)) tests.0);
       parts = eqb-true result.parts setup.cluster.parts
           (not-false (result.parts == setup.cluster.parts) tests.1);
     }
@@ -166,23 +167,23 @@ made_done setup one made entries k of were split attempt result found = elim (ca
 pub map_refusal : (setup : Setup) (s : State) (a split w : ℕ) (result : MapView) → IsTidy setup s →
     RunsSplit s a split w → no_split_runs s a ≡ false →
     refusal setup s (MapDone a result)
-    ≡ first_of ((is_wrong_map setup split result, WrongInput) ∷ (is_full setup s, HistoryFull) ∷ [])
+    ≡ first_true ((is_wrong_map setup split result, WrongInput) ∷ (is_full setup s, HistoryFull) ∷ [])
 map_refusal setup s a split w result tidy run runs =
     rw (runs, split_running_is setup s a split tidy run.runs) refl
 
 pub part_refusal : (setup : Setup) (s : State) (a r w : ℕ) (result : PartView) → IsTidy setup s →
     RunsPart s a r w → no_part_runs s a ≡ false →
     refusal setup s (PartDone a result)
-    ≡ first_of ((is_wrong_part setup r result, WrongInput) ∷ (is_full setup s, HistoryFull) ∷ [])
+    ≡ first_true ((is_wrong_part setup r result, WrongInput) ∷ (is_full setup s, HistoryFull) ∷ [])
 part_refusal setup s a r w result tidy run runs =
     rw (runs, part_running_is setup s a r tidy run.runs) refl
 
 pub first_reason : (x y : Bool) → x ≡ true →
-    first_of ((x, WrongInput) ∷ (y, HistoryFull) ∷ []) ≡ Some WrongInput
+    first_true ((x, WrongInput) ∷ (y, HistoryFull) ∷ []) ≡ Some WrongInput
 first_reason x y e = rw e refl
 
 pub second_reason : (x y : Bool) → x ≡ false → y ≡ true →
-    first_of ((x, WrongInput) ∷ (y, HistoryFull) ∷ []) ≡ Some HistoryFull
+    first_true ((x, WrongInput) ∷ (y, HistoryFull) ∷ []) ≡ Some HistoryFull
 second_reason x y e f = rw (e, f) refl
 
 pub done_accepted : (old new : Inside) (a split w place : ℕ) (entry : SplitEntry) (result : MapView) →

@@ -13,7 +13,7 @@ use Rattle.master_state.specs.declared.states.Work.{Work}
 use Rattle.master_state.specs.declared.states.Work.TheVariants as works
 use Rattle.master_state.specs.declared.answers.Why.{Why}
 use Rattle.master_state.specs.States.{Setup, State, start_of, worker_of}
-use Rattle.master_state.specs.Refusals.{first_of}
+use Rattle.master_state.specs.Refusals.{first_true}
 use Rattle.master_state.specs.Tests.{is_numbered, attempts_of, part_attempts, split_at, part_at}
 use Rattle.master_state.specs.Changes.{without_attempts, part_without, without_attempt, with_map_failed}
 use Rattle.master_state.specs.Tidy.{IsTidy, IsToldAs}
@@ -88,7 +88,7 @@ part_ended_is setup s a r w tidy run =
     rw (on, places.0, places.1) refl
 
 -- the answers of a call with two reasons
-pub no_reason : (x y : Bool) (p q : Why) → x ≡ false → y ≡ false → first_of ((x, p) ∷ (y, q) ∷ []) ≡ None
+pub no_reason : (x y : Bool) (p q : Why) → x ≡ false → y ≡ false → first_true ((x, p) ∷ (y, q) ∷ []) ≡ None
 no_reason x y p q e f = rw (e, f) refl
 
 pub is_false : (b : Bool) → true ≡ not b → b ≡ false

@@ -1,18 +1,17 @@
 -- Whether a result that is handed in is of its split, or of its part.
-use Rattle.std.proofs.Common.{◌≡◌, ℕ, ◌<◌, ◌&&◌, ◌||◌, List, get_or, length, Bool, true, false}
+use Rattle.std.proofs.Common.{◌≡◌, ℕ, ◌<◌, ◌||◌, List, get_or, length, Bool, true, false}
 use Rattle.std.proofs.Common.{not, refl, ap, ◌∙◌, sym, arith}
 use Rattle.std.specs.Prelude.{◌↔◌, IsTrue, slice_index_or}
 use Rattle.std.proofs.lemmas.Bool.Decides.{same_from_decides}
-use Rattle.std.proofs.lemmas.Bool.{and_parts, and_from}
 use Rattle.std.proofs.lemmas.List.{length-map}
 use Rattle.std.specs.Arc.{arc_value}
 use Rattle.std.specs.declared.alloc.Global.{Global}
 use Rattle.std.specs.declared.sync.Arc.{Arc}
-use Rattle.word_map.specs.Texts.{SplitDocuments}
+use Rattle.word_map.specs.Texts.{SplitDocuments, same_text}
+use Rattle.word_map.proofs.TextLemmas.{Decides-same_text}
 use Rattle.shuffle_reduce.specs.Gather.{values_of}
-use Rattle.shuffle_reduce.specs.Merged.{AreSameTexts}
-use Rattle.master_state.specs.Refusals.{are_among, is_same_text}
-use Rattle.master_state.proofs.Facts.{among, are_among-all, same_text}
+use Rattle.shuffle_reduce.specs.Merged.{AreSameTexts, same_texts}
+use Rattle.shuffle_reduce.proofs.CoverLemmas.{Decides-same_texts}
 use Rattle.master_core.proofs.Found.{at_mapped}
 
 -- the text at a place of a list of pointers
@@ -29,26 +28,20 @@ text_at texts given i k one d same place at inside =
 
 -- texts that were compared
 pub compared : (r : Bool) (a b x y : SplitDocuments) → IsTrue r ↔ (a ≡ b) → a ≡ x → b ≡ y →
-    r ≡ is_same_text x y
+    r ≡ same_text x y
 compared r a b x y told first second =
-    same_from_decides r (is_same_text x y) (
+    same_from_decides r (same_text x y) (
       (λ e. sym first ∙ told.0 e ∙ second),
       (λ e. told.1 (first ∙ e
           ∙ sym second)),
-    ) (same_text x y)
+    ) (Decides-same_text x y)
 
 -- lists of texts that were compared
 pub covered : (r : Bool) (xs ys : List SplitDocuments) → IsTrue r ↔ AreSameTexts xs ys →
-    r ≡ (are_among xs ys && are_among ys xs)
+    r ≡ same_texts xs ys
 covered r xs ys told =
-    same_from_decides {P = AreSameTexts xs ys} r (are_among xs ys && are_among ys xs)
-    ((λ e. told.0 e), (λ same. told.1 same)) (
-      (λ e.
-          let both = and_parts (are_among xs ys) (are_among ys xs) e in
-          λ text. (among xs ys both.0 text, among ys xs both.1 text)),
-      (λ same. and_from (are_among xs ys) (are_among ys xs)
-          (are_among-all xs ys (λ text. (same text).0)) (are_among-all ys xs (λ text. (same text).1))),
-    )
+    same_from_decides {P = AreSameTexts xs ys} r (same_texts xs ys)
+    ((λ e. told.0 e), (λ same. told.1 same)) (Decides-same_texts xs ys)
 
 -- the tests of a result, one after another
 pub wrong_first : (x p q : Bool) → x ≡ p → x ≡ false → not x ≡ (not p || q)

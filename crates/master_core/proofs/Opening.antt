@@ -10,7 +10,7 @@ use Rattle.master_state.specs.declared.states.SplitState.TheVariants as states
 use Rattle.master_state.specs.declared.states.PartState.{PartState}
 use Rattle.master_state.specs.declared.states.PartState.TheVariants as part
 use Rattle.master_state.specs.declared.events.Event.{Event}
-use Rattle.master_state.specs.States.{Setup, State, IsWhole, AreSmall, opening}
+use Rattle.master_state.specs.States.{Setup, State, IsWhole, AreAllowed, opening}
 use Rattle.master_state.specs.Jobs.{IsKept}
 use Rattle.shuffle_reduce.specs.Merged.{PartView}
 use Rattle.master_tables.specs.declared.entries.SplitEntry.{SplitEntry}
@@ -61,7 +61,7 @@ pub made_from : (setup : Setup) (entries : List SplitEntry) →
 made_from setup entries is = rw is (made_opening setup setup.cluster.splits)
 
 pub kept_from : (setup : Setup) (history : List Event) (state : State) (results : List PartView) →
-    history ≡ [] → state ≡ opening setup → results ≡ [] → IsWhole setup.cluster → AreSmall setup.limits →
+    history ≡ [] → state ≡ opening setup → results ≡ [] → IsWhole setup.cluster → AreAllowed setup.limits →
     IsKept (record { setup = setup; history = history; state = state; results = results })
 kept_from setup history state results none begun no_result whole small =
     rw (none, begun, no_result) (opening_is_kept setup whole small)

@@ -7,7 +7,7 @@ use Rattle.std.specs.declared.alloc.Global.{Global}
 use Rattle.std.specs.declared.sync.Arc.{Arc}
 use Rattle.std.proofs.lemmas.List.{map-append, take_more}
 use Rattle.std.proofs.lemmas.List.Elements.{All-push}
-use Rattle.shuffle_reduce.specs.Gather.{AreOfPart, texts_of}
+use Rattle.shuffle_reduce.specs.Gather.{AreOfPart, texts_of_runs}
 use Rattle.std.specs.Prelude.{slice_index_or}
 use Rattle.std.proofs.lemmas.Option.{slice_get-get_or}
 use Rattle.word_map.specs.Texts.{SplitDocuments}
@@ -39,8 +39,8 @@ pub run_replied : (cluster : Cluster) (runs later : List (Arc RunView Global)) (
     (run : Arc RunView Global) → later ≡ runs ++ run ∷ [] → i < length cluster.texts →
     (arc_value run).part ≡ part → (arc_value run).parts ≡ cluster.parts →
     (arc_value run).text ≡ slice_index_or cluster.texts i (record { split = i; documents = [] }) →
-    AreOfPart runs part cluster.parts → texts_of runs ≡ take i cluster.texts →
-    AreOfPart later part cluster.parts × (texts_of later ≡ take (i + 1) cluster.texts)
+    AreOfPart runs part cluster.parts → texts_of_runs runs ≡ take i cluster.texts →
+    AreOfPart later part cluster.parts × (texts_of_runs later ≡ take (i + 1) cluster.texts)
 run_replied cluster runs later part i run is inside same_part same_parts same_text of_part texts =
     let none : SplitDocuments = record { split = i; documents = [] } in
     let text : Arc RunView Global → SplitDocuments = λ one. (arc_value one).text in (

@@ -135,7 +135,7 @@ impl Cluster {
     /// How many parts the words are divided into.
     pub fn parts(&self) -> usize
         ensures count { result ≡ self.now.parts }
-        ensures limit { result ≤ 64 }
+        ensures most { result ≤ 64 }
         ensures some { 1 ≤ result }
     {
         self.parts

@@ -23,7 +23,7 @@ ghost use Rattle.price_certificate.specs.Certificate.{IsFirstFailure};
 ghost use Rattle.certificate_checker.specs.Verdict.{IsCertified};
 ghost use Rattle.shuffle_reduce.specs.Gather.{values_of};
 ghost use Rattle.block_map.specs.Copies.{AreCopies, holdings};
-ghost use Rattle.master_state.specs.States.{AreSmall, opening, start_of};
+ghost use Rattle.master_state.specs.States.{AreAllowed, opening, start_of};
 ghost use Rattle.master_state.specs.Tests.{next_part, next_worker};
 ghost use Rattle.master_state.specs.Steps.{problem_of};
 ghost use Rattle.master_state.specs.Refusals.{
@@ -151,7 +151,7 @@ impl Model for Master {
 impl Master {
     /// The master of a job of which nothing has happened, with room for all that the limits allow.
     pub fn new(alloc: Global, cluster: Cluster, limits: Limits) -> Result<Master, AllocError>
-        requires { AreSmall limits }
+        requires { AreAllowed limits }
         ensures setup { IfOk result (λ m. m.setup ≡ record { cluster = cluster; limits = limits }) }
         ensures history { IfOk result (λ m. m.history ≡ []) }
         ensures state { IfOk result (λ m. m.state ≡ opening m.setup) }
@@ -202,7 +202,7 @@ impl Master {
     pub fn events(&self) -> u32
         ensures count { result ≡ length self.now.history }
         ensures state { result ≡ self.now.state.events }
-        ensures limit { result ≤ 65536 }
+        ensures most { result ≤ 65536 }
     {
         self.history.len() as u32
     }

@@ -1,6 +1,6 @@
 ghost use Rattle.std.specs.Prelude.{◌≡◌, ◌<◌, length, map, true, IfOk};
 ghost use Rattle.std.specs.List.{list_all};
-ghost use Rattle.shuffle_reduce.specs.Gather.{AreOfPart, texts_of};
+ghost use Rattle.shuffle_reduce.specs.Gather.{AreOfPart, texts_of_runs};
 ghost use Rattle.master_state.specs.declared.states.Limits.{Limits};
 ghost use Rattle.master_state.specs.Tests.{is_done};
 ghost use Rattle.master_tables.specs.Entries.{shown_as};
@@ -33,7 +33,7 @@ pub fn runs_of(
     requires made { (limits : Limits) →
         AreOfSplits (record { cluster = cluster.now; limits = limits }) entries.now }
     ensures of_part { IfOk result (λ runs. AreOfPart runs.items part cluster.now.parts) }
-    ensures texts { IfOk result (λ runs. texts_of runs.items ≡ cluster.now.texts) }
+    ensures texts { IfOk result (λ runs. texts_of_runs runs.items ≡ cluster.now.texts) }
 {
     let mut runs = Vec::with_capacity(alloc, entries.len())?;
     for entry in entries {

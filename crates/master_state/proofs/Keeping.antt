@@ -1,15 +1,16 @@
 -- A master keeps its promises by every call that is accepted, and by every wave.
-use Rattle.std.proofs.Common.{◌≡◌, ◌≢◌, ℕ, ◌+◌, ◌==◌, ◌&&◌, ◌||◌, List, [], ◌∷◌, ◌++◌, length}
+use Rattle.std.proofs.Common.{◌≡◌, ◌≢◌, ℕ, ◌+◌, ◌==◌, ◌||◌, List, [], ◌∷◌, ◌++◌, length}
 use Rattle.std.proofs.Common.{map, cond, Bool, true, false, not, None, refl, sym, ap, ◌∙◌}
 use Rattle.std.proofs.Common.{arith, inl, inr}
 use Rattle.std.specs.Prelude.{fold, filter, slice_index_or}
 use Rattle.std.specs.List.{list_any, list_all, range_with_len}
-use Rattle.std.proofs.lemmas.Bool.{false≢true, eqb-true, eq-eqb, ne_eqb, cases_eq, not-false, and_parts}
+use Rattle.std.proofs.lemmas.Bool.{false≢true, eqb-true, eq-eqb, ne_eqb, cases_eq, not-false}
 use Rattle.std.proofs.lemmas.Bool.{or_parts}
 use Rattle.std.proofs.lemmas.List.{append-nil}
 use Rattle.std.proofs.lemmas.List.Elements.{All-nil, All-push}
 use Rattle.std.proofs.lemmas.List.Sums.{sum_by_push}
-use Rattle.shuffle_reduce.specs.Merged.{PartView}
+use Rattle.shuffle_reduce.specs.Merged.{PartView, same_texts}
+use Rattle.shuffle_reduce.proofs.CoverLemmas.{Decides-same_texts}
 use Rattle.shuffle_reduce.specs.Indexed.{count_of}
 use Rattle.wave_problem.specs.Assignment.{pairs_of}
 use Rattle.worker_table.specs.Workers.{has_free_slot, is_silent, swept}
@@ -22,13 +23,11 @@ use Rattle.master_state.specs.Tests.{is_numbered, is_on, is_done, part_runs, par
 use Rattle.master_state.specs.Tests.{part_is_done, part_is_pending, next_part, next_worker, next_on}
 use Rattle.master_state.specs.Refusals.{Call, MapDone, MapFailed, Withdraw, Die, Join, Add, Lose, Sweep}
 use Rattle.master_state.specs.Refusals.{ReduceStart, PartDone, PartFailed, Backup, refusal, reasons}
-use Rattle.master_state.specs.Refusals.{are_among}
 use Rattle.master_state.specs.Changes.{after, after_wave, split_started, died, part_without, part_done_by}
 use Rattle.master_state.specs.Tidy.{IsTidy}
 use Rattle.master_state.specs.Jobs.{AreResults, IsResult, added_by}
 use Rattle.master_state.specs.Laws.{CallsKeep, WavesKeep, OpeningIsKept}
 use Rattle.master_state.proofs.Lists.{at-map, at-updated_other, at-updated_same, any_inside, any_found}
-use Rattle.master_state.proofs.Facts.{among}
 use Rattle.master_state.proofs.Reasons.{none_applies}
 use Rattle.master_state.proofs.Places.{found_part, told_part, part_runs_alone, part_done_by_none}
 use Rattle.master_state.proofs.Starting.{all_started}
@@ -118,20 +117,15 @@ results_more setup s a result results tidy allowed kept =
     let here = part_running s a in
     let run = found_part s a none.0 in
     let start = told_part setup s a here tidy run in
-    let covers = are_among result.texts setup.cluster.texts && are_among setup.cluster.texts result.texts in
+    let covers = same_texts result.texts setup.cluster.texts in
     let parts = or_parts (not (result.part == here) || not (result.parts == setup.cluster.parts)) (not covers)
     none.1.0 in
     let numbers = or_parts (not (result.part == here)) (not (result.parts == setup.cluster.parts)) parts.0 in
     let part_is : result.part ≡ here = eqb-true result.part here (not-false (result.part == here) numbers.0)
     in
-    let texts = and_parts (are_among result.texts setup.cluster.texts)
-    (are_among setup.cluster.texts result.texts) (not-false covers parts.1) in
     record {
       each = All-push (IsResult setup) results result kept.each (record {
-        texts = λ text. (
-          among result.texts setup.cluster.texts texts.0 text,
-          among setup.cluster.texts result.texts texts.1 text,
-        );
+        texts = (Decides-same_texts result.texts setup.cluster.texts).0 (not-false covers parts.1);
         parts = eqb-true result.parts setup.cluster.parts (not-false (result.parts == setup.cluster.parts)
             numbers.1);
       });

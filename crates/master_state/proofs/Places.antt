@@ -27,7 +27,6 @@ use Rattle.master_state.specs.Refusals.{no_split_runs, no_part_runs}
 use Rattle.master_state.specs.Changes.{without_attempts, part_without, done_by, part_done_by}
 use Rattle.master_state.specs.Tidy.{IsTidy, IsToldAs}
 use Rattle.master_state.proofs.Lists.{All-flat_map, map-updated, map-kept, any_found}
-use Rattle.master_state.proofs.Lists.{All-flat_map, map-updated, map-kept, any_found}
 
 -- the start of this work on this worker
 abbrev pub start_on : Work → ℕ → Start

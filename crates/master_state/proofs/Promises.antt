@@ -2,11 +2,14 @@
 use Rattle.std.proofs.Common.{◌≡◌, ◌≢◌, ℕ, List, [], ◌∷◌, ◌++◌, map, Bool, true, false, not, Option, Some}
 use Rattle.std.proofs.Common.{None, refl, sym, ap, ◌∙◌, arith, inl, inr, All, subst}
 use Rattle.std.specs.List.{list_any}
-use Rattle.std.proofs.lemmas.Bool.{false≢true, eq-eqb, ne_eqb, cases_eq, not_from_true, or_from, and_from}
+use Rattle.std.proofs.lemmas.Bool.{false≢true, eq-eqb, ne_eqb, cases_eq, not_from_true, or_from}
 use Rattle.std.proofs.lemmas.List.Elements.{All-from_get_or, All-map}
 use Rattle.std.proofs.lemmas.List.Folds.{list_any_none}
 use Rattle.word_map.specs.Runs.{MapView}
+use Rattle.word_map.specs.Texts.{same_text}
+use Rattle.word_map.proofs.TextLemmas.{Decides-same_text}
 use Rattle.shuffle_reduce.specs.Merged.{PartView, AreSameTexts}
+use Rattle.shuffle_reduce.proofs.CoverLemmas.{Decides-same_texts}
 use Rattle.master_state.specs.declared.answers.Why.{Why}
 use Rattle.master_state.specs.declared.answers.Why.TheVariants.{OldAttempt, WrongInput, HistoryFull}
 use Rattle.master_state.specs.declared.events.Event.{Event}
@@ -18,8 +21,8 @@ use Rattle.master_state.specs.declared.states.SplitState.TheVariants.{Pending, R
 use Rattle.master_state.specs.States.{Setup, State, opening, worker_of}
 use Rattle.master_state.specs.Tests.{is_numbered, is_on, attempts_of, runs, split_at, split_running}
 use Rattle.master_state.specs.Tests.{part_running, all_parts_done}
-use Rattle.master_state.specs.Refusals.{MapDone, first_of, text_of, is_full, no_split_runs, no_part_runs}
-use Rattle.master_state.specs.Refusals.{is_wrong_map, is_wrong_part, is_same_text, are_among}
+use Rattle.master_state.specs.Refusals.{MapDone, first_true, split_text, is_full, no_split_runs, no_part_runs}
+use Rattle.master_state.specs.Refusals.{is_wrong_map, is_wrong_part}
 use Rattle.master_state.specs.Changes.{after, without_attempts, after_death, done_by}
 use Rattle.master_state.specs.Steps.{Step, Leads}
 use Rattle.master_state.specs.Laws.{EveryWaveIsBest, ResultsAsToldAreRight, PartsAsToldAreRight}
@@ -27,7 +30,6 @@ use Rattle.master_state.specs.Laws.{SecondResultsAreOld, TheOtherGoesOn, GoesOnA
 use Rattle.master_state.specs.Tidy.{IsTidy, IsToldAs}
 use Rattle.master_state.proofs.Lists.{at-map}
 use Rattle.master_state.proofs.Less.{without_first, without_second}
-use Rattle.master_state.proofs.Facts.{same_text, are_among-all}
 use Rattle.master_state.proofs.Places.{worker_in, told_split, told_part, one_split, one_part, runs_alone}
 use Rattle.master_state.proofs.Places.{found_split, found_part, done_by_none}
 use Rattle.master_state.proofs.Ending.{attempts-done_by}
@@ -65,19 +67,19 @@ is_wrong_input (Some WrongInput) = true
 is_wrong_input other = false
 
 not_wrong : (old wrong full : Bool) → (old ≡ false → wrong ≡ false) →
-    first_of ((old, OldAttempt) ∷ (wrong, WrongInput) ∷ (full, HistoryFull) ∷ []) ≡ Some WrongInput → ⊥
+    first_true ((old, OldAttempt) ∷ (wrong, WrongInput) ∷ (full, HistoryFull) ∷ []) ≡ Some WrongInput → ⊥
 not_wrong true wrong full right e = false≢true (ap is_wrong_input e)
 not_wrong false true full right e = false≢true (sym (right refl))
 not_wrong false false true right e = false≢true (ap is_wrong_input e)
 not_wrong false false false right e = false≢true (ap is_wrong_input e)
 
-right_map : (setup : Setup) (k : ℕ) (result : MapView) → result.text ≡ text_of setup k →
+right_map : (setup : Setup) (k : ℕ) (result : MapView) → result.text ≡ split_text setup k →
     result.parts ≡ setup.cluster.parts →
     is_wrong_map setup k result ≡ false
 right_map setup k result text parts =
-    or_from (not (is_same_text result.text (text_of setup k))) _
-    (not_from_true (is_same_text result.text (text_of setup k))
-    ((same_text result.text (text_of setup k)).1 text))
+    or_from (not (same_text result.text (split_text setup k))) _
+    (not_from_true (same_text result.text (split_text setup k))
+    ((Decides-same_text result.text (split_text setup k)).1 text))
     (not_from_true _ (eq-eqb result.parts setup.cluster.parts parts))
 
 pub results_as_told_are_right : ResultsAsToldAreRight
@@ -97,10 +99,7 @@ right_part setup r result part parts same =
     let part_is = not_from_true _ (eq-eqb result.part r part) in
     let parts_are = not_from_true _ (eq-eqb result.parts setup.cluster.parts parts) in
     let texts_are =
-    not_from_true _ (and_from (are_among result.texts setup.cluster.texts)
-    (are_among setup.cluster.texts result.texts)
-    (are_among-all result.texts setup.cluster.texts (λ text. (same text).0))
-    (are_among-all setup.cluster.texts result.texts (λ text. (same text).1))) in
+    not_from_true _ ((Decides-same_texts result.texts setup.cluster.texts).1 same) in
     rw (part_is, parts_are, texts_are) refl
 
 pub parts_as_told_are_right : PartsAsToldAreRight

@@ -5,14 +5,14 @@ use Rattle.std.specs.Prelude.{is_some}
 use Rattle.std.proofs.lemmas.Bool.{true≢false, leb-false, ltb-false, or_parts}
 use Rattle.master_state.specs.declared.answers.Why.{Why}
 use Rattle.master_state.specs.States.{Setup, State}
-use Rattle.master_state.specs.Refusals.{first_of, is_full, has_no_room, has_no_sweep}
+use Rattle.master_state.specs.Refusals.{first_true, is_full, has_no_room, has_no_sweep}
 
 -- each test is false
 abbrev pub NoneApplies : List (Bool × Why) → Type 0
 NoneApplies [] = Unit {0}
 NoneApplies (reason ∷ others) = (reason.0 ≡ false) × NoneApplies others
 
-pub none_applies : (reasons : List (Bool × Why)) → first_of reasons ≡ None → NoneApplies reasons
+pub none_applies : (reasons : List (Bool × Why)) → first_true reasons ≡ None → NoneApplies reasons
 none_applies [] none = tt
 none_applies ((true, why) ∷ others) none = absurd (true≢false (ap is_some none))
 none_applies ((false, why) ∷ others) none = (refl, none_applies others none)

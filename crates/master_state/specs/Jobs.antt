@@ -8,7 +8,7 @@ use Rattle.wave_problem.specs.Assignment.{pairs_of}
 use Rattle.price_certificate.specs.Certificate.{Claim, Certifies, IsFirstFailure, claim}
 use Rattle.price_certificate.specs.PriceList.{PriceList}
 use Rattle.shuffle_reduce.specs.Merged.{PartView, AreSameTexts}
-use Rattle.shuffle_reduce.specs.Gather.{AreOfPart, texts_of}
+use Rattle.shuffle_reduce.specs.Gather.{AreOfPart, texts_of_runs}
 use Rattle.shuffle_reduce.specs.Indexed.{count_of}
 use Rattle.worker_table.specs.Workers.{swept, is_silent}
 use Rattle.master_state.specs.declared.answers.Answer.{Answer}
@@ -28,7 +28,7 @@ use Rattle.master_state.specs.declared.answers.CommitError.TheVariants as commit
 use Rattle.master_state.specs.declared.answers.Wave.{Wave}
 use Rattle.master_state.specs.declared.events.Event.{Event}
 use Rattle.master_state.specs.declared.events.Event.TheVariants as events
-use Rattle.master_state.specs.States.{Setup, State, IsWhole, AreSmall, next_attempt}
+use Rattle.master_state.specs.States.{Setup, State, IsWhole, AreAllowed, next_attempt}
 use Rattle.master_state.specs.Tests.{all_running, is_done, part_is_done, part_at, next_part, next_worker}
 use Rattle.master_state.specs.Refusals.{Call, MapDone, MapFailed, Withdraw, Die, Join, Add, Lose, Sweep}
 use Rattle.master_state.specs.Refusals.{ReduceStart, PartDone, PartFailed, Backup, refusal, has_no_room}
@@ -102,7 +102,7 @@ pub record IsReply (old : Job) (reply : Reply) : Type 0 where
   pub part : reply.part ≡ next_part old.state
   pub worker : reply.worker ≡ next_worker old.state
   pub of_part : AreOfPart reply.runs.items reply.part old.setup.cluster.parts
-  pub texts : texts_of reply.runs.items ≡ old.setup.cluster.texts
+  pub texts : texts_of_runs reply.runs.items ≡ old.setup.cluster.texts
 
 -- want of memory is answered only where there is no other reason
 abbrev pub AnswersReduce : Job → ReduceAnswer → Job → Type 0
@@ -136,9 +136,8 @@ lacks_room job plan = has_no_room job.setup job.state (length (pairs_of plan))
 abbrev pub present : Job → List (Option ℕ) → PriceList → Claim
 present job plan prices = claim (problem_of job.setup job.state) plan prices
 
--- What the answer to a commit says. Whether there is room, and whether the prices certify the plan, is asked
--- of
--- the present state; want of memory comes between the two.
+-- What the answer to a commit says. Whether there is room, and whether the prices certify the plan, is
+-- asked of the present state; want of memory comes between the two.
 abbrev pub AnswersCommit : Job → List (Option ℕ) → PriceList → Result Wave CommitError → Job → Type 0
 AnswersCommit old plan prices (Ok wave) new =
     Certifies (present old plan prices) × IsCommitted old plan wave new
@@ -172,7 +171,7 @@ pub record AreResults (setup : Setup) (s : State) (results : List PartView) : Ty
 -- what every master keeps
 pub record IsKept (job : Job) : Type 0 where
   pub whole : IsWhole job.setup.cluster
-  pub small : AreSmall job.setup.limits
+  pub small : AreAllowed job.setup.limits
   pub legal : IsLegal job.setup job.history job.state
   pub tidy : IsTidy job.setup job.state
   pub results : AreResults job.setup job.state job.results

@@ -8,9 +8,10 @@ use Rattle.master_state.specs.declared.events.Event.TheVariants as events
 use Rattle.master_state.specs.declared.states.Attempt.{Attempt}
 use Rattle.master_state.specs.declared.states.Work.TheVariants as works
 use Rattle.master_state.specs.declared.states.SplitState.TheVariants.{Running}
-use Rattle.master_state.specs.States.{Setup, State, IsWhole, AreSmall, opening, start_of}
+use Rattle.master_state.specs.States.{Setup, State, IsWhole, AreAllowed, opening, start_of}
 use Rattle.master_state.specs.Tests.{runs, split_at}
-use Rattle.master_state.specs.Refusals.{Call, MapDone, MapFailed, Withdraw, Die, PartDone, refusal, text_of}
+use Rattle.master_state.specs.Refusals.{Call, MapDone, MapFailed, Withdraw, Die, PartDone, refusal}
+use Rattle.master_state.specs.Refusals.{split_text}
 use Rattle.master_state.specs.Changes.{after}
 use Rattle.master_state.specs.Steps.{Leads, IsLegal, IsWave}
 use Rattle.master_state.specs.Tidy.{IsTidy}
@@ -35,7 +36,7 @@ WavesKeep =
 
 abbrev pub OpeningIsKept : Type 0
 OpeningIsKept =
-    (setup : Setup) → IsWhole setup.cluster → AreSmall setup.limits →
+    (setup : Setup) → IsWhole setup.cluster → AreAllowed setup.limits →
     IsKept (record { setup = setup; history = []; state = opening setup; results = [] })
 
 -- what came before a wave leads to a state in which it is best, and from its change on the later events lead
@@ -60,7 +61,7 @@ abbrev pub ResultsAsToldAreRight : Type 0
 ResultsAsToldAreRight =
     (setup : Setup) (s : State) (a split w : ℕ) (result : MapView) → IsTidy setup s →
     start_of s a ≡ Some (record { work = works.Split split; worker = w }) →
-    result.text ≡ text_of setup split → result.parts ≡ setup.cluster.parts →
+    result.text ≡ split_text setup split → result.parts ≡ setup.cluster.parts →
     refusal setup s (MapDone a result) ≡ Some WrongInput → ⊥
 
 -- or of the part and all texts

@@ -2,12 +2,10 @@
 use Rattle.std.specs.Prelude.{ℕ, ◌+◌, ◌<◌, ◌==◌, ◌&&◌, ◌||◌, nat_le, nat_lt, Bool, false, not, if◌then◌else◌}
 use Rattle.std.specs.Prelude.{List, [], ◌∷◌, length, Option, Some, None, slice_index_or}
 use Rattle.std.specs.List.{list_any, list_all}
-use Rattle.std.specs.Ordering.{is_eq}
 use Rattle.node_ids.specs.Sets.{Has}
-use Rattle.word_map.specs.Texts.{SplitDocuments}
+use Rattle.word_map.specs.Texts.{SplitDocuments, same_text}
 use Rattle.word_map.specs.Runs.{MapView}
-use Rattle.shuffle_reduce.specs.Merged.{PartView}
-use Rattle.shuffle_reduce.specs.Order.{text_cmp}
+use Rattle.shuffle_reduce.specs.Merged.{PartView, same_texts}
 use Rattle.worker_table.specs.Workers.{is_live, is_barred, has_free_slot, worker_at}
 use Rattle.block_map.specs.Holdings.{holders_of, is_holder, are_eight, has_eight_among}
 use Rattle.master_state.specs.declared.answers.Why.{Why}
@@ -69,28 +67,20 @@ no_split_runs s a = not (list_any (runs a) s.splits)
 abbrev pub no_part_runs : State → ℕ → Bool
 no_part_runs s a = not (list_any (part_runs a) s.parts)
 
--- the texts are equal
-abbrev pub is_same_text : SplitDocuments → SplitDocuments → Bool
-is_same_text a b = is_eq (text_cmp a b)
-
--- each text of one list stands in the other
-abbrev pub are_among : List SplitDocuments → List SplitDocuments → Bool
-are_among texts others = list_all (λ text. list_any (is_same_text text) others) texts
-
 -- the text of a split, by its place
-abbrev pub text_of : Setup → ℕ → SplitDocuments
-text_of setup split = slice_index_or setup.cluster.texts split (record { split = split; documents = [] })
+abbrev pub split_text : Setup → ℕ → SplitDocuments
+split_text setup split = slice_index_or setup.cluster.texts split (record { split = split; documents = [] })
 
 -- the result is not of the split, its text and the number of parts
 abbrev pub is_wrong_map : Setup → ℕ → MapView → Bool
 is_wrong_map setup split result =
-    not (is_same_text result.text (text_of setup split)) || not (result.parts == setup.cluster.parts)
+    not (same_text result.text (split_text setup split)) || not (result.parts == setup.cluster.parts)
 
 -- the result is of another part or number of parts, or does not cover the cluster's texts
 abbrev pub is_wrong_part : Setup → ℕ → PartView → Bool
 is_wrong_part setup r result =
     not (result.part == r) || not (result.parts == setup.cluster.parts)
-    || not (are_among result.texts setup.cluster.texts && are_among setup.cluster.texts result.texts)
+    || not (same_texts result.texts setup.cluster.texts)
 
 -- a split is not done, or no part is pending, or no live worker has a free slot
 abbrev pub is_not_reducible : State → Bool
@@ -145,10 +135,10 @@ reasons setup s (Backup split w) =
     ∷ (has_no_room setup s 1, HistoryFull) ∷ []
 
 -- the first reason whose test is true
-abbrev pub first_of : List (Bool × Why) → Option Why
-first_of [] = None
-first_of (reason ∷ others) = if reason.0 then Some reason.1 else first_of others
+abbrev pub first_true : List (Bool × Why) → Option Why
+first_true [] = None
+first_true (reason ∷ others) = if reason.0 then Some reason.1 else first_true others
 
 -- why a call is ignored, if it is
 abbrev pub refusal : Setup → State → Call → Option Why
-refusal setup s call = first_of (reasons setup s call)
+refusal setup s call = first_true (reasons setup s call)

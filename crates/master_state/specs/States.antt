@@ -80,7 +80,7 @@ pub record IsWhole (c : Cluster) : Type 0 where
   pub silence : 1 ≤ c.silence
 
 -- the rooms that a master may have
-pub record AreSmall (limits : Limits) : Type 0 where
+pub record AreAllowed (limits : Limits) : Type 0 where
   pub events : limits.events ≤ 65536
   pub attempts : limits.attempts ≤ 1000000
   pub sweeps : limits.sweeps ≤ limits.events

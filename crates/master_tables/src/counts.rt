@@ -10,7 +10,7 @@ use master_state::PartState;
 pub fn running_maps(entries: &[SplitEntry]) -> u32
     requires { length entries.now ≤ 1024 }
     ensures count { result ≡ length (flat_map attempts_of (map shown_as entries.now)) }
-    ensures limit { result ≤ 2048 }
+    ensures most { result ≤ 2048 }
 {
     let mut count = 0;
     for entry in entries {
@@ -21,7 +21,7 @@ pub fn running_maps(entries: &[SplitEntry]) -> u32
 
 fn attempts_in(entry: &SplitEntry) -> u32
     ensures count { result ≡ length (attempts_of (shown_as entry.now)) }
-    ensures limit { result ≤ 2 }
+    ensures most { result ≤ 2 }
 {
     match entry {
         SplitEntry::Pending => 0,
@@ -35,7 +35,7 @@ fn attempts_in(entry: &SplitEntry) -> u32
 pub fn running_parts(parts: &[PartState]) -> u32
     requires { length parts.now ≤ 64 }
     ensures count { result ≡ length (flat_map part_attempts parts.now) }
-    ensures limit { result ≤ 64 }
+    ensures most { result ≤ 64 }
 {
     let mut count = 0;
     for part in parts {

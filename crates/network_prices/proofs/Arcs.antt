@@ -6,11 +6,11 @@ use Rattle.std.proofs.lemmas.List.{get_or_append_left, get_or_push, length-appen
 use Rattle.flow_network.specs.declared.arcs.FlowArc.{FlowArc}
 use Rattle.flow_network.specs.Flow.{Flow}
 use Rattle.flow_network.specs.Flows.{no_arc, arc_at}
-use Rattle.network_prices.specs.Networks.{Stands, IsArcFrom}
+use Rattle.network_prices.specs.Networks.{HasArc, IsArcFrom}
 use Rattle.network_prices.specs.Building.{IsEmptyWithin, IsAdded}
 
 -- an arc that stands, by its number
-pub arc_standing : (arcs : List FlowArc) (a : FlowArc) → Stands arcs a →
+pub arc_standing : (arcs : List FlowArc) (a : FlowArc) → HasArc arcs a →
     (k : ℕ) × IsArcFrom arcs k a.from a.to a.capacity a.cost
 arc_standing arcs a stands = (
   stands.0,
@@ -30,11 +30,11 @@ at_old arcs a k l = get_or_append_left arcs (a ∷ []) no_arc k l
 pub at_new : (arcs : List FlowArc) (a : FlowArc) → arc_at (arcs ++ a ∷ []) (length arcs) ≡ a
 at_new arcs a = get_or_push arcs a no_arc (length arcs) refl
 
-pub stands_on : (arcs : List FlowArc) (a b : FlowArc) → Stands arcs b → Stands (arcs ++ a ∷ []) b
+pub stands_on : (arcs : List FlowArc) (a b : FlowArc) → HasArc arcs b → HasArc (arcs ++ a ∷ []) b
 stands_on arcs a b s = let size = length-append arcs (a ∷ []) in let l = s.1 in
     (s.0, omega arith, at_old arcs a s.0 s.1 ∙ s.2)
 
-pub stands_new : (arcs : List FlowArc) (a : FlowArc) → Stands (arcs ++ a ∷ []) a
+pub stands_new : (arcs : List FlowArc) (a : FlowArc) → HasArc (arcs ++ a ∷ []) a
 stands_new arcs a = let size = length-append arcs (a ∷ []) in (length arcs, omega arith, at_new arcs a)
 
 -- where each arc has a property, and the one that is added

@@ -18,7 +18,8 @@ use Rattle.price_certificate.specs.declared.Condition.TheVariants.{WorkerPrice, 
 use Rattle.price_certificate.specs.declared.Condition.TheVariants.{Spare}
 use Rattle.price_certificate.specs.Certificate.{claim, Certifies, split_price, worker_price}
 use Rattle.network_prices.specs.Ways.{IsAmong, IsInner, CameFrom}
-use Rattle.network_prices.specs.Pending.{IsUsable, pending_below, pending_splits}
+use Rattle.network_prices.specs.Pending.{pending_below, pending_splits}
+use Rattle.wave_problem.specs.Wave.{IsUsable}
 use Rattle.network_prices.specs.Networks.{WaveNodes, way_of, IsOffer, IsWaveNetwork}
 use Rattle.network_prices.specs.Prices.{IsShipped, end_of, IsPlanOf, ArePricesOf, CostsAsMuch}
 use Rattle.network_prices.specs.Prices.{FlowCostsAsPlan, PricesCertify}

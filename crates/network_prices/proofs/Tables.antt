@@ -8,9 +8,9 @@ use Rattle.flow_network.specs.Flow.{Flow}
 use Rattle.flow_network.specs.Flows.{arc_at}
 use Rattle.flow_network.specs.Laws.{outroom}
 use Rattle.wave_problem.specs.Sums.{sum_below}
-use Rattle.network_prices.specs.Networks.{Stands}
+use Rattle.network_prices.specs.Networks.{HasArc}
 use Rattle.network_prices.specs.Building.{IsAdded}
-use Rattle.network_prices.specs.Tables.{IsBefore, AreRising, AreRows, AreRowsTo, IsBuiltTo}
+use Rattle.network_prices.specs.Tables.{IsBefore, AreRisingArcs, AreRows, AreRowsTo, IsBuiltTo}
 use Rattle.network_prices.proofs.Arcs.{at_old, at_new, stands_on, stands_new, each_push, add_empty, more_room}
 use Rattle.network_prices.proofs.Sums.{part_more}
 
@@ -29,8 +29,8 @@ before_past : (a b : FlowArc) (v y : ℕ) → IsBefore a b.from b.to → IsBefor
 before_past a b v y first (inl l) = later a b.from b.to v y (inl l) first
 before_past a b v y first (inr e) = let less = e.1 in later a b.from b.to v y (inr (e.0, omega arith)) first
 
-rising_push : (arcs : List FlowArc) (a : FlowArc) → AreRising arcs
-    → ((k : ℕ) → k < length arcs → IsBefore (arc_at arcs k) a.from a.to) → AreRising (arcs ++ a ∷ [])
+rising_push : (arcs : List FlowArc) (a : FlowArc) → AreRisingArcs arcs
+    → ((k : ℕ) → k < length arcs → IsBefore (arc_at arcs k) a.from a.to) → AreRisingArcs (arcs ++ a ∷ [])
 rising_push arcs a rising before j k less l =
     let size = length-append arcs (a ∷ []) in
     subst (λ (b : FlowArc). IsBefore b (arc_at (arcs ++ a ∷ []) k).from (arc_at (arcs ++ a ∷ []) k).to)
@@ -70,7 +70,7 @@ module _ {D : Type 0} (wanted : D → Type 0) (arc : D → FlowArc) where
     sound = each_push IsOf arcs (arc d) rows.sound (d, want, refl);
     complete = λ e wish before. elim (between e wish before) [
       | inl was ↦ stands_on arcs (arc d) (arc e) (rows.complete e wish was)
-      | inr same ↦ subst (Stands (arcs ++ arc d ∷ [])) (sym same) (stands_new arcs (arc d))
+      | inr same ↦ subst (HasArc (arcs ++ arc d ∷ [])) (sym same) (stands_new arcs (arc d))
     ];
     rising = rising_push arcs (arc d) rows.rising first;
     before = each_push (λ a. IsBefore a v y) arcs (arc d)
@@ -132,7 +132,7 @@ module _ {D : Type 0} (wanted : D → Type 0) (arc : D → FlowArc) where
     }
 
 -- arcs that rise have one place each
-pub one_place : (arcs : List FlowArc) (j k : ℕ) → AreRising arcs → j < length arcs → k < length arcs
+pub one_place : (arcs : List FlowArc) (j k : ℕ) → AreRisingArcs arcs → j < length arcs → k < length arcs
     → (arc_at arcs j).from ≡ (arc_at arcs k).from → (arc_at arcs j).to ≡ (arc_at arcs k).to → j ≡ k
 one_place arcs j k rising l m from to = elim (cases_eq j k) [
   | inl e ↦ e
@@ -146,7 +146,7 @@ one_place arcs j k rising l m from to = elim (cases_eq j k) [
 ]
 
 -- where each arc leads to a later node, none leads to a start before it
-pub rising_ends : (arcs : List FlowArc) → AreRising arcs
+pub rising_ends : (arcs : List FlowArc) → AreRisingArcs arcs
     → ((k : ℕ) → k < length arcs → (arc_at arcs k).from < (arc_at arcs k).to)
     → (j k : ℕ) → j ≤ k → k < length arcs → (arc_at arcs j).from < (arc_at arcs k).to
 rising_ends arcs rising onward j k less l =
@@ -259,7 +259,7 @@ place_or_not (a ∷ arcs) v x = elim (place_or_not arcs v x) [
     not_first first none zero l e f = first e f
     not_first first none (suc k) l e f = none k (omega arith) e f
 
-room_is : (arcs : List FlowArc) (v x room : ℕ) → AreRising arcs → IsRoom arcs v x room →
+room_is : (arcs : List FlowArc) (v x room : ℕ) → AreRisingArcs arcs → IsRoom arcs v x room →
     room_at arcs v x ≡ room
 room_is arcs v x room rising is = elim (place_or_not arcs v x) [
   | inl found ↦ at_one arcs v x found.0 found.1 found.2 found.3
@@ -272,7 +272,7 @@ room_is arcs v x room rising is = elim (place_or_not arcs v x) [
 ]
 
 -- the arcs that leave v lead to nodes from base on: what they can carry together, end by end
-pub outroom-rows : (arcs : List FlowArc) (v base n : ℕ) (f : ℕ → ℕ) → AreRising arcs
+pub outroom-rows : (arcs : List FlowArc) (v base n : ℕ) (f : ℕ → ℕ) → AreRisingArcs arcs
     → ((k : ℕ) → k < length arcs → (arc_at arcs k).from ≡ v → base ≤ (arc_at arcs k).to)
     → ((k : ℕ) → k < length arcs → (arc_at arcs k).from ≡ v → (arc_at arcs k).to < base + n)
     → ((i : ℕ) → i < n → IsRoom arcs v (base + i) (f i)) → outroom arcs v ≡ sum_below n f

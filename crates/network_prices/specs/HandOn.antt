@@ -20,12 +20,11 @@ pub record IsMoved (old new : List ℕ) (u v units : ℕ) : Type 0 where
 abbrev pub Passes : List FlowArc → ℕ → ℕ → Type 0
 Passes arcs sink v = (k : ℕ) → k < length arcs → (arc_at arcs k).from ≡ v → (arc_at arcs k).to ≡ sink → ⊥
 
-abbrev pub Ends : List FlowArc → ℕ → ℕ → Type 0
-Ends arcs sink v = (k : ℕ) → k < length arcs → (arc_at arcs k).from ≡ v → (arc_at arcs k).to ≡ sink
+abbrev pub EndsAtSink : List FlowArc → ℕ → ℕ → Type 0
+EndsAtSink arcs sink v = (k : ℕ) → k < length arcs → (arc_at arcs k).from ≡ v → (arc_at arcs k).to ≡ sink
 
 -- what is asked of a flow and its units' first places: each arc leads to a node past the starts of those
--- before it,
--- and a node that gives to another than the sink gives to others alone, and just what it has
+-- before it, and a node that gives to another than the sink gives to others alone, and just what it has
 pub record CanHandOn (arcs : List FlowArc) (flows : List ℕ) (sink : ℕ) (first : List ℕ) : Type 0 where
   pub sizes : length flows ≡ length arcs
   pub ordered : (j k : ℕ) → j ≤ k → k < length arcs → (arc_at arcs j).from < (arc_at arcs k).to
@@ -47,7 +46,7 @@ pub record IsHandedOn (arcs : List FlowArc) (flows : List ℕ) (sink : ℕ) (fir
   pub passing : (v : ℕ) → (v ≡ sink → ⊥) → Passes arcs sink v
       → standing now v + outflow (take j arcs) (take j flows) v
       ≡ inflow (take j arcs) (take j flows) v + standing first v
-  pub ending : (v : ℕ) → (v ≡ sink → ⊥) → Ends arcs sink v
+  pub ending : (v : ℕ) → (v ≡ sink → ⊥) → EndsAtSink arcs sink v
       → standing now v ≡ inflow (take j arcs) (take j flows) v + standing first v
 
 -- the same in the midst of it: the places below i have been looked at, and so many units are left to move

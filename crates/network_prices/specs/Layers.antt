@@ -1,6 +1,6 @@
--- Networks in layers: the splits, nodes that hand units on, the workers, the node of the splits that are not
--- started,
--- and the sink. Whatever lies between splits and workers, a plan is read off a flow in one way.
+-- Networks in layers: the splits, nodes that hand units on, the workers, the node of the splits that are
+-- not started, and the sink. Whatever lies between splits and workers, a plan is read off a flow in one
+-- way.
 use Rattle.std.specs.Prelude.{◌≡◌, ℕ, ◌+◌, ◌<◌, ◌≤◌, true, List, length, slice_index, Option, Some, None, ◌⊎◌}
 use Rattle.flow_network.specs.declared.arcs.FlowArc.{FlowArc}
 use Rattle.flow_network.specs.Flows.{arc_at}
@@ -24,9 +24,8 @@ HandsOn wave first u = ((split_at wave u).pending ≡ true) ⊎ ((length wave.sp
 abbrev pub IsWorkerNode : Wave → ℕ → ℕ → Type 0
 IsWorkerNode wave first v = (w : ℕ) × (w < length wave.workers) × (v ≡ first + w)
 
--- Each arc leads past the starts of those before it, and none to a split. It leaves a node that hands on, and
--- not for
--- the sink; or it leaves a worker or the node of the splits that are not started, for the sink.
+-- Each arc leads past the starts of those before it, and none to a split. It leaves a node that hands on,
+-- and not for the sink; or it leaves a worker or the node of the splits that are not started, for the sink.
 pub record IsLayered (wave : Wave) (first : ℕ) (arcs : List FlowArc) : Type 0 where
   pub past_splits : length wave.splits ≤ first
   pub onward : (j k : ℕ) → j ≤ k → k < length arcs → (arc_at arcs j).from < (arc_at arcs k).to

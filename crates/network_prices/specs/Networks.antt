@@ -3,8 +3,8 @@ use Rattle.std.specs.Prelude.{◌≡◌, ℕ, ◌<◌, ◌≤◌, true, List, �
 use Rattle.flow_network.specs.declared.arcs.FlowArc.{FlowArc}
 use Rattle.flow_network.specs.Flows.{arc_at}
 use Rattle.flow_network.specs.Laws.{outroom}
-use Rattle.wave_problem.specs.Wave.{Wave, IsAdmissible, split_at, worker_at, cost, reward}
-use Rattle.network_prices.specs.Pending.{IsUsable, pending_splits}
+use Rattle.wave_problem.specs.Wave.{Wave, IsAdmissible, split_at, worker_at, cost, reward, IsUsable}
+use Rattle.network_prices.specs.Pending.{pending_splits}
 use Rattle.network_prices.specs.Ways.{IsAmong, IsWay, IsInner}
 
 -- the nodes of a network but for the splits, whose nodes are their numbers
@@ -19,8 +19,8 @@ abbrev pub way_of : WaveNodes → ℕ → List ℕ
 way_of nodes w = nodes.worker w ∷ nodes.above w
 
 -- an arc stands in a list
-abbrev pub Stands : List FlowArc → FlowArc → Type 0
-Stands arcs a = (k : ℕ) × (k < length arcs) × (arc_at arcs k ≡ a)
+abbrev pub HasArc : List FlowArc → FlowArc → Type 0
+HasArc arcs a = (k : ℕ) × (k < length arcs) × (arc_at arcs k ≡ a)
 
 -- an arc by its number
 pub record IsArcFrom (arcs : List FlowArc) (k u v capacity cost : ℕ) : Type 0 where

@@ -1,6 +1,6 @@
--- The splits of a wave that wait for a start, and the workers that can take one.
-use Rattle.std.specs.Prelude.{ℕ, zero, suc, ◌≡◌, ◌<◌, true, cond, List, [], ◌∷◌, ◌++◌, length}
-use Rattle.wave_problem.specs.Wave.{Wave, split_at, worker_at}
+-- The splits of a wave that wait for a start.
+use Rattle.std.specs.Prelude.{ℕ, zero, suc, cond, List, [], ◌∷◌, ◌++◌, length}
+use Rattle.wave_problem.specs.Wave.{Wave, split_at}
 
 -- the pending splits below a number, and all of them, rising
 abbrev pub pending_below : Wave → ℕ → List ℕ
@@ -10,7 +10,3 @@ pending_below wave (suc n) = cond (split_at wave n).pending (pending_below wave 
 
 abbrev pub pending_splits : Wave → List ℕ
 pending_splits wave = pending_below wave (length wave.splits)
-
--- a live worker with a free slot
-abbrev pub IsUsable : Wave → ℕ → Type 0
-IsUsable wave w = ((worker_at wave w).live ≡ true) × (0 < (worker_at wave w).free)

@@ -5,11 +5,11 @@ use Rattle.flow_network.specs.declared.arcs.FlowArc.{FlowArc}
 use Rattle.flow_network.specs.Flows.{outflow, NoNegative}
 use Rattle.flow_network.specs.Laws.{flow_cost}
 use Rattle.augmenting_paths.specs.Shipping.{IsCheapest, IsShipment}
-use Rattle.wave_problem.specs.Wave.{Wave, split_at, cost, reward}
+use Rattle.wave_problem.specs.Wave.{Wave, split_at, cost, reward, IsUsable}
 use Rattle.wave_problem.specs.Assignment.{start_of, pairs_of, load, total}
 use Rattle.price_certificate.specs.PriceList.{PriceList}
 use Rattle.price_certificate.specs.Certificate.{claim, Certifies, split_price, worker_price}
-use Rattle.network_prices.specs.Pending.{IsUsable, pending_splits}
+use Rattle.network_prices.specs.Pending.{pending_splits}
 use Rattle.network_prices.specs.Ways.{deepest, CameFrom}
 use Rattle.network_prices.specs.Networks.{WaveNodes, way_of, IsWaveNetwork}
 
@@ -22,9 +22,8 @@ abbrev pub end_of : WaveNodes → Option ℕ → ℕ
 end_of nodes None = nodes.unstarted
 end_of nodes (Some w) = nodes.worker w
 
--- each pending split has a way of units to its worker's node, or to that of the splits that are not started,
--- and
--- a worker's load is what flows out of it
+-- each pending split has a way of units to its worker's node, or to that of the splits that are not
+-- started, and a worker's load is what flows out of it
 pub record IsPlanOf (wave : Wave) (nodes : WaveNodes) (arcs : List FlowArc) (flows : List ℕ)
     (starts : List (Option ℕ)) : Type 0 where
   pub size : length starts ≡ length wave.splits
@@ -36,8 +35,7 @@ pub record IsPlanOf (wave : Wave) (nodes : WaveNodes) (arcs : List FlowArc) (flo
       load (pairs_of starts) w ≡ outflow arcs flows (nodes.worker w)
 
 -- prices of a plan by how far below 0 the potentials lie: a slot of a usable worker costs as much as the
--- deepest
--- node on its way up, another nothing; a started split costs what its start leaves of the reward
+-- deepest node on its way up, another nothing; a started split costs what its start leaves of the reward
 pub record ArePricesOf (wave : Wave) (nodes : WaveNodes) (h : ℕ → ℕ) (starts : List (Option ℕ))
     (prices : PriceList) : Type 0 where
   pub split_size : length prices.splits ≡ length wave.splits
@@ -60,8 +58,7 @@ PricesCertify =
     → Certifies (claim wave starts prices)
 
 -- A least-cost flow costs what its plan does: the byte-distance of the starts, and the reward for each
--- pending split
--- that does not start.
+-- pending split that does not start.
 abbrev pub CostsAsMuch : Wave → List FlowArc → List ℕ → List (Option ℕ) → Type 0
 CostsAsMuch wave arcs flows starts = flow_cost arcs flows + reward wave * length (pairs_of starts)
     ≡ total wave (pairs_of starts) + reward wave * length (pending_splits wave)

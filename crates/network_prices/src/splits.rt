@@ -11,7 +11,7 @@ use wave_problem::{Plan, Problem};
 /// How many splits are pending.
 pub fn pending_count(problem: &Problem) -> u64
     ensures count { result ≡ length (pending_splits problem.now) }
-    ensures limit { result ≤ MAX_SPLITS }
+    ensures most { result ≤ MAX_SPLITS }
 {
     let mut count = 0;
     for i in 0..problem.splits() {

@@ -8,15 +8,15 @@ use Rattle.std.proofs.lemmas.List.Elements.{All-contains_itself, All-filter, fil
 use Rattle.std.proofs.lemmas.List.Elements.{Contains-get_or}
 use Rattle.std.proofs.lemmas.Slice.Eq.{bytes_eq-Decides}
 use Rattle.text_lines.specs.Texts.{Word}
-use Rattle.line_shapes.specs.Keywords.{text_of}
+use Rattle.line_shapes.specs.Keywords.{spelling_of}
 use Rattle.line_shapes.specs.Lines.{Statement}
 use Rattle.line_shapes.specs.declared.keyword.Keyword.{Keyword}
-use Rattle.line_rules.specs.Entering.{Key, entering_of, first_of, key_of, second_of}
+use Rattle.line_rules.specs.Entering.{Key, entering_of, first_key, key_of, second_key}
 use Rattle.line_rules.specs.Known.{HasRow, is_of, keys_of, rows_of}
 use Rattle.line_rules.specs.Rows.{IsKeyAt, IsRowAt}
 use Rattle.line_rules.specs.declared.entering.Entering.TheVariants.{Word as ByWord}
-use Rattle.line_shapes.proofs.OneStatement.{text_of-injective}
-use Rattle.plan_text.specs.Names.{names_in, names_of, word_at}
+use Rattle.line_shapes.proofs.OneStatement.{spelling_of-injective}
+use Rattle.plan_text.specs.Names.{names_in, names_of, nth_word}
 
 -- ---- lists
 
@@ -46,11 +46,11 @@ at_element P xs x all (i, lt, is) = subst P is (all i x lt)
 -- ---- the rows of a keyword
 
 pub is_of-same : (k : Keyword) (s : Statement) → s.keyword ≡ k → is_of k s ≡ true
-is_of-same k s same = (bytes_eq-Decides (text_of k) (text_of s.keyword)).1 (ap text_of (sym same))
+is_of-same k s same = (bytes_eq-Decides (spelling_of k) (spelling_of s.keyword)).1 (ap spelling_of (sym same))
 
 pub keyword_of : (k : Keyword) (s : Statement) → is_of k s ≡ true → s.keyword ≡ k
 keyword_of k s is =
-    sym (text_of-injective k s.keyword ((bytes_eq-Decides (text_of k) (text_of s.keyword)).0 is))
+    sym (spelling_of-injective k s.keyword ((bytes_eq-Decides (spelling_of k) (spelling_of s.keyword)).0 is))
 
 pub is_of-other : (k : Keyword) (s : Statement) → (s.keyword ≡ k → ⊥) → is_of k s ≡ false
 is_of-other k s other = by (is_of k s) refl
@@ -94,10 +94,10 @@ abbrev no_word : Keyword → Statement
 no_word k = record { keyword = k; words = [] }
 
 pub key_by_word : (k : Keyword) → entering_of k ≡ ByWord → (s : Statement) → s.keyword ≡ k
-    → key_of s ≡ (k, word_at 0 s, [])
+    → key_of s ≡ (k, nth_word 0 s, [])
 key_by_word k by s same =
     let entering : entering_of s.keyword ≡ ByWord = ap entering_of same ∙ by in
-    λ i. (same i, first_of (entering i) s.words, second_of (entering i) s.words)
+    λ i. (same i, first_key (entering i) s.words, second_key (entering i) s.words)
 
 -- a name of a keyword is the key of a row
 pub named_row : (k : Keyword) → entering_of k ≡ ByWord → (rows : List Statement) (n : Word)
@@ -106,7 +106,8 @@ named_row k by rows n (i, lt, is) =
     let inside : i < length (rows_of k rows) = rw length-map at lt in
     let s : Statement = get_or (rows_of k rows) i (no_word k) in
     let row = in_rows_of k rows s (Contains-get_or (rows_of k rows) i (no_word k) inside) in
-    let name : word_at 0 s ≡ n = sym (get_or-map (word_at 0) (rows_of k rows) i (no_word k) n inside) ∙ is in
+    let name : nth_word 0 s ≡ n =
+    sym (get_or-map (nth_word 0) (rows_of k rows) i (no_word k) n inside) ∙ is in
     subst (Contains (keys_of rows)) (key_by_word k by s row.1 ∙ ap (λ w. (k, w, [])) name)
     (contains_map key_of rows s row.0)
 
@@ -118,8 +119,8 @@ row_named k by rows n (i, lt, is) =
     let s : Statement = get_or rows i (no_word k) in
     let key : key_of s ≡ (k, n, []) = sym (get_or-map key_of rows i (no_word k) (k, n, []) inside) ∙ is in
     let same : s.keyword ≡ k = ap (λ (q : Key). q.0) key in
-    let name : word_at 0 s ≡ n = ap (λ (q : Key). q.1) (sym (key_by_word k by s same) ∙ key) in
-    subst (Contains (names_of k rows)) name (contains_map (word_at 0) (rows_of k rows) s
+    let name : nth_word 0 s ≡ n = ap (λ (q : Key). q.1) (sym (key_by_word k by s same) ∙ key) in
+    subst (Contains (names_of k rows)) name (contains_map (nth_word 0) (rows_of k rows) s
     (contains_filter (is_of k) rows s (Contains-get_or rows i (no_word k) inside) (is_of-same k s same)))
 
 module _ (k : Keyword) (by : entering_of k ≡ ByWord) (rows : List Statement) (i : ℕ) (n : Word)
@@ -146,7 +147,7 @@ module _ (k : Keyword) (by : entering_of k ≡ ByWord) (rows : List Statement) (
   names_more same =
       let key = key_by_word k by row (of_keyword ∙ same) in
       ap names_in (rows_more k rows i row inside row_at (of_keyword ∙ same))
-      ∙ map-append (word_at 0) (rows_of k (take i rows)) (row ∷ [])
+      ∙ map-append (nth_word 0) (rows_of k (take i rows)) (row ∷ [])
       ∙ ap (λ w. names_of k (take i rows) ++ w ∷ []) (ap (λ (q : Key). q.1) (sym key ∙ has_key same))
 
   pub names_same : (j ≡ k → ⊥) → names_of k (take (i + 1) rows) ≡ names_of k (take i rows)

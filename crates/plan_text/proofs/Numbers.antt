@@ -12,7 +12,7 @@ use Rattle.node_ids.proofs.Positions.{position_found}
 use Rattle.text_lines.proofs.Keys.{found}
 use Rattle.text_lines.specs.Texts.{Word}
 use Rattle.line_shapes.specs.Lines.{Statement}
-use Rattle.plan_text.specs.Names.{word_at}
+use Rattle.plan_text.specs.Names.{nth_word}
 use Rattle.plan_text.specs.Value.{IsBarred, number_in, stands_in}
 
 -- where a name stands first
@@ -70,7 +70,7 @@ none_barred splits workers s w (line, (k, lt, is), one, other) = omega arith
 -- the line barred with those before it
 pub one_more_barred : (splits workers : List Word) (front : List Statement) (line : Statement) (s w : ℕ)
     (New Old : Type 0)
-    → (New ↔ (((s ≡ number_in splits (word_at 0 line)) × (w ≡ number_in workers (word_at 1 line))) ⊎ Old))
+    → (New ↔ (((s ≡ number_in splits (nth_word 0 line)) × (w ≡ number_in workers (nth_word 1 line))) ⊎ Old))
     → (Old ↔ IsBarred splits workers front s w)
     → New ↔ IsBarred splits workers (front ++ line ∷ []) s w
 one_more_barred splits workers front line s w New Old step before = (
@@ -83,8 +83,8 @@ one_more_barred splits workers front line s w New Old step before = (
   λ b. step.1 (elim (Contains-push_cases front line b.0 b.1) [
     | inl has ↦ inr (before.1 (b.0, has, b.2, b.3))
     | inr is ↦ inl (
-      sym b.2 ∙ sym (ap (λ t. number_in splits (word_at 0 t)) is),
-      sym b.3 ∙ sym (ap (λ t. number_in workers (word_at 1 t)) is),
+      sym b.2 ∙ sym (ap (λ t. number_in splits (nth_word 0 t)) is),
+      sym b.3 ∙ sym (ap (λ t. number_in workers (nth_word 1 t)) is),
     )
   ]),
 )

@@ -8,16 +8,17 @@ use Rattle.std.specs.Str.{bytes_eq}
 use Rattle.std.proofs.lemmas.List.{get_or-map, length-map, map-append, map_more}
 use Rattle.std.proofs.lemmas.List.Elements.{All-map}
 use Rattle.std.proofs.lemmas.List.Quantifiers.{position-Some}
-use Rattle.line_shapes.specs.Lines.{Statement, tail_of}
+use Rattle.line_shapes.specs.Lines.{Statement, tail_words}
 use Rattle.line_shapes.specs.declared.keyword.Keyword.TheVariants.{Problem, Dead, Busy, Split, Start, Worker}
 use Rattle.line_shapes.proofs.Mapped.{AllPairs-map}
 use Rattle.line_rules.specs.Known.{rows_of}
 use Rattle.line_rules.specs.declared.rows.Row.{Row}
 use Rattle.text_lines.specs.Texts.{Word}
 use Rattle.wave_problem.specs.Wave.{AreHeldWell, AreSmall, IsHeldWell, IsSmall}
-use Rattle.plan_text.specs.Names.{names_in, names_of, said_in, word_at}
+use Rattle.plan_text.specs.Names.{names_in, names_of, said_in, nth_word}
 use Rattle.plan_text.specs.Tidy.{AreTidy, IsTidySplit, IsTidyStart}
-use Rattle.plan_text.specs.Value.{beside, number_in, split_line, start_at, starts_in, worker_line}
+use Rattle.plan_text.specs.Value.{beside, number_in, declared_split, start_at, declared_starts}
+use Rattle.plan_text.specs.Value.{declared_worker}
 use Rattle.plan_text.proofs.Numbers.{number_within, numbers_differ}
 use Rattle.plan_text.proofs.Words.{tidy_splits, tidy_starts, tidy_workers}
 
@@ -44,47 +45,48 @@ mapped_more g f xs i d inside =
     ap (map g) (map_more f xs i d inside) ∙ map-append g (map f (take i xs)) (f (slice_index_or xs i d) ∷ [])
 
 small_split : (workers busy : List Word) (s : Statement) → IsTidySplit workers s
-    → IsSmall (split_line workers busy s)
+    → IsSmall (declared_split workers busy s)
 small_split workers busy s tidy = record {
   bytes = tidy.bytes.most;
-  holders = omega (arith, length-map (tail_of s) (number_in workers), tidy.few_holders);
+  holders = omega (arith, length-map (tail_words s) (number_in workers), tidy.few_holders);
 }
 
 held_split : (n : ℕ) (workers busy : List Word) (s : Statement) → n ≡ length workers → IsTidySplit workers s
-    → IsHeldWell n (split_line workers busy s)
+    → IsHeldWell n (declared_split workers busy s)
 held_split n workers busy s size tidy = record {
-  known = All-map (λ h. h < n) (number_in workers) (tail_of s)
+  known = All-map (λ h. h < n) (number_in workers) (tail_words s)
       (λ i d lt. rw size (number_within workers _ (tidy.holders i d lt)));
-  once = AllPairs-map (λ (a b : ℕ). a ≢ b) (number_in workers) (tail_of s)
+  once = AllPairs-map (λ (a b : ℕ). a ≢ b) (number_in workers) (tail_words s)
       (λ i j d lt inside. numbers_differ workers _ _ (tidy.holders i d (omega arith))
       (tidy.holders j d inside)
       (tidy.holders_differ i j d lt inside));
 }
 
 module _ (rows : List Statement) (tidy : AreTidy rows) where
-  pub all_small : AreSmall (map (worker_line (names_of Dead rows)) (rows_of Worker rows))
-      (map (split_line (names_of Worker rows) (names_of Busy rows)) (rows_of Split rows))
+  pub all_small : AreSmall (map (declared_worker (names_of Dead rows)) (rows_of Worker rows))
+      (map (declared_split (names_of Worker rows) (names_of Busy rows)) (rows_of Split rows))
   all_small =
-      let split = split_line (names_of Worker rows) (names_of Busy rows) in
+      let split = declared_split (names_of Worker rows) (names_of Busy rows) in
       let few : length (rows_of Split rows) ≤ 1024 = tidy.few_splits in
       record {
         few_splits = omega (arith, length-map (rows_of Split rows) split, few);
-        slots = All-map (λ worker. worker.free ≤ 16) (worker_line (names_of Dead rows)) (rows_of Worker rows)
+        slots = All-map (λ worker. worker.free ≤ 16) (declared_worker (names_of Dead rows))
+            (rows_of Worker rows)
             (λ i d lt. (tidy_workers rows tidy i d lt).slots.most);
         each_small = All-map IsSmall split (rows_of Split rows)
             (λ i d lt. small_split (names_of Worker rows) (names_of Busy rows) _
             (tidy_splits rows tidy i d lt));
       }
 
-  pub all_held : AreHeldWell (length (map (worker_line (names_of Dead rows)) (rows_of Worker rows)))
-      (map (split_line (names_of Worker rows) (names_of Busy rows)) (rows_of Split rows))
+  pub all_held : AreHeldWell (length (map (declared_worker (names_of Dead rows)) (rows_of Worker rows)))
+      (map (declared_split (names_of Worker rows) (names_of Busy rows)) (rows_of Split rows))
   all_held =
       let workers = names_of Worker rows in
-      let n = length (map (worker_line (names_of Dead rows)) (rows_of Worker rows)) in
+      let n = length (map (declared_worker (names_of Dead rows)) (rows_of Worker rows)) in
       let size : n ≡ length workers =
-      length-map (rows_of Worker rows) (worker_line (names_of Dead rows))
-      ∙ sym (length-map (rows_of Worker rows) (word_at 0)) in
-      All-map (IsHeldWell n) (split_line workers (names_of Busy rows)) (rows_of Split rows)
+      length-map (rows_of Worker rows) (declared_worker (names_of Dead rows))
+      ∙ sym (length-map (rows_of Worker rows) (nth_word 0)) in
+      All-map (IsHeldWell n) (declared_split workers (names_of Busy rows)) (rows_of Split rows)
       (λ i d lt. held_split n workers (names_of Busy rows) _ size (tidy_splits rows tidy i d lt))
 
 -- ---- starts
@@ -96,7 +98,7 @@ start_inside lines name place is =
     omega (
       arith,
       (position-Some (λ n. bytes_eq name n) (names_in lines) place [] is).0,
-      length-map lines (word_at 0),
+      length-map lines (nth_word 0),
     )
 
 -- what a line of the name found says
@@ -120,7 +122,7 @@ module _ (rows : List Row) (names : List Word) (name : Word) (found : Option ℕ
 
 abbrev started : List Word → List Statement → Option ℕ → Option ℕ
 started workers lines place =
-    option_map (number_in workers) (option_map (λ i. slice_index_or (map (word_at 1) lines) i []) place)
+    option_map (number_in workers) (option_map (λ i. slice_index_or (map (nth_word 1) lines) i []) place)
 
 start_within : (workers : List Word) (lines : List Statement) → All (IsTidyStart workers) lines →
     (name : Word)
@@ -133,11 +135,12 @@ start_within workers lines tidy name = by (position (λ n. bytes_eq name n) (nam
     by (Some i) is =
         let d : Statement = record { keyword = Start; words = [] } in
         let inside = start_inside lines name i is in
-        number_within workers (slice_index_or (map (word_at 1) lines) i [])
-        (subst (λ w. Contains workers w) (sym (get_or-map (word_at 1) lines i d [] inside)) (tidy i d inside))
+        number_within workers (slice_index_or (map (nth_word 1) lines) i [])
+        (subst (λ w. Contains workers w) (sym (get_or-map (nth_word 1) lines i d [] inside))
+        (tidy i d inside))
 
 pub starts_within : (rows : List Statement) → AreTidy rows
-    → All (λ start. IfSome start (λ w. w < length (names_of Worker rows))) (starts_in rows)
+    → All (λ start. IfSome start (λ w. w < length (names_of Worker rows))) (declared_starts rows)
 starts_within rows tidy =
     let workers = names_of Worker rows in
     All-map (λ start. IfSome start (λ w. w < length workers)) (start_at workers (rows_of Start rows))

@@ -18,7 +18,7 @@ use Rattle.line_shapes.specs.declared.place.Kind.TheVariants.{Centre, Rack, Work
 use Rattle.line_shapes.specs.declared.place.Place.{Place}
 use Rattle.line_shapes.specs.declared.place.Place.TheVariants.{New, Used, Number, Text}
 use Rattle.line_rules.specs.Entering.{Key, entered_by, entered_of, entering_of, key_of, most_of, most_workers}
-use Rattle.line_rules.specs.Faults.{HasRoom, IsDeclaredIn, IsFew, IsFit, IsFirst, Keep, counted_by}
+use Rattle.line_rules.specs.Faults.{IsFewer, IsDeclaredIn, IsFew, IsFit, IsFirst, Keep, counted_by}
 use Rattle.line_rules.specs.Known.{HasRow, IsDeclared, Known, entered, is_of, keys_of, known_at, rows_of}
 use Rattle.line_rules.specs.Reading.{AreFitLines, IsAllRead}
 use Rattle.line_rules.specs.declared.entering.Entering.{Entering}
@@ -78,7 +78,7 @@ pub record AreKept (purpose : Purpose) (rows : List Statement) : Type 0 where
 
 -- ---- one line more
 
-few-one : (most : Option ℕ) (n m : ℕ) → HasRoom most n → m ≡ n + 1 → IsFew most m
+few-one : (most : Option ℕ) (n m : ℕ) → IsFewer most n → m ≡ n + 1 → IsFew most m
 few-one None n m room is = tt
 few-one (Some most) n m room is = let room : n < most = room in omega arith
 
@@ -96,7 +96,7 @@ count-more k rows s b is =
     ∙ ap (λ (c : Bool). count k rows + length (cond c (s ∷ []) [])) is
 
 few-more : (purpose : Purpose) (k : Keyword) (rows : List Statement) (s : Statement)
-    → IsFew (most_of purpose k) (count k rows) → HasRoom (most_of purpose s.keyword) (count s.keyword rows)
+    → IsFew (most_of purpose k) (count k rows) → IsFewer (most_of purpose s.keyword) (count s.keyword rows)
     → IsFew (most_of purpose k) (count k (rows ++ s ∷ []))
 few-more purpose k rows s few room = by (is_of k s) refl
   where
@@ -104,7 +104,7 @@ few-more purpose k rows s few room = by (is_of k s) refl
     by true is =
         let same : s.keyword ≡ k = keyword_of k s is in
         few-one (most_of purpose k) (count k rows) _
-        (subst (λ (j : Keyword). HasRoom (most_of purpose j) (count j rows)) same room)
+        (subst (λ (j : Keyword). IsFewer (most_of purpose j) (count j rows)) same room)
         (count-more k rows s true is)
     by false is =
         few-none (most_of purpose k) (count k rows) _ few (count-more k rows s false is ∙ omega arith)
@@ -129,7 +129,7 @@ tidy_of k s whole fit = record {
 
 -- a line that is entered leaves the rows tidy
 tidy-row : (k : Known) (s : Statement) → length (places_of s.keyword) ≤ length s.words → IsFit k s
-    → HasRoom (most_of k.purpose s.keyword) (count s.keyword k.rows) → IsFirst k.rows s →
+    → IsFewer (most_of k.purpose s.keyword) (count s.keyword k.rows) → IsFirst k.rows s →
     AreKept k.purpose k.rows
     → AreKept k.purpose (k.rows ++ s ∷ [])
 tidy-row k s whole fit room first kept =
@@ -151,7 +151,7 @@ tidy-entered k s whole fit kept = by (entering_of s.keyword) refl
     some : (e : Entering) → entering_of s.keyword ≡ e → e ≢ Nothing
         → counted_by e k s.keyword ≡ count s.keyword k.rows → AreKept k.purpose (k.rows ++ s ∷ [])
     some e is enters counted =
-        let room = subst (HasRoom (most_of k.purpose s.keyword))
+        let room = subst (IsFewer (most_of k.purpose s.keyword))
         (ap (λ (f : Entering). counted_by f k s.keyword) is ∙ counted) fit.within_limit.room in
         tidy-row k s whole fit room (fit_first k s fit (λ none. enters (sym is ∙ none))) kept
 

@@ -11,12 +11,12 @@ use Rattle.line_rules.specs.Rows.{made_of}
 use Rattle.line_rules.specs.declared.rows.Row.{Row}
 
 -- the word at a place after the keyword, counted from 0, empty past the last
-abbrev pub word_at : ℕ → Statement → Word
-word_at i s = slice_index_or s.words i []
+abbrev pub nth_word : ℕ → Statement → Word
+nth_word i s = slice_index_or s.words i []
 
 -- the names that these lines declare, or are about
 abbrev pub names_in : List Statement → List Word
-names_in lines = map (word_at 0) lines
+names_in lines = map (nth_word 0) lines
 
 -- those of the lines of a keyword, in their order
 abbrev pub names_of : Keyword → List Statement → List Word

@@ -1,15 +1,14 @@
 -- The lines that are written.
-use Rattle.std.specs.Prelude.{ℕ, List, [], ◌∷◌, ◌++◌, Option, Some, None, codes, length, slice_index}
-use Rattle.std.specs.Prelude.{slice_index_or}
+use Rattle.std.specs.Prelude.{ℕ, List, [], ◌∷◌, ◌++◌, Option, Some, None, codes, slice_index}
 use Rattle.wave_problem.specs.Assignment.{start_of}
 use Rattle.std.specs.Fmt.{decimal}
-use Rattle.std.specs.List.{flat_map, range_with_len}
+use Rattle.std.specs.List.{flat_map}
 use Rattle.price_certificate.specs.declared.Condition.{Condition}
 use Rattle.price_certificate.specs.declared.Condition.TheVariants.{Open, Allowed, Room, SplitPrice}
 use Rattle.price_certificate.specs.declared.Condition.TheVariants.{WorkerPrice, Priced, Tight, Unstarted}
 use Rattle.price_certificate.specs.declared.Condition.TheVariants.{Spare}
 use Rattle.price_certificate.specs.PriceList.{PriceList}
-use Rattle.text_lines.specs.Texts.{Word}
+use Rattle.text_lines.specs.Texts.{Word, name_of, numbers_of}
 
 abbrev pub certified_line : ℕ → ℕ → List ℕ
 certified_line count cost = codes "certified " ++ decimal count ++ codes " " ++ decimal cost ++ 10 ∷ []
@@ -22,9 +21,6 @@ refused_at condition name = codes "refused C" ++ decimal condition ++ codes " " 
 abbrev pub refused_at_pair : ℕ → Word → Word → List ℕ
 refused_at_pair condition split worker =
     codes "refused C" ++ decimal condition ++ codes " " ++ split ++ codes " " ++ worker ++ 10 ∷ []
-
-abbrev pub name_of : List Word → ℕ → Word
-name_of names number = slice_index_or names number []
 
 -- the number by which each condition is told, and its place by names
 abbrev pub refused_line : List Word → List Word → Condition → List ℕ
@@ -50,10 +46,6 @@ start_line workers split None = []
 
 abbrev pub price_line : Word → ℕ → List ℕ
 price_line name amount = codes "price " ++ name ++ codes " " ++ decimal amount ++ 10 ∷ []
-
--- the numbers of these names, from 0 on
-abbrev pub numbers_of : List Word → List ℕ
-numbers_of names = range_with_len 0 (length names)
 
 -- a line for each split that starts, by number
 abbrev pub start_lines : List Word → List Word → List (Option ℕ) → List ℕ

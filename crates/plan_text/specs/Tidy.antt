@@ -2,14 +2,14 @@
 use Rattle.std.specs.Prelude.{ℕ, List, ◌≡◌, ◌≢◌, ◌≤◌, length}
 use Rattle.std.specs.List.{All, AllPairs, Contains}
 use Rattle.text_lines.specs.Texts.{IsNumber, Word, number_of}
-use Rattle.line_shapes.specs.Lines.{HasTailApart, IsInRange, IsNamed, Statement, tail_of}
+use Rattle.line_shapes.specs.Lines.{HasTailApart, IsInRange, IsNamed, Statement, tail_words}
 use Rattle.line_shapes.specs.Places.{places_of}
 use Rattle.line_shapes.specs.declared.keyword.Keyword.TheVariants as keyword
 use Rattle.line_rules.specs.Entering.{most_more_of}
 use Rattle.line_rules.specs.Faults.{IsFew, Keep}
 use Rattle.line_rules.specs.Known.{keys_of, rows_of}
 use Rattle.line_rules.specs.declared.rule.Rule.TheVariants as rule
-use Rattle.plan_text.specs.Names.{word_at}
+use Rattle.plan_text.specs.Names.{nth_word}
 
 -- each word keeps to its place, in view of all rows
 pub record IsTidyRow (rows : List Statement) (s : Statement) : Type 0 where
@@ -17,7 +17,7 @@ pub record IsTidyRow (rows : List Statement) (s : Statement) : Type 0 where
   pub named : IsNamed s
   pub known : Keep rule.Declared rows s
   pub in_range : IsInRange s
-  pub few : IsFew (most_more_of s.keyword) (length (tail_of s))
+  pub few : IsFew (most_more_of s.keyword) (length (tail_words s))
   pub tail_apart : HasTailApart s
 
 -- no more lines than a problem has at most, and none entered twice
@@ -37,23 +37,23 @@ pub record IsAtMost (w : Word) (limit : ℕ) : Type 0 where
   pub most : number_of w ≤ limit
 
 pub record IsTidyWorker (racks : List Word) (s : Statement) : Type 0 where
-  pub rack : Contains racks (word_at 1 s)
-  pub slots : IsAtMost (word_at 2 s) 16
+  pub rack : Contains racks (nth_word 1 s)
+  pub slots : IsAtMost (nth_word 2 s) 16
 
 pub record IsTidySplit (workers : List Word) (s : Statement) : Type 0 where
   pub is_split : s.keyword ≡ keyword.Split
   pub whole : 2 ≤ length s.words
-  pub bytes : IsAtMost (word_at 1 s) 67108864
-  pub few_holders : length (tail_of s) ≤ 8
-  pub holders : All (Contains workers) (tail_of s)
-  pub holders_differ : AllPairs (λ a b. a ≢ b) (tail_of s)
+  pub bytes : IsAtMost (nth_word 1 s) 67108864
+  pub few_holders : length (tail_words s) ≤ 8
+  pub holders : All (Contains workers) (tail_words s)
+  pub holders_differ : AllPairs (λ a b. a ≢ b) (tail_words s)
 
 pub record IsTidyBar (splits workers : List Word) (s : Statement) : Type 0 where
-  pub split : Contains splits (word_at 0 s)
-  pub worker : Contains workers (word_at 1 s)
+  pub split : Contains splits (nth_word 0 s)
+  pub worker : Contains workers (nth_word 1 s)
 
 abbrev pub IsTidyStart : List Word → Statement → Type 0
-IsTidyStart workers s = Contains workers (word_at 1 s)
+IsTidyStart workers s = Contains workers (nth_word 1 s)
 
 abbrev pub IsTidyPrice : Statement → Type 0
-IsTidyPrice s = IsAtMost (word_at 1 s) 18446744073709551615
+IsTidyPrice s = IsAtMost (nth_word 1 s) 18446744073709551615

@@ -11,11 +11,11 @@ use Rattle.wave_problem.specs.Wave.{Wave}
 use Rattle.wave_problem.specs.declared.lines.WorkerLine.{WorkerLine}
 use Rattle.price_certificate.specs.PriceList.{PriceList}
 use Rattle.text_lines.specs.Texts.{Word, number_of}
-use Rattle.line_shapes.specs.Lines.{Statement, tail_of}
+use Rattle.line_shapes.specs.Lines.{Statement, tail_words}
 use Rattle.line_shapes.specs.declared.keyword.Keyword.TheVariants.{Centre, Rack, Worker, Split, Barred, Dead}
 use Rattle.line_shapes.specs.declared.keyword.Keyword.TheVariants.{Busy, Start, Price}
 use Rattle.line_rules.specs.Known.{rows_of}
-use Rattle.plan_text.specs.Names.{names_in, names_of, rows_in, word_at}
+use Rattle.plan_text.specs.Names.{names_in, names_of, rows_in, nth_word}
 
 -- the number of a name: its place among the names of its kind
 abbrev pub number_in : List Word → Word → ℕ
@@ -33,43 +33,44 @@ beside d names values name =
 
 -- `worker NAME RACK SLOTS`, among these racks
 abbrev pub rack_number : List Word → Statement → ℕ
-rack_number racks s = number_in racks (word_at 1 s)
+rack_number racks s = number_in racks (nth_word 1 s)
 
 -- a worker lives where no line says that it is dead
-abbrev pub worker_line : List Word → Statement → WorkerLine
-worker_line dead s = record { live = not (stands_in dead (word_at 0 s)); free = number_of (word_at 2 s) }
+abbrev pub declared_worker : List Word → Statement → WorkerLine
+declared_worker dead s =
+    record { live = not (stands_in dead (nth_word 0 s)); free = number_of (nth_word 2 s) }
 
 -- `split NAME BYTES HOLDER ..`: it is pending where no line says that it is busy
-abbrev pub split_line : List Word → List Word → Statement → wave.Split
-split_line workers busy s = record {
-  bytes = number_of (word_at 1 s);
-  pending = not (stands_in busy (word_at 0 s));
-  holders = map (number_in workers) (tail_of s);
+abbrev pub declared_split : List Word → List Word → Statement → wave.Split
+declared_split workers busy s = record {
+  bytes = number_of (nth_word 1 s);
+  pending = not (stands_in busy (nth_word 0 s));
+  holders = map (number_in workers) (tail_words s);
 }
 
 -- `barred SPLIT WORKER`: one of these lines bars the worker w from the split s
 abbrev pub IsBarred : List Word → List Word → List Statement → ℕ → ℕ → Type 0
 IsBarred splits workers barred s w = (line : Statement) × Contains barred line
-    × (number_in splits (word_at 0 line) ≡ s) × (number_in workers (word_at 1 line) ≡ w)
+    × (number_in splits (nth_word 0 line) ≡ s) × (number_in workers (nth_word 1 line) ≡ w)
 
 -- `start SPLIT WORKER`: the worker that the split starts on, if one of these lines says so
 abbrev pub start_at : List Word → List Statement → Word → Option ℕ
 start_at workers lines name =
-    option_map (number_in workers) (beside [] (names_in lines) (map (word_at 1) lines) name)
+    option_map (number_in workers) (beside [] (names_in lines) (map (nth_word 1) lines) name)
 
 -- `price NAME AMOUNT`: the price of a split or a worker, 0 where none of these lines says it
 abbrev pub price_at : List Statement → Word → ℕ
-price_at lines name = unwrap_or (beside 0 (names_in lines) (map (λ s. number_of (word_at 1 s)) lines) name) 0
+price_at lines name = unwrap_or (beside 0 (names_in lines) (map (λ s. number_of (nth_word 1 s)) lines) name) 0
 
 -- ---- all lines
 
 -- `rack NAME CENTRE`, among these centres; where the text has none, its racks stand in one without a name
 abbrev pub centre_number : List Word → Statement → ℕ
-centre_number centres s = number_in centres (word_at 1 s)
+centre_number centres s = number_in centres (nth_word 1 s)
 
 -- the centres, and the lines of racks and of workers
-abbrev pub tree_of : List Word → List Statement → List Statement → Tree
-tree_of centres racks workers = record {
+abbrev pub declared_tree : List Word → List Statement → List Statement → Tree
+declared_tree centres racks workers = record {
   centres = max 1 (length centres);
   centre_of = map (centre_number centres) racks;
   rack_of = map (rack_number (names_in racks)) workers;
@@ -77,15 +78,16 @@ tree_of centres racks workers = record {
 
 -- the wave that the rows make. A set of pairs stands as words of bits, so its part is no equation.
 pub record MakesWave (rows : List Statement) (wave : Wave) : Type 0 where
-  pub tree : wave.tree ≡ tree_of (names_of Centre rows) (rows_of Rack rows) (rows_of Worker rows)
-  pub workers : wave.workers ≡ map (worker_line (names_of Dead rows)) (rows_of Worker rows)
-  pub splits : wave.splits ≡ map (split_line (names_of Worker rows) (names_of Busy rows)) (rows_of Split rows)
+  pub tree : wave.tree ≡ declared_tree (names_of Centre rows) (rows_of Rack rows) (rows_of Worker rows)
+  pub workers : wave.workers ≡ map (declared_worker (names_of Dead rows)) (rows_of Worker rows)
+  pub splits : wave.splits
+      ≡ map (declared_split (names_of Worker rows) (names_of Busy rows)) (rows_of Split rows)
   pub barred : (s w : ℕ) → w < 256
       → HasPair wave.barred s w ↔ IsBarred (names_of Split rows) (names_of Worker rows)
       (rows_of Barred rows) s w
 
-abbrev pub starts_in : List Statement → List (Option ℕ)
-starts_in rows = map (start_at (names_of Worker rows) (rows_of Start rows)) (names_of Split rows)
+abbrev pub declared_starts : List Statement → List (Option ℕ)
+declared_starts rows = map (start_at (names_of Worker rows) (rows_of Start rows)) (names_of Split rows)
 
 abbrev pub prices_in : List Statement → PriceList
 prices_in rows = record {
@@ -100,7 +102,7 @@ DeclaresWave ss wave = MakesWave (rows_in ss) wave
 
 -- the starts and prices of a plan to check
 abbrev pub starts : List Statement → List (Option ℕ)
-starts ss = starts_in (rows_in ss)
+starts ss = declared_starts (rows_in ss)
 
 abbrev pub prices : List Statement → PriceList
 prices ss = prices_in (rows_in ss)

@@ -11,13 +11,13 @@ ghost use Rattle.line_shapes.specs.declared.keyword.Keyword.TheVariants.{Split, 
 ghost use Rattle.line_rules.specs.Entering.{entering_of as entering};
 ghost use Rattle.line_rules.specs.Known.{rows_of as lines_of};
 ghost use Rattle.line_rules.specs.declared.entering.Entering.TheVariants.{Word as ByWord};
-ghost use Rattle.plan_text.specs.Names.{names_in, names_of as said_names, said_in, word_at};
+ghost use Rattle.plan_text.specs.Names.{names_in, names_of as said_names, said_in, nth_word};
 ghost use Rattle.plan_text.specs.Reading.{MakesPlan, MakesProblem};
 ghost use Rattle.plan_text.specs.Tidy.{AreTidy, IsAtMost, IsTidyBar, IsTidyPrice, IsTidySplit, IsTidyStart};
 ghost use Rattle.plan_text.specs.Tidy.{IsTidyWorker};
-ghost use Rattle.plan_text.specs.Value.{IsBarred, MakesWave, number_in, price_at, prices_in, split_line};
-ghost use Rattle.plan_text.specs.Value.{centre_number, rack_number, start_at, starts_in, tree_of};
-ghost use Rattle.plan_text.specs.Value.{worker_line};
+ghost use Rattle.plan_text.specs.Value.{IsBarred, MakesWave, number_in, price_at, prices_in, declared_split};
+ghost use Rattle.plan_text.specs.Value.{centre_number, rack_number, start_at, declared_starts, declared_tree};
+ghost use Rattle.plan_text.specs.Value.{declared_worker};
 
 use crate::row_lists::{holders, names_of, number, rows_of, word};
 use line_rules::{Row, Rows};
@@ -73,7 +73,7 @@ fn build_solution(
     requires tidy { AreTidy rows.now }
     requires splits { splits.now ≡ said_names Split rows.now }
     requires workers { workers.now ≡ said_names Worker rows.now }
-    ensures starts { IfOk result (λ solution. solution.plan.starts ≡ starts_in rows.now) }
+    ensures starts { IfOk result (λ solution. solution.plan.starts ≡ declared_starts rows.now) }
     ensures workers { IfOk result (λ solution. solution.plan.workers ≡ length workers.now) }
     ensures prices { IfOk result (λ solution. solution.prices ≡ prices_in rows.now) }
 {
@@ -162,10 +162,10 @@ struct Standing {
 
 fn build_standing(alloc: Global, rows: &Rows<'_>) -> Result<Standing, AllocError>
     requires { AreTidy rows.now }
-    ensures tree { IfOk result (λ stood. stood.tree ≡ tree_of (said_names Centre rows.now)
+    ensures tree { IfOk result (λ stood. stood.tree ≡ declared_tree (said_names Centre rows.now)
         (lines_of Rack rows.now) (lines_of Worker rows.now)) }
     ensures workers { IfOk result (λ stood. stood.workers.items
-        ≡ map (worker_line (said_names Dead rows.now)) (lines_of Worker rows.now)) }
+        ≡ map (declared_worker (said_names Dead rows.now)) (lines_of Worker rows.now)) }
 {
     let worker_rows = rows_of(alloc, rows, Keyword::Worker)?;
     let workers = worker_lines(alloc, rows, &worker_rows)?;
@@ -181,7 +181,7 @@ fn worker_lines(
     requires tidy { AreTidy rows.now }
     requires workers { map said_in worker_rows.now ≡ lines_of Worker rows.now }
     ensures { IfOk result (λ workers. workers.items
-        ≡ map (worker_line (said_names Dead rows.now)) (lines_of Worker rows.now)) }
+        ≡ map (declared_worker (said_names Dead rows.now)) (lines_of Worker rows.now)) }
 {
     let dead = names_of(alloc, rows, Keyword::Dead)?;
     build_workers(alloc, &dead, worker_rows)
@@ -217,7 +217,7 @@ pub fn build_split_lines(
     requires tidy { AreTidy rows.now }
     requires workers { workers.now ≡ said_names Worker rows.now }
     ensures { IfOk result (λ lines. lines.items
-        ≡ map (split_line (said_names Worker rows.now) (said_names Busy rows.now))
+        ≡ map (declared_split (said_names Worker rows.now) (said_names Busy rows.now))
         (lines_of Split rows.now)) }
 {
     let busy = names_of(alloc, rows, Keyword::Busy)?;
@@ -234,7 +234,7 @@ fn build_plan(
     requires tidy { AreTidy rows.now }
     requires splits { splits.now ≡ said_names Split rows.now }
     requires workers { workers.now ≡ said_names Worker rows.now }
-    ensures starts { IfOk result (λ plan. plan.starts ≡ starts_in rows.now) }
+    ensures starts { IfOk result (λ plan. plan.starts ≡ declared_starts rows.now) }
     ensures workers { IfOk result (λ plan. plan.workers ≡ length workers.now) }
 {
     let started = named_rows(alloc, rows, Keyword::Start)?;
@@ -317,7 +317,7 @@ pub fn build_tree(
 ) -> Result<RackTree, AllocError>
     requires tidy { AreTidy rows.now }
     requires workers { map said_in worker_rows.now ≡ lines_of Worker rows.now }
-    ensures { IfOk result (λ tree. tree ≡ tree_of (said_names Centre rows.now) (lines_of Rack rows.now)
+    ensures { IfOk result (λ tree. tree ≡ declared_tree (said_names Centre rows.now) (lines_of Rack rows.now)
         (lines_of Worker rows.now)) }
 {
     let mut tree = build_racks(alloc, rows)?;
@@ -329,7 +329,8 @@ pub fn build_tree(
 // The racks, without workers.
 fn build_racks(alloc: Global, rows: &Rows<'_>) -> Result<RackTree, AllocError>
     requires { AreTidy rows.now }
-    ensures { IfOk result (λ tree. tree ≡ tree_of (said_names Centre rows.now) (lines_of Rack rows.now) []) }
+    ensures { IfOk result (λ tree.
+        tree ≡ declared_tree (said_names Centre rows.now) (lines_of Rack rows.now) []) }
 {
     let centres = names_of(alloc, rows, Keyword::Centre)?;
     let rack_rows = rows_of(alloc, rows, Keyword::Rack)?;
@@ -439,8 +440,8 @@ fn build_workers(
     dead: &NameTable<'_>,
     rows: &[Row<'_, '_>],
 ) -> Result<Vec<WorkerLine>, AllocError>
-    requires { All (λ s. IsAtMost (word_at 2 s) MAX_SLOTS) (map said_in rows.now) }
-    ensures { IfOk result (λ lines. lines.items ≡ map (worker_line dead.now) (map said_in rows.now)) }
+    requires { All (λ s. IsAtMost (nth_word 2 s) MAX_SLOTS) (map said_in rows.now) }
+    ensures { IfOk result (λ lines. lines.items ≡ map (declared_worker dead.now) (map said_in rows.now)) }
 {
     let mut lines = Vec::new(alloc);
     for row in rows {
@@ -450,8 +451,8 @@ fn build_workers(
 }
 
 fn worker_line_of(dead: &NameTable<'_>, row: &Row<'_, '_>) -> WorkerLine
-    requires { IsAtMost (word_at 2 (said_in row.now)) MAX_SLOTS }
-    ensures { result ≡ worker_line dead.now (said_in row.now) }
+    requires { IsAtMost (nth_word 2 (said_in row.now)) MAX_SLOTS }
+    ensures { result ≡ declared_worker dead.now (said_in row.now) }
 {
     WorkerLine {
         live: !dead.has(word(row, 0)),
@@ -468,7 +469,7 @@ fn build_splits(
     requires few { length workers.now ≤ MAX_WORKERS }
     requires known { All (IsTidySplit workers.now) (map said_in rows.now) }
     ensures { IfOk result (λ lines. lines.items
-        ≡ map (split_line workers.now busy.now) (map said_in rows.now)) }
+        ≡ map (declared_split workers.now busy.now) (map said_in rows.now)) }
 {
     let mut lines = Vec::with_capacity(alloc, rows.len())?;
     for row in rows {
@@ -485,7 +486,7 @@ fn split_line_of(
 ) -> Result<SplitLine, AllocError>
     requires few { length workers.now ≤ MAX_WORKERS }
     requires known { IsTidySplit workers.now (said_in row.now) }
-    ensures { IfOk result (λ line. line ≡ split_line workers.now busy.now (said_in row.now)) }
+    ensures { IfOk result (λ line. line ≡ declared_split workers.now busy.now (said_in row.now)) }
 {
     let holders = worker_nos(alloc, workers, holders(row))?;
     Ok(SplitLine {
@@ -543,8 +544,8 @@ fn bar(set: &mut PairSet, splits: &NameTable<'_>, workers: &NameTable<'_>, row: 
     requires few_workers { length workers.now ≤ MAX_WORKERS }
     requires known { IsTidyBar splits.now workers.now (said_in row.now) }
     ensures { (s w : ℕ) → w < 256 → HasPair set.new s w
-        ↔ (((s ≡ number_in splits.now (word_at 0 (said_in row.now)))
-        × (w ≡ number_in workers.now (word_at 1 (said_in row.now)))) ⊎ HasPair set.old s w) }
+        ↔ (((s ≡ number_in splits.now (nth_word 0 (said_in row.now)))
+        × (w ≡ number_in workers.now (nth_word 1 (said_in row.now)))) ⊎ HasPair set.old s w) }
 {
     let split = SplitNo::new(number_of(splits, word(row, 0)) as u16);
     set.put(split, worker_no(workers, word(row, 1)));

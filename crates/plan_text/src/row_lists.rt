@@ -1,11 +1,11 @@
 ghost use Rattle.std.specs.Prelude.{◌≡◌, ◌≤◌, ◌<◌, ◌^◌, ℕ, List, [], IfOk, length, map, slice_index_or};
 ghost use Rattle.text_lines.specs.Texts.{IsNumber, number_of};
-ghost use Rattle.line_shapes.specs.Lines.{tail_of};
+ghost use Rattle.line_shapes.specs.Lines.{tail_words};
 ghost use Rattle.line_shapes.specs.declared.keyword.Keyword.TheVariants.{Split};
 ghost use Rattle.line_rules.specs.Entering.{entering_of as entering};
 ghost use Rattle.line_rules.specs.Known.{rows_of as lines_of};
 ghost use Rattle.line_rules.specs.declared.entering.Entering.TheVariants.{Word as ByWord};
-ghost use Rattle.plan_text.specs.Names.{names_of as said_names, said_in, word_at};
+ghost use Rattle.plan_text.specs.Names.{names_of as said_names, said_in, nth_word};
 ghost use Rattle.plan_text.specs.Tidy.{AreTidy};
 
 use line_rules::entering::{Entering, entering_of};
@@ -62,7 +62,7 @@ pub fn names_of<'t>(
 
 /// The word at a place after the keyword of a row, counted from 0, empty past the last.
 pub fn word<'t>(row: &Row<'_, 't>, place: usize) -> &'t str
-    ensures { result.now ≡ word_at place (said_in row.now) }
+    ensures { result.now ≡ nth_word place (said_in row.now) }
 {
     match entering_of(row.keyword) {
         Entering::Nothing | Entering::InTurn | Entering::Alone => word_in(row.rest, place),
@@ -92,7 +92,7 @@ fn word_in<'t>(words: &[&'t str], place: usize) -> &'t str
 pub fn holders<'r, 't>(row: &Row<'r, 't>) -> &'r [&'t str]
     requires split { row.now.keyword ≡ Split }
     requires whole { 2 ≤ length (said_in row.now).words }
-    ensures { map (λ w. w.now) result.now ≡ tail_of (said_in row.now) }
+    ensures { map (λ w. w.now) result.now ≡ tail_words (said_in row.now) }
 {
     &row.rest[1..]
 }

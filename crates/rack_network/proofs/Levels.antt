@@ -141,8 +141,7 @@ module _ (tree : Tree) (h w : ℕ) where
   distance-le (suc (suc (suc (suc level)))) l m = absurd (omega arith)
 
   -- they are as far apart as twice the least level at which they meet, which is the cluster's where their
-  -- centres
-  -- differ
+  -- centres differ
   pub distance_is : (level : ℕ) × (level < 4) × Meet tree level h w × (distance tree h w ≡ 2 * level)
       × (2 < level → centre_at tree h ≡ centre_at tree w → ⊥)
   distance_is = elim (cases_eq h w) [

@@ -5,7 +5,7 @@ use Rattle.std.proofs.lemmas.Bool.{cases_Bool, cases_lt, cases_eq, false≢true}
 use Rattle.wave_problem.specs.Wave.{Wave, split_at, worker_at, worker_in, live_holders}
 use Rattle.network_prices.specs.Ways.{IsAmong}
 use Rattle.rack_network.specs.Racks.{node_above, level_count, HasBars, IsReach}
-use Rattle.rack_network.specs.Build.{passed, ArePlaces, IsNearer, IsNext, IsReached}
+use Rattle.rack_network.specs.Build.{passed, ArePlaces, IsNearer, IsNextHolder, IsReachable}
 use Rattle.rack_network.proofs.Counts.{passed-more}
 use Rattle.rack_network.proofs.Levels.{among_kept, holder_live, holder_place}
 
@@ -15,15 +15,15 @@ IsLeast wave level None least = least ≡ 4096
 IsLeast wave level (Some h) least = (least ≡ node_above wave level h) × (least < 4096)
 
 module _ (wave : Wave) (holders : List ℕ) (level place n : ℕ) where
-  pub next_found : (h : ℕ) (next : Option ℕ) → get_or holders n 0 ≡ h → IsReached wave level h
+  pub next_found : (h : ℕ) (next : Option ℕ) → get_or holders n 0 ≡ h → IsReachable wave level h
       → IsNearer wave level place h next
-      → IsNext wave holders level place n next → IsNext wave holders level place (n + 1) (Some h)
+      → IsNextHolder wave holders level place n next → IsNextHolder wave holders level place (n + 1) (Some h)
   next_found h next at reached nearer was = record {
     found = λ k e. (let same : h ≡ k = cc in (
       n,
       omega arith,
       at ∙ same,
-      subst (IsReached wave level) same reached,
+      subst (IsReachable wave level) same reached,
       (let low = nearer.0 in let node = ap (node_above wave level) same in omega arith),
     ));
     least = λ k j e l reach past.
@@ -37,7 +37,7 @@ module _ (wave : Wave) (holders : List ℕ) (level place n : ℕ) where
     none = λ j e l reach. absurd (let no : Some h ≡ None = e in cc);
   }
     where
-      far : (o : Option ℕ) → next ≡ o → (j k : ℕ) → j < n → IsReached wave level (get_or holders j 0)
+      far : (o : Option ℕ) → next ≡ o → (j k : ℕ) → j < n → IsReachable wave level (get_or holders j 0)
           → place ≤ node_above wave level (get_or holders j 0)
           → node_above wave level h ≡ node_above wave level k
           → node_above wave level k ≤ node_above wave level (get_or holders j 0)
@@ -46,8 +46,8 @@ module _ (wave : Wave) (holders : List ℕ) (level place n : ℕ) where
           let less = nearer.1 m e in omega arith
 
   pub next_kept : (h : ℕ) (next : Option ℕ) → get_or holders n 0 ≡ h
-      → (IsReached wave level h → IsNearer wave level place h next → ⊥)
-      → IsNext wave holders level place n next → IsNext wave holders level place (n + 1) next
+      → (IsReachable wave level h → IsNearer wave level place h next → ⊥)
+      → IsNextHolder wave holders level place n next → IsNextHolder wave holders level place (n + 1) next
   next_kept h next at never was = record {
     found = λ k e. (let f = was.found k e in let l = f.1 in (f.0, omega arith, f.2, f.3, f.4));
     least = λ k j e l reach past. elim (cases_eq j n) [
@@ -57,7 +57,7 @@ module _ (wave : Wave) (holders : List ℕ) (level place n : ℕ) where
           let node = ap (node_above wave level) here in
           elim (cases_lt (node_above wave level h) (node_above wave level k)) [
             | inr m ↦ omega arith
-            | inl less ↦ absurd (never (subst (IsReached wave level) here reach) (
+            | inl less ↦ absurd (never (subst (IsReachable wave level) here reach) (
               omega arith,
               λ m e'. (let both : Some k ≡ Some m = sym e ∙ e' in let same : k ≡ m = cc in
                   let other = ap (node_above wave level) same in omega arith),
@@ -71,13 +71,13 @@ module _ (wave : Wave) (holders : List ℕ) (level place n : ℕ) where
           let node = ap (node_above wave level) here in
           elim (cases_lt (node_above wave level h) place) [
             | inl l ↦ omega arith
-            | inr m ↦ absurd (never (subst (IsReached wave level) here reach)
+            | inr m ↦ absurd (never (subst (IsReachable wave level) here reach)
                 (omega arith, λ k e'. absurd (let no : None ≡ Some k = sym e ∙ e' in cc)))
           ])
     ];
   }
 
-  reached_or_not : (h : ℕ) → IsReached wave level h ⊎ (IsReached wave level h → ⊥)
+  reached_or_not : (h : ℕ) → IsReachable wave level h ⊎ (IsReachable wave level h → ⊥)
   reached_or_not h = elim (cases_Bool (worker_at wave h).live) [
     | inr dead ↦ inr (λ r. false≢true (sym dead ∙ r.0))
     | inl live ↦ elim (cases_eq level 0) [
@@ -93,8 +93,8 @@ module _ (wave : Wave) (holders : List ℕ) (level place n : ℕ) where
   pub next_nearer : (places : List ℕ) (least node h : ℕ) (next : Option ℕ)
       → ArePlaces wave holders level places → n < length holders → get_or holders n 0 ≡ h
       → get_or places n 0 ≡ node → place ≤ node → node < least
-      → IsNext wave holders level place n next → IsLeast wave level next least
-      → IsNext wave holders level place (n + 1) (Some h) × IsLeast wave level (Some h) node
+      → IsNextHolder wave holders level place n next → IsLeast wave level next least
+      → IsNextHolder wave holders level place (n + 1) (Some h) × IsLeast wave level (Some h) node
   next_nearer places least node h next are inside at here low less was known =
       let own = are n inside in
       let up = ap (node_above wave level) at in
@@ -102,7 +102,7 @@ module _ (wave : Wave) (holders : List ℕ) (level place n : ℕ) where
       elim (reached_or_not (get_or holders n 0)) [
         | inr out ↦ absurd (let far = own.1 out in omega arith)
         | inl reached ↦ (let is = own.0 reached in (
-          next_found h next at (subst (IsReached wave level) at reached) (
+          next_found h next at (subst (IsReachable wave level) at reached) (
             omega arith,
             λ k e. (let same = subst (λ (o : Option ℕ). IsLeast wave level o least) e known in
                 omega arith),
@@ -120,12 +120,12 @@ module _ (wave : Wave) (holders : List ℕ) (level place n : ℕ) where
   pub next_no_nearer : (places : List ℕ) (least node h : ℕ) (next : Option ℕ)
       → ArePlaces wave holders level places → n < length holders → get_or holders n 0 ≡ h
       → get_or places n 0 ≡ node → (place ≤ node → node < least → ⊥)
-      → IsNext wave holders level place n next → IsLeast wave level next least
-      → IsNext wave holders level place (n + 1) next
+      → IsNextHolder wave holders level place n next → IsLeast wave level next least
+      → IsNextHolder wave holders level place (n + 1) next
   next_no_nearer places least node h next are inside at here never was known =
       next_kept h next at
       (λ reached nearer.
-      (let is = (are n inside).0 (subst (IsReached wave level) (sym at) reached) in
+      (let is = (are n inside).0 (subst (IsReachable wave level) (sym at) reached) in
       let up = ap (node_above wave level) at in
       let low = nearer.0 in
       never (omega arith) (below next known nearer (omega arith) (omega arith))))
@@ -140,7 +140,7 @@ module _ (wave : Wave) (holders : List ℕ) (level place n : ℕ) where
 module _ (wave : Wave) (s level place : ℕ) (pending : (split_at wave s).pending ≡ true)
     (no_bars : HasBars wave s → ⊥) (known : level < level_count wave) where
   abbrev Next : Option ℕ → Type 0
-  Next next = IsNext wave (split_at wave s).holders level place (length (split_at wave s).holders) next
+  Next next = IsNextHolder wave (split_at wave s).holders level place (length (split_at wave s).holders) next
 
   pub next_reach : (h : ℕ) → Next (Some h) → IsReach wave s level h
   next_reach h next =
@@ -164,9 +164,9 @@ module _ (wave : Wave) (s level place : ℕ) (pending : (split_at wave s).pendin
       reach.holder
 
   reached_at : (g j : ℕ) → IsReach wave s level g → get_or (split_at wave s).holders j 0 ≡ g
-      → IsReached wave level (get_or (split_at wave s).holders j 0)
+      → IsReachable wave level (get_or (split_at wave s).holders j 0)
   reached_at g j reach at =
-      subst (IsReached wave level) (sym at) (holder_live wave s g reach.holder, reach.has_slot)
+      subst (IsReachable wave level) (sym at) (holder_live wave s g reach.holder, reach.has_slot)
 
   pub next_least : (h : ℕ) → Next (Some h) → (g : ℕ) → IsReach wave s level g
       → place ≤ node_above wave level g

@@ -7,9 +7,8 @@ use Rattle.node_ids.specs.Sets.{HasPair, has_number, place_of_pair}
 use Rattle.flow_network.specs.declared.arcs.FlowArc.{FlowArc}
 use Rattle.flow_network.specs.Flows.{arc_at}
 use Rattle.flow_network.specs.Laws.{outroom}
-use Rattle.wave_problem.specs.Wave.{Wave, IsAdmissible, split_at, worker_at, cost, reward}
+use Rattle.wave_problem.specs.Wave.{Wave, IsAdmissible, split_at, worker_at, cost, reward, IsUsable}
 use Rattle.wave_problem.proofs.Bound.{pending_known, live_known}
-use Rattle.network_prices.specs.Pending.{IsUsable}
 use Rattle.network_prices.specs.Ways.{IsAmong, IsFed, IsInner, IsWay}
 use Rattle.network_prices.specs.Networks.{way_of, IsArcFrom, IsOffer, IsWaveNetwork}
 use Rattle.network_prices.proofs.Arcs.{arc_standing}

@@ -4,10 +4,9 @@ use Rattle.std.proofs.Common.{subst, ◌⊎◌, inl, inr, arith}
 use Rattle.std.proofs.lemmas.Bool.{cases_lt, cases_eq, false≢true}
 use Rattle.flow_network.specs.declared.arcs.FlowArc.{FlowArc}
 use Rattle.flow_network.specs.Flow.{Flow}
-use Rattle.wave_problem.specs.Wave.{Wave, IsAdmissible, split_at}
+use Rattle.wave_problem.specs.Wave.{Wave, IsAdmissible, split_at, IsUsable}
 use Rattle.wave_problem.proofs.Bound.{pending_known, live_known}
 use Rattle.network_prices.specs.Building.{IsAdded}
-use Rattle.network_prices.specs.Pending.{IsUsable}
 use Rattle.network_prices.specs.Tables.{IsBefore, AreRows}
 use Rattle.network_prices.proofs.Tables.{built_nothing, built_take, built_pass, all_rows}
 use Rattle.rack_network.specs.declared.layout.RackLayout.{RackLayout}

@@ -27,8 +27,8 @@ level_end wave (suc (suc zero)) = rack_node wave 0
 level_end wave (suc (suc (suc level))) = centre_node wave 0
 
 -- a live holder, with a free slot where its own node is meant
-abbrev pub IsReached : Wave → ℕ → ℕ → Type 0
-IsReached wave level h = ((worker_at wave h).live ≡ true) × (level ≡ 0 → 0 < (worker_at wave h).free)
+abbrev pub IsReachable : Wave → ℕ → ℕ → Type 0
+IsReachable wave level h = ((worker_at wave h).live ≡ true) × (level ≡ 0 → 0 < (worker_at wave h).free)
 
 -- the node above a worker is no earlier than a place, and earlier than that above another
 abbrev pub IsNearer : Wave → ℕ → ℕ → ℕ → Option ℕ → Type 0
@@ -38,22 +38,22 @@ IsNearer wave level place h next = (place ≤ node_above wave level h)
 -- the place of the node above a holder; past all nodes where the holder is not reached
 abbrev pub IsPlaceOf : Wave → ℕ → ℕ → ℕ → Type 0
 IsPlaceOf wave level h place =
-    (IsReached wave level h → (place ≡ node_above wave level h) × (place < 4096))
-    × ((IsReached wave level h → ⊥) → place ≡ 4096)
+    (IsReachable wave level h → (place ≡ node_above wave level h) × (place < 4096))
+    × ((IsReachable wave level h → ⊥) → place ≡ 4096)
 
 abbrev pub ArePlaces : Wave → List ℕ → ℕ → List ℕ → Type 0
 ArePlaces wave holders level places = (j : ℕ) → j < length holders
     → IsPlaceOf wave level (slice_index holders j) (slice_index places j)
 
 -- of the first n holders, one below the first node of a level from a place on
-pub record IsNext (wave : Wave) (holders : List ℕ) (level place n : ℕ) (next : Option ℕ) : Type 0 where
+pub record IsNextHolder (wave : Wave) (holders : List ℕ) (level place n : ℕ) (next : Option ℕ) : Type 0 where
   pub found : (h : ℕ) → next ≡ Some h → (i : ℕ) × (i < n) × (slice_index holders i ≡ h)
-      × IsReached wave level h
+      × IsReachable wave level h
       × (place ≤ node_above wave level h)
-  pub least : (h j : ℕ) → next ≡ Some h → j < n → IsReached wave level (slice_index holders j)
+  pub least : (h j : ℕ) → next ≡ Some h → j < n → IsReachable wave level (slice_index holders j)
       → place ≤ node_above wave level (slice_index holders j)
       → node_above wave level h ≤ node_above wave level (slice_index holders j)
-  pub none : (j : ℕ) → next ≡ None → j < n → IsReached wave level (slice_index holders j)
+  pub none : (j : ℕ) → next ≡ None → j < n → IsReachable wave level (slice_index holders j)
       → node_above wave level (slice_index holders j) < place
 
 -- how many of the holders stand below a node of a level before a place

@@ -1,7 +1,6 @@
 -- The price of a slot.
 use Rattle.std.specs.Prelude.{ℕ, ◌≡◌}
-use Rattle.wave_problem.specs.Wave.{Wave}
-use Rattle.network_prices.specs.Pending.{IsUsable}
+use Rattle.wave_problem.specs.Wave.{Wave, IsUsable}
 use Rattle.network_prices.specs.Ways.{deepest}
 use Rattle.network_prices.specs.Networks.{way_of}
 use Rattle.rack_network.specs.Racks.{rack_nodes}

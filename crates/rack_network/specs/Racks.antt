@@ -8,7 +8,8 @@ use Rattle.price_certificate.specs.PriceList.{PriceList}
 use Rattle.price_certificate.specs.Certificate.{claim, Certifies}
 use Rattle.flow_network.specs.declared.arcs.FlowArc.{FlowArc}
 use Rattle.flow_network.specs.Flows.{NoNegative}
-use Rattle.network_prices.specs.Pending.{IsUsable, pending_splits}
+use Rattle.network_prices.specs.Pending.{pending_splits}
+use Rattle.wave_problem.specs.Wave.{IsUsable}
 use Rattle.network_prices.specs.Ways.{IsAmong}
 use Rattle.network_prices.specs.Networks.{WaveNodes}
 use Rattle.network_prices.specs.Tables.{AreRows}

@@ -91,7 +91,7 @@ impl RackArc {
     pub fn capacity(&self, problem: &Problem) -> u64
         requires { IsWanted problem.now self.now }
         ensures capacity { result ≡ (arc_of problem.now self.now).capacity }
-        ensures limit { result ≤ 4096 }
+        ensures most { result ≤ 4096 }
     {
         match *self {
             RackArc::Pair(_, _) => 1,
@@ -127,7 +127,7 @@ fn node_above(problem: &Problem, level: u8, worker: WorkerNo) -> RackNode
 // The free slots of the live workers of a data centre.
 fn slots_within(problem: &Problem, centre: CentreNo) -> u64
     ensures sum { result ≡ slots_within problem.now (length problem.now.workers) centre }
-    ensures limit { result ≤ 4096 }
+    ensures most { result ≤ 4096 }
 {
     let tree = problem.tree();
     let mut slots = 0;
@@ -143,7 +143,7 @@ fn slots_within(problem: &Problem, centre: CentreNo) -> u64
 // The free slots of the live workers of a rack.
 fn slots_below(problem: &Problem, rack: RackNo) -> u64
     ensures sum { result ≡ slots_below problem.now (length problem.now.workers) rack }
-    ensures limit { result ≤ 4096 }
+    ensures most { result ≤ 4096 }
 {
     let tree = problem.tree();
     let mut slots = 0;

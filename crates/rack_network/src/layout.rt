@@ -40,7 +40,7 @@ pub struct RackLayout {
 // How many nodes stand above those of so many data centres.
 pub(crate) fn clusters(centres: usize) -> usize
     ensures count { result ≡ clusters centres }
-    ensures limit { result ≤ 1 }
+    ensures most { result ≤ 1 }
 {
     if centres > 1 { 1 } else { 0 }
 }

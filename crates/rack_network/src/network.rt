@@ -1,16 +1,16 @@
 //! Builds the rack network of a problem.
 ghost use Rattle.std.specs.Prelude.{◌≡◌, ℕ, ◌+◌, ◌-◌, ◌*◌, ◌<◌, ◌≤◌, ◌^◌, ◌∷◌, ◌++◌, ◌↔◌, [], true, length};
 ghost use Rattle.std.specs.Prelude.{All, IfOk, IfSome, IsTrue, OnOk, Some, slice_index};
-ghost use Rattle.wave_problem.specs.Wave.{reward as reward_in, split_at, worker_at, Wave};
+ghost use Rattle.wave_problem.specs.Wave.{reward as reward_in, split_at, worker_at, Wave, IsUsable};
 ghost use Rattle.wave_problem.specs.declared.TheConstants.{MAX_HOLDERS, MAX_SPLITS};
 ghost use Rattle.rack_network.specs.declared.arcs.TheConstants.{LEVELS, MAX_ARCS};
-ghost use Rattle.network_prices.specs.Pending.{IsUsable};
 ghost use Rattle.rack_network.specs.Racks.{arc_of, centre_node, centre_of, cluster_node, level_count};
 ghost use Rattle.rack_network.specs.Racks.{node_above, rack_node, rack_of, worker_node, unstarted_node};
 ghost use Rattle.rack_network.specs.Racks.{HasBars, IsRackNetwork, IsSized, IsTree, IsWanted};
 ghost use Rattle.rack_network.specs.Build.{branch_arcs, feed_arcs, in_places, level_end, level_start};
-ghost use Rattle.rack_network.specs.Build.{split_arcs, trunk_arcs, ArePlaces, IsBuilt, IsNext, IsPlaceOf};
-ghost use Rattle.rack_network.specs.Build.{IsReached};
+ghost use Rattle.rack_network.specs.Build.{split_arcs, trunk_arcs, ArePlaces, IsBuilt, IsNextHolder};
+ghost use Rattle.rack_network.specs.Build.{IsPlaceOf};
+ghost use Rattle.rack_network.specs.Build.{IsReachable};
 
 use crate::places::{first_centre, first_rack, first_worker, place_above};
 use crate::{LEVELS, RackArc, RackLayout, RackNode};
@@ -30,7 +30,7 @@ pub fn build(alloc: Global, problem: &Problem) -> Result<Network<RackLayout>, Al
     ensures layout { IfOk result (λ network. IsSized problem.now network.layout) }
     ensures arcs { IfOk result (λ network. IsRackNetwork problem.now network.arcs) }
     ensures empty { IfOk result (λ network. (k : ℕ) → slice_index network.flows k ≡ 0) }
-    ensures limit { IfOk result (λ network. length network.arcs ≤ MAX_ARCS) }
+    ensures most { IfOk result (λ network. length network.arcs ≤ MAX_ARCS) }
 {
     let layout = RackLayout {
         splits: problem.splits() as u16,
@@ -304,7 +304,7 @@ fn place_of(problem: &Problem, level: u8, first: usize, holder: WorkerNo) -> usi
 fn next_reached(holders: &[WorkerNo], places: &[usize], place: usize) -> Option<WorkerNo>
     requires { length holders.now ≤ length places.now }
     ensures { (wave : Wave) (level : ℕ) → ArePlaces wave holders.now level places.now
-        → IsNext wave holders.now level place (length holders.now) result }
+        → IsNextHolder wave holders.now level place (length holders.now) result }
 {
     let mut next = None;
     let mut least = NO_PLACE;
@@ -329,7 +329,7 @@ fn is_nearer(place: usize, node: usize, least: usize) -> bool
 #[inline(always)]
 fn is_reached(problem: &Problem, level: u8, holder: WorkerNo) -> bool
     requires { holder < length problem.now.workers }
-    ensures { IsTrue result ↔ IsReached problem.now level holder }
+    ensures { IsTrue result ↔ IsReachable problem.now level holder }
 {
     problem.is_live(holder) && (level > 0 || problem.free(holder) > 0)
 }

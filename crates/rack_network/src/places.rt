@@ -11,7 +11,7 @@ use wave_problem::Problem;
 /// The place of the first data centre.
 pub fn first_centre(problem: &Problem) -> usize
     ensures place { result ≡ first_centre problem.now }
-    ensures limit { result ≤ 1025 }
+    ensures most { result ≤ 1025 }
 {
     problem.splits() + clusters(problem.tree().centres())
 }
@@ -19,7 +19,7 @@ pub fn first_centre(problem: &Problem) -> usize
 /// The place of the first rack.
 pub fn first_rack(problem: &Problem) -> usize
     ensures place { result ≡ first_rack problem.now }
-    ensures limit { result ≤ 1033 }
+    ensures most { result ≤ 1033 }
 {
     first_centre(problem) + problem.tree().centres()
 }
@@ -27,7 +27,7 @@ pub fn first_rack(problem: &Problem) -> usize
 /// The place of the first worker.
 pub fn first_worker(problem: &Problem) -> usize
     ensures place { result ≡ first_worker problem.now }
-    ensures limit { result ≤ 1065 }
+    ensures most { result ≤ 1065 }
 {
     first_rack(problem) + problem.tree().racks()
 }
@@ -40,7 +40,7 @@ pub fn place_above(problem: &Problem, level: u8, first: usize, worker: WorkerNo)
     requires first { first ≡ level_start problem.now level }
     requires worker { worker < length problem.now.workers }
     ensures place { result ≡ node_above problem.now level worker }
-    ensures limit { result < 4096 }
+    ensures most { result < 4096 }
 {
     // (there are few of each)
     let _splits = problem.splits();

@@ -2,9 +2,9 @@
 use Rattle.std.specs.Prelude.{ℕ, List, [], ◌∷◌, ◌++◌, Bool, not, if◌then◌else◌, codes, count_by, length}
 use Rattle.std.specs.Prelude.{slice_index_or}
 use Rattle.std.specs.Fmt.{decimal}
-use Rattle.std.specs.List.{flat_map, range_with_len}
+use Rattle.std.specs.List.{flat_map}
 use Rattle.node_ids.specs.Sets.{has_number}
-use Rattle.text_lines.specs.Texts.{Word}
+use Rattle.text_lines.specs.Texts.{Word, name_of, numbers_of}
 use Rattle.word_map.specs.Entries.{EntryView}
 use Rattle.block_map.specs.declared.CopyOrder.{CopyOrder}
 use Rattle.master_state.specs.declared.answers.Answer.{Answer}
@@ -15,13 +15,6 @@ use Rattle.master_state.specs.declared.states.SplitState.{SplitState}
 use Rattle.master_state.specs.declared.states.SplitState.TheVariants.{Pending}
 use Rattle.master_state.specs.Tests.{is_done}
 
--- the name of a number, and the numbers of some names, from 0 on
-abbrev pub name_of : List Word → ℕ → Word
-name_of names number = slice_index_or names number []
-
-abbrev pub numbers_of : List Word → List ℕ
-numbers_of names = range_with_len 0 (length names)
-
 -- a line for each of these numbers of which the test is true
 abbrev pub lines_of_those : (ℕ → Bool) → (ℕ → List ℕ) → List ℕ → List ℕ
 lines_of_those test line numbers = flat_map (λ n. if test n then line n else []) numbers
@@ -29,26 +22,26 @@ lines_of_those test line numbers = flat_map (λ n. if test n then line n else []
 -- ---- answers
 
 -- the number by which a reason is told
-abbrev pub number_of : Why → ℕ
-number_of why.OldAttempt = 1
-number_of why.DeadWorker = 2
-number_of why.LiveWorker = 3
-number_of why.AlreadyHolds = 4
-number_of why.NotHolder = 5
-number_of why.EightHolders = 6
-number_of why.NotReady = 7
-number_of why.WrongInput = 8
-number_of why.HistoryFull = 9
-number_of why.Memory = 10
-number_of why.StrangeHand = 11
-number_of why.NoBackup = 12
-number_of why.Barred = 13
+abbrev pub number_of_reason : Why → ℕ
+number_of_reason why.OldAttempt = 1
+number_of_reason why.DeadWorker = 2
+number_of_reason why.LiveWorker = 3
+number_of_reason why.AlreadyHolds = 4
+number_of_reason why.NotHolder = 5
+number_of_reason why.EightHolders = 6
+number_of_reason why.NotReady = 7
+number_of_reason why.WrongInput = 8
+number_of_reason why.HistoryFull = 9
+number_of_reason why.Memory = 10
+number_of_reason why.StrangeHand = 11
+number_of_reason why.NoBackup = 12
+number_of_reason why.Barred = 13
 
 abbrev pub accepted_line : ℕ → List ℕ
 accepted_line place = codes "accepted " ++ decimal place ++ 10 ∷ []
 
 abbrev pub ignored_line : Why → List ℕ
-ignored_line why = codes "ignored " ++ decimal (number_of why) ++ 10 ∷ []
+ignored_line why = codes "ignored " ++ decimal (number_of_reason why) ++ 10 ∷ []
 
 abbrev pub answer_line : Answer → List ℕ
 answer_line (answer.Accepted place) = accepted_line place

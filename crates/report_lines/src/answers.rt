@@ -9,12 +9,12 @@ ghost use Rattle.report_lines.specs.Lines.{
   dead_line,
   dead_lines,
   ignored_line,
-  name_of,
-  number_of,
+  number_of_reason,
   reduce_line,
   started_line,
   wave_line,
 };
+ghost use Rattle.text_lines.specs.Texts.{name_of};
 
 use block_map::CopyOrder;
 use master_state::{Answer, Why};
@@ -43,12 +43,12 @@ pub fn add_accepted(lines: &mut String, place: u32) -> Result<(), AllocError>
 pub fn add_ignored(lines: &mut String, why: Why) -> Result<(), AllocError>
     ensures { OnOk result (string_bytes lines.new ≡ string_bytes lines.old ++ ignored_line why) }
 {
-    let number = number_of(why);
+    let number = number_of_reason(why);
     write!(lines, "ignored {number}\n")
 }
 
-fn number_of(why: Why) -> u8
-    ensures { result ≡ number_of why }
+fn number_of_reason(why: Why) -> u8
+    ensures { result ≡ number_of_reason why }
 {
     why as u8
 }

@@ -12,7 +12,7 @@ use Rattle.line_shapes.specs.Places.{places_of}
 use Rattle.line_shapes.specs.declared.keyword.Keyword.{Keyword}
 use Rattle.line_shapes.specs.declared.keyword.Keyword.TheVariants as keyword
 use Rattle.line_rules.specs.Entering.{command_of, entered_of, entering_of, in_turn, most_of}
-use Rattle.line_rules.specs.Faults.{HasRoom, IsFit, IsWhole, counted_by}
+use Rattle.line_rules.specs.Faults.{IsFewer, IsFit, IsComplete, counted_by}
 use Rattle.line_rules.specs.Known.{Known, entered, is_of, known_at, rows_of}
 use Rattle.line_rules.specs.Reading.{AreFitLines, IsAllRead}
 use Rattle.line_rules.specs.declared.entering.Entering.{Entering}
@@ -101,7 +101,7 @@ module _ (n : ℕ) (k : Known) (s : Statement) (whole : length (places_of s.keyw
   short : IsShort n s
   short same =
       let whole : length s.words ≡ workers_in k =
-      subst (λ (j : Keyword). IsWhole k (record { keyword = j; words = s.words })) same fit.whole in
+      subst (λ (j : Keyword). IsComplete k (record { keyword = j; words = s.words })) same fit.whole in
       omega (arith, whole, few)
 
   command : entering_of s.keyword ≡ InTurn → IsTidyCommand k.rows s
@@ -109,10 +109,10 @@ module _ (n : ℕ) (k : Known) (s : Statement) (whole : length (places_of s.keyw
 
   one : entering_of s.keyword ≡ InTurn → AreBounded n rows (k.commands ++ s ∷ [])
   one is =
-      let Room : Entering → Type 0 = λ e. HasRoom (most_of k.purpose s.keyword) (counted_by e k s.keyword) in
+      let Room : Entering → Type 0 = λ e. IsFewer (most_of k.purpose s.keyword) (counted_by e k s.keyword) in
       let counted = subst Room is fit.within_limit.room in
       let room : length k.commands < 65536 =
-      subst (λ (m : Option ℕ). HasRoom m (length k.commands)) (most_of_command k.purpose s.keyword is)
+      subst (λ (m : Option ℕ). IsFewer m (length k.commands)) (most_of_command k.purpose s.keyword is)
       counted in
       record {
         few = omega (arith, room, length_push k.commands s);

@@ -9,8 +9,8 @@ use Rattle.line_shapes.specs.Lines.{Statement}
 use Rattle.line_shapes.specs.declared.keyword.Keyword.TheVariants.{Busy, End, Split, Worker}
 use Rattle.line_rules.specs.Known.{rows_of}
 use Rattle.line_rules.specs.declared.purpose.Purpose.TheVariants.{Playing}
-use Rattle.plan_text.specs.Names.{names_of, word_at}
-use Rattle.plan_text.specs.Value.{split_line}
+use Rattle.plan_text.specs.Names.{names_of, nth_word}
+use Rattle.plan_text.specs.Value.{declared_split}
 use Rattle.head_text.specs.Heads.{slots_told}
 use Rattle.script_text.specs.Commands.{IsKnownIn, IsNumbered, SaysCommand}
 use Rattle.script_text.specs.Scripts.{IsOfHead, IsScriptOf}
@@ -51,14 +51,14 @@ module _ (text : List ℕ) (value : ScriptText) (is : IsScriptOf text value) whe
 
   workers_size : length value.script.names.workers ≡ length value.head.slots.items
   workers_size =
-      ap length is.declares.names.workers ∙ length-map (rows_of Worker rows) (word_at 0)
+      ap length is.declares.names.workers ∙ length-map (rows_of Worker rows) (nth_word 0)
       ∙ sym (ap length is.head.slots ∙ length-map (rows_of Worker rows) slots_told)
 
   splits_size : length value.script.names.splits ≡ length value.head.splits.items
   splits_size =
-      ap length is.declares.names.splits ∙ length-map (rows_of Split rows) (word_at 0)
+      ap length is.declares.names.splits ∙ length-map (rows_of Split rows) (nth_word 0)
       ∙ sym (ap length is.head.splits
-      ∙ length-map (rows_of Split rows) (split_line (names_of Worker rows) (names_of Busy rows)))
+      ∙ length-map (rows_of Split rows) (declared_split (names_of Worker rows) (names_of Busy rows)))
 
   known : All (IsKnownIn (length value.script.names.workers) (length value.script.names.splits))
       value.script.commands.items

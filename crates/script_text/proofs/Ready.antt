@@ -2,7 +2,7 @@
 use Rattle.std.proofs.Common.{ℕ, List, ◌≡◌, ◌≤◌, ◌<◌, zero, suc, arith, get_or, length, refl, sym}
 use Rattle.std.specs.List.{All}
 use Rattle.text_lines.specs.Texts.{Word}
-use Rattle.line_shapes.specs.Demands.{IsWithin}
+use Rattle.line_shapes.specs.Demands.{IsNumberWithin}
 use Rattle.line_shapes.specs.Lines.{IsInRange, Statement}
 use Rattle.line_shapes.specs.declared.keyword.Keyword.{Keyword}
 use Rattle.line_shapes.specs.declared.keyword.Keyword.TheVariants as keyword
@@ -19,7 +19,7 @@ use Rattle.plan_text.proofs.Named.{row_named}
 use Rattle.plan_text.proofs.Words.{few_names, line}
 use Rattle.script_text.specs.Commands.{word_at}
 use Rattle.script_text.specs.Heads.{AreNames}
-use Rattle.script_text.specs.Ready.{AreFew, HasName, HasNumber, HasWords, HaveNames, HavePair, IsReady}
+use Rattle.script_text.specs.Ready.{AreFew, HasName, HasNumber, HasWords, HaveNames, HavePair, IsWholeCommand}
 use Rattle.script_text.specs.Ready.{told_names}
 use Rattle.script_text.specs.declared.script.Names.{Names}
 use Rattle.script_text.proofs.Bounds.{bounded-read}
@@ -30,7 +30,7 @@ has_name : (k : Keyword) → entering_of k ≡ ByWord → (rows : List Statement
     → i < length ws → HasRow rows k (word_at ws i) → HasName (names_of k rows) ws i
 has_name k by rows ws i lt row = record { inside = lt; known = row_named k by rows (word_at ws i) row }
 
-has_number : (most : ℕ) (ws : List Word) (i : ℕ) → i < length ws → IsWithin 0 most (word_at ws i)
+has_number : (most : ℕ) (ws : List Word) (i : ℕ) → i < length ws → IsNumberWithin 0 most (word_at ws i)
     → HasNumber most ws i
 has_number most ws i lt within = record { inside = lt; number = within.0; small = within.2 }
 
@@ -95,7 +95,7 @@ has_words rows keyword.End ws is row = absurd cc
 
 -- each command of a text that was read is ready
 pub ready-read : (purpose : Purpose) (text : List ℕ) (k : Known) → IsAllRead purpose text k
-    → All (IsReady (told_names k.rows)) k.commands
+    → All (IsWholeCommand (told_names k.rows)) k.commands
 ready-read purpose text k read i d lt =
     let command = (bounded-read purpose text k read).tidy i d lt in
     let s : Statement = get_or k.commands i d in

@@ -16,8 +16,8 @@ abbrev pub IsNumbered : List Word → Word → ℕ → Type 0
 IsNumbered names name n = position (λ m. bytes_eq name m) names ≡ Some n
 
 -- the word is this number
-abbrev pub IsTold : Word → ℕ → Type 0
-IsTold word n = IsNumber word × (number_of word ≡ n)
+abbrev pub IsAmount : Word → ℕ → Type 0
+IsAmount word n = IsNumber word × (number_of word ≡ n)
 
 -- the words from a place on are the names of these numbers
 pub record AreNumbered (names : List Word) (ws : List Word) (first : ℕ) (numbers : List ℕ) : Type 0 where
@@ -28,7 +28,7 @@ pub record AreNumbered (names : List Word) (ws : List Word) (first : ℕ) (numbe
 -- the words are these numbers
 pub record AreTold (ws : List Word) (numbers : List ℕ) : Type 0 where
   pub many : length ws ≡ length numbers
-  pub each : (k d : ℕ) → k < length numbers → IsTold (word_at ws k) (slice_index_or numbers k d)
+  pub each : (k d : ℕ) → k < length numbers → IsAmount (word_at ws k) (slice_index_or numbers k d)
 
 -- a split and a worker
 abbrev pub ArePair : Names → List Word → ℕ → ℕ → Type 0
@@ -38,10 +38,10 @@ ArePair names ws split worker =
 -- the line says the command
 abbrev pub SaysCommand : Names → Statement → Command → Type 0
 SaysCommand names s command.Wave = s.keyword ≡ keyword.Wave
-SaysCommand names s (command.Done attempt) = (s.keyword ≡ keyword.Done) × IsTold (word_at s.words 0) attempt
-SaysCommand names s (command.Fail attempt) = (s.keyword ≡ keyword.Fail) × IsTold (word_at s.words 0) attempt
+SaysCommand names s (command.Done attempt) = (s.keyword ≡ keyword.Done) × IsAmount (word_at s.words 0) attempt
+SaysCommand names s (command.Fail attempt) = (s.keyword ≡ keyword.Fail) × IsAmount (word_at s.words 0) attempt
 SaysCommand names s (command.Withdraw attempt) =
-    (s.keyword ≡ keyword.Withdraw) × IsTold (word_at s.words 0) attempt
+    (s.keyword ≡ keyword.Withdraw) × IsAmount (word_at s.words 0) attempt
 SaysCommand names s (command.Backup split worker) =
     (s.keyword ≡ keyword.Backup) × ArePair names s.words split worker
 SaysCommand names s (command.Die worker) =

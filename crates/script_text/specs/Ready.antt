@@ -67,8 +67,8 @@ HasWords names keyword.Backup ws = HavePair names ws
 HasWords names keyword.End ws = ⊥
 
 -- the line is a command with all its words
-abbrev pub IsReady : Names → Statement → Type 0
-IsReady names s = HasWords names s.keyword s.words
+abbrev pub IsWholeCommand : Names → Statement → Type 0
+IsWholeCommand names s = HasWords names s.keyword s.words
 
 -- each name has a number of its kind
 pub record AreFew (names : Names) : Type 0 where

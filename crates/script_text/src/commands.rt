@@ -2,7 +2,7 @@ ghost use Rattle.std.specs.Prelude.{◌<◌, All, IfOk, length, map, slice_index
 ghost use Rattle.line_shapes.specs.Lines.{Statement, stated, statement_of};
 ghost use Rattle.line_shapes.specs.declared.keyword.Keyword.TheVariants.{Join};
 ghost use Rattle.script_text.specs.Commands.{ArePair, SayCommands, SaysCommand};
-ghost use Rattle.script_text.specs.Ready.{AreFew, HavePair, HasWords, IsReady};
+ghost use Rattle.script_text.specs.Ready.{AreFew, HavePair, HasWords, IsWholeCommand};
 
 use crate::numbers::{attempt_at, numbers_in, split_at, splits_from, worker_at};
 use crate::script::{Command, Names};
@@ -18,7 +18,7 @@ pub fn commands_of(
     lines: &Commands<'_>,
 ) -> Result<Vec<Command>, AllocError>
     requires few { AreFew names.now }
-    requires ready { All (IsReady names.now) lines.now }
+    requires ready { All (IsWholeCommand names.now) lines.now }
     ensures { IfOk result (λ commands. SayCommands names.now lines.now commands.items) }
 {
     let mut commands = Vec::new(alloc);
@@ -36,7 +36,7 @@ fn command_at(
     place: usize,
 ) -> Result<Command, AllocError>
     requires few { AreFew names.now }
-    requires ready { All (IsReady names.now) lines.now }
+    requires ready { All (IsWholeCommand names.now) lines.now }
     requires inside { place < length lines.now }
     ensures { IfOk result (λ command. (s : Statement)
         → SaysCommand names.now (slice_index_or lines.now place s) command) }
@@ -54,7 +54,7 @@ fn command_of(
     line: &KeyedLine<'_, '_>,
 ) -> Result<Command, AllocError>
     requires few { AreFew names.now }
-    requires ready { IsReady names.now (statement_of line.now) }
+    requires ready { IsWholeCommand names.now (statement_of line.now) }
     ensures { IfOk result (SaysCommand names.now (statement_of line.now)) }
 {
     let words = line.words;

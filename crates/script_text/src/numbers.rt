@@ -1,5 +1,5 @@
 ghost use Rattle.std.specs.Prelude.{◌≤◌, ◌<◌, ◌≡◌, IfOk, length, map};
-ghost use Rattle.script_text.specs.Commands.{AreNumbered, AreTold, IsNumbered, IsTold, word_at};
+ghost use Rattle.script_text.specs.Commands.{AreNumbered, AreTold, IsNumbered, IsAmount, word_at};
 ghost use Rattle.script_text.specs.Ready.{HasName, HasNumber, HaveNames, HaveNumbers};
 
 use node_ids::{AttemptNo, SplitNo, WorkerNo};
@@ -48,7 +48,7 @@ pub fn worker_at(names: &NameTable<'_>, words: &[&str], place: usize) -> WorkerN
 // The number that stands at a place.
 fn number_at(words: &[&str], place: usize) -> u64
     requires { HasNumber 1099511627776 (map (λ w. w.now) words.now) place }
-    ensures { IsTold (word_at (map (λ w. w.now) words.now) place) result }
+    ensures { IsAmount (word_at (map (λ w. w.now) words.now) place) result }
 {
     number(word_in(words, place))
 }
@@ -56,7 +56,7 @@ fn number_at(words: &[&str], place: usize) -> u64
 /// The attempt whose number stands at a place.
 pub fn attempt_at(words: &[&str], place: usize) -> AttemptNo
     requires { HasNumber 1000000 (map (λ w. w.now) words.now) place }
-    ensures { IsTold (word_at (map (λ w. w.now) words.now) place) result }
+    ensures { IsAmount (word_at (map (λ w. w.now) words.now) place) result }
 {
     AttemptNo::new(number_at(words, place) as u32)
 }

@@ -7,7 +7,7 @@ ghost use Rattle.plan_text.specs.Tidy.{AreTidy};
 ghost use Rattle.head_text.specs.Heads.{IsFitHead, MakesHead};
 ghost use Rattle.head_text.specs.Settings.{setting};
 ghost use Rattle.script_text.specs.Heads.{AreNames};
-ghost use Rattle.script_text.specs.Ready.{IsReady, told_names};
+ghost use Rattle.script_text.specs.Ready.{IsWholeCommand, told_names};
 ghost use Rattle.script_text.specs.Scripts.{Declares, IsJobOf, IsOfHead, IsScriptOf};
 
 use crate::commands::commands_of;
@@ -48,7 +48,7 @@ pub fn read_job(alloc: Global, text: &[u8]) -> Result<JobText<'_>, ReadingError>
 // What the lines of a script declare.
 fn script_of<'t>(alloc: Global, known: &KnownLines<'t>) -> Result<ScriptText<'t>, AllocError>
     requires tidy { AreTidy known.now.rows }
-    requires ready { All (IsReady (told_names known.now.rows)) known.now.commands }
+    requires ready { All (IsWholeCommand (told_names known.now.rows)) known.now.commands }
     requires few_documents { length (rows_of Doc known.now.rows) ≤ 65536 }
     ensures script { IfOk result (λ value. Declares known.now value.script) }
     ensures head { IfOk result (λ value. MakesHead known.now.rows value.head) }
@@ -62,7 +62,7 @@ fn script_of<'t>(alloc: Global, known: &KnownLines<'t>) -> Result<ScriptText<'t>
 // The script without its head.
 fn told_script<'t>(alloc: Global, known: &KnownLines<'t>) -> Result<Script<'t>, AllocError>
     requires tidy { AreTidy known.now.rows }
-    requires ready { All (IsReady (told_names known.now.rows)) known.now.commands }
+    requires ready { All (IsWholeCommand (told_names known.now.rows)) known.now.commands }
     ensures { IfOk result (Declares known.now) }
 {
     let target = target_of(alloc, known.rows())?;

@@ -21,8 +21,7 @@ use Rattle.master_state.specs.Refusals.{Call, Backup}
 use Rattle.master_state.specs.Refusals.{ReduceStart, Sweep}
 use Rattle.hand_ledger.specs.Hands.{HandValue, Kept, counts_in, has_room, kept, last_place, starts_in}
 use Rattle.hand_ledger.specs.Hands.{with_call}
-use Rattle.hand_ledger.specs.Settling.{Stands, event_at}
-use Rattle.shared_master.specs.declared.calls.PlainCall.TheVariants as plain
+use Rattle.hand_ledger.specs.Settling.{LastStands, event_at}
 use Rattle.shared_master.specs.declared.sizes.Sizes.{Sizes}
 use Rattle.shared_master.specs.Steps.{answered, HasCounts, IsAt, IsBarrier, IsBehind, IsHandedBack, IsKeptAs}
 use Rattle.shared_master.specs.Steps.{IsKeptBackup, IsKeptReduce, IsLast, IsNextOf, IsOwn}
@@ -180,7 +179,7 @@ event_within : (history : List Event) (place : ℕ) (event : Event) → event_at
 event_within history zero event at = omega arith
 event_within history (suc k) event at = omega (arith, slice_get_within history k event at)
 
-pub last_within : (history : List Event) (calls : List Kept) → Stands history calls →
+pub last_within : (history : List Event) (calls : List Kept) → LastStands history calls →
     last_place calls ≤ length history
 last_within history [] stands = omega arith
 last_within history (call ∷ []) stands = event_within history call.place call.event stands

@@ -19,7 +19,7 @@ use Rattle.master_state.specs.Refusals.{Call, MapFailed, Withdraw, Die, Join, Ad
 use Rattle.master_state.specs.Refusals.{PartFailed, Backup}
 use Rattle.hand_ledger.specs.Hands.{HandValue, counts_in, has_room, kept, last_place, noted, starts_in}
 use Rattle.hand_ledger.specs.Hands.{with_call}
-use Rattle.hand_ledger.specs.Settling.{Stands, event_at}
+use Rattle.hand_ledger.specs.Settling.{LastStands, event_at}
 use Rattle.shared_master.specs.declared.calls.PlainCall.{PlainCall}
 use Rattle.shared_master.specs.declared.calls.PlainCall.TheVariants as plain
 use Rattle.shared_master.specs.declared.sizes.Sizes.{Sizes}
@@ -62,7 +62,7 @@ plain_reduce (reduced.Ignored why) = Ignored why
 pub record IsOwn (sizes : Sizes) (job : Job) (hand : HandValue) : Type 0 where
   pub splits : sizes.splits ≡ length job.setup.cluster.splits
   pub workers : sizes.workers ≡ length job.setup.cluster.slots
-  pub stands : Stands job.history hand.calls
+  pub stands : LastStands job.history hand.calls
 
 -- why a call that needs room for so many counts and starts does not reach the master, if it does not
 abbrev pub IsBarrier : Sizes → Job → HandValue → ℕ → ℕ → Option Why → Type 0

@@ -1,5 +1,5 @@
 ghost use Rattle.std.specs.Prelude.{◌≡◌, ℕ, ◌<◌, ◌≤◌, length, MatchResult};
-ghost use Rattle.hand_ledger.specs.Settling.{all_calls, Holds, IsLowestTorn};
+ghost use Rattle.hand_ledger.specs.Settling.{all_calls, AgreesAt, IsLowestTorn};
 ghost use Rattle.shared_master.specs.Held.{is_short, log_of};
 
 use crate::held::Held;
@@ -113,11 +113,11 @@ pub struct Torn<L: Ledger> {
 pub fn settle<L: Ledger>(closed: Closed<L>, hands: Vec<Hand<L>>) -> Result<Settled, Torn<L>>
     ensures { MatchResult result
         (λ s. (s.master ≡ closed.job)
-        × ((place : ℕ) → Holds (log_of closed.job) (is_short closed.job) hands.items place))
+        × ((place : ℕ) → AgreesAt (log_of closed.job) (is_short closed.job) hands.items place))
         (λ t. (t.closed ≡ closed) × (t.hands ≡ hands)
-        × (Holds (log_of closed.job) (is_short closed.job) hands.items t.place → ⊥)
+        × (AgreesAt (log_of closed.job) (is_short closed.job) hands.items t.place → ⊥)
         × ((place : ℕ) → place < t.place
-        → Holds (log_of closed.job) (is_short closed.job) hands.items place)) }
+        → AgreesAt (log_of closed.job) (is_short closed.job) hands.items place)) }
 {
     let torn = closed.torn_place(&hands);
     match torn {

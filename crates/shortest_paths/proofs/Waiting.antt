@@ -9,7 +9,7 @@ use Rattle.std.proofs.lemmas.List.Elements.{Contains-push_cases, Contains-append
 use Rattle.std.proofs.lemmas.List.Sorted.{Contains-permutation, IsPermutation-sym}
 use Rattle.shortest_paths.specs.declared.labels.Label.{Label}
 use Rattle.shortest_paths.specs.Labels.{label_at, is_settled, relaxed}
-use Rattle.shortest_paths.specs.Frontier.{IsFrontier, IsTaken, Adds}
+use Rattle.shortest_paths.specs.Frontier.{IsFrontier, TakesNearest, AddsNode}
 use Rattle.shortest_paths.proofs.Relaxing.{still_reaches, new_reach, label_after}
 
 pub nothing_in : {X : Type 0} (x : X) → Contains [] x → ⊥
@@ -26,7 +26,7 @@ first_in x xs = Contains-append_left (x ∷ []) xs x (Contains-push [] x)
 
 pub adds_far : (level : ℕ) (near : List ℕ) (far far' : List (ℕ × ℕ)) (distance node : ℕ) →
     IsPermutation ((distance, node) ∷ far) far'
-    → Adds level near far near far' distance node
+    → AddsNode level near far near far' distance node
 adds_far level near far far' distance node more = record {
   near_kept = λ y h. h;
   far_kept = λ p h. Contains-permutation ((distance, node) ∷ far) far' p more
@@ -53,7 +53,7 @@ labelled_inside labels y l w = elim (cases_lt y (length labels)) [
 -- a node took a path to it, and waits with that
 pub frontier_relaxed : (labels : List (Option Label)) (settled : List Bool) (level : ℕ) (near : List ℕ)
     (far : List (ℕ × ℕ)) (near' : List ℕ) (far' : List (ℕ × ℕ)) (v : ℕ) (next : Label)
-    → v < length labels → level ≤ next.distance → Adds level near far near' far' next.distance v
+    → v < length labels → level ≤ next.distance → AddsNode level near far near' far' next.distance v
     → IsFrontier labels settled level near far → IsFrontier (relaxed labels v next) settled level near' far'
 frontier_relaxed labels settled level near far near' far' v next inside above adds t = record {
   low = λ y l s w. elim (label_after labels v next inside y l w) [
@@ -136,7 +136,7 @@ far_passed labels settled level near far rest d v e s t = record {
 -- a node is taken from the stack
 pub near_taken : (labels : List (Option Label)) (settled : List Bool) (level : ℕ) (near rest : List ℕ)
     (far : List (ℕ × ℕ)) (v : ℕ) → near ≡ rest ++ v ∷ [] → is_settled settled v ≡ false → v < length settled
-    → IsFrontier labels settled level near far → IsTaken labels settled v level rest far
+    → IsFrontier labels settled level near far → TakesNearest labels settled v level rest far
 near_taken labels settled level near rest far v e fresh inside t =
     let r = t.near_labelled v (rw e (Contains-push rest v)) in
     let low = t.low v r.0 fresh r.1 in
@@ -167,7 +167,7 @@ near_taken labels settled level near rest far v e fresh inside t =
 pub far_taken : (labels : List (Option Label)) (settled : List Bool) (level : ℕ) (far rest : List (ℕ × ℕ))
     (d v : ℕ) → IsPermutation far ((d, v) ∷ rest) → All (λ (q : ℕ × ℕ). d ≤ q.0) far
     → is_settled settled v ≡ false → v < length settled
-    → IsFrontier labels settled level [] far → IsTaken labels settled v d [] rest
+    → IsFrontier labels settled level [] far → TakesNearest labels settled v d [] rest
 far_taken labels settled level far rest d v e least fresh inside t =
     let r = t.far_labelled d v (Contains-permutation ((d, v) ∷ rest) far (d, v)
     (IsPermutation-sym far ((d, v) ∷ rest) e) (first_in (d, v) rest)) in

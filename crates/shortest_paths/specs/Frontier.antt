@@ -22,7 +22,7 @@ pub record IsFrontier (labels : List (Option Label)) (settled : List Bool) (leve
       → Contains near y ⊎ Contains far (l.distance, y)
 
 -- a node was taken that is no farther than any other, and the rest still waits
-pub record IsTaken (labels : List (Option Label)) (settled : List Bool) (v level : ℕ) (near : List ℕ)
+pub record TakesNearest (labels : List (Option Label)) (settled : List Bool) (v level : ℕ) (near : List ℕ)
     (far : List (ℕ × ℕ)) : Type 0 where
   pub fresh : is_settled settled v ≡ false
   pub label : Label
@@ -31,7 +31,7 @@ pub record IsTaken (labels : List (Option Label)) (settled : List Bool) (v level
   pub rest : IsFrontier labels (slice_set settled v true) level near far
 
 -- a node was added, on the stack where its distance is the level
-pub record Adds (level : ℕ) (near : List ℕ) (far : List (ℕ × ℕ)) (near' : List ℕ) (far' : List (ℕ × ℕ))
+pub record AddsNode (level : ℕ) (near : List ℕ) (far : List (ℕ × ℕ)) (near' : List ℕ) (far' : List (ℕ × ℕ))
     (distance node : ℕ) : Type 0 where
   pub near_kept : (y : ℕ) → Contains near y → Contains near' y
   pub far_kept : (p : ℕ × ℕ) → Contains far p → Contains far' p

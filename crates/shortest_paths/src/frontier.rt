@@ -1,6 +1,6 @@
 //! The nodes that a search has still to settle.
 ghost use Rattle.std.specs.Prelude.{◌≡◌, ℕ, List, [], ◌∷◌, length, IfSome, IfNone, OnOk};
-ghost use Rattle.shortest_paths.specs.Frontier.{IsFrontier, IsTaken, Adds};
+ghost use Rattle.shortest_paths.specs.Frontier.{IsFrontier, TakesNearest, AddsNode};
 ghost use Rattle.shortest_paths.specs.Turns.{IsNearest};
 
 use crate::labels::Label;
@@ -44,8 +44,8 @@ impl Frontier {
     pub fn put(&mut self, distance: u64, node: usize) -> Result<(), AllocError>
         ensures level { self.new.level ≡ self.old.level }
         ensures adds { OnOk result
-            (Adds self.old.level self.old.near.items self.old.far self.new.near.items self.new.far distance
-            node) }
+            (AddsNode self.old.level self.old.near.items self.old.far self.new.near.items self.new.far
+            distance node) }
     {
         if distance == self.level {
             self.near.push(node)?;
@@ -61,7 +61,7 @@ impl Frontier {
         requires waits { IsFrontier labels.now settled.now self.old.level self.old.near.items self.old.far }
         ensures nearest { IsNearest labels.now settled.now result }
         ensures taken { IfSome result
-            (λ p. IsTaken labels.now settled.now p.0 self.new.level self.new.near.items self.new.far) }
+            (λ p. TakesNearest labels.now settled.now p.0 self.new.level self.new.near.items self.new.far) }
     {
         let node = self.take_node(labels, settled)?;
         match labels[node] {
@@ -75,7 +75,7 @@ impl Frontier {
         requires sizes { length settled.now ≡ length labels.now }
         requires waits { IsFrontier labels.now settled.now self.old.level self.old.near.items self.old.far }
         ensures taken { IfSome result
-            (λ v. IsTaken labels.now settled.now v self.new.level self.new.near.items self.new.far) }
+            (λ v. TakesNearest labels.now settled.now v self.new.level self.new.near.items self.new.far) }
         ensures none { IfNone result (IsNearest labels.now settled.now None) }
     {
         match self.take_near(labels, settled) {
@@ -89,7 +89,7 @@ impl Frontier {
         requires sizes { length settled.now ≡ length labels.now }
         requires waits { IsFrontier labels.now settled.now self.old.level self.old.near.items self.old.far }
         ensures taken { IfSome result
-            (λ v. IsTaken labels.now settled.now v self.new.level self.new.near.items self.new.far) }
+            (λ v. TakesNearest labels.now settled.now v self.new.level self.new.near.items self.new.far) }
         ensures none { IfNone result (IsFrontier labels.now settled.now self.new.level [] self.new.far) }
         ensures empty { IfNone result (self.new.near.items ≡ []) }
     {
@@ -107,7 +107,7 @@ impl Frontier {
         requires waits { IsFrontier labels.now settled.now self.old.level [] self.old.far }
         requires empty { self.old.near.items ≡ [] }
         ensures taken { IfSome result
-            (λ v. IsTaken labels.now settled.now v self.new.level self.new.near.items self.new.far) }
+            (λ v. TakesNearest labels.now settled.now v self.new.level self.new.near.items self.new.far) }
         ensures none { IfNone result (IsFrontier labels.now settled.now self.new.level [] []) }
     {
         while let Some((distance, node)) = self.far.take() {

@@ -61,7 +61,7 @@ impl Potentials {
     /// How far each potential lies below 0, by the indices of the nodes.
     pub fn depths(&self) -> &[u64]
         ensures depths { result.now ≡ self.now }
-        ensures limit { (v : ℕ) → slice_index self.now v ≤ 2 ^ 52 }
+        ensures most { (v : ℕ) → slice_index self.now v ≤ 2 ^ 52 }
     {
         &self.depths
     }

@@ -1,4 +1,3 @@
-pub mod OrderLemmas
 pub mod CoverLemmas
 pub mod MergeLemmas
 pub mod IndexLemmas

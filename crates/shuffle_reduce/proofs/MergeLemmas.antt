@@ -15,7 +15,7 @@ use Rattle.word_map.proofs.EntryLemmas.{pairs_of_entries_rise}
 use Rattle.word_map.proofs.PairLemmas.{any_push_cases, any_push_old, any_push_new, any_from_member}
 use Rattle.word_map.proofs.PairLemmas.{member_from_any, any_map, any_from_map}
 use Rattle.shuffle_reduce.specs.Merged.{IsPairOfTexts, IsPartOf, PartView}
-use Rattle.shuffle_reduce.specs.Gather.{AreOfPart, ArePairsOfRuns, GathersRuns, GathersResults, texts_of}
+use Rattle.shuffle_reduce.specs.Gather.{AreOfPart, ArePairsOfRuns, GathersRuns, GathersResults, texts_of_runs}
 
 -- one more gives its pairs
 pub members_of_more : {X : Type 0} (f : X → List Pair) (xs : List X) (x : X) (pairs new : List Pair)
@@ -72,7 +72,7 @@ gathers_one_more_result results i {part} {pairs} {new} inside is before own adds
 -- the pairs of the runs of a part are those of their texts whose words belong to it
 pairs_of_runs : {runs : List (Arc RunView Global)} {part parts : ℕ} {pairs : List Pair} →
     GathersRuns runs pairs → AreOfPart runs part parts → (pair : Pair) →
-    Contains pairs pair ↔ (IsPairOfTexts (texts_of runs) pair × (part_of pair.word parts ≡ part))
+    Contains pairs pair ↔ (IsPairOfTexts (texts_of_runs runs) pair × (part_of pair.word parts ≡ part))
 pairs_of_runs {runs} {part} {parts} {pairs} gathers same pair = (
   (λ h.
       let m = member_from_any (λ (run : Arc RunView Global). Contains (arc_value run).pairs pair) runs
@@ -116,7 +116,7 @@ pairs_from_entries table entries gathers are same = record {
 pub part_from_entries : {runs : List (Arc RunView Global)} {part parts : ℕ}
     (table entries : List EntryView) → GathersRuns runs (pairs_of_index table) → AreOfPart runs part parts →
     AreEntries entries → ((pair : Pair) → Contains (pairs_of_index entries) pair ↔ Contains
-    (pairs_of_index table) pair) → IsPartOf (texts_of runs) part parts (pairs_of_index entries)
+    (pairs_of_index table) pair) → IsPartOf (texts_of_runs runs) part parts (pairs_of_index entries)
 part_from_entries table entries gathers of_part are same = record {
   rising = pairs_of_entries_rise entries are.words are.documents;
   exact = λ pair. (

@@ -4,7 +4,7 @@ use Rattle.std.specs.Arc.{arc_value}
 use Rattle.std.specs.declared.alloc.Global.{Global}
 use Rattle.std.specs.declared.sync.Arc.{Arc}
 use Rattle.word_map.specs.Texts.{SplitDocuments, Pair}
-use Rattle.word_map.specs.Runs.{RunView, IsRunOf, AreRising}
+use Rattle.word_map.specs.Runs.{RunView, IsRunOf, AreRisingPairs}
 use Rattle.shuffle_reduce.specs.Merged.{PartView, IsPartOf}
 
 -- each run is of this part and this number of parts
@@ -13,8 +13,8 @@ AreOfPart runs part parts =
     All (λ (run : Arc RunView Global). ((arc_value run).part ≡ part) × ((arc_value run).parts ≡ parts)) runs
 
 -- the texts of the runs
-abbrev pub texts_of : List (Arc RunView Global) → List SplitDocuments
-texts_of runs = map (λ (run : Arc RunView Global). (arc_value run).text) runs
+abbrev pub texts_of_runs : List (Arc RunView Global) → List SplitDocuments
+texts_of_runs runs = map (λ (run : Arc RunView Global). (arc_value run).text) runs
 
 -- one of the runs has the pair
 abbrev pub IsPairOfRuns : List (Arc RunView Global) → Pair → Type 0
@@ -22,7 +22,7 @@ IsPairOfRuns runs pair = Any (λ (run : Arc RunView Global). Contains (arc_value
 
 -- the pairs are those of the runs, rising, so each stands once
 pub record ArePairsOfRuns (runs : List (Arc RunView Global)) (pairs : List Pair) : Type 0 where
-  pub rising : AreRising pairs
+  pub rising : AreRisingPairs pairs
   pub exact : (pair : Pair) → Contains pairs pair ↔ IsPairOfRuns runs pair
 
 -- the pairs of the runs in any order, each run with the pairs of its text for its part

@@ -4,21 +4,21 @@ use Rattle.std.specs.Prelude.{◌≡◌, ◌↔◌, ◌==◌, ℕ, ◌<◌, ◌�
 use Rattle.std.specs.Prelude.{count_by}
 use Rattle.word_map.specs.declared.text.Document.{Document}
 use Rattle.word_map.specs.Texts.{SplitDocuments, Pair, IsPairOf}
-use Rattle.word_map.specs.Runs.{AreRising}
+use Rattle.word_map.specs.Runs.{AreRisingPairs}
 use Rattle.shuffle_reduce.specs.Merged.{PartView, AreSameTexts, IsPairOfTexts}
 
 -- the words in byte order, each once, each word's documents by number, and each pair of the texts and no
 -- other
 pub record IsIndexOf (texts : List SplitDocuments) (entries : List EntryView) : Type 0 where
   pub words : AllPairs WordIsBelow entries
-  pub rising : AreRising (pairs_of_index entries)
+  pub rising : AreRisingPairs (pairs_of_index entries)
   pub some : All (λ entry. 0 < length entry.documents) entries
   pub exact : (pair : Pair) → Contains (pairs_of_index entries) pair ↔ IsPairOfTexts texts pair
 
 -- the same of documents that are not divided into texts
 pub record IsIndexOfDocuments (documents : List Document) (entries : List EntryView) : Type 0 where
   pub words : AllPairs WordIsBelow entries
-  pub rising : AreRising (pairs_of_index entries)
+  pub rising : AreRisingPairs (pairs_of_index entries)
   pub some : All (λ entry. 0 < length entry.documents) entries
   pub exact : (pair : Pair) → Contains (pairs_of_index entries) pair ↔ IsPairOf documents pair
 

@@ -3,7 +3,7 @@ use Rattle.std.specs.Prelude.{◌≡◌, ◌↔◌, ◌&&◌, ℕ, ◌<◌, Bool
 use Rattle.std.specs.List.{list_all, list_any}
 use Rattle.word_map.specs.Words.{part_of}
 use Rattle.word_map.specs.Texts.{SplitDocuments, Pair, IsPairOf, same_text}
-use Rattle.word_map.specs.Runs.{AreRising}
+use Rattle.word_map.specs.Runs.{AreRisingPairs}
 
 -- the word is a word of a document of one of the texts
 abbrev pub IsPairOfTexts : List SplitDocuments → Pair → Type 0
@@ -11,7 +11,7 @@ IsPairOfTexts texts pair = Any (λ text. IsPairOf text.documents pair) texts
 
 -- the pairs of the texts whose word belongs to the part, rising
 pub record IsPartOf (texts : List SplitDocuments) (part parts : ℕ) (pairs : List Pair) : Type 0 where
-  pub rising : AreRising pairs
+  pub rising : AreRisingPairs pairs
   pub exact : (pair : Pair) →
       Contains pairs pair ↔ (IsPairOfTexts texts pair × (part_of pair.word parts ≡ part))
 

@@ -1,6 +1,6 @@
 ghost use Rattle.std.specs.Prelude.{◌≡◌, IfOk};
 ghost use Rattle.word_map.specs.Entries.{pairs_of_index};
-ghost use Rattle.shuffle_reduce.specs.Gather.{GathersRuns, GathersResults, texts_of, values_of};
+ghost use Rattle.shuffle_reduce.specs.Gather.{GathersRuns, GathersResults, texts_of_runs, values_of};
 
 use crate::part::PartResult;
 use std::alloc::{AllocError, Global};
@@ -9,7 +9,7 @@ use word_map::{Run, SplitText, WordTable};
 
 /// The texts of the runs.
 pub(crate) fn all_texts(alloc: Global, runs: &[Arc<Run>]) -> Result<Vec<Arc<SplitText>>, AllocError>
-    ensures { IfOk result (λ texts. values_of texts.items ≡ texts_of runs.now) }
+    ensures { IfOk result (λ texts. values_of texts.items ≡ texts_of_runs runs.now) }
 {
     let mut texts = Vec::with_capacity(alloc, runs.len())?;
     for run in runs {

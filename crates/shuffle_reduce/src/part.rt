@@ -1,7 +1,7 @@
 ghost use Rattle.std.specs.Prelude.{◌≡◌, ◌↔◌, ◌<◌, ◌≤◌, IfOk, IsTrue};
 ghost use Rattle.shuffle_reduce.specs.Merged.{IsPartOf, AreSameTexts, same_texts};
 ghost use Rattle.word_map.specs.Entries.{AreEntries, pairs_of_index};
-ghost use Rattle.shuffle_reduce.specs.Gather.{AreOfPart, ArePairsOfRuns, texts_of, values_of};
+ghost use Rattle.shuffle_reduce.specs.Gather.{AreOfPart, ArePairsOfRuns, texts_of_runs, values_of};
 
 use crate::covers::are_same_texts;
 use crate::gather::{all_texts, gathered_runs};
@@ -95,9 +95,9 @@ pub fn merge(
     requires same { AreOfPart runs.now part parts }
     ensures part { IfOk result (λ merged. merged.part ≡ part) }
     ensures parts { IfOk result (λ merged. merged.parts ≡ parts) }
-    ensures texts { IfOk result (λ merged. merged.texts ≡ texts_of runs.now) }
+    ensures texts { IfOk result (λ merged. merged.texts ≡ texts_of_runs runs.now) }
     ensures pairs { IfOk result (λ merged. ArePairsOfRuns runs.now merged.pairs) }
-    ensures exact { IfOk result (λ merged. IsPartOf (texts_of runs.now) part parts merged.pairs) }
+    ensures exact { IfOk result (λ merged. IsPartOf (texts_of_runs runs.now) part parts merged.pairs) }
 {
     let texts = all_texts(alloc, runs)?;
     let entries = merged_entries(alloc, runs, part, parts)?;
@@ -119,7 +119,7 @@ fn merged_entries(
     requires { AreOfPart runs.now part parts }
     ensures pairs { IfOk result (λ entries. ArePairsOfRuns runs.now (pairs_of_index entries.items)) }
     ensures exact { IfOk result (λ entries.
-        IsPartOf (texts_of runs.now) part parts (pairs_of_index entries.items)) }
+        IsPartOf (texts_of_runs runs.now) part parts (pairs_of_index entries.items)) }
     ensures entries { IfOk result (λ entries. AreEntries entries.items) }
 {
     let table = gathered_runs(alloc, runs)?;

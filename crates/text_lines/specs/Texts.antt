@@ -1,6 +1,7 @@
 -- Texts, lines, words, names and numbers. A text is a list of lines, each ended by one line feed.
 use Rattle.std.specs.Prelude.{ℕ, List, [], ◌∷◌, ◌≡◌, ◌==◌, ◌+◌, ◌-◌, ◌*◌, ◌≤◌, ◌<◌, ◌⊎◌, length, slice_index}
-use Rattle.std.specs.List.{All, slice_split}
+use Rattle.std.specs.Prelude.{slice_index_or}
+use Rattle.std.specs.List.{All, range_with_len, slice_split}
 
 abbrev pub Word : Type 0
 Word = List ℕ
@@ -15,6 +16,13 @@ lines_of text = slice_split (λ b. b == 10) text
 -- what stands between the spaces; two side by side have an empty word between them
 abbrev pub words_of : Line → List Word
 words_of line = slice_split (λ b. b == 32) line
+
+-- the name of a number, and the numbers of some names, from 0 on
+abbrev pub name_of : List Word → ℕ → Word
+name_of names number = slice_index_or names number []
+
+abbrev pub numbers_of : List Word → List ℕ
+numbers_of names = range_with_len 0 (length names)
 
 -- printable ASCII
 abbrev pub IsPrintable : ℕ → Type 0

@@ -1,5 +1,5 @@
 -- What a run of a command takes from its reader and leaves with its writer.
-use Rattle.std.specs.Prelude.{ℕ, List, ◌≡◌, Option, Ok, Err, IfSome, take}
+use Rattle.std.specs.Prelude.{ℕ, List, ⊤, ◌≡◌, Option, Ok, Err, IfSome, take}
 use Rattle.std.specs.declared.result.Result.{Result}
 use Rattle.std.specs.Io.KnownBytes.{Appends, Keeps}
 use Rattle.text_lines.specs.Streams.{AppendsFront, ConsumesAtMost}
@@ -68,6 +68,10 @@ abbrev pub HasOneAnswer : {End : Type 0} → (List ℕ → Result End TextFault 
     → (Result End TextFault → Result End TextFault → Type 0) → (List ℕ → List ℕ → Type 0) → Type 0
 HasOneAnswer {End} Answers SameEnd Alike = (text : List ℕ) (a b : Result End TextFault) (x y : List ℕ)
     → Answers text a x → Answers text b y → SameEnd a b × Alike x y
+
+-- any two answers are alike, where it stays free which is written
+abbrev pub AnyLines : List ℕ → List ℕ → Type 0
+AnyLines _ _ = ⊤
 
 -- what was written is the answer of the text: any other answer has the same end, and is alike
 abbrev pub WroteItsAnswer : {End : Type 0} → (List ℕ → Result End TextFault → List ℕ → Type 0)

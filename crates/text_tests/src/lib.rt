@@ -1,9 +1,10 @@
 //! Tests of texts, words and commands, called as any caller calls them.
 //!
 //! They show what no clause says: worked values from outside, that each call succeeds where there is memory,
-//! what comes of readers and writers that fail, that are interrupted or that give one byte a call, which words
-//! are lines, that a text is read to its end, and what `clap` says of a command's words. The texts with their
-//! answers are in `examples/`. Nothing stands on this crate, and so the others are proved once, without tests.
+//! what comes of readers and writers that fail, that are interrupted or that give one byte a call, which
+//! words are lines, that a text is read to its end, and what `clap` says of a command's words. The texts with
+//! their answers are in `examples/`. Nothing stands on this crate, and so the others are proved once, without
+//! tests.
 #![tactic(auto)]
 
 #[cfg(test)]

@@ -18,16 +18,16 @@ use Rattle.plan_text.specs.Reading.{HasFitLines, IsProblemOf}
 use Rattle.plan_text.specs.Value as value
 use Rattle.plan_text.specs.Report.{certified_line, lines_of_plan, price_lines, start_lines, wave_line}
 use Rattle.plan_text.specs.declared.built.ProblemText.{ProblemText}
-use Rattle.written_plan.specs.Joined.{IsPlanFor, ReadsBack, with_plan}
+use Rattle.written_plan.specs.Joined.{IsWritable, ReadsBack, with_plan}
 use Rattle.written_plan.proofs.ReadBack.{written_plan_reads_back}
 use Rattle.tools.specs.CheckAnswer.{AnswersRead, SaysCertified}
-use Rattle.tools.specs.PlanAnswer.{ChecksAgain, PlansProblem, PlansRead, SaysPlanned, asked_prices, cost_of}
-use Rattle.tools.specs.PlanAnswer.{count_of}
+use Rattle.tools.specs.PlanAnswer.{ChecksAgain, PlansProblem, PlansRead, SaysPlanned, asked_prices, plan_cost}
+use Rattle.tools.specs.PlanAnswer.{plan_count}
 use Rattle.tools.specs.declared.ending.CheckEnd.TheVariants.{Certified}
 
 -- the line on a plan that is certified
 abbrev line_on : Claim → List ℕ
-line_on c = certified_line (count_of c) (cost_of c)
+line_on c = certified_line (plan_count c) (plan_cost c)
 
 -- a text that declares a claim which its prices certify is certified
 certified_text : (text : List ℕ) (wave : Wave) (starts : List (Option ℕ)) (prices : PriceList)
@@ -53,7 +53,7 @@ certified_text text wave starts prices back says =
 checks_again : (text : List ℕ) (v : ProblemText) (starts : List (Option ℕ)) (prices : PriceList)
     (with_prices : Bool)
     (lines : List ℕ) → IsProblemOf text v → HasFitLines Planning text
-    → IsPlanFor v.splits v.workers starts prices
+    → IsWritable v.splits v.workers starts prices
     → SaysPlanned with_prices (claim v.problem starts prices) v.splits v.workers lines
     → ChecksAgain text (claim v.problem starts prices) v.splits v.workers
 checks_again text v starts prices with_prices lines read fit sized says short =
@@ -95,7 +95,7 @@ all_below n m (x ∷ xs) less each =
 
 plan_for_names : (ss ws : List Word) (c : Claim) (plan_workers : ℕ) → length ss ≡ length c.wave.splits
     → length ws ≡ length c.wave.workers → HasOneSize c plan_workers → Certifies c → reward c.wave < 2 ^ 64
-    → IsPlanFor ss ws c.starts c.prices
+    → IsWritable ss ws c.starts c.prices
 plan_for_names ss ws c plan_workers as_splits as_workers sized certifies small = record {
   split_starts = sized.starts ∙ sym as_splits;
   split_prices = sized.split_prices ∙ sym as_splits;
@@ -108,13 +108,13 @@ plan_for_names ss ws c plan_workers as_splits as_workers sized certifies small =
 
 -- the line and the starts of a plan whose parts are those of the claim
 pub front_of : (ss ws : List Word) (c : Claim) (count cost : ℕ) (starts : List (Option ℕ)) (lines : List ℕ)
-    → starts ≡ c.starts → count ≡ count_of c → cost ≡ cost_of c
+    → starts ≡ c.starts → count ≡ plan_count c → cost ≡ plan_cost c
     → lines ≡ wave_line count cost ++ start_lines ss ws starts
-    → lines ≡ wave_line (count_of c) (cost_of c) ++ start_lines ss ws c.starts
+    → lines ≡ wave_line (plan_count c) (plan_cost c) ++ start_lines ss ws c.starts
 front_of ss ws c count cost starts lines as_starts as_count as_cost said =
     said ∙ ap (λ (q : List (Option ℕ)). wave_line count cost ++ start_lines ss ws q) as_starts
     ∙ ap (λ (n : ℕ). wave_line n cost ++ start_lines ss ws c.starts) as_count
-    ∙ ap (λ (n : ℕ). wave_line (count_of c) n ++ start_lines ss ws c.starts) as_cost
+    ∙ ap (λ (n : ℕ). wave_line (plan_count c) n ++ start_lines ss ws c.starts) as_cost
 
 -- prices that were asked for follow
 pub with_asked : (asked : Bool) (ss ws : List Word) (prices made : PriceList) (front old new : List ℕ)
@@ -138,7 +138,7 @@ pub plans_problem : (with_prices : Bool) (ss ws : List Word) (c : Claim) (plan_w
     → length ss ≡ length c.wave.splits → length ws ≡ length c.wave.workers → HasOneSize c plan_workers
     → Certifies c
     → IsBest c.wave (pairs_of c.starts) → reward c.wave < 2 ^ 64
-    → lines ≡ (wave_line (count_of c) (cost_of c) ++ start_lines ss ws c.starts)
+    → lines ≡ (wave_line (plan_count c) (plan_cost c) ++ start_lines ss ws c.starts)
     ++ asked_prices with_prices ss ws c.prices
     → PlansProblem c.wave ss ws with_prices lines
 plans_problem asked ss ws c n lines as_splits as_workers sized certifies best small said = record {

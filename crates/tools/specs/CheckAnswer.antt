@@ -9,7 +9,7 @@ use Rattle.price_certificate.specs.Certificate.{Claim, Certifies, IsFirstFailure
 use Rattle.price_certificate.specs.declared.Condition.{Condition}
 use Rattle.line_shapes.specs.Lines.{Statement}
 use Rattle.plan_text.specs.Names.{splits, workers}
-use Rattle.line_rules.specs.Texts.{Reads}
+use Rattle.line_rules.specs.Texts.{ReadsAs}
 use Rattle.line_rules.specs.declared.purpose.Purpose.TheVariants.{Checking}
 use Rattle.plan_text.specs.Value.{DeclaresWave, prices, starts}
 use Rattle.plan_text.specs.Report.{certified_line, refused_line}
@@ -34,16 +34,16 @@ abbrev pub Judges : CheckEnd → Claim → List Word → List Word → List ℕ 
 Judges Certified c splits workers line = SaysCertified c line
 Judges (Refused condition) c splits workers line = SaysRefused condition c splits workers line
 
-abbrev pub claim_of : Wave → List Statement → Claim
-claim_of wave ss = claim wave (starts ss) (prices ss)
+abbrev pub declared_claim : Wave → List Statement → Claim
+declared_claim wave ss = claim wave (starts ss) (prices ss)
 
 -- the line is on the problem, plan and prices that the text declares
 pub record AnswersRead (text : List ℕ) (end : CheckEnd) (line : List ℕ) : Type 0 where
   pub statements : List Statement
   pub wave : Wave
-  pub reads : Reads Checking text statements
+  pub reads : ReadsAs Checking text statements
   pub declared : DeclaresWave statements wave
-  pub judges : Judges end (claim_of wave statements) (splits statements) (workers statements) line
+  pub judges : Judges end (declared_claim wave statements) (splits statements) (workers statements) line
 
 -- the line with which a check ends so
 abbrev pub CheckAnswer : List ℕ → Result CheckEnd TextFault → List ℕ → Type 0

@@ -45,13 +45,13 @@ status_of (Failed Write) = 4
 status_of (Failed HistoryFull) = 5
 status_of Misused = 64
 
-abbrev pub words_of : Ending → Option (List ℕ)
-words_of (Failed Memory) = Some (codes "mrjob: no memory")
-words_of (Failed Read) = Some (codes "mrjob: read fault")
-words_of (Failed Write) = Some (codes "mrjob: write fault")
-words_of (Failed HistoryFull) = Some (codes "mrjob: history full")
-words_of (Failed (Text fault)) = None
-words_of Well = None
-words_of Refused = None
-words_of Stuck = None
-words_of Misused = None
+abbrev pub message_of : Ending → Option (List ℕ)
+message_of (Failed Memory) = Some (codes "mrjob: no memory")
+message_of (Failed Read) = Some (codes "mrjob: read fault")
+message_of (Failed Write) = Some (codes "mrjob: write fault")
+message_of (Failed HistoryFull) = Some (codes "mrjob: history full")
+message_of (Failed (Text fault)) = None
+message_of Well = None
+message_of Refused = None
+message_of Stuck = None
+message_of Misused = None

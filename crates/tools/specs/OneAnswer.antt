@@ -9,11 +9,11 @@ use Rattle.line_rules.specs.declared.purpose.Purpose.TheVariants.{Checking, Plan
 use Rattle.line_rules.proofs.OneReading.{reads-faultless, reads-unique}
 use Rattle.plan_text.specs.Report.{refused_line}
 use Rattle.plan_text.specs.Value.{DeclaresWave}
-use Rattle.text_reading.specs.Running.{HasOneAnswer}
+use Rattle.text_reading.specs.Running.{HasOneAnswer, AnyLines}
 use Rattle.fault_answers.proofs.OneFault.{one_fault}
 use Rattle.plan_text.proofs.OneWave.{same_bars, same_parts}
-use Rattle.tools.specs.CheckAnswer.{AnswersRead, CheckAnswer, Judges, claim_of}
-use Rattle.tools.specs.PlanAnswer.{AnyLines, PlanAnswer}
+use Rattle.tools.specs.CheckAnswer.{AnswersRead, CheckAnswer, Judges, declared_claim}
+use Rattle.tools.specs.PlanAnswer.{PlanAnswer}
 use Rattle.tools.specs.declared.ending.CheckEnd.{CheckEnd}
 use Rattle.tools.specs.declared.ending.CheckEnd.TheVariants.{Certified, Refused}
 use Rattle.tools.specs.declared.ending.PlanEnd.TheVariants.{Planned}
@@ -40,12 +40,12 @@ one_answer_read text a b x y g h =
     let same : h.statements ≡ ss = reads-unique Checking text h.statements ss h.reads g.reads in
     let made : DeclaresWave ss h.wave =
     subst (λ q. DeclaresWave q h.wave) same h.declared in
-    let judges : Judges b (claim_of h.wave ss) (splits ss) (workers ss) y =
-    subst (λ q. Judges b (claim_of h.wave q) (splits q) (workers q) y) same h.judges in
+    let judges : Judges b (declared_claim h.wave ss) (splits ss) (workers ss) y =
+    subst (λ q. Judges b (declared_claim h.wave q) (splits q) (workers q) y) same h.judges in
     let parts = same_parts rows g.wave h.wave g.declared made in
-    one_judgement (claim_of g.wave ss) (splits ss) (workers ss) g.wave.barred h.wave.barred
+    one_judgement (declared_claim g.wave ss) (splits ss) (workers ss) g.wave.barred h.wave.barred
     (same_bars rows g.wave h.wave g.declared made) a b x y g.judges
-    (subst (λ w. Judges b (claim_of w ss) (splits ss) (workers ss) y) parts judges)
+    (subst (λ w. Judges b (declared_claim w ss) (splits ss) (workers ss) y) parts judges)
 
 -- at most one end of a check and one line answer a text
 pub one_check_answer : HasOneAnswer CheckAnswer (λ a b. a ≡ b) (λ x y. x ≡ y)

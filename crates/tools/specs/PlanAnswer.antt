@@ -1,5 +1,5 @@
 -- What is answered to a problem that is to be planned, and the lines that are written.
-use Rattle.std.specs.Prelude.{ℕ, List, [], ⊤, ◌≡◌, ◌++◌, ◌≤◌, Bool, true, false, Option, Ok, Err, length}
+use Rattle.std.specs.Prelude.{ℕ, List, [], ◌≡◌, ◌++◌, ◌≤◌, Bool, true, false, Option, Ok, Err, length}
 use Rattle.std.specs.declared.result.Result.{Result}
 use Rattle.text_lines.specs.Texts.{Word}
 use Rattle.text_lines.specs.declared.fault.TextFault.{TextFault}
@@ -9,22 +9,22 @@ use Rattle.price_certificate.specs.Certificate.{Claim, Certifies, claim}
 use Rattle.price_certificate.specs.PriceList.{PriceList}
 use Rattle.line_shapes.specs.Lines.{Statement}
 use Rattle.plan_text.specs.Names.{splits, workers}
-use Rattle.line_rules.specs.Texts.{Reads, longest}
+use Rattle.line_rules.specs.Texts.{ReadsAs, longest}
 use Rattle.line_rules.specs.declared.purpose.Purpose.TheVariants.{Planning}
 use Rattle.plan_text.specs.Value.{DeclaresWave}
 use Rattle.plan_text.specs.Report.{certified_line, lines_of_plan, price_lines, start_lines, wave_line}
-use Rattle.written_plan.specs.Joined.{IsPlanFor, with_plan}
+use Rattle.written_plan.specs.Joined.{IsWritable, with_plan}
 use Rattle.fault_answers.specs.Faulty.{IsFaulty}
 use Rattle.tools.specs.CheckAnswer.{CheckAnswer}
 use Rattle.tools.specs.declared.ending.CheckEnd.TheVariants.{Certified}
 use Rattle.tools.specs.declared.ending.PlanEnd.{PlanEnd}
 
 -- how many splits a plan starts, and at what cost
-abbrev pub count_of : Claim → ℕ
-count_of c = length (pairs_of c.starts)
+abbrev pub plan_count : Claim → ℕ
+plan_count c = length (pairs_of c.starts)
 
-abbrev pub cost_of : Claim → ℕ
-cost_of c = total c.wave (pairs_of c.starts)
+abbrev pub plan_cost : Claim → ℕ
+plan_cost c = total c.wave (pairs_of c.starts)
 
 -- the prices, where they are asked for
 abbrev pub asked_prices : Bool → List Word → List Word → PriceList → List ℕ
@@ -37,7 +37,7 @@ pub record SaysPlanned (with_prices : Bool) (c : Claim) (splits workers : List W
     (lines : List ℕ) : Type 0 where
   pub certifies : Certifies c
   pub best : IsBest c.wave (pairs_of c.starts)
-  pub said : lines ≡ wave_line (count_of c) (cost_of c) ++ start_lines splits workers c.starts
+  pub said : lines ≡ wave_line (plan_count c) (plan_cost c) ++ start_lines splits workers c.starts
       ++ asked_prices with_prices splits workers c.prices
 
 -- starts and prices, put after the head of the text, are a text that a check certifies, if it is short enough
@@ -45,7 +45,7 @@ abbrev pub ChecksAgain : List ℕ → Claim → List Word → List Word → Type
 ChecksAgain text c splits workers =
     length (with_plan text (lines_of_plan splits workers c.starts c.prices)) ≤ longest
     → CheckAnswer (with_plan text (lines_of_plan splits workers c.starts c.prices)) (Ok Certified)
-    (certified_line (count_of c) (cost_of c))
+    (certified_line (plan_count c) (plan_cost c))
 
 -- the lines are on the problem that the text declares
 pub record PlansRead (text : List ℕ) (with_prices : Bool) (lines : List ℕ) : Type 0 where
@@ -53,7 +53,7 @@ pub record PlansRead (text : List ℕ) (with_prices : Bool) (lines : List ℕ) :
   pub wave : Wave
   pub starts : List (Option ℕ)
   pub prices : PriceList
-  pub reads : Reads Planning text statements
+  pub reads : ReadsAs Planning text statements
   pub declared : DeclaresWave statements wave
   pub says : SaysPlanned with_prices (claim wave starts prices) (splits statements) (workers statements) lines
   pub checks : ChecksAgain text (claim wave starts prices) (splits statements) (workers statements)
@@ -63,14 +63,10 @@ abbrev pub PlanAnswer : List ℕ → Bool → Result PlanEnd TextFault → List 
 PlanAnswer text with_prices (Ok end) lines = PlansRead text with_prices lines
 PlanAnswer text with_prices (Err fault) lines = IsFaulty Planning text fault lines
 
--- which of the best plans is written, and with which prices, stays free
-abbrev pub AnyLines : List ℕ → List ℕ → Type 0
-AnyLines _ _ = ⊤
-
 -- the lines are on a plan of this problem, whose splits and workers have these names
 pub record PlansProblem (wave : Wave) (splits workers : List Word) (with_prices : Bool)
     (lines : List ℕ) : Type 0 where
   pub starts : List (Option ℕ)
   pub prices : PriceList
-  pub sized : IsPlanFor splits workers starts prices
+  pub sized : IsWritable splits workers starts prices
   pub says : SaysPlanned with_prices (claim wave starts prices) splits workers lines

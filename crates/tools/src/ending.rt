@@ -36,7 +36,7 @@ impl Ending {
     ghost use Rattle.std.specs.Prelude.{◌≡◌};
     ghost use Rattle.std.specs.Option.{option_map};
     ghost use Rattle.tools.specs.Ending.{ending_of_asking, ending_of_check, ending_of_plan};
-    ghost use Rattle.tools.specs.Ending.{status_of, words_of};
+    ghost use Rattle.tools.specs.Ending.{status_of, message_of};
 
     /// The end of a program whose check ended so.
     pub fn of_check(end: Result<CheckEnd, ToolError>) -> Ending
@@ -87,7 +87,7 @@ impl Ending {
 
     /// What is told on standard error, without its line feed; the text of wrong words is `clap`'s.
     pub fn words(self) -> Option<&'static str>
-        ensures { option_map (λ words. words.now) result ≡ words_of self }
+        ensures { option_map (λ words. words.now) result ≡ message_of self }
     {
         match self {
             Ending::Failed(ToolError::Memory) => Some("mrjob: no memory"),

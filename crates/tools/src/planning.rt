@@ -1,6 +1,6 @@
 ghost use Rattle.std.specs.Prelude.{◌≡◌, ◌≢◌, Err, IfOk, length, string_bytes};
-ghost use Rattle.text_reading.specs.Running.{HasRun, NoText};
-ghost use Rattle.tools.specs.PlanAnswer.{AnyLines, PlanAnswer, PlansProblem};
+ghost use Rattle.text_reading.specs.Running.{HasRun, NoText, AnyLines};
+ghost use Rattle.tools.specs.PlanAnswer.{PlanAnswer, PlansProblem};
 ghost use Rattle.tools.specs.OneAnswer.{one_plan_answer};
 
 use crate::ending::PlanEnd;

@@ -173,7 +173,7 @@ impl Problem {
     pub fn tree(&self) -> &RackTree
         ensures tree { result.now ≡ self.now.tree }
         ensures lines { length self.now.workers ≡ length self.now.tree.rack_of }
-        ensures limit { length self.now.workers ≤ MAX_WORKERS }
+        ensures most { length self.now.workers ≤ MAX_WORKERS }
     {
         &self.tree
     }
@@ -181,7 +181,7 @@ impl Problem {
     /// How many splits there are.
     pub fn splits(&self) -> usize
         ensures count { result ≡ length self.now.splits }
-        ensures limit { result ≤ MAX_SPLITS }
+        ensures most { result ≤ MAX_SPLITS }
     {
         self.splits.len()
     }
@@ -189,7 +189,7 @@ impl Problem {
     /// How many workers there are.
     pub fn workers(&self) -> usize
         ensures count { result ≡ length self.now.workers }
-        ensures limit { result ≤ MAX_WORKERS }
+        ensures most { result ≤ MAX_WORKERS }
     {
         self.workers.len()
     }
@@ -206,7 +206,7 @@ impl Problem {
     pub fn free(&self, worker: WorkerNo) -> u8
         requires { worker < length self.now.workers }
         ensures slots { result ≡ (worker_at self.now worker).free }
-        ensures limit { result ≤ MAX_SLOTS }
+        ensures most { result ≤ MAX_SLOTS }
     {
         self.workers[worker.index()].free
     }
@@ -215,7 +215,7 @@ impl Problem {
     pub fn bytes(&self, split: SplitNo) -> u64
         requires { split < length self.now.splits }
         ensures size { result ≡ (split_at self.now split).bytes }
-        ensures limit { result ≤ MAX_BYTES }
+        ensures most { result ≤ MAX_BYTES }
     {
         self.splits[split.index()].bytes
     }
@@ -234,7 +234,7 @@ impl Problem {
         ensures holders { result.now ≡ (split_at self.now split).holders }
         ensures known { All (λ h. h < length self.now.workers) result.now }
         ensures distinct { AllPairs (λ a b. a ≢ b) result.now }
-        ensures limit { length result.now ≤ MAX_HOLDERS }
+        ensures most { length result.now ≤ MAX_HOLDERS }
     {
         let line = &self.splits[split.index()];
         line.holders.as_slice()
@@ -272,7 +272,7 @@ impl Problem {
         requires split { split < length self.now.splits }
         requires worker { worker < length self.now.workers }
         ensures cost { result ≡ cost self.now split worker }
-        ensures limit { IfSome result (λ c. c ≤ MAX_DISTANCE * MAX_BYTES) }
+        ensures most { IfSome result (λ c. c ≤ MAX_DISTANCE * MAX_BYTES) }
     {
         let line = &self.splits[split.index()];
         match least_distance(&self.tree, &self.workers, line.holders.as_slice(), worker) {
@@ -297,7 +297,7 @@ impl Problem {
     /// What one start more is worth, in byte-distance: more than any admissible assignment costs.
     pub fn reward(&self) -> u64
         ensures reward { result ≡ reward self.now }
-        ensures limit { result ≤ 1 + MAX_DISTANCE * MAX_SPLITS * MAX_BYTES }
+        ensures most { result ≤ 1 + MAX_DISTANCE * MAX_SPLITS * MAX_BYTES }
     {
         1 + u64::from(self.tree.reach()) * total_bytes(&self.splits)
     }
@@ -313,7 +313,7 @@ fn least_distance(
     requires holders { All (λ h. h < length workers.now) holders.now }
     requires to { to < length workers.now }
     ensures least { result ≡ least (map (λ h. distance tree.now h to) (live_among workers.now holders.now)) }
-    ensures limit { IfSome result (λ steps. steps ≤ MAX_DISTANCE) }
+    ensures most { IfSome result (λ steps. steps ≤ MAX_DISTANCE) }
 {
     // (no holder is nearer than the worker itself)
     if holders.contains(&to) && lives(workers, to) {
@@ -338,7 +338,7 @@ fn lives(workers: &[WorkerLine], worker: WorkerNo) -> bool
 // The lesser of the least so far and one more.
 fn closer(nearest: Option<u8>, steps: u8) -> u8
     ensures least { (xs : List ℕ) → nearest ≡ least xs → Some result ≡ least (xs ++ steps ∷ []) }
-    ensures limit { result ≤ steps }
+    ensures most { result ≤ steps }
 {
     match nearest {
         Some(least) if least <= steps => least,
@@ -362,7 +362,7 @@ fn total_bytes(splits: &[SplitEntry]) -> u64
     requires few { length splits.now ≤ MAX_SPLITS }
     requires small { All (λ split. split.bytes ≤ MAX_BYTES) splits.now }
     ensures sum { result ≡ sum_by (λ split. split.bytes) splits.now }
-    ensures limit { result ≤ MAX_SPLITS * MAX_BYTES }
+    ensures most { result ≤ MAX_SPLITS * MAX_BYTES }
 {
     let mut total = 0;
     for split in splits {

@@ -55,7 +55,7 @@ impl LiveHolders {
         ensures least { (tree : Tree) (live : List ℕ) → slice_index tree.rack_of worker ≡ rack
             → centre_at tree worker ≡ centre → Shows tree live self.now
             → result ≡ least (map (λ h. distance tree h worker) live) }
-        ensures limit { IfSome result (λ steps. steps ≤ MAX_DISTANCE) }
+        ensures most { IfSome result (λ steps. steps ≤ MAX_DISTANCE) }
     {
         if !self.is_some {
             None
@@ -129,7 +129,7 @@ impl<'a> SplitCosts<'a> {
     pub fn cost(&self, worker: WorkerNo) -> Option<u64>
         requires { worker < length self.now.wave.workers }
         ensures cost { result ≡ cost self.now.wave self.now.split worker }
-        ensures limit { IfSome result (λ c. c ≤ MAX_DISTANCE * MAX_BYTES) }
+        ensures most { IfSome result (λ c. c ≤ MAX_DISTANCE * MAX_BYTES) }
     {
         let tree = self.problem.tree();
         let rack = tree.rack_of(worker);

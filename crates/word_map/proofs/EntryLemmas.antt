@@ -14,7 +14,7 @@ use Rattle.std.proofs.lemmas.List.Elements.{Contains-get_or, Contains-push, Cont
 use Rattle.std.proofs.lemmas.List.Elements.{Contains-append_left, Contains-append_right}
 use Rattle.std.proofs.lemmas.List.Elements.{Contains-append_cases}
 use Rattle.word_map.specs.Texts.{Pair}
-use Rattle.word_map.specs.Runs.{AreRising, pair_cmp}
+use Rattle.word_map.specs.Runs.{AreRisingPairs, pair_cmp}
 use Rattle.word_map.specs.Entries.{EntryView, pair_of, pairs_of_entry, pairs_of_index, WordIsBelow}
 use Rattle.word_map.specs.Entries.{DocumentsRise}
 use Rattle.word_map.proofs.PairLemmas.{any_from_member, member_from_any, any_map, any_from_map}
@@ -96,13 +96,13 @@ unfolding IsStrictlySortedBy
 pairs_rise w [] rising = tt
 pairs_rise w (d ∷ ds) rising = (pairs_above w d ds rising.0, pairs_rise w ds rising.1)
 
-no_pairs_rise : AreRising []
+no_pairs_rise : AreRisingPairs []
 unfolding IsStrictlySortedBy
 no_pairs_rise = tt
 
 -- where the words rise, and the documents of each, so do the pairs
 pub pairs_of_entries_rise : (es : List EntryView) → AllPairs WordIsBelow es → All DocumentsRise es →
-    AreRising (pairs_of_index es)
+    AreRisingPairs (pairs_of_index es)
 pairs_of_entries_rise [] words documents = no_pairs_rise
 pairs_of_entries_rise (e ∷ es) words documents =
     let others : AllPairs WordIsBelow es = (λ i j d low inside. words (suc i) (suc j) d (omega arith)

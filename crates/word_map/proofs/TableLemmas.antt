@@ -17,7 +17,7 @@ use Rattle.std.proofs.lemmas.Map.Views.{hash_map_get_iff}
 use Rattle.std.proofs.lemmas.Slice.Eq.{bytes_eq-Decides}
 use Rattle.word_map.specs.Texts.{Pair}
 use Rattle.word_map.specs.Entries.{EntryView, pairs_of_entry, pairs_of_index}
-use Rattle.word_map.specs.Table.{documents_of, Has, IsTable, views, Adds}
+use Rattle.word_map.specs.Table.{documents_of, Has, IsTable, views, AddsPairs}
 use Rattle.word_map.proofs.EntryLemmas.{HasPair, own_from_pair, pair_of_own, pair_in_entries, entries_of_pair}
 use Rattle.word_map.proofs.PairLemmas.{any_map, any_from_map, any_from_member, member_from_any}
 
@@ -54,7 +54,7 @@ module _ {S : Type 0} (m : HashMap (List ℕ) (Vec ℕ Global) S) (unique : IsUn
 -- what a table has more than before, its entries' pairs have more
 pub adds_pairs : {S : Type 0} {m n : HashMap (List ℕ) (Vec ℕ Global) S} (Added : List ℕ → ℕ → Type 0) →
     IsTable m → IsTable n → ((w : List ℕ) (k : ℕ) → Has n w k ↔ (Has m w k ⊎ Added w k)) →
-    Adds (views m.entries) (views n.entries) (λ pair. Added pair.word pair.document)
+    AddsPairs (views m.entries) (views n.entries) (λ pair. Added pair.word pair.document)
 adds_pairs {S} {m} {n} Added was is adds = record {
   exact = λ pair. (
     (λ h. ⊎_elim (λ old. inl ((pairs_of_table m was.unique pair).1 old)) (λ new. inr new)
@@ -67,8 +67,8 @@ adds_pairs {S} {m} {n} Added was is adds = record {
 -- one more entry's pairs
 pub adds_more : (entries : List EntryView) (i : ℕ) (entry : EntryView) {old new newer : List EntryView} →
     i < length entries → entry ≡ get_or entries i entry →
-    Adds old new (Contains (pairs_of_index (take i entries))) →
-    Adds new newer (Contains (pairs_of_entry entry)) → Adds old newer
+    AddsPairs old new (Contains (pairs_of_index (take i entries))) →
+    AddsPairs new newer (Contains (pairs_of_entry entry)) → AddsPairs old newer
     (Contains (pairs_of_index (take (i + 1) entries)))
 adds_more entries i entry {old} {new} {newer} inside is before adds =
     let more : pairs_of_index (take (i + 1) entries) ≡ pairs_of_index
@@ -93,7 +93,7 @@ adds_more entries i entry {old} {new} {newer} inside is before adds =
           );
     }
 
-pub adds_none : (old : List EntryView) → Adds old old (Contains [])
+pub adds_none : (old : List EntryView) → AddsPairs old old (Contains [])
 adds_none old = record {
   exact = λ pair. (
     (λ h. inl h),
@@ -103,8 +103,8 @@ adds_none old = record {
 
 -- the pairs of an entry are its word with its documents
 pub adds_entry : (entry : EntryView) {old new : List EntryView} →
-    Adds old new (λ pair. (pair.word ≡ entry.word) × Contains entry.documents pair.document) →
-    Adds old new (Contains (pairs_of_entry entry))
+    AddsPairs old new (λ pair. (pair.word ≡ entry.word) × Contains entry.documents pair.document) →
+    AddsPairs old new (Contains (pairs_of_entry entry))
 adds_entry entry {old} {new} adds = record {
   exact = λ pair. (
     (λ h. ⊎_elim (λ o. inl o) (λ (own : (pair.word ≡ entry.word) × Contains entry.documents pair.document).

@@ -16,12 +16,12 @@ abbrev pub pair_cmp : Pair → Pair → Ordering
 pair_cmp a b = ordering_then (slice_cmp nat_cmp a.word b.word) (nat_cmp a.document b.document)
 
 -- the pairs rise, so each stands once
-abbrev pub AreRising : List Pair → Type 0
-AreRising pairs = IsStrictlySortedBy pair_cmp pairs
+abbrev pub AreRisingPairs : List Pair → Type 0
+AreRisingPairs pairs = IsStrictlySortedBy pair_cmp pairs
 
 -- the pairs of the documents whose word belongs to the part, rising
 pub record IsRunOf (documents : List Document) (part parts : ℕ) (pairs : List Pair) : Type 0 where
-  pub rising : AreRising pairs
+  pub rising : AreRisingPairs pairs
   pub exact : (pair : Pair) →
       Contains pairs pair ↔ (IsPairOf documents pair × (part_of pair.word parts ≡ part))
 

@@ -31,6 +31,6 @@ views entries = map (λ (e : List ℕ × Vec ℕ Global). let v : EntryView =
     record { word = e.0; documents = e.1.items } in v) entries
 
 -- new has the pairs of old and those that are added, and no other
-pub record Adds (old new : List EntryView) (Added : Pair → Type 0) : Type 0 where
+pub record AddsPairs (old new : List EntryView) (Added : Pair → Type 0) : Type 0 where
   pub exact : (pair : Pair) → Contains (pairs_of_index new) pair ↔
       (Contains (pairs_of_index old) pair ⊎ Added pair)

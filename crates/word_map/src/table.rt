@@ -5,7 +5,7 @@ ghost use Rattle.std.specs.Ordering.{nat_cmp};
 ghost use Rattle.std.specs.HashMap.{keys};
 ghost use Rattle.word_map.specs.Texts.{Pair};
 ghost use Rattle.word_map.specs.Entries.{AreEntries, DocumentsRise, pairs_of_entry, pairs_of_index};
-ghost use Rattle.word_map.specs.Table.{Adds, Has, IsTable, views};
+ghost use Rattle.word_map.specs.Table.{AddsPairs, Has, IsTable, views};
 
 use crate::distinct::sort_distinct;
 use crate::entry::Entry;
@@ -100,7 +100,7 @@ impl<'a> WordTable<'a> {
         document: DocNo,
     ) -> Result<(), AllocError>
         ensures { OnOk result
-            (Adds self.old self.new (λ pair. (pair.word ≡ word.entry) × (pair.document ≡ document))) }
+            (AddsPairs self.old self.new (λ pair. (pair.word ≡ word.entry) × (pair.document ≡ document))) }
     {
         note(alloc, &mut self.table, word, document)
     }
@@ -108,7 +108,7 @@ impl<'a> WordTable<'a> {
     // Adds the documents of the entry to those of its word.
     fn add_entry(&mut self, alloc: Global, entry: &'a Entry) -> Result<(), AllocError>
         requires { 0 < length entry.now.documents }
-        ensures { OnOk result (Adds self.old self.new (Contains (pairs_of_entry entry.now))) }
+        ensures { OnOk result (AddsPairs self.old self.new (Contains (pairs_of_entry entry.now))) }
     {
         let word = Word::new(entry.word());
         add_documents(alloc, &mut self.table, word, entry.documents())
@@ -117,7 +117,7 @@ impl<'a> WordTable<'a> {
     /// Adds the documents of each entry to those of its word.
     pub fn add(&mut self, alloc: Global, entries: &'a [Entry]) -> Result<(), AllocError>
         requires { AreEntries entries.now }
-        ensures { OnOk result (Adds self.old self.new (Contains (pairs_of_index entries.now))) }
+        ensures { OnOk result (AddsPairs self.old self.new (Contains (pairs_of_index entries.now))) }
     {
         for entry in entries {
             self.add_entry(alloc, entry)?;

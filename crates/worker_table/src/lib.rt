@@ -103,7 +103,7 @@ impl WorkerTable {
     pub fn slots(&self, worker: WorkerNo) -> u8
         requires { worker < length self.now.each }
         ensures count { result ≡ (worker_at self.now worker).slots }
-        ensures limit { result ≤ 16 }
+        ensures most { result ≤ 16 }
     {
         self.workers[worker.index()].slots
     }
@@ -112,7 +112,7 @@ impl WorkerTable {
     pub fn free(&self, worker: WorkerNo) -> u8
         requires { worker < length self.now.each }
         ensures count { result ≡ free_slots self.now worker }
-        ensures limit { result ≤ 16 }
+        ensures most { result ≤ 16 }
     {
         let found = self.workers[worker.index()];
         found.slots - found.taken

@@ -13,7 +13,7 @@ use Rattle.wave_problem.specs.Wave.{Wave}
 use Rattle.price_certificate.specs.PriceList.{PriceList}
 use Rattle.text_lines.specs.Texts.{IsName, Word, number_of}
 use Rattle.line_shapes.proofs.Mapped.{AllPairs-map, AllPairs-unmap}
-use Rattle.line_shapes.specs.Demands.{Meets}
+use Rattle.line_shapes.specs.Demands.{MeetsDemand}
 use Rattle.line_shapes.specs.Lines.{Statement}
 use Rattle.line_shapes.specs.Places.{place_at, places_of}
 use Rattle.line_shapes.specs.declared.demand.Demand.TheVariants.{Name}
@@ -25,10 +25,11 @@ use Rattle.line_shapes.specs.declared.keyword.Keyword.TheVariants.{Busy}
 use Rattle.line_rules.specs.Entering.{entering_of, key_of}
 use Rattle.line_rules.specs.Known.{is_of, rows_of}
 use Rattle.line_rules.specs.declared.entering.Entering.TheVariants.{Word as ByWord}
-use Rattle.plan_text.specs.Names.{names_in, names_of, word_at}
+use Rattle.plan_text.specs.Names.{names_in, names_of, nth_word}
 use Rattle.plan_text.specs.Tidy.{AreTidy, IsTidyRow}
-use Rattle.plan_text.specs.Value.{IsBarred, MakesWave, price_at, prices_in, split_line, start_at, starts_in}
-use Rattle.plan_text.specs.Value.{tree_of, worker_line}
+use Rattle.plan_text.specs.Value.{IsBarred, MakesWave, price_at, prices_in, declared_split}
+use Rattle.plan_text.specs.Value.{start_at, declared_starts}
+use Rattle.plan_text.specs.Value.{declared_tree, declared_worker}
 use Rattle.plan_text.proofs.Named.{key_by_word, keyword_of, named_row}
 use Rattle.written_plan.proofs.Heads.{AreApart, IsBare}
 use Rattle.written_plan.proofs.Pairs.{new-none, price_pairs, price_said, priced_amounts, priced_names}
@@ -42,12 +43,12 @@ use Rattle.written_plan.proofs.Words.{number_of-decimal}
 -- ---- the names of a head
 
 abbrev AreNamed : Keyword → List Statement → Type 0
-AreNamed k rows = (s : Statement) → s.keyword ≡ k → IsTidyRow rows s → IsName (word_at 0 s)
+AreNamed k rows = (s : Statement) → s.keyword ≡ k → IsTidyRow rows s → IsName (nth_word 0 s)
 
 named_in : (k : Keyword) (rows : List Statement) → AreTidy rows → AreNamed k rows →
     All IsName (names_of k rows)
 named_in k rows tidy named =
-    All-map IsName (word_at 0) (rows_of k rows)
+    All-map IsName (nth_word 0) (rows_of k rows)
     (λ i d lt. named (get_or (rows_of k rows) i d) (keyword_of k (get_or (rows_of k rows) i d)
     (filter_passes (is_of k) rows i d lt))
     (All-filter (is_of k) (IsTidyRow rows) rows tidy.each i d lt))
@@ -59,12 +60,12 @@ first_named k first some rows s same tidy =
     let many : length (places_of k) ≤ length s.words =
     subst (λ (i : Keyword). length (places_of i) ≤ length s.words) same tidy.whole in
     let placed : place_at s.keyword 0 ≡ Some New = ap (λ (i : Keyword). place_at i 0) same ∙ first in
-    subst (λ (p : Option Place). Meets Name p (word_at 0 s)) placed (tidy.named 0 (omega arith))
+    subst (λ (p : Option Place). MeetsDemand Name p (nth_word 0 s)) placed (tidy.named 0 (omega arith))
 
 names_differ : (k : Keyword) → entering_of k ≡ ByWord → (rows : List Statement) → AreTidy rows
     → AllPairs (λ a b. a ≢ b) (names_of k rows)
 names_differ k by rows tidy =
-    AllPairs-map (λ a b. a ≢ b) (word_at 0) (rows_of k rows) (λ i j d lt inside same.
+    AllPairs-map (λ a b. a ≢ b) (nth_word 0) (rows_of k rows) (λ i j d lt inside same.
     let s = get_or (rows_of k rows) i d in
     let t = get_or (rows_of k rows) j d in
     let near : i < length (rows_of k rows) = omega arith in
@@ -105,9 +106,9 @@ same_wave rows a b c w h =
     let barred : rows_of Barred rows ≡ rows_of Barred all =
     sym (rows-other Barred rows a b c (λ p ss. refl) (λ p ss. refl)) in
     record {
-      tree = h.tree ∙ (λ i. tree_of (names_in (centres i)) (racks i) (workers i));
-      workers = h.workers ∙ (λ i. map (worker_line (names_in (dead i))) (workers i));
-      splits = h.splits ∙ (λ i. map (split_line (names_in (workers i)) (names_in (busy i))) (splits i));
+      tree = h.tree ∙ (λ i. declared_tree (names_in (centres i)) (racks i) (workers i));
+      workers = h.workers ∙ (λ i. map (declared_worker (names_in (dead i))) (workers i));
+      splits = h.splits ∙ (λ i. map (declared_split (names_in (workers i)) (names_in (busy i))) (splits i));
       barred = λ s n few.
           subst (λ (l : List Statement). HasPair w.barred s n
           ↔ IsBarred (names_of Split all) (names_of Worker all) l s n) barred
@@ -120,14 +121,15 @@ same_wave rows a b c w h =
 
 -- ---- the starts
 
-start_words : (a : List (Word × Word)) → map (word_at 1) (map start_said a) ≡ map (λ p. p.1) a
+start_words : (a : List (Word × Word)) → map (nth_word 1) (map start_said a) ≡ map (λ p. p.1) a
 start_words [] = refl
 start_words (p ∷ ps) = ap (λ (ws : List Word). p.1 ∷ ws) (start_words ps)
 
 pub starts-back : (rows : List Statement) (starts : List (Option ℕ)) (b c : List (Word × ℕ)) → IsBare rows
     → AreNames (names_of Split rows) (names_of Worker rows) → length starts ≡ length (names_of Split rows)
     → ((s w : ℕ) → start_of starts s ≡ Some w → w < length (names_of Worker rows))
-    → starts_in (rows ++ plan_rows (start_pairs (names_of Worker rows) (names_of Split rows) starts) b c)
+    → declared_starts
+    (rows ++ plan_rows (start_pairs (names_of Worker rows) (names_of Split rows) starts) b c)
     ≡ starts
 starts-back rows starts b c bare names count of_workers =
     let splits = names_of Split rows in
@@ -180,7 +182,7 @@ prices-back priced amounts splits workers prices names count more_count all_name
     more_count)
 
 amount_words : (b : List (Word × ℕ)) → All (λ a. a < 2 ^ 64) (map (λ p. p.1) b)
-    → map (λ s. number_of (word_at 1 s)) (map price_said b) ≡ map (λ p. p.1) b
+    → map (λ s. number_of (nth_word 1 s)) (map price_said b) ≡ map (λ p. p.1) b
 amount_words [] small = refl
 amount_words (p ∷ ps) small =
     let first = number_of-decimal p.1 (All-head (λ a. a < 2 ^ 64) p.1 (map (λ q. q.1) ps) small) in
@@ -189,7 +191,7 @@ amount_words (p ∷ ps) small =
 
 amounts_back : (names : List Word) (amounts : List ℕ) → length amounts ≡ length names
     → All (λ a. a < 2 ^ 64) amounts
-    → map (λ s. number_of (word_at 1 s)) (map price_said (price_pairs names amounts)) ≡ amounts
+    → map (λ s. number_of (nth_word 1 s)) (map price_said (price_pairs names amounts)) ≡ amounts
 amounts_back names amounts count small =
     let back = priced_amounts names amounts count in
     amount_words (price_pairs names amounts) (subst (All (λ a. a < 2 ^ 64)) (sym back) small) ∙ back
@@ -212,15 +214,15 @@ prices-read_back rows a prices bare names count more_count small more_small =
     let bs = map price_said b in
     let cs = map price_said c in
     let priced : names_in (bs ++ cs) ≡ splits ++ workers =
-    map-append (word_at 0) bs cs
+    map-append (nth_word 0) bs cs
     ∙ (λ i. price_names b i ++ price_names c i)
     ∙ (λ i. priced_names splits prices.splits count i ++ priced_names workers prices.workers more_count i) in
-    let amounts : map (λ s. number_of (word_at 1 s)) (bs ++ cs) ≡ prices.splits ++ prices.workers =
-    map-append (λ s. number_of (word_at 1 s)) bs cs
+    let amounts : map (λ s. number_of (nth_word 1 s)) (bs ++ cs) ≡ prices.splits ++ prices.workers =
+    map-append (λ s. number_of (nth_word 1 s)) bs cs
     ∙ (λ i. amounts_back splits prices.splits count small i
     ++ amounts_back workers prices.workers more_count more_small i) in
     (λ i. both_kinds (map (price_at (lines i)) (names_in (split_rows i)))
     (map (price_at (lines i)) (names_in (worker_rows i))))
-    ∙ prices-back (names_in (bs ++ cs)) (map (λ s. number_of (word_at 1 s)) (bs ++ cs)) splits workers prices
+    ∙ prices-back (names_in (bs ++ cs)) (map (λ s. number_of (nth_word 1 s)) (bs ++ cs)) splits workers prices
     names
     count more_count priced amounts

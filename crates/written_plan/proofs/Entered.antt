@@ -7,13 +7,13 @@ use Rattle.std.specs.List.{All, Contains}
 use Rattle.std.proofs.lemmas.List.{map-append}
 use Rattle.std.proofs.lemmas.List.Elements.{All-get_or, All-head, All-tail, Contains-get_or, filter-append}
 use Rattle.text_lines.specs.Texts.{IsName, Word, number_of}
-use Rattle.line_shapes.specs.Demands.{Meets}
+use Rattle.line_shapes.specs.Demands.{MeetsDemand}
 use Rattle.line_shapes.specs.Lines.{Statement}
 use Rattle.line_shapes.specs.Places.{place_at}
 use Rattle.line_shapes.specs.declared.demand.Demand.TheVariants.{Name, Range}
 use Rattle.line_shapes.specs.declared.keyword.Keyword.{Keyword}
 use Rattle.line_shapes.specs.declared.keyword.Keyword.TheVariants.{Worker, Split, Plan, Start, Price, End}
-use Rattle.line_rules.specs.Faults.{HasItsPrice, IsFit, IsPriced, KeepsTo}
+use Rattle.line_rules.specs.Faults.{HasItsPrice, IsFit, AreAllPriced, KeepsTo}
 use Rattle.line_rules.specs.Known.{HasRow, Known, entered, is_of, keys_of, rows_of}
 use Rattle.line_rules.specs.Reading.{AreFitLines, IsFitLine}
 use Rattle.line_rules.specs.Sections.{section_of}
@@ -21,7 +21,7 @@ use Rattle.line_rules.specs.declared.purpose.Purpose.{Purpose}
 use Rattle.line_rules.specs.declared.purpose.Purpose.TheVariants.{Checking}
 use Rattle.line_rules.specs.declared.rule.Rule.TheVariants as rule
 use Rattle.line_rules.specs.declared.section.Section.TheVariants.{Head, Body, Ended}
-use Rattle.plan_text.specs.Names.{names_in, names_of, word_at}
+use Rattle.plan_text.specs.Names.{names_in, names_of, nth_word}
 use Rattle.plan_text.proofs.Named.{named_row, row_named}
 use Rattle.written_plan.proofs.Words.{IsMade, both_of, line_of, made-end, made-plan, made-price, made-start}
 use Rattle.written_plan.proofs.Words.{none_of, number-decimal, number_of-decimal, said}
@@ -41,7 +41,8 @@ pub record HasNames (rows : List Statement) (splits workers started priced : Lis
 pub names_of-append : (k : Keyword) (rows more : List Statement)
     → names_of k (rows ++ more) ≡ names_of k rows ++ names_of k more
 names_of-append k rows more =
-    ap names_in (filter-append (is_of k) rows more) ∙ map-append (word_at 0) (rows_of k rows) (rows_of k more)
+    ap names_in (filter-append (is_of k) rows more)
+    ∙ map-append (nth_word 0) (rows_of k rows) (rows_of k more)
 
 -- with lines more that have these names
 module _ (rows more : List Statement) (splits workers started priced : List Word)
@@ -173,13 +174,13 @@ fit-start k splits workers started priced p begun names h =
     record {
       whole = tt;
       may_stand = (in_body k Start begun refl, tt);
-      named = both_of (λ i w. Meets Name (place_at Start i) w) p.0 p.1 h.split_name h.worker_name;
+      named = both_of (λ i w. MeetsDemand Name (place_at Start i) w) p.0 p.1 h.split_name h.worker_name;
       known = both_of (λ i w. KeepsTo rule.Declared k.rows (place_at Start i) w) p.0 p.1 split worker;
       new = record {
         names = both_of (λ i w. KeepsTo rule.Free k.rows (place_at Start i) w) p.0 p.1 tt tt;
         first = tt;
       };
-      in_range = both_of (λ i w. Meets Range (place_at Start i) w) p.0 p.1 tt tt;
+      in_range = both_of (λ i w. MeetsDemand Range (place_at Start i) w) p.0 p.1 tt tt;
       within_limit = record { room = tt; few = tt };
       tail_apart = tt;
       once = not_started k.rows [] splits workers started priced names p.0 h.new;
@@ -245,13 +246,13 @@ fit-price k splits workers started priced p begun names h =
     record {
       whole = tt;
       may_stand = (in_body k Price begun refl, tt);
-      named = both_of (λ i w. Meets Name (place_at Price i) w) p.0 (decimal p.1) h.name tt;
+      named = both_of (λ i w. MeetsDemand Name (place_at Price i) w) p.0 (decimal p.1) h.name tt;
       known = both_of (λ i w. KeepsTo rule.Declared k.rows (place_at Price i) w) p.0 (decimal p.1) known tt;
       new = record {
         names = both_of (λ i w. KeepsTo rule.Free k.rows (place_at Price i) w) p.0 (decimal p.1) tt tt;
         first = tt;
       };
-      in_range = both_of (λ i w. Meets Range (place_at Price i) w) p.0 (decimal p.1) tt
+      in_range = both_of (λ i w. MeetsDemand Range (place_at Price i) w) p.0 (decimal p.1) tt
           (number-decimal p.1 h.amount, omega arith, small);
       within_limit = record { room = tt; few = tt };
       tail_apart = tt;
@@ -281,10 +282,10 @@ fit-plan k checking in_head once =
     fit-line k Plan [] made-plan (λ ended. let both : Head ≡ Ended = sym in_head ∙ ended in cc) (record {
       whole = tt;
       may_stand = (ap (λ (p : Purpose). section_of p Plan) checking ∙ ap Some (sym in_head), tt);
-      named = none_of (λ i w. Meets Name (place_at Plan i) w);
+      named = none_of (λ i w. MeetsDemand Name (place_at Plan i) w);
       known = none_of (λ i w. KeepsTo rule.Declared k.rows (place_at Plan i) w);
       new = record { names = none_of (λ i w. KeepsTo rule.Free k.rows (place_at Plan i) w); first = tt };
-      in_range = none_of (λ i w. Meets Range (place_at Plan i) w);
+      in_range = none_of (λ i w. MeetsDemand Range (place_at Plan i) w);
       within_limit = record { room = tt; few = tt };
       tail_apart = tt;
       once = once;
@@ -296,12 +297,12 @@ pub fit-end : (k : Known) → IsBegun k → All (HasItsPrice k.rows) (keys_of k.
 fit-end k begun priced = fit-line k End [] made-end (open-body k begun) (record {
   whole = tt;
   may_stand = (in_body k End begun refl, tt);
-  named = none_of (λ i w. Meets Name (place_at End i) w);
+  named = none_of (λ i w. MeetsDemand Name (place_at End i) w);
   known = none_of (λ i w. KeepsTo rule.Declared k.rows (place_at End i) w);
   new = record { names = none_of (λ i w. KeepsTo rule.Free k.rows (place_at End i) w); first = tt };
-  in_range = none_of (λ i w. Meets Range (place_at End i) w);
+  in_range = none_of (λ i w. MeetsDemand Range (place_at End i) w);
   within_limit = record { room = tt; few = tt };
   tail_apart = tt;
   once = tt;
-  priced = subst (λ (p : Purpose). IsPriced p k.rows) (sym begun.checking) priced;
+  priced = subst (λ (p : Purpose). AreAllPriced p k.rows) (sym begun.checking) priced;
 })

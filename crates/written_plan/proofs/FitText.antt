@@ -7,7 +7,7 @@ use Rattle.text_lines.specs.Texts.{Line, lines_of}
 use Rattle.line_shapes.specs.Lines.{Statement}
 use Rattle.line_rules.specs.Known.{Known, entered, known_at}
 use Rattle.line_rules.specs.Reading.{AreFitLines, IsAllRead, IsFitLine, Takes}
-use Rattle.line_rules.specs.Texts.{Declare, Reads, longest}
+use Rattle.line_rules.specs.Texts.{Declare, ReadsAs, longest}
 use Rattle.line_rules.specs.declared.purpose.Purpose.{Purpose}
 use Rattle.line_rules.specs.declared.section.Section.TheVariants.{Ended}
 use Rattle.line_rules.proofs.FitLines.{names_after}
@@ -61,7 +61,7 @@ read_fit purpose text (l ∷ ls) (s ∷ ss) n k read fits =
 
 -- the lines that fit are all but the last, so what the text says is what they say
 same_statements : (purpose : Purpose) (text : List ℕ) (ls : List Line) (ss ts : List Statement)
-    → lines_of text ≡ ls ++ [] ∷ [] → AreFitLines (known_at purpose []) ls ss → Reads purpose text ts →
+    → lines_of text ≡ ls ++ [] ∷ [] → AreFitLines (known_at purpose []) ls ss → ReadsAs purpose text ts →
     ts ≡ ss
 same_statements purpose text ls ss ts lines fits reads =
     let count : length ls ≡ length ts =
@@ -74,7 +74,7 @@ same_statements purpose text ls ss ts lines fits reads =
 
 pub reads_fit : (purpose : Purpose) (text : List ℕ) (ls : List Line) (ss : List Statement)
     → length text ≤ longest → lines_of text ≡ ls ++ [] ∷ [] → AreFitLines (known_at purpose []) ls ss
-    → (names_after (known_at purpose []) ss).section ≡ Ended → Reads purpose text ss
+    → (names_after (known_at purpose []) ss).section ≡ Ended → ReadsAs purpose text ss
 reads_fit purpose text ls ss short lines fits ended =
     let start = known_at purpose [] in
     let none : IsReadTo purpose text (ls ++ [] ∷ []) 0 start =
@@ -82,5 +82,5 @@ reads_fit purpose text ls ss short lines fits ended =
     let read = read_fit purpose text ls ss 0 start none fits in
     let all : IsAllRead purpose text (names_after start ss) =
     reads_all purpose text ([] ∷ []) read.0 _ short read.1 refl ended in
-    subst (Reads purpose text) (same_statements purpose text ls ss all.statements lines fits all.reads)
+    subst (ReadsAs purpose text) (same_statements purpose text ls ss all.statements lines fits all.reads)
     all.reads

@@ -14,8 +14,7 @@ use Rattle.line_rules.specs.declared.section.Section.{Section}
 use Rattle.line_rules.specs.declared.section.Section.TheVariants.{Head}
 
 -- a line of this keyword stands where it stands in a text to check, with the same limit, and a line of the
--- head
--- follows it
+-- head follows it
 pub record IsOfHead (k : Keyword) : Type 0 where
   pub same : in_check k ≡ in_plan k
   pub limit : most_of Planning k ≡ most_of Checking k

@@ -5,8 +5,8 @@ use Rattle.std.specs.List.{All, Contains}
 use Rattle.std.proofs.lemmas.List.{map-append}
 use Rattle.std.proofs.lemmas.List.Elements.{All-cons, All-nil, Contains-append_cases, filter-append}
 use Rattle.text_lines.specs.Texts.{IsPrintable, Line, Word}
-use Rattle.line_shapes.specs.Demands.{Meets}
-use Rattle.line_shapes.specs.Lines.{Says, Statement, tail_of}
+use Rattle.line_shapes.specs.Demands.{MeetsDemand}
+use Rattle.line_shapes.specs.Lines.{Says, Statement, tail_words}
 use Rattle.line_shapes.specs.Places.{place_at, places_of}
 use Rattle.line_shapes.specs.declared.demand.Demand.TheVariants.{Shape}
 use Rattle.line_shapes.specs.declared.keyword.Keyword.{Keyword}
@@ -14,7 +14,7 @@ use Rattle.line_shapes.specs.declared.keyword.Keyword.TheVariants.{Worker, Split
 use Rattle.line_shapes.specs.declared.place.Place.{Place}
 use Rattle.line_shapes.specs.declared.place.Place.TheVariants.{New}
 use Rattle.line_rules.specs.Entering.{Key, entered_by, entered_of, entering_of, follow_of, key_of, most_of}
-use Rattle.line_rules.specs.Faults.{AreAsMany, HasRoom, IsFit, IsFreeIn, IsPricedBefore, Keep, counted_by}
+use Rattle.line_rules.specs.Faults.{AreAsMany, IsFewer, IsFit, IsFreeIn, IsPricedBefore, Keep, counted_by}
 use Rattle.line_rules.specs.Faults.{counted_of, follows}
 use Rattle.line_rules.specs.declared.entering.Follow.{Follow}
 use Rattle.line_rules.specs.declared.entering.Follow.TheVariants.{Any, Centre, Counts}
@@ -30,7 +30,7 @@ use Rattle.line_rules.specs.declared.rule.Rule.TheVariants as rule
 use Rattle.line_rules.specs.declared.section.Section.{Section}
 use Rattle.line_rules.specs.declared.section.Section.TheVariants.{Head, Ended}
 use Rattle.line_rules.proofs.FitLines.{names_after}
-use Rattle.plan_text.specs.Names.{word_at}
+use Rattle.plan_text.specs.Names.{nth_word}
 use Rattle.plan_text.proofs.Named.{is_of-other, key_by_word}
 use Rattle.written_plan.proofs.HeadKinds.{IsOfHead, head_or_end}
 use Rattle.written_plan.proofs.Lines.{line-one_word}
@@ -122,12 +122,12 @@ new_name : (j : Keyword) → place_at j 0 ≡ Some New → entering_of j ≡ ByW
     → Keep rule.Free rows s → key_of s ≡ (j, n, []) → IsTaken rows n → ⊥
 new_name j first by some rows s n whole free key =
     let same : s.keyword ≡ j = ap (λ (q : Key). q.0) key in
-    let name : word_at 0 s ≡ n = ap (λ (q : Key). q.1) (sym (key_by_word j by s same) ∙ key) in
+    let name : nth_word 0 s ≡ n = ap (λ (q : Key). q.1) (sym (key_by_word j by s same) ∙ key) in
     let many : length (places_of j) ≤ length s.words =
     subst (λ (i : Keyword). length (places_of i) ≤ length s.words) same whole in
     let placed : place_at s.keyword 0 ≡ Some New = ap (λ (i : Keyword). place_at i 0) same ∙ first in
     subst (λ (w : Word). IsTaken rows w → ⊥) name
-    (subst (λ (p : Option Place). IsFreeIn rows p (word_at 0 s)) placed (free 0 (omega arith)))
+    (subst (λ (p : Option Place). IsFreeIn rows p (nth_word 0 s)) placed (free 0 (omega arith)))
 
 apart-entered : (rows : List Statement) (s : Statement) → length (places_of s.keyword) ≤ length s.words
     → Keep rule.Free rows s → AreApart rows → AreApart (rows ++ entered_of s)
@@ -166,7 +166,7 @@ same_count k word ByPair = refl
 fit-checking : (k : Known) (s : Statement) → k.purpose ≡ Planning → IsOfHead s.keyword → IsFit k s
     → IsFit (checking k) s
 fit-checking k s planning head fit = record {
-  whole = subst (λ (o : Option ℕ). AreAsMany o (length (tail_of s)))
+  whole = subst (λ (o : Option ℕ). AreAsMany o (length (tail_words s)))
       (sym (same_follows k (follow_of s.keyword)))
       fit.whole;
   may_stand = (
@@ -178,9 +178,9 @@ fit-checking k s planning head fit = record {
   new = fit.new;
   in_range = fit.in_range;
   within_limit = record {
-    room = subst (λ (most : Option ℕ). HasRoom most (counted_of (checking k) s.keyword))
+    room = subst (λ (most : Option ℕ). IsFewer most (counted_of (checking k) s.keyword))
         (ap (λ (p : Purpose). most_of p s.keyword) planning ∙ head.limit)
-        (subst (HasRoom (most_of k.purpose s.keyword)) (sym (same_count k s.keyword (entering_of s.keyword)))
+        (subst (IsFewer (most_of k.purpose s.keyword)) (sym (same_count k s.keyword (entering_of s.keyword)))
         fit.within_limit.room);
     few = fit.within_limit.few;
   };
@@ -209,7 +209,8 @@ no_words s line same says = by s.words refl
     by [] is = is
     by (w ∷ ws) is =
         let inside : 0 < length s.words = subst (λ (l : List Word). 0 < length l) (sym is) (omega arith) in
-        absurd (subst (λ (k : Keyword). Meets Shape (place_at k 0) (word_at 0 s)) same (says.shape 0 inside))
+        absurd (subst (λ (k : Keyword). MeetsDemand Shape (place_at k 0) (nth_word 0 s)) same
+        (says.shape 0 inside))
 
 end_said : (s : Statement) (line : Line) → s.keyword ≡ End → Says line s → s ≡ said End []
 end_said s line same says =

@@ -8,12 +8,12 @@ use Rattle.text_lines.specs.declared.fault.Fault.{Fault}
 use Rattle.text_lines.specs.declared.fault.Fault.TheVariants.{Misplaced, NoFeed}
 use Rattle.line_shapes.specs.Lines.{Statement}
 use Rattle.line_rules.specs.Known.{Known, known_at}
-use Rattle.line_rules.specs.Texts.{FirstHas, Reads}
+use Rattle.line_rules.specs.Texts.{FirstHas, ReadsAs}
 use Rattle.line_rules.specs.declared.purpose.Purpose.{Purpose}
 use Rattle.line_rules.specs.declared.section.Section.{Section}
 use Rattle.line_rules.specs.declared.section.Section.TheVariants.{First, Head, Body, Ended}
 use Rattle.plan_text.specs.Report.{lines_of_plan, price_lines_of}
-use Rattle.written_plan.specs.Joined.{IsPlanFor, end_line, head_of, with_plan}
+use Rattle.written_plan.specs.Joined.{IsWritable, end_line, without_last_line, with_plan}
 use Rattle.written_plan.proofs.Lines.{joined, joined-append}
 use Rattle.written_plan.proofs.Pairs.{price_lines-text, price_pairs, price_text, start_lines-text}
 use Rattle.written_plan.proofs.Pairs.{start_pairs, start_text}
@@ -35,7 +35,7 @@ last_is k ((b ∷ bs) ∷ []) one none = absurd (none NoFeed tt)
 last_is k (l ∷ m ∷ ls) one none = absurd (omega arith)
 
 -- nothing follows the last line feed, and before it the last line is `end`
-pub last_line : (purpose : Purpose) (text : List ℕ) (ss : List Statement) → Reads purpose text ss
+pub last_line : (purpose : Purpose) (text : List ℕ) (ss : List Statement) → ReadsAs purpose text ss
     → (drop (length ss) (lines_of text) ≡ [] ∷ []) × ((known_at purpose ss).section ≡ Ended)
 last_line purpose text ss reads =
     let one : length (drop (length ss) (lines_of text)) ≡ 1 =
@@ -43,7 +43,7 @@ last_line purpose text ss reads =
     last_is (known_at purpose ss) (drop (length ss) (lines_of text)) one
     (λ f h. reads.faultless.none (length ss) f (ss, reads.says, h))
 
-pub all_lines : (purpose : Purpose) (text : List ℕ) (ss : List Statement) → Reads purpose text ss
+pub all_lines : (purpose : Purpose) (text : List ℕ) (ss : List Statement) → ReadsAs purpose text ss
     → lines_of text ≡ take (length ss) (lines_of text) ++ [] ∷ []
 all_lines purpose text ss reads =
     sym (take-append-drop (length ss) (lines_of text))
@@ -51,8 +51,8 @@ all_lines purpose text ss reads =
 
 -- ---- the text
 
-head_of-joined : (front : List ℕ) → head_of (front ++ end_line) ≡ front
-head_of-joined front =
+without_last_line-joined : (front : List ℕ) → without_last_line (front ++ end_line) ≡ front
+without_last_line-joined front =
     take_at front end_line (length (front ++ end_line) - length end_line)
     (omega (arith, length-append front end_line))
 
@@ -74,7 +74,7 @@ joined-plan a b c =
 pub text-with_plan : (text : List ℕ) (lines : List Line) (splits workers : List Word)
     (starts : List (Option ℕ))
     (prices : PriceList)
-    → text ≡ joined (lines ++ codes "end" ∷ []) → IsPlanFor splits workers starts prices
+    → text ≡ joined (lines ++ codes "end" ∷ []) → IsWritable splits workers starts prices
     → with_plan text (lines_of_plan splits workers starts prices)
     ≡ joined (lines ++ plan_texts (start_pairs workers splits starts) (price_pairs splits prices.splits)
     (price_pairs workers prices.workers))
@@ -82,8 +82,9 @@ text-with_plan text lines splits workers starts prices whole plan =
     let a = start_pairs workers splits starts in
     let b = price_pairs splits prices.splits in
     let c = price_pairs workers prices.workers in
-    let head : head_of text ≡ joined lines =
-    ap head_of (whole ∙ joined-append lines (codes "end" ∷ [])) ∙ head_of-joined (joined lines) in
+    let head : without_last_line text ≡ joined lines =
+    ap without_last_line (whole ∙ joined-append lines (codes "end" ∷ []))
+    ∙ without_last_line-joined (joined lines) in
     ap (λ h. h ++ codes "plan" ++ (10 ∷ lines_of_plan splits workers starts prices) ++ end_line) head
     ∙ ap (λ x. joined lines ++ codes "plan" ++ (10 ∷
     (x ++ (price_lines_of splits prices.splits ++ price_lines_of workers prices.workers))) ++ end_line)

@@ -5,10 +5,10 @@ use Rattle.std.specs.Fmt.{decimal}
 use Rattle.std.specs.List.{AllPairs, Contains, flat_map, range_with_len}
 use Rattle.std.proofs.lemmas.List.{append_assoc}
 use Rattle.std.proofs.lemmas.List.Elements.{Contains-push_cases}
-use Rattle.text_lines.specs.Texts.{Line, Word}
+use Rattle.text_lines.specs.Texts.{Line, Word, name_of}
 use Rattle.line_shapes.specs.Lines.{Statement}
 use Rattle.line_shapes.specs.declared.keyword.Keyword.TheVariants.{Start, Price}
-use Rattle.plan_text.specs.Report.{name_of, price_line, price_lines_of, start_line, start_lines}
+use Rattle.plan_text.specs.Report.{price_line, price_lines_of, start_line, start_lines}
 use Rattle.written_plan.proofs.Lines.{joined, spaced}
 
 -- ---- names that are new

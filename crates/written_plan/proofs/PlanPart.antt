@@ -23,9 +23,9 @@ use Rattle.line_rules.specs.declared.entering.Entering.TheVariants.{Nothing, InT
 use Rattle.line_rules.specs.declared.entering.Entering.TheVariants.{Word as ByWord, Pair as ByPair}
 use Rattle.line_rules.specs.declared.purpose.Purpose.TheVariants.{Checking}
 use Rattle.line_rules.proofs.FitLines.{names_after}
-use Rattle.plan_text.specs.Names.{names_in, names_of, rows_in, word_at}
+use Rattle.plan_text.specs.Names.{names_in, names_of, rows_in, nth_word}
 use Rattle.plan_text.proofs.Named.{at_element, key_by_word, row_named}
-use Rattle.written_plan.specs.Joined.{IsPlanFor}
+use Rattle.written_plan.specs.Joined.{IsWritable}
 use Rattle.written_plan.proofs.Entered.{HasNames, IsBegun, are_prices, are_starts, fit-end, fit-plan}
 use Rattle.written_plan.proofs.Entered.{fit-prices}
 use Rattle.written_plan.proofs.Entered.{fit-starts, has_price, names-priced, names-started, with_rows}
@@ -72,7 +72,7 @@ start_rows a = each_row Start start_said (λ x ss. refl) a
 pub price_rows : (b : List (Word × ℕ)) → rows_of Price (map price_said b) ≡ map price_said b
 price_rows b = each_row Price price_said (λ x ss. refl) b
 
-names-map : {X : Type 0} (f : X → Statement) (g : X → Word) → ((x : X) → word_at 0 (f x) ≡ g x) →
+names-map : {X : Type 0} (f : X → Statement) (g : X → Word) → ((x : X) → nth_word 0 (f x) ≡ g x) →
     (xs : List X)
     → names_in (map f xs) ≡ map g xs
 names-map f g same [] = refl
@@ -145,10 +145,10 @@ key_named : (k : Keyword) → entering_of k ≡ ByWord → (rows : List Statemen
 key_named k by rows key same has =
     let (s, is) = in_keys rows key has in
     let of_k : s.keyword ≡ k = ap (λ (q : Key). q.0) is ∙ same in
-    let whole : key ≡ (k, word_at 0 s, []) = sym is ∙ key_by_word k by s of_k in
-    let name : key.1 ≡ word_at 0 s = ap (λ (q : Key). q.1) whole in
+    let whole : key ≡ (k, nth_word 0 s, []) = sym is ∙ key_by_word k by s of_k in
+    let name : key.1 ≡ nth_word 0 s = ap (λ (q : Key). q.1) whole in
     subst (Contains (names_of k rows)) (sym name)
-    (row_named k by rows (word_at 0 s) (subst (Contains (keys_of rows)) whole has))
+    (row_named k by rows (nth_word 0 s) (subst (Contains (keys_of rows)) whole has))
 
 all_priced : (rows : List Statement) (splits workers started priced : List Word)
     → HasNames rows splits workers started priced → All (Contains priced) splits →
@@ -243,7 +243,7 @@ module _ (splits workers : List Word) (names : AreNames splits workers) where
 
   pub fit-plan_part : (j : Known) (starts : List (Option ℕ)) (prices : PriceList) → j.purpose ≡ Checking
       → j.section ≡ Head → (HasRow j.rows Plan [] → ⊥) → HasNames j.rows splits workers [] []
-      → IsPlanFor splits workers starts prices
+      → IsWritable splits workers starts prices
       → AreFitLines j
       (plan_texts (start_pairs workers splits starts) (price_pairs splits prices.splits)
       (price_pairs workers prices.workers))

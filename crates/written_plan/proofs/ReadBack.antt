@@ -17,9 +17,9 @@ use Rattle.line_rules.proofs.FitLines.{known_after, names_after}
 use Rattle.plan_text.specs.Names.{names_in, names_of, rows_in}
 use Rattle.plan_text.specs.Report.{lines_of_plan}
 use Rattle.plan_text.specs.Tidy.{AreTidy}
-use Rattle.plan_text.specs.Value.{MakesWave, prices_in, starts_in}
+use Rattle.plan_text.specs.Value.{MakesWave, prices_in, declared_starts}
 use Rattle.plan_text.proofs.Tidy.{tidy-rows}
-use Rattle.written_plan.specs.Joined.{IsPlanFor, ReadsBack, WrittenPlanReadsBack, with_plan}
+use Rattle.written_plan.specs.Joined.{IsWritable, ReadsBack, WrittenPlanReadsBack, with_plan}
 use Rattle.written_plan.proofs.Declared.{head_names, prices-read_back, same_wave, starts-back}
 use Rattle.written_plan.proofs.Entered.{HasNames}
 use Rattle.written_plan.proofs.FitText.{fit-append, reads_fit}
@@ -62,7 +62,7 @@ joined-reads_back : (text : List ℕ) (ss : List Statement) (wave : Wave) (start
     → lines_of text ≡ take (length ss) (lines_of text) ++ [] ∷ []
     → (h : IsHeadAndEnd (known_at Planning []) (take (length ss) (lines_of text)) ss)
     → MakesWave (rows_in h.head) wave
-    → IsPlanFor (names_of Split (rows_in h.head)) (names_of Worker (rows_in h.head)) starts prices
+    → IsWritable (names_of Split (rows_in h.head)) (names_of Worker (rows_in h.head)) starts prices
     → length (joined_by text (rows_in h.head) starts prices) ≤ longest
     → ReadsBack (joined_by text (rows_in h.head) starts prices) wave starts prices
 joined-reads_back text ss wave starts prices lines h makes plan short =
@@ -110,7 +110,7 @@ joined-reads_back text ss wave starts prices lines h makes plan short =
       declared = subst (λ (r : List Statement). MakesWave r wave) (sym whole)
           (same_wave rows a b c wave makes);
       same_starts =
-          ap starts_in whole ∙ starts-back rows starts b c bare names plan.split_starts plan.of_workers;
+          ap declared_starts whole ∙ starts-back rows starts b c bare names plan.split_starts plan.of_workers;
       same_prices = ap prices_in whole ∙ prices-read_back rows a prices bare names plan.split_prices
           plan.worker_prices plan.split_amounts plan.worker_amounts;
     }
@@ -130,7 +130,7 @@ written_plan_reads_back text v starts prices problem fit plan short =
     let workers : names_of Worker rows ≡ v.workers =
     sym (problem.declares.workers ∙ ap (names_of Worker) same) in
     let Holds : List Word → List Word → Type 0 =
-    λ xs ws. IsPlanFor xs ws starts prices
+    λ xs ws. IsWritable xs ws starts prices
     → length (with_plan text (lines_of_plan xs ws starts prices)) ≤ longest
     → ReadsBack (with_plan text (lines_of_plan xs ws starts prices)) v.problem starts prices in
     let here : Holds (names_of Split rows) (names_of Worker rows) =

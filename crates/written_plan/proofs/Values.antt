@@ -9,8 +9,7 @@ use Rattle.std.proofs.lemmas.List.{append_assoc, get_or_append_left, get_or_at, 
 use Rattle.std.proofs.lemmas.List.Elements.{Contains-append_cases, Contains-get_or}
 use Rattle.std.proofs.lemmas.List.Sums.{position_or_len_is}
 use Rattle.std.proofs.lemmas.Slice.Eq.{bytes_eq-Decides}
-use Rattle.text_lines.specs.Texts.{Word}
-use Rattle.plan_text.specs.Report.{name_of}
+use Rattle.text_lines.specs.Texts.{Word, name_of}
 use Rattle.plan_text.specs.Value.{beside, number_in}
 use borrow.Author.Tests.{le-ltb, lt-ltb}
 use Rattle.written_plan.proofs.Pairs.{AreNew, new-first, new-gone, new-next, new-skip, start_pairs}

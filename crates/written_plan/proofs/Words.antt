@@ -8,11 +8,10 @@ use Rattle.std.proofs.lemmas.Fmt.{decimal_digit, decimal_nonempty, digits_decima
 use Rattle.std.proofs.lemmas.Fmt.{first_decimal}
 use Rattle.std.proofs.lemmas.List.Elements.{All-append, All-cons, All-from_recursion, All-head, All-nil}
 use Rattle.std.proofs.lemmas.List.Elements.{All-tail, All-weaker}
-use Rattle.std.proofs.lemmas.Str.Parse.{IsDigitsTest, IsNumeralModel, numerals_by_fold}
-use Rattle.text_lines.specs.Texts.{IsDigit, IsName, IsNameByte, IsNumber, IsPrintable, Word, number_from}
-use Rattle.text_lines.specs.Texts.{number_of}
-use Rattle.line_shapes.specs.Demands.{Meets}
-use Rattle.line_shapes.specs.Keywords.{text_of}
+use Rattle.text_lines.specs.Texts.{IsDigit, IsName, IsNameByte, IsNumber, IsPrintable, Word, number_of}
+use Rattle.text_lines.proofs.Numerals.{numerals}
+use Rattle.line_shapes.specs.Demands.{MeetsDemand}
+use Rattle.line_shapes.specs.Keywords.{spelling_of}
 use Rattle.line_shapes.specs.Lines.{Says, Statement}
 use Rattle.line_shapes.specs.Places.{place_at}
 use Rattle.line_shapes.specs.declared.demand.Demand.TheVariants.{Shape}
@@ -32,16 +31,6 @@ plain_byte b (inr (inr (inr (inr dot)))) = (omega arith, omega arith)
 
 pub plain-name : (w : Word) → IsName w → All IsPlain w
 plain-name w h = All-weaker IsNameByte IsPlain plain_byte w h.3
-
-digits : IsDigitsTest (All IsDigit)
-digits = record {
-  empty = search rules;
-  parts = λ c cs h. (h 0 0 (omega arith), λ k d lt. h (suc k) d (omega arith));
-  more = λ c cs one h. All-cons IsDigit c cs one h;
-}
-
-numerals : IsNumeralModel (All IsDigit) number_of
-numerals = numerals_by_fold _ digits number_from (search rules)
 
 lone_zero : (n : ℕ) → n < 2 ^ 64 → get_or (decimal n) 0 0 ≡ 48 → length (decimal n) ≡ 1
 lone_zero n small zero_first = elim (cases_lt 0 n) [
@@ -95,7 +84,7 @@ abbrev pub said : Keyword → List Word → Statement
 said k ws = record { keyword = k; words = ws }
 
 abbrev pub line_of : Keyword → List Word → List ℕ
-line_of k ws = spaced (text_of k ∷ ws)
+line_of k ws = spaced (spelling_of k ∷ ws)
 
 -- its bytes can be printed, and it says its words
 pub record IsMade (k : Keyword) (ws : List Word) : Type 0 where
@@ -130,7 +119,7 @@ made-start split worker s w =
       says = record {
         spelled = words_of-spaced (codes "start") (split ∷ worker ∷ []) plain;
         many = omega arith;
-        shape = both_of (λ i v. Meets Shape (place_at Start i) v) split worker s.0 w.0;
+        shape = both_of (λ i v. MeetsDemand Shape (place_at Start i) v) split worker s.0 w.0;
       };
     }
 
@@ -144,7 +133,7 @@ made-price name amount n small =
       says = record {
         spelled = words_of-spaced (codes "price") (name ∷ decimal amount ∷ []) plain;
         many = omega arith;
-        shape = both_of (λ i v. Meets Shape (place_at Price i) v) name (decimal amount) n.0
+        shape = both_of (λ i v. MeetsDemand Shape (place_at Price i) v) name (decimal amount) n.0
             (number-decimal amount small);
       };
     }
@@ -157,7 +146,7 @@ made-plan =
       says = record {
         spelled = words_of-spaced (codes "plan") [] plain;
         many = omega arith;
-        shape = none_of (λ i v. Meets Shape (place_at Plan i) v);
+        shape = none_of (λ i v. MeetsDemand Shape (place_at Plan i) v);
       };
     }
 
@@ -169,6 +158,6 @@ made-end =
       says = record {
         spelled = words_of-spaced (codes "end") [] plain;
         many = omega arith;
-        shape = none_of (λ i v. Meets Shape (place_at End i) v);
+        shape = none_of (λ i v. MeetsDemand Shape (place_at End i) v);
       };
     }

@@ -7,7 +7,7 @@ use Rattle.wave_problem.specs.Assignment.{start_of}
 use Rattle.price_certificate.specs.PriceList.{PriceList}
 use Rattle.text_lines.specs.Texts.{Word}
 use Rattle.line_shapes.specs.Lines.{Statement}
-use Rattle.line_rules.specs.Texts.{Reads, longest}
+use Rattle.line_rules.specs.Texts.{ReadsAs, longest}
 use Rattle.line_rules.specs.declared.purpose.Purpose.TheVariants.{Checking, Planning}
 use Rattle.plan_text.specs.Reading.{HasFitLines, IsProblemOf}
 use Rattle.plan_text.specs.Report.{lines_of_plan}
@@ -20,16 +20,16 @@ abbrev pub end_line : List ℕ
 end_line = codes "end" ++ 10 ∷ []
 
 -- a text without its last line
-abbrev pub head_of : List ℕ → List ℕ
-head_of text = take (length text - length end_line) text
+abbrev pub without_last_line : List ℕ → List ℕ
+without_last_line text = take (length text - length end_line) text
 
 -- the head of the text, a line `plan`, these lines, and `end`
 abbrev pub with_plan : List ℕ → List ℕ → List ℕ
-with_plan text lines = head_of text ++ codes "plan" ++ (10 ∷ lines) ++ end_line
+with_plan text lines = without_last_line text ++ codes "plan" ++ (10 ∷ lines) ++ end_line
 
 -- starts and prices for as many splits and workers as these; each start is of one of the workers, and each
 -- price can be read
-pub record IsPlanFor (splits workers : List Word) (starts : List (Option ℕ))
+pub record IsWritable (splits workers : List Word) (starts : List (Option ℕ))
     (prices : PriceList) : Type 0 where
   pub split_starts : length starts ≡ length splits
   pub split_prices : length prices.splits ≡ length splits
@@ -42,7 +42,7 @@ pub record IsPlanFor (splits workers : List Word) (starts : List (Option ℕ))
 pub record ReadsBack (text : List ℕ) (wave : Wave) (starts : List (Option ℕ))
     (prices : PriceList) : Type 0 where
   pub statements : List Statement
-  pub reads : Reads Checking text statements
+  pub reads : ReadsAs Checking text statements
   pub declared : DeclaresWave statements wave
   pub same_starts : value.starts statements ≡ starts
   pub same_prices : value.prices statements ≡ prices
@@ -51,6 +51,6 @@ pub record ReadsBack (text : List ℕ) (wave : Wave) (starts : List (Option ℕ)
 -- reads back as itself, where the whole is no longer than a text may be
 abbrev pub WrittenPlanReadsBack : Type 0
 WrittenPlanReadsBack = (text : List ℕ) (v : ProblemText) (starts : List (Option ℕ)) (prices : PriceList)
-    → IsProblemOf text v → HasFitLines Planning text → IsPlanFor v.splits v.workers starts prices
+    → IsProblemOf text v → HasFitLines Planning text → IsWritable v.splits v.workers starts prices
     → length (with_plan text (lines_of_plan v.splits v.workers starts prices)) ≤ longest
     → ReadsBack (with_plan text (lines_of_plan v.splits v.workers starts prices)) v.problem starts prices

@@ -9,7 +9,7 @@ loop-holder-init c = record { size = refl; counted = counted_none 32 }
 pub loop-holder-preserved : goal.loop-holder-preserved
 loop-holder-preserved c =
     let room : c.index.result < length c.loop-holder.beside =
-    omega (arith, c.loop-holder.invariant.size, c.rack_of.ensures.limit, c.index.ensures.value) in
+    omega (arith, c.loop-holder.invariant.size, c.rack_of.ensures.most, c.index.ensures.value) in
     record {
       size = length-set _ _ _ ∙ c.loop-holder.invariant.size;
       counted =

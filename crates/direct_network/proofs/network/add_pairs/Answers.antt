@@ -9,7 +9,7 @@ pub add-requires-clause-room : goal.add-requires-clause-room
 add-requires-clause-room c =
     let limit = c.loop-i.invariant.frame.arc_limit in
     let few = c.requires.few in
-    let workers = c.workers-i-end.ensures.limit in
+    let workers = c.workers-i-end.ensures.most in
     omega arith
 
 pub loop-i-preserved : goal.loop-i-preserved

@@ -5,7 +5,7 @@ use Rattle.text_lines.specs.Texts.{Word}
 use Rattle.line_shapes.specs.Lines.{Statement}
 use Rattle.line_shapes.specs.declared.keyword.Keyword.TheVariants.{Doc, Split}
 use Rattle.line_rules.specs.Known.{rows_of}
-use Rattle.plan_text.specs.Names.{said_in, word_at}
+use Rattle.plan_text.specs.Names.{said_in, nth_word}
 use Rattle.plan_text.proofs.Words.{few_names}
 use Rattle.head_text.specs.Documents.{documents_of}
 use Rattle.head_text.proofs.Lines.{names_differ, tidy_docs}
@@ -25,8 +25,8 @@ pub documents_by_split-requires-clause-known : goal.documents_by_split-requires-
 documents_by_split-requires-clause-known c =
     let rows = c.args.rows.now in
     let lines = ap (map said_in) c.deref.ensures.value ∙ c.in_ok-lines.ensures in
-    subst (λ (l : List Statement). All (λ s. Contains c.in_ok-splits.splits (word_at 1 s)) l) (sym lines)
-    (subst (λ (splits : List Word). All (λ s. Contains splits (word_at 1 s)) (rows_of Doc rows))
+    subst (λ (l : List Statement). All (λ s. Contains c.in_ok-splits.splits (nth_word 1 s)) l) (sym lines)
+    (subst (λ (splits : List Word). All (λ s. Contains splits (nth_word 1 s)) (rows_of Doc rows))
     (sym c.in_ok-splits.ensures) (tidy_docs rows c.requires.tidy))
 
 pub shared_texts-requires : goal.shared_texts-requires

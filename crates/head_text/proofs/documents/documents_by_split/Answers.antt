@@ -4,7 +4,7 @@ use Rattle.std.specs.List.{Contains}
 use Rattle.std.proofs.lemmas.List.{length-map, length-take-le, map_more}
 use Rattle.line_shapes.specs.Lines.{Statement}
 use Rattle.word_map.specs.declared.text.Document.{Document}
-use Rattle.plan_text.specs.Names.{said_in, word_at}
+use Rattle.plan_text.specs.Names.{said_in, nth_word}
 use Rattle.plan_text.specs.Value.{number_in}
 use Rattle.plan_text.proofs.Parts.{All-unmap, no_row}
 use Rattle.head_text.specs.Documents.{document_of, documents_of}
@@ -19,7 +19,7 @@ loop-number-init c =
 pub number_of-split-requires : goal.number_of-split-requires
 number_of-split-requires c =
     let splits = c.args.splits.now in
-    let known = All-unmap (λ s. Contains splits (word_at 1 s)) said_in c.args.lines.now c.requires.known
+    let known = All-unmap (λ s. Contains splits (nth_word 1 s)) said_in c.args.lines.now c.requires.known
     c.loop-number.number no_row c.loop-number-test.true in
     subst (Contains splits) (sym c.word.ensures) known
 
@@ -31,7 +31,7 @@ loop-number-preserved c =
     let line : Statement = said_in (get_or rows n no_row) in
     let before : List Statement = map said_in (take n rows) in
     let lists = c.loop-number.lists.items in
-    let known = All-unmap (λ s. Contains splits (word_at 1 s)) said_in rows c.requires.known n no_row
+    let known = All-unmap (λ s. Contains splits (nth_word 1 s)) said_in rows c.requires.known n no_row
     c.loop-number-test.true in
     let size : length before ≡ n =
     length-map (take n rows) said_in ∙ length-take-le n rows (omega (arith, c.loop-number-test.true)) in

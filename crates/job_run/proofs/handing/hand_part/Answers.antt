@@ -2,7 +2,7 @@ use Rattle.std.proofs.Common.{◌∙◌, List, sym, ap, arith, subst}
 use Rattle.word_map.specs.Texts.{SplitDocuments}
 use Rattle.shuffle_reduce.specs.Merged.{AreSameTexts}
 use Rattle.master_state.specs.States.{Cluster}
-use Rattle.shuffle_reduce.specs.Gather.{texts_of}
+use Rattle.shuffle_reduce.specs.Gather.{texts_of_runs}
 use Rattle.job_run.proofs.Handed.{old_part, part_inside, runs_given}
 use Rattle.job_run.proofs.Writing.{answers_from}
 use Rattle.job_run.proofs.handing.hand_part.Goals as goal
@@ -38,7 +38,7 @@ returns c =
     let runs = runs_given job c.args.given.now c.args.attempt c.args.part c.requires.started.0
     c.requires.given
     c.requires.started.1 in
-    let texts = c.in_ok-made.ensures.texts ∙ ap texts_of c.of.ensures ∙ runs.texts in
+    let texts = c.in_ok-made.ensures.texts ∙ ap texts_of_runs c.of.ensures ∙ runs.texts in
     record {
       result = c.in_ok-made.made;
       part_is = c.in_ok-made.ensures.part;

@@ -1,8 +1,8 @@
 use Rattle.std.proofs.Common.{rules, ◌≡◌, ◌∷◌, ◌∙◌, ap, map, sym}
 use Rattle.std.proofs.lemmas.Result.{IfErr-weaker}
-use Rattle.line_shapes.specs.Keywords.{text_of}
+use Rattle.line_shapes.specs.Keywords.{spelling_of}
 use Rattle.line_shapes.specs.Lines.{statement_of, words_in}
-use Rattle.line_rules.specs.Texts.{IsSound}
+use Rattle.line_rules.specs.Texts.{IsLegible}
 use Rattle.line_rules.proofs.LineErrors.{error_of_line}
 use Rattle.line_rules.proofs.Saying.{no_shape, says_same}
 use Rattle.line_rules.proofs.reading.take_line.Goals as goal
@@ -12,10 +12,10 @@ returns-in-Some-said_by-clause-err c =
     let line = c.in-Some.ensures.0 in
     let k = c.in-Some-keyword_of.keyword in
     let words = sym c.in_ok-words.ensures ∙ ap (map (λ w. w.now)) (sym c.deref.ensures.value) in
-    let cut : words_in k c.args.line.now ≡ text_of k ∷ map (λ w. w.now) c.deref.result.now =
-    ap (words_in k) (sym line) ∙ c.in-Some-keyword_of.ensures ∙ ap (λ ws. text_of k ∷ ws) words in
+    let cut : words_in k c.args.line.now ≡ spelling_of k ∷ map (λ w. w.now) c.deref.result.now =
+    ap (words_in k) (sym line) ∙ c.in-Some-keyword_of.ensures ∙ ap (λ ws. spelling_of k ∷ ws) words in
     let said = c.in-Some-said_by.ensures in
-    let sound : IsSound c.args.known.now c.args.line.now = search rules in
+    let sound : IsLegible c.args.known.now c.args.line.now = search rules in
     IfErr-weaker c.take_said.result _ _ (error_of_line c.args.known.now c.args.line.now _ sound
     (says_same c.args.line.now k _ (statement_of c.in-Some-said_by.line) cut said.0 said.1))
     c.take_said.ensures.err
@@ -25,7 +25,7 @@ returns-clause-err c =
     let line = c.in-Some.ensures.0 in
     let k = c.in-Some-keyword_of.keyword in
     let words = sym c.in_ok-words.ensures ∙ ap (map (λ w. w.now)) (sym c.deref.ensures.value) in
-    let cut : words_in k c.args.line.now ≡ text_of k ∷ map (λ w. w.now) c.deref.result.now =
-    ap (words_in k) (sym line) ∙ c.in-Some-keyword_of.ensures ∙ ap (λ ws. text_of k ∷ ws) words in
-    let sound : IsSound c.args.known.now c.args.line.now = search rules in
+    let cut : words_in k c.args.line.now ≡ spelling_of k ∷ map (λ w. w.now) c.deref.result.now =
+    ap (words_in k) (sym line) ∙ c.in-Some-keyword_of.ensures ∙ ap (λ ws. spelling_of k ∷ ws) words in
+    let sound : IsLegible c.args.known.now c.args.line.now = search rules in
     no_shape c.args.known.now c.args.line.now k _ sound cut c.in-None.ensures

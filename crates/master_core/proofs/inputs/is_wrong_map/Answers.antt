@@ -1,6 +1,7 @@
 use Rattle.std.proofs.Common.{◌==◌, ap, not, sym, ◌∙◌, subst, ◌<◌, length, [], ℕ}
 use Rattle.master_state.specs.States.{Cluster}
-use Rattle.master_state.specs.Refusals.{is_same_text, text_of}
+use Rattle.word_map.specs.Texts.{same_text}
+use Rattle.master_state.specs.Refusals.{split_text}
 use Rattle.master_core.proofs.Handed.{compared, text_at, wrong_first, wrong_later}
 use Rattle.master_core.proofs.inputs.is_wrong_map.Goals as goal
 
@@ -15,9 +16,9 @@ returns-then-not-is_same c setup same =
     c.index-texts-index.result (record { split = split; documents = [] }) given c.index.ensures.value
     c.index-texts-index.is known in
     let told = compared c.is_same.result c.deref.result.now c.deref-2.result.now made.text
-    (text_of setup split)
+    (split_text setup split)
     c.is_same.ensures.same (c.deref.ensures ∙ c.text.ensures) (c.deref-2.ensures ∙ here) in
-    wrong_first c.is_same.result (is_same_text made.text (text_of setup split))
+    wrong_first c.is_same.result (same_text made.text (split_text setup split))
     (not (made.parts == setup.cluster.parts)) told c.if-not-is_same.true
 
 pub returns-else-not-is_same : goal.returns-else-not-is_same
@@ -31,12 +32,12 @@ returns-else-not-is_same c setup same =
     c.index-texts-index.result (record { split = split; documents = [] }) given c.index.ensures.value
     c.index-texts-index.is known in
     let told = compared c.is_same.result c.deref.result.now c.deref-2.result.now made.text
-    (text_of setup split)
+    (split_text setup split)
     c.is_same.ensures.same (c.deref.ensures ∙ c.text.ensures) (c.deref-2.ensures ∙ here) in
     let parts = c.parts-else-not-is_same.ensures.count
     ∙ ap (λ (cluster : Cluster). cluster.parts) (sym same) in
     wrong_later c.is_same.result (not (c.parts.result == c.parts-else-not-is_same.result))
-    (is_same_text made.text (text_of setup split))
+    (same_text made.text (split_text setup split))
     (not (made.parts == setup.cluster.parts)) told c.if-not-is_same.false
     (ap (λ (n : ℕ). not (n == c.parts-else-not-is_same.result)) c.parts.ensures
     ∙ ap (λ (n : ℕ). not (made.parts == n)) parts)

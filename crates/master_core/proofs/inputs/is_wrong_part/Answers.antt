@@ -1,10 +1,9 @@
 use Rattle.std.proofs.Common.{◌≡◌, ◌==◌, ℕ, List, ap, not, false, sym, ◌∙◌}
 use Rattle.std.proofs.lemmas.Bool.{false≢true, not-false}
 use Rattle.word_map.specs.Texts.{SplitDocuments}
-use Rattle.shuffle_reduce.specs.Merged.{AreSameTexts}
+use Rattle.shuffle_reduce.specs.Merged.{AreSameTexts, same_texts}
 use Rattle.master_state.specs.States.{Cluster}
-use Rattle.master_state.specs.Refusals.{are_among}
-use Rattle.std.specs.Prelude.{◌&&◌, ◌↔◌, IsTrue}
+use Rattle.std.specs.Prelude.{◌↔◌, IsTrue}
 use Rattle.std.proofs.Common.{subst}
 use Rattle.master_core.proofs.Handed.{covered, wrong_last}
 use Rattle.master_core.proofs.inputs.is_wrong_part.Goals as goal
@@ -28,6 +27,6 @@ returns-else-parts c setup same = elim c.if-ne.branch [
       (subst (λ (given : List SplitDocuments). IsTrue c.covers.result ↔ AreSameTexts made.texts given) texts
       c.covers.ensures.same) in
       wrong_last (made.part == c.args.part) (made.parts == cluster.parts) c.covers.result
-      (are_among made.texts cluster.texts && are_among cluster.texts made.texts)
+      (same_texts made.texts cluster.texts)
       (not-false (made.part == c.args.part) off) (not-false (made.parts == cluster.parts) few) told
 ]

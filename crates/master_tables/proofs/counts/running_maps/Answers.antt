@@ -15,5 +15,5 @@ loop-entry-preserved c =
     (changed_at shown_as entries i entry c.loop-entry-test.true c.entry-item.is) in
     record {
       count = omega (arith, more, c.loop-entry.invariant.count, c.attempts_in-count.ensures.count);
-      few = omega (arith, c.loop-entry.invariant.few, c.attempts_in-count.ensures.limit);
+      few = omega (arith, c.loop-entry.invariant.few, c.attempts_in-count.ensures.most);
     }

@@ -6,7 +6,7 @@ use Rattle.line_shapes.specs.declared.keyword.Keyword.TheVariants.{Start, Worker
 use Rattle.line_rules.specs.Known.{rows_of}
 use Rattle.plan_text.specs.Names.{names_in, names_of, said_in}
 use Rattle.plan_text.specs.Tidy.{IsTidyStart}
-use Rattle.plan_text.specs.Value.{start_at, starts_in}
+use Rattle.plan_text.specs.Value.{start_at, declared_starts}
 use Rattle.plan_text.proofs.Parts.{starts_within}
 use Rattle.plan_text.proofs.Words.{few_names, tidy_starts}
 use Rattle.plan_text.proofs.built.build_plan.Goals as goal
@@ -34,7 +34,7 @@ pub from_starts-requires-clause-known : goal.from_starts-requires-clause-known
 from_starts-requires-clause-known c =
     let rows = c.args.rows.now in
     let lines = ap (map said_in) c.deref.ensures.value ∙ c.in_ok-started.ensures.rows in
-    let starts : c.in_ok-starts.starts.items ≡ starts_in rows =
+    let starts : c.in_ok-starts.starts.items ≡ declared_starts rows =
     c.in_ok-starts.ensures ∙ (λ i. map (start_at (c.requires.workers i) (lines i)) (c.requires.splits i)) in
     let count : c.len.result ≡ length (names_of Worker rows) = c.len.ensures ∙ ap length c.requires.workers in
     subst (λ n. All (λ start. IfSome start (λ w. w < n)) c.in_ok-starts.starts.items) (sym count)

@@ -1,6 +1,6 @@
 use Rattle.std.proofs.Common.{ℕ, Option, ◌≤◌, ◌∙◌, ap, arith, subst, sym, unwrap_or}
 use Rattle.text_lines.specs.Texts.{IsNumber, Word, number_of}
-use Rattle.plan_text.specs.Names.{said_in, word_at}
+use Rattle.plan_text.specs.Names.{said_in, nth_word}
 use Rattle.plan_text.specs.Tidy.{IsTidyPrice}
 use Rattle.plan_text.proofs.Parts.{All-unmap, beside_at, no_row, row_inside}
 use Rattle.plan_text.proofs.built.price_of.Goals as goal
@@ -28,5 +28,5 @@ number-requires-in-Some-clause-small c =
 pub returns-in-Some : goal.returns-in-Some
 returns-in-Some c =
     let beside = beside_at c.args.rows.now c.args.priced.now c.args.name.now c.number.result c.in-Some.place
-    c.requires.names c.number.ensures.number c.in-Some.is 0 (λ s. number_of (word_at 1 s)) in
+    c.requires.names c.number.ensures.number c.in-Some.is 0 (λ s. number_of (nth_word 1 s)) in
     c.number-in-Some.ensures ∙ ap number_of c.word.ensures ∙ sym (ap (λ (o : Option ℕ). unwrap_or o 0) beside)

@@ -1,7 +1,7 @@
 use Rattle.std.proofs.Common.{◌∙◌, [], Some, ap, subst, sym}
 use Rattle.std.specs.List.{Contains}
 use Rattle.std.specs.Option.{option_map}
-use Rattle.plan_text.specs.Names.{said_in, word_at}
+use Rattle.plan_text.specs.Names.{said_in, nth_word}
 use Rattle.plan_text.specs.Tidy.{IsTidyStart}
 use Rattle.plan_text.specs.Value.{number_in}
 use Rattle.plan_text.proofs.Parts.{All-unmap, beside_at, no_row, row_inside}
@@ -21,5 +21,5 @@ returns c =
     let number = number_in c.args.workers.now in
     let beside = beside_at c.args.rows.now c.args.started.now c.args.split.now c.number.result
     c.in_ok-place.place
-    c.requires.names c.number.ensures.number c.in_ok-place.was [] (word_at 1) in
+    c.requires.names c.number.ensures.number c.in_ok-place.was [] (nth_word 1) in
     ap Some (c.worker_no.ensures.value ∙ ap number c.word.ensures) ∙ sym (ap (option_map number) beside)

@@ -2,18 +2,18 @@ use Rattle.std.proofs.Common.{List, ◌≡◌, IfOk, map, subst, sym}
 use Rattle.std.specs.List.{All}
 use Rattle.line_shapes.specs.Lines.{Statement}
 use Rattle.wave_problem.specs.declared.lines.WorkerLine.{WorkerLine}
-use Rattle.plan_text.specs.Names.{word_at}
+use Rattle.plan_text.specs.Names.{nth_word}
 use Rattle.plan_text.specs.Tidy.{IsAtMost}
-use Rattle.plan_text.specs.Value.{worker_line}
+use Rattle.plan_text.specs.Value.{declared_worker}
 use Rattle.plan_text.proofs.Words.{tidy_workers}
 use Rattle.plan_text.proofs.built.worker_lines.Goals as goal
 
 pub build_workers-requires : goal.build_workers-requires
 build_workers-requires c =
-    subst (λ (l : List Statement). All (λ s. IsAtMost (word_at 2 s) 16) l) (sym c.requires.workers)
+    subst (λ (l : List Statement). All (λ s. IsAtMost (nth_word 2 s) 16) l) (sym c.requires.workers)
     (λ i d lt. (tidy_workers c.args.rows.now c.requires.tidy i d lt).slots)
 
 pub returns : goal.returns
 returns c =
     subst (λ (l : List WorkerLine). IfOk c.build_workers.result (λ made. made.items ≡ l))
-    (λ i. map (worker_line (c.in_ok-dead.ensures i)) (c.requires.workers i)) c.build_workers.ensures
+    (λ i. map (declared_worker (c.in_ok-dead.ensures i)) (c.requires.workers i)) c.build_workers.ensures

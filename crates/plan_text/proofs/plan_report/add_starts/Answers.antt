@@ -1,6 +1,7 @@
 use Rattle.std.proofs.Common.{◌++◌, ◌≡◌, ◌∙◌, ap, string_bytes}
 use Rattle.wave_problem.specs.Assignment.{start_of}
-use Rattle.plan_text.specs.Report.{name_of, start_line}
+use Rattle.plan_text.specs.Report.{start_line}
+use Rattle.text_lines.specs.Texts.{name_of}
 use Rattle.text_lines.proofs.NumberedLines.{lines_more}
 use Rattle.plan_text.proofs.plan_report.add_starts.Goals as goal
 

@@ -1,7 +1,8 @@
 use Rattle.std.proofs.Common.{◌++◌, ◌≡◌, string_bytes}
 use Rattle.std.specs.List.{flat_map, range_with_len}
 use Rattle.wave_problem.specs.Assignment.{start_of}
-use Rattle.plan_text.specs.Report.{name_of, start_line}
+use Rattle.plan_text.specs.Report.{start_line}
+use Rattle.text_lines.specs.Texts.{name_of}
 use Rattle.plan_text.proofs.plan_report.add_starts.Given as goal
 
 abbrev pub invariant-loop-number : goal.invariant-loop-number

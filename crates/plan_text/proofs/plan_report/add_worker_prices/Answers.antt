@@ -1,6 +1,7 @@
 use Rattle.std.proofs.Common.{◌++◌, ◌≡◌, ◌∙◌, ap, string_bytes}
 use Rattle.std.specs.List.{slice_index}
-use Rattle.plan_text.specs.Report.{name_of, price_line}
+use Rattle.plan_text.specs.Report.{price_line}
+use Rattle.text_lines.specs.Texts.{name_of}
 use Rattle.text_lines.proofs.NumberedLines.{lines_more}
 use Rattle.plan_text.proofs.plan_report.add_worker_prices.Goals as goal
 

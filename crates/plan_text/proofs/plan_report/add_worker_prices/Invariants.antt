@@ -1,6 +1,7 @@
 use Rattle.std.proofs.Common.{◌++◌, ◌≡◌, string_bytes}
 use Rattle.std.specs.List.{flat_map, range_with_len, slice_index}
-use Rattle.plan_text.specs.Report.{name_of, price_line}
+use Rattle.plan_text.specs.Report.{price_line}
+use Rattle.text_lines.specs.Texts.{name_of}
 use Rattle.plan_text.proofs.plan_report.add_worker_prices.Given as goal
 
 abbrev pub invariant-loop-number : goal.invariant-loop-number

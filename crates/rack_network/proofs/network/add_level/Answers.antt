@@ -2,7 +2,7 @@ use Rattle.std.proofs.Common.{ℕ, ◌≡◌, ◌+◌, ◌-◌, ◌*◌, List, l
 use Rattle.wave_problem.specs.Wave.{split_at}
 use Rattle.wave_problem.proofs.Bound.{live_known}
 use Rattle.rack_network.specs.Racks.{node_above}
-use Rattle.rack_network.specs.Build.{passed, IsBuilt, IsNext}
+use Rattle.rack_network.specs.Build.{passed, IsBuilt, IsNextHolder}
 use Rattle.rack_network.proofs.Counts.{passed-le}
 use Rattle.rack_network.proofs.Nearest.{next_reach, next_past, next_least, next_none, next_passed}
 use Rattle.rack_network.proofs.Heights.{four_levels, level_opens}
@@ -33,8 +33,10 @@ add-requires-clause-wanted c =
     let level : ℕ = c.args.level in
     let h : ℕ = c.in-Some.holder in
     let place : ℕ = c.loop-holder.place in
-    let next : IsNext wave (split_at wave s).holders level place (length (split_at wave s).holders) (Some h) =
-    subst (λ (hs : List ℕ). IsNext wave hs level place (length hs) (Some h)) c.holders-holders.ensures.holders
+    let next : IsNextHolder wave (split_at wave s).holders level place
+    (length (split_at wave s).holders) (Some h) =
+    subst (λ (hs : List ℕ). IsNextHolder wave hs level place (length hs) (Some h))
+    c.holders-holders.ensures.holders
     (c.in-Some.ensures wave level c.places_of-places.ensures) in
     next_reach wave s level place c.requires.pending c.requires.no_bars c.requires.level h next
 
@@ -45,8 +47,10 @@ place_above-place-requires-clause-worker c =
     let level : ℕ = c.args.level in
     let h : ℕ = c.in-Some.holder in
     let place : ℕ = c.loop-holder.place in
-    let next : IsNext wave (split_at wave s).holders level place (length (split_at wave s).holders) (Some h) =
-    subst (λ (hs : List ℕ). IsNext wave hs level place (length hs) (Some h)) c.holders-holders.ensures.holders
+    let next : IsNextHolder wave (split_at wave s).holders level place
+    (length (split_at wave s).holders) (Some h) =
+    subst (λ (hs : List ℕ). IsNextHolder wave hs level place (length hs) (Some h))
+    c.holders-holders.ensures.holders
     (c.in-Some.ensures wave level c.places_of-places.ensures) in
     let reach = next_reach wave s level place c.requires.pending c.requires.no_bars c.requires.level h next in
     live_known wave h (holder_live wave s h reach.holder)
@@ -57,7 +61,7 @@ add-requires-clause-room c =
     let limit = c.loop-holder.invariant.2.frame.arc_limit in
     let few = c.requires.few in
     let size = ap (λ (z : List ℕ). length z) c.holders-holders.ensures.holders in
-    let holders = c.holders-holders.ensures.limit in
+    let holders = c.holders-holders.ensures.most in
     let most = passed-le wave c.args.level c.loop-holder.place (split_at wave c.args.split).holders in
     omega arith
 
@@ -68,8 +72,10 @@ loop-holder-smaller c =
     let level : ℕ = c.args.level in
     let h : ℕ = c.in-Some.holder in
     let place : ℕ = c.loop-holder.place in
-    let next : IsNext wave (split_at wave s).holders level place (length (split_at wave s).holders) (Some h) =
-    subst (λ (hs : List ℕ). IsNext wave hs level place (length hs) (Some h)) c.holders-holders.ensures.holders
+    let next : IsNextHolder wave (split_at wave s).holders level place
+    (length (split_at wave s).holders) (Some h) =
+    subst (λ (hs : List ℕ). IsNextHolder wave hs level place (length hs) (Some h))
+    c.holders-holders.ensures.holders
     (c.in-Some.ensures wave level c.places_of-places.ensures) in
     let past = next_past wave s level place c.requires.pending c.requires.no_bars c.requires.level h next in
     let reach = next_reach wave s level place c.requires.pending c.requires.no_bars c.requires.level h next in
@@ -84,8 +90,10 @@ loop-holder-preserved c =
     let level : ℕ = c.args.level in
     let h : ℕ = c.in-Some.holder in
     let place : ℕ = c.loop-holder.place in
-    let next : IsNext wave (split_at wave s).holders level place (length (split_at wave s).holders) (Some h) =
-    subst (λ (hs : List ℕ). IsNext wave hs level place (length hs) (Some h)) c.holders-holders.ensures.holders
+    let next : IsNextHolder wave (split_at wave s).holders level place
+    (length (split_at wave s).holders) (Some h) =
+    subst (λ (hs : List ℕ). IsNextHolder wave hs level place (length hs) (Some h))
+    c.holders-holders.ensures.holders
     (c.in-Some.ensures wave level c.places_of-places.ensures) in
     let past = next_past wave s level place c.requires.pending c.requires.no_bars c.requires.level h next in
     let reach = next_reach wave s level place c.requires.pending c.requires.no_bars c.requires.level h next in
@@ -119,13 +127,15 @@ returns c =
     let level : ℕ = c.args.level in
     let place : ℕ = c.loop-holder.place in
     let limit : ℕ = 257 * s + 8 * (3 - level) in
-    let next : IsNext wave (split_at wave s).holders level place (length (split_at wave s).holders) None =
-    subst (λ (hs : List ℕ). IsNext wave hs level place (length hs) None) c.holders-holders.ensures.holders
+    let next : IsNextHolder wave (split_at wave s).holders level place
+    (length (split_at wave s).holders) None =
+    subst (λ (hs : List ℕ). IsNextHolder wave hs level place (length hs) None)
+    c.holders-holders.ensures.holders
     (c.in_default.ensures wave level c.places_of-places.ensures) in
     let none = next_none wave s level place c.requires.pending c.requires.no_bars c.requires.level next in
     let most = passed-le wave level place (split_at wave s).holders in
     let size = ap (λ (z : List ℕ). length z) c.holders-holders.ensures.holders in
-    let holders = c.holders-holders.ensures.limit in
+    let holders = c.holders-holders.ensures.most in
     record {
       built = reach_end wave c.requires.tree s c.requires.split c.requires.no_bars level place
           (four_levels wave c.requires.tree level c.requires.level) c.loop-holder.invariant.0

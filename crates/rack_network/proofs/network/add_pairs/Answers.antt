@@ -11,7 +11,7 @@ pub add-requires-clause-room : goal.add-requires-clause-room
 add-requires-clause-room c =
     let limit = c.loop-i.invariant.frame.arc_limit in
     let few = c.requires.few in
-    let workers = c.workers-i-end.ensures.limit in
+    let workers = c.workers-i-end.ensures.most in
     omega arith
 
 pub loop-i-preserved : goal.loop-i-preserved
@@ -53,7 +53,7 @@ pub returns : goal.returns
 returns c =
     let wave = c.args.problem.now in
     let s : ℕ = c.args.split in
-    let workers = c.workers-i-end.ensures.limit in
+    let workers = c.workers-i-end.ensures.most in
     let count = c.workers-i-end.ensures.count in
     let end : c.loop-i.i ≡ length wave.workers = omega arith in
     record {

@@ -1,6 +1,6 @@
 use Rattle.std.proofs.Common.{◌≡◌, ℕ, length, get_or, refl, sym, ◌∙◌, subst, arith}
 use Rattle.std.proofs.lemmas.Bool.{false≢true}
-use Rattle.rack_network.specs.Build.{IsNext}
+use Rattle.rack_network.specs.Build.{IsNextHolder}
 use Rattle.rack_network.proofs.Levels.{read_zero}
 use Rattle.rack_network.proofs.Nearest.{next_nearer, next_no_nearer}
 use Rattle.rack_network.proofs.network.next_reached.Goals as goal
@@ -33,5 +33,5 @@ returns c = λ wave level are.
     let past = c.loop-i-test.false in
     let inside = c.loop-i.auto.i-end in
     let end : c.loop-i.i ≡ length c.args.holders.now = omega arith in
-    subst (λ (n : ℕ). IsNext wave c.args.holders.now level c.args.place n c.loop-i.next) end
+    subst (λ (n : ℕ). IsNextHolder wave c.args.holders.now level c.args.place n c.loop-i.next) end
     (c.loop-i.invariant wave level are).0

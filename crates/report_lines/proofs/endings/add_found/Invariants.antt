@@ -1,6 +1,6 @@
 use Rattle.std.proofs.Common.{◌∷◌, ◌++◌, ◌≡◌, string_bytes, take}
 use Rattle.std.specs.List.{flat_map}
-use Rattle.report_lines.specs.Lines.{name_of}
+use Rattle.text_lines.specs.Texts.{name_of}
 use Rattle.report_lines.proofs.endings.add_found.Given as goal
 
 abbrev pub invariant-loop-document : goal.invariant-loop-document

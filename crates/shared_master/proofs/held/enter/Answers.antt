@@ -9,7 +9,7 @@ keep-requires-clause-place g c =
       arith,
       last_is c.args.master.now.history c.args.answer c.in-Accepted.place c.in-Accepted.is c.requires.place,
       c.events-events.ensures.count,
-      c.events-events.ensures.limit,
+      c.events-events.ensures.most,
     )
 
 pub keep-requires-clause-counts : goal.keep-requires-clause-counts

@@ -1,21 +1,9 @@
-use Rattle.std.proofs.Common.{rules, arith, ℕ, ◌<◌, suc, Ok, Err, Result}
-use Rattle.std.specs.List.{All}
+use Rattle.std.proofs.Common.{ℕ, ◌<◌, Ok, Err, Result}
 use Rattle.std.specs.Result.{OkIff, result_ok}
 use Rattle.std.specs.Option.{SomeIff}
-use Rattle.std.proofs.lemmas.List.Elements.{All-cons}
-use Rattle.std.proofs.lemmas.Str.Parse.{IsDigitsTest, IsNumeralModel, numerals_by_fold, parse_digits}
-use Rattle.text_lines.specs.Texts.{IsDigit, number_from, number_of}
+use Rattle.std.proofs.lemmas.Str.Parse.{parse_digits}
+use Rattle.text_lines.proofs.Numerals.{numerals}
 use Rattle.text_lines.proofs.number.value_of.Goals as goal
-
-digits : IsDigitsTest (All IsDigit)
-digits = record {
-  empty = search rules;
-  parts = λ c cs h. (h 0 0 (omega arith), λ k d lt. h (suc k) d (omega arith));
-  more = λ c cs one h. All-cons IsDigit c cs one h;
-}
-
-numerals : IsNumeralModel (All IsDigit) number_of
-numerals = numerals_by_fold _ digits number_from (search rules)
 
 some_number : {E : Type 0} (r : Result ℕ E) (len n : ℕ) (P : Type 0) → 0 < len
     → OkIff r ((0 < len) × P) n → SomeIff (result_ok r) P n

@@ -7,7 +7,7 @@ use Rattle.price_certificate.proofs.Duality.{certified-best}
 use Rattle.certificate_checker.specs.declared.Certified.{Certified}
 use Rattle.certificate_checker.specs.Verdict.{IsCertified, IsVerdict}
 use Rattle.plan_text.specs.Report.{certified_line}
-use Rattle.tools.specs.PlanAnswer.{count_of}
+use Rattle.tools.specs.PlanAnswer.{plan_count}
 use Rattle.tools.proofs.checking.judge.Goals as goal
 
 pub returns-in_ok-certified-in-Ok : goal.returns-in_ok-certified-in-Ok
@@ -19,8 +19,8 @@ returns-in_ok-certified-in-Ok c =
     subst (λ (r : Result Certified Condition). IsVerdict made r) c.in-Ok.is c.requires in
     record {
       certifies = is.certifies;
-      best = certified-best made (subst IsWithinReach c.tree.ensures.tree c.reach-reach.ensures.most)
+      best = certified-best made (subst IsWithinReach c.tree.ensures.tree c.reach-reach.ensures.within)
           is.certifies;
       said = c.in_ok-certified-in-Ok.ensures ∙ ap (λ (n : ℕ). certified_line n said.cost) is.count
-          ∙ ap (λ (n : ℕ). certified_line (count_of made) n) is.cost;
+          ∙ ap (λ (n : ℕ). certified_line (plan_count made) n) is.cost;
     }

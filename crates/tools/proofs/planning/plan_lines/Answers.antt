@@ -18,7 +18,7 @@ returns c =
     (ap (λ (s : Certified). s.cost) as_said ∙ c.in-Ok.ensures.cost) c.in_ok-lines.ensures in
     plans_problem c.args.options.prices v.splits v.workers made _ (string_bytes c.if-options.lines)
     c.requires.splits c.requires.workers c.in-Ok.ensures.sizes c.in-Ok.ensures.certifies c.in-Ok.ensures.best
-    (omega (arith, c.reward.ensures.reward, c.reward.ensures.limit))
+    (omega (arith, c.reward.ensures.reward, c.reward.ensures.most))
     (elim c.if-options.branch [
       | then-options+in_ok-add_prices w ↦ rw w.lines-is
           (with_asked c.args.options.prices v.splits v.workers w.prices.result.now best.prices _ _ _

@@ -11,8 +11,8 @@ overflow_add-result c =
           (WorkerPrice c.args.worker) refl,
     )
 
-pub returns-clause-limit : goal.returns-clause-limit
-returns-clause-limit c =
+pub returns-clause-most : goal.returns-clause-most
+returns-clause-most c =
     omega (
       arith,
       c.requires.split_prices (SplitPrice c.args.split) refl,

@@ -20,7 +20,7 @@ loop-i-preserved c =
           w.cost-total.ensures.cost
           ∙ ap (λ (z : ℕ). unwrap_or (cost claim.wave z w.in-Some.worker) 0) c.new-split.ensures in (
             omega (arith, more, same, w.total-is, c.loop-i.invariant.0),
-            omega (arith, w.total-is, w.cost-total.ensures.limit, c.loop-i.invariant.1),
+            omega (arith, w.total-is, w.cost-total.ensures.most, c.loop-i.invariant.1),
           )
       | in_default w ↦
           let more = total_same claim.wave claim.starts i c.start.result within here w.in_default.is in (

@@ -18,7 +18,7 @@ collect-requires-clause-ready g c κs within =
     × AllHold claim of_split_price × AllHold claim of_worker_price) 0 n
     (λ i low high. (
       omega (arith, c.splits.ensures.count),
-      omega (arith, c.splits.ensures.limit),
+      omega (arith, c.splits.ensures.most),
       c.requires.split_prices,
       c.requires.worker_prices,
     )) in

@@ -2,7 +2,7 @@ use Rattle.std.proofs.Common.{◌≡◌, Some, List, length, ◌-◌, IsTrue, ap
 use Rattle.std.specs.Prelude.{slice_get}
 use Rattle.hand_ledger.specs.declared.hands.Entry.{Entry}
 use Rattle.hand_ledger.specs.Hands.{HandValue}
-use Rattle.hand_ledger.specs.Settling.{Stands}
+use Rattle.hand_ledger.specs.Settling.{LastStands}
 use Rattle.hand_ledger.proofs.Calls.{stands-is}
 use Rattle.hand_ledger.proofs.hands.Hand.stands.Goals as goal
 
@@ -17,7 +17,7 @@ returns-in_default-event_at g c =
     let seen = ap (λ (v : HandValue). v.calls) c.self.view_is in (
       λ t. absurd cc,
       λ s. absurd (c.in_default-event_at.not-Some e.event
-          (c.event_at.ensures ∙ same.0 (subst (Stands history) (sym seen) s))),
+          (c.event_at.ensures ∙ same.0 (subst (LastStands history) (sym seen) s))),
     )
 
 pub returns : goal.returns
@@ -32,7 +32,7 @@ returns g c =
     let there = sym c.event_at.ensures ∙ c.in-Some-event_at.is in
     let test : (IsTrue c.eq.result → c.in-Some-event_at.event ≡ e.event)
     × (c.in-Some-event_at.event ≡ e.event → IsTrue c.eq.result) = search rules in (
-      λ t. subst (Stands history) seen (same.1 (there ∙ ap Some (test.0 t))),
+      λ t. subst (LastStands history) seen (same.1 (there ∙ ap Some (test.0 t))),
       λ s. test.1 (let is : Some c.in-Some-event_at.event ≡ Some e.event =
-          sym there ∙ same.0 (subst (Stands history) (sym seen) s) in cc),
+          sym there ∙ same.0 (subst (LastStands history) (sym seen) s) in cc),
     )

@@ -31,7 +31,7 @@ keep-requires-clause-place g c =
       arith,
       wave_last _ _ _ _ c.in-Ok.ensures.1,
       c.events-events.ensures.count,
-      c.events-events.ensures.limit,
+      c.events-events.ensures.most,
     )
 
 pub keep-requires-clause-starts : goal.keep-requires-clause-starts

@@ -21,7 +21,7 @@ pub invariant_of-result : goal.invariant_of-result
 invariant_of-result c = within _ _ _ _ _
     (within_reach c.args.tree
     (subst (λ (t : Tree). AreCentresKnown t) c.tree.view_is c.tree.invariant.within.centres_known)) c.requires
-    (subst (λ n. n ≤ 256) c.workers-count.ensures.count c.workers-count.ensures.limit)
+    (subst (λ n. n ≤ 256) c.workers-count.ensures.count c.workers-count.ensures.most)
     (c.in-Ok.ensures ∙ c.deref-4.ensures.value)
     (moved_small _ _ _ _ c.deref.ensures.value c.deref-2.ensures.value
     (c.are_small.ensures.0 c.if-not-are_small.false))

@@ -2,7 +2,7 @@ use Rattle.std.proofs.Common.{subst}
 use Rattle.std.specs.Prelude.{Contains}
 use Rattle.std.proofs.lemmas.List.{take_all}
 use Rattle.word_map.specs.Entries.{pairs_of_index}
-use Rattle.word_map.specs.Table.{Adds}
+use Rattle.word_map.specs.Table.{AddsPairs}
 use Rattle.word_map.proofs.TableLemmas.{adds_none, adds_more}
 use Rattle.word_map.proofs.table.WordTable.add.Goals as goal
 
@@ -16,5 +16,5 @@ loop-entry-preserved c =
     c.entry-item.is c.loop-entry.invariant c.in_ok-add_entry.ensures
 
 pub returns : goal.returns
-returns c = subst (λ es. Adds c.args.self.now c.loop-entry.self (Contains (pairs_of_index es)))
+returns c = subst (λ es. AddsPairs c.args.self.now c.loop-entry.self (Contains (pairs_of_index es)))
     (take_all c.loop-entry.entry-index c.args.entries.now c.loop-entry-test.false) c.loop-entry.invariant

@@ -2,7 +2,7 @@ use Rattle.std.proofs.Common.{◌≡◌, ℕ, List, subst}
 use Rattle.std.specs.Prelude.{Contains}
 use Rattle.std.proofs.lemmas.Result.{on_ok_weaker}
 use Rattle.word_map.specs.Entries.{pairs_of_entry}
-use Rattle.word_map.specs.Table.{Adds, views}
+use Rattle.word_map.specs.Table.{AddsPairs, views}
 use Rattle.word_map.proofs.TableLemmas.{adds_pairs, adds_entry}
 use Rattle.word_map.proofs.table.WordTable.add_entry.Goals as goal
 
@@ -10,7 +10,7 @@ use Rattle.word_map.proofs.table.WordTable.add_entry.Goals as goal
 pub returns : goal.returns
 returns c =
     on_ok_weaker c.add_documents.result
-    (λ adds. subst (λ v. Adds v (views c.add_documents.new.table.entries)
+    (λ adds. subst (λ v. AddsPairs v (views c.add_documents.new.table.entries)
     (Contains (pairs_of_entry c.args.entry.now))) c.self.view_is
     (adds_entry c.args.entry.now (adds_pairs (λ (w : List ℕ) (k : ℕ). (w ≡ c.args.entry.now.word)
     × Contains c.args.entry.now.documents k) c.self.invariant

@@ -1,7 +1,7 @@
 use Rattle.std.proofs.Common.{◌≡◌, ℕ, List, subst}
 use Rattle.std.proofs.lemmas.Result.{on_ok_weaker}
 use Rattle.word_map.specs.Texts.{Pair}
-use Rattle.word_map.specs.Table.{Adds, views}
+use Rattle.word_map.specs.Table.{AddsPairs, views}
 use Rattle.word_map.proofs.TableLemmas.{adds_pairs}
 use Rattle.word_map.proofs.table.WordTable.note.Goals as goal
 
@@ -9,7 +9,7 @@ use Rattle.word_map.proofs.table.WordTable.note.Goals as goal
 pub returns : goal.returns
 returns c =
     on_ok_weaker c.note.result
-    (λ adds. subst (λ v. Adds v (views c.note.new.table.entries)
+    (λ adds. subst (λ v. AddsPairs v (views c.note.new.table.entries)
     (λ (pair : Pair). (pair.word ≡ c.args.word) × (pair.document ≡ c.args.document))) c.self.view_is
     (adds_pairs (λ (w : List ℕ) (k : ℕ). (w ≡ c.args.word) × (k ≡ c.args.document)) c.self.invariant
     (c.note.ensures.table c.self.invariant) adds))
