@@ -1,8 +1,6 @@
 //! Backups, call by call.
-use crate::jobs::{AMPLE, Call, Row, Shape, last_glance, play, played};
+use crate::jobs::{AMPLE, Call, Shape, play};
 use master_state::{Answer, Limits, Why};
-use std::alloc::Global;
-use std::process::Abort;
 
 // One split on the first of two workers with a slot each, and one part.
 const TWO_WORKERS: Shape<'static> = Shape {
@@ -55,59 +53,6 @@ fn the_other_of_two_attempts_goes_on(rt: HostRuntime) {
             (Call::Done(2), Answer::Accepted(7)),
         ],
     );
-}
-
-// The calls of a job, and then how many splits and parts are not done.
-type Script = (&'static [Row], u32, u32);
-
-const SCRIPTS: [Script; 3] = [
-    (
-        &[
-            (Call::Wave, Answer::Accepted(1)),
-            (Call::Backup(0, 1), Answer::Accepted(2)),
-            (Call::Done(2), Answer::Accepted(3)),
-            (Call::Done(1), Answer::Ignored(Why::OldAttempt)),
-            (Call::Reduce, Answer::Accepted(4)),
-            (Call::Done(3), Answer::Accepted(5)),
-        ],
-        0,
-        0,
-    ),
-    (
-        &[
-            (Call::Wave, Answer::Accepted(1)),
-            (Call::Backup(0, 1), Answer::Accepted(2)),
-            (Call::Die(0), Answer::Accepted(3)),
-            (Call::Done(2), Answer::Accepted(4)),
-        ],
-        0,
-        1,
-    ),
-    (
-        &[
-            (Call::Backup(0, 1), Answer::Ignored(Why::NoBackup)),
-            (Call::Wave, Answer::Accepted(1)),
-            (Call::Backup(0, 0), Answer::Ignored(Why::NoBackup)),
-        ],
-        1,
-        1,
-    ),
-];
-
-// How many splits and parts are not done after these calls, and whether a wave might start something.
-fn open_after(rt: &impl Abort, alloc: Global, rows: &[Row]) -> (u32, u32, bool) {
-    let (glance, _) = last_glance(played(rt, alloc, &TWO_WORKERS, AMPLE, rows));
-    (glance.open_splits, glance.open_parts, glance.ready)
-}
-
-#[test]
-fn jobs_with_backups(rt: HostRuntime) {
-    for (rows, open_splits, open_parts) in SCRIPTS {
-        assert_eq!(rt;
-            open_after(&rt, rt.alloc(), rows),
-            (open_splits, open_parts, false)
-        );
-    }
 }
 
 // Two splits, on the first two of four workers.

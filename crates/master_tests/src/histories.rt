@@ -1,6 +1,6 @@
 use crate::jobs::{
     AMPLE, Call, Job, Shape, answer_of, answers, commit, end, last_glance, make_shaped, planned,
-    play, played, text_of,
+    played, text_of,
 };
 use crate::seen::seen;
 use block_map::CopyOrder;
@@ -48,36 +48,6 @@ fn a_death_and_the_rest_of_the_job(rt: HostRuntime) {
     assert_eq!(rt;
         (counts, glance.ready, glance.reducible, results),
         ((0, 0, 0), false, false, 2)
-    );
-}
-
-// One worker, which holds the one split.
-const ONE_WORKER: Shape<'static> = Shape {
-    racks: &[1],
-    slots: &[1],
-    splits: &[(5, &[0], "one")],
-    parts: 2,
-};
-
-#[test]
-fn silence_is_a_death(rt: HostRuntime) {
-    play(
-        &rt,
-        rt.alloc(),
-        &ONE_WORKER,
-        AMPLE,
-        &[
-            (Call::Wave, Answer::Accepted(1)),
-            (Call::Sweep(1), Answer::Accepted(2)),
-            (Call::Sweep(1), Answer::Accepted(3)),
-            (Call::Sweep(1), Answer::Accepted(4)),
-            (Call::Sweep(1), Answer::Accepted(5)),
-            (Call::Done(1), Answer::Ignored(Why::OldAttempt)),
-            (Call::Join(0, Some(0)), Answer::Accepted(6)),
-            (Call::Join(0, None), Answer::Ignored(Why::LiveWorker)),
-            (Call::Wave, Answer::Accepted(7)),
-            (Call::Done(1), Answer::Ignored(Why::OldAttempt)),
-        ],
     );
 }
 

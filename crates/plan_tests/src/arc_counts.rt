@@ -1,8 +1,7 @@
 //! The rack network of problems with one and with several data centres, arcs and nodes counted by hand.
 use crate::small::{NONE, ONE_CENTRE, Row, Small};
 use crate::small_problems::of;
-use node_ids::{CentreNo, Layout};
-use rack_network::{RackLayout, RackNode, build};
+use rack_network::build;
 use std::alloc::Global;
 use std::process::Abort;
 
@@ -45,40 +44,5 @@ fn arcs_of_racks_and_centres(rt: HostRuntime) {
         };
         let told = arcs_of(&rt, rt.alloc(), &row);
         assert_eq!(rt; (splits, centres, told), (splits, centres, arcs));
-    }
-}
-
-// How many nodes there are, what stands past the splits, whether there is a cluster above, and whether a
-// centre past the last.
-fn nodes_of(rt: &impl Abort, layout: &RackLayout) -> (usize, RackNode, bool, bool) {
-    let past = RackNode::Centre(CentreNo::new(layout.centres));
-    assert!(rt; layout.size() > 2);
-    (
-        layout.size(),
-        layout.node(2),
-        layout.holds(RackNode::Cluster),
-        layout.holds(past),
-    )
-}
-
-// Two splits, so many centres, three racks, four workers, `Unstarted`, `Sink`; and `Cluster` above several.
-#[test]
-fn one_centre_takes_the_place_of_the_cluster(rt: HostRuntime) {
-    let rows: [(u8, usize, RackNode); 3] = [
-        (1, 12, RackNode::Centre(CentreNo::new(0))),
-        (2, 14, RackNode::Cluster),
-        (8, 20, RackNode::Cluster),
-    ];
-    for (centres, nodes, past_splits) in rows {
-        let layout = RackLayout {
-            splits: 2,
-            centres,
-            racks: 3,
-            workers: 4,
-        };
-        assert_eq!(rt;
-            nodes_of(&rt, &layout),
-            (nodes, past_splits, centres > 1, false)
-        );
     }
 }

@@ -41,30 +41,6 @@ fn distances_between_centres(rt: HostRuntime) {
     }
 }
 
-#[test]
-fn reaches(rt: HostRuntime) {
-    for (centres, reach) in [(0, 4), (1, 4), (2, 6), (8, 6)] {
-        let tree = tree_in(&rt, rt.alloc(), (centres, &[]), &[]);
-        assert_eq!(rt; (centres, tree.reach()), (centres, reach));
-    }
-}
-
-// The data centre of rack 1, and the rack of worker 1.
-fn above(rt: &impl Abort, tree: &RackTree) -> (CentreNo, RackNo) {
-    assert!(rt; tree.workers() == 2 && tree.racks() == 2 && tree.centres() == 1);
-    (
-        tree.centre_of(RackNo::new(1)),
-        tree.rack_of(WorkerNo::new(1)),
-    )
-}
-
-#[test]
-fn a_copy_has_the_same_racks(rt: HostRuntime) {
-    let tree = tree(&rt, rt.alloc(), &[(0, true, 1), (1, true, 1)]);
-    let copied = tree.copy(rt.alloc()).expect(&rt, "no copy");
-    assert_eq!(rt; above(&rt, &copied), (CentreNo::new(0), RackNo::new(1)));
-}
-
 // A tree of as many data centres, racks and workers as there may be.
 fn full(rt: &impl Abort, alloc: Global) -> RackTree {
     let mut tree = empty_racks(rt, alloc, (MAX_CENTRES as u8, &[7; MAX_RACKS]));

@@ -9,8 +9,6 @@
 #[cfg(test)]
 mod arc_counts;
 #[cfg(test)]
-mod centres;
-#[cfg(test)]
 mod clusters;
 #[cfg(test)]
 mod distances;
@@ -18,10 +16,6 @@ mod distances;
 mod flows;
 #[cfg(test)]
 mod networks;
-#[cfg(test)]
-mod numbers;
-#[cfg(test)]
-mod orders;
 #[cfg(test)]
 mod parts;
 #[cfg(test)]

@@ -1,11 +1,9 @@
 //! What is told of the parts of a problem before it is made.
 use crate::clusters::{pairs, split_lines, worker_lines};
 use node_ids::{PairSet, SplitNo};
-use rack_tree::RackTree;
 use std::process::Abort;
 use wave_problem::{
-    MAX_BYTES, Problem, SplitLine, WorkerLine, are_held_well, are_small_splits, free_workers,
-    may_start,
+    MAX_BYTES, SplitLine, WorkerLine, are_held_well, are_small_splits, free_workers, may_start,
 };
 
 #[test]
@@ -59,16 +57,4 @@ fn a_split_may_start_where_a_worker_may_take_it(rt: HostRuntime) {
         let told = first_may_start(&rt, &workers, &barred, &splits);
         assert_eq!(rt; (pending, holder, told), (pending, holder, want));
     }
-}
-
-#[test]
-fn nothing_keeps_to_the_limits(rt: HostRuntime) {
-    let alloc = rt.alloc();
-    let tree = RackTree::new(alloc);
-    let barred = PairSet::new(alloc).expect(&rt, "no pairs");
-    let problem = Problem::within_limits(alloc, tree, Vec::new(alloc), &[], barred).expect(
-        &rt,
-        "no problem",
-    );
-    assert_eq!(rt; (problem.splits(), problem.workers()), (0, 0));
 }

@@ -18,10 +18,6 @@ const CYCLE: [Row; 7] = [
     (3, 0, 1, 1),
 ];
 
-fn may_search(network: &Network<Numbered>, potentials: &Potentials) -> bool {
-    potentials.depths().len() == network.layout().size() && has_no_negative(network, potentials)
-}
-
 /// The least paths from a node, where the potentials allow the search.
 pub fn search(
     rt: &impl Abort,
@@ -116,13 +112,6 @@ fn a_path_takes_a_unit_back(rt: HostRuntime) {
     assert!(rt; potentials.depths().len() == 5);
     let found = search(&rt, rt.alloc(), &network, &potentials, 2);
     assert_from_2(&rt, rt.alloc(), &found, &potentials);
-}
-
-#[test]
-fn a_reverse_arc_wants_potentials(rt: HostRuntime) {
-    let network = with_a_unit(&rt, rt.alloc());
-    let potentials = Potentials::new(rt.alloc(), 5).expect(&rt, "no memory");
-    assert!(rt; !may_search(&network, &potentials));
 }
 
 // How many looks a search from node 0 takes.

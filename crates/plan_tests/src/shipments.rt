@@ -2,7 +2,7 @@ use crate::networks::{Row, excess, network};
 use crate::paths::search;
 use crate::random::Random;
 use augmenting_paths::{can_ship, saturate};
-use flow_network::{ArcNo, FlowArc, Network};
+use flow_network::{FlowArc, Network};
 use node_ids::Numbered;
 use shortest_paths::Potentials;
 use std::alloc::{AllocError, Global};
@@ -84,19 +84,6 @@ fn what_may_be_shipped(rt: HostRuntime) {
         let may_ship = can_ship(rt.alloc(), &contest, sources, 5);
         assert_eq!(rt; may_ship, Ok(want), "{sources:?}");
     }
-}
-
-#[test]
-fn no_unit_goes_over_an_arc_without_room(rt: HostRuntime) {
-    let narrow = network(&rt, rt.alloc(), 3, &[(0, 1, 1, 0), (1, 2, 0, 0)]);
-    assert_eq!(rt; can_ship(rt.alloc(), &narrow, &[0], 2), Ok(false));
-}
-
-#[test]
-fn nothing_is_shipped_twice(rt: HostRuntime) {
-    let mut shipped = network(&rt, rt.alloc(), 6, &CONTEST);
-    let _ = ship(&rt, rt.alloc(), &mut shipped, &[0], 5);
-    assert_eq!(rt; can_ship(rt.alloc(), &shipped, &[1], 5), Ok(false));
 }
 
 const NODES: usize = 7;

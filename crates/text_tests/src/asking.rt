@@ -36,18 +36,6 @@ fn shows(rt: &impl Abort, alloc: Global, words: &[&str], status: u8, part: &str)
 }
 
 #[test]
-fn check_is_asked_for(rt: HostRuntime) {
-    let asked = ask(rt.alloc(), ["mrjob", "check"].as_slice());
-    assert!(&rt; matches!(asked, Ok(Ask::Check)));
-}
-
-#[test]
-fn play_is_asked_for(rt: HostRuntime) {
-    let asked = ask(rt.alloc(), ["mrjob", "play"].as_slice());
-    assert!(&rt; matches!(asked, Ok(Ask::Play)));
-}
-
-#[test]
 fn plan_is_asked_for(rt: HostRuntime) {
     let plans: [(&[&str], bool, NetworkKind); 4] = [
         (&["mrjob", "plan"], false, NetworkKind::Racks),

@@ -17,13 +17,19 @@ pub fn fault_of(alloc: Global, purpose: Purpose, text: &str) -> Option<(u32, u8)
 }
 
 // Texts to plan from.
-const TO_PLAN: [(&str, Option<(u32, u8)>); 22] = [
+const TO_PLAN: [(&str, Option<(u32, u8)>); 28] = [
     ("problem 1\nend\n", None),
     (
         "problem 1\nrack r\nworker a r 16\nsplit s 67108864 a\nend\n",
         None,
     ),
     ("problem 1\nrock r\nend\n", Some((2, 1))),
+    ("problem 1\n\nend\n", Some((2, 1))),
+    ("problem 1\nrack\nend\n", Some((2, 1))),
+    ("problem 1\n rack r\nend\n", Some((2, 1))),
+    ("problem 1\nworker a r 01\nend\n", Some((2, 1))),
+    ("problem 1\nbusy\nend\n", Some((2, 1))),
+    ("problem 1\nend b\n", Some((2, 1))),
     ("problem 1\nrack r \nend\n", Some((2, 1))),
     ("problem 1\nrack 1r\nend\n", Some((2, 2))),
     ("problem 1\nworker 1a r 17\nend\n", Some((2, 2))),

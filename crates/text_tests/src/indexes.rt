@@ -147,32 +147,6 @@ fn a_result_is_of_its_part(rt: HostRuntime) {
     assert_eq!(rt; told, (PartNo::new(1), 2, 2, 0));
 }
 
-// Whether it covers none of three texts, the second, the last two, all, and the first.
-fn covers(rt: &impl Abort, part: &PartResult, texts: &[Arc<SplitText>]) -> [bool; 5] {
-    assert!(rt; texts.len() == 3);
-    [
-        part.covers(&[]),
-        part.covers(&texts[1..2]),
-        part.covers(&texts[1..]),
-        part.covers(texts),
-        part.covers(&texts[..1]),
-    ]
-}
-
-#[test]
-fn covers_its_texts_alone(rt: HostRuntime) {
-    let texts = [
-        text(rt.alloc(), &["two"]).expect(&rt, "no text"),
-        text(rt.alloc(), &["one"]).expect(&rt, "no text"),
-        text(rt.alloc(), &["one"]).expect(&rt, "no text"),
-    ];
-    let result = empty_part(&rt, rt.alloc(), &texts[1]);
-    assert_eq!(rt;
-        covers(&rt, &result, &texts),
-        [false, true, true, false, false]
-    );
-}
-
 #[test]
 fn no_run_gives_no_pair(rt: HostRuntime) {
     let result = merge(rt.alloc(), 64, PartNo::new(63), &[]).expect(&rt, "no result");

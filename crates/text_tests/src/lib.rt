@@ -2,9 +2,9 @@
 //!
 //! They show what no clause says: worked values from outside, that each call succeeds where there is memory,
 //! what comes of readers and writers that fail, that are interrupted or that give one byte a call, which
-//! words are lines, that a text is read to its end, and what `clap` says of a command's words. The texts with
-//! their answers are in `examples/`. Nothing stands on this crate, and so the others are proved once, without
-//! tests.
+//! words are lines, and what `clap` says of a command's words. Commands run through the built program, on the
+//! texts in `examples/` and with each call refused in turn (`scripts/refused_calls.sh`). Nothing stands on
+//! this crate, and so the others are proved once, without tests.
 #![tactic(auto)]
 
 #[cfg(test)]
@@ -20,13 +20,7 @@ mod maps;
 #[cfg(test)]
 mod readers;
 #[cfg(test)]
-mod reading;
-#[cfg(test)]
 mod scripts;
-#[cfg(test)]
-mod streams;
-#[cfg(test)]
-mod tables;
 #[cfg(test)]
 mod texts;
 #[cfg(test)]

@@ -18,32 +18,6 @@ pub fn text(alloc: Global, documents: &[&str]) -> Result<Arc<SplitText>, AllocEr
     Ok(Arc::new(alloc, SplitText::new(SplitNo::new(7), all))?)
 }
 
-// The split of a text, how many documents it has, and whether the text of these documents is the same.
-fn told(rt: &impl Abort, alloc: Global, one: &SplitText, other: &[&str]) -> (SplitNo, usize, bool) {
-    let other = text(alloc, other).expect(rt, "no text");
-    (
-        one.split(),
-        one.documents().len(),
-        one.is_same(other.as_ref()),
-    )
-}
-
-#[test]
-fn a_text_is_what_it_was_made_of(rt: HostRuntime) {
-    let one = text(rt.alloc(), &["One", "two"]).expect(&rt, "no text");
-    for (documents, is_same) in [
-        (["One", "two"].as_slice(), true),
-        (["One"].as_slice(), false),
-        (["two", "One"].as_slice(), false),
-    ] {
-        let told = told(&rt, rt.alloc(), one.as_ref(), documents);
-        assert_eq!(rt;
-            (documents, told),
-            (documents, (SplitNo::new(7), 2, is_same))
-        );
-    }
-}
-
 // Whether the first document has this text, and whether it comes before the second.
 fn stand_in_order(rt: &impl Abort, documents: &[Document], first: &Text) -> [bool; 2] {
     assert!(rt; documents.len() == 2);

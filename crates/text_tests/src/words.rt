@@ -1,4 +1,4 @@
-use text_lines::{Fault, Number, is_name, printable, split_line, words};
+use text_lines::{Number, is_name, split_line, words};
 
 #[test]
 fn lines_end_at_line_feeds(rt: HostRuntime) {
@@ -26,21 +26,6 @@ fn words_stand_between_spaces(rt: HostRuntime) {
             want,
             "{line}"
         );
-    }
-}
-
-#[test]
-fn printable_lines(rt: HostRuntime) {
-    let rows: [(&[u8], Option<&str>); 6] = [
-        (b" ~", Some(" ~")),
-        (b"", Some("")),
-        (b"\t", None),
-        (b"\x7f", None),
-        (b"\xc3\xa9", None),
-        (b"a\x1f", None),
-    ];
-    for (line, want) in rows {
-        assert_eq!(rt; printable(line), want, "{line:?}");
     }
 }
 
@@ -80,10 +65,4 @@ fn numbers(rt: HostRuntime) {
     for word in ["", "00", "01", "-1", "+1", "1a", "1 ", "0x1"] {
         assert!(rt; Number::of(word).is_none(), "{word}");
     }
-}
-
-#[test]
-fn faults_have_their_numbers(rt: HostRuntime) {
-    assert_eq!(rt; Fault::Shape.number(), 1);
-    assert_eq!(rt; Fault::AfterEnd.number(), 14);
 }
