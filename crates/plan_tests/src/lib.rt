@@ -9,6 +9,8 @@
 #[cfg(test)]
 mod arc_counts;
 #[cfg(test)]
+mod centres;
+#[cfg(test)]
 mod clusters;
 #[cfg(test)]
 mod distances;
@@ -16,6 +18,8 @@ mod distances;
 mod flows;
 #[cfg(test)]
 mod networks;
+#[cfg(test)]
+mod orders;
 #[cfg(test)]
 mod parts;
 #[cfg(test)]

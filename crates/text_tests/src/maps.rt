@@ -1,9 +1,9 @@
 use crate::texts::text;
-use node_ids::{DocNo, PartNo};
+use node_ids::{DocNo, PartNo, SplitNo};
 use std::alloc::Global;
 use std::process::Abort;
 use std::sync::Arc;
-use word_map::{Entry, MapResult, Run, SplitText, map_split, part_of};
+use word_map::{Document, Entry, MapResult, Run, SplitText, Text, map_split, part_of};
 
 // A word with the numbers of its documents.
 type Row = (&'static str, &'static [u32]);
@@ -98,4 +98,33 @@ fn words_are_longest_runs_of_letters(rt: HostRuntime) {
     for (documents, want) in rows {
         assert!(rt; maps_to(&rt, rt.alloc(), documents, want));
     }
+}
+
+fn empty_documents(alloc: Global, count: u32) -> Option<Arc<SplitText>> {
+    let mut all = Vec::new(alloc);
+    for number in 0..count {
+        all.push(Document {
+            number: DocNo::new(number),
+            text: Text::new(String::new(alloc)),
+        })
+        .ok()?;
+    }
+    Arc::new(alloc, SplitText::new(SplitNo::new(0), all)).ok()
+}
+
+// How many words stand in these runs together.
+fn words_in(rt: &impl Abort, made: &MapResult) -> usize {
+    assert!(rt; made.parts() == 64);
+    let mut words = 0usize;
+    for part in 0..64 {
+        words = words.saturating_add(made.run(PartNo::new(part)).entries().len());
+    }
+    words
+}
+
+#[test]
+fn many_documents_of_nothing(rt: HostRuntime) {
+    let text = empty_documents(rt.alloc(), 65_536).expect(&rt, "no text");
+    let made = map_split(rt.alloc(), text, 64).expect(&rt, "no result");
+    assert_eq!(rt; words_in(&rt, &made), 0);
 }
