@@ -1,4 +1,4 @@
-//! The rack network of problems with one and with several data centres, arcs and nodes counted by hand.
+//! The rack network of problems with one and with several data centres, arcs counted by hand.
 use crate::small::{NONE, ONE_CENTRE, Row, Small};
 use crate::small_problems::of;
 use rack_network::build;
