@@ -1,5 +1,6 @@
 #!/usr/bin/env bash
-# How long `mrjob check` takes on a text near the greatest length: 1,024 splits of 8 holders, 256 workers, each pair barred.
+# How long `mrjob check` takes on a text near the greatest length: 1,024 splits of 8 holders, 256 workers, each pair
+# barred.
 set -euo pipefail
 cd "$(dirname "$0")/.."
 text=$(mktemp)

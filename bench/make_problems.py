@@ -1,10 +1,11 @@
 #!/usr/bin/env python3
 """Writes the problems on which plans are timed, the same ones each time: 1,024 splits and up to 256 workers, or fewer.
 
-    make_problems.py SHAPE [SPLITS [CENTRES [WORKERS]]]    writes the text of one shape, with so many splits, a multiple of 128, its
-                                                           racks in so many data centres, and so many workers, a multiple of 16;
-                                                           with 1,024, 1 and a worker for each four splits where these are not
-                                                           given. Without an argument it writes the names of the shapes
+    make_problems.py SHAPE [SPLITS [CENTRES [WORKERS]]]
+
+writes the text of one shape, with so many splits, a multiple of 128, its racks in so many data centres, and so many
+workers, a multiple of 16; with 1,024, 1 and a worker for each four splits where these are not given. Without an
+argument it writes the names of the shapes.
 """
 import random
 import sys

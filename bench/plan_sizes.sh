@@ -1,7 +1,7 @@
 #!/usr/bin/env bash
-# Times `mrjob plan` over racks beside LEMON's NetworkSimplex over the same network, by size: splits from 128 to 1,024, and workers
-# from 16 to 256. As in plan.sh each is a whole process, the time is the least of five in microseconds, and both must answer the
-# same count and cost. It needs a C++ compiler and LEMON (Debian's liblemon-dev).
+# Times `mrjob plan` over racks beside LEMON's NetworkSimplex over the same network, by size: splits from 128 to
+# 1,024, and workers from 16 to 256. As in plan.sh each is a whole process, the time is the least of five in
+# microseconds, and both must answer the same count and cost. It needs a C++ compiler and LEMON (Debian's liblemon-dev).
 set -euo pipefail
 cd "$(dirname "$0")/.."
 bench/needs_lemon

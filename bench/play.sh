@@ -1,6 +1,6 @@
 #!/usr/bin/env bash
-# Times `mrjob play` as a whole process, the least of five runs: on 65,536 commands without a wave, on 1,000 waves that start
-# one split each, and on a job of the documents of a file, one a line, with the greatest memory that it had.
+# Times `mrjob play` as a whole process, the least of five runs: on 65,536 commands without a wave, on 1,000 waves that
+# start one split each, and on a job of the documents of a file, one a line, with the greatest memory that it had.
 # usage: play.sh [FILE]
 set -euo pipefail
 cd "$(dirname "$0")/.."

@@ -1,9 +1,9 @@
 #!/usr/bin/env bash
 # Times `map_split`, `merge` and `finish` beside two plain Rust programs that do the same, one by sorted pairs and one
 # by hash maps, on the same text and in one run, and prints a table in milliseconds: of each the least of ten calls,
-# and how many times the others' time ours takes. `covers` compares the texts of the eight results with those of the job,
-# which the Rust programs do not: it has a row of its own, and counts in our total. The text has one document a line.
-# It needs rustc.
+# and how many times the others' time ours takes. `covers` compares the texts of the eight results with those of the
+# job, which the Rust programs do not: it has a row of its own, and counts in our total. The text has one document a
+# line. It needs rustc.
 # usage: words.sh [FILE]
 set -euo pipefail
 cd "$(dirname "$0")/.."

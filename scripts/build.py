@@ -47,7 +47,8 @@ def prove(program, crates, log):
     progress = Progress(crates, program)
     # (in a crate's folder `rt all` takes that crate and those below it)
     words = ["rt", "all", "check", "--jobs", str(places(CHECK_MEMORY))]
-    with subprocess.Popen(words, cwd=program.folder, stdout=subprocess.PIPE, stderr=subprocess.STDOUT, text=True) as ran:
+    told = {"stdout": subprocess.PIPE, "stderr": subprocess.STDOUT, "text": True}
+    with subprocess.Popen(words, cwd=program.folder, **told) as ran:
         for line in ran.stdout:
             log.write(line)
             head = re.match(r"== (\w+)$", line)
@@ -65,7 +66,8 @@ def build(program, log):
     """Builds the proved program, and returns whether it writes what the crate's file stdout has."""
     # (rt run builds the program, and runs it on the text that stands beside it)
     with open(program.folder / "stdin") as text:
-        said = subprocess.run(["rt", "run", "--", "check"], cwd=program.folder, stdin=text, stdout=subprocess.PIPE, stderr=log)
+        words = ["rt", "run", "--", "check"]
+        said = subprocess.run(words, cwd=program.folder, stdin=text, stdout=subprocess.PIPE, stderr=log)
     return said.returncode == 0 and said.stdout == (program.folder / "stdout").read_bytes()
 
 

@@ -20,7 +20,7 @@ RUNS = [
     ("plan_swap", ["plan", "--prices"], 0, "t starts on its data, and s beside its own: 2 for each of its 10 bytes"),
     ("swap", ["check"], 0, "the same plan with other prices: they show that no plan is better"),
     ("nearest_first", ["check"], 1, "each split on its nearest free worker in turn costs 40, and no prices certify it"),
-    ("play_death", ["play"], 0, "a dies after its map was done: b maps the split again, reduces, and the index is whole"),
+    ("play_death", ["play"], 0, "a dies after its map was done: b maps the split again, and the index is whole"),
 ]
 
 

@@ -3,11 +3,11 @@
 
     differential.py PROGRAM..
 
-The texts are the same in each run: those of `make_texts.py KIND SEED` for the seeds from 1, each front of two examples, a
-script with a death more at each of its places, and texts at the limits on counts. A check's answer has to be the
-reference's. A plan with its prices, over either network, has to start as many splits at as little cost as any choice of
-starts, and to be certified by the reference; without prices its lines are the same up to them. A script's report is
-followed command by command. The last line counts the groups of texts that agree.
+The texts are the same in each run: those of `make_texts.py KIND SEED` for the seeds from 1, each front of two
+examples, a script with a death more at each of its places, and texts at the limits on counts. A check's answer has
+to be the reference's. A plan with its prices, over either network, has to start as many splits at as little cost as
+any choice of starts, and to be certified by the reference; without prices its lines are the same up to them. A
+script's report is followed command by command. The last line counts the groups of texts that agree.
 """
 import os
 import random

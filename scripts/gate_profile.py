@@ -1,9 +1,9 @@
 #!/usr/bin/env python3
 """Prints a table of the processor seconds that each crate takes in the gate: its proof, its tests and its edits.
 
-The gate runs once, as `make test` runs it, in a temporary clone of the commit that is checked out. What a check takes is read from
-/proc twice a second while it runs, so that the table costs no more than the gate does. Other work on the machine makes the seconds
-larger. The last line has the sums, and the processor time of the whole gate.
+The gate runs once, as `make test` runs it, in a temporary clone of the commit that is checked out. What a check
+takes is read from /proc twice a second while it runs, so that the table costs no more than the gate does. Other work
+on the machine makes the seconds larger. The last line has the sums, and the processor time of the whole gate.
 """
 import os
 import resource

@@ -5,7 +5,8 @@
  *   write      the NTH write to standard output fails
  *   interrupt  the NTH read or write to standard output is interrupted
  *   short      each read and each write to standard output, from the NTH on, moves one byte
- * Where a call met this, descriptor 9 gets one byte. It needs no header, so that any C compiler for x86-64 Linux makes it. */
+ * Where a call met this, descriptor 9 gets one byte. It needs no header, so that any C compiler for x86-64 Linux
+ * makes it. */
 typedef unsigned long size;
 
 extern char *getenv(const char *);

@@ -49,7 +49,8 @@ sweep() { # PROGRAM KIND WORDS-AND-STATUS OUTPUT
         wrong=$((wrong + 1))
         echo "$1 ${words[*]}: $2: after $calls calls that were refused, it says: $said"
     fi
-    echo "$1 ${words[*]}: $2: $calls calls, one refused in each run: $told told, $((calls - told - wrong)) done without, $wrong wrong"
+    local without=$((calls - told - wrong))
+    echo "$1 ${words[*]}: $2: $calls calls, one refused in each run: $told told, $without done without, $wrong wrong"
     if [ "$wrong" = 0 ]; then passed=$((passed + 1)); else failed=$((failed + 1)); fi
 }
 
@@ -89,7 +90,7 @@ sweep_test() { # TESTS NAME
         calls=$nth
     done
     echo "$tests: $name: $calls allocations, one refused in each run, $wrong wrong"
-    if [ "$wrong" = 0 ] && [ "$calls" != 0 ] && [ "$nth" -le 10000 ]; then passed=$((passed + 1)); else failed=$((failed + 1)); fi
+    if [ "$wrong" != 0 ] || [ "$calls" = 0 ] || [ "$nth" -gt 10000 ]; then failed=$((failed + 1)); else passed=$((passed + 1)); fi
 }
 
 sweep_test crates/plan_tests/out/plan_tests_tests flows::refused_arcs_leave_no_trace

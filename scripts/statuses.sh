@@ -56,7 +56,8 @@ for program in "$@"; do
     expect "an option for playing" "$(given play --prices < "$text")" 64 nothing words
     expect "a script that is stuck" "$(given play < examples/play_no_commands.txt)" 1 "stuck 0" nothing
     expect "a script that is done" "$(given play < examples/play_first.txt)" 0 "$(cat examples/play_first.out)" nothing
-    expect "more starts than the most attempts" "$(scripts/make_texts.py full 1 | given play)" 5 nothing "mrjob: history full"
+    expect "more starts than the most attempts" \
+        "$(scripts/make_texts.py full 1 | given play)" 5 nothing "mrjob: history full"
     expect "a text that is too long" "$(head -c 16777217 /dev/zero | given check)" 2 "line 0: fault 11" nothing
     expect "a text that is far too long" "$(head -c 100000000 /dev/zero | given check)" 2 "line 0: fault 11" nothing
     for network in direct racks; do

@@ -3,6 +3,19 @@
 //! `plan_with` has a plan and its prices made over the network that is asked for, `direct_network`'s or
 //! `rack_network`'s, and certifies them. It always answers a best plan with prices that certify it, or that
 //! memory is wanting. Stands on these two and on `certificate_checker`.
+//!
+//! # How the layer above uses it
+//! The program `plan_a_wave` plans a wave, and has its plan checked by its prices. The two contracts together
+//! prove that what the planner makes always passes:
+//!
+//! ```text
+//! pub fn passes(alloc: Global, problem: &Problem) -> Option<bool>
+//!     ensures { IfSome result (λ b. b ≡ true) }
+//! {
+//!     let planned = plan(alloc, problem).ok()?;
+//!     Some(certify(problem, planned.plan(), planned.prices()).is_ok())
+//! }
+//! ```
 #![tactic(auto)]
 
 mod planning;
