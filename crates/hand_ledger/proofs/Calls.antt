@@ -12,9 +12,9 @@ use Rattle.std.proofs.lemmas.List.Sums.{sum_by-cons, sum_by_push, sum_by_more, s
 use Rattle.master_state.specs.declared.events.Event.{Event}
 use Rattle.master_state.specs.declared.states.Limits.{Limits}
 use Rattle.master_state.specs.declared.states.Start.{Start}
-use Rattle.hand_ledger.specs.declared.hands.Entry.{Entry}
+use Rattle.hand_ledger.specs.declared.keeping.Entry.{Entry}
 use Rattle.hand_ledger.specs.Hands.{Kept, kept, HandValue, counts_in, starts_in, all_counts, all_starts}
-use Rattle.hand_ledger.specs.Hands.{last_event, has_room}
+use Rattle.hand_ledger.specs.Hands.{last_event, last_place, has_room}
 use Rattle.hand_ledger.specs.Inside.{calls_of, counts_taken, starts_taken, AreKept, IsPlace}
 use Rattle.hand_ledger.specs.Settling.{LogValue, LastStands, all_calls, event_at, call_at, counts_at}
 use Rattle.hand_ledger.specs.Settling.{starts_at}
@@ -152,6 +152,15 @@ last_event-calls (x ∷ y ∷ es) zero e cs ss len at = absurd (omega arith)
 last_event-calls (x ∷ y ∷ es) (suc n) e cs ss len at =
     last_event-calls (y ∷ es) n e (drop (counts_in x.event) cs) (drop (starts_in x.event) ss) (omega arith) at
 
+pub last_place-calls : (es : List Entry) (n : ℕ) (e : Entry) (cs : List (List ℕ)) (ss : List Start) →
+    n + 1 ≡ length es → slice_get es n ≡ Some e → last_place (calls_of es cs ss) ≡ e.place
+last_place-calls [] n e cs ss len at = absurd (omega arith)
+last_place-calls (x ∷ []) zero e cs ss len at = cc
+last_place-calls (x ∷ []) (suc n) e cs ss len at = absurd (omega arith)
+last_place-calls (x ∷ y ∷ es) zero e cs ss len at = absurd (omega arith)
+last_place-calls (x ∷ y ∷ es) (suc n) e cs ss len at =
+    last_place-calls (y ∷ es) n e (drop (counts_in x.event) cs) (drop (starts_in x.event) ss) (omega arith) at
+
 -- it stands where the entry does
 abbrev pub IsAtPlace : List Event → Entry → Type 0
 IsAtPlace history e = event_at history e.place ≡ Some e.event
@@ -175,6 +184,13 @@ pub last_event-is : (es : List Entry) (e : Entry) (cs : List (List ℕ)) (ss : L
 last_event-is [] e cs ss at = absurd cc
 last_event-is (x ∷ es) e cs ss at =
     last_event-calls (x ∷ es) (length es) e cs ss (omega arith)
+    (sym (ap (slice_get (x ∷ es)) (length-less_one x es)) ∙ at)
+
+pub last_place-is : (es : List Entry) (e : Entry) (cs : List (List ℕ)) (ss : List Start) →
+    slice_get es (length es - 1) ≡ Some e → last_place (calls_of es cs ss) ≡ e.place
+last_place-is [] e cs ss at = absurd cc
+last_place-is (x ∷ es) e cs ss at =
+    last_place-calls (x ∷ es) (length es) e cs ss (omega arith)
     (sym (ap (slice_get (x ∷ es)) (length-less_one x es)) ∙ at)
 
 pub stands-is : (history : List Event) (es : List Entry) (e : Entry) (cs : List (List ℕ)) (ss : List Start) →

@@ -1,6 +1,6 @@
--- What a hand keeps of the calls of its thread.
-use Rattle.std.specs.Prelude.{ℕ, ◌+◌, ◌&&◌, ◌||◌, nat_le, nat_lt, Bool, true, List, [], ◌∷◌, ◌++◌, length}
-use Rattle.std.specs.Prelude.{Option, Some, None}
+-- What a hand keeps of the calls of its thread, and what is kept of all hands.
+use Rattle.std.specs.Prelude.{ℕ, ◌+◌, ◌&&◌, ◌||◌, nat_le, nat_lt, Bool, true, false, List, [], ◌∷◌, ◌++◌}
+use Rattle.std.specs.Prelude.{length, Option, Some, None}
 use Rattle.std.specs.List.{sum_by}
 use Rattle.master_state.specs.declared.answers.Why.{Why}
 use Rattle.master_state.specs.declared.answers.Why.TheVariants.{HistoryFull, StrangeHand}
@@ -26,6 +26,15 @@ pub record HandValue : Type 0 where
   pub room : Limits
   pub strange : Bool  -- a call was answered that the hand is strange
   pub full : Bool  -- a call that the hand had room for was answered that no place is left
+
+-- a hand without a call
+abbrev pub new_hand : Limits → HandValue
+new_hand room = record { calls = []; room = room; strange = false; full = false }
+
+-- all hands of a ledger: how many calls they keep together, and how many hands were made
+pub record HandsValue : Type 0 where
+  pub total : ℕ
+  pub made : ℕ
 
 -- how many counts, and how many starts, stand for an event
 abbrev pub counts_in : Event → ℕ

@@ -2,16 +2,19 @@
 //! made of them.
 //!
 //! A hand keeps each accepted call of its thread, with its place, and notes two kinds of answers. Its type
-//! keeps a share of a ledger that counts its calls. Upward the layer promises that a hand changes by its
-//! definition alone, and names the lowest place at which a history and a list of hands disagree. It stands
-//! on the events and the answers of `master_state`.
+//! keeps a share of a ledger that counts its calls, and `Hands` the book with the share of the hands that are
+//! still to come. Upward the layer promises that a hand changes by its definition alone, that no event is
+//! counted but one that a hand keeps, and names the lowest place at which a history and a list of hands
+//! disagree. It stands on the events and the answers of `master_state`.
 #![tactic(auto)]
 
-pub mod hands;
+pub mod keeping;
 pub mod logs;
+pub mod making;
 mod marks;
 pub mod settling;
 
-pub use hands::{Hand, are_few, audit};
+pub use keeping::Hand;
 pub use logs::Log;
+pub use making::{HandError, Hands};
 pub use settling::torn_place;

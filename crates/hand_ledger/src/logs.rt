@@ -2,7 +2,7 @@ ghost use Rattle.std.specs.Prelude.{◌≡◌, ◌<◌, ◌≤◌, ◌^◌, ◌�
 ghost use Rattle.hand_ledger.specs.Hands.{kept, counts_in, starts_in};
 ghost use Rattle.hand_ledger.specs.Settling.{call_at, event_at, counts_at, starts_at};
 
-use crate::hands::Entry;
+use crate::keeping::Entry;
 use master_state::{Event, Start};
 use std::marker::Model;
 

@@ -5,7 +5,7 @@ ghost use Rattle.hand_ledger.specs.Marks.{found_more, IsFirstWrong, IsAsWanted, 
 ghost use Rattle.hand_ledger.specs.Settling.{call_at, LogValue};
 ghost use Rattle.hand_ledger.specs.declared.marks.TheConstants.{PLACES};
 
-use crate::hands::Entry;
+use crate::keeping::Entry;
 use crate::logs::{Log, counts_in, part, starts_in};
 use master_state::Start;
 

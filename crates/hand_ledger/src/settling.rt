@@ -1,7 +1,7 @@
 ghost use Rattle.std.specs.Prelude.{◌≡◌, ◌≤◌, ◌↔◌, length, All, IsTrue};
 ghost use Rattle.hand_ledger.specs.Settling.{AreTrue, IsLowestTorn};
 
-use crate::hands::Hand;
+use crate::keeping::Hand;
 use crate::logs::Log;
 use crate::marks::{first_wrong, nothing_found};
 use std::sync::ledger::Ledger;

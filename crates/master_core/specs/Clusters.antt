@@ -3,12 +3,10 @@ use Rattle.std.specs.Prelude.{ℕ, ◌≤◌, List, All}
 use Rattle.std.specs.declared.alloc.Global.{Global}
 use Rattle.std.specs.declared.sync.Arc.{Arc}
 use Rattle.rack_tree.specs.Tree.{Tree}
-use Rattle.wave_problem.specs.declared.TheConstants.{MAX_SLOTS}
 use Rattle.wave_problem.specs.Wave.{Split, AreSmallSplits}
 use Rattle.word_map.specs.Texts.{SplitDocuments}
 use Rattle.shuffle_reduce.specs.Gather.{values_of}
 use Rattle.master_state.specs.States.{Cluster}
-use Rattle.master_core.specs.declared.cluster.TheConstants.{MAX_PARTS}
 
 -- the cluster of these parts
 abbrev pub cluster_from : Tree → List ℕ → List Split → List (Arc SplitDocuments Global) → ℕ → ℕ → Cluster
@@ -23,6 +21,6 @@ cluster_from tree slots splits texts parts silence = record {
 
 -- each worker has few slots, the splits are few and small, and the parts are few
 pub record AreFewAndSmall (slots : List ℕ) (splits : List Split) (parts : ℕ) : Type 0 where
-  pub few_slots : All (λ n. n ≤ MAX_SLOTS) slots
+  pub few_slots : All (λ n. n ≤ 16) slots
   pub small_splits : AreSmallSplits splits
-  pub few_parts : parts ≤ MAX_PARTS
+  pub few_parts : parts ≤ 64

@@ -1,6 +1,5 @@
 ghost use Rattle.std.specs.Prelude.{◌≡◌, ◌≤◌, ◌↔◌, IsTrue, length, map, All, IfOk};
 ghost use Rattle.std.specs.List.{range_with_len};
-ghost use Rattle.wave_problem.specs.declared.TheConstants.{MAX_SLOTS};
 ghost use Rattle.wave_problem.specs.Wave.{AreHeldWell};
 ghost use Rattle.shuffle_reduce.specs.Gather.{values_of};
 ghost use Rattle.master_state.specs.States.{IsWhole};
@@ -158,7 +157,7 @@ fn are_few_and_small(slots: &[u8], splits: &[SplitLine], parts: usize) -> bool
 }
 
 fn have_few_slots(slots: &[u8]) -> bool
-    ensures { IsTrue result ↔ All (λ n. n ≤ MAX_SLOTS) slots.now }
+    ensures { IsTrue result ↔ All (λ n. n ≤ 16) slots.now }
 {
     slots.iter().all(|count| *count <= MAX_SLOTS)
 }

@@ -11,8 +11,8 @@ use std::process::Abort;
 use std::sync::Wait;
 use std::sync::ledger::{Blank, Ledger};
 
-// Two splits on the first of two workers.
-const ROWS: [SplitRow<'static>; 2] = [(10, &[0], "one"), (20, &[0], "two one")];
+// Two splits, of which the first of two workers holds one and nobody the other.
+const ROWS: [SplitRow<'static>; 2] = [(10, &[0], "one"), (10, &[], "two")];
 
 // A hand, unless an allocation is refused.
 fn make_hand<L: Ledger, R: Wait + Abort>(

@@ -96,6 +96,11 @@ fn is_full_for_both<L: Ledger, R: Wait>(
     is_full(rt, shared, one) && is_full(rt, shared, two)
 }
 
+// The notes of a hand that had room when the master had none.
+fn is_told_full<L: Ledger>(hand: &Hand<L>) -> bool {
+    hand.is_full() && !hand.is_strange() && hand.room() == AMPLE
+}
+
 // Whether these are all hands: then every event is a call of theirs.
 fn are_all<L: Ledger>(closed: &mut Closed<L>, hands: &mut [Hand<L>]) -> bool
     requires { L.parts ≡ 4096 }
@@ -149,7 +154,7 @@ fn settle_one_and_both<L: Ledger>(
     requires { L.parts ≡ 4096 }
 {
     let torn = settle_one(rt, closed, one);
-    assert_eq!(rt; torn.place, lowest);
+    assert_eq!(rt; (torn.place, torn.closed.master().events()), (lowest, 200));
     settle_both(rt, torn.closed, torn.hands, two)
 }
 
@@ -165,6 +170,7 @@ fn settle_two_hands<L: Ledger + Send + Sync, R: Threads + Wait + Abort + Sync>(
     let mut two = hand_of(rt, alloc, &shared);
     let lowest = call_in_two_threads(rt, alloc, &shared, &mut one, &mut two);
     assert!(rt; is_full_for_both(rt, &shared, &mut one, &mut two));
+    assert!(rt; is_told_full(&one) && is_told_full(&two));
     let alone = list_of(alloc, one).expect(rt, "no memory");
     let counts = settle_one_and_both(rt, shared.into_master(), alone, two, lowest);
     assert_eq!(rt; counts, (200, 150));

@@ -65,8 +65,12 @@ fn call_of_attempts<L: Ledger, R: Wait + Abort>(
         shared.map_failed(rt, hand, one),
         shared.part_failed(rt, hand, one),
     ];
-    let wanted = ([Answer::Accepted(6), old, old], Some(Event::Withdraw(one)));
-    assert_eq!(rt; (told, hand.last()), wanted);
+    let wanted = [Answer::Accepted(6), old, old];
+    let last = (Some(Event::Withdraw(one)), 6);
+    assert_eq!(rt;
+        (told, hand.last(), hand.last_place()),
+        (wanted, last.0, last.1)
+    );
 }
 
 fn call_by_numbers<L: Ledger, R: Wait + Abort>(rt: &R, alloc: Global, blank: Blank)

@@ -7,16 +7,24 @@ use master_state::{CommitError, ReduceAnswer, Why};
 use std::alloc::Global;
 use std::process::Abort;
 
-const SHAPE: Shape<'static> = Shape {
-    racks: &[2, 1],
-    slots: &[1, 1, 1],
-    splits: &[(10, &[0], "one"), (20, &[0, 1], "two one")],
+// Two splits, of which the first worker holds one and nobody the other.
+const TWO_SPLITS: Shape<'static> = Shape {
+    racks: &[2],
+    slots: &[1, 1],
+    splits: &[(10, &[0], "one"), (10, &[], "two")],
     parts: 2,
 };
 
-// A master of two splits and three workers, unless an allocation is refused.
-fn one_master(rt: &impl Abort, alloc: Global) -> Option<Job> {
-    match make_cluster(rt, alloc, &SHAPE)? {
+const ONE_SPLIT: Shape<'static> = Shape {
+    racks: &[2],
+    slots: &[1, 1],
+    splits: &[(3, &[0], "The cat, THE dog")],
+    parts: 2,
+};
+
+// A master of these splits, unless an allocation is refused.
+fn one_master(rt: &impl Abort, alloc: Global, of: &Shape<'_>) -> Option<Job> {
+    match make_cluster(rt, alloc, of)? {
         Ok(cluster) => make_master(rt, alloc, cluster, AMPLE),
         Err(why) => {
             assert_eq!(rt; why, ClusterError::Memory);
@@ -26,10 +34,10 @@ fn one_master(rt: &impl Abort, alloc: Global) -> Option<Job> {
 }
 
 // The same, made at the second time where an allocation of its cluster or of its own is refused at the first.
-fn a_master(rt: &impl Abort, alloc: Global) -> Job {
-    match one_master(rt, alloc) {
+fn a_master(rt: &impl Abort, alloc: Global, of: &Shape<'_>) -> Job {
+    match one_master(rt, alloc, of) {
         Some(job) => job,
-        None => one_master(rt, alloc).expect(rt, "no second master"),
+        None => one_master(rt, alloc, of).expect(rt, "no second master"),
     }
 }
 
@@ -56,7 +64,7 @@ fn commit(rt: &impl Abort, alloc: Global, job: &mut Job) -> Option<u32> {
 
 #[test]
 fn a_refused_commit_changes_nothing(rt: HostRuntime) {
-    let mut job = a_master(&rt, rt.alloc());
+    let mut job = a_master(&rt, rt.alloc(), &TWO_SPLITS);
     let first = commit(&rt, rt.alloc(), &mut job);
     let second = commit(&rt, rt.alloc(), &mut job);
     assert_eq!(rt; first.or(second), Some(1));
@@ -68,7 +76,7 @@ fn reduce(rt: &impl Abort, alloc: Global, job: &mut Job) -> Option<u32> {
     let before = seen(alloc, &job.master).ok();
     match job.master.reduce_start(alloc) {
         ReduceAnswer::Accepted(place, reply) => {
-            assert_eq!(rt; reply.runs.len(), 2);
+            assert_eq!(rt; reply.runs.len(), 1);
             Some(place)
         }
         ReduceAnswer::Ignored(why) => {
@@ -79,10 +87,10 @@ fn reduce(rt: &impl Abort, alloc: Global, job: &mut Job) -> Option<u32> {
     }
 }
 
-// A master whose splits are done, unless an allocation is refused.
+// A master whose split is done, unless an allocation is refused.
 fn a_mapped_master(rt: &impl Abort, alloc: Global) -> Option<Job> {
-    let mut job = a_master(rt, alloc);
-    for call in [Call::Wave, Call::Done(1), Call::Done(2)] {
+    let mut job = a_master(rt, alloc, &ONE_SPLIT);
+    for call in [Call::Wave, Call::Done(1)] {
         answer(rt, alloc, &mut job, call)?;
     }
     Some(job)
@@ -95,7 +103,7 @@ fn a_refused_reduce_start_changes_nothing(rt: HostRuntime) {
     };
     let first = reduce(&rt, rt.alloc(), &mut job);
     let second = reduce(&rt, rt.alloc(), &mut job);
-    assert_eq!(rt; first.or(second), Some(4));
+    assert_eq!(rt; first.or(second), Some(3));
     end(job);
 }
 
@@ -110,7 +118,7 @@ fn read(alloc: Global, job: &Job) -> (bool, Option<usize>) {
 
 #[test]
 fn refused_readers_change_nothing(rt: HostRuntime) {
-    let job = a_master(&rt, rt.alloc());
+    let job = a_master(&rt, rt.alloc(), &TWO_SPLITS);
     let before = seen(rt.alloc(), &job.master).ok();
     let first = read(rt.alloc(), &job);
     let second = read(rt.alloc(), &job);

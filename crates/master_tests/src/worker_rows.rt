@@ -20,8 +20,10 @@ const SWEEPS: [(u64, bool); 7] = [
     (2, false),
 ];
 
+// Whether the first worker has been silent too long, and no other is told.
 fn is_silent(table: &mut WorkerTable, count: u64) -> bool {
-    table.sweep(&counts_of_first(count)).has(WorkerNo::new(0))
+    let silent = table.sweep(&counts_of_first(count));
+    silent.are_below(1) && silent.has(WorkerNo::new(0))
 }
 
 fn sweep_often(rt: &impl Abort, table: &mut WorkerTable) {
@@ -34,5 +36,6 @@ fn sweep_often(rt: &impl Abort, table: &mut WorkerTable) {
 fn the_third_silent_sweep_tells(rt: HostRuntime) {
     let mut table = WorkerTable::new(rt.alloc(), &[1], 3).expect(&rt, "no table");
     sweep_often(&rt, &mut table);
-    assert!(rt; table.workers().len() == 1 && table.live(WorkerNo::new(0)));
+    let worker = WorkerNo::new(0);
+    assert!(rt; table.workers().len() == 1 && table.live(worker) && table.slots(worker) == 1);
 }

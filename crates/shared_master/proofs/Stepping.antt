@@ -1,6 +1,6 @@
 -- What a step under the lock says of the hand, of the book and to the caller.
 use Rattle.std.proofs.Common.{◌≡◌, ℕ, zero, suc, ◌+◌, ◌<◌, ◌≤◌, ◌-◌, get_or, Bool, true, false, ◌++◌, None}
-use Rattle.std.proofs.Common.{List, [], ◌∷◌, length, Some, refl, sym, ap, subst, ◌∙◌, arith, inl, inr}
+use Rattle.std.proofs.Common.{List, [], ◌∷◌, length, Some, All, refl, sym, ap, subst, ◌∙◌, arith, inl, inr}
 use Rattle.std.specs.Prelude.{slice_get}
 use Rattle.std.proofs.lemmas.Option.{slice_get_read, slice_get_within}
 use Rattle.master_state.specs.declared.answers.Answer.{Answer}
@@ -15,17 +15,22 @@ use Rattle.master_state.specs.declared.answers.Reply.{Reply}
 use Rattle.master_state.specs.declared.answers.Why.{Why}
 use Rattle.master_state.specs.declared.events.Event.{Event}
 use Rattle.master_state.specs.declared.events.Event.TheVariants as events
-use Rattle.master_state.specs.Jobs.{Job, died_in, Answers, AnswersBackup, AnswersReduce, AnswersWith}
-use Rattle.master_state.specs.Jobs.{IsAccepted, IsReply, event_of}
-use Rattle.master_state.specs.Refusals.{Call, Backup}
-use Rattle.master_state.specs.Refusals.{ReduceStart, Sweep}
+use Rattle.master_state.specs.declared.states.Start.{Start}
+use Rattle.master_state.specs.declared.states.Work.TheVariants as works
+use Rattle.master_state.specs.States.{Setup, State}
+use Rattle.master_state.specs.Tests.{next_part, next_worker}
+use Rattle.master_state.specs.Tidy.{IsStartOf}
+use Rattle.master_state.specs.Jobs.{Job, Answers, AnswersBackup, AnswersReduce, AnswersWith}
+use Rattle.master_state.specs.Jobs.{IsAccepted, IsKept, IsReply, event_of}
+use Rattle.master_state.specs.Refusals.{Call, Backup, ReduceStart}
+use Rattle.master_state.proofs.Lists.{All-right}
 use Rattle.hand_ledger.specs.Hands.{HandValue, Kept, counts_in, has_room, kept, last_place, starts_in}
 use Rattle.hand_ledger.specs.Hands.{with_call}
 use Rattle.hand_ledger.specs.Settling.{LastStands, event_at}
 use Rattle.shared_master.specs.declared.sizes.Sizes.{Sizes}
 use Rattle.shared_master.specs.Steps.{answered, HasCounts, IsAt, IsBarrier, IsBehind, IsHandedBack, IsKeptAs}
-use Rattle.shared_master.specs.Steps.{IsKeptBackup, IsKeptReduce, IsLast, IsNextOf, IsOwn}
-use Rattle.shared_master.specs.Steps.{IsReduceStep, IsStep, NamesNext, plain_backup, plain_reduce}
+use Rattle.shared_master.specs.Steps.{IsKeptBackup, IsKeptReduce, IsLast, IsNextOf, IsOwn, IsReplyOf}
+use Rattle.shared_master.specs.Steps.{IsReduceStep, IsStep, NamesNext, Replies, plain_backup, plain_reduce}
 use Rattle.shared_master.specs.Steps.{plain_with}
 
 -- the call was accepted, or the master is unchanged
@@ -247,10 +252,37 @@ kept_reduce sizes old hand (reduced.Accepted place reply) new after step =
     })
 kept_reduce sizes old hand (reduced.Ignored why) new after step = step.hand_is
 
--- nobody dies in a sweep that is ignored
-pub none_dead : (sizes : Sizes) (old : Job) (hand : HandValue) (counts : List ℕ) (given : Answer) (new : Job)
-    (after : HandValue) (w : ℕ) (dead : Bool) (why : Why) →
-    IsStep sizes old hand (Sweep counts) (counts ∷ []) given new after →
-    dead ≡ died_in old counts given w → given ≡ Ignored why → dead ≡ false
-none_dead sizes old hand counts given new after w dead why step is ignored =
-    is ∙ ap (λ g. died_in old counts g w) ignored
+-- the reply of an accepted reduce start names a part and a worker of the master
+reply_of : (sizes : Sizes) (old : Job) (hand : HandValue) (place : ℕ) (reply : Reply) (new : Job) →
+    IsBehind sizes old hand 0 (Accepted place) new (AnswersReduce old (reduced.Accepted place reply) new) →
+    IsKept old → IsKept new → IsReplyOf sizes old reply
+reply_of sizes old hand place reply new (inl ignored) kept then = absurd (cc ignored.2)
+reply_of sizes old hand place reply new (inr reached) kept then =
+    let told = reached.1.0 in
+    let done = reached.1.1 in
+    let start : Start = record { work = works.Part (next_part old.state); worker = next_worker old.state } in
+    let starts : new.state.starts ≡ old.state.starts ++ start ∷ [] =
+    ap (λ (s : State). s.starts) done.change.leads in
+    let known : IsStartOf new.setup start =
+    All-right (IsStartOf new.setup) old.state.starts (start ∷ [])
+    (subst (λ (l : List Start). All (IsStartOf new.setup) l) starts then.tidy.known) 0 start (omega arith) in
+    let part : next_part old.state < new.setup.cluster.parts = known.work in
+    record {
+      kept = kept;
+      replied = told;
+      part = omega (arith, told.part, part, ap (λ (s : Setup). s.cluster.parts) done.next.setup);
+      worker = omega (
+        arith,
+        told.worker,
+        known.worker,
+        ap (λ (s : Setup). length s.cluster.slots) done.next.setup,
+        reached.0.0.workers,
+      );
+    }
+
+pub replies : (sizes : Sizes) (old : Job) (hand : HandValue) (given : ReduceAnswer) (new : Job)
+    (after : HandValue) → IsReduceStep sizes old hand given new after → IsKept old → IsKept new →
+    Replies sizes given
+replies sizes old hand (reduced.Accepted place reply) new after step kept then =
+    (old, reply_of sizes old hand place reply new step.answer kept then)
+replies sizes old hand (reduced.Ignored why) new after step kept then = tt

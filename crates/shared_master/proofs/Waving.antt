@@ -1,22 +1,27 @@
 -- What a wave under the lock says to its caller.
-use Rattle.std.proofs.Common.{◌≡◌, ℕ, ◌+◌, ◌-◌, ◌≤◌, ◌&&◌, Bool, true, false, List, [], ◌∷◌, length}
-use Rattle.std.proofs.Common.{drop, Option, refl, sym, ap, subst, ◌∙◌, arith}
+use Rattle.std.proofs.Common.{◌≡◌, ℕ, suc, ◌+◌, ◌-◌, ◌<◌, ◌≤◌, ◌&&◌, Bool, true, false, List, [], ◌∷◌, ◌++◌}
+use Rattle.std.proofs.Common.{length, map, drop, Option, All, refl, sym, ap, subst, ◌∙◌, append_assoc, arith}
 use Rattle.std.specs.Prelude.{fold, not, Ok, Err}
 use Rattle.std.specs.declared.result.Result.{Result}
 use Rattle.price_certificate.specs.Certificate.{Certifies}
-use Rattle.std.proofs.lemmas.List.{length-append, length-drop}
+use Rattle.std.proofs.Math.Seq.{drop-append_seam}
+use Rattle.std.proofs.lemmas.List.{append-nil, length-append, length-drop, length-map}
+use Rattle.std.proofs.lemmas.List.Elements.{All-cons, All-nil}
 use Rattle.wave_problem.specs.Assignment.{pairs_of}
 use Rattle.price_certificate.specs.PriceList.{PriceList}
 use Rattle.master_state.specs.declared.answers.Wave.{Wave}
 use Rattle.master_state.specs.declared.events.Event.TheVariants as events
 use Rattle.master_state.specs.declared.states.Work.TheVariants as works
-use Rattle.master_state.specs.States.{State}
+use Rattle.master_state.specs.declared.states.Start.{Start}
+use Rattle.master_state.specs.States.{Setup, State}
 use Rattle.master_state.specs.Changes.{split_started}
-use Rattle.master_state.specs.Jobs.{IsCommitted, Job, present}
+use Rattle.master_state.specs.Jobs.{IsCommitted, IsKept, Job, present}
+use Rattle.master_state.specs.Tidy.{IsStartOf}
+use Rattle.master_state.proofs.Lists.{All-right}
 use Rattle.hand_ledger.specs.Hands.{HandValue, has_room, with_call}
 use Rattle.shared_master.specs.declared.sizes.Sizes.{Sizes}
 use Rattle.shared_master.specs.declared.waves.SharedWave.{SharedWave}
-use Rattle.shared_master.specs.Waves.{IsKeptWave, IsSharedWave, PlansAs, WavesAs, kept_wave}
+use Rattle.shared_master.specs.Waves.{IsKeptWave, IsMapStart, IsSharedWave, PlansAs, WavesAs, kept_wave}
 use Rattle.shared_master.specs.declared.waves.WaveError.{WaveError}
 use Rattle.shared_master.specs.Steps.{IsOwn}
 use Rattle.shared_master.proofs.Stepping.{last_within}
@@ -27,7 +32,7 @@ both_first false b is = absurd cc
 
 pub wave_kept : (sizes : Sizes) (old : Job) (hand : HandValue) (plan : List (Option ℕ)) (prices : PriceList)
     (shared : SharedWave) (new : Job) (after : HandValue) →
-    IsSharedWave sizes old hand plan prices shared new after → IsKeptWave hand shared after
+    IsSharedWave sizes old hand plan prices shared new after → IsKeptWave sizes hand shared after
 wave_kept sizes old hand plan prices shared new after wave =
     let starts : length shared.starts.items ≡ length (pairs_of plan) =
     wave.count ∙ wave.committed.change.count_is in
@@ -36,19 +41,58 @@ wave_kept sizes old hand plan prices shared new after wave =
       above = omega (arith, last_within old.history hand.calls wave.own.stands, wave.committed.next.place_is);
       room = ap (has_room hand 0) starts ∙ both_first (has_room hand 0 (length (pairs_of plan))) _ wave.room;
       count = wave.count;
+      maps = wave.maps;
     }
 
--- the starts of a wave are the last of all
+-- the start of a pair
+abbrev started : ℕ × ℕ → Start
+started pair = record { work = works.Split pair.0; worker = pair.1 }
+
+-- the starts of a wave are the last of all, one for each pair
 all_started : (s : State) (pairs : List (ℕ × ℕ)) →
+    (fold (λ (now : State) pair. split_started now pair.0 pair.1) s pairs).starts
+    ≡ s.starts ++ map started pairs
+all_started s [] = sym (append-nil s.starts)
+all_started s (pair ∷ pairs) =
+    all_started (split_started s pair.0 pair.1) pairs
+    ∙ append_assoc s.starts (started pair ∷ []) (map started pairs)
+
+length-started : (s : State) (pairs : List (ℕ × ℕ)) →
     length (fold (λ (now : State) pair. split_started now pair.0 pair.1) s pairs).starts
     ≡ length s.starts + length pairs
-all_started s [] = omega arith
-all_started s (pair ∷ pairs) =
-    omega (
-      arith,
-      all_started (split_started s pair.0 pair.1) pairs,
-      length-append s.starts (record { work = works.Split pair.0; worker = pair.1 } ∷ []),
-    )
+length-started s pairs =
+    ap length (all_started s pairs) ∙ length-append s.starts (map started pairs)
+    ∙ ap (λ n. length s.starts + n) (length-map pairs started)
+
+-- those that a master keeps as its cluster's are map starts within the sizes beside the lock
+all_maps : (sizes : Sizes) (setup : Setup) (pairs : List (ℕ × ℕ)) →
+    sizes.splits ≡ length setup.cluster.splits → sizes.workers ≡ length setup.cluster.slots →
+    All (IsStartOf setup) (map started pairs) → All (IsMapStart sizes) (map started pairs)
+all_maps sizes setup [] splits workers known = All-nil (IsMapStart sizes)
+all_maps sizes setup (pair ∷ pairs) splits workers known =
+    let first : IsStartOf setup (started pair) = known 0 (started pair) (omega arith) in
+    let split : pair.0 < length setup.cluster.splits = first.work in
+    All-cons (IsMapStart sizes) (started pair) (map started pairs)
+    (record { work = omega (arith, split, splits); worker = omega (arith, first.worker, workers) })
+    (all_maps sizes setup pairs splits workers (λ k d l. known (suc k) d (omega (arith, l))))
+
+pub map_starts : (sizes : Sizes) (old : Job) (hand : HandValue) (plan : List (Option ℕ)) (wave : Wave)
+    (new : Job) → IsOwn sizes old hand → IsCommitted old plan wave new → IsKept new →
+    All (IsMapStart sizes) (drop (wave.first - 1) new.state.starts)
+map_starts sizes old hand plan wave new own committed kept =
+    let maps = map started (pairs_of plan) in
+    let starts : new.state.starts ≡ old.state.starts ++ maps =
+    ap (λ (s : State). s.starts) committed.change.leads ∙ all_started old.state (pairs_of plan) in
+    let before : wave.first - 1 ≡ length old.state.starts = omega (arith, committed.change.first_is) in
+    let from : drop (wave.first - 1) new.state.starts ≡ maps =
+    (λ k. drop (before k) (starts k)) ∙ drop-append_seam old.state.starts maps in
+    let known : All (IsStartOf new.setup) maps =
+    All-right (IsStartOf new.setup) old.state.starts maps
+    (subst (λ (l : List Start). All (IsStartOf new.setup) l) starts kept.tidy.known) in
+    subst (λ (l : List Start). All (IsMapStart sizes) l) (sym from)
+    (all_maps sizes new.setup (pairs_of plan)
+    (own.splits ∙ ap (λ (s : Setup). length s.cluster.splits) (sym committed.next.setup))
+    (own.workers ∙ ap (λ (s : Setup). length s.cluster.slots) (sym committed.next.setup)) known)
 
 pub first_within : (old : Job) (plan : List (Option ℕ)) (wave : Wave) (new : Job) →
     IsCommitted old plan wave new →
@@ -58,7 +102,7 @@ first_within old plan wave new committed = (
     arith,
     committed.change.first_is,
     ap (λ (s : State). length s.starts) committed.change.leads,
-    all_started old.state (pairs_of plan),
+    length-started old.state (pairs_of plan),
   ),
   committed.change.first_is,
 )
@@ -72,7 +116,7 @@ starts_counted old plan wave new committed =
       committed.change.first_is,
       committed.change.count_is,
       ap (λ (s : State). length s.starts) committed.change.leads,
-      all_started old.state (pairs_of plan),
+      length-started old.state (pairs_of plan),
       length-drop (wave.first - 1) new.state.starts,
     )
 
@@ -93,9 +137,10 @@ pub shared_wave : (sizes : Sizes) (inside old : Job) (hand : HandValue) (plan : 
     IsOwn sizes old hand →
     has_room hand 0 shared.wave.count ≡ true →
     Certifies (present inside plan prices) × IsCommitted inside plan shared.wave new →
+    IsKept new →
     shared.starts.items ≡ drop (shared.wave.first - 1) new.state.starts →
     after ≡ with_call hand (kept_wave shared) → IsSharedWave sizes old hand plan prices shared new after
-shared_wave sizes inside old hand plan prices shared new after same own room is starts hand_is =
+shared_wave sizes inside old hand plan prices shared new after same own room is kept starts hand_is =
     let certified : Certifies (present old plan prices) =
     subst (λ j. Certifies (present j plan prices)) same is.0 in
     let committed : IsCommitted old plan shared.wave new =
@@ -109,6 +154,8 @@ shared_wave sizes inside old hand plan prices shared new after same own room is 
       committed = committed;
       starts = starts;
       count = ap length starts ∙ starts_counted old plan shared.wave new committed;
+      maps = subst (λ (l : List Start). All (IsMapStart sizes) l) (sym starts)
+          (map_starts sizes old hand plan shared.wave new own committed kept);
       hand_is = hand_is;
     }
 

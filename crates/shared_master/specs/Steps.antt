@@ -1,6 +1,6 @@
 -- What a call of a hand does under the lock, and what its caller sees of it.
 use Rattle.std.specs.Prelude.{ℕ, ◌≡◌, ◌+◌, ◌<◌, ◌⊎◌, true, false, List, [], ◌∷◌, Option, Some, None, length}
-use Rattle.node_ids.specs.Sets.{Has}
+use Rattle.node_ids.specs.Sets.{Has, has_number}
 use Rattle.master_state.specs.declared.answers.Answer.{Answer}
 use Rattle.master_state.specs.declared.answers.Answer.TheVariants.{Accepted, Ignored}
 use Rattle.master_state.specs.declared.answers.AnswerWith.{AnswerWith}
@@ -9,12 +9,14 @@ use Rattle.master_state.specs.declared.answers.BackupAnswer.{BackupAnswer}
 use Rattle.master_state.specs.declared.answers.BackupAnswer.TheVariants as backup
 use Rattle.master_state.specs.declared.answers.ReduceAnswer.{ReduceAnswer}
 use Rattle.master_state.specs.declared.answers.ReduceAnswer.TheVariants as reduced
+use Rattle.master_state.specs.declared.answers.Reply.{Reply}
+use Rattle.master_state.specs.declared.answers.Swept.{Swept}
 use Rattle.master_state.specs.declared.answers.Why.{Why}
 use Rattle.master_state.specs.declared.answers.Why.TheVariants.{HistoryFull, StrangeHand}
 use Rattle.master_state.specs.declared.events.Event.{Event}
 use Rattle.master_state.specs.declared.events.Event.TheVariants as events
 use Rattle.master_state.specs.States.{next_attempt}
-use Rattle.master_state.specs.Jobs.{Job, Answers, AnswersReduce, event_of}
+use Rattle.master_state.specs.Jobs.{Job, Answers, AnswersReduce, IsKept, IsReply, died_in, event_of}
 use Rattle.master_state.specs.Refusals.{Call, MapFailed, Withdraw, Die, Join, Add, Lose, ReduceStart}
 use Rattle.master_state.specs.Refusals.{PartFailed, Backup}
 use Rattle.hand_ledger.specs.Hands.{HandValue, counts_in, has_room, kept, last_place, noted, starts_in}
@@ -132,9 +134,28 @@ IsKeptReduce hand (reduced.Accepted place reply) after =
     IsKeptAs hand (events.ReduceStart reply.attempt reply.part reply.worker) [] (Accepted place) after
 IsKeptReduce hand (reduced.Ignored why) after = after ≡ noted hand (has_room hand 0 0) why
 
+-- a reply of a master that the lock kept: its part is one of the master's, and its worker one of those whose
+-- number stands beside the lock
+pub record IsReplyOf (sizes : Sizes) (job : Job) (reply : Reply) : Type 0 where
+  pub kept : IsKept job
+  pub replied : IsReply job reply
+  pub part : reply.part < job.setup.cluster.parts
+  pub worker : reply.worker < sizes.workers
+
+-- an accepted reduce start has such a reply
+abbrev pub Replies : Sizes → ReduceAnswer → Type 0
+Replies sizes (reduced.Accepted place reply) = (job : Job) × IsReplyOf sizes job reply
+Replies sizes (reduced.Ignored why) = Unit {0}
+
 -- a sweep with its counts, by the place that these have among all sweeps
 abbrev pub IsKeptSweep : HandValue → List ℕ → Answer → HandValue → Type 0
 IsKeptSweep hand counts given after = (n : ℕ) × IsKeptAs hand (events.Sweep n) (counts ∷ []) given after
+
+-- those that died in a sweep that was answered so are those of a master that the lock kept
+abbrev pub AreDeadOf : List ℕ → Swept → Type 0
+AreDeadOf counts swept =
+    (job : Job) × IsKept job
+    × ((w : ℕ) → has_number swept.dead w ≡ died_in job counts swept.answer w)
 
 -- an accepted call has the last place of the history
 abbrev pub IsLast : List Event → Answer → Type 0

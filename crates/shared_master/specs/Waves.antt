@@ -1,6 +1,6 @@
 -- Waves that are planned outside the lock and committed under it.
 use Rattle.std.specs.Prelude.{ℕ, ◌≡◌, ◌-◌, ◌<◌, ◌⊎◌, ◌&&◌, not, Bool, true, false, List, [], Option, Some}
-use Rattle.std.specs.Prelude.{None, Ok, Err, length, drop}
+use Rattle.std.specs.Prelude.{None, Ok, Err, length, drop, All}
 use Rattle.std.specs.declared.result.Result.{Result}
 use Rattle.wave_problem.specs.Wave.{Wave}
 use Rattle.wave_problem.specs.Assignment.{IsBest, Plan, pairs_of}
@@ -9,6 +9,9 @@ use Rattle.price_certificate.specs.PriceList.{PriceList}
 use Rattle.master_state.specs.declared.answers.Why.{Why}
 use Rattle.master_state.specs.declared.answers.Why.TheVariants as whys
 use Rattle.master_state.specs.declared.events.Event.TheVariants as events
+use Rattle.master_state.specs.declared.states.Start.{Start}
+use Rattle.master_state.specs.declared.states.Work.{Work}
+use Rattle.master_state.specs.declared.states.Work.TheVariants as works
 use Rattle.master_state.specs.Jobs.{Job, IsCommitted, lacks_room, present}
 use Rattle.master_state.specs.Refusals.{is_full}
 use Rattle.master_state.specs.Steps.{problem_of}
@@ -80,6 +83,16 @@ kept_wave shared =
     kept shared.wave.place (events.Wave shared.wave.first shared.wave.count shared.wave.cost) []
     shared.starts.items
 
+-- a split, not a part, of those whose number stands beside the lock
+abbrev pub IsSplitOf : Sizes → Work → Type 0
+IsSplitOf sizes (works.Split split) = split < sizes.splits
+IsSplitOf sizes (works.Part r) = ⊥
+
+-- a map start: of such a split, on such a worker
+pub record IsMapStart (sizes : Sizes) (start : Start) : Type 0 where
+  pub work : IsSplitOf sizes start.work
+  pub worker : start.worker < sizes.workers
+
 -- The plan was committed under the lock: it is certified in the state that it changes, its starts are
 -- answered, and the hand keeps it.
 pub record IsSharedWave
@@ -91,6 +104,7 @@ pub record IsSharedWave
   pub committed : IsCommitted old plan shared.wave new
   pub starts : shared.starts.items ≡ drop (shared.wave.first - 1) new.state.starts
   pub count : length shared.starts.items ≡ shared.wave.count
+  pub maps : All (IsMapStart sizes) shared.starts.items
   pub hand_is : after ≡ with_call hand (kept_wave shared)
 
 -- what a commit under the lock answers
@@ -120,19 +134,20 @@ PlansAs sizes old hand (Err e) new after =
 
 -- what the caller of a wave sees: it is kept with its starts, above the hand's last call, and the hand had
 -- room
-pub record IsKeptWave (hand : HandValue) (shared : SharedWave) (after : HandValue) : Type 0 where
+pub record IsKeptWave (sizes : Sizes) (hand : HandValue) (shared : SharedWave) (after : HandValue) : Type 0 where
   pub hand_is : after ≡ with_call hand (kept_wave shared)
   pub above : last_place hand.calls < shared.wave.place
   pub room : has_room hand 0 (length shared.starts.items) ≡ true
   pub count : length shared.starts.items ≡ shared.wave.count
+  pub maps : All (IsMapStart sizes) shared.starts.items
 
 -- or only the notes change
 abbrev pub WavesAs : Sizes → HandValue → Result SharedWave WaveError → HandValue → Type 0
-WavesAs sizes hand (Ok shared) after = IsKeptWave hand shared after
+WavesAs sizes hand (Ok shared) after = IsKeptWave sizes hand shared after
 WavesAs sizes hand (Err e) after = after ≡ noted_wave sizes hand e
 
 -- after a turn without the lock there may be no answer yet
 abbrev pub TurnsAs : Sizes → HandValue → Result (Option SharedWave) WaveError → HandValue → Type 0
-TurnsAs sizes hand (Ok (Some shared)) after = IsKeptWave hand shared after
+TurnsAs sizes hand (Ok (Some shared)) after = IsKeptWave sizes hand shared after
 TurnsAs sizes hand (Ok None) after = after ≡ hand
 TurnsAs sizes hand (Err e) after = after ≡ noted_wave sizes hand e

@@ -8,8 +8,8 @@ use master_core::Master;
 use std::marker::Model;
 use std::sync::ledger::Ledger;
 
-/// A master that no thread shares any more, with the book of its hands: its history is as long as the book
-/// says.
+/// A master that no thread shares any more, with what is kept of its hands: they keep as many calls together
+/// as its history has events.
 #[derive(Drop)]
 pub struct Closed<L: Ledger> {
     held: Held<L>,
@@ -42,7 +42,7 @@ impl<L: Ledger> Closed<L> {
     pub fn made(&self) -> u64
         ensures { result ≡ self.now.made }
     {
-        self.held.made
+        self.held.hands.made()
     }
 
     /// A law of its hands: they have no more calls than the history has events, and just as many where all

@@ -1,12 +1,13 @@
-ghost use Rattle.std.specs.Prelude.{◌≡◌, ℕ, ◌+◌, ◌<◌, ◌≤◌, ◌↔◌, [], ◌∷◌, true, false, length, IsTrue, IfOk};
-ghost use Rattle.std.specs.Prelude.{OnErr, OnOk, Err};
+ghost use Rattle.std.specs.Prelude.{◌≡◌, ℕ, ◌+◌, ◌<◌, ◌≤◌, ◌↔◌, [], ◌∷◌, true, length, IsTrue, IfOk, OnErr};
+ghost use Rattle.std.specs.Prelude.{OnOk, Err};
 ghost use Rattle.node_ids.specs.Sets.{has_number};
 ghost use Rattle.block_map.specs.Copies.{AreCopies, holdings};
 ghost use Rattle.master_state.specs.Jobs.{died_in, IsGlance, IsKept};
 ghost use Rattle.master_state.specs.Refusals.{Call};
 ghost use Rattle.master_state.specs.declared.events.Event.{Event};
-ghost use Rattle.hand_ledger.specs.Hands.{has_room, noted};
+ghost use Rattle.hand_ledger.specs.Hands.{has_room, new_hand, noted};
 ghost use Rattle.hand_ledger.specs.Settling.{all_calls};
+ghost use Rattle.hand_ledger.specs.declared.making.HandError.{HandError};
 ghost use Rattle.shared_master.specs.Steps.{
   answered,
   call_of,
@@ -22,32 +23,28 @@ ghost use Rattle.shared_master.specs.Steps.{
   NamesNext,
   plain_backup,
   plain_with,
+  Replies,
   total_after,
 };
-ghost use Rattle.shared_master.specs.declared.shared.HandError.{HandError};
 
 use crate::calls::{PlainCall, plain_backup, plain_reduce, plain_with};
-use crate::shared::HandError;
 use crate::sizes::Sizes;
 use block_map::CopyOrder;
-use hand_ledger::{Hand, are_few, audit};
+use hand_ledger::{Hand, HandError, Hands};
 use master_core::Master;
 use master_state::{Answer, AnswerWith, BackupAnswer, Glance, Limits, ReduceAnswer, Swept, Why};
 use node_ids::{AttemptNo, SplitNo, WorkerNo, WorkerSet};
 use shuffle_reduce::PartResult;
 use std::alloc::{AllocError, Global};
 use std::marker::Model;
-use std::sync::ledger::{Book, Ledger, Share};
+use std::sync::ledger::Ledger;
 use word_map::MapResult;
 
-// What lies under the lock: a master, the book of all hands' calls, and the share of the hands that are
-// still to come.
+// What lies under the lock: a master, and what is kept of all hands.
 #[derive(Drop)]
 pub(crate) struct Held<L: Ledger> {
     pub(crate) master: Master,
-    pub(crate) book: Book<L>,
-    pub(crate) rest: Share<L>,
-    pub(crate) made: u64,
+    pub(crate) hands: Hands<L>,
     pub(crate) seen: Option<Seen>,
 }
 
@@ -59,15 +56,14 @@ pub(crate) struct Seen {
 }
 
 impl<L: Ledger> Model for Held<L> {
-    ghost use Rattle.std.specs.Prelude.{◌≡◌, ◌+◌, ◌≤◌, length};
+    ghost use Rattle.std.specs.Prelude.{◌≡◌, length};
     ghost use Rattle.shared_master.specs.Held.{HeldValue, IsStillSeen};
 
     ghost Value = { HeldValue };
 
-    ghost view = { λ h. record { job = h.master; made = h.made } };
+    ghost view = { λ h. record { job = h.master; made = h.hands.made } };
 
-    ghost invariant = { λ h. (h.book.total ≡ length h.master.history) × (h.rest.parts + h.made ≡ 4096)
-        × (h.rest.amount ≡ 0) × (h.made ≤ 4095) × IsStillSeen h.master h.seen };
+    ghost invariant = { λ h. (h.hands.total ≡ length h.master.history) × IsStillSeen h.master h.seen };
 }
 
 impl<L: Ledger> Held<L> {
@@ -77,21 +73,9 @@ impl<L: Ledger> Held<L> {
         ensures made { OnOk result (self.new.made ≡ self.old.made + 1) }
         ensures err { OnErr result (self.new ≡ self.old) }
         ensures limit { (result ≡ Err HandError.Limit) ↔ (self.old.made ≡ 4095) }
-        ensures hand { IfOk result (λ h. h ≡ record {
-          calls = [];
-          room = room;
-          strange = false;
-          full = false;
-        }) }
+        ensures hand { IfOk result (λ h. h ≡ new_hand room) }
     {
-        if self.made >= 4095 {
-            return Err(HandError::Limit);
-        }
-        let Ok(hand) = Hand::new(alloc, &mut self.rest, room) else {
-            return Err(HandError::Memory);
-        };
-        self.made += 1;
-        Ok(hand)
+        self.hands.hand(alloc, room)
     }
 
     // Hands that exist at one time are no more than were made.
@@ -102,7 +86,7 @@ impl<L: Ledger> Held<L> {
         ensures hands { hands.new ≡ hands.old }
         ensures held { self.new ≡ self.old }
     {
-        are_few(hands, &mut self.rest);
+        self.hands.are_few(hands);
     }
 
     // They have no more calls than there are events, and just as many where they are all that were made.
@@ -114,21 +98,26 @@ impl<L: Ledger> Held<L> {
         ensures hands { hands.new ≡ hands.old }
         ensures held { self.new ≡ self.old }
     {
-        audit(&mut self.book, hands, &mut self.rest);
+        self.hands.audit(hands);
     }
 
-    // The master, without its book.
+    // The master, without its hands.
     pub(crate) fn into_master(self) -> Master
         ensures { result ≡ self.job }
     {
         let Held {
             master,
-            book: _,
-            rest: _,
-            made: _,
+            hands: _,
             seen: _,
         } = self;
         master
+    }
+
+    // What every master keeps.
+    pub(crate) fn is_kept(&self)
+        ensures { IsKept self.now.job }
+    {
+        self.master.is_kept();
     }
 
     // Whether the sizes are the master's, and the hand's last call stands in the history.
@@ -160,14 +149,15 @@ impl<L: Ledger> Held<L> {
     // A call that hands in numbers alone.
     pub(crate) fn step(&mut self, sizes: Sizes, hand: &mut Hand<L>, call: PlainCall) -> Answer
         requires { IsKnownTo sizes (call_of call) }
-        ensures { IsStep sizes self.old.job hand.old (call_of call) [] result self.new.job hand.new }
+        ensures step { IsStep sizes self.old.job hand.old (call_of call) [] result self.new.job hand.new }
+        ensures made { self.new.made ≡ self.old.made }
     {
         if let Some(why) = self.why_not(sizes, hand, 0) {
             ignore(hand, 0, why);
             return Answer::Ignored(why);
         }
         let answer = call.ask(&mut self.master);
-        enter(&self.master, &mut self.book, hand, &[], answer);
+        enter(&self.master, &mut self.hands, hand, &[], answer);
         answer
     }
 
@@ -181,6 +171,7 @@ impl<L: Ledger> Held<L> {
         ensures step { IsStep sizes self.old.job hand.old (Call.MapDone attempt made) [] (plain_with result)
             self.new.job hand.new }
         ensures back { IsHandedBack made result }
+        ensures made { self.new.made ≡ self.old.made }
     {
         if let Some(why) = self.why_not(sizes, hand, 0) {
             ignore(hand, 0, why);
@@ -188,7 +179,7 @@ impl<L: Ledger> Held<L> {
         }
         let answer = self.master.map_done(attempt, made);
         let plain = plain_with(&answer);
-        enter(&self.master, &mut self.book, hand, &[], plain);
+        enter(&self.master, &mut self.hands, hand, &[], plain);
         answer
     }
 
@@ -202,6 +193,7 @@ impl<L: Ledger> Held<L> {
         ensures step { IsStep sizes self.old.job hand.old (Call.PartDone attempt made) [] (plain_with result)
             self.new.job hand.new }
         ensures back { IsHandedBack made result }
+        ensures made { self.new.made ≡ self.old.made }
     {
         if let Some(why) = self.why_not(sizes, hand, 0) {
             ignore(hand, 0, why);
@@ -209,7 +201,7 @@ impl<L: Ledger> Held<L> {
         }
         let answer = self.master.part_done(attempt, made);
         let plain = plain_with(&answer);
-        enter(&self.master, &mut self.book, hand, &[], plain);
+        enter(&self.master, &mut self.hands, hand, &[], plain);
         answer
     }
 
@@ -225,6 +217,7 @@ impl<L: Ledger> Held<L> {
         ensures step { IsStep sizes self.old.job hand.old (Call.Backup split worker) [] (plain_backup result)
             self.new.job hand.new }
         ensures attempt { NamesNext self.old.job result }
+        ensures made { self.new.made ≡ self.old.made }
     {
         if let Some(why) = self.why_not(sizes, hand, 0) {
             ignore(hand, 0, why);
@@ -232,7 +225,7 @@ impl<L: Ledger> Held<L> {
         }
         let answer = self.master.backup(split, worker);
         let plain = plain_backup(&answer);
-        enter(&self.master, &mut self.book, hand, &[], plain);
+        enter(&self.master, &mut self.hands, hand, &[], plain);
         answer
     }
 
@@ -242,15 +235,19 @@ impl<L: Ledger> Held<L> {
         sizes: Sizes,
         hand: &mut Hand<L>,
     ) -> ReduceAnswer
-        ensures { IsReduceStep sizes self.old.job hand.old result self.new.job hand.new }
+        ensures step { IsReduceStep sizes self.old.job hand.old result self.new.job hand.new }
+        ensures reply { Replies sizes result }
+        ensures made { self.new.made ≡ self.old.made }
     {
         if let Some(why) = self.why_not(sizes, hand, 0) {
             ignore(hand, 0, why);
             return ReduceAnswer::Ignored(why);
         }
+        self.master.is_kept();
         let answer = self.master.reduce_start(alloc);
+        self.master.is_kept();
         let plain = plain_reduce(&answer);
-        enter(&self.master, &mut self.book, hand, &[], plain);
+        enter(&self.master, &mut self.hands, hand, &[], plain);
         answer
     }
 
@@ -258,7 +255,10 @@ impl<L: Ledger> Held<L> {
         ensures step { IsStep sizes self.old.job hand.old (Call.Sweep counts.now) (counts.now ∷ [])
             result.answer self.new.job hand.new }
         ensures dead { (w : ℕ) → has_number result.dead w ≡ died_in self.old.job counts.now result.answer w }
+        ensures kept { IsKept self.old.job }
+        ensures made { self.new.made ≡ self.old.made }
     {
+        self.master.is_kept();
         if let Some(why) = self.why_not(sizes, hand, 1) {
             ignore(hand, 1, why);
             return Swept {
@@ -267,7 +267,13 @@ impl<L: Ledger> Held<L> {
             };
         }
         let swept = self.master.sweep(counts);
-        enter(&self.master, &mut self.book, hand, &[*counts], swept.answer);
+        enter(
+            &self.master,
+            &mut self.hands,
+            hand,
+            &[*counts],
+            swept.answer,
+        );
         swept
     }
 
@@ -277,8 +283,7 @@ impl<L: Ledger> Held<L> {
         ensures glance { IsGlance self.old.job result }
         ensures same { self.new ≡ self.old }
     {
-        // (the present state is one that a history leads to)
-        let _history = self.master.history();
+        self.master.is_kept();
         let events = self.master.events();
         if let Some(seen) = self.seen {
             if seen.events == events {
@@ -299,8 +304,7 @@ impl<L: Ledger> Held<L> {
         ensures copies { IfOk result (λ orders. AreCopies (holdings self.now.job.state.workers
             self.now.job.setup.cluster.tree self.now.job.state.holders target) orders.items) }
     {
-        // (the present state is one that a history leads to)
-        let _history = self.master.history();
+        self.master.is_kept();
         self.master.copy_orders(alloc, target)
     }
 }
@@ -313,11 +317,10 @@ fn ignore<L: Ledger>(hand: &mut Hand<L>, counts: usize, why: Why)
     hand.note(had_room, why);
 }
 
-// Keeps the event of an accepted call in the hand, with its counts, and adds it to the book; or notes why the
-// call was ignored.
+// Keeps the event of an accepted call in the hand, with its counts; or notes why the call was ignored.
 fn enter<L: Ledger>(
     master: &Master,
-    book: &mut Book<L>,
+    hands: &mut Hands<L>,
     hand: &mut Hand<L>,
     counts: &[[u64; 256]],
     answer: Answer,
@@ -327,14 +330,15 @@ fn enter<L: Ledger>(
     requires room { has_room hand.old (length counts.now) 0 ≡ true }
     ensures hand { (event : Event) → IsAt master.now.history answer event
         → hand.new ≡ answered hand.old event counts.now answer }
-    ensures total { book.new.total ≡ total_after book.old.total answer }
+    ensures total { hands.new.total ≡ total_after hands.old.total answer }
+    ensures made { hands.new.made ≡ hands.old.made }
 {
     match answer {
         Answer::Accepted(place) => {
             // (how long the history is)
             let _events = master.events();
             let event = master.history()[place as usize - 1];
-            hand.keep(book, place, event, counts, &[]);
+            hand.keep(hands, place, event, counts, &[]);
         }
         Answer::Ignored(why) => ignore(hand, counts.len(), why),
     }

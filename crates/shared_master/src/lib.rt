@@ -1,7 +1,7 @@
 //! A master that threads share.
 //!
-//! One lock keeps the master, with the book of a ledger that counts its events; each thread calls with a
-//! hand of its own, which keeps what was accepted of it. Waves are planned while the lock is free, and
+//! One lock keeps the master, with what is kept of its hands; each thread calls with a hand of its own, which
+//! keeps what was accepted of it. Waves are planned while the lock is free, and
 //! certified in the state in which they are committed. Upward the layer promises that each call under the
 //! lock is one of the master's, that a hand keeps just the events of its accepted calls, and that `settle`
 //! says exactly whether a history is made of the calls of the hands that it is given. It stands on
@@ -16,7 +16,7 @@ pub mod sizes;
 pub mod waves;
 
 pub use closed::{Closed, Settled, Torn, settle};
-pub use hand_ledger::Hand;
-pub use shared::{HandError, SharedMaster};
+pub use hand_ledger::{Hand, HandError};
+pub use shared::SharedMaster;
 pub use sizes::Sizes;
 pub use waves::{Between, Nothing, SharedWave, WaveError};

@@ -1,12 +1,11 @@
-ghost use Rattle.std.specs.Prelude.{◌≡◌, ℕ, ◌<◌, ◌≤◌, [], false, length, IfOk};
-ghost use Rattle.node_ids.specs.Sets.{has_number};
+ghost use Rattle.std.specs.Prelude.{◌≡◌, ◌<◌, ◌≤◌, [], length, IfOk};
 ghost use Rattle.block_map.specs.Copies.{AreCopies, holdings};
-ghost use Rattle.master_state.specs.declared.answers.Answer.{Answer};
-ghost use Rattle.master_state.specs.declared.answers.Why.{Why};
 ghost use Rattle.master_state.specs.declared.events.Event.{Event};
 ghost use Rattle.master_state.specs.Jobs.{IsGlance, IsKept, Job};
 ghost use Rattle.master_state.specs.Refusals.{Call};
+ghost use Rattle.hand_ledger.specs.Hands.{new_hand};
 ghost use Rattle.shared_master.specs.Steps.{
+  AreDeadOf,
   IsHandedBack,
   IsKeptAs,
   IsKeptBackup,
@@ -14,6 +13,7 @@ ghost use Rattle.shared_master.specs.Steps.{
   IsKeptSweep,
   IsKnownTo,
   plain_with,
+  Replies,
 };
 ghost use Rattle.shared_master.specs.Waves.{TurnsAs, WavesAs};
 
@@ -23,7 +23,7 @@ use crate::held::Held;
 use crate::sizes::Sizes;
 use crate::waves::{Between, Nothing, SharedWave, Uncommitted, WaveError, solve};
 use block_map::CopyOrder;
-use hand_ledger::Hand;
+use hand_ledger::{Hand, HandError, Hands};
 use master_core::Master;
 use master_state::{Answer, AnswerWith, BackupAnswer, Glance, Limits, ReduceAnswer, Swept};
 use node_ids::{AttemptNo, SplitNo, SplitSet, WorkerNo};
@@ -33,14 +33,6 @@ use std::marker::Model;
 use std::sync::ledger::{Blank, Ledger};
 use std::sync::{Mutex, Wait};
 use word_map::MapResult;
-
-/// Why no hand was made. It is tested in this order.
-#[derive(Clone, Copy, Debug, PartialEq, Eq)]
-pub enum HandError {
-    /// 4,095 hands were made.
-    Limit,
-    Memory,
-}
 
 /// A master that threads share, each with a hand of its own.
 #[derive(Drop)]
@@ -70,12 +62,9 @@ impl<L: Ledger> SharedMaster<L> {
             splits: master.cluster().splits().len(),
             workers: master.cluster().slots().len(),
         };
-        let (book, rest) = blank.open::<L>();
         let held = Held {
             master,
-            book,
-            rest,
-            made: 0,
+            hands: Hands::new(blank),
             seen: None,
         };
         SharedMaster {
@@ -93,7 +82,7 @@ impl<L: Ledger> SharedMaster<L> {
 
     /// A hand for one thread, with all the room that it will have.
     pub fn hand<R: Wait>(&self, rt: &R, alloc: Global, room: Limits) -> Result<Hand<L>, HandError>
-        ensures { IfOk result (λ h. h ≡ record { calls = []; room = room; strange = false; full = false }) }
+        ensures { IfOk result (λ h. h ≡ new_hand room) }
     {
         self.lock.lock(rt).hand(alloc, room)
     }
@@ -242,7 +231,8 @@ impl<L: Ledger> SharedMaster<L> {
 
     /// `Master::reduce_start` under the lock.
     pub fn reduce_start<R: Wait>(&self, rt: &R, alloc: Global, hand: &mut Hand<L>) -> ReduceAnswer
-        ensures { IsKeptReduce hand.old result hand.new }
+        ensures kept { IsKeptReduce hand.old result hand.new }
+        ensures reply { Replies self.now result }
     {
         self.lock.lock(rt).reduce_start(alloc, self.sizes, hand)
     }
@@ -250,21 +240,20 @@ impl<L: Ledger> SharedMaster<L> {
     /// `Master::sweep` under the lock. The hand keeps the counts.
     pub fn sweep<R: Wait>(&self, rt: &R, hand: &mut Hand<L>, counts: &[u64; 256]) -> Swept
         ensures kept { IsKeptSweep hand.old counts.now result.answer hand.new }
-        ensures none_dead { (why : Why) (w : ℕ) → result.answer ≡ Answer.Ignored why
-            → has_number result.dead w ≡ false }
+        ensures dead { AreDeadOf counts.now result }
     {
         self.lock.lock(rt).sweep(self.sizes, hand, counts)
     }
 
-    /// What a master shows at a glance that the lock kept at some time in this call. Where no event came
-    /// since the last glance, that is told again in constant time.
+    /// What some master shows at a glance, of a state that a history leads to. Where no event came since the
+    /// last glance, that is told again in constant time.
     pub fn glance<R: Wait>(&self, rt: &R) -> Glance
         ensures { (job : Job) × IsKept job × IsGlance job result }
     {
         self.lock.lock(rt).glance()
     }
 
-    /// The copies that bring each split of such a master nearer to so many replicas.
+    /// The copies that bring each split of some such master nearer to so many replicas.
     pub fn copy_orders<R: Wait>(
         &self,
         rt: &R,
@@ -330,9 +319,13 @@ impl<L: Ledger> SharedMaster<L> {
         }
     }
 
-    /// The master that the lock kept, with its book.
-    pub fn into_master(self) -> Closed<L> {
+    /// The master that the lock kept, with its hands.
+    pub fn into_master(self) -> Closed<L>
+        ensures { IsKept result.job }
+    {
         let SharedMaster { lock, sizes: _ } = self;
-        Closed::of(lock.into_inner())
+        let held = lock.into_inner();
+        held.is_kept();
+        Closed::of(held)
     }
 }

@@ -136,8 +136,9 @@ impl<L: Ledger> Held<L> {
         requires sizes { FitsSizes sizes solved.planned.plan solved.planned.prices }
         requires starts { solved.starts.items ≡ [] }
         requires room { length (pairs_of solved.planned.plan.starts) ≤ vec_capacity solved.starts }
-        ensures { CommitsAs sizes self.old.job hand.old solved.planned.plan.starts solved.planned.prices
-            result self.new.job hand.new }
+        ensures answer { CommitsAs sizes self.old.job hand.old solved.planned.plan.starts
+            solved.planned.prices result self.new.job hand.new }
+        ensures made { self.new.made ≡ self.old.made }
     {
         let Solved { planned, starts } = solved;
         if !self.is_own(sizes, hand) {
@@ -157,8 +158,9 @@ impl<L: Ledger> Held<L> {
             }
             Err(CommitError::Memory) => return Err(Uncommitted::Refused(WaveError::Memory)),
         };
-        // (how long the history is)
+        // (how long the history is, and that its starts are of this cluster)
         let _events = self.master.events();
+        self.master.is_kept();
         let Wave {
             place,
             first,
@@ -167,7 +169,7 @@ impl<L: Ledger> Held<L> {
         } = wave;
         let starts = with_all(starts, starts_from(&self.master, first));
         hand.keep(
-            &mut self.book,
+            &mut self.hands,
             place,
             Event::Wave { first, count, cost },
             &[],
@@ -183,7 +185,8 @@ impl<L: Ledger> Held<L> {
         sizes: Sizes,
         hand: &mut Hand<L>,
     ) -> Result<SharedWave, WaveError>
-        ensures { PlansAs sizes self.old.job hand.old result self.new.job hand.new }
+        ensures answer { PlansAs sizes self.old.job hand.old result self.new.job hand.new }
+        ensures made { self.new.made ≡ self.old.made }
     {
         let problem = self.problem(alloc, sizes, hand)?;
         let solved = solve(alloc, &problem)?;

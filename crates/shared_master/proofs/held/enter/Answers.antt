@@ -17,7 +17,7 @@ keep-requires-clause-counts g c =
     let history = c.args.master.now.history in
     let event = c.index-history-place.result in
     let stands = last_event history c.args.answer c.in-Accepted.place event c.in-Accepted.is c.requires.place
-    (subst (λ (h : List Event). event ≡ get_or h (c.in-Accepted.place - 1) event) c.history.ensures.value
+    (subst (λ (h : List Event). event ≡ get_or h (c.in-Accepted.place - 1) event) c.history.ensures
     c.index-history-place.is) in
     sym (last_counts history c.args.answer c.in-Accepted.place _ event c.in-Accepted.is c.requires.counts
     stands).0
@@ -27,7 +27,7 @@ keep-requires-clause-starts g c =
     let history = c.args.master.now.history in
     let event = c.index-history-place.result in
     let stands = last_event history c.args.answer c.in-Accepted.place event c.in-Accepted.is c.requires.place
-    (subst (λ (h : List Event). event ≡ get_or h (c.in-Accepted.place - 1) event) c.history.ensures.value
+    (subst (λ (h : List Event). event ≡ get_or h (c.in-Accepted.place - 1) event) c.history.ensures
     c.index-history-place.is) in
     sym (last_counts history c.args.answer c.in-Accepted.place _ event c.in-Accepted.is c.requires.counts
     stands).1
@@ -37,7 +37,7 @@ keep-requires-clause-room g c =
     let history = c.args.master.now.history in
     let event = c.index-history-place.result in
     let stands = last_event history c.args.answer c.in-Accepted.place event c.in-Accepted.is c.requires.place
-    (subst (λ (h : List Event). event ≡ get_or h (c.in-Accepted.place - 1) event) c.history.ensures.value
+    (subst (λ (h : List Event). event ≡ get_or h (c.in-Accepted.place - 1) event) c.history.ensures
     c.index-history-place.is) in
     last_room c.args.hand.now _ event
     (last_counts history c.args.answer c.in-Accepted.place _ event c.in-Accepted.is c.requires.counts stands)
@@ -48,7 +48,7 @@ returns-in-Accepted-clause-hand g c = λ e at.
     let history = c.args.master.now.history in
     let event = c.index-history-place.result in
     let stands = last_event history c.args.answer c.in-Accepted.place event c.in-Accepted.is c.requires.place
-    (subst (λ (h : List Event). event ≡ get_or h (c.in-Accepted.place - 1) event) c.history.ensures.value
+    (subst (λ (h : List Event). event ≡ get_or h (c.in-Accepted.place - 1) event) c.history.ensures
     c.index-history-place.is) in
     c.keep.ensures.value
     ∙ last_kept history c.args.answer c.in-Accepted.place event e c.args.hand.now c.args.counts.now

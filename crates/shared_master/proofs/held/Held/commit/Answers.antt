@@ -42,8 +42,8 @@ keep-requires-clause-starts g c =
     ∙ c.starts_from.ensures in
     ap length (c.deref.ensures.value ∙ items) ∙ starts_counted _ _ _ _ c.in-Ok.ensures.1
 
-pub returns : goal.returns
-returns g c =
+pub returns-clause-answer : goal.returns-clause-answer
+returns-clause-answer g c =
     let wave = c.in-Ok.wave in
     let items : c.with_all-starts.result.items ≡ drop (wave.first - 1) c.commit.new.self.state.starts =
     c.with_all-starts.ensures ∙ ap (λ l. l ++ c.starts_from.result.now) c.requires.starts
@@ -53,7 +53,8 @@ returns g c =
     shared_wave c.args.sizes c.self.inside.master c.args.self.now.job c.args.hand.now
     c.args.solved.planned.plan.starts c.args.solved.planned.prices
     (record { wave = wave; starts = c.with_all-starts.result }) c.commit.new.self c.keep.new.self
-    (ap (λ (h : HeldValue). h.job) c.self.view_is) own room c.in-Ok.ensures items
+    (ap (λ (h : HeldValue). h.job) c.self.view_is) own room c.in-Ok.ensures c.is_kept.ensures
+    items
     (c.keep.ensures.value
     ∙ ap (λ (l : List Start). with_call c.args.hand.now
     (kept wave.place (events.Wave wave.first wave.count wave.cost) [] l)) c.deref.ensures.value)

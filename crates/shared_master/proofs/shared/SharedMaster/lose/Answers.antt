@@ -4,4 +4,4 @@ use Rattle.shared_master.proofs.Stepping.{kept_as}
 use Rattle.shared_master.proofs.shared.SharedMaster.lose.Goals as goal
 
 pub returns : goal.returns
-returns g c = kept_as _ _ _ (Lose c.args.split c.args.worker) [] _ _ _ c.step.ensures
+returns g c = kept_as _ _ _ (Lose c.args.split c.args.worker) [] _ _ _ c.step.ensures.step

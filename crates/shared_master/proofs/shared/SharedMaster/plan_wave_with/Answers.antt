@@ -9,4 +9,4 @@ pub returns : goal.returns
 returns g c =
     subst (λ (z : Sizes). WavesAs z c.args.hand.now c.plan_wave.result c.plan_wave.new.hand) c.self.view_is
     (subst (λ (h : HandValue). WavesAs c.self.inside.sizes h c.plan_wave.result c.plan_wave.new.hand)
-    c.loop-turn.invariant (plans_kept _ _ _ c.plan_wave.result _ _ c.plan_wave.ensures))
+    c.loop-turn.invariant (plans_kept _ _ _ c.plan_wave.result _ _ c.plan_wave.ensures.answer))

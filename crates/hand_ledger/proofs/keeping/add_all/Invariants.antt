@@ -1,0 +1,7 @@
+use Rattle.std.proofs.Common.{◌≡◌, ◌++◌, take, vec_capacity}
+use Rattle.hand_ledger.proofs.keeping.add_all.Given as goal
+
+abbrev pub invariant-loop-item : goal.invariant-loop-item
+invariant-loop-item g l =
+    (l.list.items ≡ l.fn.list.items ++ take l.item-index l.more)
+    × (vec_capacity l.list ≡ vec_capacity l.fn.list)
