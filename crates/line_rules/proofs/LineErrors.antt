@@ -1,19 +1,21 @@
 -- The faults of a line that says a statement are those of the statement.
-use Rattle.std.proofs.Common.{◌≤◌, subst, arith}
-use Rattle.text_lines.specs.Texts.{Line}
+use Rattle.std.proofs.Common.{◌≡◌, ◌≤◌, List, ◌∷◌, subst, arith}
+use Rattle.text_lines.specs.Texts.{Line, Word}
 use Rattle.text_lines.specs.Faults.{number_of_fault}
 use Rattle.text_lines.specs.declared.fault.Fault.{Fault}
 use Rattle.text_lines.specs.declared.fault.Fault.TheVariants.{Shape, Misnamed, Unknown, Repeated}
 use Rattle.text_lines.specs.declared.fault.Fault.TheVariants.{OutOfRange, PassesLimit, Misplaced}
 use Rattle.text_lines.specs.declared.fault.Fault.TheVariants.{RepeatedHolder, SecondEntry, NoPrice, TooLong}
 use Rattle.text_lines.specs.declared.fault.Fault.TheVariants.{NoFeed, Unprintable, AfterEnd}
-use Rattle.line_shapes.specs.Lines.{Says, SaysNothing, Statement}
+use Rattle.line_shapes.specs.Keywords.{spelling_of}
+use Rattle.line_shapes.specs.Lines.{Says, SaysNothing, Statement, words_in}
+use Rattle.line_shapes.specs.declared.keyword.Keyword.{Keyword}
 use Rattle.line_rules.specs.Known.{Known}
 use Rattle.line_rules.specs.Faults.{Fails, IsFit, IsLeastOf, IsComplete}
 use Rattle.line_rules.specs.Texts.{IsLegible, LineHas}
 use Rattle.line_rules.proofs.Fits.{fit_faultless}
 use Rattle.line_shapes.proofs.OneStatement.{says-unique}
-use Rattle.line_rules.specs.Reading.{IsLeastError}
+use Rattle.line_rules.specs.Reading.{HasKeyword, IsLeastError}
 use Rattle.line_rules.specs.declared.reading.LineError.{LineError}
 use Rattle.line_rules.specs.declared.reading.LineError.TheVariants as error
 
@@ -104,3 +106,8 @@ pub error_of_line : (k : Known) (line : Line) (s : Statement) → IsLegible k li
     → (e : LineError) → IsLeastError (Fails k s) e → IsLeastError (LineHas k line) e
 error_of_line k line s sound says (error.Fault f) h = least_of_line k line s sound says f h
 error_of_line k line s sound says error.Memory h = tt
+
+pub has_keyword : (k : Known) (line : Line) (keyword : Keyword) (words : List Word) → IsLegible k line
+    → words_in keyword line ≡ spelling_of keyword ∷ words → HasKeyword k line
+has_keyword k line keyword words sound begins =
+    record { legible = sound; keyword = keyword; words = words; begins = begins }

@@ -231,7 +231,7 @@ pub error_of_text : (purpose : Purpose) (text : List ℕ) (left : List Line) (li
     → IsReadingError purpose text (error_at (n + 1) err)
 error_of_text purpose text left line after n k (error.Fault f) short read split more least =
     least_fault purpose text n f (least_at purpose text left line after n k f short read split more least)
-error_of_text purpose text left line after n k error.Memory short read split more least = tt
+error_of_text purpose text left line after n k error.Memory short read split more least = short
 
 -- ---- the end
 

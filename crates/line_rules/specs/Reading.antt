@@ -1,12 +1,14 @@
 -- What is read of a text, line by line.
-use Rattle.std.specs.Prelude.{ℕ, List, [], ◌∷◌, ◌≡◌, ◌≢◌, length, take}
+use Rattle.std.specs.Prelude.{ℕ, List, [], ◌∷◌, ◌≡◌, ◌≢◌, ◌≤◌, length, take}
 use Rattle.std.specs.List.{All}
-use Rattle.text_lines.specs.Texts.{IsPrintable, Line, lines_of}
+use Rattle.text_lines.specs.Texts.{IsPrintable, Line, Word, lines_of}
 use Rattle.text_lines.specs.declared.fault.Fault.{Fault}
-use Rattle.line_shapes.specs.Lines.{Says, Statement}
+use Rattle.line_shapes.specs.Keywords.{spelling_of}
+use Rattle.line_shapes.specs.Lines.{Says, Statement, words_in}
+use Rattle.line_shapes.specs.declared.keyword.Keyword.{Keyword}
 use Rattle.line_rules.specs.Faults.{IsFit, IsLeastOf}
 use Rattle.line_rules.specs.Known.{Known, entered, known_at}
-use Rattle.line_rules.specs.Texts.{IsLeastFault, ReadsAs}
+use Rattle.line_rules.specs.Texts.{IsLegible, IsLeastFault, ReadsAs, longest}
 use Rattle.line_rules.specs.declared.purpose.Purpose.{Purpose}
 use Rattle.line_rules.specs.declared.reading.LineError.{LineError}
 use Rattle.line_rules.specs.declared.reading.LineError.TheVariants as error
@@ -26,6 +28,14 @@ pub record Takes (old : Known) (line : Line) (new : Known) : Type 0 where
   pub not_ended : old.section ≢ Ended
   pub says : Says line statement
   pub enters : Enters old statement new
+
+-- the line has none of the faults that are found without memory: its bytes can be read, no `end` stands
+-- before it, and it begins with a keyword
+pub record HasKeyword (k : Known) (line : Line) : Type 0 where
+  pub legible : IsLegible k line
+  pub keyword : Keyword
+  pub words : List Word
+  pub begins : words_in keyword line ≡ spelling_of keyword ∷ words
 
 -- the fault that is answered is the least of those that apply
 abbrev pub IsLeastError : (Fault → Type 0) → LineError → Type 0
@@ -53,10 +63,10 @@ pub record IsAllRead (purpose : Purpose) (text : List ℕ) (k : Known) : Type 0 
   pub fit : AreFitLines (known_at purpose []) (take (length statements) (lines_of text)) statements
   pub known : k ≡ known_at purpose statements
 
--- the fault that is answered is the least of the text
+-- the fault that is answered is the least of the text; of one that is too long memory wants nothing
 abbrev pub IsReadingError : Purpose → List ℕ → ReadingError → Type 0
 IsReadingError purpose text (reading.Text fault) = IsLeastFault purpose text fault.line fault.number
-IsReadingError purpose text reading.Memory = Unit {0}
+IsReadingError purpose text reading.Memory = length text ≤ longest
 
 -- the error of a line as one of its text
 abbrev pub error_at : ℕ → LineError → ReadingError

@@ -1,8 +1,10 @@
-ghost use Rattle.std.specs.Prelude.{◌≡◌, ◌+◌, ◌≤◌, [], IfErr, IfOk, IsTrue, MatchOption, OnOk, length, ◌↔◌};
+ghost use Rattle.std.specs.Prelude.{◌≡◌, ◌↔◌, ◌+◌, ◌≤◌, [], Err, IfErr, IfOk, IsTrue, MatchOption, OnOk};
+ghost use Rattle.std.specs.Prelude.{length};
 ghost use Rattle.line_shapes.specs.Lines.{IsShaped, statement_of};
 ghost use Rattle.line_rules.specs.Faults.{Fails, IsLeastOf};
 ghost use Rattle.line_rules.specs.Known.{known_at};
-ghost use Rattle.line_rules.specs.Reading.{Enters, IsAllRead, IsLeastError, IsReadingError, Takes, error_at};
+ghost use Rattle.line_rules.specs.Reading.{Enters, HasKeyword, IsAllRead, IsLeastError, IsReadingError};
+ghost use Rattle.line_rules.specs.Reading.{Takes, error_at};
 ghost use Rattle.line_rules.specs.Texts.{LineHas, RestHas, longest};
 ghost use Rattle.line_rules.specs.declared.section.Section.TheVariants.{Ended};
 ghost use Rattle.line_rules.specs.declared.reading.LineError.TheVariants.{Memory};
@@ -91,6 +93,7 @@ fn take_lines<'t>(
 fn take_line<'t>(alloc: Global, line: &'t [u8], known: &mut KnownLines<'t>) -> Result<(), LineError>
     ensures ok { OnOk result (Takes known.old line.entry.now known.new) }
     ensures err { IfErr result (IsLeastError (LineHas known.old line.entry.now)) }
+    ensures memory { result ≡ Err LineError.Memory → HasKeyword known.old line.entry.now }
 {
     let Some(line) = printable(line) else {
         return Err(LineError::Fault(Fault::Unprintable));

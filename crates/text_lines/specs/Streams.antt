@@ -2,6 +2,10 @@
 use Rattle.std.specs.Prelude.{ℕ, List, ◌≡◌, ◌++◌, ◌≤◌, length, Option}
 use Rattle.std.specs.Io.KnownBytes.{Appends, Consumes}
 
+-- the most bytes that are read of a text: one more than the longest has
+abbrev pub most_read : ℕ
+most_read = 16777217
+
 -- a writer took some front of the text, perhaps none or all of it
 pub record AppendsFront (old new : Option (List ℕ)) (text : List ℕ) : Type 0 where
   pub front : List ℕ

@@ -1,7 +1,7 @@
 ghost use Rattle.std.specs.Prelude.{◌≡◌, ◌++◌, ◌-◌, ◌≤◌, ◌<◌, take, length, vec_len, IfOk, OnOk, OnErr};
 ghost use Rattle.std.specs.Prelude.{IfSome, MatchResult};
 ghost use Rattle.std.specs.Io.KnownBytes.{Appends, Consumes, IsAtEnd, Keeps};
-ghost use Rattle.text_lines.specs.Streams.{AppendsFront, ConsumesAtMost, Moves, Reads};
+ghost use Rattle.text_lines.specs.Streams.{AppendsFront, ConsumesAtMost, Moves, Reads, most_read};
 
 use std::alloc::{AllocError, Global};
 use std::io::{ErrorKind, Read, Write};
@@ -42,9 +42,9 @@ enum Progress {
 /// was interrupted is made again.
 pub fn read_text<R: Read>(alloc: Global, reader: &mut R) -> Result<Vec<u8>, ReadError>
     ensures read { IfOk result (λ text.
-        IfSome (R.remaining reader.old) (λ input. text.items ≡ take MAX_READ_BYTES input)) }
-    ensures bound { IfOk result (λ text. vec_len text ≤ MAX_READ_BYTES) }
-    ensures unread { ConsumesAtMost (R.remaining reader.old) (R.remaining reader.new) MAX_READ_BYTES }
+        IfSome (R.remaining reader.old) (λ input. text.items ≡ take most_read input)) }
+    ensures bound { IfOk result (λ text. vec_len text ≤ most_read) }
+    ensures unread { ConsumesAtMost (R.remaining reader.old) (R.remaining reader.new) most_read }
 {
     let mut text = Vec::new(alloc);
     let mut piece = [0u8; PIECE];
@@ -67,14 +67,14 @@ fn read_piece<R: Read>(
     piece: &mut [u8; PIECE],
     text: &mut Vec<u8>,
 ) -> Result<Progress, ReadError>
-    requires { vec_len text.old < MAX_READ_BYTES }
-    ensures bound { vec_len text.new ≤ MAX_READ_BYTES }
+    requires { vec_len text.old < most_read }
+    ensures bound { vec_len text.new ≤ most_read }
     ensures ok { OnOk result
         (Reads (R.remaining reader.old) (R.remaining reader.new) text.old.items text.new.items) }
     ensures end { result ≡ Ok Progress.End → IsAtEnd (R.remaining reader.new) }
     ensures err { OnErr result
         (ConsumesAtMost (R.remaining reader.old) (R.remaining reader.new)
-        (MAX_READ_BYTES - vec_len text.old)) }
+        (most_read - vec_len text.old)) }
 {
     let room = PIECE.min(MAX_READ_BYTES - text.len());
     match reader.read(&mut piece[..room]) {

@@ -1,4 +1,4 @@
 -- That what was written is the answer of the text.
 pub mod OneAnswer
--- That nothing was written where there is no answer.
+-- What a run leaves with its writer.
 pub mod Unanswered

@@ -2,9 +2,8 @@
 use Rattle.std.specs.Prelude.{ℕ, List, ⊤, ◌≡◌, Option, Ok, Err, IfSome, take}
 use Rattle.std.specs.declared.result.Result.{Result}
 use Rattle.std.specs.Io.KnownBytes.{Appends, Keeps}
-use Rattle.text_lines.specs.Streams.{AppendsFront, ConsumesAtMost}
+use Rattle.text_lines.specs.Streams.{AppendsFront, ConsumesAtMost, most_read}
 use Rattle.text_lines.specs.declared.fault.TextFault.{TextFault}
-use Rattle.text_lines.specs.declared.streams.TheConstants.{MAX_READ_BYTES}
 use Rattle.text_reading.specs.declared.tool_error.ToolError.{ToolError}
 use Rattle.text_reading.specs.declared.tool_error.ToolError.TheVariants.{HistoryFull, Memory, Read, Text}
 use Rattle.text_reading.specs.declared.tool_error.ToolError.TheVariants.{Write}
@@ -33,10 +32,14 @@ abbrev pub error_of_answering : NoAnswer → ToolError
 error_of_answering none.Memory = Memory
 error_of_answering none.HistoryFull = HistoryFull
 
--- the text that was read is one to which a command has no answer for want of attempts; nothing is written
-pub record RanOut (IsFull : List ℕ → Type 0) (unread old new : Option (List ℕ)) : Type 0 where
+-- this holds of some text: of what a reader has, where that is known
+pub record HoldsOfText (unread : Option (List ℕ)) (Holds : List ℕ → Type 0) : Type 0 where
   pub text : List ℕ
-  pub read : IfSome unread (λ input. text ≡ take MAX_READ_BYTES input)
+  pub read : IfSome unread (λ input. text ≡ take most_read input)
+  pub holds : Holds text
+
+-- the text is one to which a command has no answer for want of attempts; nothing is written
+pub record RanOut (IsFull : List ℕ → Type 0) (old new : Option (List ℕ)) (text : List ℕ) : Type 0 where
   pub full : IsFull text
   pub kept : Keeps old new
 
@@ -55,13 +58,13 @@ pub record HasRun {End : Type 0} (Answers : List ℕ → Result End TextFault �
     (IsFull : List ℕ → Type 0) (unread left old new : Option (List ℕ)) (result : Result End ToolError)
     : Type 0 where
   pub answered : (end : Result End TextFault) → result ≡ outcome end
-      → IfSome unread (λ input. Wrote old new (Answers (take MAX_READ_BYTES input) end))
+      → HoldsOfText unread (λ text. Wrote old new (Answers text end))
   pub memory : result ≡ Err Memory → Keeps old new
   pub read : result ≡ Err Read → Keeps old new
   pub write : result ≡ Err Write
-      → IfSome unread (λ input. WroteFront old new (IsSomeAnswer (Answers (take MAX_READ_BYTES input))))
-  pub full : result ≡ Err HistoryFull → RanOut IsFull unread old new
-  pub few : ConsumesAtMost unread left MAX_READ_BYTES
+      → HoldsOfText unread (λ text. WroteFront old new (IsSomeAnswer (Answers text)))
+  pub full : result ≡ Err HistoryFull → HoldsOfText unread (RanOut IsFull old new)
+  pub few : ConsumesAtMost unread left most_read
 
 -- each text has ends that are the same, and answers that are alike
 abbrev pub HasOneAnswer : {End : Type 0} → (List ℕ → Result End TextFault → List ℕ → Type 0)
@@ -80,5 +83,5 @@ abbrev pub WroteItsAnswer : {End : Type 0} → (List ℕ → Result End TextFaul
 WroteItsAnswer {End} Answers SameEnd Alike unread old new result = (end : Result End TextFault) →
     result ≡ outcome end
     → IfSome unread (λ input. (other : Result End TextFault) (line : List ℕ) →
-    Answers (take MAX_READ_BYTES input) other line
+    Answers (take most_read input) other line
     → SameEnd end other × Wrote old new (λ written. Alike written line))

@@ -3,7 +3,7 @@ use Rattle.std.proofs.lemmas.Result.{IfErr-weaker}
 use Rattle.line_shapes.specs.Keywords.{spelling_of}
 use Rattle.line_shapes.specs.Lines.{statement_of, words_in}
 use Rattle.line_rules.specs.Texts.{IsLegible}
-use Rattle.line_rules.proofs.LineErrors.{error_of_line}
+use Rattle.line_rules.proofs.LineErrors.{error_of_line, has_keyword}
 use Rattle.line_rules.proofs.Saying.{no_shape, says_same}
 use Rattle.line_rules.proofs.reading.take_line.Goals as goal
 
@@ -29,3 +29,15 @@ returns-clause-err c =
     ap (words_in k) (sym line) ∙ c.in-Some-keyword_of.ensures ∙ ap (λ ws. spelling_of k ∷ ws) words in
     let sound : IsLegible c.args.known.now c.args.line.now = search rules in
     no_shape c.args.known.now c.args.line.now k _ sound cut c.in-None.ensures
+
+pub returns-in_err-words-clause-memory : goal.returns-in_err-words-clause-memory
+returns-in_err-words-clause-memory c memory =
+    let k = c.in-Some-keyword_of.keyword in
+    let sound : IsLegible c.args.known.now c.args.line.now = search rules in
+    has_keyword _ _ k _ sound (ap (words_in k) (sym c.in-Some.ensures.0) ∙ c.in-Some-keyword_of.ensures)
+
+pub returns-in-Some-said_by-clause-memory : goal.returns-in-Some-said_by-clause-memory
+returns-in-Some-said_by-clause-memory c memory =
+    let k = c.in-Some-keyword_of.keyword in
+    let sound : IsLegible c.args.known.now c.args.line.now = search rules in
+    has_keyword _ _ k _ sound (ap (words_in k) (sym c.in-Some.ensures.0) ∙ c.in-Some-keyword_of.ensures)

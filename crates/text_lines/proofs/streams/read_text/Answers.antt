@@ -1,7 +1,7 @@
 use Rattle.std.proofs.Common.{arith, sym, subst, ap, Ok}
 use Rattle.std.specs.Io.KnownBytes.{Consumes}
 use Rattle.std.proofs.KnownBytes.{Consumes-nil}
-use Rattle.text_lines.specs.declared.streams.TheConstants.{MAX_READ_BYTES}
+use Rattle.text_lines.specs.Streams.{most_read}
 use Rattle.text_lines.proofs.Pieces.{at_most, ended, full, more}
 use Rattle.text_lines.proofs.streams.read_text.Goals as goal
 
@@ -10,7 +10,7 @@ loop-init g c = (subst (Consumes _ _) (sym c.new-text.ensures.items) (Consumes-n
 
 pub returns-then-len-ge-MAX_READ_BYTES-clause-read : goal.returns-then-len-ge-MAX_READ_BYTES-clause-read
 returns-then-len-ge-MAX_READ_BYTES-clause-read g c =
-    full MAX_READ_BYTES _ (g.R.Read.remaining c.loop.reader) c.loop.text.items c.loop.invariant.0
+    full most_read _ (g.R.Read.remaining c.loop.reader) c.loop.text.items c.loop.invariant.0
     (omega arith) (omega arith)
 
 pub returns-then-len-ge-MAX_READ_BYTES-clause-unread :
@@ -20,12 +20,12 @@ returns-then-len-ge-MAX_READ_BYTES-clause-unread g c =
 
 pub returns-in_err-read_piece-clause-unread : goal.returns-in_err-read_piece-clause-unread
 returns-in_err-read_piece-clause-unread g c =
-    at_most MAX_READ_BYTES _ _ _ _ c.loop.text.items c.loop.invariant.0
+    at_most most_read _ _ _ _ c.loop.text.items c.loop.invariant.0
     c.in_err-read_piece.ensures.err (omega arith)
 
 pub returns-in-End-clause-read : goal.returns-in-End-clause-read
 returns-in-End-clause-read g c =
-    ended MAX_READ_BYTES _ (g.R.Read.remaining c.read_piece.new.reader) c.read_piece.new.text.items
+    ended most_read _ (g.R.Read.remaining c.read_piece.new.reader) c.read_piece.new.text.items
     (more _ _ _ _ _ c.loop.invariant.0 c.in_ok-read_piece.ensures.ok)
     (c.in_ok-read_piece.ensures.end (ap Ok c.in-End.is))
     (omega (arith, c.read_piece.ensures.bound))
