@@ -1,19 +1,23 @@
 -- The script that a text declares is one for the head that it makes.
-use Rattle.std.proofs.Common.{ℕ, List, [], ◌≡◌, ◌<◌, ◌∙◌, ap, arith, get_or, length, subst, sym}
+use Rattle.std.proofs.Common.{ℕ, List, [], ◌≡◌, ◌≤◌, ◌<◌, ◌∙◌, ap, arith, get_or, length, subst, sym}
 use Rattle.std.specs.List.{All}
 use Rattle.std.specs.Str.{bytes_eq}
 use Rattle.std.proofs.lemmas.List.{length-map}
 use Rattle.std.proofs.lemmas.List.Quantifiers.{position-Some}
 use Rattle.text_lines.specs.Texts.{Word}
 use Rattle.line_shapes.specs.Lines.{Statement}
-use Rattle.line_shapes.specs.declared.keyword.Keyword.TheVariants.{Busy, End, Split, Worker}
+use Rattle.line_shapes.specs.declared.keyword.Keyword.TheVariants.{Busy, End, Split, Target, Worker}
+use Rattle.line_rules.specs.Entering.{most_workers}
 use Rattle.line_rules.specs.Known.{rows_of}
-use Rattle.line_rules.specs.declared.purpose.Purpose.TheVariants.{Playing}
+use Rattle.line_rules.specs.declared.purpose.Purpose.{Purpose}
 use Rattle.plan_text.specs.Names.{names_of, nth_word}
 use Rattle.plan_text.specs.Value.{declared_split}
+use Rattle.plan_text.proofs.Tidy.{tidy-read}
 use Rattle.head_text.specs.Heads.{slots_told}
+use Rattle.head_text.proofs.Lines.{target_within, told_within}
+use Rattle.head_text.proofs.Read.{few-read}
 use Rattle.script_text.specs.Commands.{IsKnownIn, IsNumbered, SaysCommand}
-use Rattle.script_text.specs.Scripts.{IsOfHead, IsScriptOf}
+use Rattle.script_text.specs.Scripts.{IsOfHead, IsScriptOf, IsTarget}
 use Rattle.script_text.specs.declared.script.Command.{Command}
 use Rattle.script_text.specs.declared.script.Command.TheVariants as command
 use Rattle.script_text.specs.declared.script.Names.{Names}
@@ -45,14 +49,16 @@ is_known names s (command.Sweep counts) short says = omega (arith, says.1.many, 
 is_known names s command.Reduce short says = tt
 is_known names s command.Copies short says = tt
 
-module _ (text : List ℕ) (value : ScriptText) (is : IsScriptOf text value) where
+module _ (purpose : Purpose) (text : List ℕ) (value : ScriptText) (is : IsScriptOf purpose text value) where
   abbrev rows : List Statement
   rows = is.known.rows
 
+  slots_size : length value.head.slots.items ≡ length (rows_of Worker rows)
+  slots_size = ap length is.head.slots ∙ length-map (rows_of Worker rows) slots_told
+
   workers_size : length value.script.names.workers ≡ length value.head.slots.items
   workers_size =
-      ap length is.declares.names.workers ∙ length-map (rows_of Worker rows) (nth_word 0)
-      ∙ sym (ap length is.head.slots ∙ length-map (rows_of Worker rows) slots_told)
+      ap length is.declares.names.workers ∙ length-map (rows_of Worker rows) (nth_word 0) ∙ sym slots_size
 
   splits_size : length value.script.names.splits ≡ length value.head.splits.items
   splits_size =
@@ -63,7 +69,7 @@ module _ (text : List ℕ) (value : ScriptText) (is : IsScriptOf text value) whe
   known : All (IsKnownIn (length value.script.names.workers) (length value.script.names.splits))
       value.script.commands.items
   known i d lt =
-      let bounded = bounded-read Playing text is.known is.read in
+      let bounded = bounded-read purpose text is.known is.read in
       let nowhere : Statement = record { keyword = End; words = [] } in
       let says = is.declares.commands in
       is_known value.script.names (get_or is.known.commands i nowhere)
@@ -78,5 +84,20 @@ module _ (text : List ℕ) (value : ScriptText) (is : IsScriptOf text value) whe
         let commands = value.script.commands.items in
         subst (λ n. All (IsKnownIn n (length value.head.splits.items)) commands) workers_size
         (subst (λ n. All (IsKnownIn (length value.script.names.workers) n) commands) splits_size known);
-    few = omega (arith, is.declares.commands.many, (bounded-read Playing text is.known is.read).few);
+    few = omega (arith, is.declares.commands.many, (bounded-read purpose text is.known is.read).few);
   }
+
+  pub is_target : IsTarget value.script.target
+  is_target =
+      let within = target_within rows (tidy-read purpose text is.known is.read) in
+      let told = told_within 1 8 3 (rows_of Target rows) within (omega arith) (omega arith) in
+      record {
+        some = omega (arith, is.declares.target, told.0);
+        few = omega (arith, is.declares.target, told.1);
+      }
+
+  pub few_workers : length value.head.slots.items ≤ most_workers purpose
+  few_workers =
+      let few : length (rows_of Worker rows) ≤ most_workers purpose =
+      few-read purpose text is.known is.read Worker in
+      omega (arith, slots_size, few)

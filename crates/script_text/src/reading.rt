@@ -1,18 +1,17 @@
-ghost use Rattle.std.specs.Prelude.{◌≡◌, ◌≤◌, All, IfErr, IfOk, length};
-ghost use Rattle.line_shapes.specs.declared.keyword.Keyword.TheVariants.{Doc, Target};
+ghost use Rattle.std.specs.Prelude.{◌≤◌, All, IfErr, IfOk, length};
+ghost use Rattle.line_shapes.specs.declared.keyword.Keyword.TheVariants.{Doc};
+ghost use Rattle.line_rules.specs.Entering.{most_workers};
 ghost use Rattle.line_rules.specs.Known.{rows_of};
 ghost use Rattle.line_rules.specs.Reading.{IsReadingError};
 ghost use Rattle.line_rules.specs.declared.purpose.Purpose.TheVariants.{Playing, Running};
 ghost use Rattle.plan_text.specs.Tidy.{AreTidy};
 ghost use Rattle.head_text.specs.Heads.{IsFitHead, MakesHead};
-ghost use Rattle.head_text.specs.Settings.{setting};
-ghost use Rattle.script_text.specs.Heads.{AreNames};
 ghost use Rattle.script_text.specs.Ready.{IsWholeCommand, told_names};
-ghost use Rattle.script_text.specs.Scripts.{Declares, IsJobOf, IsOfHead, IsScriptOf};
+ghost use Rattle.script_text.specs.Scripts.{Declares, IsOfHead, IsScriptOf, IsTarget};
 
 use crate::commands::commands_of;
 use crate::heads::{all_names, target_of};
-use crate::script::{JobText, Script, ScriptText};
+use crate::script::{Script, ScriptText};
 use head_text::build_head;
 use line_rules::{KnownLines, Purpose, ReadingError, read_lines};
 use std::alloc::{AllocError, Global};
@@ -20,32 +19,44 @@ use std::alloc::{AllocError, Global};
 /// The head and the script that a text declares, or the text's least fault. It borrows its names from the
 /// text.
 pub fn read_script(alloc: Global, text: &[u8]) -> Result<ScriptText<'_>, ReadingError>
-    ensures ok { IfOk result (IsScriptOf text.entry.now) }
+    ensures ok { IfOk result (IsScriptOf Playing text.entry.now) }
     ensures fit { IfOk result (λ value. IsFitHead value.head) }
     ensures known { IfOk result (λ value. IsOfHead value.head value.script) }
+    ensures target { IfOk result (λ value. IsTarget value.script.target) }
     ensures err { IfErr result (IsReadingError Playing text.entry.now) }
 {
-    let known = read_lines(alloc, Purpose::Playing, text)?;
+    read_for(alloc, Purpose::Playing, text)
+}
+
+/// The job that a text declares, or the text's least fault. It borrows its names from the text.
+pub fn read_job(alloc: Global, text: &[u8]) -> Result<ScriptText<'_>, ReadingError>
+    ensures ok { IfOk result (IsScriptOf Running text.entry.now) }
+    ensures fit { IfOk result (λ value. IsFitHead value.head) }
+    ensures known { IfOk result (λ value. IsOfHead value.head value.script) }
+    ensures target { IfOk result (λ value. IsTarget value.script.target) }
+    ensures few { IfOk result (λ value. length value.head.slots.items ≤ 32) }
+    ensures err { IfErr result (IsReadingError Running text.entry.now) }
+{
+    read_for(alloc, Purpose::Running, text)
+}
+
+// What a text declares, by the rules of what it is read for.
+fn read_for(alloc: Global, purpose: Purpose, text: &[u8]) -> Result<ScriptText<'_>, ReadingError>
+    ensures ok { IfOk result (IsScriptOf purpose text.entry.now) }
+    ensures fit { IfOk result (λ value. IsFitHead value.head) }
+    ensures known { IfOk result (λ value. IsOfHead value.head value.script) }
+    ensures target { IfOk result (λ value. IsTarget value.script.target) }
+    ensures few { IfOk result (λ value. length value.head.slots.items ≤ most_workers purpose) }
+    ensures err { IfErr result (IsReadingError purpose text.entry.now) }
+{
+    let known = read_lines(alloc, purpose, text)?;
     match script_of(alloc, &known) {
         Ok(script) => Ok(script),
         Err(_) => Err(ReadingError::Memory),
     }
 }
 
-/// The job that a text declares, or the text's least fault. It borrows its names from the text.
-pub fn read_job(alloc: Global, text: &[u8]) -> Result<JobText<'_>, ReadingError>
-    ensures ok { IfOk result (IsJobOf text.entry.now) }
-    ensures fit { IfOk result (λ job. IsFitHead job.head) }
-    ensures err { IfErr result (IsReadingError Running text.entry.now) }
-{
-    let known = read_lines(alloc, Purpose::Running, text)?;
-    match job_of(alloc, &known) {
-        Ok(job) => Ok(job),
-        Err(_) => Err(ReadingError::Memory),
-    }
-}
-
-// What the lines of a script declare.
+// What the lines declare.
 fn script_of<'t>(alloc: Global, known: &KnownLines<'t>) -> Result<ScriptText<'t>, AllocError>
     requires tidy { AreTidy known.now.rows }
     requires ready { All (IsWholeCommand (told_names known.now.rows)) known.now.commands }
@@ -72,24 +83,5 @@ fn told_script<'t>(alloc: Global, known: &KnownLines<'t>) -> Result<Script<'t>, 
         names,
         target,
         commands,
-    })
-}
-
-// What the lines of a job declare.
-fn job_of<'t>(alloc: Global, known: &KnownLines<'t>) -> Result<JobText<'t>, AllocError>
-    requires tidy { AreTidy known.now.rows }
-    requires few_documents { length (rows_of Doc known.now.rows) ≤ 65536 }
-    ensures names { IfOk result (λ job. AreNames known.now.rows job.names) }
-    ensures target { IfOk result (λ job. job.target ≡ setting Target 3 known.now.rows) }
-    ensures head { IfOk result (λ job. MakesHead known.now.rows job.head) }
-    ensures fit { IfOk result (λ job. IsFitHead job.head) }
-{
-    let target = target_of(alloc, known.rows())?;
-    let names = all_names(alloc, known.rows())?;
-    let head = build_head(alloc, known.rows())?;
-    Ok(JobText {
-        names,
-        target,
-        head,
     })
 }

@@ -42,18 +42,10 @@ pub struct Script<'t> {
     pub commands: Vec<Command>,
 }
 
-/// What a text to play declares: what the new master's cluster is made of, and what is played on it.
+/// What a script or a job declares: what the new master's cluster is made of, and what is played on it. A job
+/// has no commands.
 #[derive(Drop)]
 pub struct ScriptText<'t> {
     pub head: Head,
     pub script: Script<'t>,
-}
-
-/// What a text of a job declares: what its cluster is made of, the names of what its lines speak of, and how
-/// many replicas of a split copies are ordered for.
-#[derive(Drop)]
-pub struct JobText<'t> {
-    pub names: Names<'t>,
-    pub target: usize,
-    pub head: Head,
 }

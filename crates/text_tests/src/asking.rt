@@ -9,7 +9,7 @@ use wave_planner::NetworkKind;
 fn options_in(alloc: Global, words: &[&str]) -> Option<PlanOptions> {
     match ask(alloc, words) {
         Ok(Ask::Plan(options)) => Some(options),
-        Ok(Ask::Check | Ask::Play) | Err(_) => None,
+        Ok(Ask::Check | Ask::Play | Ask::Run) | Err(_) => None,
     }
 }
 
@@ -89,12 +89,13 @@ fn wrong_words_are_usage(rt: HostRuntime) {
 
 #[test]
 fn help_is_no_usage(rt: HostRuntime) {
-    let helps: [(&[&str], &str); 5] = [
+    let helps: [(&[&str], &str); 6] = [
         (&["mrjob", "--help"], "Statuses:"),
         (&["mrjob", "help", "check"], "Input:"),
         (&["mrjob", "plan", "--help"], "[default: racks]"),
         (&["mrjob", "help", "plan"], "price a 0"),
         (&["mrjob", "help", "play"], "word the d"),
+        (&["mrjob", "help", "run"], "word the d e"),
     ];
     for (words, part) in helps {
         shows(&rt, rt.alloc(), words, 0, part);

@@ -35,7 +35,12 @@ const JOB: &str =
 fn job_numbers(alloc: Global, text: &str) -> Option<(usize, usize, u32, usize)> {
     let job = read_job(alloc, text.as_bytes()).ok()?;
     let head = &job.head;
-    Some((job.target, head.parts, head.silence, head.tree.centres()))
+    Some((
+        job.script.target,
+        head.parts,
+        head.silence,
+        head.tree.centres(),
+    ))
 }
 
 #[test]
