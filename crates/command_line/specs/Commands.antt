@@ -12,7 +12,7 @@ use Rattle.clap.specs.Kinds.{IsAmong, Kinds}
 use Rattle.clap.specs.declared.error.kind.ErrorKind.{ErrorKind}
 use Rattle.clap.specs.declared.error.kind.ErrorKind.TheVariants.{InvalidValue}
 use Rattle.command_line.specs.declared.asked.Ask.{Ask}
-use Rattle.command_line.specs.declared.asked.Ask.TheVariants.{Check, Plan, Play}
+use Rattle.command_line.specs.declared.asked.Ask.TheVariants.{Check, Plan, Play, Run}
 use Rattle.command_line.specs.declared.asked.AskError.{AskError}
 use Rattle.command_line.specs.declared.asked.AskError.TheVariants.{Fault, Memory}
 use Rattle.flow_network.specs.declared.NetworkKind.{NetworkKind}
@@ -44,13 +44,18 @@ plan = with_rule (with_rule (new_app (codes "plan")) prices_flag) network
 abbrev pub play : App
 play = new_app (codes "play")
 
+abbrev pub run : App
+run = new_app (codes "run")
+
 -- the program before it has commands; one of them has to be named
 abbrev pub program : App
 program = on_top (λ s. record s { subcommand_required = true }) (new_app (codes "mrjob"))
 
 -- the program with its commands, as clap is told of it
 abbrev pub mrjob : App
-mrjob = with_subcommand (with_subcommand (with_subcommand program check.top) plan.top) play.top
+mrjob =
+    with_subcommand (with_subcommand (with_subcommand (with_subcommand program check.top) plan.top) play.top)
+    run.top
 
 -- the command that clap finds in the words
 abbrev pub command_in : List Text → Option Text
@@ -80,6 +85,7 @@ abbrev pub command_word : Ask → Text
 command_word Check = codes "check"
 command_word (Plan options) = codes "plan"
 command_word Play = codes "play"
+command_word Run = codes "run"
 
 -- the words have a fault of this kind: one that clap finds, or a network that is none
 abbrev pub HasFault : List Text → ErrorKind → Type 0

@@ -9,6 +9,8 @@ pub enum Ask {
     Plan(PlanOptions),
     /// Play a script of a job.
     Play,
+    /// Run a job on threads.
+    Run,
 }
 
 /// How a plan is to be made and what is written of it.

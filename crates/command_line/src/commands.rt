@@ -1,28 +1,31 @@
 ghost use Rattle.std.specs.Prelude.{◌≡◌, IfOk};
 ghost use Rattle.clap.specs.Words.{app_of};
-ghost use Rattle.command_line.specs.Commands.{check, mrjob, plan, play};
+ghost use Rattle.command_line.specs.Commands.{check, mrjob, plan, play, run};
 
 use clap::{Arg, ArgAction, Command};
 use std::alloc::{AllocError, Global};
 
 const ABOUT: &str = "\
-Plans the map starts of a MapReduce job at the least byte-distance, certifies plans by prices, and plays
-scripts of a job";
+Plans the map starts of a MapReduce job at the least byte-distance, certifies plans by prices, plays
+scripts of a job, and runs jobs on threads";
 
 const STATUSES: &str = "\
 Statuses:
-  0   certified, planned or played until every part is done, or help was asked for
-  1   refused by a condition, or stuck: a script ended before every part was done
+  0   certified, planned, every part of a script or a job is done, or help was asked for
+  1   refused by a condition, or stuck: a script or a job ended before every part was done
   2   the text has a fault
   3   no memory
   4   a read or a write failed
-  5   a wave of a script starts more splits than there are attempts left
+  5   a wave of a script starts more splits than there are attempts left, or a job has no place left
+      for an event, a sweep or an attempt
+  6   a job's history is not made of its threads' calls, or a thread could not be started
   64  the words of the command line are wrong
 
 Examples:
   mrjob plan --prices < job.txt
   mrjob check < plan.txt
-  mrjob play < script.txt";
+  mrjob play < script.txt
+  mrjob run < documents.txt";
 
 const CHECK_ABOUT: &str = "Certifies a plan by its prices, or says which condition fails";
 
@@ -101,6 +104,33 @@ It is answered by:
   word cat d
   word the d";
 
+const RUN_ABOUT: &str =
+    "Runs a job, each of its workers a thread, and writes the index of its documents";
+
+const RUN_TEXTS: &str = "\
+Input:   a job, as text on standard input: a cluster of at most 32 workers, and its documents
+Output:  the index of the documents, or the splits that are not done; or `line LINE: fault NUMBER`
+Status:  0 every part is done, 1 stuck, 2 fault, 5 history full, 6 torn or no thread; `mrjob --help`
+         has the others
+
+Example of an input:
+  job 1
+  rack r
+  worker a r 1
+  worker b r 1
+  split s 10 a
+  split t 20 b
+  doc d s The cat
+  doc e t A dog, the cat
+  end
+
+It is answered by:
+  index 4
+  word a e
+  word cat d e
+  word dog e
+  word the d e";
+
 fn check_command<'a>(alloc: Global) -> Command<'a>
     ensures { app_of result ≡ check }
 {
@@ -115,6 +145,14 @@ fn play_command<'a>(alloc: Global) -> Command<'a>
     Command::new(alloc, "play")
         .about(PLAY_ABOUT)
         .after_help(PLAY_TEXTS)
+}
+
+fn run_command<'a>(alloc: Global) -> Command<'a>
+    ensures { app_of result ≡ run }
+{
+    Command::new(alloc, "run")
+        .about(RUN_ABOUT)
+        .after_help(RUN_TEXTS)
 }
 
 /// The command that plans.
@@ -148,5 +186,6 @@ pub(crate) fn all_commands<'a>(alloc: Global) -> Result<Command<'a>, AllocError>
         .subcommand_required(true)
         .subcommand(check_command(alloc))?
         .subcommand(plan)?
-        .subcommand(play_command(alloc))
+        .subcommand(play_command(alloc))?
+        .subcommand(run_command(alloc))
 }

@@ -59,6 +59,7 @@ pub fn ask<'a>(alloc: Global, words: &'a [&'a str]) -> Result<Ask, AskError>
                     None => Err(unknown_network(alloc)),
                 },
                 "play" => Ok(Ask::Play),
+                "run" => Ok(Ask::Run),
                 _ => unreachable!(),
             }
         }

@@ -1,16 +1,21 @@
 -- The test whether two lists have the same texts.
-use Rattle.std.proofs.Common.{◌≡◌, Bool, true, false, ◌&&◌, List, get_or, refl, sym, ◌∙◌, arith}
+use Rattle.std.proofs.Common.{◌≡◌, ℕ, ◌<◌, Bool, true, false, ◌&&◌, List, length, get_or, refl, sym, ap, ◌∙◌}
+use Rattle.std.proofs.Common.{arith}
+use Rattle.std.specs.Arc.{arc_value}
+use Rattle.std.specs.declared.alloc.Global.{Global}
+use Rattle.std.specs.declared.sync.Arc.{Arc}
 use Rattle.std.proofs.lemmas.Bool.{false≢true}
 use Rattle.std.specs.Prelude.{◌↔◌, Contains, IsTrue}
 use Rattle.std.specs.Bool.{Decides}
 use Rattle.std.specs.List.{list_any}
 use Rattle.std.proofs.lemmas.List.Sums.{AllPass-from_list_all, list_all-from_AllPass}
 use Rattle.std.proofs.lemmas.List.Folds.{list_any-from_Any}
-use Rattle.std.proofs.lemmas.List.{get_or_default}
+use Rattle.std.proofs.lemmas.List.{get_or-map, get_or_default}
 use Rattle.std.proofs.lemmas.Map.Views.{Contains-from_any}
 use Rattle.std.proofs.lemmas.List.Elements.{All-contains}
 use Rattle.word_map.specs.Texts.{SplitDocuments, same_text}
 use Rattle.word_map.proofs.TextLemmas.{Decides-same_text}
+use Rattle.shuffle_reduce.specs.Gather.{values_of}
 use Rattle.shuffle_reduce.specs.Merged.{AreSameTexts, are_among, same_texts}
 
 -- each text of the one list stands in the other
@@ -67,3 +72,12 @@ mutual_else xs ys b refused first = (
   (λ accepted. absurd (false≢true (sym refused ∙ accepted))),
   (λ same. first.1 (λ text. (same text).0)),
 )
+
+-- lists of the same texts have the same text at each place
+pub same_at : (xs ys : List (Arc SplitDocuments Global)) (k : ℕ) (x y : Arc SplitDocuments Global) →
+    k < length xs → k < length ys → x ≡ get_or xs k x → y ≡ get_or ys k y → values_of xs ≡ values_of ys →
+    arc_value x ≡ arc_value y
+same_at xs ys k x y in_xs in_ys at_x at_y same =
+    ap arc_value at_x ∙ sym (get_or-map arc_value xs k x (arc_value x) in_xs)
+    ∙ ap (λ (l : List SplitDocuments). get_or l k (arc_value x)) same
+    ∙ get_or-map arc_value ys k y (arc_value x) in_ys ∙ sym (ap arc_value at_y)

@@ -6,9 +6,9 @@ ghost use Rattle.shuffle_reduce.specs.Gather.{values_of};
 use std::sync::Arc;
 use word_map::SplitText;
 
-// Whether the lists have the same texts at the same places.
-fn are_equal(texts: &[Arc<SplitText>], others: &[Arc<SplitText>]) -> bool
-    ensures { IsTrue result → values_of texts.now ≡ values_of others.now }
+/// Whether the lists have the same texts at the same places.
+pub fn are_equal_texts(texts: &[Arc<SplitText>], others: &[Arc<SplitText>]) -> bool
+    ensures { IsTrue result ↔ (values_of texts.now ≡ values_of others.now) }
 {
     if texts.len() != others.len() {
         return false;
@@ -57,5 +57,5 @@ fn are_mutual(texts: &[Arc<SplitText>], others: &[Arc<SplitText>]) -> bool
 pub(crate) fn are_same_texts(texts: &[Arc<SplitText>], others: &[Arc<SplitText>]) -> bool
     ensures { IsTrue result ↔ AreSameTexts (values_of texts.now) (values_of others.now) }
 {
-    are_equal(texts, others) || are_mutual(texts, others)
+    are_equal_texts(texts, others) || are_mutual(texts, others)
 }

@@ -13,6 +13,7 @@ mod gather;
 mod index;
 mod part;
 
+pub use covers::are_equal_texts;
 pub use index::{FinishError, Index, are_ready, finish};
 pub use part::{PartResult, are_of_part, merge};
 pub use word_map::Entry;

@@ -1,5 +1,6 @@
 -- The statuses with which the program exits, and its words on standard error.
-use Rattle.std.specs.Prelude.{ℕ, List, Option, Some, None, Ok, Err, codes}
+use Rattle.std.specs.Prelude.{ℕ, List, [], ◌++◌, Option, Some, None, Ok, Err, codes}
+use Rattle.std.specs.Fmt.{decimal}
 use Rattle.std.specs.declared.result.Result.{Result}
 use Rattle.clap.specs.Words.{kind_of}
 use Rattle.clap.specs.declared.error.kind.ErrorKind.{ErrorKind}
@@ -12,7 +13,9 @@ use Rattle.text_reading.specs.declared.tool_error.ToolError.TheVariants.{Write}
 use Rattle.tools.specs.declared.ending.CheckEnd.{CheckEnd}
 use Rattle.tools.specs.declared.ending.CheckEnd.TheVariants as check
 use Rattle.tools.specs.declared.ending.Ending.{Ending}
-use Rattle.tools.specs.declared.ending.Ending.TheVariants.{Failed, Misused, Refused, Stuck, Well}
+use Rattle.tools.specs.declared.ending.Ending.TheVariants.{Failed, GateLimit, Misused, NoThread, Refused}
+use Rattle.tools.specs.declared.ending.Ending.TheVariants.{Stuck, Torn, Well}
+use Rattle.tools.specs.declared.ending.Message.{Message}
 use Rattle.tools.specs.declared.ending.PlanEnd.{PlanEnd}
 
 abbrev pub ending_of_check : Result CheckEnd ToolError → Ending
@@ -43,13 +46,28 @@ status_of (Failed Memory) = 3
 status_of (Failed Read) = 4
 status_of (Failed Write) = 4
 status_of (Failed HistoryFull) = 5
+status_of (Torn place) = 6
+status_of NoThread = 6
+status_of GateLimit = 6
 status_of Misused = 64
+
+-- the digits of a number that follows
+abbrev pub digits_of : Option ℕ → List ℕ
+digits_of None = []
+digits_of (Some n) = decimal n
+
+-- a message in full
+abbrev pub told : Message → List ℕ
+told message = message.words.now ++ digits_of message.number
 
 abbrev pub message_of : Ending → Option (List ℕ)
 message_of (Failed Memory) = Some (codes "mrjob: no memory")
 message_of (Failed Read) = Some (codes "mrjob: read fault")
 message_of (Failed Write) = Some (codes "mrjob: write fault")
 message_of (Failed HistoryFull) = Some (codes "mrjob: history full")
+message_of (Torn place) = Some (codes "mrjob: torn at " ++ decimal place)
+message_of NoThread = Some (codes "mrjob: no thread")
+message_of GateLimit = Some (codes "mrjob: gate limit")
 message_of (Failed (Text fault)) = None
 message_of Well = None
 message_of Refused = None

@@ -1,7 +1,7 @@
-ghost use Rattle.std.specs.Prelude.{◌≡◌, ◌≢◌, ⊤, Err, IfOk, string_bytes};
+ghost use Rattle.std.specs.Prelude.{◌≡◌, ◌≢◌, ⊤, Err, IfOk, OnErr, string_bytes};
 ghost use Rattle.std.specs.Thread.{IsSync};
 ghost use Rattle.price_certificate.specs.Certificate.{HasOneSize, claim};
-ghost use Rattle.certificate_checker.specs.Verdict.{IsVerdict};
+ghost use Rattle.certificate_checker.specs.Verdict.{IsVerdict, MayComparePairs};
 ghost use Rattle.text_reading.specs.Running.{HasRun, NoText, WroteItsAnswer};
 ghost use Rattle.tools.specs.CheckAnswer.{CheckAnswer, Judges};
 ghost use Rattle.tools.specs.OneAnswer.{one_check_answer};
@@ -51,7 +51,7 @@ pub fn check_on<R: Read, W: Write>(
     run_command(&Checker(ManyThreads(rt)), alloc, reader, writer)
 }
 
-/// What says whether prices certify a plan, or finds no memory for it.
+/// What says whether prices certify a plan, or finds no memory to compare pairs, where all else holds.
 pub trait Certifier {
     ghost ready: { Self → Type 0 } = { λ _. ⊤ };
 
@@ -63,7 +63,10 @@ pub trait Certifier {
         requires ready { ready self.now }
         requires sized { HasOneSize (claim read.now.problem read.now.plan.starts read.now.prices)
             read.now.plan.workers }
-        ensures { IfOk result (IsVerdict (claim read.now.problem read.now.plan.starts read.now.prices)) };
+        ensures verdict { IfOk result
+            (IsVerdict (claim read.now.problem read.now.plan.starts read.now.prices)) }
+        ensures memory { OnErr result
+            (MayComparePairs (claim read.now.problem read.now.plan.starts read.now.prices)) };
 }
 
 /// A verdict that is found on this thread.

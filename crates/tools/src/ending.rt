@@ -1,3 +1,6 @@
+ghost use Rattle.std.specs.Prelude.{◌≡◌};
+ghost use Rattle.tools.specs.Ending.{told};
+
 use command_line::asked::AskError;
 use price_certificate::Condition;
 use text_reading::ToolError;
@@ -20,23 +23,36 @@ pub enum PlanEnd {
 /// How the program ends.
 #[derive(Clone, Copy, Debug, PartialEq, Eq)]
 pub enum Ending {
-    /// A plan was certified or made, a script's parts are all done, or help was given.
+    /// A plan was certified or made, the parts of a script or a job are all done, or help was given.
     Well,
     /// A condition refuses the plan.
     Refused,
-    /// A script ended with splits or parts that are not done.
+    /// A script or a job ended with splits or parts that are not done.
     Stuck,
     /// The words of the command line ask for nothing.
     Misused,
     /// The command has no answer of its own.
     Failed(ToolError),
+    /// The history of a job's threads is not made of their calls, from this place on.
+    Torn(u32),
+    /// A thread of a job could not be started.
+    NoThread,
+    /// What a job asks as it runs has ended it.
+    GateLimit,
+}
+
+/// What is told on standard error, without its line feed: words, and a number after them where there is one.
+#[derive(Clone, Copy, Debug, PartialEq, Eq)]
+pub struct Message {
+    pub words: &'static str,
+    pub number: Option<u32>,
 }
 
 impl Ending {
     ghost use Rattle.std.specs.Prelude.{◌≡◌};
     ghost use Rattle.std.specs.Option.{option_map};
     ghost use Rattle.tools.specs.Ending.{ending_of_asking, ending_of_check, ending_of_plan};
-    ghost use Rattle.tools.specs.Ending.{status_of, message_of};
+    ghost use Rattle.tools.specs.Ending.{message_of, status_of, told};
 
     /// The end of a program whose check ended so.
     pub fn of_check(end: Result<CheckEnd, ToolError>) -> Ending
@@ -81,21 +97,37 @@ impl Ending {
             Ending::Failed(ToolError::Memory) => 3,
             Ending::Failed(ToolError::Read | ToolError::Write) => 4,
             Ending::Failed(ToolError::HistoryFull) => 5,
+            Ending::Torn(_) | Ending::NoThread | Ending::GateLimit => 6,
             Ending::Misused => 64,
         }
     }
 
-    /// What is told on standard error, without its line feed; the text of wrong words is `clap`'s.
-    pub fn words(self) -> Option<&'static str>
-        ensures { option_map (λ words. words.now) result ≡ message_of self }
+    /// What is told on standard error; the text of wrong words is `clap`'s.
+    pub fn message(self) -> Option<Message>
+        ensures { option_map told result ≡ message_of self }
     {
         match self {
-            Ending::Failed(ToolError::Memory) => Some("mrjob: no memory"),
-            Ending::Failed(ToolError::Read) => Some("mrjob: read fault"),
-            Ending::Failed(ToolError::Write) => Some("mrjob: write fault"),
-            Ending::Failed(ToolError::HistoryFull) => Some("mrjob: history full"),
+            Ending::Failed(ToolError::Memory) => Some(plain("mrjob: no memory")),
+            Ending::Failed(ToolError::Read) => Some(plain("mrjob: read fault")),
+            Ending::Failed(ToolError::Write) => Some(plain("mrjob: write fault")),
+            Ending::Failed(ToolError::HistoryFull) => Some(plain("mrjob: history full")),
+            Ending::Torn(place) => Some(Message {
+                words: "mrjob: torn at ",
+                number: Some(place),
+            }),
+            Ending::NoThread => Some(plain("mrjob: no thread")),
+            Ending::GateLimit => Some(plain("mrjob: gate limit")),
             Ending::Failed(ToolError::Text(_)) => None,
             Ending::Well | Ending::Refused | Ending::Stuck | Ending::Misused => None,
         }
+    }
+}
+
+fn plain(words: &'static str) -> Message
+    ensures { told result ≡ words.now }
+{
+    Message {
+        words,
+        number: None,
     }
 }

@@ -11,5 +11,5 @@ pub mod ending;
 pub mod planning;
 
 pub use checking::{check, check_on};
-pub use ending::{CheckEnd, Ending, PlanEnd};
+pub use ending::{CheckEnd, Ending, Message, PlanEnd};
 pub use planning::plan;

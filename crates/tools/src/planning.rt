@@ -1,4 +1,7 @@
 ghost use Rattle.std.specs.Prelude.{◌≡◌, ◌≢◌, Err, IfOk, length, string_bytes};
+ghost use Rattle.wave_problem.specs.Assignment.{IsBest, pairs_of, total};
+ghost use Rattle.price_certificate.specs.Certificate.{Certifies, HasOneSize, claim};
+ghost use Rattle.wave_planner.specs.Planned.{IsMadeOver};
 ghost use Rattle.text_reading.specs.Running.{HasRun, NoText, AnyLines};
 ghost use Rattle.tools.specs.PlanAnswer.{PlanAnswer, PlansProblem};
 ghost use Rattle.tools.specs.OneAnswer.{one_plan_answer};
@@ -12,7 +15,8 @@ use std::alloc::{AllocError, Global};
 use std::io::{Read, Write};
 use text_lines::TextFault;
 use text_reading::{Command, NoAnswer, ToolError, run_command};
-use wave_planner::{PlanError, plan_with};
+use wave_planner::{NetworkKind, PlanError, Planned, plan_with};
+use wave_problem::Problem;
 
 /// Reads a problem, and writes a best plan of its map starts, with prices if the options ask for them,
 /// or the text's least fault. All lines are made before their first byte is written. The starts and
@@ -73,10 +77,7 @@ fn plan_lines(
 {
     // (what these readers promise: there are few workers, and no price is past what can be read back)
     let _limits = (read.problem.workers(), read.problem.reward());
-    let best = match plan_with(alloc, &read.problem, options.network) {
-        Ok(best) => best,
-        Err(PlanError::Memory) => return Err(AllocError),
-    };
+    let best = best_plan(alloc, &read.problem, options.network)?;
     let said = best.certified();
     let mut lines = planned(
         alloc,
@@ -90,4 +91,22 @@ fn plan_lines(
         add_prices(&mut lines, &read.splits, &read.workers, best.prices())?;
     }
     Ok(lines)
+}
+
+// A best plan of the problem, made over this network.
+fn best_plan(alloc: Global, problem: &Problem, network: NetworkKind) -> Result<Planned, AllocError>
+    ensures over { IfOk result (λ best.
+        IsMadeOver network problem.now best.plan.starts best.prices) }
+    ensures sizes { IfOk result (λ best.
+        HasOneSize (claim problem.now best.plan.starts best.prices) best.plan.workers) }
+    ensures certifies { IfOk result (λ best. Certifies (claim problem.now best.plan.starts best.prices)) }
+    ensures best { IfOk result (λ best. IsBest problem.now (pairs_of best.plan.starts)) }
+    ensures count { IfOk result (λ best. best.certified.count ≡ length (pairs_of best.plan.starts)) }
+    ensures cost { IfOk result (λ best.
+        best.certified.cost ≡ total problem.now (pairs_of best.plan.starts)) }
+{
+    match plan_with(alloc, problem, network) {
+        Ok(best) => Ok(best),
+        Err(PlanError::Memory) => Err(AllocError),
+    }
 }

@@ -50,7 +50,8 @@ unreachable-requires-in_default-name c =
       | inl check ↦ c.in_default-name.not-check (is _ check)
       | inr (inl plan) ↦ c.in_default-name.not-plan (is _ plan)
       | inr (inr (inl play)) ↦ c.in_default-name.not-play (is _ play)
-      | inr (inr (inr none)) ↦ none
+      | inr (inr (inr (inl run))) ↦ c.in_default-name.not-run (is _ run)
+      | inr (inr (inr (inr none))) ↦ none
     ]
 
 pub returns-in-play-clause-command : goal.returns-in-play-clause-command
@@ -61,6 +62,16 @@ returns-in-play-clause-command c =
 
 pub returns-in-play-clause-ok : goal.returns-in-play-clause-ok
 returns-in-play-clause-ok c ok =
+    unfaulted c.in-Ok.commands _ c.in-Ok.ensures c.in-Ok-try_get_matches_from.ensures.kinds
+
+pub returns-in-run-clause-command : goal.returns-in-run-clause-command
+returns-in-run-clause-command c =
+    named_in c.in-Ok.commands _ c.in-Ok.ensures
+    c.in-Ok-try_get_matches_from.matches c.in-Ok-try_get_matches_from.ensures.matches
+    _ (codes "run") c.in-Some.ensures.name (search rules)
+
+pub returns-in-run-clause-ok : goal.returns-in-run-clause-ok
+returns-in-run-clause-ok c ok =
     unfaulted c.in-Ok.commands _ c.in-Ok.ensures c.in-Ok-try_get_matches_from.ensures.kinds
 
 pub returns-in-Some-network_named-clause-command : goal.returns-in-Some-network_named-clause-command

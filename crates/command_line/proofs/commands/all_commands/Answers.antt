@@ -1,7 +1,7 @@
 use Rattle.std.proofs.Common.{rules, refl, ◌≡◌}
 use Rattle.std.proofs.lemmas.Result.{IfOk-weaker}
 use Rattle.clap.specs.Words.{app_of}
-use Rattle.command_line.specs.Commands.{check, plan, play, program}
+use Rattle.command_line.specs.Commands.{check, plan, play, program, run}
 use Rattle.command_line.proofs.Build.{added}
 use Rattle.command_line.proofs.commands.all_commands.Goals as goal
 
@@ -11,5 +11,6 @@ returns c =
     let with_check =
     added _ _ _ program check c.in_ok-subcommand.ensures is_program c.check_command.ensures refl in
     let with_plan = added _ _ _ _ plan c.in_ok-subcommand-2.ensures with_check c.in_ok-plan.ensures refl in
-    IfOk-weaker c.subcommand-3.result _ _
-    (λ commands adds. added _ _ _ _ play adds with_plan c.play_command.ensures refl) c.subcommand-3.ensures
+    let with_play = added _ _ _ _ play c.in_ok-subcommand-3.ensures with_plan c.play_command.ensures refl in
+    IfOk-weaker c.subcommand-4.result _ _
+    (λ commands adds. added _ _ _ _ run adds with_play c.run_command.ensures refl) c.subcommand-4.ensures
