@@ -17,7 +17,7 @@ use Rattle.std.proofs.lemmas.List.Sorted.{sum_by-IsPermutation}
 use Rattle.std.proofs.lemmas.Map.Keys.{IsDistinct-IsPermutation, IsDistinct-from_apart, apart_from_distinct}
 use Rattle.flow_network.specs.declared.arcs.FlowArc.{FlowArc}
 use Rattle.flow_network.specs.Flows.{arc_at, unit_at}
-use Rattle.augmenting_paths.specs.Shipping.{times_in, CanShip, HasShipped, AreMarked, OrderLaw}
+use Rattle.augmenting_paths.specs.Shipping.{times_in, CanShip, HasShipped, AreMarked}
 
 times_sum : (w : ℕ) (xs : List ℕ) → times_in w xs ≡ sum_by (λ s. unit_at s w) xs
 times_sum w [] = refl
@@ -101,7 +101,13 @@ order_shipped arcs xs ys sink flows h p t =
           omega arith);
     }
 
-pub order_law : OrderLaw
+-- the order in which units are shipped may be any
+pub order_law : (nodes : ℕ) (arcs : List FlowArc) (sources order : List ℕ) (sink : ℕ) (flows : List ℕ)
+    (h : ℕ → ℕ)
+    → IsPermutation sources order → CanShip nodes arcs sources sink
+    → CanShip nodes arcs order sink
+    × (HasShipped arcs order sink (length order) flows h
+    → HasShipped arcs sources sink (length sources) flows h)
 order_law nodes arcs sources order sink flows h p can =
     (order_can nodes arcs sources order sink p can, order_shipped arcs sources order sink flows h p)
 

@@ -23,7 +23,7 @@ use Rattle.guest_lists.specs.Standing.{GoesOnce}
 use Rattle.guest_search.specs.ToSink.{far, IsSearched, IsTrace}
 use Rattle.guest_search.proofs.Lowering.{lift_law}
 use Rattle.guest_search.proofs.ToSink.{searched_is_least, unit_over_trace}
-use Rattle.augmenting_paths.specs.Shipping.{times_in, CanShip, HasShipped, ShippingLaw, IsLifted, AreMembers}
+use Rattle.augmenting_paths.specs.Shipping.{times_in, CanShip, HasShipped, IsLifted, AreMembers}
 use Rattle.augmenting_paths.specs.Shipping.{IsShipment, IsCheapest}
 
 -- a unit over an arc raises no other flow, and its own by at most one
@@ -322,7 +322,16 @@ module _ (nodes : ℕ) (arcs : List FlowArc) (sources : List ℕ) (sink count : 
           (λ v. same v ∙ ap (λ n. lowered h' (distance_at f.distances) n v) total_told)
           (shipped (distance_at f.distances) found f.path trace)
 
-pub shipping_law : ShippingLaw
+-- A search from the next source, whose depth was lifted, finds the sink near enough, and the unit that goes
+-- over its path, with the depths lowered by the distances, keeps the state.
+pub shipping_law : (nodes : ℕ) (arcs : List FlowArc) (sources : List ℕ) (sink count : ℕ) (flows : List ℕ)
+    (h h' d : ℕ → ℕ)
+    → CanShip nodes arcs sources sink → count < length sources → HasShipped arcs sources sink count flows h
+    → IsLifted arcs h h' (get_or sources count 0)
+    → IsSearched arcs flows h' (get_or sources count 0) sink d
+    → (d sink ≤ 2 ^ 40) × ((v : ℕ) → h' v + d sink ≤ (count + 1) * 2 ^ 40)
+    × ((path : List ArcNo) → IsTrace arcs flows h' (get_or sources count 0) sink d path
+    → HasShipped arcs sources sink (count + 1) (pushed path flows) (lowered h' d (d sink)))
 shipping_law nodes arcs sources sink count flows h h' d can left state up found = (
   (let low = near nodes arcs sources sink count flows h can left state h' up d found in omega arith),
   depth_low nodes arcs sources sink count flows h can left state h' up d found,
@@ -334,14 +343,14 @@ none_more : (b : Bool) (f x : ℕ) → f ≡ 0 → x ≡ 0 → cond b f 0 + x �
 none_more true f x e z = omega arith
 none_more false f x e z = omega arith
 
-inflow_zero : (arcs : List FlowArc) (flows : List ℕ) (w : ℕ) → ((k : ℕ) → get_or flows k 0 ≡ 0) →
+pub inflow_zero : (arcs : List FlowArc) (flows : List ℕ) (w : ℕ) → ((k : ℕ) → get_or flows k 0 ≡ 0) →
     inflow arcs flows w ≡ 0
 inflow_zero [] flows w z = refl
 inflow_zero (a ∷ arcs) [] w z = refl
 inflow_zero (a ∷ arcs) (f ∷ flows) w z = let rest = inflow_zero arcs flows w (λ k. z (suc k)) in
     let first : f ≡ 0 = z 0 in none_more (eqb a.to w) f _ first rest
 
-outflow_zero : (arcs : List FlowArc) (flows : List ℕ) (w : ℕ) → ((k : ℕ) → get_or flows k 0 ≡ 0) →
+pub outflow_zero : (arcs : List FlowArc) (flows : List ℕ) (w : ℕ) → ((k : ℕ) → get_or flows k 0 ≡ 0) →
     outflow arcs flows w ≡ 0
 outflow_zero [] flows w z = refl
 outflow_zero (a ∷ arcs) [] w z = refl

@@ -1,16 +1,13 @@
 -- One unit after the other is shipped from its source to the sink.
 use Rattle.std.specs.Prelude.{◌≡◌, ℕ, ◌+◌, ◌*◌, ◌^◌, ◌<◌, ◌≤◌, Bool, true, false, List, [], ◌∷◌, length, map}
-use Rattle.std.specs.Prelude.{slice_index, slice_index_or, take, Contains, IsPermutation, ◌↔◌}
+use Rattle.std.specs.Prelude.{slice_index, slice_index_or, take, Contains, ◌↔◌}
 use Rattle.flow_network.specs.declared.arcs.FlowArc.{FlowArc}
-use Rattle.flow_network.specs.declared.arcs.ArcNo.{ArcNo}
-use Rattle.flow_network.specs.Flows.{arc_at, AreArcs, WithinCapacities, NoNegative, pushed, inflow, outflow}
+use Rattle.flow_network.specs.Flows.{arc_at, AreArcs, WithinCapacities, NoNegative, inflow, outflow}
 use Rattle.flow_network.specs.Flows.{unit_at}
 use Rattle.flow_network.specs.Laws.{flow_cost}
 use Rattle.guest_lists.specs.Guests.{GuestLists, source_at}
 use Rattle.guest_lists.specs.Standing.{AreStanding}
 use Rattle.guest_lists.specs.Ways.{AreSorted}
-use Rattle.guest_search.specs.Lowering.{lowered}
-use Rattle.guest_search.specs.ToSink.{IsSearched, IsTrace}
 
 -- how often a node stands in a list
 abbrev pub times_in : ℕ → List ℕ → ℕ
@@ -78,27 +75,6 @@ pub record HasLiftedNext (arcs : List FlowArc) (sources : List ℕ) (sink count 
   pub h : ℕ → ℕ
   pub state : HasShipped arcs sources sink count flows h
   pub up : IsLifted arcs h h' (slice_index sources count)
-
--- A search from the next source, whose depth was lifted, finds the sink near enough, and the unit that goes
--- over its path, with the depths lowered by the distances, keeps the state.
-abbrev pub ShippingLaw : Type 0
-ShippingLaw =
-    (nodes : ℕ) (arcs : List FlowArc) (sources : List ℕ) (sink count : ℕ) (flows : List ℕ) (h h' d : ℕ → ℕ)
-    → CanShip nodes arcs sources sink → count < length sources → HasShipped arcs sources sink count flows h
-    → IsLifted arcs h h' (slice_index sources count)
-    → IsSearched arcs flows h' (slice_index sources count) sink d
-    → (d sink ≤ 2 ^ 40) × ((v : ℕ) → h' v + d sink ≤ (count + 1) * 2 ^ 40)
-    × ((path : List ArcNo) → IsTrace arcs flows h' (slice_index sources count) sink d path
-    → HasShipped arcs sources sink (count + 1) (pushed path flows) (lowered h' d (d sink)))
-
--- the order in which units are shipped may be any
-abbrev pub OrderLaw : Type 0
-OrderLaw =
-    (nodes : ℕ) (arcs : List FlowArc) (sources order : List ℕ) (sink : ℕ) (flows : List ℕ) (h : ℕ → ℕ)
-    → IsPermutation sources order → CanShip nodes arcs sources sink
-    → CanShip nodes arcs order sink
-    × (HasShipped arcs order sink (length order) flows h
-    → HasShipped arcs sources sink (length sources) flows h)
 
 -- the lists of arcs and the guests of a flow, over a network to whose sink units are shipped
 pub record KeepsGuests (nodes : ℕ) (arcs : List FlowArc) (flows : List ℕ) (sink : ℕ)

@@ -19,18 +19,21 @@ use node_ids::Layout;
 use shortest_paths::{Potentials, leaving};
 use std::alloc::{AllocError, Global};
 
-// What is kept from unit to unit.
+// What is kept from unit to unit, and how many looks at arcs the searches took.
 #[derive(Drop)]
 struct Shipping {
     potentials: Potentials,
     guests: Guests,
     buffers: Buffers,
+    looks: u64,
 }
 
 /// Ships one unit from each source to the sink, at the least total cost, by successive shortest paths
 /// (Ahuja, Magnanti and Orlin, Network Flows, section 9.7), one augmentation a source. It answers the
-/// potentials that show it: the sink's is 0, and no residual arc has a negative reduced cost. Only memory
-/// can fail, and then the network may hold part of the flow.
+/// potentials that show it: the sink's is 0, and no residual arc has a negative reduced cost. Its searches
+/// are counted (`ship`): together they look at each arc at most twice for each source. Beside them it goes
+/// over a source's own arcs twice, the second time with one look more for each. Only memory can fail, and
+/// then the network may hold part of the flow.
 pub fn saturate<L: Layout>(
     alloc: Global,
     network: &mut Network<L>,
@@ -63,6 +66,7 @@ pub fn saturate<L: Layout>(
         potentials: Potentials::new(alloc, nodes)?,
         guests: Guests::new(alloc, network, marks, end)?,
         buffers: Buffers::new(alloc, nodes)?,
+        looks: 0,
     };
     for count in 0..order.len() {
         shipping = ship(alloc, network, shipping, &order, end, count)?;
@@ -85,6 +89,7 @@ fn ship<L: Layout>(
 ) -> Result<Shipping, AllocError>
     requires limit { length order.now ≤ 4096 }
     requires count { count < length order.now }
+    requires looks { shipping.looks ≤ count * (2 * length network.old.arcs) }
     requires size { length shipping.potentials ≡ L.node_count network.old.layout }
     requires buffers { shipping.buffers ≡ L.node_count network.old.layout }
     requires can { CanShip (L.node_count network.old.layout) network.old.arcs order.now sink }
@@ -92,6 +97,7 @@ fn ship<L: Layout>(
         (slice_index shipping.potentials) }
     requires guests { KeepsGuests (L.node_count network.old.layout) network.old.arcs network.old.flows sink
         shipping.guests }
+    ensures looks { IfOk result (λ s. s.looks ≤ (count + 1) * (2 * length network.old.arcs)) }
     ensures size { IfOk result (λ s. length s.potentials ≡ L.node_count network.old.layout) }
     ensures buffers { IfOk result (λ s. s.buffers ≡ L.node_count network.old.layout) }
     ensures state { IfOk result (λ s. HasShipped network.old.arcs order.now sink (count + 1) network.new.flows
@@ -105,6 +111,7 @@ fn ship<L: Layout>(
         mut potentials,
         guests,
         buffers,
+        looks,
     } = shipping;
     network.limits();
     let start = order[count];
@@ -114,6 +121,7 @@ fn ship<L: Layout>(
         potentials,
         guests,
         buffers,
+        looks,
     };
     match straight {
         Some((out, on)) => ship_straight(network, lifted, order, sink, count, out, on),
@@ -133,6 +141,7 @@ fn ship_straight<L: Layout>(
 ) -> Result<Shipping, AllocError>
     requires limit { length order.now ≤ 4096 }
     requires count { count < length order.now }
+    requires looks { shipping.looks ≤ count * (2 * length network.old.arcs) }
     requires size { length shipping.potentials ≡ L.node_count network.old.layout }
     requires buffers { shipping.buffers ≡ L.node_count network.old.layout }
     requires can { CanShip (L.node_count network.old.layout) network.old.arcs order.now sink }
@@ -142,6 +151,7 @@ fn ship_straight<L: Layout>(
         (slice_index order.now count) sink out on }
     requires guests { KeepsGuests (L.node_count network.old.layout) network.old.arcs network.old.flows sink
         shipping.guests }
+    ensures looks { IfOk result (λ s. s.looks ≤ (count + 1) * (2 * length network.old.arcs)) }
     ensures size { IfOk result (λ s. length s.potentials ≡ L.node_count network.old.layout) }
     ensures buffers { IfOk result (λ s. s.buffers ≡ L.node_count network.old.layout) }
     ensures state { IfOk result (λ s. HasShipped network.old.arcs order.now sink (count + 1) network.new.flows
@@ -155,6 +165,7 @@ fn ship_straight<L: Layout>(
         potentials,
         mut guests,
         buffers,
+        looks,
     } = shipping;
     network.limits();
     let path = [ArcNo::Forward(out), ArcNo::Forward(on)];
@@ -164,6 +175,7 @@ fn ship_straight<L: Layout>(
         potentials,
         guests,
         buffers,
+        looks,
     })
 }
 
@@ -178,6 +190,7 @@ fn ship_found<L: Layout>(
 ) -> Result<Shipping, AllocError>
     requires limit { length order.now ≤ 4096 }
     requires count { count < length order.now }
+    requires looks { shipping.looks ≤ count * (2 * length network.old.arcs) }
     requires size { length shipping.potentials ≡ L.node_count network.old.layout }
     requires buffers { shipping.buffers ≡ L.node_count network.old.layout }
     requires can { CanShip (L.node_count network.old.layout) network.old.arcs order.now sink }
@@ -185,6 +198,7 @@ fn ship_found<L: Layout>(
         (slice_index shipping.potentials) }
     requires guests { KeepsGuests (L.node_count network.old.layout) network.old.arcs network.old.flows sink
         shipping.guests }
+    ensures looks { IfOk result (λ s. s.looks ≤ (count + 1) * (2 * length network.old.arcs)) }
     ensures size { IfOk result (λ s. length s.potentials ≡ L.node_count network.old.layout) }
     ensures buffers { IfOk result (λ s. s.buffers ≡ L.node_count network.old.layout) }
     ensures state { IfOk result (λ s. HasShipped network.old.arcs order.now sink (count + 1) network.new.flows
@@ -198,10 +212,19 @@ fn ship_found<L: Layout>(
         mut potentials,
         mut guests,
         buffers,
+        mut looks,
     } = shipping;
     network.limits();
     let start = order[count];
-    let found = find(buffers, network, &potentials, &guests, start, sink)?;
+    let found = find(
+        buffers,
+        network,
+        &potentials,
+        &guests,
+        start,
+        sink,
+        &mut looks,
+    )?;
     let path = match found.path(alloc)? {
         Some(path) => path,
         None => unreachable!(),
@@ -213,6 +236,7 @@ fn ship_found<L: Layout>(
         potentials,
         guests,
         buffers,
+        looks,
     })
 }
 
@@ -337,7 +361,7 @@ fn lesser_way(arcs: &[FlowArc], depths: &[u64], arc: ArcNo, least: u64) -> u64
     }
 }
 
-// Searches for the sink. The search is lent a meter, under which it looks at most twice at each arc.
+// Searches for the sink, and adds its looks at arcs to those before: at most two for each arc.
 fn find<L: Layout>(
     buffers: Buffers,
     network: &Network<L>,
@@ -345,7 +369,9 @@ fn find<L: Layout>(
     guests: &Guests,
     start: usize,
     sink: usize,
+    looks: &mut u64,
 ) -> Result<Found, AllocError>
+    requires looks { looks.old + 2 * length network.now.arcs < 2 ^ 64 }
     requires may { MaySearch (L.node_count network.now.layout) network.now.arcs network.now.flows
         potentials.now guests.now sink }
     requires nodes { buffers ≡ length potentials.now }
@@ -358,10 +384,12 @@ fn find<L: Layout>(
     ensures path { IfOk result (λ f. IsSome f.total
         → IsTrace network.now.arcs network.now.flows
         (slice_index potentials.now) start sink (distance_at f.distances) f.path) }
+    ensures looks { looks.new ≤ looks.old + 2 * length network.now.arcs }
 {
     let mut meter = Meter::new(network);
-    let found = buffers.search(&mut meter, potentials, guests, start, sink)?;
-    Ok(found)
+    let found = buffers.search(&mut meter, potentials, guests, start, sink);
+    *looks += meter.count();
+    found
 }
 
 // Which of so many nodes are sources.

@@ -9,7 +9,6 @@
 
 mod augment;
 mod order;
-mod shipping;
 mod ways;
 
 pub use augment::saturate;

@@ -9,10 +9,9 @@ use Rattle.wave_problem.proofs.Bound.{live_known, pending_known}
 use Rattle.network_prices.specs.Ways.{IsAmong}
 use Rattle.network_prices.specs.Networks.{way_of, IsArcFrom, IsOffer, IsWaveNetwork}
 use Rattle.network_prices.proofs.Arcs.{arc_standing}
-use Rattle.network_prices.proofs.Certified.{flow_costs_as_plan, prices_certify}
 use Rattle.direct_network.specs.declared.arcs.DirectArc.{DirectArc}
 use Rattle.direct_network.specs.declared.arcs.DirectArc.TheVariants.{Pair, Wait, Slot, Rest}
-use Rattle.direct_network.specs.Direct.{DirectFlowCostsAsPlan, DirectPricesCertify, IsDirect, IsWanted}
+use Rattle.direct_network.specs.Direct.{IsDirect, IsWanted}
 use Rattle.direct_network.specs.Direct.{arc_of, direct_nodes, worker_node, unstarted_node, sink_node}
 use Rattle.network_prices.specs.Layers.{HandsOn, IsWorkerNode, IsLayered}
 use Rattle.network_prices.proofs.Tables.{rising_ends, outroom-rows}
@@ -125,6 +124,7 @@ module _ (wave : Wave) (arcs : List FlowArc) (direct : IsDirect wave arcs) where
     ));
     closed = λ w k known n l to. (let pair = pair_at k w l known to in n (pair.1.live, pair.1.has_slot));
     known = λ w. omega arith;
+    own = λ v w e. omega arith;
     sound = λ s w k known u l from among. is_sound s w k u l from among;
     complete = is_complete;
     wait = λ s p. the_arc (Wait s) p;
@@ -187,12 +187,3 @@ module _ (wave : Wave) (arcs : List FlowArc) (direct : IsDirect wave arcs) where
     leaves = λ k l. (let d = direct.sound k l in leaving d.0 d.1 (arc_at arcs k) d.2);
     enters = λ k l. (let d = direct.sound k l in entering d.0 d.1 (arc_at arcs k) d.2);
   }
-
-pub direct_prices : DirectPricesCertify
-direct_prices wave arcs flows h starts prices direct =
-    prices_certify wave (direct_nodes wave) arcs flows h starts prices (wave_network wave arcs direct)
-
--- and the flow costs what the plan does
-pub direct_costs : DirectFlowCostsAsPlan
-direct_costs wave arcs flows h starts prices direct =
-    flow_costs_as_plan wave (direct_nodes wave) arcs flows h starts prices (wave_network wave arcs direct)

@@ -3,4 +3,3 @@ pub mod Ends
 pub mod Rows
 -- it is a network of its wave
 pub mod DirectWays
-pub mod Shipping

@@ -1,14 +1,10 @@
 -- The direct network of a wave: its nodes by their places, and its arcs.
-use Rattle.std.specs.Prelude.{ℕ, ◌≡◌, ◌+◌, ◌<◌, true, List, [], length, unwrap_or, Option}
+use Rattle.std.specs.Prelude.{ℕ, ◌≡◌, ◌+◌, ◌<◌, true, List, [], length, unwrap_or}
 use Rattle.wave_problem.specs.Wave.{Wave, IsAdmissible, split_at, worker_at, cost, reward}
 use Rattle.flow_network.specs.declared.arcs.FlowArc.{FlowArc}
-use Rattle.flow_network.specs.Flows.{NoNegative}
 use Rattle.network_prices.specs.Pending.{pending_splits}
-use Rattle.network_prices.specs.Networks.{WaveNodes}
+use Rattle.network_prices.specs.Networks.{WaveNodes, IsWaveNetwork}
 use Rattle.network_prices.specs.Tables.{AreRows}
-use Rattle.network_prices.specs.Prices.{IsShipped, IsPlanOf, ArePricesOf, CostsAsMuch}
-use Rattle.price_certificate.specs.PriceList.{PriceList}
-use Rattle.price_certificate.specs.Certificate.{claim, Certifies}
 use Rattle.direct_network.specs.declared.layout.DirectLayout.{DirectLayout}
 use Rattle.direct_network.specs.declared.arcs.DirectArc.{DirectArc}
 use Rattle.direct_network.specs.declared.arcs.DirectArc.TheVariants.{Pair, Wait, Slot, Rest}
@@ -66,25 +62,7 @@ IsWanted wave Rest = Unit {0}
 abbrev pub IsDirect : Wave → List FlowArc → Type 0
 IsDirect wave arcs = AreRows (IsWanted wave) (arc_of wave) arcs
 
--- read off a flow and potentials under which no residual arc has a negative reduced cost, the prices certify
--- the plan
-abbrev pub DirectPricesCertify : Type 0
-DirectPricesCertify =
-    (wave : Wave) (arcs : List FlowArc) (flows : List ℕ) (h : ℕ → ℕ) (starts : List (Option ℕ))
-    (prices : PriceList)
-    → IsDirect wave arcs → IsShipped wave (direct_nodes wave) arcs flows
-    → NoNegative arcs flows h → h (sink_node wave) ≡ 0
-    → IsPlanOf wave (direct_nodes wave) arcs flows starts →
-    ArePricesOf wave (direct_nodes wave) h starts prices
-    → Certifies (claim wave starts prices)
-
--- and the flow costs what the plan does
-abbrev pub DirectFlowCostsAsPlan : Type 0
-DirectFlowCostsAsPlan =
-    (wave : Wave) (arcs : List FlowArc) (flows : List ℕ) (h : ℕ → ℕ) (starts : List (Option ℕ))
-    (prices : PriceList)
-    → IsDirect wave arcs → IsShipped wave (direct_nodes wave) arcs flows
-    → NoNegative arcs flows h → h (sink_node wave) ≡ 0
-    → IsPlanOf wave (direct_nodes wave) arcs flows starts →
-    ArePricesOf wave (direct_nodes wave) h starts prices
-    → CostsAsMuch wave arcs flows starts
+-- it is a network of its wave, so that the laws of these hold of it
+abbrev pub DirectIsWaveNetwork : Type 0
+DirectIsWaveNetwork = (wave : Wave) (arcs : List FlowArc) → IsDirect wave arcs
+    → IsWaveNetwork wave (direct_nodes wave) arcs

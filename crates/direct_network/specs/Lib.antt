@@ -3,5 +3,3 @@ pub mod Layout
 pub mod Places
 pub mod Direct
 pub mod Build
--- what is read off its flow
-pub mod Pricing

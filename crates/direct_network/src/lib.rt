@@ -1,24 +1,18 @@
 //! The network of a wave with an arc from each pending split to each worker on which it may start.
 //!
-//! `build` makes the network, `plan_of` and `prices_of` read a plan and its prices off a least-cost flow,
-//! and `priced_plan` is the three with the flow between. Upward the layer promises a plan with prices that
-//! certify it. Stands on `augmenting_paths` and on `network_prices`, beside `rack_network`.
+//! `build` makes the network. Upward the layer promises that it is a `WaveNetwork`: `plan_of` and
+//! `prices_of` read a plan and its prices off a least-cost flow, and `priced_plan` is the three with the flow
+//! between. Stands on `network_prices`, beside `rack_network`.
 #![tactic(auto)]
 
 mod arcs;
 mod laws;
 mod layout;
 mod network;
-mod planning;
-mod pricing;
-mod reading;
-mod sources;
+mod wave_network;
 
 pub use arcs::{DirectArc, MAX_ARCS};
-pub use laws::direct_prices_certify;
+pub use laws::direct_is_wave_network;
 pub use layout::{DirectLayout, DirectNode};
 pub use network::build;
-pub use planning::priced_plan;
-pub use pricing::prices_of;
-pub use reading::plan_of;
-pub use sources::pending_nodes;
+pub use network_prices::{plan_of, priced_plan, prices_of};

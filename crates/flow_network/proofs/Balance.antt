@@ -1,14 +1,15 @@
 -- What one unit over a path changes: rooms, lengths, balance.
-use Rattle.std.proofs.Common.{◌≡◌, ℕ, zero, suc, ◌+◌, ◌-◌, ◌<◌, Bool, true, false, cond, eqb, List, [], ◌∷◌}
+use Rattle.std.proofs.Common.{◌≡◌, ℕ, zero, suc, ◌+◌, ◌-◌, ◌*◌, ◌<◌, Bool, true, false, cond, eqb, List, [], ◌∷◌}
 use Rattle.std.proofs.Common.{length, get_or, set, refl, sym, ap, ◌∙◌, inl, inr, arith, get_or-set_same}
 use Rattle.std.proofs.Common.{get_or-set_other, length-set}
+use Rattle.std.proofs.Math.Nat.{add-mul}
 use Rattle.std.proofs.lemmas.Bool.{cases_eq}
 use Rattle.flow_network.specs.declared.arcs.FlowArc.{FlowArc}
 use Rattle.flow_network.specs.declared.arcs.ArcNo.{ArcNo}
 use Rattle.flow_network.specs.declared.arcs.ArcNo.TheVariants.{Forward, Reverse}
-use Rattle.flow_network.specs.Flows.{arc_at, tail_of, head_of, residual_of, IsResidual, IsPath, shifted}
+use Rattle.flow_network.specs.Flows.{arc_at, arc_index, tail_of, head_of, residual_of, IsResidual, IsPath, shifted}
 use Rattle.flow_network.specs.Flows.{inflow, outflow, unit_at, Lacks}
-use Rattle.flow_network.specs.Laws.{PushKeepsConservation}
+use Rattle.flow_network.specs.Laws.{PushKeepsConservation, flow_cost}
 
 pub length-shifted : (flows : List ℕ) (a : ArcNo) → length (shifted flows a) ≡ length flows
 length-shifted flows (Forward k) = length-set flows k _
@@ -36,7 +37,7 @@ inflow-set (a ∷ arcs) (f ∷ flows) (suc k) g w e l =
     over_test (eqb (arc_at arcs k).to w) (get_or flows k 0) g _ _ (inflow-set arcs flows k g w e' l')
     (cond (eqb a.to w) f 0)
 
-outflow-set : (arcs : List FlowArc) (flows : List ℕ) (k g w : ℕ) → length flows ≡ length arcs →
+pub outflow-set : (arcs : List FlowArc) (flows : List ℕ) (k g w : ℕ) → length flows ≡ length arcs →
     k < length arcs
     → outflow arcs (set flows k g) w + cond (eqb (arc_at arcs k).from w) (get_or flows k 0) 0
     ≡ outflow arcs flows w + cond (eqb (arc_at arcs k).from w) g 0
@@ -124,3 +125,56 @@ push_balance arcs flows (a ∷ path) u v w e d p =
     let rest = push_balance arcs (shifted flows a) path (head_of arcs a) v w e' d.1
     (IsPath-shifted arcs flows a path _ v e p.0 d.0 p.2) in
     step_balance _ _ _ _ _ _ _ _ _ (rw p.1 at first) rest
+
+-- what leaves a node, after one unit more or less of an arc
+one_out : (b : Bool) (f o o' : ℕ) → o' + cond b f 0 ≡ o + cond b (f + 1) 0 → o' ≡ o + cond b 1 0
+one_out true f o o' p = omega arith
+one_out false f o o' p = omega arith
+
+one_in : (b : Bool) (f o o' : ℕ) → 0 < f → o' + cond b f 0 ≡ o + cond b (f - 1) 0 → o' + cond b 1 0 ≡ o
+one_in true f o o' l p = omega arith
+one_in false f o o' l p = omega arith
+
+pub outflow_forward : (arcs : List FlowArc) (flows : List ℕ) (k v : ℕ) → length flows ≡ length arcs →
+    k < length arcs
+    → outflow arcs (shifted flows (Forward k)) v ≡ outflow arcs flows v + unit_at (arc_at arcs k).from v
+outflow_forward arcs flows k v e l =
+    one_out (eqb (arc_at arcs k).from v) (get_or flows k 0) _ _ (outflow-set arcs flows k _ v e l)
+
+pub outflow_back : (arcs : List FlowArc) (flows : List ℕ) (k v : ℕ) → length flows ≡ length arcs →
+    k < length arcs → 0 < get_or flows k 0
+    → outflow arcs (shifted flows (Reverse k)) v + unit_at (arc_at arcs k).from v ≡ outflow arcs flows v
+outflow_back arcs flows k v e l unit =
+    one_in (eqb (arc_at arcs k).from v) (get_or flows k 0) _ _ unit (outflow-set arcs flows k _ v e l)
+
+-- the other arcs carry what they did
+pub kept_shift : (flows : List ℕ) (a : ArcNo) (k : ℕ) → (arc_index a ≡ k → ⊥) →
+    get_or (shifted flows a) k 0 ≡ get_or flows k 0
+kept_shift flows (Forward i) k n = get_or-set_other flows i k _ 0 (λ e. n (sym e))
+kept_shift flows (Reverse i) k n = get_or-set_other flows i k _ 0 (λ e. n (sym e))
+
+-- what a flow costs
+flow_cost-set : (arcs : List FlowArc) (flows : List ℕ) (k g : ℕ) → length flows ≡ length arcs →
+    k < length arcs
+    → flow_cost arcs (set flows k g) + get_or flows k 0 * (arc_at arcs k).cost
+    ≡ flow_cost arcs flows + g * (arc_at arcs k).cost
+flow_cost-set [] flows k g e l = absurd (omega arith)
+flow_cost-set (a ∷ arcs) [] k g e l = absurd (omega arith)
+flow_cost-set (a ∷ arcs) (f ∷ flows) zero g e l = omega arith
+flow_cost-set (a ∷ arcs) (f ∷ flows) (suc k) g e l =
+    let rest = flow_cost-set arcs flows k g (omega arith) (omega arith) in omega arith
+
+pub flow_cost_forward : (arcs : List FlowArc) (flows : List ℕ) (k : ℕ) → length flows ≡ length arcs →
+    k < length arcs → flow_cost arcs (shifted flows (Forward k)) ≡ flow_cost arcs flows + (arc_at arcs k).cost
+flow_cost_forward arcs flows k e l =
+    let step = flow_cost-set arcs flows k (get_or flows k 0 + 1) e l in
+    let more = add-mul (get_or flows k 0) 1 (arc_at arcs k).cost in omega arith
+
+pub flow_cost_back : (arcs : List FlowArc) (flows : List ℕ) (k : ℕ) → length flows ≡ length arcs →
+    k < length arcs → 0 < get_or flows k 0
+    → flow_cost arcs (shifted flows (Reverse k)) + (arc_at arcs k).cost ≡ flow_cost arcs flows
+flow_cost_back arcs flows k e l unit =
+    let step = flow_cost-set arcs flows k (get_or flows k 0 - 1) e l in
+    let one : get_or flows k 0 ≡ get_or flows k 0 - 1 + 1 = omega arith in
+    let more = ap (λ (z : ℕ). z * (arc_at arcs k).cost) one
+    ∙ add-mul (get_or flows k 0 - 1) 1 (arc_at arcs k).cost in omega arith

@@ -1,6 +1,6 @@
 -- what a push does: balances, potentials, the loop over a path
 pub mod Balance
-pub mod Least
+pub mod Paths
 pub mod Cheapest
 pub mod Pushing
 -- capacities: room above a node, units handed on

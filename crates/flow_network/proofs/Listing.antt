@@ -55,23 +55,15 @@ pub length-with_arc : (leaving : List (List ArcNo)) (from to k : ℕ) → length
 length-with_arc leaving from to k = length-set (listed_at leaving from (Forward k)) to _
     ∙ length-set leaving from _
 
--- an arc that could not be listed twice is taken out again
-pub undone : (leaving : List (List ArcNo)) (f t : ℕ) (x y z : List ArcNo) → y ≡ get_or (set leaving f x) t []
-    → z ≡ get_or leaving f []
-    → set (set (set leaving f x) t y) f z ≡ leaving
-undone leaving f t x y z e g =
-    rw (e, g, set-get_or (set leaving f x) t []) (set_set leaving f x (get_or leaving f [])
-    ∙ set-get_or leaving f [])
+-- what was put into a list is taken out again
+pub undone : (before : List (List ArcNo)) (v : ℕ) (x z : List ArcNo) → z ≡ get_or before v [] →
+    set (set before v x) v z ≡ before
+undone before v x z e = rw e (set_set before v x (get_or before v []) ∙ set-get_or before v [])
   where
     set_set : (xs : List (List ArcNo)) (i : ℕ) (v w : List ArcNo) → set (set xs i v) i w ≡ set xs i w
     set_set [] i v w = refl
     set_set (b ∷ xs) zero v w = refl
     set_set (b ∷ xs) (suc i) v w = ap (λ ys. b ∷ ys) (set_set xs i v w)
-
-pub kept_at : (leaving : List (List ArcNo)) (f t : ℕ) (x y : List ArcNo) → f < length leaving →
-    y ≡ get_or (set leaving f x) t []
-    → get_or (set (set leaving f x) t y) f [] ≡ x
-kept_at leaving f t x y l e = rw (e, set-get_or (set leaving f x) t []) (get_or-set_same leaving f x [] l)
 
 arcs_push : (nodes : ℕ) (arcs : List FlowArc) (a : FlowArc) → AreArcs nodes arcs → IsArc nodes a → (k : ℕ) →
     k < length (arcs ++ a ∷ []) → IsArc nodes (arc_at (arcs ++ a ∷ []) k)

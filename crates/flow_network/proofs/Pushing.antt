@@ -53,6 +53,12 @@ pushing_step {arcs} {flows} {a} {rest} p = record {
   rest_is = p.rest_is;
 }
 
+-- and the last flows keep within the capacities
+pub pushed_within : (arcs : List FlowArc) (flows : List ℕ) (path : List ArcNo) (last : List ℕ) →
+    IsPushing arcs flows path last → WithinCapacities arcs last
+pushed_within arcs flows [] last p = subst (WithinCapacities arcs) p.rest_is p.within
+pushed_within arcs flows (a ∷ path) last p = pushed_within arcs (shifted flows a) path last (pushing_step p)
+
 pub at_place : (path : List ArcNo) (i : ℕ) (a : ArcNo) → i < length path → get_or path i (Forward 0) ≡ a →
     drop i path ≡ a ∷ drop (i + 1) path
 at_place path i a l e = drop_more path i (Forward 0) l ∙ ap (λ b. b ∷ drop (i + 1) path) e

@@ -1,10 +1,10 @@
 -- What the network's laws say.
-use Rattle.std.specs.Prelude.{◌≡◌, ℕ, ◌+◌, ◌-◌, ◌*◌, ◌<◌, ◌≤◌, List, [], ◌∷◌, length, cond, ◌==◌, slice_index}
-use Rattle.std.specs.Prelude.{take, Option, Some, None, ◌⊎◌}
+use Rattle.std.specs.Prelude.{◌≡◌, ℕ, ◌+◌, ◌*◌, ◌<◌, ◌≤◌, List, [], ◌∷◌, length, cond, ◌==◌, slice_index}
+use Rattle.std.specs.Prelude.{take}
 use Rattle.flow_network.specs.declared.arcs.FlowArc.{FlowArc}
 use Rattle.flow_network.specs.declared.arcs.ArcNo.{ArcNo}
 use Rattle.flow_network.specs.Flows.{arc_at, AreArcs, WithinCapacities, IsPath, IsDistinct, pushed, inflow}
-use Rattle.flow_network.specs.Flows.{outflow, unit_at, NoNegative, path_cost}
+use Rattle.flow_network.specs.Flows.{outflow, unit_at, NoNegative}
 
 -- a unit leaves u and comes to v; the balance of every other node stays
 abbrev pub PushKeepsConservation : Type 0
@@ -15,37 +15,6 @@ PushKeepsConservation =
     → IsPath arcs flows path u v
     → inflow arcs (pushed path flows) w + outflow arcs flows w + unit_at u w
     ≡ inflow arcs flows w + outflow arcs (pushed path flows) w + unit_at v w
-
--- the node is reached at no more than this cost
-abbrev pub IsReachedWithin : (ℕ → Option ℕ) → ℕ → ℕ → Type 0
-IsReachedWithin d v most = (c : ℕ) × (d v ≡ Some c) × (c ≤ most)
-
--- d is the least cost of a path from u, up to the cost of the sink: a path that is cheaper than what d says
--- of its end costs no less than the sink. What d says is the cost of a path.
-pub record IsLeast (arcs : List FlowArc) (flows : List ℕ) (h : ℕ → ℕ) (u sink : ℕ)
-    (d : ℕ → Option ℕ) : Type 0 where
-  pub reached : (v c : ℕ) → d v ≡ Some c → (path : List ArcNo) × IsPath arcs flows path u v
-      × (path_cost arcs h path ≡ c)
-  pub least : (v : ℕ) (path : List ArcNo) → IsPath arcs flows path u v
-      → IsReachedWithin d v (path_cost arcs h path) ⊎ IsReachedWithin d sink (path_cost arcs h path)
-
--- how much a potential is lowered: what d lacks of the sink's distance
-abbrev pub short_of : ℕ → Option ℕ → ℕ
-short_of total None = 0
-short_of total (Some c) = total - c
-
-abbrev pub PushKeepsOptimality : Type 0
-PushKeepsOptimality =
-    (arcs : List FlowArc) (flows : List ℕ) (h : ℕ → ℕ) (d : ℕ → Option ℕ) (u sink total : ℕ)
-    (path : List ArcNo)
-    → length flows ≡ length arcs
-    → NoNegative arcs flows h
-    → IsLeast arcs flows h u sink d
-    → d sink ≡ Some total
-    → IsDistinct path
-    → IsPath arcs flows path u sink
-    → path_cost arcs h path ≡ total
-    → NoNegative arcs (pushed path flows) (λ v. h v + short_of total (d v))
 
 -- what the arcs that leave a node can carry together
 abbrev pub outroom : List FlowArc → ℕ → ℕ

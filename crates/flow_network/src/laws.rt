@@ -1,16 +1,11 @@
 //! Laws of flows, paths and potentials (Ahuja, Magnanti and Orlin, Network Flows), for the layers above.
-ghost use Rattle.flow_network.specs.Laws.{PushKeepsConservation, PushKeepsOptimality, NoNegativeIsCheapest};
+ghost use Rattle.flow_network.specs.Laws.{PushKeepsConservation, NoNegativeIsCheapest};
 ghost use Rattle.flow_network.specs.Laws.{RoomBelowIsRoomAbove, EnoughWait};
 ghost use Rattle.flow_network.specs.Leaving.{ListsHoldEachArc, LooksAreFew};
 
 /// Along a path every node but its ends keeps what it takes in less what it gives out.
 pub fn push_keeps_conservation()
     ensures { PushKeepsConservation }
-{}
-
-/// Pushing along a least path and lowering the potentials leaves no residual arc of negative reduced cost.
-pub fn push_keeps_optimality()
-    ensures { PushKeepsOptimality }
 {}
 
 /// A flow under which no residual arc has a negative reduced cost is a cheapest one.

@@ -15,5 +15,6 @@ mod network;
 
 pub use arcs::{ArcNo, FlowArc};
 pub use kinds::NetworkKind;
+pub use leaving::{Leaving, none_leaving};
 pub use meter::{Look, Meter};
 pub use network::{NetError, Network};

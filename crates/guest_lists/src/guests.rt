@@ -10,8 +10,8 @@ ghost use Rattle.guest_lists.specs.Standing.{AreStanding, GoesOnce, IsFollowing}
 ghost use Rattle.guest_lists.specs.Ways.{AreSorted};
 
 use crate::standing::Standing;
-use crate::ways::{ArcList, Ways, ways_of};
-use flow_network::{ArcNo, FlowArc, Network};
+use crate::ways::{Ways, ways_of};
+use flow_network::{ArcNo, FlowArc, Leaving, Network};
 use node_ids::Layout;
 use std::alloc::{AllocError, Global};
 use std::marker::Model;
@@ -23,7 +23,7 @@ use std::marker::Model;
 pub struct Guests {
     is_source: Vec<bool>,
     exits: Vec<Option<u32>>,
-    inner: Vec<ArcList>,
+    inner: Vec<Leaving>,
     standing: Vec<Standing>,
 }
 

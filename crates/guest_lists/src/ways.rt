@@ -6,57 +6,16 @@ ghost use Rattle.flow_network.specs.declared.arcs.ArcNo.{ArcNo};
 ghost use Rattle.flow_network.specs.Flows.{arc_at};
 ghost use Rattle.guest_lists.specs.Ways.{AreListed, IsListed};
 
-use flow_network::{ArcNo, FlowArc, Network};
+use flow_network::{ArcNo, FlowArc, Leaving, Network, none_leaving};
 use node_ids::Layout;
 use std::alloc::{AllocError, Global};
-use std::marker::Model;
-
-/// Residual arcs that leave one node.
-#[derive(Drop)]
-pub struct ArcList {
-    arcs: Vec<ArcNo>,
-}
-
-impl Model for ArcList {
-    ghost use Rattle.std.specs.Prelude.{List};
-    ghost use Rattle.flow_network.specs.declared.arcs.ArcNo.{ArcNo};
-
-    ghost Value = { List ArcNo };
-
-    ghost view = { λ l. l.arcs.items };
-}
-
-impl ArcList {
-    // No arc; nothing is allocated.
-    fn new(alloc: Global) -> ArcList
-        ensures { result ≡ [] }
-    {
-        ArcList {
-            arcs: Vec::new(alloc),
-        }
-    }
-
-    /// The arcs, in the order of adding.
-    pub fn all(&self) -> &[ArcNo]
-        ensures { result.now ≡ self.now }
-    {
-        &self.arcs
-    }
-
-    fn put(&mut self, arc: ArcNo) -> Result<(), AllocError>
-        ensures { OnOk result (self.new ≡ self.old ++ arc ∷ []) }
-    {
-        self.arcs.push(arc)?;
-        Ok(())
-    }
-}
 
 /// Of each node that is no source an arc to the sink, its exit, and the other residual arcs that leave it,
 /// but for those back to sources; of a source none.
 #[derive(Drop)]
 pub struct Ways {
     pub exits: Vec<Option<u32>>,
-    pub inner: Vec<ArcList>,
+    pub inner: Vec<Leaving>,
 }
 
 impl Ways {
@@ -65,13 +24,10 @@ impl Ways {
         ensures exits { IfOk result (λ w. w.exits.items ≡ replicate nodes None) }
         ensures inner { IfOk result (λ w. w.inner.items ≡ replicate nodes []) }
     {
-        let mut exits = Vec::with_capacity(alloc, nodes)?;
-        let mut inner = Vec::with_capacity(alloc, nodes)?;
-        for _node in 0..nodes {
-            exits.push(None)?;
-            inner.push(ArcList::new(alloc))?;
-        }
-        Ok(Ways { exits, inner })
+        Ok(Ways {
+            exits: vec![in alloc; None; nodes]?,
+            inner: none_leaving(alloc, nodes)?,
+        })
     }
 
     // An arc of this number becomes the exit of a node.

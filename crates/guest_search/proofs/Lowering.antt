@@ -1,14 +1,13 @@
 -- Lowering, tight arcs, pushes over them, and the lift of a source: each looks at one arc at a time.
-use Rattle.std.proofs.Common.{◌≡◌, ℕ, ◌+◌, ◌-◌, ◌≤◌, List, [], ◌∷◌, get_or, ap, inl, inr, arith}
+use Rattle.std.proofs.Common.{◌≡◌, ℕ, ◌+◌, ◌-◌, ◌<◌, ◌≤◌, List, [], ◌∷◌, length, get_or, ap, inl, inr, arith}
 use Rattle.std.proofs.Common.{get_or-set_other}
 use Rattle.std.proofs.lemmas.Bool.{cases_eq, cases_lt}
 use Rattle.flow_network.specs.declared.arcs.FlowArc.{FlowArc}
 use Rattle.flow_network.specs.declared.arcs.ArcNo.{ArcNo}
 use Rattle.flow_network.specs.declared.arcs.ArcNo.TheVariants.{Forward, Reverse}
 use Rattle.flow_network.specs.Flows.{arc_at, tail_of, head_of, IsResidual, IsPath, NoNegative, reduced_cost}
-use Rattle.flow_network.specs.Flows.{path_cost, shifted}
-use Rattle.guest_search.specs.Lowering.{lowered, IsCovered, AreTight, AreSteps, LoweringLaw, TightLaw}
-use Rattle.guest_search.specs.Lowering.{PushLaw, LiftLaw}
+use Rattle.flow_network.specs.Flows.{path_cost, pushed, shifted}
+use Rattle.guest_search.specs.Lowering.{lowered, IsCovered, IsTight, AreTight, IsSearchStep, AreSteps}
 
 -- the end of a covered arc lacks no less of the total than its start does, but for the arc's cost
 lacks : (arcs : List FlowArc) (flows : List ℕ) (h d : ℕ → ℕ) (total : ℕ) → IsCovered arcs flows h d total
@@ -19,7 +18,9 @@ lacks arcs flows h d total covered a r = elim (cases_lt (d (tail_of arcs a)) tot
   | inl near ↦ elim (covered a r near) [ inl on ↦ omega arith | inr past ↦ omega arith ]
 ]
 
-pub lowering_law : LoweringLaw
+-- where each arc is covered, lowering leaves no residual arc negative
+pub lowering_law : (arcs : List FlowArc) (flows : List ℕ) (h d : ℕ → ℕ) (total : ℕ)
+    → NoNegative arcs flows h → IsCovered arcs flows h d total → NoNegative arcs flows (lowered h d total)
 lowering_law arcs flows h d total none covered k l = (
   (λ room.
       let r : IsResidual arcs flows (Forward k) = record { listed = l; room = omega arith } in
@@ -33,13 +34,18 @@ lowering_law arcs flows h d total none covered k l = (
       omega arith),
 )
 
-pub tight_law : TightLaw
+-- a step to a node within the total is tight afterwards
+pub tight_law : (arcs : List FlowArc) (flows : List ℕ) (h d : ℕ → ℕ) (total : ℕ) (a : ArcNo)
+    → NoNegative arcs flows h → IsResidual arcs flows a → IsSearchStep arcs h d a → d (head_of arcs a) ≤ total
+    → IsTight arcs (lowered h d total) a
 tight_law arcs flows h d total (Forward k) none r step within =
     let old = (none k r.listed).0 (let some = r.room in omega arith) in omega arith
 tight_law arcs flows h d total (Reverse k) none r step within =
     let old = (none k r.listed).1 r.room in omega arith
 
-pub push_law : PushLaw
+-- a unit over tight arcs leaves no residual arc negative
+pub push_law : (arcs : List FlowArc) (flows : List ℕ) (h : ℕ → ℕ) (path : List ArcNo)
+    → AreTight arcs h path → NoNegative arcs flows h → NoNegative arcs (pushed path flows) h
 push_law arcs flows h [] tight none = none
 push_law arcs flows h ((Forward i) ∷ path) tight none = push_law arcs (shifted flows (Forward i)) h path
     tight.1 (λ k l.
@@ -54,7 +60,14 @@ push_law arcs flows h ((Reverse i) ∷ path) tight none = push_law arcs (shifted
       | inr s ↦ rw (get_or-set_other flows i k (get_or flows i 0 - 1) 0 s) (none k l)
     ])
 
-pub lift_law : LiftLaw
+-- the depth of a node that no arc enters, and whose own arcs carry nothing, may be what these allow
+pub lift_law : (arcs : List FlowArc) (flows : List ℕ) (h h' : ℕ → ℕ) (s : ℕ)
+    → NoNegative arcs flows h → ((v : ℕ) → (v ≡ s → ⊥) → h' v ≡ h v)
+    → ((k : ℕ) → k < length arcs → (arc_at arcs k).to ≡ s → ⊥)
+    → ((k : ℕ) → k < length arcs → (arc_at arcs k).from ≡ s → get_or flows k 0 ≡ 0)
+    → ((k : ℕ) → k < length arcs → (arc_at arcs k).from ≡ s → 0 < (arc_at arcs k).capacity
+    → h' s ≤ (arc_at arcs k).cost + h (arc_at arcs k).to)
+    → NoNegative arcs flows h'
 lift_law arcs flows h h' s none same closed unused own k l =
     let to = same (arc_at arcs k).to (closed k l) in
     let old = none k l in

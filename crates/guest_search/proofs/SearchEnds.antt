@@ -9,7 +9,7 @@ use Rattle.flow_network.specs.declared.arcs.FlowArc.{FlowArc}
 use Rattle.flow_network.specs.declared.arcs.ArcNo.{ArcNo}
 use Rattle.flow_network.specs.declared.arcs.ArcNo.TheVariants.{Forward, Reverse}
 use Rattle.flow_network.specs.Flows.{arc_index, tail_of, head_of, IsPath, Lacks, IsDistinct}
-use Rattle.flow_network.proofs.Least.{IsPath-append}
+use Rattle.flow_network.proofs.Paths.{IsPath-append}
 use Rattle.guest_lists.specs.Standing.{GoesOver, GoesOnce}
 use Rattle.guest_search.specs.declared.arrival.Arrival.{Arrival}
 use Rattle.shortest_paths.specs.Labels.{is_settled}

@@ -48,6 +48,16 @@ spent_all n (a ∷ arcs) (f ∷ flows) free =
           rw (le-ltb a.from n (omega arith)) (omega arith))
     ]
 
+-- nothing is spent where no arc carries a unit
+pub flow_cost_zero : (arcs : List FlowArc) (flows : List ℕ) → ((k : ℕ) → get_or flows k 0 ≡ 0) →
+    flow_cost arcs flows ≡ 0
+flow_cost_zero [] flows none = refl
+flow_cost_zero (a ∷ arcs) [] none = refl
+flow_cost_zero (a ∷ arcs) (f ∷ flows) none =
+    let rest = flow_cost_zero arcs flows (λ k. none (suc k)) in
+    let idle : f ≡ 0 = none 0 in
+    let free : f * a.cost ≡ 0 * a.cost = ap (λ (z : ℕ). z * a.cost) idle in omega arith
+
 -- where no unit leaves a node, nothing is spent there; where one does, what its arc costs
 pub spent_nothing : (arcs : List FlowArc) (flows : List ℕ) (v : ℕ) → outflow arcs flows v ≡ 0 →
     spent_at arcs flows v ≡ 0

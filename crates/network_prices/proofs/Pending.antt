@@ -119,6 +119,20 @@ pending-le wave (suc n) = elim (cases_Bool (split_at wave n).pending) [
       let rest = pending-le wave n in omega arith)
 ]
 
+pub pending_mono : (wave : Wave) (m n : ℕ) → m ≤ n →
+    length (pending_below wave m) ≤ length (pending_below wave n)
+pending_mono wave m zero l = let same = ap (λ (k : ℕ). length (pending_below wave k))
+    (let e : m ≡ 0 = omega arith in e) in omega arith
+pending_mono wave m (suc n) l = elim (cases_eq m (suc n)) [
+  | inl e ↦ (let same = ap (λ (k : ℕ). length (pending_below wave k)) e in omega arith)
+  | inr d ↦ (let before = pending_mono wave m n (omega arith) in
+      elim (cases_Bool (split_at wave n).pending) [
+        | inl t ↦ (let more = ap (λ (z : List ℕ). length z) (pending-more wave n t) in
+            let size = length-append (pending_below wave n) (n ∷ []) in omega arith)
+        | inr f ↦ (let same = ap (λ (z : List ℕ). length z) (pending-same wave n f) in omega arith)
+      ])
+]
+
 -- count units at one node alone
 pub units_off : (count t v : ℕ) → (t ≡ v → ⊥) → count * unit_at t v ≡ 0
 units_off count t v n = rw (ne_eqb t v n) (omega arith)

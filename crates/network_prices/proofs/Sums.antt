@@ -4,6 +4,7 @@ use Rattle.std.proofs.Common.{◌∷◌, length, get_or, refl, ap, inl, inr, ari
 use Rattle.std.proofs.lemmas.Bool.{cases_lt, cases_eq, eq-eqb, ne_eqb, lt-ltb, le-ltb}
 use Rattle.flow_network.specs.declared.arcs.FlowArc.{FlowArc}
 use Rattle.flow_network.specs.Flows.{arc_at, inflow, outflow}
+use Rattle.flow_network.specs.Laws.{outroom}
 
 pub outflow-ge : (arcs : List FlowArc) (flows : List ℕ) (v j : ℕ) → length flows ≡ length arcs →
     j < length arcs → (arc_at arcs j).from ≡ v → get_or flows j 0 ≤ outflow arcs flows v
@@ -26,6 +27,25 @@ outflow-ge_two (a ∷ arcs) (f ∷ flows) v (suc i) zero e l m p q n =
 outflow-ge_two (a ∷ arcs) (f ∷ flows) v (suc i) (suc j) e l m p q n =
     let rest = outflow-ge_two arcs flows v i j (omega arith) (omega arith) (omega arith) p q
     (λ s. n (ap suc s)) in omega arith
+
+-- what one arc can carry, and what two can
+pub outroom-ge : (arcs : List FlowArc) (v j : ℕ) → j < length arcs → (arc_at arcs j).from ≡ v →
+    (arc_at arcs j).capacity ≤ outroom arcs v
+outroom-ge [] v j l at = absurd (omega arith)
+outroom-ge (a ∷ arcs) v zero l at = rw (eq-eqb a.from v at) (omega arith)
+outroom-ge (a ∷ arcs) v (suc j) l at = let rest = outroom-ge arcs v j (omega arith) at in omega arith
+
+pub outroom-ge_two : (arcs : List FlowArc) (v i j : ℕ) → i < length arcs → j < length arcs →
+    (arc_at arcs i).from ≡ v → (arc_at arcs j).from ≡ v → (i ≡ j → ⊥)
+    → (arc_at arcs i).capacity + (arc_at arcs j).capacity ≤ outroom arcs v
+outroom-ge_two [] v i j l m p q n = absurd (omega arith)
+outroom-ge_two (a ∷ arcs) v zero zero l m p q n = absurd (n refl)
+outroom-ge_two (a ∷ arcs) v zero (suc j) l m p q n =
+    let rest = outroom-ge arcs v j (omega arith) q in rw (eq-eqb a.from v p) (omega arith)
+outroom-ge_two (a ∷ arcs) v (suc i) zero l m p q n =
+    let rest = outroom-ge arcs v i (omega arith) p in rw (eq-eqb a.from v q) (omega arith)
+outroom-ge_two (a ∷ arcs) v (suc i) (suc j) l m p q n =
+    let rest = outroom-ge_two arcs v i j (omega arith) (omega arith) p q (λ s. n (ap suc s)) in omega arith
 
 -- no arc leads to the node
 pub inflow_none : (arcs : List FlowArc) (flows : List ℕ) (v : ℕ) →

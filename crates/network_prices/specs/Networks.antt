@@ -38,11 +38,10 @@ pub record IsOffer (arcs : List FlowArc) (s : ℕ) (way : List ℕ) (most k : �
   pub one : (arc_at arcs k).capacity ≡ 1
   pub at_most : (arc_at arcs k).cost ≤ most
 
--- The arcs of the splits alone have costs. Each way up from a worker is a way of the network. The arcs of a
--- split to a way's nodes are just what makes
--- its starts there admissible, at no less than a start's cost, and one of them costs no more. A pending split
--- has
--- an arc to the node of those that are not started, which can send on the units of all.
+-- The arcs of the splits alone have costs. Each worker has a node of its own, and each way up from there is a
+-- way of the network. The arcs of a split to a way's nodes are just what makes its starts there admissible, at
+-- no less than a start's cost, and one of them costs no more. A pending split has an arc to the node of those
+-- that are not started, which can send on the units of all.
 pub record IsWaveNetwork (wave : Wave) (nodes : WaveNodes) (arcs : List FlowArc) : Type 0 where
   pub past_splits : length wave.splits ≤ nodes.sink
   pub no_entry : (k : ℕ) → k < length arcs → length wave.splits ≤ (arc_at arcs k).to
@@ -51,6 +50,7 @@ pub record IsWaveNetwork (wave : Wave) (nodes : WaveNodes) (arcs : List FlowArc)
   pub closed : (w k : ℕ) → w < length wave.workers → (IsUsable wave w → ⊥) → k < length arcs
       → (arc_at arcs k).to ≡ nodes.worker w → ⊥
   pub known : (w : ℕ) → length wave.splits ≤ nodes.worker w
+  pub own : (v w : ℕ) → nodes.worker v ≡ nodes.worker w → v ≡ w
   pub sound : (s w k : ℕ) → s < length wave.splits → IsUsable wave w → k < length arcs
       → (arc_at arcs k).from ≡ s → IsAmong (arc_at arcs k).to (way_of nodes w)
       → IsAdmissible wave s w × (unwrap_or (cost wave s w) 0 ≤ (arc_at arcs k).cost)

@@ -1,12 +1,12 @@
 -- What plan and prices are read off a least-cost flow of a network, and that they certify.
-use Rattle.std.specs.Prelude.{◌≡◌, ℕ, ◌+◌, ◌-◌, ◌*◌, ◌<◌, true, false, List, length, Option, Some, None}
+use Rattle.std.specs.Prelude.{◌≡◌, ℕ, ◌+◌, ◌-◌, ◌*◌, ◌<◌, ◌≤◌, true, false, List, length, Option, Some, None}
 use Rattle.std.specs.Prelude.{unwrap_or}
 use Rattle.flow_network.specs.declared.arcs.FlowArc.{FlowArc}
 use Rattle.flow_network.specs.Flows.{outflow, NoNegative}
 use Rattle.flow_network.specs.Laws.{flow_cost}
 use Rattle.augmenting_paths.specs.Shipping.{IsCheapest, IsShipment}
 use Rattle.wave_problem.specs.Wave.{Wave, split_at, cost, reward, IsUsable}
-use Rattle.wave_problem.specs.Assignment.{start_of, pairs_of, load, total}
+use Rattle.wave_problem.specs.Assignment.{start_of, pairs_of, load, total, IsAssignment}
 use Rattle.price_certificate.specs.PriceList.{PriceList}
 use Rattle.price_certificate.specs.Certificate.{claim, Certifies, split_price, worker_price}
 use Rattle.network_prices.specs.Pending.{pending_splits}
@@ -57,23 +57,41 @@ PricesCertify =
     → IsPlanOf wave nodes arcs flows starts → ArePricesOf wave nodes h starts prices
     → Certifies (claim wave starts prices)
 
--- A least-cost flow costs what its plan does: the byte-distance of the starts, and the reward for each
--- pending split that does not start.
-abbrev pub CostsAsMuch : Wave → List FlowArc → List ℕ → List (Option ℕ) → Type 0
-CostsAsMuch wave arcs flows starts = flow_cost arcs flows + reward wave * length (pairs_of starts)
-    ≡ total wave (pairs_of starts) + reward wave * length (pending_splits wave)
+-- A flow costs as much as a set of starts: their byte-distance, and the reward for each pending split that
+-- does not start.
+abbrev pub CostsAsMuch : Wave → List FlowArc → List ℕ → List (ℕ × ℕ) → Type 0
+CostsAsMuch wave arcs flows pairs = flow_cost arcs flows + reward wave * length pairs
+    ≡ total wave pairs + reward wave * length (pending_splits wave)
 
-abbrev pub FlowCostsAsPlan : Type 0
-FlowCostsAsPlan =
-    (wave : Wave) (nodes : WaveNodes) (arcs : List FlowArc) (flows : List ℕ) (h : ℕ → ℕ)
-    (starts : List (Option ℕ)) (prices : PriceList)
-    → IsWaveNetwork wave nodes arcs → IsShipped wave nodes arcs flows
-    → NoNegative arcs flows h → h nodes.sink ≡ 0
-    → IsPlanOf wave nodes arcs flows starts → ArePricesOf wave nodes h starts prices
-    → CostsAsMuch wave arcs flows starts
+-- no less than that
+abbrev pub CostsNoLess : Wave → List FlowArc → List ℕ → List (ℕ × ℕ) → Type 0
+CostsNoLess wave arcs flows pairs = total wave pairs + reward wave * length (pending_splits wave)
+    ≤ flow_cost arcs flows + reward wave * length pairs
 
--- a plan and prices that are read off a least-cost flow of a network of this definition, which costs what the
--- plan does
+-- each admissible assignment is a flow of the same cost
+abbrev pub AssignmentIsFlow : Type 0
+AssignmentIsFlow =
+    (wave : Wave) (nodes : WaveNodes) (arcs : List FlowArc) (pairs : List (ℕ × ℕ))
+    → IsWaveNetwork wave nodes arcs → IsAssignment wave pairs
+    → (flows : List ℕ) × IsShipped wave nodes arcs flows × CostsAsMuch wave arcs flows pairs
+
+-- each flow is an admissible assignment that costs no more: the plan that is read off it
+abbrev pub FlowIsAssignment : Type 0
+FlowIsAssignment =
+    (wave : Wave) (nodes : WaveNodes) (arcs : List FlowArc) (flows : List ℕ) (starts : List (Option ℕ))
+    → IsWaveNetwork wave nodes arcs → IsShipped wave nodes arcs flows → IsPlanOf wave nodes arcs flows starts
+    → IsAssignment wave (pairs_of starts) × CostsNoLess wave arcs flows (pairs_of starts)
+
+-- so a cheapest flow costs what its plan does
+abbrev pub CheapestCostsAsPlan : Type 0
+CheapestCostsAsPlan =
+    (wave : Wave) (nodes : WaveNodes) (arcs : List FlowArc) (flows : List ℕ) (starts : List (Option ℕ))
+    → IsWaveNetwork wave nodes arcs → IsCheapest arcs (pending_splits wave) nodes.sink flows
+    → IsPlanOf wave nodes arcs flows starts → CostsAsMuch wave arcs flows (pairs_of starts)
+
+-- A plan and prices that are read off a least-cost flow of a network of this definition, and off potentials
+-- that show that it is one: no residual arc has a negative reduced cost, and the sink's is 0. The flow costs
+-- what the plan does.
 pub record IsReadOff (wave : Wave) (nodes : WaveNodes) (network : List FlowArc →
     Type 0) (starts : List (Option ℕ))
     (prices : PriceList) : Type 0 where
@@ -82,6 +100,8 @@ pub record IsReadOff (wave : Wave) (nodes : WaveNodes) (network : List FlowArc �
   pub depths : ℕ → ℕ
   pub over : network arcs
   pub cheapest : IsCheapest arcs (pending_splits wave) nodes.sink flows
+  pub reduced : NoNegative arcs flows depths
+  pub at_sink : depths nodes.sink ≡ 0
   pub plan : IsPlanOf wave nodes arcs flows starts
   pub priced : ArePricesOf wave nodes depths starts prices
-  pub cost : CostsAsMuch wave arcs flows starts
+  pub cost : CostsAsMuch wave arcs flows (pairs_of starts)

@@ -1,5 +1,6 @@
-//! The laws that tie prices and plans to flows.
-ghost use Rattle.network_prices.specs.Prices.{FlowCostsAsPlan, PricesCertify};
+//! The laws that tie prices, plans and assignments to flows.
+ghost use Rattle.network_prices.specs.Prices.{AssignmentIsFlow, CheapestCostsAsPlan, FlowIsAssignment};
+ghost use Rattle.network_prices.specs.Prices.{PricesCertify};
 
 /// The prices read off a least-cost flow of a network of a wave certify the plan read off it, by linear
 /// duality (Ahuja, Magnanti and Orlin, Network Flows, section 9.4).
@@ -7,7 +8,17 @@ pub fn prices_certify()
     ensures { PricesCertify }
 {}
 
-/// A least-cost flow costs what the plan read off it does, so that it is a plan of the same cost.
-pub fn flow_costs_as_plan()
-    ensures { FlowCostsAsPlan }
+/// Each admissible assignment is a flow of a network of its wave, at the same cost.
+pub fn assignment_is_flow()
+    ensures { AssignmentIsFlow }
+{}
+
+/// The plan read off any flow, be it a cheapest one or not, is an admissible assignment that costs no more.
+pub fn flow_is_assignment()
+    ensures { FlowIsAssignment }
+{}
+
+/// So a cheapest flow costs what the plan read off it does.
+pub fn cheapest_costs_as_plan()
+    ensures { CheapestCostsAsPlan }
 {}

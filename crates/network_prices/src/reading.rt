@@ -3,17 +3,43 @@ ghost use Rattle.std.specs.Prelude.{◌≡◌, ℕ, ◌+◌, ◌<◌, ◌≤◌,
 ghost use Rattle.augmenting_paths.specs.Shipping.{IsShipment};
 ghost use Rattle.network_prices.specs.Layers.{nodes_from, AreFirst, AreStartsTo, IsLayered, IsStart};
 ghost use Rattle.network_prices.specs.Pending.{pending_splits};
-ghost use Rattle.network_prices.specs.Prices.{IsPlanOf};
+ghost use Rattle.network_prices.specs.Prices.{IsPlanOf, IsShipped};
 
-use crate::decompose_flow;
-use flow_network::FlowArc;
+use crate::{WaveNetwork, decompose_flow};
+use flow_network::{FlowArc, Network};
 use node_ids::{SplitNo, WorkerNo};
 use std::alloc::{AllocError, Global};
 use wave_problem::{Plan, Problem};
 
 /// The plan that starts each split on the worker at which its unit ends, where units that meet at a node are
-/// handed on one by one, and leaves out those whose unit passes the node of the splits that are not
-/// started. `first` is the node of worker 0.
+/// handed on one by one, and leaves out those whose unit flows through the node of the splits that are not
+/// started.
+pub fn plan_of<N: WaveNetwork>(
+    alloc: Global,
+    problem: &Problem,
+    network: &Network<N>,
+) -> Result<Plan, AllocError>
+    requires arcs { N.HasArcs problem.now network.now.arcs }
+    requires shipped { IsShipped problem.now
+        (nodes_from problem.now (N.first problem.now) (N.above problem.now))
+        network.now.arcs network.now.flows }
+    ensures read { IfOk result (λ plan. IsPlanOf problem.now
+        (nodes_from problem.now (N.first problem.now) (N.above problem.now))
+        network.now.arcs network.now.flows plan.starts) }
+    ensures workers { IfOk result (λ plan. plan.workers ≡ length problem.now.workers) }
+{
+    N::is_wave_network();
+    let first = N::first(problem);
+    read_plan(
+        alloc,
+        problem,
+        network.all_arcs(),
+        network.all_flows(),
+        first,
+    )
+}
+
+/// The same, of arcs in layers, where `first` is the node of worker 0.
 pub fn read_plan(
     alloc: Global,
     problem: &Problem,

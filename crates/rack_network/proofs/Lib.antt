@@ -6,8 +6,5 @@ pub mod RackWays
 -- the network is built
 pub mod Rows
 pub mod Nearest
--- plan and prices are read off
-pub mod Priced
+-- it lies in layers
 pub mod Layers
--- units are shipped
-pub mod Shipping

@@ -13,7 +13,6 @@ use Rattle.network_prices.specs.Ways.{IsAmong, IsFed, IsInner, IsWay}
 use Rattle.network_prices.specs.Networks.{way_of, IsArcFrom, IsOffer, IsWaveNetwork}
 use Rattle.network_prices.proofs.Arcs.{arc_standing}
 use Rattle.network_prices.proofs.Tables.{outroom-rows}
-use Rattle.network_prices.proofs.Certified.{flow_costs_as_plan, prices_certify}
 use Rattle.rack_network.specs.declared.arcs.RackArc.{RackArc}
 use Rattle.rack_network.specs.declared.arcs.RackArc.TheVariants.{Pair, Reach, Wait, Trunk, Branch, Feed, Slot}
 use Rattle.rack_network.specs.declared.arcs.RackArc.TheVariants.{Rest}
@@ -21,8 +20,7 @@ use Rattle.rack_network.specs.Places.{one_cluster}
 use Rattle.rack_network.specs.Racks.{first_rack, first_worker, worker_node, rack_node, centre_node}
 use Rattle.rack_network.specs.Racks.{cluster_node, unstarted_node, sink_node, slots_of, slots_below}
 use Rattle.rack_network.specs.Racks.{slots_within, rack_of, centre_of, rack_nodes, node_above, above_centres}
-use Rattle.rack_network.specs.Racks.{HasBars, arc_of, IsWanted, IsRackNetwork, RackFlowCostsAsPlan}
-use Rattle.rack_network.specs.Racks.{RackPricesCertify}
+use Rattle.rack_network.specs.Racks.{HasBars, arc_of, IsWanted, IsRackNetwork}
 use Rattle.rack_network.specs.Build.{level_start, level_end}
 use Rattle.rack_network.proofs.Levels.{holder_live, holder_held, cost-le, cost_is, Meet, distance-le}
 use Rattle.rack_network.proofs.Counts.{by_racks}
@@ -684,6 +682,7 @@ module _ (wave : Wave) (arcs : List FlowArc) (network : IsRackNetwork wave arcs)
     closed = λ w k known n l t. (let d = network.rows.sound k l in
         n (usable_there w known d.0 d.1 (arc_at arcs k) d.2 t));
     known = λ w. omega arith;
+    own = λ v w e. omega arith;
     sound = λ s w k known u l f among. (let d = network.rows.sound k l in
         is_sound s w known u d.0 d.1 (arc_at arcs k) d.2 f among);
     complete = is_complete;
@@ -697,16 +696,3 @@ module _ (wave : Wave) (arcs : List FlowArc) (network : IsRackNetwork wave arcs)
     slot = λ w u. the_arc (Slot w) (live_known wave w u.0);
     slots = λ w u. worker_room w (live_known wave w u.0);
   }
-
-pub rack_prices : RackPricesCertify
-rack_prices wave arcs flows h starts prices network shipped reduced at_sink plan priced =
-    prices_certify wave (rack_nodes wave) arcs flows h starts prices (wave_network wave arcs network) shipped
-    reduced
-    at_sink plan priced
-
--- and the flow costs what the plan does
-pub rack_costs : RackFlowCostsAsPlan
-rack_costs wave arcs flows h starts prices network shipped reduced at_sink plan priced =
-    flow_costs_as_plan wave (rack_nodes wave) arcs flows h starts prices (wave_network wave arcs network)
-    shipped
-    reduced at_sink plan priced

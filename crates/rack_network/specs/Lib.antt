@@ -3,6 +3,3 @@ pub mod Layout
 pub mod Places
 pub mod Racks
 pub mod Build
--- its flow, and what is read off it
-pub mod Shipped
-pub mod Pricing

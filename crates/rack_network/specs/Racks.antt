@@ -1,19 +1,15 @@
 -- The rack network of a wave: its nodes by their places, and its arcs.
 use Rattle.std.specs.Prelude.{ℕ, ◌≡◌, ◌+◌, ◌*◌, ◌<◌, ◌==◌, nat_lt, true, cond, List, [], ◌∷◌, length}
-use Rattle.std.specs.Prelude.{unwrap_or, slice_index, Option}
+use Rattle.std.specs.Prelude.{unwrap_or, slice_index}
 use Rattle.node_ids.specs.Sets.{HasPair}
 use Rattle.wave_problem.specs.Wave.{Wave, IsAdmissible, split_at, worker_at, live_holders, cost, reward}
 use Rattle.wave_problem.specs.Sums.{sum_below}
-use Rattle.price_certificate.specs.PriceList.{PriceList}
-use Rattle.price_certificate.specs.Certificate.{claim, Certifies}
 use Rattle.flow_network.specs.declared.arcs.FlowArc.{FlowArc}
-use Rattle.flow_network.specs.Flows.{NoNegative}
 use Rattle.network_prices.specs.Pending.{pending_splits}
 use Rattle.wave_problem.specs.Wave.{IsUsable}
 use Rattle.network_prices.specs.Ways.{IsAmong}
-use Rattle.network_prices.specs.Networks.{WaveNodes}
+use Rattle.network_prices.specs.Networks.{WaveNodes, IsWaveNetwork}
 use Rattle.network_prices.specs.Tables.{AreRows}
-use Rattle.network_prices.specs.Prices.{IsShipped, IsPlanOf, ArePricesOf, CostsAsMuch}
 use Rattle.rack_network.specs.declared.layout.RackLayout.{RackLayout}
 use Rattle.rack_network.specs.declared.arcs.RackArc.{RackArc}
 use Rattle.rack_network.specs.declared.arcs.RackArc.TheVariants.{Pair, Reach, Wait, Trunk, Branch, Feed, Slot}
@@ -175,23 +171,7 @@ pub record IsRackNetwork (wave : Wave) (arcs : List FlowArc) : Type 0 where
   pub rows : AreRows (IsWanted wave) (arc_of wave) arcs
   pub tree : IsTree wave
 
--- read off a flow and potentials under which no residual arc has a negative reduced cost, the prices certify
--- the plan
-abbrev pub RackPricesCertify : Type 0
-RackPricesCertify =
-    (wave : Wave) (arcs : List FlowArc) (flows : List ℕ) (h : ℕ → ℕ) (starts : List (Option ℕ))
-    (prices : PriceList)
-    → IsRackNetwork wave arcs → IsShipped wave (rack_nodes wave) arcs flows
-    → NoNegative arcs flows h → h (sink_node wave) ≡ 0
-    → IsPlanOf wave (rack_nodes wave) arcs flows starts → ArePricesOf wave (rack_nodes wave) h starts prices
-    → Certifies (claim wave starts prices)
-
--- and the flow costs what the plan does
-abbrev pub RackFlowCostsAsPlan : Type 0
-RackFlowCostsAsPlan =
-    (wave : Wave) (arcs : List FlowArc) (flows : List ℕ) (h : ℕ → ℕ) (starts : List (Option ℕ))
-    (prices : PriceList)
-    → IsRackNetwork wave arcs → IsShipped wave (rack_nodes wave) arcs flows
-    → NoNegative arcs flows h → h (sink_node wave) ≡ 0
-    → IsPlanOf wave (rack_nodes wave) arcs flows starts → ArePricesOf wave (rack_nodes wave) h starts prices
-    → CostsAsMuch wave arcs flows starts
+-- it is a network of its wave, so that the laws of these hold of it
+abbrev pub RackIsWaveNetwork : Type 0
+RackIsWaveNetwork = (wave : Wave) (arcs : List FlowArc) → IsRackNetwork wave arcs
+    → IsWaveNetwork wave (rack_nodes wave) arcs

@@ -10,7 +10,7 @@ use Rattle.flow_network.specs.declared.arcs.ArcNo.{ArcNo}
 use Rattle.flow_network.specs.Flows.{tail_of, head_of, leaving_of, IsPath, Lacks, IsDistinct, reduced_cost}
 use Rattle.flow_network.specs.Flows.{path_cost}
 use Rattle.flow_network.specs.Leaving.{marked_sum}
-use Rattle.flow_network.proofs.Least.{IsPath-append, path_cost-append}
+use Rattle.flow_network.proofs.Paths.{IsPath-append, path_cost-append}
 use Rattle.flow_network.proofs.Listed.{marked_sum-set}
 use Rattle.shortest_paths.specs.declared.labels.Step.{Step}
 use Rattle.shortest_paths.specs.declared.labels.Label.{Label}

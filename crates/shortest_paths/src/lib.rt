@@ -3,7 +3,8 @@
 //! `Potentials` give each arc its reduced cost. `distances` answers for each node the least reduced cost of a
 //! residual path and such a path, and `distances_by` the same over a `Meter` with at most two looks an arc.
 //! Nodes are settled nearest first, by std's heap.
-//! Stands on `flow_network`, for the layers that ship units along least paths.
+//! Stands on `flow_network`. The layers that ship units take its potentials, reduced costs and queue, and
+//! have a search of their own to one sink.
 #![tactic(auto)]
 
 mod frontier;

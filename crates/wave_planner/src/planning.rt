@@ -6,8 +6,11 @@ ghost use Rattle.flow_network.specs.declared.kinds.NetworkKind.{NetworkKind};
 ghost use Rattle.wave_planner.specs.Planned.{IsMadeOver, WasCertified};
 
 use certificate_checker::{Certified, certify};
+use direct_network::DirectLayout;
 use flow_network::NetworkKind;
+use network_prices::priced_plan;
 use price_certificate::Prices;
+use rack_network::RackLayout;
 use std::alloc::{AllocError, Global};
 use std::marker::Model;
 use thiserror::Error;
@@ -118,7 +121,7 @@ fn priced_plan_over(
     ensures certifies { IfOk result (λ pair. Certifies (claim problem.now pair.0.starts pair.1)) }
 {
     match kind {
-        NetworkKind::Direct => direct_network::priced_plan(alloc, problem),
-        NetworkKind::Racks => rack_network::priced_plan(alloc, problem),
+        NetworkKind::Direct => priced_plan::<DirectLayout>(alloc, problem),
+        NetworkKind::Racks => priced_plan::<RackLayout>(alloc, problem),
     }
 }

@@ -71,6 +71,7 @@ loop-count-init g c =
     record {
       arcs = refl;
       layout = refl;
+      looks = omega arith;
       size = ap length c.in_ok-new.ensures ∙ length-replicate {A = ℕ} c.size-nodes.result 0 ∙ nodes;
       buffers = c.in_ok-new-3.ensures ∙ nodes;
       state = begin_state _ _ _ _ _ c.limits.ensures.sizes c.requires.no_flow
@@ -92,6 +93,9 @@ ship-requires-clause-limit g c =
     let three = length-indices (g.L.Layout.index_of c.layout-3.result.now) c.args.sources.now in
     let limit = c.requires.limit in
     rw c.deref-in-loop-count.ensures.value (omega arith)
+
+pub ship-requires-clause-looks : goal.ship-requires-clause-looks
+ship-requires-clause-looks g c = rw c.loop-count.invariant.arcs c.loop-count.invariant.looks
 
 pub ship-requires-clause-can : goal.ship-requires-clause-can
 ship-requires-clause-can g c =
@@ -120,6 +124,7 @@ pub loop-count-preserved : goal.loop-count-preserved
 loop-count-preserved g c = record {
   arcs = c.ship.ensures.arcs ∙ c.loop-count.invariant.arcs;
   layout = c.ship.ensures.layout ∙ c.loop-count.invariant.layout;
+  looks = rw c.loop-count.invariant.arcs at c.in_ok-shipping.ensures.looks;
   size = c.in_ok-shipping.ensures.size ∙ ap (λ l. g.L.Layout.node_count l) c.loop-count.invariant.layout;
   buffers = c.in_ok-shipping.ensures.buffers
       ∙ ap (λ l. g.L.Layout.node_count l) c.loop-count.invariant.layout;

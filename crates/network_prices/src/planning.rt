@@ -1,0 +1,72 @@
+//! Plans a wave over a network that each wave has.
+ghost use Rattle.std.specs.Prelude.{◌≡◌, ◌+◌, ◌<◌, ◌≤◌, length, map, true, IfOk};
+ghost use Rattle.wave_problem.specs.declared.TheConstants.{MAX_SPLITS};
+ghost use Rattle.price_certificate.specs.Certificate.{claim, Certifies, HasOneSize};
+ghost use Rattle.augmenting_paths.specs.Shipping.{AreMembers};
+ghost use Rattle.network_prices.specs.Layers.{nodes_from};
+ghost use Rattle.network_prices.specs.Pending.{pending_splits};
+ghost use Rattle.network_prices.specs.Prices.{IsReadOff};
+
+use crate::{WaveNetwork, plan_of, prices_of};
+use augmenting_paths::saturate;
+use flow_network::Network;
+use node_ids::{Layout, SplitNo};
+use price_certificate::Prices;
+use std::alloc::{AllocError, Global};
+use wave_problem::{Plan, Problem};
+
+/// A plan with prices that certify it: it starts as many splits as any admissible assignment, at the
+/// least cost among those. It takes one augmentation for each pending split.
+pub fn priced_plan<N: WaveNetwork>(
+    alloc: Global,
+    problem: &Problem,
+) -> Result<(Plan, Prices), AllocError>
+    ensures sizes { IfOk result (λ pair. HasOneSize (claim problem.now pair.0.starts pair.1) pair.0.workers) }
+    ensures over { IfOk result (λ pair. IsReadOff problem.now
+        (nodes_from problem.now (N.first problem.now) (N.above problem.now)) (N.HasArcs problem.now)
+        pair.0.starts pair.1) }
+    ensures certifies { IfOk result (λ pair. Certifies (claim problem.now pair.0.starts pair.1)) }
+{
+    let mut network = N::build(alloc, problem)?;
+    network.limits();
+    N::is_wave_network();
+    let sources = pending_nodes(alloc, problem, &network)?;
+    let sink = last_node(&network);
+    let potentials = saturate(alloc, &mut network, &sources, sink)?;
+    let plan = plan_of(alloc, problem, &network)?;
+    let prices = prices_of::<N>(alloc, problem, &plan, &potentials)?;
+    Ok((plan, prices))
+}
+
+// The nodes of the pending splits, rising: each ships one unit.
+fn pending_nodes<L: Layout>(
+    alloc: Global,
+    problem: &Problem,
+    network: &Network<L>,
+) -> Result<Vec<L::Node>, AllocError>
+    requires { length problem.now.splits ≤ L.node_count network.now.layout }
+    ensures places { IfOk result (λ nodes. map (L.index_of network.now.layout) nodes.items
+        ≡ pending_splits problem.now) }
+    ensures members { IfOk result
+        (λ nodes. AreMembers (L.is_member network.now.layout) nodes.items) }
+    ensures few { IfOk result (λ nodes. length nodes.items ≤ MAX_SPLITS) }
+{
+    let layout = network.layout();
+    let mut nodes = Vec::new(alloc);
+    for i in 0..problem.splits() {
+        if problem.is_pending(SplitNo::new(i as u16)) {
+            nodes.push(layout.node(i))?;
+        }
+    }
+    Ok(nodes)
+}
+
+// The last node, which is the sink.
+fn last_node<L: Layout>(network: &Network<L>) -> L::Node
+    requires { 0 < L.node_count network.now.layout }
+    ensures member { L.is_member network.now.layout result ≡ true }
+    ensures last { L.index_of network.now.layout result + 1 ≡ L.node_count network.now.layout }
+{
+    let layout = network.layout();
+    layout.node(layout.size() - 1)
+}

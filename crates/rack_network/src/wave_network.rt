@@ -1,0 +1,54 @@
+//! The rack network as one that each wave has.
+ghost use Rattle.std.specs.Prelude.{◌≡◌, ◌+◌, length, slice_index};
+ghost use Rattle.network_prices.specs.Ways.{deepest};
+ghost use Rattle.rack_network.specs.Racks.{above_centres, first_worker};
+
+use crate::places::{first_centre, first_rack, first_worker};
+use crate::{RackLayout, build};
+use flow_network::Network;
+use network_prices::WaveNetwork;
+use node_ids::WorkerNo;
+use std::alloc::{AllocError, Global};
+use wave_problem::Problem;
+
+impl WaveNetwork for RackLayout {
+    ghost use Rattle.rack_network.specs.Racks.{first_worker, rack_nodes, IsRackNetwork, IsSized};
+
+    ghost first = { first_worker };
+
+    ghost above = { λ wave. (rack_nodes wave).above };
+
+    ghost Fits = { IsSized };
+
+    ghost HasArcs = { IsRackNetwork };
+
+    fn build(alloc: Global, problem: &Problem) -> Result<Network<RackLayout>, AllocError> {
+        build(alloc, problem)
+    }
+
+    fn first(problem: &Problem) -> usize {
+        first_worker(problem)
+    }
+
+    fn depth_above(problem: &Problem, depths: &[u64], worker: WorkerNo) -> u64 {
+        let tree = problem.tree();
+        let rack = tree.rack_of(worker);
+        let of_rack = depths[first_rack(problem) + rack.index()];
+        let of_centre = depths[first_centre(problem) + tree.centre_of(rack).index()];
+        of_rack.max(of_centre.max(top_depth(problem, depths)))
+    }
+
+    fn is_wave_network() {}
+}
+
+// The depth of `Cluster`, where there is one.
+fn top_depth(problem: &Problem, depths: &[u64]) -> u64
+    requires { length depths.now ≡ first_worker problem.now + length problem.now.workers + 2 }
+    ensures { result ≡ deepest (slice_index depths.now) (above_centres problem.now) }
+{
+    if problem.tree().centres() > 1 {
+        depths[problem.splits()]
+    } else {
+        0
+    }
+}
