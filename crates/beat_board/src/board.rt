@@ -1,9 +1,8 @@
-ghost use Rattle.std.specs.Prelude.{◌≡◌, ◌≢◌, ◌+◌, ◌<◌, ◌≤◌, ℕ, List, [], ◌∷◌, ◌++◌, ◌↔◌, map, length};
+ghost use Rattle.std.specs.Prelude.{◌≡◌, ◌≢◌, ◌+◌, ◌<◌, ◌≤◌, ◌^◌, ℕ, List, [], ◌∷◌, ◌++◌, ◌↔◌, map, length};
 ghost use Rattle.std.specs.Prelude.{slice_index};
 ghost use Rattle.std.specs.Prelude.{IfOk, IfErr, OnOk, OnErr, IsOk, IsErr};
 ghost use Rattle.std.specs.List.{All};
 ghost use Rattle.std.specs.Slots.{slots_items, slots_len, IsFull};
-ghost use Rattle.beat_board.specs.declared.TheConstants.{MAX_WORKERS, MAX_BEATS, MAX_SEATS};
 ghost use Rattle.beat_board.specs.Values.{beats_by, told_by, last_seen, look, AreWithin, AreToldOnce};
 ghost use Rattle.beat_board.specs.Rule.{beats_of, told_of};
 ghost use Rattle.beat_board.specs.Views.{making};
@@ -80,7 +79,7 @@ impl Board {
     /// A board for so many workers, numbered from 0, and the one maker of its seats and readers. It takes
     /// all its memory here: 2 KiB.
     pub fn new(alloc: Global, workers: usize) -> Result<(Board, Maker), AllocError>
-        requires { workers ≤ MAX_WORKERS }
+        requires { workers ≤ 256 }
         ensures workers { IfOk result (λ r. r.0.workers ≡ workers) }
         ensures maker { IfOk result (λ r. r.1 ≡ record { board = r.0.board; seats = 0; readers = 0 }) }
     {
@@ -103,7 +102,7 @@ impl Board {
             ≡ record { board = self.now.board; worker = worker; beats = 0; told = [] }) }
         ensures made { OnOk result (maker.new ≡ record maker.old { seats = maker.old.seats + 1 }) }
         ensures err { OnErr result (maker.new ≡ maker.old) }
-        ensures limit { (result ≡ Err SeatError.Limit) ↔ (maker.old.seats + maker.old.readers ≡ MAX_SEATS) }
+        ensures limit { (result ≡ Err SeatError.Limit) ↔ (maker.old.seats + maker.old.readers ≡ 4096) }
         ensures memory { result ≢ Err SeatError.Memory }
     {
         if maker.is_full() {
@@ -127,7 +126,7 @@ impl Board {
         ensures reader { IfOk result (λ r. r ≡ record { board = self.now.board; looks = [] }) }
         ensures made { OnOk result (maker.new ≡ record maker.old { readers = maker.old.readers + 1 }) }
         ensures err { OnErr result (maker.new ≡ maker.old) }
-        ensures limit { (result ≡ Err SeatError.Limit) ↔ (maker.old.seats + maker.old.readers ≡ MAX_SEATS) }
+        ensures limit { (result ≡ Err SeatError.Limit) ↔ (maker.old.seats + maker.old.readers ≡ 4096) }
         ensures memory { result ≢ Err SeatError.Memory }
     {
         if maker.is_full() {
@@ -150,9 +149,9 @@ impl Board {
             ≡ record seat.old { beats = seat.old.beats + 1; told = word ∷ seat.old.told }) }
         ensures told { IfOk result (λ word. seat.new.beats ≤ word) }
         ensures rises { IfOk result (λ word. All (λ n. n < word) seat.old.told) }
-        ensures worn { IsErr result ↔ (seat.old.beats ≡ MAX_BEATS) }
+        ensures worn { IsErr result ↔ (seat.old.beats ≡ 2 ^ 40) }
         ensures err { OnErr result (seat.new ≡ seat.old) }
-        ensures most { seat.new.beats ≤ MAX_BEATS }
+        ensures most { seat.new.beats ≤ 2 ^ 40 }
     {
         if seat.beats >= MAX_BEATS {
             return Err(Worn);
@@ -208,9 +207,9 @@ impl Board {
         requires seats { All (λ s. s.board ≡ self.board) seats.items }
         requires readers { All (λ r. r.board ≡ self.board) readers.items }
         ensures complete { IsOk result ↔ (length seats.items ≡ maker.seats) }
-        ensures totals { IfOk result (λ t. (w : ℕ) → w < MAX_WORKERS
+        ensures totals { IfOk result (λ t. (w : ℕ) → w < 256
             → slice_index t.beats w ≡ beats_by w seats.items) }
-        ensures told { IfOk result (λ t. (w : ℕ) → w < MAX_WORKERS
+        ensures told { IfOk result (λ t. (w : ℕ) → w < 256
             → AreToldOnce w (slice_index t.beats w) seats.items) }
         ensures seen { IfOk result (λ t. All (λ r. AreWithin t.beats r.looks) readers.items) }
         ensures missing { IfErr result (λ m. length seats.items + m.count ≡ maker.seats) }
@@ -236,8 +235,8 @@ impl Board {
         requires readers { All (λ r. r.board ≡ self.board) readers.items }
         requires all { maker.seats ≤ length seats.items }
         ensures made { length seats.items ≡ maker.seats }
-        ensures sums { (w : ℕ) → w < MAX_WORKERS → slice_index result.beats w ≡ beats_by w seats.items }
-        ensures told { (w : ℕ) → w < MAX_WORKERS → AreToldOnce w (slice_index result.beats w) seats.items }
+        ensures sums { (w : ℕ) → w < 256 → slice_index result.beats w ≡ beats_by w seats.items }
+        ensures told { (w : ℕ) → w < 256 → AreToldOnce w (slice_index result.beats w) seats.items }
         ensures seen { All (λ r. AreWithin result.beats r.looks) readers.items }
     {
         let Board { table, workers: _ } = self;

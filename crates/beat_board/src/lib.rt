@@ -12,9 +12,10 @@
 //! # How the layer above uses it
 //! The calling thread makes board and maker, hands each worker's thread a seat, and keeps a reader. A
 //! thread that ends gives its seat back by its join, and `close` takes them all. A contract tells what a
-//! seat made by its value `{ board; worker; beats }`, so a caller proves what the totals are, whatever
-//! order the threads beat in. `thread_tests` proves this one, in which as many threads as there are seats
-//! beat for one worker. What a thread gives back is told by a promise, since a join tells the type alone:
+//! seat made and was told by its value `{ board; worker; beats; told }`, so a caller proves what the totals
+//! are, whatever order the threads beat in. `thread_tests` proves this one, in which as many threads as there
+//! are seats beat for one worker. What a thread gives back is told by a promise, since a join tells the type
+//! alone:
 //!
 //! ```text
 //! // What a thread gives back: a seat of the board and of the worker, with so many beats.
@@ -28,7 +29,7 @@
 //! // in thread::scope, for each seat:
 //! scope.spawn_with(SeatOf { board, worker, beats: times }, move || -> Seat
 //!     requires { (seat.board ≡ board.now.board) × (seat.worker ≡ worker) × (seat.beats ≡ 0)
-//!         × (times ≤ MAX_BEATS) }
+//!         × (times ≤ 2 ^ 40) }
 //!     ensures { (result.board ≡ board.entry.now.board) × (result.worker ≡ worker) × (result.beats ≡ times) }
 //! { beat_often(board, seat, times) })?
 //! ```

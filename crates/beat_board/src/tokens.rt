@@ -1,5 +1,4 @@
 ghost use Rattle.std.specs.Prelude.{◌≡◌, ◌+◌, ◌<◌, ◌↔◌, IsTrue, false};
-ghost use Rattle.beat_board.specs.declared.TheConstants.{MAX_SEATS};
 
 // The maker, the seats and the readers of a board. Each has a token of the table, which takes no bytes
 // and with which its steps are made.
@@ -32,8 +31,8 @@ impl Model for Maker {
 
 impl Maker {
     pub(crate) fn is_full(&self) -> bool
-        ensures full { IsTrue result ↔ (self.now.seats + self.now.readers ≡ MAX_SEATS) }
-        ensures room { result ≡ false → self.now.seats + self.now.readers < MAX_SEATS }
+        ensures full { IsTrue result ↔ (self.now.seats + self.now.readers ≡ 4096) }
+        ensures room { result ≡ false → self.now.seats + self.now.readers < 4096 }
     {
         self.seats + self.readers >= MAX_SEATS
     }

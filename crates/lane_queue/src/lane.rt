@@ -2,13 +2,11 @@ ghost use Rattle.std.specs.Prelude.{◌≡◌, ◌+◌, ◌<◌, ◌≤◌, ◌+
 ghost use Rattle.std.specs.Prelude.{IfOk, IfErr, IfSome, IfNone, IsOk, OnOk, OnErr, MatchOption};
 ghost use Rattle.std.specs.List.{All};
 ghost use Rattle.crossbeam_queue.specs.Passes.{view, IsPassOf, ruled_capacity};
-ghost use Rattle.lane_queue.specs.declared.TheConstants.{MAX_CAPACITY};
 ghost use Rattle.lane_queue.specs.declared.order.Order.{Order};
 ghost use Rattle.lane_queue.specs.Orders.{Settles};
 ghost use Rattle.lane_queue.specs.Lanes.{Knows, AreWhole, puts_of, takes_of, depths_of, one_each};
 ghost use Rattle.lane_queue.specs.Steps.{hand, Totals};
 
-use crate::MAX_CAPACITY;
 use crate::order::Order;
 use crate::view::{InLine, PutStep, ShareJoin, ShareSplit, TakeStep, View};
 use crossbeam_queue::RuledArrayQueue;
@@ -90,7 +88,7 @@ impl Lane {
     /// its memory here.
     pub fn new(alloc: Global, capacity: usize) -> Result<(Lane, Pass), AllocError>
         requires some { 0 < capacity }
-        requires few { capacity ≤ MAX_CAPACITY }
+        requires few { capacity ≤ 64 }
         ensures capacity { IfOk result (λ r. r.0.capacity ≡ capacity) }
         ensures pass { IfOk result (λ r. r.1 ≡ record { lane = r.0.lane; puts = []; takes = []; depth = 0 }) }
     {
@@ -111,8 +109,8 @@ impl Lane {
         Ok(Pass { token })
     }
 
-    /// Puts an order at the back. It comes back only if the lane was full at one moment of the call. A clause
-    /// says so of a pass that was never shared; what others put and took meanwhile no pass knows.
+    /// Puts an order at the back. It comes back where the lane was found full: of a pass that was never shared
+    /// a clause says that it was; what others put and took meanwhile a shared pass does not know.
     pub fn put<R: Wait>(&self, rt: &R, pass: &mut Pass, order: Order) -> Result<(), Full>
         requires { pass.old.lane ≡ self.now.lane }
         ensures lane { pass.new.lane ≡ pass.old.lane }
@@ -128,7 +126,8 @@ impl Lane {
         }
     }
 
-    /// Takes the order at the front. There is none only if the lane was empty at one moment of the call.
+    /// Takes the order at the front. There is none where the lane was found empty: of a pass that was never
+    /// shared a clause says that it was.
     pub fn take<R: Wait>(&self, rt: &R, pass: &mut Pass) -> Option<Order>
         requires { pass.old.lane ≡ self.now.lane }
         ensures lane { pass.new.lane ≡ pass.old.lane }

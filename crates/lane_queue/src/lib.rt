@@ -16,7 +16,7 @@
 //! takes; at the end the worker's pass comes back by its join, and `close` takes both. A contract sees a
 //! pass as `{ lane; puts; takes; depth }`. That no other pass was made is said by the depths: each
 //! `share` halves a part, and the passes at hand are all where their parts make up the whole lane
-//! (`IsWhole`: the first pass is whole, and sharing keeps it, by the laws of `laws`). The tests prove
+//! (`AreWhole`: the first pass is whole, and sharing keeps it, by the laws of `laws`). The tests prove
 //! this caller, whose `put_and_take` runs two threads, one that puts all orders and one that takes as
 //! many:
 //!

@@ -1,6 +1,5 @@
-ghost use Rattle.std.specs.Prelude.{◌≡◌, ◌+◌, ◌*◌, ◌<◌, ◌≤◌, length, [], ◌∷◌, IfOk, IfSome, IsTrue};
+ghost use Rattle.std.specs.Prelude.{◌≡◌, ◌+◌, ◌*◌, ◌<◌, ◌≤◌, ◌^◌, length, [], ◌∷◌, IfOk, IfSome, IsTrue};
 ghost use Rattle.std.specs.List.{All};
-ghost use Rattle.beat_board.specs.declared.TheConstants.{MAX_BEATS};
 
 use beat_board::{Board, Maker, Reader, Seat, Totals, Worn};
 use node_ids::WorkerNo;
@@ -13,7 +12,7 @@ use std::thread::Threads;
 // So many beats of the seat.
 fn beat_often(board: &Board, mut seat: Seat, times: u64) -> Seat
     requires board { seat.board ≡ board.now.board }
-    requires room { seat.beats + times ≤ MAX_BEATS }
+    requires room { seat.beats + times ≤ 2 ^ 40 }
     ensures same { (result.board ≡ seat.board) × (result.worker ≡ seat.worker) }
     ensures beats { result.beats ≡ seat.beats + times }
 {
@@ -50,7 +49,7 @@ fn each_beats<R: Threads + Wait + Sync>(
 ) -> Result<Vec<Seat>, AllocError>
     requires seats { All (λ s. (s.board ≡ board.now.board) × (s.worker ≡ worker) × (s.beats ≡ 0))
         seats.items }
-    requires room { times ≤ MAX_BEATS }
+    requires room { times ≤ 2 ^ 40 }
     ensures seats { IfOk result (λ back. All (λ s. (s.board ≡ board.now.board) × (s.worker ≡ worker)
         × (s.beats ≡ times)) back.items) }
     ensures count { IfOk result (λ back. length back.items ≡ length seats.items) }
@@ -61,7 +60,7 @@ fn each_beats<R: Threads + Wait + Sync>(
         |scope| -> Result<Vec<Seat>, AllocError>
             requires { All (λ s. (s.board ≡ board.now.board) × (s.worker ≡ worker) × (s.beats ≡ 0))
                 seats.items
-                × (times ≤ MAX_BEATS) }
+                × (times ≤ 2 ^ 40) }
             ensures { IfOk result (λ back. All (λ s. (s.board ≡ board.entry.now.board) × (s.worker ≡ worker)
                 × (s.beats ≡ times)) back.items × (length back.items ≡ length seats.items)) }
         {
@@ -77,7 +76,7 @@ fn each_beats<R: Threads + Wait + Sync>(
                     promise,
                     move || -> Seat
                         requires { (seat.board ≡ board.now.board) × (seat.worker ≡ worker) × (seat.beats ≡ 0)
-                            × (times ≤ MAX_BEATS) }
+                            × (times ≤ 2 ^ 40) }
                         ensures { (result.board ≡ board.entry.now.board) × (result.worker ≡ worker)
                             × (result.beats ≡ times) }
                     {
@@ -151,7 +150,7 @@ fn beat_together<R: Threads + Wait + Sync>(
     threads: usize,
     times: u64,
 ) -> Option<u64>
-    requires { times ≤ MAX_BEATS }
+    requires { times ≤ 2 ^ 40 }
     ensures { IfSome result (λ total. total ≡ threads * times) }
 {
     let worker = WorkerNo::new(0);

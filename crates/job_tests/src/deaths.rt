@@ -1,0 +1,75 @@
+//! Workers that die by sweeps, and return.
+use crate::gates::{HoldsUntil, Outlives, Seen, Silences};
+use crate::jobs::{AMPLE, SplitRow, job_of};
+use crate::told::{Told, add_number, run_rows, tell};
+use job_threads::{RunError, run};
+use std::sync::atomic::Ordering;
+
+// The one worker is held in its first map through so many sweeps that it dies, and its split has no other
+// holder. It returns with that split, and maps it again.
+#[test]
+fn a_worker_that_was_only_slow_returns(rt: HostRuntime) {
+    let rows: [SplitRow<'_>; 1] = [(5, &[0], "one")];
+    let gate = Silences::new(51, 0);
+    let job = job_of(&rt, rt.alloc(), &[1], &rows, 2, 50, AMPLE).expect(&rt, "no job");
+    let told = tell(&rt, rt.alloc(), run(&rt, rt.alloc(), job, &gate));
+    assert!(rt; told.is_index("one 0/"), "{told:?}");
+    assert!(rt;
+        gate.seen.begun.load(Ordering::SeqCst) == 2,
+        "its late result was taken"
+    );
+}
+
+// A worker dies while its map is held, and the other one does it.
+#[test]
+fn a_death_by_sweeps_loses_no_split(rt: HostRuntime) {
+    let rows: [SplitRow<'_>; 1] = [(5, &[0, 1], "one")];
+    let gate = Outlives { seen: Seen::new() };
+    let job = job_of(&rt, rt.alloc(), &[1, 1], &rows, 2, 50, AMPLE).expect(&rt, "no job");
+    let told = tell(&rt, rt.alloc(), run(&rt, rt.alloc(), job, &gate));
+    assert!(rt; told.is_index("one 0/"), "{told:?}");
+    assert!(rt; gate.seen.begun.load(Ordering::SeqCst) >= 2);
+}
+
+// A worker that dies after each 1,000 maps, and returns, has made 4,096 calls at last, and its hand is full.
+#[test]
+fn a_full_hand_ends_the_run(rt: HostRuntime) {
+    let rows: [SplitRow<'_>; 1024] = [(5, &[0], "one"); 1024];
+    let gate = Silences::new(51, 1000);
+    let job = job_of(&rt, rt.alloc(), &[16], &rows, 1, 50, AMPLE).expect(&rt, "no job");
+    let told = tell(&rt, rt.alloc(), run(&rt, rt.alloc(), job, &gate));
+    assert!(rt;
+        matches!(told, Told::Error(RunError::HistoryFull)),
+        "{told:?}"
+    );
+    assert!(rt; gate.seen.begun.load(Ordering::SeqCst) > 4096);
+}
+
+// Four workers fill their lanes: 16 starts each at once, and the first maps are held until all four have one.
+#[test]
+fn full_hands_and_long_lanes(rt: HostRuntime) {
+    let held: [u16; 4] = [0, 1, 2, 3];
+    let mut rows: [SplitRow<'_>; 64] = [(5, &held, "one"); 64];
+    for split in 0..64usize {
+        if split % 2 == 1 {
+            rows[split].2 = "two";
+        }
+    }
+    let gate = HoldsUntil {
+        seen: Seen::new(),
+        begun: 4,
+    };
+    let told = run_rows(&rt, rt.alloc(), &[16; 4], &rows, AMPLE, &gate);
+    let alloc = rt.alloc();
+    let mut lines = String::new(alloc);
+    lines.push_str("one").expect(&rt, "no memory");
+    for split in 0..32usize {
+        add_number(&rt, alloc, &mut lines, " ", 2 * split);
+    }
+    lines.push_str("/two").expect(&rt, "no memory");
+    for split in 0..32usize {
+        add_number(&rt, alloc, &mut lines, " ", 2 * split + 1);
+    }
+    lines.push_str("/").expect(&rt, "no memory");
+    assert!(rt; told.is_index(&lines), "{told:?}");
+}

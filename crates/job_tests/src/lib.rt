@@ -1,0 +1,19 @@
+//! Tests of jobs that run on threads, called as any caller calls them.
+#![tactic(auto)]
+
+#[cfg(test)]
+mod deaths;
+#[cfg(test)]
+mod ends;
+#[cfg(test)]
+mod gates;
+#[cfg(test)]
+mod jobs;
+#[cfg(test)]
+mod made;
+#[cfg(test)]
+mod rows;
+#[cfg(test)]
+mod sizes;
+#[cfg(test)]
+mod told;

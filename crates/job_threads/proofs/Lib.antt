@@ -1,0 +1,3 @@
+pub mod Finished
+mod Looking
+mod Returning

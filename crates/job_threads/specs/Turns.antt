@@ -1,0 +1,43 @@
+-- The turns of the calling thread.
+use Rattle.std.specs.Prelude.{ℕ, ◌+◌, ◌-◌, ◌%◌, ◌^◌, ◌==◌, ◌&&◌, ◌||◌, nat_le, nat_lt, min, not, Bool}
+use Rattle.std.specs.Prelude.{true, false}
+use Rattle.std.specs.Prelude.{if◌then◌else◌}
+use Rattle.master_state.specs.declared.answers.Glance.{Glance}
+use Rattle.job_threads.specs.declared.gate.Turn.{Turn}
+use Rattle.job_threads.specs.declared.gate.Turn.TheVariants.{On, Sweep, Backup}
+
+-- in how many turns, one after the other, nothing started; it stays at the greatest number that a u64 has
+abbrev pub idle_after : ℕ → Bool → ℕ
+idle_after idle true = 0
+idle_after idle false = min (idle + 1) (2 ^ 64 - 1)
+
+-- nothing runs, and nothing can start
+abbrev pub is_still : Glance → Bool
+is_still glance = glance.running == 0 && (not glance.ready && not glance.reducible)
+
+-- how many sweeps, one after the other, saw no dead worker rise while it was so: after a glance, and after a
+-- sweep
+abbrev pub quiet_after : ℕ → Glance → ℕ
+quiet_after quiet glance = if is_still glance then quiet else 0
+
+abbrev pub quiet_swept : ℕ → Bool → Bool → ℕ
+quiet_swept quiet still true = 0
+quiet_swept quiet true false = min (quiet + 1) (2 ^ 32 - 1)
+quiet_swept quiet false false = quiet
+
+-- all parts are done, or it was so through as many sweeps as a worker may be silent
+abbrev pub has_ended : Glance → ℕ → ℕ → Bool
+has_ended glance quiet silence =
+    glance.open_parts == 0 || (is_still glance && nat_le silence quiet)
+
+-- what the gate of a plain run answers
+abbrev pub plain_turn : ℕ → Turn
+plain_turn idle =
+    if idle == 0 then On
+    else if idle % 65536 == 0 then Sweep
+    else if idle % 65536 == 32768 then Backup
+    else On
+
+-- whether the calling thread sleeps in a turn: at each 128th of many idle ones
+abbrev pub is_for_sleep : ℕ → Bool
+is_for_sleep idle = nat_le 1024 idle && idle % 128 == 0

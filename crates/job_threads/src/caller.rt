@@ -1,0 +1,170 @@
+ghost use Rattle.std.specs.Prelude.{◌≡◌, ◌<◌, ◌≤◌, OnOk};
+ghost use Rattle.job_threads.specs.Holdings.{changed_at, stopped};
+ghost use Rattle.job_threads.specs.Turns.{
+  has_ended,
+  idle_after,
+  is_for_sleep,
+  is_still,
+  quiet_after,
+  quiet_swept,
+};
+
+use crate::beats::Watch;
+use crate::common::Common;
+use crate::gate::{Gate, Turn};
+use crate::holdings::Holdings;
+use crate::lanes::LaneEnd;
+use crate::outcome::RunError;
+use master_state::Glance;
+use node_ids::WorkerNo;
+use shared_master::Hand;
+use std::alloc::Global;
+use std::rt::Clock;
+use std::sync::ledger::Ledger;
+use std::sync::{Arc, Wait};
+use std::thread;
+use std::time::Duration;
+use word_map::SplitText;
+
+// For how long the calling thread sleeps in an idle turn, where it does.
+const NAP_MICROS: u64 = 900;
+
+// What the calling thread has.
+#[derive(Drop)]
+pub(crate) struct Caller<L: Ledger> {
+    pub(crate) hand: Hand<L>,
+    pub(crate) watch: Watch,
+    pub(crate) lanes: Vec<LaneEnd>,
+    pub(crate) texts: Vec<Arc<SplitText>>,
+    pub(crate) holdings: Holdings,
+    pub(crate) target: usize,
+    pub(crate) silence: u32,
+    // the greatest number of an attempt that was sent
+    pub(crate) newest: u32,
+    // in how many turns, one after the other, nothing started
+    pub(crate) idle: u64,
+    // for how many turns no wave is planned, since a lane was full
+    pub(crate) pause: u32,
+    // how many sweeps saw no dead worker rise while nothing ran and nothing could start
+    pub(crate) quiet: u32,
+}
+
+impl<L: Ledger> Caller<L> {
+    // Turn after turn, until the job is done or stuck, or something ends the run.
+    pub(crate) fn call<G: Gate, R: Wait + Clock>(
+        &mut self,
+        rt: &R,
+        alloc: Global,
+        common: &Common<'_, L, G>,
+    ) -> Result<(), RunError> {
+        for _ in rt.forever() {
+            if common.flags.is_over() {
+                break;
+            }
+            let glance = common.shared.glance(rt);
+            if self.has_ended(&glance) {
+                break;
+            }
+            self.turn(rt, alloc, common, &glance)?;
+        }
+        Ok(())
+    }
+
+    // Whether all parts are done; or nothing ran, nothing could start and no dead worker rose through as many
+    // sweeps as a worker may be silent.
+    fn has_ended(&mut self, glance: &Glance) -> bool
+        ensures value { result ≡ has_ended glance.now self.new.quiet self.old.silence }
+        ensures quiet { self.new.quiet ≡ quiet_after self.old.quiet glance.now }
+        ensures silence { self.new.silence ≡ self.old.silence }
+    {
+        let still = is_still(glance);
+        if !still {
+            self.quiet = 0;
+        }
+        glance.open_parts == 0 || still && self.silence <= self.quiet
+    }
+
+    // Starts what may start, and does what the gate says.
+    fn turn<G: Gate, R: Wait + Clock>(
+        &mut self,
+        rt: &R,
+        alloc: Global,
+        common: &Common<'_, L, G>,
+        glance: &Glance,
+    ) -> Result<(), RunError> {
+        let started = self.start(rt, alloc, common, glance)?;
+        self.count_idle(started);
+        self.rest(rt);
+        match common.gate.turn(self.idle) {
+            Turn::On => Ok(()),
+            Turn::Sweep => {
+                let rose = self.sweep(rt, alloc, common)?;
+                self.count_quiet(is_still(glance), rose);
+                Ok(())
+            }
+            Turn::Backup => {
+                if self.back_up(rt, common)? {
+                    self.idle = 0;
+                }
+                Ok(())
+            }
+            Turn::Stop(worker) => {
+                self.stop(common, worker);
+                Ok(())
+            }
+            Turn::Over => Err(RunError::GateLimit),
+        }
+    }
+
+    fn count_idle(&mut self, started: bool)
+        ensures { self.new.idle ≡ idle_after self.old.idle started }
+    {
+        self.idle = if started {
+            0
+        } else {
+            self.idle.saturating_add(1)
+        };
+    }
+
+    // After a sweep: a dead worker rose, or nothing ran and nothing could start.
+    fn count_quiet(&mut self, still: bool, rose: bool)
+        ensures { self.new.quiet ≡ quiet_swept self.old.quiet still rose }
+    {
+        if rose {
+            self.quiet = 0;
+        } else if still {
+            self.quiet = self.quiet.saturating_add(1);
+        }
+    }
+
+    // Leaves the processor to the workers for a moment, now and then in idle turns. So many of them take some
+    // time, however fast one is.
+    fn rest<R: Clock>(&self, rt: &R) {
+        if is_for_sleep(self.idle) {
+            thread::sleep(rt, Duration::from_micros(NAP_MICROS));
+        }
+    }
+
+    // The worker never goes on, and never joins again.
+    fn stop<G: Gate>(&mut self, common: &Common<'_, L, G>, worker: WorkerNo)
+        ensures { self.new.holdings.workers.items
+            ≡ changed_at stopped self.old.holdings.workers.items worker }
+    {
+        common.flags.stop(worker);
+        self.holdings.stop(worker);
+    }
+}
+
+// Whether nothing runs and nothing can start.
+fn is_still(glance: &Glance) -> bool
+    ensures { result ≡ is_still glance.now }
+{
+    glance.running == 0 && !glance.ready && !glance.reducible
+}
+
+// Whether the calling thread sleeps: at each 128th of many idle turns.
+fn is_for_sleep(idle: u64) -> bool
+    ensures { result ≡ is_for_sleep idle }
+{
+    idle >= 1024 && idle % 128 == 0
+}

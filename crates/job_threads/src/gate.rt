@@ -1,0 +1,73 @@
+ghost use Rattle.std.specs.Prelude.{◌≡◌};
+ghost use Rattle.job_threads.specs.Turns.{plain_turn};
+
+use lane_queue::Order;
+use node_ids::WorkerNo;
+use std::thread;
+
+/// Whether a worker goes on.
+#[derive(Clone, Copy, Debug, PartialEq, Eq)]
+pub enum Go {
+    On,
+    /// The run ends.
+    Over,
+}
+
+/// What the calling thread does in a turn.
+#[derive(Clone, Copy, Debug, PartialEq, Eq)]
+pub enum Turn {
+    On,
+    /// What is seen of the workers' beats is handed to the master.
+    Sweep,
+    /// The worker beats, takes and calls no more.
+    Stop(WorkerNo),
+    /// Each split that runs one attempt gets a second one, where it may.
+    Backup,
+    /// The run ends.
+    Over,
+}
+
+/// What the world outside does to a job that runs on threads. Each of its threads asks it.
+pub trait Gate: Sync {
+    /// Just before a worker maps.
+    fn before_map(&self, order: &Order) -> Go;
+
+    /// When the master has answered the worker's call for the order.
+    fn after_map(&self, order: &Order) -> Go;
+
+    /// Once a turn of the calling thread. In so many turns, one after the other, nothing started.
+    fn turn(&self, idle: u64) -> Turn;
+}
+
+/// The gate of a plain run. It yields once a turn, and answers Sweep at the positive multiples of 65,536 idle
+/// turns, Backup at the odd multiples of 32,768, else On.
+#[derive(Clone, Copy, Debug)]
+pub struct PlainGate;
+
+impl Gate for PlainGate {
+    fn before_map(&self, _order: &Order) -> Go {
+        Go::On
+    }
+
+    fn after_map(&self, _order: &Order) -> Go {
+        Go::On
+    }
+
+    fn turn(&self, idle: u64) -> Turn {
+        thread::yield_now();
+        plain_turn(idle)
+    }
+}
+
+fn plain_turn(idle: u64) -> Turn
+    ensures { result ≡ plain_turn idle }
+{
+    if idle == 0 {
+        return Turn::On;
+    }
+    match idle % 65_536 {
+        0 => Turn::Sweep,
+        32_768 => Turn::Backup,
+        _ => Turn::On,
+    }
+}

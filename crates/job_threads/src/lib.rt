@@ -1,0 +1,27 @@
+//! A job on threads, one for each of its workers, and the thread that called.
+//!
+//! The calling thread plans, sends orders and looks after beats, by what a gate says; the workers map and
+//! merge, and tell a shared master. Upward the layer promises what an outcome means, whatever the threads
+//! did: an index is the sequential one of the job's documents, and a stuck master can start nothing. It stands on
+//! `shared_master`, `beat_board` and `lane_queue`, and knows no text.
+#![tactic(auto)]
+
+mod beats;
+mod caller;
+mod common;
+mod ending;
+pub mod gate;
+mod holdings;
+pub mod job;
+mod lanes;
+pub mod outcome;
+pub mod running;
+mod starting;
+mod sweeping;
+mod threads;
+mod work;
+
+pub use gate::{Gate, Go, PlainGate, Turn};
+pub use job::Job;
+pub use outcome::{Outcome, RunError};
+pub use running::run;

@@ -1,0 +1,246 @@
+ghost use Rattle.std.specs.Prelude.{◌≡◌, ◌<◌, ◌≤◌, length, IfOk, []};
+ghost use Rattle.shuffle_reduce.specs.Gather.{values_of};
+ghost use Rattle.master_state.specs.States.{AreAllowed};
+ghost use Rattle.job_threads.specs.Outcomes.{IsOutcomeOf};
+
+use crate::beats::{Pulse, Watch};
+use crate::caller::Caller;
+use crate::common::Common;
+use crate::ending::{outcome_of, settled};
+use crate::gate::Gate;
+use crate::holdings::Holdings;
+use crate::job::Job;
+use crate::lanes::LaneEnd;
+use crate::outcome::{Outcome, RunError};
+use crate::threads::{Ended, run_threads};
+use crate::work::Worker;
+use master_core::{Cluster, Master};
+use master_state::Limits;
+use node_ids::WorkerNo;
+use shared_master::{Hand, HandError, SharedMaster};
+use std::alloc::{AllocError, Global};
+use std::marker::Brand;
+use std::rt::Clock;
+use std::sync::ledger::{Blank, Ledger};
+use std::sync::{Arc, Wait};
+use std::thread::Threads;
+use word_map::SplitText;
+
+// What a worker's hand has room for.
+const WORKER_ROOM: Limits = Limits {
+    events: 4096,
+    attempts: 0,
+    sweeps: 0,
+};
+
+/// Runs a job, each of its workers in a thread of its own, by what the gate says.
+pub fn run<G: Gate, R: Threads + Wait + Clock + Sync>(
+    rt: &R,
+    alloc: Global,
+    job: Job,
+    gate: &G,
+) -> Result<Outcome, RunError>
+    requires workers { length job.cluster.slots ≤ 32 }
+    requires limits { AreAllowed job.limits }
+    ensures { IfOk result (IsOutcomeOf job.cluster.texts) }
+{
+    run_on::<Brand, G, R>(rt, alloc, Blank::new(4096), job, gate)
+}
+
+fn run_on<L: Ledger + Send + Sync, G: Gate, R: Threads + Wait + Clock + Sync>(
+    rt: &R,
+    alloc: Global,
+    blank: Blank,
+    job: Job,
+    gate: &G,
+) -> Result<Outcome, RunError>
+    requires ledger { (blank.name ≡ L.name) × (blank.parts ≡ L.parts) × (blank.parts ≡ 4096) }
+    requires workers { length job.cluster.slots ≤ 32 }
+    requires limits { AreAllowed job.limits }
+    ensures { IfOk result (IsOutcomeOf job.cluster.texts) }
+{
+    let Job {
+        cluster,
+        target,
+        limits,
+    } = job;
+    let Ok(texts) = copy_texts(alloc, cluster.texts()) else {
+        return Err(RunError::Memory);
+    };
+    let parts = cluster.parts();
+    let aims = aims_of(alloc, &cluster, usize::from(target))?;
+    let Ok(master) = Master::new(alloc, cluster, limits) else {
+        return Err(RunError::Memory);
+    };
+    let shared: SharedMaster<L> = SharedMaster::new(blank, master);
+    let ended = run_shared(rt, alloc, &shared, gate, parts, limits, aims)?;
+    conclude(alloc, parts, &texts, shared, ended)
+}
+
+// What the calling thread is to know before there is a master.
+#[derive(Drop)]
+struct Aims {
+    watch: Watch,
+    texts: Vec<Arc<SplitText>>,
+    holdings: Holdings,
+    target: usize,
+    silence: u32,
+    workers: usize,
+    ghost few: { workers ≤ 32 },
+}
+
+fn aims_of(alloc: Global, cluster: &Cluster, target: usize) -> Result<Aims, RunError>
+    requires { length cluster.now.slots ≤ 32 }
+{
+    let workers = cluster.slots().len();
+    let Ok(watch) = Watch::new(alloc, workers) else {
+        return Err(RunError::Memory);
+    };
+    let Ok(texts) = copy_texts(alloc, cluster.texts()) else {
+        return Err(RunError::Memory);
+    };
+    let Ok(holdings) = Holdings::of(alloc, cluster) else {
+        return Err(RunError::Memory);
+    };
+    Ok(Aims {
+        watch,
+        texts,
+        holdings,
+        target,
+        silence: cluster.silence(),
+        workers,
+    })
+}
+
+// Makes the hands, the lanes and the seats, and runs the threads.
+fn run_shared<'a, L: Ledger + Send + Sync, G: Gate, R: Threads + Wait + Clock + Sync>(
+    rt: &R,
+    alloc: Global,
+    shared: &'a SharedMaster<L>,
+    gate: &'a G,
+    parts: usize,
+    limits: Limits,
+    aims: Aims,
+) -> Result<Ended<L>, RunError>
+    requires some { 0 < parts }
+    requires few { parts ≤ 64 }
+{
+    let common = Common::new(shared, gate, parts);
+    let Aims {
+        watch,
+        texts,
+        holdings,
+        target,
+        silence,
+        workers,
+    } = aims;
+    let hand = hand_of(rt, alloc, shared, limits)?;
+    let mut caller = Caller {
+        hand,
+        watch,
+        lanes: Vec::new(alloc),
+        texts,
+        holdings,
+        target,
+        silence,
+        newest: 0,
+        idle: 0,
+        pause: 0,
+        quiet: 0,
+    };
+    let all = make_workers(rt, alloc, shared, &mut caller, workers)?;
+    Ok(run_threads(rt, alloc, &common, caller, all))
+}
+
+// Settles, and tells the outcome.
+fn conclude<L: Ledger>(
+    alloc: Global,
+    parts: usize,
+    texts: &[Arc<SplitText>],
+    shared: SharedMaster<L>,
+    ended: Ended<L>,
+) -> Result<Outcome, RunError>
+    requires some { 0 < parts }
+    requires few { parts ≤ 64 }
+    ensures { IfOk result (IsOutcomeOf (values_of texts.now)) }
+{
+    let Ended { hands, end } = ended;
+    match end {
+        Ok(()) => {
+            let master = settled(shared.into_master(), hands)?;
+            outcome_of(alloc, parts, texts, master)
+        }
+        Err(RunError::HistoryFull) => {
+            settled(shared.into_master(), hands)?;
+            Err(RunError::HistoryFull)
+        }
+        Err(error) => Err(error),
+    }
+}
+
+fn copy_texts(alloc: Global, texts: &[Arc<SplitText>]) -> Result<Vec<Arc<SplitText>>, AllocError>
+    ensures { IfOk result (λ copied. values_of copied.items ≡ values_of texts.now) }
+{
+    let mut copied = Vec::with_capacity(alloc, texts.len())?;
+    for text in texts {
+        copied.push(Arc::try_clone(text)?)?;
+    }
+    Ok(copied)
+}
+
+fn hand_of<L: Ledger, R: Wait>(
+    rt: &R,
+    alloc: Global,
+    shared: &SharedMaster<L>,
+    room: Limits,
+) -> Result<Hand<L>, RunError> {
+    match shared.hand(rt, alloc, room) {
+        Ok(hand) => Ok(hand),
+        Err(HandError::Memory) => Err(RunError::Memory),
+        Err(HandError::Limit) => Err(RunError::Torn(0)),
+    }
+}
+
+// What each worker is given; the caller keeps the other ends of the lanes.
+fn make_workers<L: Ledger, R: Wait>(
+    rt: &R,
+    alloc: Global,
+    shared: &SharedMaster<L>,
+    caller: &mut Caller<L>,
+    workers: usize,
+) -> Result<Vec<Worker<L>>, RunError>
+    requires { workers ≤ 32 }
+{
+    let mut all = Vec::new(alloc);
+    for worker in 0..workers {
+        let hand = hand_of(rt, alloc, shared, WORKER_ROOM)?;
+        let number = WorkerNo::new(worker as u16);
+        let Ok((orders, pulse)) = ends_of(alloc, caller, number) else {
+            return Err(RunError::Memory);
+        };
+        let made = Worker {
+            number,
+            hand,
+            orders,
+            pulse,
+        };
+        if all.push(made).is_err() {
+            return Err(RunError::Memory);
+        }
+    }
+    Ok(all)
+}
+
+// A worker's end of its lane, and its seat.
+fn ends_of<L: Ledger>(
+    alloc: Global,
+    caller: &mut Caller<L>,
+    worker: WorkerNo,
+) -> Result<(LaneEnd, Pulse), AllocError> {
+    let Some(pulse) = caller.watch.pulse(worker) else {
+        return Err(AllocError);
+    };
+    let (ours, orders) = LaneEnd::both(alloc)?;
+    caller.lanes.push(ours)?;
+    Ok((orders, pulse))
+}
