@@ -2,6 +2,7 @@
 use Rattle.std.proofs.Common.{ℕ, List, Result, Ok, Err, ◌≡◌, refl, subst, sym}
 use Rattle.std.specs.Result.{IsErrAnd}
 use Rattle.line_shapes.specs.Lines.{Statement}
+use Rattle.line_rules.specs.declared.purpose.Purpose.TheVariants.{Playing}
 use Rattle.text_reading.specs.declared.tool_error.NoAnswer.{NoAnswer}
 use Rattle.text_reading.specs.declared.tool_error.NoAnswer.TheVariants as none
 use Rattle.head_text.specs.Heads.{IsFitHead, MakesHead}
@@ -30,7 +31,8 @@ same_cluster rows head makes = λ i. record {
   silence = makes.silence i;
 }
 
-pub plays_read : (text : List ℕ) (v : ScriptText) (end : PlayEnd) (lines : List ℕ) → IsScriptOf text v
+pub plays_read : (text : List ℕ) (v : ScriptText) (end : PlayEnd) (lines : List ℕ)
+    → IsScriptOf Playing text v
     → IsReport (setup_for (cluster_in v.head) v.script) v.script end lines → PlaysRead text end lines
 plays_read text v end lines is report = record {
   known = is.known;
@@ -41,8 +43,8 @@ plays_read text v end lines is report = record {
       (same_cluster is.known.rows v.head is.head) report;
 }
 
-pub runs_out_in : (text : List ℕ) (v : ScriptText) → IsScriptOf text v → RunsOut (cluster_in v.head) v.script
-    → RunsOutIn text
+pub runs_out_in : (text : List ℕ) (v : ScriptText) → IsScriptOf Playing text v
+    → RunsOut (cluster_in v.head) v.script → RunsOutIn text
 runs_out_in text v is out = record {
   known = is.known;
   script = v.script;

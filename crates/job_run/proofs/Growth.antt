@@ -31,7 +31,6 @@ use Rattle.job_run.specs.Reports.{Waves}
 use Rattle.job_run.specs.Reports.{LacksRoom, opening_job}
 use Rattle.job_run.specs.Playing.{PerformedAll}
 use Rattle.job_run.specs.Rooms.{RunsOut, attempts_for, is_wave, starts_one, setup_for}
-use Rattle.job_run.specs.declared.rooms.TheConstants.{MAX_ATTEMPTS}
 use Rattle.script_text.specs.declared.script.Script.{Script}
 use Rattle.job_run.proofs.Kept.{performs_setup}
 
@@ -277,7 +276,7 @@ pub too_many : (cluster : Cluster) (script : Script) (job : Job) (before later :
     script.commands.items ≡ before ++ command.Wave ∷ later →
     PerformsAll script.names script.target (opening_job (setup_for cluster script)) before out job →
     job.setup ≡ setup_for cluster script → (lacks : LacksRoom job) →
-    MAX_ATTEMPTS < length job.state.starts + length (pairs_of lacks.plan)
+    1000000 < length job.state.starts + length (pairs_of lacks.plan)
 too_many cluster script job before later out are performs same lacks =
     let setup = setup_for cluster script in
     let commands = script.commands.items in
@@ -305,7 +304,7 @@ too_many cluster script job before later out are performs same lacks =
         events,
       ))
       | inr short ↦
-          let past = ltb-true (min MAX_ATTEMPTS (attempts_for splits commands)) (length job.state.starts
+          let past = ltb-true (min 1000000 (attempts_for splits commands)) (length job.state.starts
           + count)
           short in
           omega (arith, past, all.starts, few, total)

@@ -9,3 +9,4 @@ pub mod Started
 pub mod Handed
 pub mod Growth
 pub mod Answered
+pub mod Ran

@@ -4,4 +4,5 @@ pub mod Given
 pub mod Handing
 pub mod Rooms
 pub mod PlayAnswer
+pub mod RunAnswer
 pub mod OneAnswer

@@ -59,8 +59,8 @@ pub record RunsOutIn (text : List ℕ) : Type 0 where
   pub declares : Declares known script
   pub runs_out : RunsOut (declared_cluster known.rows) script
 
--- which best waves are started stays free, and so does how a script ends; a fault is the same
-abbrev pub AreEnds : Result PlayEnd TextFault → Result PlayEnd TextFault → Type 0
+-- how a script or a job ends stays free; a fault is the same
+abbrev pub AreEnds : {End : Type 0} → Result End TextFault → Result End TextFault → Type 0
 AreEnds (Ok end) (Ok other) = ⊤
 AreEnds (Ok end) (Err fault) = ⊥
 AreEnds (Err fault) (Ok end) = ⊥

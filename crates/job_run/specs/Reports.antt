@@ -3,6 +3,8 @@ use Rattle.std.specs.Prelude.{ℕ, ◌≡◌, ◌+◌, ◌-◌, true, false, Lis
 use Rattle.std.specs.Prelude.{replicate, Option, Some, None}
 use Rattle.node_ids.specs.Sets.{no_splits, with_number}
 use Rattle.wave_problem.specs.Assignment.{IsBest, pairs_of}
+use Rattle.text_lines.specs.Texts.{Word, numbers_of}
+use Rattle.word_map.specs.Texts.{SplitDocuments}
 use Rattle.word_map.specs.Entries.{EntryView}
 use Rattle.word_map.specs.Runs.{MapView}
 use Rattle.shuffle_reduce.specs.Merged.{PartView, AreSameTexts}
@@ -30,7 +32,6 @@ use Rattle.script_text.specs.declared.script.Command.TheVariants as command
 use Rattle.report_lines.specs.Lines.{accepted_line, ignored_line, wave_line, started_line, backup_line}
 use Rattle.report_lines.specs.Lines.{reduce_line, dead_line, copy_lines, index_lines, stuck_lines}
 use Rattle.report_lines.specs.Lines.{lines_of_those}
-use Rattle.text_lines.specs.Texts.{numbers_of}
 use Rattle.job_run.specs.declared.player.PlayEnd.{PlayEnd}
 use Rattle.job_run.specs.declared.player.PlayEnd.TheVariants as finish
 
@@ -155,12 +156,15 @@ PerformsAll names target old (c ∷ commands) out new =
     × Performs names target old c front mid × PerformsAll names target mid commands back new
     × (out ≡ front ++ back)
 
+-- the lines are those of the index of these texts
+abbrev pub TellsIndex : List SplitDocuments → List Word → List ℕ → Type 0
+TellsIndex texts documents out =
+    (entries : List EntryView) × IsIndexOf texts entries × (out ≡ index_lines documents entries)
+
 -- the lines after the last command: the index of the documents where every part is done, else the open splits
 abbrev pub EndsReport : Names → Job → PlayEnd → List ℕ → Type 0
 EndsReport names last finish.Done out =
-    (all_parts_done last.state ≡ true)
-    × ((entries : List EntryView) × IsIndexOf last.setup.cluster.texts entries
-    × (out ≡ index_lines names.documents entries))
+    (all_parts_done last.state ≡ true) × TellsIndex last.setup.cluster.texts names.documents out
 EndsReport names last finish.Stuck out =
     (all_parts_done last.state ≡ false) × (out ≡ stuck_lines names.splits last.state.splits)
 

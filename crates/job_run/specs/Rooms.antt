@@ -8,7 +8,6 @@ use Rattle.script_text.specs.declared.script.Command.{Command}
 use Rattle.script_text.specs.declared.script.Command.TheVariants as command
 use Rattle.script_text.specs.declared.script.Script.{Script}
 use Rattle.job_run.specs.Reports.{IsKnownCommand, PerformsAll, opening_job}
-use Rattle.job_run.specs.declared.rooms.TheConstants.{MAX_COMMANDS, MAX_ATTEMPTS}
 use Rattle.master_state.specs.Jobs.{Job}
 use Rattle.master_state.specs.Steps.{IsLegal, problem_of}
 
@@ -33,7 +32,7 @@ attempts_for splits commands = splits * count_by is_wave commands + count_by sta
 abbrev pub limits_for : ℕ → List Command → Limits
 limits_for splits commands = record {
   events = length commands;
-  attempts = min MAX_ATTEMPTS (attempts_for splits commands);
+  attempts = min 1000000 (attempts_for splits commands);
   sweeps = count_by is_sweep commands;
 }
 
@@ -49,7 +48,7 @@ pub record IsScriptFor (setup : Setup) (script : Script) : Type 0 where
   pub workers : length script.names.workers ≡ length setup.cluster.slots
   pub splits : length script.names.splits ≡ length setup.cluster.splits
   pub known : All (IsKnownCommand setup) script.commands.items
-  pub few : length script.commands.items ≤ MAX_COMMANDS
+  pub few : length script.commands.items ≤ 65536
 
 -- A legal history answers the commands before a wave, and leaves fewer of the greatest number of attempts
 -- than some best plan starts there.
@@ -64,4 +63,4 @@ pub record RunsOut (cluster : Cluster) (script : Script) : Type 0 where
       job
   pub plan : List (Option ℕ)
   pub best : IsBest (problem_of job.setup job.state) (pairs_of plan)
-  pub too_many : MAX_ATTEMPTS < length job.state.starts + length (pairs_of plan)
+  pub too_many : 1000000 < length job.state.starts + length (pairs_of plan)

@@ -1,8 +1,8 @@
-ghost use Rattle.std.specs.Prelude.{◌≡◌, IfOk, IfSome, length, string_bytes};
+ghost use Rattle.std.specs.Prelude.{◌≡◌, ◌++◌, IfOk, IfSome, OnOk, length, string_bytes, true};
 ghost use Rattle.shuffle_reduce.specs.Gather.{values_of};
 ghost use Rattle.shuffle_reduce.specs.Indexed.{IsIndexOf};
-ghost use Rattle.master_state.specs.Jobs.{IsKept};
 ghost use Rattle.master_state.specs.Tests.{all_parts_done};
+ghost use Rattle.report_lines.specs.Lines.{stuck_lines};
 ghost use Rattle.job_run.specs.Playing.{Ended};
 
 use crate::player::{PlayEnd, PlayError};
@@ -11,15 +11,8 @@ use master_state::{Attempt, SplitState};
 use node_ids::SplitNo;
 use report_lines::{add_index, add_stuck};
 use script_text::Names;
-use shuffle_reduce::{Index, finish};
+use shuffle_reduce::{FinishError, Index, finish};
 use std::alloc::{AllocError, Global};
-
-// What every master keeps.
-pub(crate) fn know(master: &Master)
-    ensures { IsKept master.now }
-{
-    master.history();
-}
 
 /// The lines after the last command, and how the script has ended.
 pub(crate) fn add_end(
@@ -32,18 +25,32 @@ pub(crate) fn add_end(
     ensures { IfOk result (λ finish. Ended names.now master.now finish
         (string_bytes lines.old) (string_bytes lines.new)) }
 {
-    know(master);
     if are_parts_done(master) {
         let index = index_of(alloc, master)?;
         add_index(lines, &names.documents, index.entries())?;
         Ok(PlayEnd::Done)
     } else {
-        let Some(states) = states_of(alloc, master) else {
-            return Err(AllocError);
-        };
-        add_stuck(lines, &names.splits, states.as_slice())?;
+        add_open(alloc, master, names, lines)?;
         Ok(PlayEnd::Stuck)
     }
+}
+
+/// The splits that are not done.
+pub(crate) fn add_open(
+    alloc: Global,
+    master: &Master,
+    names: &Names<'_>,
+    lines: &mut String,
+) -> Result<(), AllocError>
+    requires { length names.now.splits ≡ length master.now.setup.cluster.splits }
+    ensures { OnOk result (string_bytes lines.new
+        ≡ string_bytes lines.old ++ stuck_lines names.now.splits master.now.state.splits) }
+{
+    master.is_kept();
+    let Some(states) = states_of(alloc, master) else {
+        return Err(AllocError);
+    };
+    add_stuck(lines, &names.splits, states.as_slice())
 }
 
 // Whether every part is done.
@@ -53,21 +60,26 @@ fn are_parts_done(master: &Master) -> bool
     master.glance().open_parts == 0
 }
 
-// The index of all documents, every part being done.
+// The index of all documents, every part being done, so that each has one result.
 fn index_of(alloc: Global, master: &Master) -> Result<Index, AllocError>
+    requires { all_parts_done master.now.state ≡ true }
     ensures { IfOk result (λ index. IsIndexOf master.now.setup.cluster.texts index) }
 {
-    know(master);
+    master.is_kept();
     let parts = master.cluster().parts();
-    // each part has one result, so nothing but memory can be wanting
-    finish(alloc, parts, master.texts(), master.results()).map_err(|_| AllocError)
+    match finish(alloc, parts, master.texts(), master.results()) {
+        Ok(index) => Ok(index),
+        Err(FinishError::Memory) => Err(AllocError),
+        Err(FinishError::DoublePart) => unreachable!(),
+        Err(FinishError::MissingPart) => unreachable!(),
+    }
 }
 
 // What has become of each split, or nothing where memory is wanting.
 fn states_of(alloc: Global, master: &Master) -> Option<Vec<SplitState>>
     ensures { IfSome result (λ states. states.items ≡ master.now.state.splits) }
 {
-    know(master);
+    master.is_kept();
     let count = master.cluster().splits().len();
     let mut states = Vec::with_capacity(alloc, count).ok()?;
     // names what a state holds, which the proof of the loop asks for

@@ -7,7 +7,6 @@ ghost use Rattle.job_run.specs.Given.{AreRunsFor, HoldsRuns};
 ghost use Rattle.job_run.specs.Handing.{HandsPart, HandsSplit, IsStartedFor, answer_from};
 ghost use Rattle.job_run.specs.Playing.{Performed};
 
-use crate::ending::know;
 use crate::given::GivenRuns;
 use master_core::Master;
 use master_state::{Answer, AnswerWith, PartState, SplitState, Why, Work};
@@ -56,7 +55,7 @@ fn hand_split(
     requires { IsStartedFor master.old.state attempt (works.Split split) }
     ensures { IfOk result (λ answer. HandsSplit master.old attempt split answer master.new) }
 {
-    know(master);
+    master.is_kept();
     if !split_runs(&master.state(split), attempt) {
         return Ok(Answer::Ignored(Why::OldAttempt));
     }
@@ -77,7 +76,7 @@ fn hand_part(
     requires given { HoldsRuns given.now master.old }
     ensures { IfOk result (λ answer. HandsPart master.old attempt part answer master.new) }
 {
-    know(master);
+    master.is_kept();
     if !part_runs(&master.part_state(part), attempt) {
         return Ok(Answer::Ignored(Why::OldAttempt));
     }

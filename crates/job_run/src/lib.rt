@@ -1,12 +1,14 @@
-//! Playing a script on a new master, from the bytes of a reader to those of a writer.
+//! Scripts and jobs, from the bytes of a reader to those of a writer.
 //!
-//! What a report may be stands in `specs/Reports.antt`: some legal history answers the commands by these
-//! lines, one command after another, and the last lines tell the index, or what is not done. `play_script`
-//! makes such a report of a script and a cluster, and `play` of the script and the cluster that a text
-//! declares (`specs/PlayAnswer.antt`). Below stand the scripts of `script_text`, the master of `master_core`,
-//! the planner and the lines of `report_lines`.
+//! `play` writes a report of the script that a text declares: some legal history answers the commands by
+//! these lines, one command after another, and the last lines tell the index, or what is not done
+//! (`specs/Reports.antt`, `specs/PlayAnswer.antt`); `play_script` makes it of a script and a cluster.
+//! `run_text` runs the job that a text declares on the threads of `job_threads`, and writes its outcome
+//! (`specs/RunAnswer.antt`). Below stand the texts of `script_text`, the master of `master_core`, the planner
+//! and the lines of `report_lines`.
 #![tactic(auto)]
 
+mod clusters;
 mod ending;
 mod fitting;
 mod given;
@@ -15,11 +17,14 @@ mod performing;
 mod player;
 pub mod playing;
 mod rooms;
+pub mod running;
 mod tables;
 mod waves;
 
 pub use fitting::fits;
+pub use job_threads::{Gate, Go, Job, Outcome, PlainGate, RunError, Turn, run};
 pub use player::{PlayEnd, PlayError, Report, play_script};
 pub use playing::play;
 pub use rooms::{MAX_ATTEMPTS, MAX_COMMANDS, limits_for};
+pub use running::{JobEnd, RunEnd, RunTextError, run_text};
 pub use tables::{counts_of, set_of};

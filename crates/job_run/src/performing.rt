@@ -6,7 +6,6 @@ ghost use Rattle.master_state.specs.Refusals.{Call, IsPair};
 ghost use Rattle.job_run.specs.Given.{HoldsRuns};
 ghost use Rattle.job_run.specs.Playing.{IsAnswered, Performed};
 
-use crate::ending::know;
 use crate::given::GivenRuns;
 use crate::handing::{done, fail};
 use crate::player::PlayError;
@@ -88,7 +87,7 @@ fn join(
     ensures { OnOk result (IsAnswered master.old (Call.Join worker (set_of splits.now)) alone
         (string_bytes lines.old) (string_bytes lines.new) master.new) }
 {
-    know(master);
+    master.is_kept();
     add_answer(lines, master.join(worker, &set_of(splits)))
 }
 
@@ -128,7 +127,7 @@ fn reduce(
     ensures ok { (target : ℕ) → OnOk result (Performed names.now target master.old asked.Reduce
         (string_bytes lines.old) (string_bytes lines.new) master.new) }
 {
-    know(master);
+    master.is_kept();
     match master.reduce_start(alloc) {
         ReduceAnswer::Accepted(place, reply) => {
             add_accepted(lines, place)?;

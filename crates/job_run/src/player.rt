@@ -3,7 +3,7 @@ ghost use Rattle.job_run.specs.Reports.{IsReport, opening_job};
 ghost use Rattle.job_run.specs.Playing.{PerformedAll};
 ghost use Rattle.job_run.specs.Rooms.{IsScriptFor, RunsOut, setup_for};
 
-use crate::ending::{add_end, know};
+use crate::ending::add_end;
 use crate::given::GivenRuns;
 use crate::performing::perform;
 use crate::rooms::limits_for;
@@ -64,7 +64,7 @@ pub fn play_script(
     let mut lines = String::new(alloc);
     perform_all(alloc, &mut master, script, &mut lines)?;
     let end = add_end(alloc, &master, &script.names, &mut lines)?;
-    know(&master);
+    master.is_kept();
     Ok(Report { end, lines })
 }
 
@@ -82,7 +82,7 @@ fn perform_all(
         script.now.commands.items (string_bytes lines.old) (string_bytes lines.new) master.new) }
     ensures full { result ≡ Err PlayError.HistoryFull → RunsOut master.old.setup.cluster script.now }
 {
-    know(master);
+    master.is_kept();
     let mut given = GivenRuns::new(alloc, master.cluster().parts())?;
     for command in &script.commands {
         perform(alloc, master, &mut given, script, command, lines)?;

@@ -7,12 +7,12 @@ ghost use Rattle.job_run.specs.Rooms.{RunsOut, setup_for};
 ghost use Rattle.job_run.specs.PlayAnswer.{AreEnds, PlayAnswer, RunsOutIn, cluster_in};
 ghost use Rattle.job_run.specs.OneAnswer.{one_play_answer};
 
+use crate::clusters::cluster_of;
 use crate::player::{PlayEnd, PlayError, Report, play_script};
 use fault_answers::fault_answer;
 use head_text::Head;
-use master_core::{Cluster, ClusterError};
 use script_text::{Script, ScriptText, read_script};
-use std::alloc::{AllocError, Global};
+use std::alloc::Global;
 use std::io::{Read, Write};
 use text_lines::TextFault;
 use text_reading::{Command, NoAnswer, ToolError, run_command};
@@ -90,25 +90,4 @@ fn play_on(alloc: Global, head: Head, script: &Script<'_>) -> Result<Report, Pla
 {
     let cluster = cluster_of(alloc, head)?;
     play_script(alloc, cluster, script)
-}
-
-// The cluster that a head makes.
-fn cluster_of(alloc: Global, head: Head) -> Result<Cluster, AllocError>
-    requires { IsFitHead head }
-    ensures { IfOk result (λ cluster. cluster ≡ cluster_in head) }
-{
-    let Head {
-        tree,
-        slots,
-        splits,
-        texts,
-        parts,
-        silence,
-    } = head;
-    match Cluster::new(alloc, tree, slots.as_slice(), splits, texts, parts, silence) {
-        Ok(cluster) => Ok(cluster),
-        Err(ClusterError::Memory) => Err(AllocError),
-        Err(ClusterError::Limit) => unreachable!(),
-        Err(ClusterError::Holder) => unreachable!(),
-    }
 }

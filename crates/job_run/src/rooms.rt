@@ -16,7 +16,7 @@ pub const MAX_ATTEMPTS: usize = 1_000_000;
 /// each wave, for each backup and for each reduce.
 pub fn limits_for(splits: usize, commands: &[Command]) -> Limits
     requires splits { splits ≤ MAX_SPLITS }
-    requires commands { length commands.now ≤ MAX_COMMANDS }
+    requires commands { length commands.now ≤ 65536 }
     ensures value { result ≡ limits_for splits commands.now }
     ensures small { AreAllowed result }
 {

@@ -6,27 +6,38 @@
 #![tactic(auto)]
 
 ghost use Rattle.std.specs.Prelude.{◌≡◌};
-ghost use Rattle.mrjob.specs.Ending.{ending_of_play};
+ghost use Rattle.mrjob.specs.Ending.{ending_of_error, ending_of_play, ending_of_run};
 
 use command_line::ask;
 use command_line::asked::{Ask, AskError};
-use job_run::{PlayEnd, play};
+use job_run::{PlainGate, PlayEnd, RunEnd, RunError, RunTextError, play, run_text};
 use std::process::ExitCode;
+use std::rt::Clock;
+use std::sync::Wait;
 use std::thread::Threads;
 use std::{env, io};
 use text_reading::ToolError;
-use tools::{Ending, check_on, plan};
+use tools::{Ending, Message, check_on, plan};
 
 fn main(rt: HostRuntime) -> ExitCode {
     let ending = run(&rt, &rt);
-    if let Some(words) = ending.words() {
-        let _ = eprintln!(rt; "{words}");
+    if let Some(message) = ending.message() {
+        tell(&rt, message);
     }
     ExitCode::from(ending.status())
 }
 
-// Only `main` can say that its runtime starts threads, so what does is handed on beside it.
-fn run(rt: &HostRuntime, threads: &(impl Threads + Sync)) -> Ending {
+// Tells a message on standard error; one that can't be written is left out.
+fn tell(rt: &HostRuntime, message: Message) {
+    let words = message.words;
+    let _ = match message.number {
+        Some(number) => eprintln!(rt; "{words}{number}"),
+        None => eprintln!(rt; "{words}"),
+    };
+}
+
+// Only `main` can say that its runtime starts threads and may wait, so what does is handed on beside it.
+fn run(rt: &HostRuntime, threads: &(impl Threads + Wait + Clock + Sync)) -> Ending {
     match given_words(rt) {
         Ok(given) => answer(rt, threads, &given),
         Err(error) if error.kind() == io::ErrorKind::OutOfMemory => {
@@ -47,7 +58,11 @@ fn given_words(rt: &HostRuntime) -> io::Result<Vec<String>> {
     Ok(given)
 }
 
-fn answer(rt: &HostRuntime, threads: &(impl Threads + Sync), given: &Vec<String>) -> Ending {
+fn answer(
+    rt: &HostRuntime,
+    threads: &(impl Threads + Wait + Clock + Sync),
+    given: &Vec<String>,
+) -> Ending {
     let mut words = Vec::new(rt.alloc());
     for word in given {
         if words.push(word.as_str()).is_err() {
@@ -60,12 +75,17 @@ fn answer(rt: &HostRuntime, threads: &(impl Threads + Sync), given: &Vec<String>
     }
 }
 
-fn run_command(rt: &HostRuntime, threads: &(impl Threads + Sync), ask: Ask) -> Ending {
-    let (mut input, mut output) = (rt.stdin(), rt.stdout());
+fn run_command(
+    rt: &HostRuntime,
+    threads: &(impl Threads + Wait + Clock + Sync),
+    ask: Ask,
+) -> Ending {
+    let (alloc, mut input, mut output) = (rt.alloc(), rt.stdin(), rt.stdout());
     match ask {
-        Ask::Check => Ending::of_check(check_on(threads, rt.alloc(), &mut input, &mut output)),
-        Ask::Plan(options) => Ending::of_plan(plan(rt.alloc(), &mut input, &mut output, options)),
-        Ask::Play => of_play(play(rt.alloc(), &mut input, &mut output)),
+        Ask::Check => Ending::of_check(check_on(threads, alloc, &mut input, &mut output)),
+        Ask::Plan(options) => Ending::of_plan(plan(alloc, &mut input, &mut output, options)),
+        Ask::Play => of_play(play(alloc, &mut input, &mut output)),
+        Ask::Run => of_run(run_text(threads, alloc, &mut input, &mut output, &PlainGate)),
     }
 }
 
@@ -77,6 +97,31 @@ fn of_play(end: Result<PlayEnd, ToolError>) -> Ending
         Ok(PlayEnd::Done) => Ending::Well,
         Ok(PlayEnd::Stuck) => Ending::Stuck,
         Err(error) => Ending::Failed(error),
+    }
+}
+
+// The end of a program whose run ended so.
+fn of_run(end: Result<RunEnd, RunTextError>) -> Ending
+    ensures { result ≡ ending_of_run end }
+{
+    match end {
+        Ok(RunEnd::Done) => Ending::Well,
+        Ok(RunEnd::Stuck) => Ending::Stuck,
+        Err(RunTextError::Tool(error)) => Ending::Failed(error),
+        Err(RunTextError::Run(error)) => of_error(error),
+    }
+}
+
+// The end of a program whose job has no outcome.
+fn of_error(error: RunError) -> Ending
+    ensures { result ≡ ending_of_error error }
+{
+    match error {
+        RunError::Memory => Ending::Failed(ToolError::Memory),
+        RunError::HistoryFull => Ending::Failed(ToolError::HistoryFull),
+        RunError::Torn(place) => Ending::Torn(place),
+        RunError::NoThread => Ending::NoThread,
+        RunError::GateLimit => Ending::GateLimit,
     }
 }
 

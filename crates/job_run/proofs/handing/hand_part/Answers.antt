@@ -10,18 +10,18 @@ use Rattle.job_run.proofs.handing.hand_part.Goals as goal
 pub returns-then-not-part_runs : goal.returns-then-not-part_runs
 returns-then-not-part_runs c =
     old_part c.args.master.now c.args.attempt c.args.part c.requires.started.0 c.part_state.result
-    c.know.ensures
+    c.is_kept.ensures
     c.requires.started.1 c.part_state.ensures (sym c.part_runs.ensures ∙ c.if-not-part_runs.true)
 
 pub of-requires : goal.of-requires
 of-requires c =
-    let inside = part_inside c.args.master.now c.args.attempt c.args.part c.requires.started.0 c.know.ensures
+    let inside = part_inside c.args.master.now c.args.attempt c.args.part c.requires.started.0 c.is_kept.ensures
     c.requires.started.1 in
     omega (arith, inside, c.requires.given.parts)
 
 pub merge-requires-clause-in_range : goal.merge-requires-clause-in_range
 merge-requires-clause-in_range c =
-    let inside = part_inside c.args.master.now c.args.attempt c.args.part c.requires.started.0 c.know.ensures
+    let inside = part_inside c.args.master.now c.args.attempt c.args.part c.requires.started.0 c.is_kept.ensures
     c.requires.started.1 in
     let same = ap (λ (cluster : Cluster). cluster.parts) c.cluster.ensures in
     omega (arith, inside, c.parts.ensures.count, same)

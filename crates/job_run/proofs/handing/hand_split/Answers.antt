@@ -12,13 +12,13 @@ use Rattle.job_run.proofs.handing.hand_split.Goals as goal
 
 pub returns-then-not-split_runs : goal.returns-then-not-split_runs
 returns-then-not-split_runs c =
-    old_split c.args.master.now c.args.attempt c.args.split c.requires.0 c.state.result c.know.ensures
+    old_split c.args.master.now c.args.attempt c.args.split c.requires.0 c.state.result c.is_kept.ensures
     c.requires.1
     c.state.ensures (sym c.split_runs.ensures ∙ c.if-not-split_runs.true)
 
 pub bounds-texts-index : goal.bounds-texts-index
 bounds-texts-index c =
-    let inside = text_inside c.args.master.now c.args.attempt c.args.split c.requires.0 c.know.ensures
+    let inside = text_inside c.args.master.now c.args.attempt c.args.split c.requires.0 c.is_kept.ensures
     c.requires.1
     in
     omega (
@@ -32,7 +32,7 @@ bounds-texts-index c =
 pub returns : goal.returns
 returns c =
     let job = c.args.master.now in
-    let inside = text_inside job c.args.attempt c.args.split c.requires.0 c.know.ensures c.requires.1 in
+    let inside = text_inside job c.args.attempt c.args.split c.requires.0 c.is_kept.ensures c.requires.1 in
     let text = text_at c.texts.result.now job.setup.cluster.texts c.index.result c.args.split
     c.index-texts-index.result (record { split = c.args.split; documents = [] }) c.texts.ensures
     c.index.ensures.value c.index-texts-index.is inside in

@@ -6,13 +6,13 @@ use Rattle.job_run.proofs.performing.join.Goals as goal
 
 pub set_of-requires : goal.set_of-requires
 set_of-requires c = λ k d inside.
-    omega (arith, c.requires.splits k d inside, c.know.ensures.whole.few_splits)
+    omega (arith, c.requires.splits k d inside, c.is_kept.ensures.whole.few_splits)
 
 pub join-requires : goal.join-requires
 join-requires c = (
   c.requires.worker,
   λ k has. set_below (length c.args.master.now.setup.cluster.splits) c.args.splits.now
-      c.know.ensures.whole.few_splits c.requires.splits k (rw c.set_of.ensures at has),
+      c.is_kept.ensures.whole.few_splits c.requires.splits k (rw c.set_of.ensures at has),
 )
 
 pub returns : goal.returns

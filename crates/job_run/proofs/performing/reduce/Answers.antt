@@ -7,12 +7,12 @@ use Rattle.job_run.proofs.performing.reduce.Goals as goal
 
 pub put-requires : goal.put-requires
 put-requires c =
-    part_waits _ _ c.args.given.now _ _ c.know.ensures c.in-Accepted.ensures.0 c.in-Accepted.ensures.1
+    part_waits _ _ c.args.given.now _ _ c.is_kept.ensures c.in-Accepted.ensures.0 c.in-Accepted.ensures.1
     c.requires
 
 pub returns-in_ok-add_reduce-in-Accepted-clause-given : goal.returns-in_ok-add_reduce-in-Accepted-clause-given
 returns-in_ok-add_reduce-in-Accepted-clause-given c =
-    let inside = part_waits _ _ c.args.given.now _ _ c.know.ensures c.in-Accepted.ensures.0
+    let inside = part_waits _ _ c.args.given.now _ _ c.is_kept.ensures c.in-Accepted.ensures.0
     c.in-Accepted.ensures.1 c.requires in
     rw c.put.ensures
     (holds_put _ _ c.args.given.now _ _ c.in-Accepted.ensures.0 c.in-Accepted.ensures.1 inside c.requires)

@@ -2,7 +2,7 @@ use Rattle.std.proofs.Common.{ℕ, List, Err, ◌∙◌, ap, length, subst, sym}
 use Rattle.wave_problem.specs.Wave.{AreHeldWell}
 use Rattle.master_core.specs.Clusters.{AreFewAndSmall}
 use Rattle.job_run.proofs.Answered.{few_and_small}
-use Rattle.job_run.proofs.playing.cluster_of.Goals as goal
+use Rattle.job_run.proofs.clusters.cluster_of.Goals as goal
 
 pub unreachable-requires : goal.unreachable-requires
 unreachable-requires c =

@@ -1,0 +1,28 @@
+ghost use Rattle.std.specs.Prelude.{◌≡◌, IfOk};
+ghost use Rattle.head_text.specs.Heads.{IsFitHead};
+ghost use Rattle.job_run.specs.PlayAnswer.{cluster_in};
+
+use head_text::Head;
+use master_core::{Cluster, ClusterError};
+use std::alloc::{AllocError, Global};
+
+/// The cluster that a head makes.
+pub(crate) fn cluster_of(alloc: Global, head: Head) -> Result<Cluster, AllocError>
+    requires { IsFitHead head }
+    ensures { IfOk result (λ cluster. cluster ≡ cluster_in head) }
+{
+    let Head {
+        tree,
+        slots,
+        splits,
+        texts,
+        parts,
+        silence,
+    } = head;
+    match Cluster::new(alloc, tree, slots.as_slice(), splits, texts, parts, silence) {
+        Ok(cluster) => Ok(cluster),
+        Err(ClusterError::Memory) => Err(AllocError),
+        Err(ClusterError::Limit) => unreachable!(),
+        Err(ClusterError::Holder) => unreachable!(),
+    }
+}
