@@ -1,0 +1,20 @@
+//! Plans and checks of waves for callers in C, and for those who call as C does: `include/mrjob.h`.
+//!
+//! Each function is called with arrays of numbers that its caller owns, keeps nothing, and writes nothing
+//! where it does not answer OK, or of a check REFUSED. No function asks anything of the numbers. Stands on
+//! `wave_arrays`, `wave_planner` and `certificate_checker`.
+#![tactic(auto)]
+
+ghost use Rattle.std.specs.Prelude.{◌≡◌};
+
+mod checks;
+mod plans;
+mod status;
+
+/// The version of the interface: another where a program that was built for this one would go wrong.
+#[unsafe(no_mangle)]
+pub extern "C" fn mrjob_version() -> u32
+    ensures { result ≡ 1 }
+{
+    1
+}

@@ -1,0 +1,85 @@
+-- The set of barred pairs, one pair after another.
+use Rattle.std.proofs.Common.{ℕ, List, [], ◌∷◌, ◌≡◌, ◌<◌, ◌∙◌, ap, arith, inl, inr, length, refl, sym}
+use Rattle.std.specs.Prelude.{All, fold, ◌↔◌, ◌⊎◌}
+use Rattle.std.proofs.lemmas.List.{length-replicate, length-set}
+use Rattle.std.proofs.lemmas.List.Elements.{All-head, All-tail, Contains-append_cases, Contains-append_left}
+use Rattle.std.proofs.lemmas.List.Elements.{Contains-append_right, Contains-push, Contains-push_cases}
+use Rattle.node_ids.specs.Sets.{HasPair, no_pairs, place_of_pair, with_pair}
+use Rattle.node_ids.proofs.Bits.{has-replicate, has-set}
+use Rattle.wave_arrays.specs.declared.rows.PairRow.{PairRow}
+use Rattle.wave_arrays.specs.Rows.{IsListed, IsPairKnown, TheBarredAreThoseListed}
+
+-- the set with these pairs in it too
+abbrev with_all : List ℕ → List PairRow → List ℕ
+with_all set pairs = fold (λ set pair. with_pair set pair.split pair.worker) set pairs
+
+is_pair : (pair : PairRow) (s w : ℕ) → s ≡ pair.split → w ≡ pair.worker →
+    pair ≡ record { split = s; worker = w }
+is_pair pair s w e f = rw (e, f) refl
+
+none_listed : (s w : ℕ) → IsListed [] s w → ⊥
+none_listed s w listed = let lt = listed.1 in omega arith
+
+listed_first : (pair : PairRow) (rest : List PairRow) (s w : ℕ) → s ≡ pair.split → w ≡ pair.worker →
+    IsListed (pair ∷ rest) s w
+listed_first pair rest s w e f =
+    rw (e, f) (Contains-append_left (pair ∷ []) rest pair (Contains-push [] pair))
+
+-- one pair more
+has_one_more : (set : List ℕ) (pair : PairRow) (s w : ℕ) → length set ≡ 4096 → IsPairKnown 1024 256 pair →
+    w < 256 → HasPair (with_pair set pair.split pair.worker) s w
+    ↔ (((s ≡ pair.split) × (w ≡ pair.worker)) ⊎ HasPair set s w)
+has_one_more set pair s w size known lt =
+    let split = known.split in
+    let worker = known.worker in
+    let one = has-set set (place_of_pair pair.split pair.worker) (place_of_pair s w) (omega arith) in (
+      λ new. elim (one.0 new) [ inl here ↦ inl (omega arith, omega arith) | inr old ↦ inr old ],
+      λ given. one.1 (elim given [ inl here ↦ inl (omega (arith, here.0, here.1)) | inr old ↦ inr old ]),
+    )
+
+has_all : (set : List ℕ) (pairs : List PairRow) (s w : ℕ) → length set ≡ 4096 →
+    All (IsPairKnown 1024 256) pairs → w < 256 → HasPair (with_all set pairs) s w
+    ↔ (IsListed pairs s w ⊎ HasPair set s w)
+has_all set [] s w size known lt = (
+  λ old. inr old,
+  λ given. elim given [ inl listed ↦ absurd (none_listed s w listed) | inr old ↦ old ],
+)
+has_all set (pair ∷ rest) s w size known lt =
+    let one = has_one_more set pair s w size (All-head (IsPairKnown 1024 256) pair rest known) lt in
+    let all = has_all (with_pair set pair.split pair.worker) rest s w (length-set _ _ _ ∙ size)
+    (All-tail (IsPairKnown 1024 256) pair rest known) lt in (
+      λ new. elim (all.0 new) [
+        | inl later ↦ inl (Contains-append_right (pair ∷ []) rest _ later)
+        | inr had ↦
+            elim (one.0 had) [
+              | inl here ↦ inl (listed_first pair rest s w here.0 here.1)
+              | inr old ↦ inr old
+            ]
+      ],
+      λ given. all.1 (elim given [
+        | inl listed ↦
+            elim (Contains-append_cases (pair ∷ []) rest _ listed) [
+              | inl first ↦
+                  elim (Contains-push_cases [] pair _ first) [
+                    | inl none ↦ absurd (none_listed s w none)
+                    | inr is ↦
+                        inr (one.1 (inl (
+                          sym (ap (λ (p : PairRow). p.split) is),
+                          sym (ap (λ (p : PairRow). p.worker) is),
+                        )))
+                  ]
+              | inr later ↦ inl later
+            ]
+        | inr old ↦ inr (one.1 (inr old))
+      ]),
+    )
+
+pub barred_are_listed : TheBarredAreThoseListed
+barred_are_listed pairs known s w lt =
+    let all = has_all no_pairs pairs s w (length-replicate {A = ℕ} 4096 0) known lt in (
+      λ barred. elim (all.0 barred) [
+        | inl listed ↦ listed
+        | inr none ↦ absurd (has-replicate 4096 (place_of_pair s w) none)
+      ],
+      λ listed. all.1 (inl listed),
+    )

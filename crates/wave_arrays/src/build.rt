@@ -1,0 +1,188 @@
+//! The problem that rows make.
+ghost use Rattle.std.specs.Prelude.{◌≡◌, ◌+◌, ◌<◌, ◌≤◌, ◌∷◌, ◌++◌, [], length, map, All, IfOk, OnOk};
+ghost use Rattle.node_ids.specs.Sets.{with_pair};
+ghost use Rattle.rack_tree.specs.declared.TheConstants.{MAX_CENTRES, MAX_RACKS, MAX_WORKERS};
+ghost use Rattle.wave_problem.specs.declared.TheConstants.{MAX_SPLITS};
+ghost use Rattle.wave_arrays.specs.Rows.{AreFit, AreRacksFit, AreWorkersFit, IsPairKnown, IsSplitFit};
+ghost use Rattle.wave_arrays.specs.Rows.{TheBarredAreThoseListed, barred_in, split_of, tree_in, wave_in};
+ghost use Rattle.wave_arrays.specs.Rows.{worker_of};
+
+use crate::rows::{PairRow, SplitRow, WaveRows, WorkerRow};
+use node_ids::{CentreNo, PairSet, RackNo, SplitNo, WorkerNo};
+use rack_tree::{RackTree, TreeError};
+use std::alloc::{AllocError, Global};
+use wave_problem::{Problem, SplitRef, WorkerLine};
+
+/// The problem that the rows make: the same rows make equal problems.
+pub fn build_problem(alloc: Global, rows: &WaveRows<'_>) -> Result<Problem, AllocError>
+    requires { AreFit rows.now }
+    ensures { IfOk result (λ problem. problem ≡ wave_in rows.now) }
+{
+    let tree = build_tree(alloc, rows)?;
+    let workers = build_workers(alloc, rows.workers)?;
+    let barred = build_barred(alloc, rows.barred)?;
+    let holders = numbered(alloc, rows.holders)?;
+    let splits = build_splits(alloc, &holders, rows.splits)?;
+    Problem::within_limits(alloc, tree, workers, &splits, barred)
+}
+
+/// A pair is barred in that problem just where it is listed in the rows.
+pub fn the_barred_are_those_listed()
+    ensures { TheBarredAreThoseListed }
+{}
+
+fn build_tree(alloc: Global, rows: &WaveRows<'_>) -> Result<RackTree, AllocError>
+    requires racks { AreRacksFit rows.now }
+    requires workers { AreWorkersFit rows.now }
+    ensures { IfOk result (λ tree. tree ≡ tree_in rows.now) }
+{
+    let mut tree = tree_with_centres(alloc, rows.centres);
+    add_racks(&mut tree, rows.centre_of);
+    add_workers(&mut tree, rows.workers)?;
+    Ok(tree)
+}
+
+fn tree_with_centres(alloc: Global, count: usize) -> RackTree
+    requires { count ≤ MAX_CENTRES }
+    ensures centres { result.centres ≡ count }
+    ensures racks { result.centre_of ≡ [] }
+    ensures workers { result.rack_of ≡ [] }
+{
+    let mut tree = RackTree::new(alloc);
+    for _ in 0..count {
+        add_centre(&mut tree);
+    }
+    tree
+}
+
+fn add_centre(tree: &mut RackTree)
+    requires { tree.old.centres < MAX_CENTRES }
+    ensures { tree.new ≡ record tree.old { centres = tree.old.centres + 1 } }
+{
+    match tree.add_centre() {
+        Ok(_) => {}
+        Err(_) => unreachable!(),
+    }
+}
+
+fn add_racks(tree: &mut RackTree, centre_of: &[u16])
+    requires none { tree.old.centre_of ≡ [] }
+    requires few_centres { tree.old.centres ≤ MAX_CENTRES }
+    requires few { length centre_of.now ≤ MAX_RACKS }
+    requires known { All (λ centre. centre < tree.old.centres) centre_of.now }
+    ensures { tree.new ≡ record tree.old { centre_of = centre_of.now } }
+{
+    for centre in centre_of {
+        add_rack(tree, CentreNo::new(*centre as u8));
+    }
+}
+
+fn add_rack(tree: &mut RackTree, centre: CentreNo)
+    requires centre { centre < tree.old.centres }
+    requires room { length tree.old.centre_of < MAX_RACKS }
+    ensures { tree.new ≡ record tree.old { centre_of = tree.old.centre_of ++ centre ∷ [] } }
+{
+    match tree.add_rack(centre) {
+        Ok(_) => {}
+        Err(_) => unreachable!(),
+    }
+}
+
+fn add_workers(tree: &mut RackTree, workers: &[WorkerRow]) -> Result<(), AllocError>
+    requires none { tree.old.rack_of ≡ [] }
+    requires few { length workers.now ≤ MAX_WORKERS }
+    requires known { All (λ row. row.rack < length tree.old.centre_of) workers.now }
+    ensures { OnOk result (tree.new ≡ record tree.old { rack_of = map (λ row. row.rack) workers.now }) }
+{
+    for row in workers {
+        add_worker(tree, RackNo::new(row.rack))?;
+    }
+    Ok(())
+}
+
+fn add_worker(tree: &mut RackTree, rack: RackNo) -> Result<(), AllocError>
+    requires rack { rack < length tree.old.centre_of }
+    requires room { length tree.old.rack_of < MAX_WORKERS }
+    ensures { OnOk result (tree.new ≡ record tree.old { rack_of = tree.old.rack_of ++ rack ∷ [] }) }
+{
+    match tree.add_worker(rack) {
+        Ok(_) => Ok(()),
+        Err(TreeError::Memory) => Err(AllocError),
+        Err(TreeError::Limit) => unreachable!(),
+    }
+}
+
+fn build_workers(alloc: Global, workers: &[WorkerRow]) -> Result<Vec<WorkerLine>, AllocError>
+    ensures { IfOk result (λ lines. lines.items ≡ map worker_of workers.now) }
+{
+    let mut lines = Vec::with_capacity(alloc, workers.len())?;
+    for row in workers {
+        lines.push_reserved(worker_line(row));
+    }
+    Ok(lines)
+}
+
+fn worker_line(row: &WorkerRow) -> WorkerLine
+    ensures { result ≡ worker_of row.now }
+{
+    WorkerLine {
+        live: row.live != 0,
+        free: row.free,
+    }
+}
+
+fn build_barred(alloc: Global, pairs: &[PairRow]) -> Result<PairSet, AllocError>
+    requires { All (IsPairKnown MAX_SPLITS MAX_WORKERS) pairs.now }
+    ensures { IfOk result (λ set. set ≡ barred_in pairs.now) }
+{
+    let mut set = PairSet::new(alloc)?;
+    for pair in pairs {
+        bar(&mut set, *pair);
+    }
+    Ok(set)
+}
+
+fn bar(set: &mut PairSet, pair: PairRow)
+    requires { IsPairKnown MAX_SPLITS MAX_WORKERS pair }
+    ensures { set.new ≡ with_pair set.old pair.split pair.worker }
+{
+    set.put(SplitNo::new(pair.split), WorkerNo::new(pair.worker));
+}
+
+fn numbered(alloc: Global, numbers: &[u16]) -> Result<Vec<WorkerNo>, AllocError>
+    ensures { IfOk result (λ workers. workers.items ≡ numbers.now) }
+{
+    let mut workers = Vec::with_capacity(alloc, numbers.len())?;
+    for number in numbers {
+        workers.push_reserved(WorkerNo::new(*number));
+    }
+    Ok(workers)
+}
+
+// A line for each split, whose holders are lent from the list of all.
+fn build_splits<'h>(
+    alloc: Global,
+    holders: &'h [WorkerNo],
+    splits: &[SplitRow],
+) -> Result<Vec<SplitRef<'h>>, AllocError>
+    requires { All (IsSplitFit (length holders.now)) splits.now }
+    ensures { IfOk result (λ lines. lines.items ≡ map (split_of holders.now) splits.now) }
+{
+    let mut lines = Vec::with_capacity(alloc, splits.len())?;
+    for row in splits {
+        lines.push_reserved(split_line(holders, row));
+    }
+    Ok(lines)
+}
+
+fn split_line<'h>(holders: &'h [WorkerNo], row: &SplitRow) -> SplitRef<'h>
+    requires { IsSplitFit (length holders.now) row.now }
+    ensures { result ≡ split_of holders.now row.now }
+{
+    let first = row.first_holder as usize;
+    SplitRef {
+        bytes: row.bytes,
+        pending: row.pending != 0,
+        holders: &holders[first..first + row.holder_count as usize],
+    }
+}

@@ -1,0 +1,253 @@
+/* mrjob.h: waves of map tasks, planned and checked by functions that are proved.
+ *
+ * mrjob_plan starts as many splits as can start, at the least byte-distance of as many, and gives prices that
+ * show it. mrjob_check tests a plan, whoever made it, by its prices. What either promises stands at it below,
+ * and is proved of the code that is called; docs/MODEL.md has the definitions. That this header says the same
+ * as that code is tested, not proved.
+ *
+ * A call keeps nothing between calls, writes nothing but its answer, and takes its memory by malloc and gives
+ * all of it back before it returns. Any number of threads may call at once. A stack of 64 KiB is enough.
+ *
+ * What a caller owes, and no status tells:
+ *   - a pointer leads to as many elements as its length says, and is aligned for them; where the length is 0
+ *     it may be anything, null too; the pointers to a wave, a total and a verdict are never null;
+ *   - what a call writes overlaps nothing else that it is given, and until it returns no other thread reads
+ *     or writes that, or writes what the call reads;
+ *   - no call from a signal handler, or from the child of a fork of a process with several threads;
+ *   - malloc aligns a block of 16 bytes or more to 16, as C asks on this machine.
+ *
+ * Of the numbers in the arrays nothing is owed: one out of bounds is answered by a status, and then nothing
+ * was written. Racks, workers and splits are numbered from 0, by their places in the arrays.
+ *
+ * In a program that includes this header, mrjob_plan(..) and mrjob_check(..) put an address of their own for
+ * that of an array of length 0. The library's functions themselves, which other languages call, want one that
+ * is not null, and aligned, there too.
+ */
+#ifndef MRJOB_H
+#define MRJOB_H
+
+#include <stddef.h>
+#include <stdint.h>
+
+#ifdef __cplusplus
+extern "C" {
+#endif
+
+/* The version of what stands here, which a library answers too: see mrjob_version. */
+#define MRJOB_VERSION 1
+
+/* ---- bounds ---- */
+
+#define MRJOB_MAX_CENTRES 8
+#define MRJOB_MAX_RACKS 32
+#define MRJOB_MAX_WORKERS 256
+#define MRJOB_MAX_SPLITS 1024
+#define MRJOB_MAX_HOLDERS 8       /* of one split */
+#define MRJOB_MAX_SLOTS 16        /* of one worker */
+#define MRJOB_MAX_BYTES 67108864  /* of one split, 64 MiB */
+
+/* In a place of a worker or a split: none. */
+#define MRJOB_NONE 65535
+
+/* ---- what is answered ---- */
+
+/* What a call answers. From MRJOB_BAD_RACKS to MRJOB_BAD_NETWORK it is the first of these that is so, in this
+ * order; MRJOB_NO_MEMORY comes only where none of them is. From MRJOB_BAD_RACKS on, nothing was written. */
+enum mrjob_status {
+    MRJOB_OK = 0,          /* planned, or certified */
+    MRJOB_REFUSED = 1,     /* of a check: a condition fails, which the verdict names */
+    MRJOB_BAD_RACKS = 2,   /* too many centres or racks, or a rack in no centre */
+    MRJOB_BAD_WORKERS = 3, /* too many workers, or one in no rack or with too many slots */
+    MRJOB_BAD_SPLITS = 4,  /* too many splits, or one with too many bytes or holders, or some past the last */
+    MRJOB_BAD_BARRED = 5,  /* a barred pair of no split or of no worker */
+    MRJOB_BAD_HOLDERS = 6, /* a holder that is no worker, or that a split has twice */
+    MRJOB_BAD_LENGTH = 7,  /* not one start and price for each split and one price for each worker */
+    MRJOB_BAD_STARTS = 8,  /* of a check: a start on no worker that is not MRJOB_NONE */
+    MRJOB_BAD_NETWORK = 9, /* of a plan: no such network */
+    MRJOB_NO_MEMORY = 10   /* malloc gave none */
+};
+
+/* Over which network a plan is made. Either gives a best plan; where several are, they may differ. */
+enum mrjob_network {
+    MRJOB_RACKS = 0,  /* with a node for each rack and data centre: the quicker one */
+    MRJOB_DIRECT = 1  /* with an arc from each split to each worker */
+};
+
+/* ---- what is asked ---- */
+
+/* A worker: the number of its rack, how many of its slots are free, and whether it lives, where 0 says no. */
+struct mrjob_worker {
+    uint16_t rack;
+    uint8_t free;
+    uint8_t live;
+};
+
+/* A split, the input of one map task: its bytes; the workers with a replica of it, which are holder_count of
+ * the wave's holders, from the place first_holder on; and whether it waits for a start, where 0 says no. */
+struct mrjob_split {
+    uint64_t bytes;
+    uint32_t first_holder;
+    uint16_t holder_count;
+    uint16_t pending;
+};
+
+/* A split and a worker on which it may not start. */
+struct mrjob_pair {
+    uint16_t split;
+    uint16_t worker;
+};
+
+/* A cluster as one wave sees it: how many data centres there are, and arrays with their lengths. Splits may
+ * share places of the holders. */
+struct mrjob_wave {
+    size_t centres;
+    const uint16_t *centre_of; /* of each rack, the number of its data centre */
+    size_t racks;
+    const struct mrjob_worker *workers;
+    size_t workers_len;
+    const struct mrjob_split *splits;
+    size_t splits_len;
+    const uint16_t *holders;   /* the numbers of workers */
+    size_t holders_len;
+    const struct mrjob_pair *barred;
+    size_t barred_len;
+};
+
+/* How many splits start, and the byte-distance of their starts together: each split's bytes times the steps
+ * from its nearest live holder to its worker, 0 to itself, 2 in its rack, 4 in its data centre, 6 beyond. */
+struct mrjob_total {
+    uint64_t count;
+    uint64_t cost;
+};
+
+/* What a check finds. Certified: count and cost as of a total, condition 0, and MRJOB_NONE twice. Refused:
+ * count and cost 0, the number of the first condition that fails, 1 to 8, and the split and the worker where
+ * it fails, MRJOB_NONE where it is of no split or of no worker. */
+struct mrjob_verdict {
+    uint64_t count;
+    uint64_t cost;
+    uint32_t condition;
+    uint16_t split;
+    uint16_t worker;
+};
+
+/* ---- the functions ---- */
+
+/* The version of the library. A program that loads a library by itself compares it with MRJOB_VERSION. */
+uint32_t mrjob_version(void);
+
+/* Plans a wave. With MRJOB_OK, starts[s] is the worker on which the split s starts, or MRJOB_NONE; no set of
+ * admissible starts has more, and of those with as many none has a lesser byte-distance; the prices, in
+ * the unit of byte-distances, certify the starts, so that mrjob_check says MRJOB_OK; and total is theirs. */
+uint32_t mrjob_plan(const struct mrjob_wave *wave, uint32_t network,
+                    uint16_t *starts, size_t starts_len,
+                    uint64_t *split_prices, size_t split_prices_len,
+                    uint64_t *worker_prices, size_t worker_prices_len,
+                    struct mrjob_total *total);
+
+/* Checks the starts of a wave by prices. With MRJOB_OK the prices certify the starts, which are then best, as
+ * above. With MRJOB_REFUSED a condition fails: the starts are not admissible (1 to 3), or these prices do not
+ * show that they are best (4 to 8), though others may. */
+uint32_t mrjob_check(const struct mrjob_wave *wave,
+                     const uint16_t *starts, size_t starts_len,
+                     const uint64_t *split_prices, size_t split_prices_len,
+                     const uint64_t *worker_prices, size_t worker_prices_len,
+                     struct mrjob_verdict *verdict);
+
+/* ---- null with length 0 ---- */
+
+/* The wave with this address for each array of length 0. */
+static inline struct mrjob_wave mrjob_without_null(const struct mrjob_wave *wave, const void *nothing)
+{
+    struct mrjob_wave filled = *wave;
+    if (!filled.racks) filled.centre_of = (const uint16_t *)nothing;
+    if (!filled.workers_len) filled.workers = (const struct mrjob_worker *)nothing;
+    if (!filled.splits_len) filled.splits = (const struct mrjob_split *)nothing;
+    if (!filled.holders_len) filled.holders = (const uint16_t *)nothing;
+    if (!filled.barred_len) filled.barred = (const struct mrjob_pair *)nothing;
+    return filled;
+}
+
+static inline uint32_t mrjob_plan_any(const struct mrjob_wave *wave, uint32_t network,
+                                      uint16_t *starts, size_t starts_len,
+                                      uint64_t *split_prices, size_t split_prices_len,
+                                      uint64_t *worker_prices, size_t worker_prices_len,
+                                      struct mrjob_total *total)
+{
+    uint64_t nothing[1] = {0};
+    const struct mrjob_wave filled = mrjob_without_null(wave, nothing);
+    return mrjob_plan(&filled, network,
+                      starts_len ? starts : (uint16_t *)(void *)nothing, starts_len,
+                      split_prices_len ? split_prices : nothing, split_prices_len,
+                      worker_prices_len ? worker_prices : nothing, worker_prices_len, total);
+}
+
+static inline uint32_t mrjob_check_any(const struct mrjob_wave *wave,
+                                       const uint16_t *starts, size_t starts_len,
+                                       const uint64_t *split_prices, size_t split_prices_len,
+                                       const uint64_t *worker_prices, size_t worker_prices_len,
+                                       struct mrjob_verdict *verdict)
+{
+    const uint64_t nothing[1] = {0};
+    const struct mrjob_wave filled = mrjob_without_null(wave, nothing);
+    return mrjob_check(&filled, starts_len ? starts : (const uint16_t *)(const void *)nothing, starts_len,
+                       split_prices_len ? split_prices : nothing, split_prices_len,
+                       worker_prices_len ? worker_prices : nothing, worker_prices_len, verdict);
+}
+
+/* A call goes by the function above; the bare name is still that of the library's function. */
+#define mrjob_plan(...) mrjob_plan_any(__VA_ARGS__)
+#define mrjob_check(...) mrjob_check_any(__VA_ARGS__)
+
+/* ---- how the structs lie in memory ---- */
+
+#ifdef __cplusplus
+#define MRJOB_ASSERT(it) static_assert(it, #it)
+#else
+#define MRJOB_ASSERT(it) _Static_assert(it, #it)
+#endif
+#define MRJOB_LIES(kind, field, at) MRJOB_ASSERT(offsetof(struct kind, field) == (at))
+
+MRJOB_ASSERT(sizeof(size_t) == 8 && sizeof(void *) == 8);
+MRJOB_ASSERT(sizeof(struct mrjob_worker) == 4);
+MRJOB_LIES(mrjob_worker, rack, 0);
+MRJOB_LIES(mrjob_worker, free, 2);
+MRJOB_LIES(mrjob_worker, live, 3);
+MRJOB_ASSERT(sizeof(struct mrjob_split) == 16);
+MRJOB_LIES(mrjob_split, bytes, 0);
+MRJOB_LIES(mrjob_split, first_holder, 8);
+MRJOB_LIES(mrjob_split, holder_count, 12);
+MRJOB_LIES(mrjob_split, pending, 14);
+MRJOB_ASSERT(sizeof(struct mrjob_pair) == 4);
+MRJOB_LIES(mrjob_pair, split, 0);
+MRJOB_LIES(mrjob_pair, worker, 2);
+MRJOB_ASSERT(sizeof(struct mrjob_wave) == 88);
+MRJOB_LIES(mrjob_wave, centres, 0);
+MRJOB_LIES(mrjob_wave, centre_of, 8);
+MRJOB_LIES(mrjob_wave, racks, 16);
+MRJOB_LIES(mrjob_wave, workers, 24);
+MRJOB_LIES(mrjob_wave, workers_len, 32);
+MRJOB_LIES(mrjob_wave, splits, 40);
+MRJOB_LIES(mrjob_wave, splits_len, 48);
+MRJOB_LIES(mrjob_wave, holders, 56);
+MRJOB_LIES(mrjob_wave, holders_len, 64);
+MRJOB_LIES(mrjob_wave, barred, 72);
+MRJOB_LIES(mrjob_wave, barred_len, 80);
+MRJOB_ASSERT(sizeof(struct mrjob_total) == 16);
+MRJOB_LIES(mrjob_total, count, 0);
+MRJOB_LIES(mrjob_total, cost, 8);
+MRJOB_ASSERT(sizeof(struct mrjob_verdict) == 24);
+MRJOB_LIES(mrjob_verdict, count, 0);
+MRJOB_LIES(mrjob_verdict, cost, 8);
+MRJOB_LIES(mrjob_verdict, condition, 16);
+MRJOB_LIES(mrjob_verdict, split, 20);
+MRJOB_LIES(mrjob_verdict, worker, 22);
+
+#undef MRJOB_LIES
+#undef MRJOB_ASSERT
+
+#ifdef __cplusplus
+}
+#endif
+
+#endif

@@ -1,0 +1,64 @@
+"""The library itself, and how its structs lie in memory (mrjob.h)."""
+import ctypes
+import os
+from ctypes import POINTER, Structure, c_size_t, c_uint8, c_uint16, c_uint32, c_uint64, c_void_p
+from pathlib import Path
+
+VERSION = 1
+NAME = f"libmrjob.so.{VERSION}"
+
+
+class WorkerRow(Structure):
+    _fields_ = [("rack", c_uint16), ("free", c_uint8), ("live", c_uint8)]
+
+
+class SplitRow(Structure):
+    _fields_ = [("bytes", c_uint64), ("first_holder", c_uint32), ("holder_count", c_uint16), ("pending", c_uint16)]
+
+
+class PairRow(Structure):
+    _fields_ = [("split", c_uint16), ("worker", c_uint16)]
+
+
+class WaveRows(Structure):
+    _fields_ = [("centres", c_size_t)] + [
+        (f"{name}_{part}", kind)
+        for name in ("centre_of", "workers", "splits", "holders", "barred")
+        for part, kind in (("address", c_void_p), ("length", c_size_t))
+    ]
+
+
+class Total(Structure):
+    _fields_ = [("count", c_uint64), ("cost", c_uint64)]
+
+
+class VerdictRow(Structure):
+    _fields_ = [*Total._fields_, ("condition", c_uint32), ("split", c_uint16), ("worker", c_uint16)]
+
+
+def places():
+    """Where the library is looked for: where MRJOB_LIBRARY says; else in the package, in the lib/ of the checkout that
+    the package stands in, and among the libraries that are installed."""
+    if "MRJOB_LIBRARY" in os.environ:
+        return [os.environ["MRJOB_LIBRARY"]]
+    here = Path(__file__).resolve().parent
+    return [*(str(it) for it in (here / NAME, here.parent.parent / "lib" / NAME) if it.exists()), NAME]
+
+
+def load():
+    try:
+        # (a call of a CDLL lets go of the interpreter's lock)
+        library = ctypes.CDLL(places()[0])
+    except OSError as why:
+        raise ImportError(f"{NAME} is not there ({why}): `make library` makes it, and MRJOB_LIBRARY names it") from why
+    library.mrjob_version.restype = c_uint32
+    if library.mrjob_version() != VERSION:
+        raise ImportError(f"{places()[0]} has version {library.mrjob_version()}, and this package wants {VERSION}")
+    array = [c_void_p, c_size_t]
+    library.mrjob_plan.restype = library.mrjob_check.restype = c_uint32
+    library.mrjob_plan.argtypes = [POINTER(WaveRows), c_uint32, *array, *array, *array, POINTER(Total)]
+    library.mrjob_check.argtypes = [POINTER(WaveRows), *array, *array, *array, POINTER(VerdictRow)]
+    return library
+
+
+LIBRARY = load()

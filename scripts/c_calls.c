@@ -1,0 +1,357 @@
+/* Calls the C library as its header allows: each status, arrays of no elements, each allocation refused in turn, and
+ * four threads with small stacks at once. The last line is 'N passed, M failed', and lines before name what failed.
+ *
+ * It is linked with lib/libmrjob.a and -Wl,--wrap=malloc,--wrap=realloc,--wrap=free -pthread. */
+#include "mrjob.h"
+#include <pthread.h>
+#include <stdio.h>
+#include <stdlib.h>
+#include <string.h>
+
+static int passed, failed;
+
+static void count(int holds, const char *name)
+{
+    if (holds) {
+        passed++;
+    } else {
+        failed++;
+        printf("FAILED: %s\n", name);
+    }
+}
+
+/* ---- allocations ---- */
+
+void *__real_malloc(size_t size);
+void *__real_realloc(void *old, size_t size);
+void __real_free(void *old);
+void *__wrap_malloc(size_t size);
+void *__wrap_realloc(void *old, size_t size);
+void __wrap_free(void *old);
+
+/* How many allocations are left until one is refused, or none is while it is below 0; whether all after it are refused
+ * too; how many were refused; and how many blocks are not freed. Only while there is one thread. */
+static long left = -1, refused, held;
+static int stays_refused;
+
+static int is_refused(void)
+{
+    if (left < 0) return 0;
+    if (left > 0) {
+        left--;
+        return 0;
+    }
+    if (!stays_refused) left = -1;
+    refused++;
+    return 1;
+}
+
+static int counts_blocks;
+
+void *__wrap_malloc(size_t size)
+{
+    if (is_refused()) return NULL;
+    if (counts_blocks) held++;
+    return __real_malloc(size);
+}
+
+void *__wrap_realloc(void *old, size_t size)
+{
+    if (is_refused()) return NULL;
+    if (counts_blocks && !old) held++;
+    return __real_realloc(old, size);
+}
+
+void __wrap_free(void *old)
+{
+    if (counts_blocks && old) held--;
+    __real_free(old);
+}
+
+/* ---- a small wave, of which each thing can be spoilt ---- */
+
+enum { PLAN_RACKS, PLAN_DIRECT, CHECK };
+
+struct given {
+    uint16_t centre_of[33];
+    struct mrjob_worker workers[257];
+    struct mrjob_split splits[1025];
+    uint16_t holders[9];
+    struct mrjob_pair barred[1];
+    struct mrjob_wave wave;
+    uint32_t network;
+    size_t starts_len, split_prices_len, worker_prices_len;
+    uint16_t starts[2];
+};
+
+struct answer {
+    uint16_t starts[2];
+    uint64_t split_prices[2], worker_prices[2];
+    struct mrjob_total total;
+    struct mrjob_verdict verdict;
+};
+
+static struct given given;
+
+/* Two splits on one of two workers, each with a slot, in a rack of its own; the greater split may start on its holder
+ * alone, and the lesser one goes 4 steps. */
+static void make(void)
+{
+    static const struct mrjob_worker workers[] = {{0, 1, 1}, {1, 1, 1}};
+    static const struct mrjob_split splits[] = {{10, 0, 1, 1}, {20, 1, 1, 1}};
+    memset(&given, 0, sizeof given);
+    memcpy(given.workers, workers, sizeof workers);
+    memcpy(given.splits, splits, sizeof splits);
+    given.barred[0].split = 1;
+    given.barred[0].worker = 1;
+    given.wave.centres = 1;
+    given.wave.centre_of = given.centre_of, given.wave.racks = 2;
+    given.wave.workers = given.workers, given.wave.workers_len = 2;
+    given.wave.splits = given.splits, given.wave.splits_len = 2;
+    given.wave.holders = given.holders, given.wave.holders_len = 2;
+    given.wave.barred = given.barred, given.wave.barred_len = 1;
+    given.starts_len = given.split_prices_len = given.worker_prices_len = 2;
+    given.starts[0] = 1;
+}
+
+static uint32_t call(int which, struct answer *answer)
+{
+    /* K is 1 + 4 * 30 = 121. Sums: s a 81 + 40 + 0, s b 81 + 0 + 40, t a 81 + 40 + 0, each 121; t b is barred. */
+    static const uint64_t split_prices[] = {81, 81}, worker_prices[] = {40, 0};
+    if (which == CHECK) {
+        return mrjob_check(&given.wave, given.starts, given.starts_len, split_prices, given.split_prices_len,
+                           worker_prices, given.worker_prices_len, &answer->verdict);
+    }
+    return mrjob_plan(&given.wave, which == PLAN_RACKS ? given.network : given.network + MRJOB_DIRECT, answer->starts,
+                      given.starts_len, answer->split_prices, given.split_prices_len, answer->worker_prices,
+                      given.worker_prices_len, &answer->total);
+}
+
+/* Whether the call answers this status and, where that is no answer, writes nothing. */
+static int answers(int which, uint32_t status)
+{
+    struct answer before, after;
+    memset(&before, 0x5a, sizeof before);
+    memcpy(&after, &before, sizeof before);
+    const uint32_t said = call(which, &after);
+    if (said != status) printf("status %u, and not %u\n", (unsigned)said, (unsigned)status);
+    return said == status && (status <= MRJOB_REFUSED || !memcmp(&before, &after, sizeof before));
+}
+
+static void test_answers(void)
+{
+    struct answer answer;
+    for (int which = PLAN_RACKS; which <= PLAN_DIRECT; which++) {
+        make();
+        memset(&answer, 0x5a, sizeof answer);
+        count(call(which, &answer) == MRJOB_OK && answer.starts[0] == 1 && answer.starts[1] == 0 &&
+                  answer.total.count == 2 && answer.total.cost == 40,
+              "the wave is planned");
+    }
+    make();
+    count(call(CHECK, &answer) == MRJOB_OK && answer.verdict.count == 2 && answer.verdict.cost == 40 &&
+              answer.verdict.condition == 0 && answer.verdict.split == MRJOB_NONE &&
+              answer.verdict.worker == MRJOB_NONE,
+          "the plan is certified");
+    given.starts[0] = 0;
+    given.starts[1] = 1;
+    count(call(CHECK, &answer) == MRJOB_REFUSED && answer.verdict.condition == 2 && answer.verdict.split == 1 &&
+              answer.verdict.worker == 1 && answer.verdict.count == 0 && answer.verdict.cost == 0,
+          "a barred start is refused");
+    given.starts[1] = 0;
+    count(call(CHECK, &answer) == MRJOB_REFUSED && answer.verdict.condition == 3 &&
+              answer.verdict.split == MRJOB_NONE && answer.verdict.worker == 0,
+          "a slot that is taken twice is refused");
+    given.starts[0] = MRJOB_NONE;
+    count(call(CHECK, &answer) == MRJOB_REFUSED && answer.verdict.condition == 7 && answer.verdict.split == 0 &&
+              answer.verdict.worker == MRJOB_NONE,
+          "a split that waits at a price is refused");
+    make();
+    given.splits[0].pending = 2;
+    given.workers[0].live = given.workers[1].live = 255;
+    count(call(PLAN_RACKS, &answer) == MRJOB_OK && answer.total.count == 2, "any number but 0 says yes");
+}
+
+/* Plans and checks answer this status. */
+static void count_both(uint32_t status, const char *name)
+{
+    count(answers(PLAN_RACKS, status) && answers(PLAN_DIRECT, status) && answers(CHECK, status), name);
+}
+
+/* Each bound just past, and each at once with all that are tested after it. */
+static void test_statuses(void)
+{
+    make(), given.wave.centres = 9, count_both(MRJOB_BAD_RACKS, "9 data centres");
+    make(), given.wave.racks = 33, count_both(MRJOB_BAD_RACKS, "33 racks");
+    make(), given.centre_of[1] = 1, count_both(MRJOB_BAD_RACKS, "a rack in no data centre");
+    given.network = 7, given.starts_len = 1, given.starts[0] = 7, given.holders[0] = 7, given.barred[0].worker = 7;
+    given.splits[0].bytes = UINT64_MAX, given.workers[0].free = 17;
+    count_both(MRJOB_BAD_RACKS, "of many faults that of the racks");
+    given.centre_of[1] = 0, count_both(MRJOB_BAD_WORKERS, "of many faults that of the workers");
+    given.workers[0].free = 1, count_both(MRJOB_BAD_SPLITS, "of many faults that of the splits");
+    given.splits[0].bytes = 1, count_both(MRJOB_BAD_BARRED, "of many faults that of the barred pairs");
+    given.barred[0].worker = 1, count_both(MRJOB_BAD_HOLDERS, "of many faults that of the holders");
+    given.holders[0] = 0, count_both(MRJOB_BAD_LENGTH, "of many faults that of the lengths");
+    given.starts_len = 2;
+    count(answers(PLAN_RACKS, MRJOB_BAD_NETWORK) && answers(CHECK, MRJOB_BAD_STARTS), "and then the last ones");
+    make(), given.wave.workers_len = 257, count_both(MRJOB_BAD_WORKERS, "257 workers");
+    make(), given.workers[1].rack = 2, count_both(MRJOB_BAD_WORKERS, "a worker in no rack");
+    make(), given.wave.splits_len = 1025, count_both(MRJOB_BAD_SPLITS, "1,025 splits");
+    make(), given.splits[1].bytes = MRJOB_MAX_BYTES + 1, count_both(MRJOB_BAD_SPLITS, "a split of too many bytes");
+    make(), given.wave.holders_len = 9, given.splits[0].holder_count = 9;
+    count_both(MRJOB_BAD_SPLITS, "a split of 9 holders");
+    make(), given.splits[1].first_holder = 2, count_both(MRJOB_BAD_SPLITS, "a holder past the last");
+    make(), given.splits[1].first_holder = UINT32_MAX, count_both(MRJOB_BAD_SPLITS, "a holder far past the last");
+    make(), given.barred[0].split = 2, count_both(MRJOB_BAD_BARRED, "a barred pair of no split");
+    make(), given.holders[1] = 2, count_both(MRJOB_BAD_HOLDERS, "a holder that is no worker");
+    make(), given.splits[0].holder_count = 2, count_both(MRJOB_BAD_HOLDERS, "a holder twice");
+    make(), given.split_prices_len = 1, count_both(MRJOB_BAD_LENGTH, "a price of a split too few");
+    make(), given.worker_prices_len = 1, count_both(MRJOB_BAD_LENGTH, "a price of a worker too few");
+    make(), given.starts[1] = 2, count(answers(CHECK, MRJOB_BAD_STARTS), "a start on no worker");
+    make(), given.network = 2, count(answers(PLAN_RACKS, MRJOB_BAD_NETWORK), "network 2");
+    given.network = UINT32_MAX, count(answers(PLAN_RACKS, MRJOB_BAD_NETWORK), "the greatest number of a network");
+}
+
+/* Arrays of no elements, by null and by an address that is not aligned, in a wave of nothing and of splits alone. */
+static void test_nothing(void)
+{
+    static char bytes[16];
+    for (int odd = 0; odd < 2; odd++) {
+        void *none = odd ? (void *)(bytes + 1) : NULL;
+        struct mrjob_wave wave;
+        memset(&wave, 0, sizeof wave);
+        wave.centre_of = (uint16_t *)none;
+        wave.workers = (struct mrjob_worker *)none;
+        wave.splits = (struct mrjob_split *)none;
+        wave.holders = (uint16_t *)none;
+        wave.barred = (struct mrjob_pair *)none;
+        uint16_t *starts = (uint16_t *)none;
+        uint64_t *prices = (uint64_t *)none;
+        struct mrjob_total total = {7, 7};
+        struct mrjob_verdict verdict;
+        for (uint32_t network = 0; network < 2; network++) {
+            count(mrjob_plan(&wave, network, starts, 0, prices, 0, prices, 0, &total) == MRJOB_OK && total.count == 0 &&
+                      total.cost == 0,
+                  "nothing is planned");
+        }
+        count(mrjob_check(&wave, starts, 0, prices, 0, prices, 0, &verdict) == MRJOB_OK && verdict.count == 0,
+              "nothing is certified");
+        const struct mrjob_split split = {10, 0, 0, 1};
+        uint16_t start = 7;
+        uint64_t price = 7;
+        wave.splits = &split;
+        wave.splits_len = 1;
+        count(mrjob_plan(&wave, 0, &start, 1, &price, 1, prices, 0, &total) == MRJOB_OK && start == MRJOB_NONE &&
+                  price == 0 && total.count == 0,
+              "a split without holders waits");
+        count(mrjob_plan(&wave, 0, starts, 0, &price, 1, prices, 0, &total) == MRJOB_BAD_LENGTH,
+              "no starts for a split");
+    }
+}
+
+/* Refuses each allocation of a call in turn, alone or with all after it, until a call meets no refusal. */
+static void test_refusals(int which)
+{
+    struct answer whole, before, after;
+    make();
+    memset(&before, 0x5a, sizeof before);
+    memcpy(&whole, &before, sizeof before);
+    int holds = call(which, &whole) == MRJOB_OK;
+    long told = 0;
+    for (long nth = 0;; nth++) {
+        memcpy(&after, &before, sizeof before);
+        refused = held = 0, counts_blocks = 1, left = nth;
+        const uint32_t status = call(which, &after);
+        left = -1, counts_blocks = 0;
+        holds &= held == 0 && !memcmp(&after, status == MRJOB_OK ? &whole : &before, sizeof before);
+        holds &= status == MRJOB_OK || (status == MRJOB_NO_MEMORY && refused);
+        told += status == MRJOB_NO_MEMORY;
+        if (!refused) break;
+    }
+    printf("call %d: %ld refused allocations are told\n", which, told);
+    count(holds && told, "a refused allocation is told, nothing is written, and all is freed");
+}
+
+/* ---- threads ---- */
+
+enum { THREADS = 4, CALLS = 10, STACK = 65536, SPLITS = 1024, WORKERS = 256, RACKS = 32 };
+
+static struct mrjob_wave large;
+
+static struct output {
+    uint16_t starts[SPLITS];
+    uint64_t split_prices[SPLITS], worker_prices[WORKERS];
+    struct mrjob_total total;
+    struct mrjob_verdict verdict;
+} first, outputs[THREADS];
+
+static int plans(uint32_t network, struct output *output)
+{
+    return mrjob_plan(&large, network, output->starts, SPLITS, output->split_prices, SPLITS, output->worker_prices,
+                      WORKERS, &output->total) == MRJOB_OK &&
+           mrjob_check(&large, output->starts, SPLITS, output->split_prices, SPLITS, output->worker_prices, WORKERS,
+                       &output->verdict) == MRJOB_OK &&
+           output->verdict.count == output->total.count && output->verdict.cost == output->total.cost;
+}
+
+static void *run(void *given_output)
+{
+    struct output *output = (struct output *)given_output;
+    for (int n = 0; n < CALLS; n++) {
+        for (uint32_t network = 0; network < 2; network++) {
+            if (!plans(network, output) || output->total.count != first.total.count ||
+                output->total.cost != first.total.cost) {
+                return NULL;
+            }
+        }
+    }
+    return output;
+}
+
+static void test_threads(void)
+{
+    static uint16_t centre_of[RACKS], holders[3 * SPLITS];
+    static struct mrjob_worker workers[WORKERS];
+    static struct mrjob_split splits[SPLITS];
+    for (int rack = 0; rack < RACKS; rack++) centre_of[rack] = (uint16_t)(rack % 2);
+    for (int w = 0; w < WORKERS; w++) {
+        workers[w].rack = (uint16_t)(w % RACKS), workers[w].free = (uint8_t)(3 + w % 4), workers[w].live = 1;
+    }
+    for (int s = 0; s < SPLITS; s++) {
+        splits[s].bytes = 1 + (uint64_t)(7919 * s % 1024) * 65535;
+        splits[s].first_holder = (uint32_t)(3 * s), splits[s].holder_count = 3, splits[s].pending = 1;
+        for (int k = 0; k < 3; k++) holders[3 * s + k] = (uint16_t)((5 * s + 21 * k) % 64);
+    }
+    large.centres = 2;
+    large.centre_of = centre_of, large.racks = RACKS;
+    large.workers = workers, large.workers_len = WORKERS;
+    large.splits = splits, large.splits_len = SPLITS;
+    large.holders = holders, large.holders_len = 3 * SPLITS;
+    count(plans(MRJOB_RACKS, &first), "a large wave is planned");
+    pthread_t threads[THREADS];
+    pthread_attr_t stack;
+    int made = !pthread_attr_init(&stack) && !pthread_attr_setstacksize(&stack, STACK);
+    for (int t = 0; t < THREADS; t++) made &= !pthread_create(&threads[t], &stack, run, &outputs[t]);
+    if (!made) {
+        count(0, "threads with small stacks are made");
+        return;
+    }
+    for (int t = 0; t < THREADS; t++) {
+        void *answer = NULL;
+        count(!pthread_join(threads[t], &answer) && answer, "a thread is answered as one alone");
+    }
+}
+
+int main(void)
+{
+    count(mrjob_version() == MRJOB_VERSION, "the library has the header's version");
+    test_answers();
+    test_statuses();
+    test_nothing();
+    for (stays_refused = 0; stays_refused < 2; stays_refused++) {
+        for (int which = PLAN_RACKS; which <= CHECK; which++) test_refusals(which);
+    }
+    test_threads();
+    printf("%d passed, %d failed\n", passed, failed);
+    return failed != 0;
+}
