@@ -1,6 +1,8 @@
-# Everything goes by rt, the command of the Rattle kit. Nothing here needs the network, or installs anything.
+# Everything goes by rt, the command of the Rattle kit. Nothing here needs the network, and only `install` installs.
 
-.PHONY: all demo test profile bench clean
+.PHONY: all library install demo test profile bench clean
+
+PREFIX ?= /usr/local
 
 # Proves the crates that the program stands on, and leaves it as bin/mrjob.
 all:
@@ -8,6 +10,21 @@ all:
 
 bin/mrjob:
 	@scripts/build.py
+
+# Proves the crates that the C library stands on, and leaves it as lib/libmrjob.a and lib/libmrjob.so.
+library:
+	@scripts/library.py
+
+lib/libmrjob.a:
+	@scripts/library.py
+
+# The program, the C library and its header, below DESTDIR and PREFIX. The two are made first where they are not there.
+install: bin/mrjob lib/libmrjob.a
+	install -D -m 755 bin/mrjob $(DESTDIR)$(PREFIX)/bin/mrjob
+	install -D -m 644 include/mrjob.h $(DESTDIR)$(PREFIX)/include/mrjob.h
+	install -D -m 644 lib/pkgconfig/mrjob.pc $(DESTDIR)$(PREFIX)/lib/pkgconfig/mrjob.pc
+	install -D -m 644 lib/libmrjob.a $(DESTDIR)$(PREFIX)/lib/libmrjob.a
+	cp -P lib/libmrjob.so lib/libmrjob.so.* $(DESTDIR)$(PREFIX)/lib
 
 # The main job on examples/, by bin/mrjob, or by the program built without its proofs.
 demo:
@@ -21,9 +38,9 @@ test:
 profile:
 	@scripts/gate_profile.py
 
-# Each benchmark of bench/, on the program of bin/.
-bench: bin/mrjob
+# Each benchmark of bench/, on the program of bin/ and the library of lib/.
+bench: bin/mrjob lib/libmrjob.a
 	@scripts/bench.sh
 
 clean:
-	rm -rf bin crates/*/out
+	rm -rf bin lib crates/*/out

@@ -1,9 +1,10 @@
 #!/usr/bin/env python3
-"""Writes the scripts on which playing is timed, the same ones each time: 1,024 splits of 8 holders and 256 workers.
+"""Writes the scripts and jobs that are timed, the same ones each time: 1,024 splits of 8 holders and 256 workers.
 
     make_scripts.py commands      65,536 commands, none of them a wave: holders, deaths, returns, sweeps, old attempts
     make_scripts.py waves         1,000 waves that start one split each, and its completion
     make_scripts.py job FILE      the lines of a file as documents, in 256 splits and 8 parts: one wave, and all is done
+    make_scripts.py run FILE N    the same documents, splits and parts as a job of N workers, each holding its share
 """
 import random
 import sys
@@ -11,6 +12,7 @@ import sys
 SPLITS, WORKERS, PARTS = 1024, 256, 8
 COMMANDS = 65_536
 WAVES = 1_000
+JOB_SPLITS = 256
 BLOCK = 67_108_864
 # One sweep in so many commands: its line has a count for each worker.
 SWEEP_EVERY = 64
@@ -52,14 +54,19 @@ def waves():
         yield f"done {wave + 1}"
 
 
-def job(path):
+def documents(path):
+    """The lines of a file, in the splits of a job."""
     with open(path, encoding="ascii") as file:
         texts = file.read().splitlines()
-    splits = 256
-    yield from head(lambda worker: 16, splits, lambda split: [split])
     yield f"parts {PARTS}"
     for number, text in enumerate(texts):
-        yield f"doc d{number} s{number * splits // len(texts)} {text}"
+        yield f"doc d{number} s{number * JOB_SPLITS // len(texts)} {text}"
+
+
+def job(path):
+    splits = JOB_SPLITS
+    yield from head(lambda worker: 16, splits, lambda split: [split])
+    yield from documents(path)
     yield "begin"
     yield "wave"
     yield from (f"done {attempt + 1}" for attempt in range(splits))
@@ -68,8 +75,16 @@ def job(path):
         yield f"done {splits + part + 1}"
 
 
+def run(path, workers):
+    yield "job 1"
+    yield "rack r"
+    yield from (f"worker w{worker} r 16" for worker in range(int(workers)))
+    yield from (f"split s{split} {BLOCK} w{split % int(workers)}" for split in range(JOB_SPLITS))
+    yield from documents(path)
+
+
 def main():
-    kinds = {"commands": commands, "waves": waves, "job": job}
+    kinds = {"commands": commands, "waves": waves, "job": job, "run": run}
     if len(sys.argv) < 2 or sys.argv[1] not in kinds:
         sys.exit(__doc__)
     for line in kinds[sys.argv[1]](*sys.argv[2:]):

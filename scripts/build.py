@@ -71,6 +71,14 @@ def build(program, log):
     return said.returncode == 0 and said.stdout == (program.folder / "stdout").read_bytes()
 
 
+def stop_at_faults(log):
+    """Shows what a log says of what is not proved, and ends the script."""
+    lines = log.read_text().splitlines()
+    found = [it for it in lines if re.search(r"error|NOT PROVED|not proved", it)] or lines[-20:]
+    print("\n".join(found[:20]))
+    sys.exit(f"not proved; {log} has the whole text")
+
+
 def main():
     crates = read_crates()
     program = crates["mrjob"]
@@ -78,10 +86,7 @@ def main():
     with open(LOG, "w") as log:
         if not prove(program, crates, log):
             log.flush()
-            lines = LOG.read_text().splitlines()
-            found = [it for it in lines if re.search(r"error|NOT PROVED|not proved", it)] or lines[-20:]
-            print("\n".join(found[:20]))
-            sys.exit(f"not proved; {LOG} has the whole text")
+            stop_at_faults(LOG)
         if not build(program, log):
             sys.exit(f"the program was not built, or does not write what crates/mrjob/stdout has; see {LOG}")
     shutil.copy2(program.folder / "out/mrjob", LOG.parent / "mrjob")

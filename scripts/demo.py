@@ -1,7 +1,7 @@
 #!/usr/bin/env python3
 """Shows the main job on two splits that want the same worker: the best plan with its prices, a check of prices, and
 what the check says of each split on its nearest free worker in turn. Then a job whose worker dies, from its script to
-its index, and a program that plans by the library's calls.
+its index, a program that plans by the library's calls, and a job that runs on threads.
 
 Where `make` has left bin/mrjob, and no source is younger, that is run, else the program built without its proofs.
 """
@@ -21,6 +21,7 @@ RUNS = [
     ("swap", ["check"], 0, "the same plan with other prices: they show that no plan is better"),
     ("nearest_first", ["check"], 1, "each split on its nearest free worker in turn costs 40, and no prices certify it"),
     ("play_death", ["play"], 0, "a dies after its map was done: b maps the split again, and the index is whole"),
+    ("run_words", ["run"], 0, "a thread for each worker: the documents are mapped and merged, and the index written"),
 ]
 
 
@@ -59,6 +60,13 @@ def library_call(crate, crates):
     return subprocess.run(words, cwd=crate.folder, stdin=subprocess.DEVNULL, capture_output=True, text=True).stdout
 
 
+def show(run, answer):
+    (name, words, wanted, says), (said, status) = run, answer
+    print(f"$ mrjob {' '.join(words)} < examples/{name}.txt\n{said}({says})\n", flush=True)
+    if status != wanted:
+        sys.exit(f"its status is {status}, and not {wanted}")
+
+
 def main():
     crates = read_crates()
     mrjob, library_user, program = crates["mrjob"], crates["plan_a_wave"], ROOT / "bin/mrjob"
@@ -69,11 +77,10 @@ def main():
     with ThreadPoolExecutor() as pool:
         called = pool.submit(library_call, library_user, crates)
         answers = built(program) if is_made else unproved(mrjob)
-        for (name, words, wanted, says), (said, status) in zip(RUNS, answers):
-            print(f"$ mrjob {' '.join(words)} < examples/{name}.txt\n{said}({says})\n", flush=True)
-            if status != wanted:
-                sys.exit(f"its status is {status}, and not {wanted}")
-        print(f"crates/plan_a_wave, the same wave by calls of the library:\n{called.result()}", end="")
+        for run, answer in zip(RUNS[:-1], answers):
+            show(run, answer)
+        print(f"crates/plan_a_wave, the same wave by calls of the library:\n{called.result()}", flush=True)
+        show(RUNS[-1], answers[-1])
     if called.result() != (library_user.folder / "stdout").read_text():
         sys.exit("that is not what its file stdout has")
 

@@ -1,13 +1,16 @@
 #!/usr/bin/env python3
-"""Compares what built programs answer to made texts with what reference_check.py and reference_play.py say of them.
+"""Compares what built programs answer to made texts with what reference_check.py, reference_play.py and
+reference_run.py say of them.
 
     differential.py PROGRAM..
 
 The texts are the same in each run: those of `make_texts.py KIND SEED` for the seeds from 1, each front of two
-examples, a script with a death more at each of its places, and texts at the limits on counts. A check's answer has
-to be the reference's. A plan with its prices, over either network, has to start as many splits at as little cost as
-any choice of starts, and to be certified by the reference; without prices its lines are the same up to them. A
-script's report is followed command by command. The last line counts the groups of texts that agree.
+examples, a script with a death more at each of its places, problems of up to 1,023 splits, and texts at the limits
+on counts. A check's answer has to be the reference's. A plan with its prices, over either network, has to start as
+many splits at as little cost as any choice of starts, and to be certified by the reference; without prices its
+lines are the same up to them. A script's report is followed command by command. A job's answer has to be the
+reference's, and the end of the report of a script that brings it as far. The last line counts the groups of texts
+that agree.
 """
 import os
 import random
@@ -17,12 +20,17 @@ from concurrent.futures import ThreadPoolExecutor
 
 sys.dont_write_bytecode = True
 import make_texts
+import reference_run
 from reference_check import answer, misplanned
 from reference_play import misplayed
 
 CHECKED = {"best": 120, "changed": 200, "faulty": 320}
 PLANNED = {"problem": 300, "faulty_problem": 200}
 PLAYED = {"script": 1000, "faulty_script": 500}
+RUN = {"job": 2000, "faulty_job": 500}
+# How many splits the larger problems have, up to just below the most: more than a thread takes at once, and more
+# than there are slots for.
+MANY_SPLITS = [129, 200, 256, 257, 512, 1000, 1001, 1010, 1023]
 EXAMPLES = os.path.join(os.path.dirname(os.path.abspath(__file__)), "..", "examples")
 
 
@@ -37,15 +45,33 @@ def groups():
         yield kind, wrong_check, made(kind, count)
     for kind, count in PLANNED.items():
         yield kind, wrong_plan, made(kind, count)
+    yield "many", wrong_many, [(f"a problem of {splits} splits", many(splits)) for splits in MANY_SPLITS]
     for kind, count in PLAYED.items():
         yield kind, wrong_play, made(kind, count)
+    for kind, count in RUN.items():
+        yield kind, wrong_run, made(kind, count)
     yield "front", wrong_check, fronts("swap.txt")
     yield "front", wrong_play, fronts("play_death.txt")
+    yield "front", wrong_run, fronts("run_words.txt")
     yield "death", wrong_death, deaths("play_death.txt", [b"a", b"b"])
     limits = [(kind, over) for kind in make_texts.MOST for over in (0, 1)]
     yield "limit", wrong_check, [
         (f"{over} past the most {kind}s", make_texts.limit(kind, over)) for kind, over in limits
     ]
+
+
+def many(splits):
+    """A problem of so many splits for a few slots: the reference's search goes by the slots that are left."""
+    rnd, workers = random.Random(splits), [f"w{w}" for w in range(4)]
+    lines = ["problem 2", "centre c0", "centre c1", "rack r0 c0", "rack r1 c0", "rack r2 c1"]
+    lines += [f"worker {name} r{w % 3} {rnd.randint(1, 3)}" for w, name in enumerate(workers)]
+    for s in range(splits):
+        # (half of the workers hold nothing, so that some starts cost)
+        holders = rnd.sample(workers[:2], rnd.choice([0, 1, 1, 2]))
+        lines.append(" ".join([f"split s{s} {rnd.randint(1, 9999)}", *holders]))
+    lines += [f"busy s{s}" for s in range(splits) if rnd.random() < 0.1]
+    lines += [f"barred s{s} {rnd.choice(workers)}" for s in range(splits) if rnd.random() < 0.1]
+    return make_texts.text_of([*lines, "end"])
 
 
 def example(name):
@@ -95,10 +121,30 @@ def wrong_plan(program, text):
     return wrong_plan_over(program, ["plan"], text) or wrong_plan_over(program, ["plan", "--network", "direct"], text)
 
 
+def wrong_many(program, text):
+    wrong = wrong_plan(program, text)
+    if wrong:
+        return wrong
+    lines = said_by(program, ["plan", "--prices"], text)[0].partition(b"\n")[2]
+    return wrong_check(program, text[: -len(b"end\n")] + b"plan\n" + lines + b"end\n")
+
+
 def wrong_play(program, text):
     said = said_by(program, ["play"], text)
     wrong = misplayed(text, *said)
     return f"it says {said}, but {wrong}" if wrong else None
+
+
+def wrong_run(program, text):
+    said, wanted = said_by(program, ["run"], text), reference_run.answer(text)
+    if said != wanted:
+        return f"it says {said}, and the reference {wanted}"
+    if said[1] == 2:
+        return None
+    report, status = said_by(program, ["play"], reference_run.script(text))
+    if status != said[1] or not (b"\n" + report).endswith(b"\n" + said[0]):
+        return f"it says {said}, and a script of the same job {report}"
+    return None
 
 
 def wrong_death(program, text):

@@ -40,6 +40,8 @@ ENDS_HEAD = re.compile(r" *(?:\S.*)?[{};]$")
 OPEN_GOAL = re.compile(r"note: (?:\./)?(src/\S+?):(\d+):\d+: it is not proved that .*\(`([^`]+)`\)")
 # An answer that proves its goal no longer, by the folder of its function's proof.
 OPEN_ANSWER = re.compile(r"(?:\./)?proofs/(\S+)/Answers\.antt:\d+:\d+: error: `([^`]+)`: (.*)")
+# The goals left open by a lemma of the same file that holds no longer.
+OPEN_BELOW = re.compile(r"(?:\./)?proofs/(\S+)/Answers\.antt:\S+: error: \d+ \w+ that depends? on `([^`]+)`, .*: (.*)")
 # What antt says where an answer names what is no longer there.
 NAMES = re.compile(r"is not in scope|has no field|has no `|is no name|was not admitted")
 
@@ -211,11 +213,15 @@ class Trial:
         if status != 1 or not re.search(r"^(logic=not-proved|only=).*\n\Z", said, re.M):
             return Verdict((), said)
         goals = [((file, int(line)), goal) for file, line, goal in OPEN_GOAL.findall(said)]
-        for folder, goal, why in OPEN_ANSWER.findall(said):
-            # (a proof file may have lemmas beside its answers)
+        false = [(folder, name) for folder, name, why in OPEN_ANSWER.findall(said) if not NAMES.search(why)]
+        # (an answer may rest on lemmas beside it, which only then are proved no longer)
+        false += [
+            (folder, goal) for folder, lemma, open_goals in OPEN_BELOW.findall(said) if (folder, lemma) in false
+            for goal in open_goals.split(", ")
+        ]
+        for folder, goal in false:
             answers = (self.crate.folder / "proofs" / folder / "Answers.antt").read_text(encoding="utf-8")
-            is_answer = re.search(rf"^pub {re.escape(goal)} :\s+goal\.{re.escape(goal)}$", answers, re.M)
-            if is_answer and not NAMES.search(why):
+            if re.search(rf"^pub {re.escape(goal)} :\s+goal\.{re.escape(goal)}$", answers, re.M):
                 goals.append(((folder, 0), f"{goal} by its answer"))
         return Verdict(tuple(goals), said)
 

@@ -1,8 +1,9 @@
 #!/usr/bin/env python3
-"""Makes texts for tests, the same ones for the same seed: problems, with plans and prices or without, and scripts.
+"""Makes texts for tests, the same ones for the same seed: problems, with plans and prices or without, scripts
+and jobs.
 
     make_texts.py KIND SEED        writes one text; KIND is best, changed, faulty, problem, faulty_problem, script,
-                                   faulty_script, full or large
+                                   faulty_script, job, faulty_job, full or large
 """
 import random
 import sys
@@ -235,6 +236,15 @@ def command(rnd, scenario, attempts):
     return rnd.choice(kinds)()
 
 
+def documents_of(rnd, scenario):
+    words = ["cat", "dog", "the", "The", "one", "two", "two,", "x1y", "--", ""]
+    documents = []
+    for number in range(rnd.randint(0, 6) if scenario.splits else 0):
+        text = " ".join(rnd.choice(words) for _ in range(rnd.randint(0, 5)))
+        documents.append(f"doc d{number} s{rnd.randrange(scenario.splits)}{rnd.choice(['', ' ' + text, ' ' + text])}")
+    return documents
+
+
 def script_lines(rnd):
     """The lines of a script: commands in any order, and then, in most, such as bring the job to its end."""
     scenario = Scenario(rnd)
@@ -242,11 +252,7 @@ def script_lines(rnd):
     racks, workers, splits = scenario.cluster()
     settings = [(f"parts {rnd.randint(1, 4)}", 0.8), (f"target {rnd.randint(1, 8)}", 0.5), ("silence 2", 0.5)]
     settings = [line for line, share in settings if rnd.random() < share]
-    words = ["cat", "dog", "the", "The", "one", "two", "two,", "x1y", "--", ""]
-    documents = []
-    for number in range(rnd.randint(0, 6) if scenario.splits else 0):
-        text = " ".join(rnd.choice(words) for _ in range(rnd.randint(0, 5)))
-        documents.append(f"doc d{number} s{rnd.randrange(scenario.splits)}{rnd.choice(['', ' ' + text, ' ' + text])}")
+    documents = documents_of(rnd, scenario)
     commands, attempts = [], 4 + 2 * scenario.splits
     for _ in range(rnd.choice([0, 5, 15, 30])):
         commands.append(command(rnd, scenario, attempts))
@@ -273,6 +279,34 @@ def script(rnd):
 def faulty_script(rnd):
     """A script in which a line or a byte was spoiled."""
     return spoiled(rnd, script_lines(rnd))
+
+
+def job_lines(rnd):
+    """The lines of a job: in most, some worker has a slot, and each split a holder, so that every part can be done."""
+    scenario = Scenario(rnd)
+    if rnd.random() < 0.95:
+        while not scenario.workers:
+            scenario = Scenario(rnd)
+        scenario.free[rnd.randrange(scenario.workers)] += 1
+        scenario.free = [min(free, 16) for free in scenario.free]
+        scenario.holders = [held or [rnd.randrange(scenario.workers)] for held in scenario.holders]
+    racks, workers, splits = scenario.cluster()
+    # (a job that is stuck ends after so many sweeps, each of which takes a while)
+    settings = [f"parts {rnd.randint(1, 4)}", f"target {rnd.randint(1, 8)}", "silence 1"]
+    head = [*racks, *workers, *splits, *documents_of(rnd, scenario)]
+    for line in settings:
+        head.insert(rnd.randint(0, len(head)), line)
+    return [f"job {scenario.version}", *head, "end"]
+
+
+def job(rnd):
+    """A job without a fault."""
+    return text_of(job_lines(rnd))
+
+
+def faulty_job(rnd):
+    """A job in which a line or a byte was spoiled."""
+    return spoiled(rnd, job_lines(rnd))
 
 
 def spoiled(rnd, lines):
@@ -332,6 +366,8 @@ KINDS = {
     "problem": problem,
     "script": script,
     "faulty_script": faulty_script,
+    "job": job,
+    "faulty_job": faulty_job,
     "faulty_problem": faulty_problem,
     "full": full,
     "large": large,

@@ -5,6 +5,7 @@
  *   write      the NTH write to standard output fails
  *   interrupt  the NTH read or write to standard output is interrupted
  *   short      each read and each write to standard output, from the NTH on, moves one byte
+ *   thread     the NTH thread is not started
  * Where a call met this, descriptor 9 gets one byte. It needs no header, so that any C compiler for x86-64 Linux
  * makes it. */
 typedef unsigned long size;
@@ -12,15 +13,16 @@ typedef unsigned long size;
 extern char *getenv(const char *);
 extern int *__errno_location(void);
 extern long syscall(long, ...);
+extern void *dlsym(void *, const char *);
 extern void *__libc_malloc(size);
 extern void *__libc_calloc(size, size);
 extern void *__libc_realloc(void *, size);
 extern void *__libc_memalign(size, size);
 
-enum { SYS_READ = 0, SYS_WRITE = 1, INTERRUPTED = 4, INPUT_FAULT = 5, NO_MEMORY = 12 };
+enum { SYS_READ = 0, SYS_WRITE = 1, INTERRUPTED = 4, INPUT_FAULT = 5, NO_THREAD = 11, NO_MEMORY = 12 };
 
 static const char *kind;
-static long wanted, allocations, reads, writes, transfers;
+static long wanted, allocations, reads, writes, transfers, threads;
 
 static int is_kind(const char *name) {
     if (!kind) {
@@ -44,7 +46,8 @@ static int met(int error) {
 }
 
 static int refuses_memory(void) {
-    return is_kind("alloc") && ++allocations == wanted && met(NO_MEMORY);
+    /* (threads allocate side by side) */
+    return is_kind("alloc") && __atomic_add_fetch(&allocations, 1, __ATOMIC_SEQ_CST) == wanted && met(NO_MEMORY);
 }
 
 static long moved(long call, int file, void *bytes, size count, const char *failing, long *calls) {
@@ -92,4 +95,13 @@ long write(int file, const void *bytes, size count) {
 
 long __write(int file, const void *bytes, size count) {
     return write(file, bytes, count);
+}
+
+typedef int start_thread(void *, const void *, void *(*)(void *), void *);
+
+int pthread_create(void *thread, const void *how, void *(*body)(void *), void *given) {
+    if (is_kind("thread") && ++threads == wanted && met(NO_THREAD))
+        return NO_THREAD;
+    /* (the next of this name: the C library's) */
+    return ((start_thread *)dlsym((void *)-1L, "pthread_create"))(thread, how, body, given);
 }

@@ -1,7 +1,7 @@
 #!/usr/bin/env bash
 # Refuses the built programs one call in turn, on examples, until a run meets none: each allocation, each read and
-# each write of the output. It also interrupts each transfer, and has them all move one byte. Last, it refuses each
-# allocation of built tests that hold whichever is refused.
+# each write of the output, and each thread of a job. It also interrupts each transfer, and has them all move one byte.
+# Last, it refuses each allocation of built tests that hold whichever is refused.
 # usage: refused_calls.sh PROGRAM..
 set -euo pipefail
 cd "$(dirname "$0")/.."
@@ -54,6 +54,30 @@ sweep() { # PROGRAM KIND WORDS-AND-STATUS OUTPUT
     if [ "$wrong" = 0 ]; then passed=$((passed + 1)); else failed=$((failed + 1)); fi
 }
 
+# Refuses each allocation of a job on threads. Which one is met in which run depends on the threads, and a worker that
+# finds no memory fails its attempt alone: a run ends with want of memory, without a thread, stuck, or with the index.
+sweep_job() { # PROGRAM
+    local wrong=0 calls=0 told=0 nth
+    for ((nth = 1; nth <= 10000; nth++)); do
+        run "$1" alloc "$nth"
+        [ -s "$room/met" ] || break
+        calls=$nth
+        case "$said" in
+            "mrjob: no memory (3)" | "mrjob: no thread (6)") [ ! -s "$room/out" ] && told=$((told + 1)) && continue ;;
+            " (1)") [[ $(head -n 1 "$room/out") == stuck* ]] && continue ;;
+            *) is_whole && continue ;;
+        esac
+        wrong=$((wrong + 1))
+        echo "$1 ${words[*]}: alloc $nth: it says: $said"
+    done
+    if ! is_whole || [ "$told" = 0 ] || [ "$nth" -gt 10000 ]; then
+        wrong=$((wrong + 1))
+        echo "$1 ${words[*]}: alloc: after $calls calls that were refused, it says: $said"
+    fi
+    echo "$1 ${words[*]}: alloc: $calls calls, one refused in each run: $told told, $wrong wrong"
+    if [ "$wrong" = 0 ]; then passed=$((passed + 1)); else failed=$((failed + 1)); fi
+}
+
 : > "$room/nothing"
 for program in "$@"; do
     example=examples/swap
@@ -77,6 +101,14 @@ for program in "$@"; do
     sweep "$program" alloc "mrjob: no memory (3)" "$room/nothing"
     sweep "$program" read "mrjob: read fault (4)" "$room/nothing"
     sweep "$program" write "mrjob: write fault (4)" "$room/nothing"
+    example=examples/run_words
+    words=(run)
+    sweep_job "$program"
+    sweep "$program" thread "mrjob: no thread (6)" "$room/nothing"
+    sweep "$program" read "mrjob: read fault (4)" "$room/nothing"
+    sweep "$program" write "mrjob: write fault (4)" "$room/nothing"
+    sweep "$program" interrupt " (0)" "$example.out"
+    sweep "$program" short " (0)" "$example.out"
 done
 
 # Refuses each allocation of a built test that holds whichever of them is refused.

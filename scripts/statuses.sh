@@ -48,6 +48,7 @@ for program in "$@"; do
     expect "help on a command" "$(given check --help < "$text")" 0 words nothing
     expect "help on planning" "$(given plan --help < "$text")" 0 words nothing
     expect "help on playing" "$(given play --help < "$text")" 0 words nothing
+    expect "help on running" "$(given run --help < "$text")" 0 words nothing
     expect "an unknown option" "$(given plan --price < "$text")" 64 nothing words
     expect "an unknown network" "$(given plan --network ring < "$text")" 64 nothing words
     expect "a network for a check" "$(given check --network racks < "$text")" 64 nothing words
@@ -56,6 +57,10 @@ for program in "$@"; do
     expect "an option for playing" "$(given play --prices < "$text")" 64 nothing words
     expect "a script that is stuck" "$(given play < examples/play_no_commands.txt)" 1 "stuck 0" nothing
     expect "a script that is done" "$(given play < examples/play_first.txt)" 0 "$(cat examples/play_first.out)" nothing
+    expect "a problem in place of a job" "$(given run < "$text")" 2 "line 1: fault 7" nothing
+    expect "an option for running" "$(given run --prices < "$text")" 64 nothing words
+    expect "a job that is stuck" "$(given run < examples/run_stuck.txt)" 1 "$(cat examples/run_stuck.out)" nothing
+    expect "a job that is done" "$(given run < examples/run_words.txt)" 0 "$(cat examples/run_words.out)" nothing
     expect "more starts than the most attempts" \
         "$(scripts/make_texts.py full 1 | given play)" 5 nothing "mrjob: history full"
     expect "a text that is too long" "$(head -c 16777217 /dev/zero | given check)" 2 "line 0: fault 11" nothing
@@ -68,10 +73,14 @@ for program in "$@"; do
     done
     expect "an input that cannot be read" "$(given check < /)" 4 nothing "mrjob: read fault"
     expect "a script that cannot be read" "$(given play < /)" 4 nothing "mrjob: read fault"
+    expect "a job that cannot be read" "$(given run < /)" 4 nothing "mrjob: read fault"
     status=0
     "$program" check < "$text" > /dev/full 2> "$room/err" || status=$?
     : > "$room/out"
     expect "an output that takes nothing" "$status" 4 nothing "mrjob: write fault"
+    status=0
+    "$program" run < examples/run_words.txt > /dev/full 2> "$room/err" || status=$?
+    expect "an output that takes no index" "$status" 4 nothing "mrjob: write fault"
     status=0
     "$program" --help > /dev/full 2> "$room/err" || status=$?
     : > "$room/out"
