@@ -8,9 +8,11 @@
 
 mod answers;
 mod endings;
+mod history;
 
 pub use answers::{
     add_accepted, add_answer, add_backup, add_copies, add_dead, add_ignored, add_reduce, add_start,
     add_wave,
 };
 pub use endings::{add_index, add_stuck};
+pub use history::add_history;
