@@ -96,7 +96,7 @@ def deaths(name, workers):
 
 
 def said_by(program, words, text):
-    ran = subprocess.run([program, *words], input=text, stdout=subprocess.PIPE, stderr=subprocess.PIPE, timeout=60)
+    ran = subprocess.run([program, *words], input=text, stdout=subprocess.PIPE, stderr=subprocess.PIPE)
     return ran.stdout, ran.returncode
 
 

@@ -18,9 +18,9 @@ use Rattle.command_line.specs.declared.asked.AskError.TheVariants.{Fault, Memory
 use Rattle.flow_network.specs.declared.NetworkKind.{NetworkKind}
 use Rattle.flow_network.specs.declared.NetworkKind.TheVariants.{Direct, Racks}
 
--- the flag `--prices`, which takes no value
-abbrev pub prices_flag : Rule
-prices_flag = record (new_rule (codes "prices")) { long = Some (codes "prices"); action = Some SetTrue }
+-- a flag, as `--prices`, which takes no value
+abbrev pub flag : Text → Rule
+flag name = record (new_rule name) { long = Some name; action = Some SetTrue }
 
 -- the word by which a network is asked for
 abbrev pub word_of : NetworkKind → Text
@@ -39,13 +39,13 @@ abbrev pub check : App
 check = new_app (codes "check")
 
 abbrev pub plan : App
-plan = with_rule (with_rule (new_app (codes "plan")) prices_flag) network
+plan = with_rule (with_rule (new_app (codes "plan")) (flag (codes "prices"))) network
 
 abbrev pub play : App
 play = new_app (codes "play")
 
 abbrev pub run : App
-run = new_app (codes "run")
+run = with_rule (new_app (codes "run")) (flag (codes "history"))
 
 -- the program before it has commands; one of them has to be named
 abbrev pub program : App
@@ -85,7 +85,7 @@ abbrev pub command_word : Ask → Text
 command_word Check = codes "check"
 command_word (Plan options) = codes "plan"
 command_word Play = codes "play"
-command_word Run = codes "run"
+command_word (Run options) = codes "run"
 
 -- the words have a fault of this kind: one that clap finds, or a network that is none
 abbrev pub HasFault : List Text → ErrorKind → Type 0

@@ -10,7 +10,7 @@ pub enum Ask {
     /// Play a script of a job.
     Play,
     /// Run a job on threads.
-    Run,
+    Run(RunOptions),
 }
 
 /// How a plan is to be made and what is written of it.
@@ -20,6 +20,13 @@ pub struct PlanOptions {
     pub prices: bool,
     /// The network over which the plan is sought.
     pub network: NetworkKind,
+}
+
+/// What is written of a run.
+#[derive(Clone, Copy, Debug, PartialEq, Eq)]
+pub struct RunOptions {
+    /// Write first all that was done.
+    pub history: bool,
 }
 
 /// Why the words ask for no command.

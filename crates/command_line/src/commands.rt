@@ -107,9 +107,12 @@ It is answered by:
 const RUN_ABOUT: &str =
     "Runs a job, each of its workers a thread, and writes the index of its documents";
 
+const HISTORY_HELP: &str = "Writes first all that was done, one event after another";
+
 const RUN_TEXTS: &str = "\
 Input:   a job, as text on standard input: a cluster of at most 32 workers, and its documents
-Output:  the index of the documents, or the splits that are not done; or `line LINE: fault NUMBER`
+Output:  the index of the documents, or the splits that are not done; or `line LINE: fault NUMBER`;
+         with --history, before these, what was done in the words of a script and its report
 Status:  0 every part is done, 1 stuck, 2 fault, 5 history full, 6 torn or no thread; `mrjob --help`
          has the others
 
@@ -147,12 +150,17 @@ fn play_command<'a>(alloc: Global) -> Command<'a>
         .after_help(PLAY_TEXTS)
 }
 
-fn run_command<'a>(alloc: Global) -> Command<'a>
-    ensures { app_of result ≡ run }
+fn run_command<'a>(alloc: Global) -> Result<Command<'a>, AllocError>
+    ensures { IfOk result (λ command. app_of command ≡ run) }
 {
+    let history = Arg::new(alloc, "history")
+        .long("history")
+        .help(HISTORY_HELP)
+        .action(ArgAction::SetTrue);
     Command::new(alloc, "run")
         .about(RUN_ABOUT)
         .after_help(RUN_TEXTS)
+        .arg(history)
 }
 
 /// The command that plans.
@@ -180,6 +188,7 @@ pub(crate) fn all_commands<'a>(alloc: Global) -> Result<Command<'a>, AllocError>
     ensures { IfOk result (λ commands. app_of commands ≡ mrjob) }
 {
     let plan = plan_command(alloc)?;
+    let run = run_command(alloc)?;
     Command::new(alloc, "mrjob")
         .about(ABOUT)
         .after_help(STATUSES)
@@ -187,5 +196,5 @@ pub(crate) fn all_commands<'a>(alloc: Global) -> Result<Command<'a>, AllocError>
         .subcommand(check_command(alloc))?
         .subcommand(plan)?
         .subcommand(play_command(alloc))?
-        .subcommand(run_command(alloc))
+        .subcommand(run)
 }

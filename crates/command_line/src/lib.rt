@@ -16,7 +16,7 @@ ghost use Rattle.command_line.specs.Commands.{RefusesNetwork, is_set, value_in, 
 pub mod asked;
 mod commands;
 
-use crate::asked::{Ask, AskError, PlanOptions};
+use crate::asked::{Ask, AskError, PlanOptions, RunOptions};
 use crate::commands::{all_commands, plan_command};
 use clap::ArgMatches;
 use clap::error::ErrorKind;
@@ -32,6 +32,8 @@ pub fn ask<'a>(alloc: Global, words: &'a [&'a str]) -> Result<Ask, AskError>
     ensures command { IfOk result (λ ask. command_in (texts words.entry.now) ≡ Some (command_word ask)) }
     ensures flag { (options : _) → result ≡ Ok (Ask.Plan options)
         → options.prices ≡ flag_in (codes "prices") (texts words.entry.now) }
+    ensures history { (options : _) → result ≡ Ok (Ask.Run options)
+        → options.history ≡ flag_in (codes "history") (texts words.entry.now) }
     ensures network { (options : _) → result ≡ Ok (Ask.Plan options)
         → value_in (codes "network") (texts words.entry.now) ≡ Some (word_of options.network) }
 
@@ -59,7 +61,9 @@ pub fn ask<'a>(alloc: Global, words: &'a [&'a str]) -> Result<Ask, AskError>
                     None => Err(unknown_network(alloc)),
                 },
                 "play" => Ok(Ask::Play),
-                "run" => Ok(Ask::Run),
+                "run" => Ok(Ask::Run(RunOptions {
+                    history: is_given(options, "history"),
+                })),
                 _ => unreachable!(),
             }
         }

@@ -1,9 +1,11 @@
 -- What is said of a job that was read and run is said of its text.
-use Rattle.std.proofs.Common.{ℕ, List, Result, Ok, Err, ◌≡◌, ◌∙◌, IfOk, ap, length, subst, sym}
+use Rattle.std.proofs.Common.{ℕ, Bool, List, Option, Some, None, Result, Ok, Err, ◌≡◌, ◌∙◌, IfOk, ap, length}
+use Rattle.std.proofs.Common.{subst, sym}
 use Rattle.std.proofs.lemmas.List.{length-map}
 use Rattle.std.proofs.lemmas.List.FromFn.{length-range_with_len}
 use Rattle.line_rules.specs.declared.purpose.Purpose.TheVariants.{Running}
 use Rattle.word_map.specs.Texts.{SplitDocuments}
+use Rattle.word_map.specs.Entries.{EntryView}
 use Rattle.shuffle_reduce.specs.Gather.{values_of}
 use Rattle.head_text.specs.Heads.{IsFitHead}
 use Rattle.head_text.specs.declared.heads.Head.{Head}
@@ -12,9 +14,9 @@ use Rattle.script_text.specs.Scripts.{IsOfHead, IsScriptOf}
 use Rattle.script_text.specs.declared.script.Names.{Names}
 use Rattle.script_text.specs.declared.script.Script.{Script}
 use Rattle.script_text.specs.declared.script.ScriptText.{ScriptText}
-use Rattle.job_threads.specs.Outcomes.{IsOutcomeOf}
-use Rattle.job_threads.specs.declared.outcome.Outcome.{Outcome}
-use Rattle.job_threads.specs.declared.outcome.Outcome.TheVariants as outcome
+use Rattle.master_state.specs.Jobs.{Job}
+use Rattle.job_threads.specs.Outcomes.{EndsWith, IsRecordOf}
+use Rattle.job_threads.specs.declared.outcome.Record.{Record}
 use Rattle.job_threads.specs.declared.outcome.RunError.{RunError}
 use Rattle.job_run.specs.RunAnswer.{HasTextsNamed, RunsRead, TellsJob}
 use Rattle.job_run.specs.declared.running.JobEnd.{JobEnd}
@@ -32,20 +34,25 @@ splits_named names cluster whole named =
     named ∙ sym (length-map cluster.texts (λ text. text.split)) ∙ ap length whole.texts
     ∙ length-range_with_len 0 (length cluster.splits)
 
--- a stuck master has the texts of the job
-pub outcome_named : (names : Names) (texts : List SplitDocuments) (ended : Result Outcome RunError)
-    → length names.splits ≡ length texts → IfOk ended (IsOutcomeOf texts) → IfOk ended (HasTextsNamed names)
-outcome_named names texts (Ok (outcome.Done index)) named is = tt
-outcome_named names texts (Ok (outcome.Stuck last)) named is = named ∙ sym (ap length is.texts)
-outcome_named names texts (Err why) named is = tt
+-- a master of which a run tells has the texts of the job
+texts_kept : (texts : List SplitDocuments) (master : Job) (index : Option (List EntryView))
+    → EndsWith texts master index → master.setup.cluster.texts ≡ texts
+texts_kept texts master (Some index) is = is.0.texts
+texts_kept texts master None is = is.texts
 
-pub runs_read : (text : List ℕ) (v : ScriptText) (end : JobEnd) (lines : List ℕ) → IsScriptOf Running text v
-    → TellsJob (values_of v.head.texts.items) v.script.names end lines → RunsRead text end lines
-runs_read text v end lines is tells = record {
+pub texts_told : (names : Names) (texts : List SplitDocuments) (ended : Result Record RunError)
+    → length names.splits ≡ length texts → IfOk ended (IsRecordOf texts) → IfOk ended (HasTextsNamed names)
+texts_told names texts (Ok ran) named is = named ∙ sym (ap length (texts_kept texts ran.master ran.index is))
+texts_told names texts (Err why) named is = tt
+
+pub runs_read : (asked : Bool) (text : List ℕ) (v : ScriptText) (end : JobEnd) (lines : List ℕ)
+    → IsScriptOf Running text v → TellsJob (values_of v.head.texts.items) v.script.names asked end lines
+    → RunsRead asked text end lines
+runs_read asked text v end lines is tells = record {
   known = is.known;
   script = v.script;
   read = is.read;
   declares = is.declares;
-  tells = subst (λ (texts : List SplitDocuments). TellsJob texts v.script.names end lines) is.head.texts
+  tells = subst (λ (texts : List SplitDocuments). TellsJob texts v.script.names asked end lines) is.head.texts
       tells;
 }

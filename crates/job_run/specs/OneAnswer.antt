@@ -1,5 +1,5 @@
 -- A text that is played or run has ends of its kind, or one fault.
-use Rattle.std.proofs.Common.{Ok, Err}
+use Rattle.std.proofs.Common.{Bool, Ok, Err}
 use Rattle.line_rules.specs.declared.purpose.Purpose.TheVariants.{Playing, Running}
 use Rattle.line_rules.proofs.OneReading.{reads-faultless}
 use Rattle.text_reading.specs.Running.{HasOneAnswer, AnyLines}
@@ -18,11 +18,11 @@ one_play_answer text (Err f) (Err g) x y p q =
     let one = one_fault Playing text f g x y p q in (one.0, tt)
 
 -- all ends of a text are ends of a job, or all are one fault
-pub one_run_answer : HasOneAnswer RunAnswer AreEnds AnyLines
-one_run_answer text (Ok a) (Ok b) x y g h = (tt, tt)
-one_run_answer text (Ok a) (Err f) x y g h =
+pub one_run_answer : (asked : Bool) → HasOneAnswer (RunAnswer asked) AreEnds AnyLines
+one_run_answer asked text (Ok a) (Ok b) x y g h = (tt, tt)
+one_run_answer asked text (Ok a) (Err f) x y g h =
     absurd (reads-faultless Running text g.read.statements f.line f.number g.read.reads h.least)
-one_run_answer text (Err f) (Ok b) x y g h =
+one_run_answer asked text (Err f) (Ok b) x y g h =
     absurd (reads-faultless Running text h.read.statements f.line f.number h.read.reads g.least)
-one_run_answer text (Err f) (Err g) x y p q =
+one_run_answer asked text (Err f) (Err g) x y p q =
     let one = one_fault Running text f g x y p q in (one.0, tt)

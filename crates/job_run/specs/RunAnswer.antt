@@ -1,7 +1,6 @@
 -- What running a job answers to its text.
-use Rattle.std.specs.Prelude.{ℕ, List, [], ◌≡◌, Ok, Err, length}
+use Rattle.std.specs.Prelude.{ℕ, Bool, List, [], ◌++◌, ◌≡◌, Ok, Err, if◌then◌else◌, length}
 use Rattle.std.specs.declared.result.Result.{Result}
-use Rattle.text_lines.specs.Texts.{Word}
 use Rattle.text_lines.specs.declared.fault.TextFault.{TextFault}
 use Rattle.line_rules.specs.Known.{Known}
 use Rattle.line_rules.specs.Reading.{IsAllRead}
@@ -15,11 +14,11 @@ use Rattle.master_state.specs.Jobs as master
 use Rattle.script_text.specs.Scripts.{Declares}
 use Rattle.script_text.specs.declared.script.Names.{Names}
 use Rattle.script_text.specs.declared.script.Script.{Script}
+use Rattle.report_lines.specs.History.{history_lines}
 use Rattle.report_lines.specs.Lines.{stuck_lines}
-use Rattle.job_threads.specs.Outcomes.{IsStuckWith}
+use Rattle.job_threads.specs.Outcomes.{IsDoneOn, IsStuckWith}
 use Rattle.job_threads.specs.declared.job.Job.{Job}
-use Rattle.job_threads.specs.declared.outcome.Outcome.{Outcome}
-use Rattle.job_threads.specs.declared.outcome.Outcome.TheVariants as outcome
+use Rattle.job_threads.specs.declared.outcome.Record.{Record}
 use Rattle.job_run.specs.PlayAnswer.{cluster_in}
 use Rattle.job_run.specs.Reports.{TellsIndex}
 use Rattle.job_run.specs.declared.running.JobEnd.{JobEnd}
@@ -29,34 +28,51 @@ use Rattle.job_run.specs.declared.running.RunEnd.TheVariants as finish
 use Rattle.job_run.specs.declared.running.RunTextError.{RunTextError}
 use Rattle.job_run.specs.declared.running.RunTextError.TheVariants as error
 
--- the lines are those of the splits that a master is stuck with
-pub record TellsStuck (texts : List SplitDocuments) (splits : List Word) (out : List ℕ) : Type 0 where
-  pub last : master.Job
-  pub stuck : IsStuckWith texts last
-  pub out_is : out ≡ stuck_lines splits last.state.splits
+-- the lines with which a run of these texts ends so, of a master that has done all parts or is stuck
+abbrev pub TellsEnd : List SplitDocuments → Names → master.Job → RunEnd → List ℕ → Type 0
+TellsEnd texts names last finish.Done out = IsDoneOn texts last × TellsIndex texts names.documents out
+TellsEnd texts names last finish.Stuck out =
+    IsStuckWith texts last × (out ≡ stuck_lines names.splits last.state.splits)
 
--- the lines with which a run of these texts ends so
-abbrev pub TellsRun : List SplitDocuments → Names → RunEnd → List ℕ → Type 0
-TellsRun texts names finish.Done out = TellsIndex texts names.documents out
-TellsRun texts names finish.Stuck out = TellsStuck texts names.splits out
+-- these lines were added
+pub record HasEnding
+    (texts : List SplitDocuments) (names : Names) (last : master.Job) (end : RunEnd) (before now : List ℕ)
+    : Type 0 where
+  pub ending : List ℕ
+  pub ends : TellsEnd texts names last end ending
+  pub written : now ≡ before ++ ending
+
+-- the lines of all that was done to the master
+abbrev pub done_lines : Names → master.Job → List ℕ
+done_lines names last =
+    history_lines names.splits names.workers last.state.starts last.state.sweeps last.history
+
+-- the lines of a run: of all that was done, where that is asked for, and of how it ended
+pub record TellsRun
+    (texts : List SplitDocuments) (names : Names) (asked : Bool) (end : RunEnd) (out : List ℕ)
+    : Type 0 where
+  pub last : master.Job
+  pub ending : List ℕ
+  pub ends : TellsEnd texts names last end ending
+  pub out_is : out ≡ (if asked then done_lines names last else []) ++ ending
 
 -- a job that has no outcome has no lines
-abbrev pub TellsJob : List SplitDocuments → Names → JobEnd → List ℕ → Type 0
-TellsJob texts names (job.Ran end) out = TellsRun texts names end out
-TellsJob texts names (job.Broken why) out = out ≡ []
+abbrev pub TellsJob : List SplitDocuments → Names → Bool → JobEnd → List ℕ → Type 0
+TellsJob texts names asked (job.Ran end) out = TellsRun texts names asked end out
+TellsJob texts names asked (job.Broken why) out = out ≡ []
 
 -- the lines tell how the job ended that the text declares
-pub record RunsRead (text : List ℕ) (end : JobEnd) (lines : List ℕ) : Type 0 where
+pub record RunsRead (asked : Bool) (text : List ℕ) (end : JobEnd) (lines : List ℕ) : Type 0 where
   pub known : Known
   pub script : Script
   pub read : IsAllRead Running text known
   pub declares : Declares known script
-  pub tells : TellsJob (texts_of known.rows) script.names end lines
+  pub tells : TellsJob (texts_of known.rows) script.names asked end lines
 
--- the lines with which running ends so
-abbrev pub RunAnswer : List ℕ → Result JobEnd TextFault → List ℕ → Type 0
-RunAnswer text (Ok end) lines = RunsRead text end lines
-RunAnswer text (Err fault) line = IsFaulty Running text fault line
+-- the lines with which running ends so, without or with all that was done
+abbrev pub RunAnswer : Bool → List ℕ → Result JobEnd TextFault → List ℕ → Type 0
+RunAnswer asked text (Ok end) lines = RunsRead asked text end lines
+RunAnswer asked text (Err fault) line = IsFaulty Running text fault line
 
 -- the end of a run as that of its command
 abbrev pub ran_as : Result RunEnd RunTextError → Result JobEnd ToolError
@@ -72,7 +88,6 @@ job_in head target = record {
   limits = record { events = 65536; attempts = 65536; sweeps = 16384 };
 }
 
--- the split of each text of a stuck master has a name
-abbrev pub HasTextsNamed : Names → Outcome → Type 0
-HasTextsNamed names (outcome.Done index) = Unit {0}
-HasTextsNamed names (outcome.Stuck last) = length names.splits ≡ length last.setup.cluster.texts
+-- the split of each text of the master has a name
+abbrev pub HasTextsNamed : Names → Record → Type 0
+HasTextsNamed names ran = length names.splits ≡ length ran.master.setup.cluster.texts

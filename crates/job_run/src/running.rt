@@ -1,20 +1,30 @@
-ghost use Rattle.std.specs.Prelude.{◌≡◌, ◌≢◌, ◌≤◌, List, Err, IfOk, length, string_bytes};
+ghost use Rattle.std.specs.Prelude.{◌≡◌, ◌≢◌, ◌≤◌, ◌++◌, List, Err, IfOk, OnOk, length, string_bytes, true, false};
 ghost use Rattle.word_map.specs.Texts.{SplitDocuments};
 ghost use Rattle.shuffle_reduce.specs.Gather.{values_of};
 ghost use Rattle.text_reading.specs.Running.{AnyLines, HasRun, NoText, WroteItsAnswer, outcome};
 ghost use Rattle.head_text.specs.Heads.{IsFitHead};
 ghost use Rattle.script_text.specs.Scripts.{IsOfHead, IsTarget};
-ghost use Rattle.job_threads.specs.Outcomes.{IsOutcomeOf};
+ghost use Rattle.job_threads.specs.Outcomes.{IsRecordOf};
 ghost use Rattle.job_run.specs.PlayAnswer.{AreEnds};
-ghost use Rattle.job_run.specs.RunAnswer.{HasTextsNamed, RunAnswer, TellsJob, job_in, ran_as};
+ghost use Rattle.job_run.specs.RunAnswer.{
+  HasEnding,
+  HasTextsNamed,
+  RunAnswer,
+  TellsJob,
+  TellsRun,
+  done_lines,
+  job_in,
+  ran_as,
+};
 
 use crate::clusters::cluster_of;
 use crate::ending::add_open;
 use fault_answers::fault_answer;
 use head_text::Head;
-use job_threads::{Gate, Job, Outcome, RunError, run};
+use job_threads::{Gate, Job, Record, RunError, run_recorded};
+use master_core::Master;
 use master_state::Limits;
-use report_lines::add_index;
+use report_lines::{add_history, add_index};
 use script_text::{Names, ScriptText, read_job};
 use std::alloc::{AllocError, Global};
 use std::io::{Read, Write};
@@ -60,13 +70,30 @@ pub fn run_text<T: Threads + Wait + Clock + Sync, R: Read, W: Write, G: Gate>(
     writer: &mut W,
     gate: &G,
 ) -> Result<RunEnd, RunTextError>
-    ensures ran { HasRun RunAnswer NoText (R.remaining reader.old) (R.remaining reader.new)
+    ensures ran { HasRun (RunAnswer false) NoText (R.remaining reader.old) (R.remaining reader.new)
         (W.contents writer.old) (W.contents writer.new) (ran_as result) }
-    ensures same { WroteItsAnswer RunAnswer AreEnds AnyLines (R.remaining reader.old)
+    ensures same { WroteItsAnswer (RunAnswer false) AreEnds AnyLines (R.remaining reader.old)
         (W.contents writer.old) (W.contents writer.new) (ran_as result) }
     ensures never_full { result ≢ Err (RunTextError.Tool ToolError.HistoryFull) }
 {
-    told(run_job(rt, alloc, reader, writer, gate))
+    told(run_job(rt, alloc, reader, writer, gate, false))
+}
+
+/// The same, and before the lines of how the job ended it writes those of all that was done.
+pub fn run_text_recorded<T: Threads + Wait + Clock + Sync, R: Read, W: Write, G: Gate>(
+    rt: &T,
+    alloc: Global,
+    reader: &mut R,
+    writer: &mut W,
+    gate: &G,
+) -> Result<RunEnd, RunTextError>
+    ensures ran { HasRun (RunAnswer true) NoText (R.remaining reader.old) (R.remaining reader.new)
+        (W.contents writer.old) (W.contents writer.new) (ran_as result) }
+    ensures same { WroteItsAnswer (RunAnswer true) AreEnds AnyLines (R.remaining reader.old)
+        (W.contents writer.old) (W.contents writer.new) (ran_as result) }
+    ensures never_full { result ≢ Err (RunTextError.Tool ToolError.HistoryFull) }
+{
+    told(run_job(rt, alloc, reader, writer, gate, true))
 }
 
 // How a job's text was answered, as the end of its run.
@@ -88,14 +115,15 @@ fn run_job<T: Threads + Wait + Clock + Sync, R: Read, W: Write, G: Gate>(
     reader: &mut R,
     writer: &mut W,
     gate: &G,
+    asked: bool,
 ) -> Result<JobEnd, ToolError>
-    ensures ran { HasRun RunAnswer NoText (R.remaining reader.old) (R.remaining reader.new)
+    ensures ran { HasRun (RunAnswer asked) NoText (R.remaining reader.old) (R.remaining reader.new)
         (W.contents writer.old) (W.contents writer.new) result }
-    ensures same { WroteItsAnswer RunAnswer AreEnds AnyLines (R.remaining reader.old)
+    ensures same { WroteItsAnswer (RunAnswer asked) AreEnds AnyLines (R.remaining reader.old)
         (W.contents writer.old) (W.contents writer.new) result }
 {
     let text = read_text(alloc, reader)?;
-    let (lines, end) = answer_job(rt, alloc, text.as_slice(), gate)?;
+    let (lines, end) = answer_job(rt, alloc, text.as_slice(), gate, asked)?;
     write_text(writer, lines.as_bytes())?;
     ended(end)
 }
@@ -115,12 +143,13 @@ fn answer_job<T: Threads + Wait + Clock + Sync, G: Gate>(
     alloc: Global,
     text: &[u8],
     gate: &G,
+    asked: bool,
 ) -> Result<(String, Result<JobEnd, TextFault>), AllocError>
-    ensures { IfOk result (λ given. RunAnswer text.now given.1 (string_bytes given.0)) }
+    ensures { IfOk result (λ given. RunAnswer asked text.now given.1 (string_bytes given.0)) }
 {
     match read_job(alloc, text) {
         Ok(read) => {
-            let (lines, end) = run_read(rt, alloc, read, gate)?;
+            let (lines, end) = run_read(rt, alloc, read, gate, asked)?;
             Ok((lines, Ok(end)))
         }
         Err(error) => {
@@ -136,17 +165,19 @@ fn run_read<T: Threads + Wait + Clock + Sync, G: Gate>(
     alloc: Global,
     read: ScriptText<'_>,
     gate: &G,
+    asked: bool,
 ) -> Result<(String, JobEnd), AllocError>
     requires fit { IsFitHead read.head }
     requires known { IsOfHead read.head read.script }
     requires target { IsTarget read.script.target }
     requires few { length read.head.slots.items ≤ 32 }
-    ensures { IfOk result (λ told. TellsJob (values_of read.entry.head.texts.items) read.entry.script.names told.1
-        (string_bytes told.0)) }
+    ensures { IfOk result (λ told. TellsJob (values_of read.entry.head.texts.items) read.entry.script.names asked
+        told.1 (string_bytes told.0)) }
 {
     let ScriptText { head, script } = read;
     let job = job_of(alloc, head, script.target)?;
-    tell(alloc, &script.names, run(rt, alloc, job, gate))
+    let ended = run_recorded(rt, alloc, job, gate);
+    tell(alloc, &script.names, ended, asked)
 }
 
 // The job of a head, with room for what a run may need.
@@ -168,27 +199,80 @@ fn job_of(alloc: Global, head: Head, target: usize) -> Result<Job, AllocError>
     })
 }
 
-// The lines of an outcome; none where there is no outcome.
+// The lines of a run; none where the job has no outcome.
 fn tell(
     alloc: Global,
     names: &Names<'_>,
-    ended: Result<Outcome, RunError>,
+    ended: Result<Record, RunError>,
+    asked: bool,
 ) -> Result<(String, JobEnd), AllocError>
-    requires { IfOk ended (HasTextsNamed names.now) }
-    ensures { (texts : List SplitDocuments) → IfOk ended (IsOutcomeOf texts)
-        → IfOk result (λ told. TellsJob texts names.now told.1 (string_bytes told.0)) }
+    requires named { IfOk ended (HasTextsNamed names.now) }
+    requires few { length names.now.workers ≤ 32 }
+    ensures { (texts : List SplitDocuments) → IfOk ended (IsRecordOf texts)
+        → IfOk result (λ told. TellsJob texts names.now asked told.1 (string_bytes told.0)) }
+{
+    match ended {
+        Ok(ran) => {
+            let (lines, end) = tell_run(alloc, names, &ran, asked)?;
+            Ok((lines, JobEnd::Ran(end)))
+        }
+        Err(error) => Ok((String::new(alloc), JobEnd::Broken(error))),
+    }
+}
+
+// The lines of a run that ended.
+fn tell_run(
+    alloc: Global,
+    names: &Names<'_>,
+    ran: &Record,
+    asked: bool,
+) -> Result<(String, RunEnd), AllocError>
+    requires named { HasTextsNamed names.now ran.now }
+    requires few { length names.now.workers ≤ 32 }
+    ensures { (texts : List SplitDocuments) → IsRecordOf texts ran.now
+        → IfOk result (λ told. TellsRun texts names.now asked told.1 (string_bytes told.0)) }
 {
     let mut lines = String::new(alloc);
-    match ended {
-        Ok(Outcome::Done(index)) => {
-            add_index(&mut lines, &names.documents, index.entries())?;
-            Ok((lines, JobEnd::Ran(RunEnd::Done)))
+    if asked {
+        add_done(names, &ran.master, &mut lines)?;
+    }
+    let end = add_ending(alloc, names, ran, &mut lines)?;
+    Ok((lines, end))
+}
+
+// The lines of all that was done.
+fn add_done(names: &Names<'_>, master: &Master, lines: &mut String) -> Result<(), AllocError>
+    requires named { length names.now.splits ≡ length master.now.setup.cluster.texts }
+    requires few { length names.now.workers ≤ 32 }
+    ensures { OnOk result (string_bytes lines.new ≡ string_bytes lines.old ++ done_lines names.now master.now) }
+{
+    master.is_kept();
+    let (splits, workers) = (&names.splits, &names.workers);
+    let (starts, sweeps) = (master.starts(), master.sweeps());
+    add_history(lines, splits, workers, starts, sweeps, master.history())
+}
+
+// The lines of how the job ended.
+fn add_ending(
+    alloc: Global,
+    names: &Names<'_>,
+    ran: &Record,
+    lines: &mut String,
+) -> Result<RunEnd, AllocError>
+    requires { HasTextsNamed names.now ran.now }
+    ensures { (texts : List SplitDocuments) → IsRecordOf texts ran.now
+        → IfOk result (λ end. HasEnding texts names.now ran.now.master end
+        (string_bytes lines.old) (string_bytes lines.new)) }
+{
+    match &ran.index {
+        Some(index) => {
+            add_index(lines, &names.documents, index.entries())?;
+            Ok(RunEnd::Done)
         }
-        Ok(Outcome::Stuck(master)) => {
-            master.is_kept();
-            add_open(alloc, &master, names, &mut lines)?;
-            Ok((lines, JobEnd::Ran(RunEnd::Stuck)))
+        None => {
+            ran.master.is_kept();
+            add_open(alloc, &ran.master, names, lines)?;
+            Ok(RunEnd::Stuck)
         }
-        Err(error) => Ok((lines, JobEnd::Broken(error))),
     }
 }

@@ -38,6 +38,9 @@ plain_turn idle =
     else if idle % 65536 == 32768 then Backup
     else On
 
--- whether the calling thread sleeps in a turn: at each 128th of many idle ones
-abbrev pub is_for_sleep : ℕ → Bool
-is_for_sleep idle = nat_le 1024 idle && idle % 128 == 0
+-- for how many microseconds the calling thread naps in a turn: at each 64th idle one, and longer after many
+abbrev pub nap_micros : ℕ → ℕ
+nap_micros idle =
+    if nat_lt idle 64 || not (idle % 64 == 0) then 0
+    else if nat_lt idle 4096 then 50
+    else 300

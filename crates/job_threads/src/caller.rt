@@ -3,15 +3,15 @@ ghost use Rattle.job_threads.specs.Holdings.{changed_at, stopped};
 ghost use Rattle.job_threads.specs.Turns.{
   has_ended,
   idle_after,
-  is_for_sleep,
   is_still,
+  nap_micros,
   quiet_after,
   quiet_swept,
 };
 
 use crate::beats::Watch;
 use crate::common::Common;
-use crate::gate::{Gate, Turn};
+use crate::gate::{Gate, NAPS_FROM, Turn};
 use crate::holdings::Holdings;
 use crate::lanes::LaneEnd;
 use crate::outcome::RunError;
@@ -25,9 +25,6 @@ use std::sync::{Arc, Wait};
 use std::thread;
 use std::time::Duration;
 use word_map::SplitText;
-
-// For how long the calling thread sleeps in an idle turn, where it does.
-const NAP_MICROS: u64 = 900;
 
 // What the calling thread has.
 #[derive(Drop)]
@@ -140,8 +137,9 @@ impl<L: Ledger> Caller<L> {
     // Leaves the processor to the workers for a moment, now and then in idle turns. So many of them take some
     // time, however fast one is.
     fn rest<R: Clock>(&self, rt: &R) {
-        if is_for_sleep(self.idle) {
-            thread::sleep(rt, Duration::from_micros(NAP_MICROS));
+        let micros = nap_micros(self.idle);
+        if micros > 0 {
+            thread::sleep(rt, Duration::from_micros(micros));
         }
     }
 
@@ -162,9 +160,15 @@ fn is_still(glance: &Glance) -> bool
     glance.running == 0 && !glance.ready && !glance.reducible
 }
 
-// Whether the calling thread sleeps: at each 128th of many idle turns.
-fn is_for_sleep(idle: u64) -> bool
-    ensures { result ≡ is_for_sleep idle }
+// For how many microseconds the calling thread naps: at each 64th idle turn, and longer where there were many.
+fn nap_micros(idle: u64) -> u64
+    ensures { result ≡ nap_micros idle }
 {
-    idle >= 1024 && idle % 128 == 0
+    if idle < NAPS_FROM || idle % 64 != 0 {
+        0
+    } else if idle < 4096 {
+        50
+    } else {
+        300
+    }
 }

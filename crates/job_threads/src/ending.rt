@@ -1,9 +1,10 @@
-ghost use Rattle.std.specs.Prelude.{◌≡◌, ◌<◌, ◌≤◌, IfOk, IsTrue};
+ghost use Rattle.std.specs.Prelude.{◌≡◌, ◌<◌, ◌≤◌, IfOk, IsTrue, List};
 ghost use Rattle.shuffle_reduce.specs.Gather.{values_of};
 ghost use Rattle.shuffle_reduce.specs.Indexed.{IsIndexOf};
-ghost use Rattle.job_threads.specs.Outcomes.{IsOutcomeOf, IsStuckWith};
+ghost use Rattle.word_map.specs.Texts.{SplitDocuments};
+ghost use Rattle.job_threads.specs.Outcomes.{IsDoneOn, IsOutcomeOf, IsRecordOf, IsStuckWith};
 
-use crate::outcome::{Outcome, RunError};
+use crate::outcome::{Outcome, Record, RunError};
 use master_core::Master;
 use shared_master::{Closed, Hand, Settled, settle};
 use shuffle_reduce::{FinishError, Index, are_equal_texts, are_ready, finish};
@@ -23,24 +24,45 @@ pub(crate) fn settled<L: Ledger>(closed: Closed<L>, hands: Vec<Hand<L>>) -> Resu
 }
 
 // What has become of a job with these texts.
-pub(crate) fn outcome_of(
+pub(crate) fn record_of(
     alloc: Global,
     parts: usize,
     texts: &[Arc<SplitText>],
     master: Master,
-) -> Result<Outcome, RunError>
+) -> Result<Record, RunError>
     requires some { 0 < parts }
     requires few { parts ≤ 64 }
-    ensures { IfOk result (IsOutcomeOf (values_of texts.now)) }
+    ensures { IfOk result (IsRecordOf (values_of texts.now)) }
 {
-    if master.glance().open_parts == 0 {
-        let index = index_of(alloc, parts, texts, &master)?;
-        Ok(Outcome::Done(index))
+    let index = if is_done(texts, &master) {
+        Some(index_of(alloc, parts, texts, &master)?)
     } else if is_stuck(texts, &master) {
-        Ok(Outcome::Stuck(master))
+        None
     } else {
-        Err(RunError::Torn(0))
+        return Err(RunError::Torn(0));
+    };
+    Ok(Record { master, index })
+}
+
+// The outcome alone.
+pub(crate) fn outcome_of(ran: Record) -> Outcome
+    ensures { (texts : List SplitDocuments) → IsRecordOf texts ran → IsOutcomeOf texts result }
+{
+    match ran.index {
+        Some(index) => Outcome::Done(index),
+        None => Outcome::Stuck(ran.master),
     }
+}
+
+// Whether all parts are done, of a master with these texts.
+fn is_done(texts: &[Arc<SplitText>], master: &Master) -> bool
+    ensures { IsTrue result → IsDoneOn (values_of texts.now) master.now }
+{
+    master.is_kept();
+    if !are_equal_texts(master.texts(), texts) {
+        return false;
+    }
+    master.glance().open_parts == 0
 }
 
 // The index of these texts, made of the results that the master has.

@@ -5,6 +5,9 @@ use lane_queue::Order;
 use node_ids::WorkerNo;
 use std::thread;
 
+// From this idle turn on the calling thread naps now and then.
+pub(crate) const NAPS_FROM: u64 = 64;
+
 /// Whether a worker goes on.
 #[derive(Clone, Copy, Debug, PartialEq, Eq)]
 pub enum Go {
@@ -39,8 +42,9 @@ pub trait Gate: Sync {
     fn turn(&self, idle: u64) -> Turn;
 }
 
-/// The gate of a plain run. It yields once a turn, and answers Sweep at the positive multiples of 65,536 idle
-/// turns, Backup at the odd multiples of 32,768, else On.
+/// The gate of a plain run. It yields once a turn until the calling thread naps between them, which is from the
+/// 64th idle turn on, and answers Sweep at the positive multiples of 65,536 idle turns, Backup at the odd
+/// multiples of 32,768, else On.
 #[derive(Clone, Copy, Debug)]
 pub struct PlainGate;
 
@@ -54,7 +58,9 @@ impl Gate for PlainGate {
     }
 
     fn turn(&self, idle: u64) -> Turn {
-        thread::yield_now();
+        if idle < NAPS_FROM {
+            thread::yield_now();
+        }
         plain_turn(idle)
     }
 }

@@ -23,5 +23,5 @@ mod work;
 
 pub use gate::{Gate, Go, PlainGate, Turn};
 pub use job::Job;
-pub use outcome::{Outcome, RunError};
-pub use running::run;
+pub use outcome::{Outcome, Record, RunError};
+pub use running::{run, run_recorded};

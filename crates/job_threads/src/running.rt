@@ -1,17 +1,17 @@
 ghost use Rattle.std.specs.Prelude.{◌≡◌, ◌<◌, ◌≤◌, length, IfOk, []};
 ghost use Rattle.shuffle_reduce.specs.Gather.{values_of};
 ghost use Rattle.master_state.specs.States.{AreAllowed};
-ghost use Rattle.job_threads.specs.Outcomes.{IsOutcomeOf};
+ghost use Rattle.job_threads.specs.Outcomes.{IsOutcomeOf, IsRecordOf};
 
 use crate::beats::{Pulse, Watch};
 use crate::caller::Caller;
 use crate::common::Common;
-use crate::ending::{outcome_of, settled};
+use crate::ending::{outcome_of, record_of, settled};
 use crate::gate::Gate;
 use crate::holdings::Holdings;
 use crate::job::Job;
 use crate::lanes::LaneEnd;
-use crate::outcome::{Outcome, RunError};
+use crate::outcome::{Outcome, Record, RunError};
 use crate::threads::{Ended, run_threads};
 use crate::work::Worker;
 use master_core::{Cluster, Master};
@@ -44,6 +44,20 @@ pub fn run<G: Gate, R: Threads + Wait + Clock + Sync>(
     requires limits { AreAllowed job.limits }
     ensures { IfOk result (IsOutcomeOf job.cluster.texts) }
 {
+    Ok(outcome_of(run_recorded(rt, alloc, job, gate)?))
+}
+
+/// The same, and hands back the master with all that was done.
+pub fn run_recorded<G: Gate, R: Threads + Wait + Clock + Sync>(
+    rt: &R,
+    alloc: Global,
+    job: Job,
+    gate: &G,
+) -> Result<Record, RunError>
+    requires workers { length job.cluster.slots ≤ 32 }
+    requires limits { AreAllowed job.limits }
+    ensures { IfOk result (IsRecordOf job.cluster.texts) }
+{
     run_on::<Brand, G, R>(rt, alloc, Blank::new(4096), job, gate)
 }
 
@@ -53,11 +67,11 @@ fn run_on<L: Ledger + Send + Sync, G: Gate, R: Threads + Wait + Clock + Sync>(
     blank: Blank,
     job: Job,
     gate: &G,
-) -> Result<Outcome, RunError>
+) -> Result<Record, RunError>
     requires ledger { (blank.name ≡ L.name) × (blank.parts ≡ L.parts) × (blank.parts ≡ 4096) }
     requires workers { length job.cluster.slots ≤ 32 }
     requires limits { AreAllowed job.limits }
-    ensures { IfOk result (IsOutcomeOf job.cluster.texts) }
+    ensures { IfOk result (IsRecordOf job.cluster.texts) }
 {
     let Job {
         cluster,
@@ -152,23 +166,23 @@ fn run_shared<'a, L: Ledger + Send + Sync, G: Gate, R: Threads + Wait + Clock + 
     Ok(run_threads(rt, alloc, &common, caller, all))
 }
 
-// Settles, and tells the outcome.
+// Settles, and tells how the job ended.
 fn conclude<L: Ledger>(
     alloc: Global,
     parts: usize,
     texts: &[Arc<SplitText>],
     shared: SharedMaster<L>,
     ended: Ended<L>,
-) -> Result<Outcome, RunError>
+) -> Result<Record, RunError>
     requires some { 0 < parts }
     requires few { parts ≤ 64 }
-    ensures { IfOk result (IsOutcomeOf (values_of texts.now)) }
+    ensures { IfOk result (IsRecordOf (values_of texts.now)) }
 {
     let Ended { hands, end } = ended;
     match end {
         Ok(()) => {
             let master = settled(shared.into_master(), hands)?;
-            outcome_of(alloc, parts, texts, master)
+            record_of(alloc, parts, texts, master)
         }
         Err(RunError::HistoryFull) => {
             settled(shared.into_master(), hands)?;

@@ -24,7 +24,7 @@ use std::time::Duration;
 use word_map::{MapResult, Run, SplitText, map_split};
 
 // After so many takes without an order a worker sleeps at each further one.
-const EAGER_TAKES: u32 = 64;
+const EAGER_TAKES: u32 = 16;
 
 // For how long.
 const NAP_MICROS: u64 = 50;

@@ -10,7 +10,9 @@ ghost use Rattle.mrjob.specs.Ending.{ending_of_error, ending_of_play, ending_of_
 
 use command_line::ask;
 use command_line::asked::{Ask, AskError};
-use job_run::{PlainGate, PlayEnd, RunEnd, RunError, RunTextError, play, run_text};
+use job_run::{
+    PlainGate, PlayEnd, RunEnd, RunError, RunTextError, play, run_text, run_text_recorded,
+};
 use std::process::ExitCode;
 use std::rt::Clock;
 use std::sync::Wait;
@@ -85,7 +87,14 @@ fn run_command(
         Ask::Check => Ending::of_check(check_on(threads, alloc, &mut input, &mut output)),
         Ask::Plan(options) => Ending::of_plan(plan(alloc, &mut input, &mut output, options)),
         Ask::Play => of_play(play(alloc, &mut input, &mut output)),
-        Ask::Run => of_run(run_text(threads, alloc, &mut input, &mut output, &PlainGate)),
+        Ask::Run(options) if options.history => of_run(run_text_recorded(
+            threads,
+            alloc,
+            &mut input,
+            &mut output,
+            &PlainGate,
+        )),
+        Ask::Run(_) => of_run(run_text(threads, alloc, &mut input, &mut output, &PlainGate)),
     }
 }
 

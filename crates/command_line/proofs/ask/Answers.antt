@@ -7,9 +7,10 @@ use Rattle.clap.specs.declared.error.Error.{Error}
 use Rattle.clap.specs.declared.error.kind.ErrorKind.TheVariants.{OutOfMemory}
 use Rattle.clap.specs.contracts.error.kind.ErrorKind.{the_type}
 use Rattle.command_line.specs.declared.asked.Ask.{Ask}
-use Rattle.command_line.specs.declared.asked.Ask.TheVariants.{Plan}
+use Rattle.command_line.specs.declared.asked.Ask.TheVariants.{Plan, Run}
 use Rattle.command_line.specs.declared.asked.AskError.{AskError}
 use Rattle.command_line.specs.declared.asked.PlanOptions.{PlanOptions}
+use Rattle.command_line.specs.declared.asked.RunOptions.{RunOptions}
 use Rattle.clap.specs.Matches.{subcommand_name_of}
 use Rattle.command_line.specs.declared.asked.AskError.TheVariants.{Fault}
 use Rattle.command_line.specs.Commands.{NamesNoNetwork, RefusesNetwork, faults_in, is_set, word_of}
@@ -22,6 +23,9 @@ the_some a b same = cc
 
 the_options : (a b : PlanOptions) → ◌≡◌ {A = Result Ask AskError} (Ok (Plan a)) (Ok (Plan b)) → a ≡ b
 the_options a b same = cc
+
+the_run : (a b : RunOptions) → ◌≡◌ {A = Result Ask AskError} (Ok (Run a)) (Ok (Run b)) → a ≡ b
+the_run a b same = cc
 
 the_fault : (a b : Error) → ◌≡◌ {A = Result Ask AskError} (Err (Fault a)) (Err (Fault b)) → a ≡ b
 the_fault a b same = cc
@@ -69,6 +73,14 @@ returns-in-run-clause-command c =
     named_in c.in-Ok.commands _ c.in-Ok.ensures
     c.in-Ok-try_get_matches_from.matches c.in-Ok-try_get_matches_from.ensures.matches
     _ (codes "run") c.in-Some.ensures.name (search rules)
+
+pub returns-in-run-clause-history : goal.returns-in-run-clause-history
+returns-in-run-clause-history c =
+    let found = found_value c.in-Ok.commands _ c.in-Ok.ensures
+    c.in-Ok-try_get_matches_from.matches c.in-Ok-try_get_matches_from.ensures.matches
+    c.in-Some.options.now c.in-Some.ensures.rows (codes "history") in
+    λ options is. ap (λ (o : RunOptions). o.history) (sym (the_run _ _ is))
+    ∙ c.is_given-in-run.ensures ∙ ap is_set found
 
 pub returns-in-run-clause-ok : goal.returns-in-run-clause-ok
 returns-in-run-clause-ok c ok =

@@ -1,12 +1,12 @@
-use Rattle.std.proofs.Common.{rules, ap₂, ◌∙◌, ◌≡◌}
+use Rattle.std.proofs.Common.{rules, ap₂, codes, ◌∙◌, ◌≡◌}
 use Rattle.std.proofs.lemmas.Result.{IfOk-weaker}
 use Rattle.clap.specs.Words.{app_of, new_app, rule_of, with_rule}
-use Rattle.command_line.specs.Commands.{network, prices_flag}
+use Rattle.command_line.specs.Commands.{flag, network}
 use Rattle.command_line.proofs.commands.plan_command.Goals as goal
 
 pub returns : goal.returns
 returns c =
-    let prices_is : rule_of c.action-prices.result ≡ prices_flag = search rules in
+    let prices_is : rule_of c.action-prices.result ≡ flag (codes "prices") = search rules in
     let network_is : rule_of c.default_value-network.result ≡ network = search rules in
     let plan_is : app_of c.after_help.result ≡ new_app _ = search rules in
     IfOk-weaker c.arg-2.result _ _ (λ command adds. adds.shape (search rules)

@@ -10,18 +10,18 @@ use Rattle.job_run.proofs.running.run_job.Goals as goal
 
 pub returns-in_err-text-clause-ran : goal.returns-in_err-text-clause-ran
 returns-in_err-text-clause-ran g c =
-    unread_text RunAnswer NoText _ _ _ c.in_err-text.field-0.0 c.from_residual.result
+    unread_text (RunAnswer c.args.asked) NoText _ _ _ c.in_err-text.field-0.0 c.from_residual.result
     c.from_residual.ensures.1 c.in_err-text.ensures.unread
 
 -- (want of memory in answering is told as in reading)
 pub returns-in_err-lines-clause-ran : goal.returns-in_err-lines-clause-ran
 returns-in_err-lines-clause-ran g c =
-    unread_text RunAnswer NoText _ _ _ Memory c.from_residual-in_err-lines.result
+    unread_text (RunAnswer c.args.asked) NoText _ _ _ Memory c.from_residual-in_err-lines.result
     c.from_residual-in_err-lines.ensures.1 c.in_ok-text.ensures.unread
 
 pub returns-in_err-write_text-clause-ran : goal.returns-in_err-write_text-clause-ran
 returns-in_err-write_text-clause-ran g c =
-    unwritten RunAnswer NoText _ _ _ _ c.in_ok-text.text.items c.as_slice.result.now
+    unwritten (RunAnswer c.args.asked) NoText _ _ _ _ c.in_ok-text.text.items c.as_slice.result.now
     (string_bytes c.in_ok-lines.lines) c.as_bytes.result.now c.in_ok-lines.end c.in_ok-text.ensures.read
     c.as_slice.ensures.value c.in_ok-lines.ensures c.as_bytes.ensures.value c.in_ok-text.ensures.unread
     c.from_residual-in_err-write_text.result c.from_residual-in_err-write_text.ensures.1
@@ -29,14 +29,14 @@ returns-in_err-write_text-clause-ran g c =
 
 pub returns-clause-ran : goal.returns-clause-ran
 returns-clause-ran g c =
-    written RunAnswer NoText _ _ _ _ c.in_ok-text.text.items c.as_slice.result.now
+    written (RunAnswer c.args.asked) NoText _ _ _ _ c.in_ok-text.text.items c.as_slice.result.now
     (string_bytes c.in_ok-lines.lines) c.as_bytes.result.now c.in_ok-lines.end c.in_ok-text.ensures.read
     c.as_slice.ensures.value c.in_ok-lines.ensures c.as_bytes.ensures.value c.in_ok-text.ensures.unread
     c.ended.result c.ended.ensures c.in_ok-write_text.ensures.ok
 
 pub returns-clause-same : goal.returns-clause-same
 returns-clause-same g c =
-    wrote_its_answer RunAnswer AreEnds AnyLines _ _ _ c.in_ok-text.text.items c.as_slice.result.now
-    (string_bytes c.in_ok-lines.lines) c.as_bytes.result.now c.in_ok-lines.end c.ended.result one_run_answer
+    wrote_its_answer (RunAnswer c.args.asked) AreEnds AnyLines _ _ _ c.in_ok-text.text.items c.as_slice.result.now
+    (string_bytes c.in_ok-lines.lines) c.as_bytes.result.now c.in_ok-lines.end c.ended.result (one_run_answer c.args.asked)
     c.ended.ensures c.in_ok-text.ensures.read c.as_slice.ensures.value c.in_ok-lines.ensures
     c.as_bytes.ensures.value c.in_ok-write_text.ensures.ok

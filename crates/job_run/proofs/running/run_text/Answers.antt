@@ -1,4 +1,4 @@
-use Rattle.std.proofs.Common.{◌∙◌, ap, subst, sym}
+use Rattle.std.proofs.Common.{◌∙◌, ap, false, subst, sym}
 use Rattle.text_reading.specs.Running.{AnyLines, HasRun, NoText, WroteItsAnswer}
 use Rattle.job_run.specs.PlayAnswer.{AreEnds}
 use Rattle.job_run.specs.RunAnswer.{RunAnswer, ran_as}
@@ -7,14 +7,14 @@ use Rattle.job_run.proofs.running.run_text.Goals as goal
 pub returns-clause-ran : goal.returns-clause-ran
 returns-clause-ran g c =
     subst
-    (HasRun RunAnswer NoText (g.R.Read.remaining c.args.reader.now) (g.R.Read.remaining c.run_job.new.reader)
+    (HasRun (RunAnswer false) NoText (g.R.Read.remaining c.args.reader.now) (g.R.Read.remaining c.run_job.new.reader)
     (g.W.Write.contents c.args.writer.now) (g.W.Write.contents c.run_job.new.writer)) (sym c.told.ensures)
     c.run_job.ensures.ran
 
 pub returns-clause-same : goal.returns-clause-same
 returns-clause-same g c =
     subst
-    (WroteItsAnswer RunAnswer AreEnds AnyLines (g.R.Read.remaining c.args.reader.now)
+    (WroteItsAnswer (RunAnswer false) AreEnds AnyLines (g.R.Read.remaining c.args.reader.now)
     (g.W.Write.contents c.args.writer.now) (g.W.Write.contents c.run_job.new.writer)) (sym c.told.ensures)
     c.run_job.ensures.same
 
