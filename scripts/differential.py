@@ -9,8 +9,8 @@ examples, a script with a death more at each of its places, problems of up to 1,
 on counts. A check's answer has to be the reference's. A plan with its prices, over either network, has to start as
 many splits at as little cost as any choice of starts, and to be certified by the reference; without prices its
 lines are the same up to them. A script's report is followed command by command. A job's answer has to be the
-reference's, and the end of the report of a script that brings it as far. The last line counts the groups of texts
-that agree.
+reference's, and the end of the report of a script that brings it as far; what a run says was done is followed event by
+event. The last line counts the groups of texts that agree.
 """
 import os
 import random
@@ -28,9 +28,12 @@ CHECKED = {"best": 120, "changed": 200, "faulty": 320}
 PLANNED = {"problem": 300, "faulty_problem": 200}
 PLAYED = {"script": 1000, "faulty_script": 500}
 RUN = {"job": 2000, "faulty_job": 500}
+RECORDED = {"job": 300}
 # How many splits the larger problems have, up to just below the most: more than a thread takes at once, and more
 # than there are slots for.
 MANY_SPLITS = [129, 200, 256, 257, 512, 1000, 1001, 1010, 1023]
+# More than there are processors, since a job that is stuck mostly waits.
+PROGRAMS_AT_ONCE = 4 * os.cpu_count()
 EXAMPLES = os.path.join(os.path.dirname(os.path.abspath(__file__)), "..", "examples")
 
 
@@ -50,6 +53,8 @@ def groups():
         yield kind, wrong_play, made(kind, count)
     for kind, count in RUN.items():
         yield kind, wrong_run, made(kind, count)
+    for kind, count in RECORDED.items():
+        yield f"recorded {kind}", wrong_history, made(kind, count)
     yield "front", wrong_check, fronts("swap.txt")
     yield "front", wrong_play, fronts("play_death.txt")
     yield "front", wrong_run, fronts("run_words.txt")
@@ -147,6 +152,12 @@ def wrong_run(program, text):
     return None
 
 
+def wrong_history(program, text):
+    said = said_by(program, ["run", "--history"], text)
+    wrong = reference_run.misrecorded(text, *said)
+    return f"it says {said}, but {wrong}" if wrong else None
+
+
 def wrong_death(program, text):
     # (where every part is done all the same, the index is that of the script without the death)
     lines, index = said_by(program, ["play"], text)[0], example("play_death.out")
@@ -160,7 +171,7 @@ def main():
     passed = failed = 0
     for kind, wrong, texts in groups():
         for program in sys.argv[1:]:
-            with ThreadPoolExecutor(os.cpu_count()) as pool:
+            with ThreadPoolExecutor(PROGRAMS_AT_ONCE) as pool:
                 found = list(pool.map(lambda it: wrong(program, it[1]), texts))
             differ = [at for at, it in enumerate(found) if it]
             print(f"{program}: {len(texts) - len(differ)} of {len(texts)} {kind} texts agree", flush=True)

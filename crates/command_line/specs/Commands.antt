@@ -42,10 +42,10 @@ abbrev pub plan : App
 plan = with_rule (with_rule (new_app (codes "plan")) (flag (codes "prices"))) network
 
 abbrev pub play : App
-play = new_app (codes "play")
+play = with_rule (new_app (codes "play")) (flag (codes "quiet"))
 
 abbrev pub run : App
-run = with_rule (new_app (codes "run")) (flag (codes "history"))
+run = with_rule (with_rule (new_app (codes "run")) (flag (codes "history"))) (flag (codes "quiet"))
 
 -- the program before it has commands; one of them has to be named
 abbrev pub program : App
@@ -84,7 +84,7 @@ faults_in words = fault_of mrjob words
 abbrev pub command_word : Ask → Text
 command_word Check = codes "check"
 command_word (Plan options) = codes "plan"
-command_word Play = codes "play"
+command_word (Play options) = codes "play"
 command_word (Run options) = codes "run"
 
 -- the words have a fault of this kind: one that clap finds, or a network that is none

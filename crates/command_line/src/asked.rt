@@ -8,7 +8,7 @@ pub enum Ask {
     /// Plan a job's map starts.
     Plan(PlanOptions),
     /// Play a script of a job.
-    Play,
+    Play(PlayOptions),
     /// Run a job on threads.
     Run(RunOptions),
 }
@@ -22,11 +22,20 @@ pub struct PlanOptions {
     pub network: NetworkKind,
 }
 
-/// What is written of a run.
+/// What is told while a script is played.
+#[derive(Clone, Copy, Debug, PartialEq, Eq)]
+pub struct PlayOptions {
+    /// A terminal is not told how far it is.
+    pub quiet: bool,
+}
+
+/// What is written of a run, and told while it lasts.
 #[derive(Clone, Copy, Debug, PartialEq, Eq)]
 pub struct RunOptions {
     /// Write first all that was done.
     pub history: bool,
+    /// A terminal is not told how far it is.
+    pub quiet: bool,
 }
 
 /// Why the words ask for no command.

@@ -73,6 +73,9 @@ With --prices it is answered by:
 
 const PLAY_ABOUT: &str = "Plays a script of a job's commands, and reports what each one did";
 
+const QUIET_HELP: &str =
+    "Does not tell how far it is; else it does so where standard error is a terminal";
+
 const PLAY_TEXTS: &str = "\
 Input:   a script, as text on standard input: a cluster, its documents, and commands
 Output:  `accepted PLACE` or `ignored WHY` for each command, with the lines of what it did; at last
@@ -142,12 +145,17 @@ fn check_command<'a>(alloc: Global) -> Command<'a>
         .after_help(CHECK_TEXTS)
 }
 
-fn play_command<'a>(alloc: Global) -> Command<'a>
-    ensures { app_of result ≡ play }
+fn play_command<'a>(alloc: Global) -> Result<Command<'a>, AllocError>
+    ensures { IfOk result (λ command. app_of command ≡ play) }
 {
+    let quiet = Arg::new(alloc, "quiet")
+        .long("quiet")
+        .help(QUIET_HELP)
+        .action(ArgAction::SetTrue);
     Command::new(alloc, "play")
         .about(PLAY_ABOUT)
         .after_help(PLAY_TEXTS)
+        .arg(quiet)
 }
 
 fn run_command<'a>(alloc: Global) -> Result<Command<'a>, AllocError>
@@ -157,10 +165,15 @@ fn run_command<'a>(alloc: Global) -> Result<Command<'a>, AllocError>
         .long("history")
         .help(HISTORY_HELP)
         .action(ArgAction::SetTrue);
+    let quiet = Arg::new(alloc, "quiet")
+        .long("quiet")
+        .help(QUIET_HELP)
+        .action(ArgAction::SetTrue);
     Command::new(alloc, "run")
         .about(RUN_ABOUT)
         .after_help(RUN_TEXTS)
-        .arg(history)
+        .arg(history)?
+        .arg(quiet)
 }
 
 /// The command that plans.
@@ -188,6 +201,7 @@ pub(crate) fn all_commands<'a>(alloc: Global) -> Result<Command<'a>, AllocError>
     ensures { IfOk result (λ commands. app_of commands ≡ mrjob) }
 {
     let plan = plan_command(alloc)?;
+    let play = play_command(alloc)?;
     let run = run_command(alloc)?;
     Command::new(alloc, "mrjob")
         .about(ABOUT)
@@ -195,6 +209,6 @@ pub(crate) fn all_commands<'a>(alloc: Global) -> Result<Command<'a>, AllocError>
         .subcommand_required(true)
         .subcommand(check_command(alloc))?
         .subcommand(plan)?
-        .subcommand(play_command(alloc))?
+        .subcommand(play)?
         .subcommand(run)
 }

@@ -16,7 +16,7 @@ ghost use Rattle.command_line.specs.Commands.{RefusesNetwork, is_set, value_in, 
 pub mod asked;
 mod commands;
 
-use crate::asked::{Ask, AskError, PlanOptions, RunOptions};
+use crate::asked::{Ask, AskError, PlanOptions, PlayOptions, RunOptions};
 use crate::commands::{all_commands, plan_command};
 use clap::ArgMatches;
 use clap::error::ErrorKind;
@@ -34,6 +34,10 @@ pub fn ask<'a>(alloc: Global, words: &'a [&'a str]) -> Result<Ask, AskError>
         → options.prices ≡ flag_in (codes "prices") (texts words.entry.now) }
     ensures history { (options : _) → result ≡ Ok (Ask.Run options)
         → options.history ≡ flag_in (codes "history") (texts words.entry.now) }
+    ensures play_quiet { (options : _) → result ≡ Ok (Ask.Play options)
+        → options.quiet ≡ flag_in (codes "quiet") (texts words.entry.now) }
+    ensures run_quiet { (options : _) → result ≡ Ok (Ask.Run options)
+        → options.quiet ≡ flag_in (codes "quiet") (texts words.entry.now) }
     ensures network { (options : _) → result ≡ Ok (Ask.Plan options)
         → value_in (codes "network") (texts words.entry.now) ≡ Some (word_of options.network) }
 
@@ -60,9 +64,12 @@ pub fn ask<'a>(alloc: Global, words: &'a [&'a str]) -> Result<Ask, AskError>
                     })),
                     None => Err(unknown_network(alloc)),
                 },
-                "play" => Ok(Ask::Play),
+                "play" => Ok(Ask::Play(PlayOptions {
+                    quiet: is_given(options, "quiet"),
+                })),
                 "run" => Ok(Ask::Run(RunOptions {
                     history: is_given(options, "history"),
+                    quiet: is_given(options, "quiet"),
                 })),
                 _ => unreachable!(),
             }

@@ -4,7 +4,7 @@
 //! these lines, one command after another, and the last lines tell the index, or what is not done
 //! (`specs/Reports.antt`, `specs/PlayAnswer.antt`); `play_script` makes it of a script and a cluster.
 //! `run_text` runs the job that a text declares on the threads of `job_threads`, and writes its outcome,
-//! `run_text_recorded` all that was done before it (`specs/RunAnswer.antt`). Below stand the texts of `script_text`, the master of `master_core`, the planner
+//! `run_text_observed` all that was done before it (`specs/RunAnswer.antt`). Below stand the texts of `script_text`, the master of `master_core`, the planner
 //! and the lines of `report_lines`.
 #![tactic(auto)]
 
@@ -23,10 +23,11 @@ mod waves;
 
 pub use fitting::fits;
 pub use job_threads::{
-    Gate, Go, Job, Outcome, PlainGate, Record, RunError, Turn, run, run_recorded,
+    Gate, Go, Job, Observer, Outcome, PlainGate, Progress, Record, RunError, Turn, Unobserved, run,
+    run_recorded,
 };
-pub use player::{PlayEnd, PlayError, Report, play_script};
-pub use playing::play;
+pub use player::{PlayEnd, PlayError, Report, ScriptObserver, play_script, play_script_observed};
+pub use playing::{play, play_observed};
 pub use rooms::{MAX_ATTEMPTS, MAX_COMMANDS, limits_for};
-pub use running::{JobEnd, RunEnd, RunTextError, run_text, run_text_recorded};
+pub use running::{JobEnd, RunEnd, RunTextError, run_text, run_text_observed};
 pub use tables::{counts_of, set_of};

@@ -7,6 +7,7 @@ use crate::ending::add_end;
 use crate::given::GivenRuns;
 use crate::performing::perform;
 use crate::rooms::limits_for;
+use job_threads::Unobserved;
 use master_core::{Cluster, Master};
 use script_text::Script;
 use std::alloc::{AllocError, Global};
@@ -48,6 +49,16 @@ pub struct Report {
     pub lines: String,
 }
 
+/// Who is told how far a script is.
+pub trait ScriptObserver {
+    /// After each command: how many were performed, of how many.
+    fn performed(&self, commands: usize, all: usize);
+}
+
+impl ScriptObserver for Unobserved {
+    fn performed(&self, _commands: usize, _all: usize) {}
+}
+
 /// Plays a script on a new master of the cluster, and tells the report.
 pub fn play_script(
     alloc: Global,
@@ -59,20 +70,36 @@ pub fn play_script(
         IsReport (setup_for cluster script.now) script.now report.end (string_bytes report.lines)) }
     ensures full { result ≡ Err PlayError.HistoryFull → RunsOut cluster script.now }
 {
+    play_script_observed(alloc, cluster, script, &Unobserved)
+}
+
+/// The same, and the observer is told how far it is.
+pub fn play_script_observed<O: ScriptObserver>(
+    alloc: Global,
+    cluster: Cluster,
+    script: &Script<'_>,
+    observer: &O,
+) -> Result<Report, PlayError>
+    requires { IsScriptFor (setup_for cluster script.now) script.now }
+    ensures report { IfOk result (λ report.
+        IsReport (setup_for cluster script.now) script.now report.end (string_bytes report.lines)) }
+    ensures full { result ≡ Err PlayError.HistoryFull → RunsOut cluster script.now }
+{
     let limits = limits_for(cluster.splits().len(), script.commands.as_slice());
     let mut master = Master::new(alloc, cluster, limits)?;
     let mut lines = String::new(alloc);
-    perform_all(alloc, &mut master, script, &mut lines)?;
+    perform_all(alloc, &mut master, script, observer, &mut lines)?;
     let end = add_end(alloc, &master, &script.names, &mut lines)?;
     master.is_kept();
     Ok(Report { end, lines })
 }
 
 // Performs each command, and tells what was answered.
-fn perform_all(
+fn perform_all<O: ScriptObserver>(
     alloc: Global,
     master: &mut Master,
     script: &Script<'_>,
+    observer: &O,
     lines: &mut String,
 ) -> Result<(), PlayError>
     requires script { IsScriptFor master.old.setup script.now }
@@ -84,8 +111,11 @@ fn perform_all(
 {
     master.is_kept();
     let mut given = GivenRuns::new(alloc, master.cluster().parts())?;
+    let mut performed: usize = 0;
     for command in &script.commands {
         perform(alloc, master, &mut given, script, command, lines)?;
+        performed = performed.saturating_add(1);
+        observer.performed(performed, script.commands.len());
     }
     Ok(())
 }

@@ -8,9 +8,10 @@ ghost use Rattle.job_run.specs.PlayAnswer.{AreEnds, PlayAnswer, RunsOutIn, clust
 ghost use Rattle.job_run.specs.OneAnswer.{one_play_answer};
 
 use crate::clusters::cluster_of;
-use crate::player::{PlayEnd, PlayError, Report, play_script};
+use crate::player::{PlayEnd, PlayError, Report, ScriptObserver, play_script_observed};
 use fault_answers::fault_answer;
 use head_text::Head;
+use job_threads::Unobserved;
 use script_text::{Script, ScriptText, read_script};
 use std::alloc::Global;
 use std::io::{Read, Write};
@@ -27,14 +28,29 @@ pub fn play<R: Read, W: Write>(
     ensures { HasRun PlayAnswer RunsOutIn (R.remaining reader.old) (R.remaining reader.new)
         (W.contents writer.old) (W.contents writer.new) result }
 {
-    run_command(&Player, alloc, reader, writer)
+    play_observed(alloc, reader, writer, &Unobserved)
+}
+
+/// The same, and the observer is told how far the script is.
+pub fn play_observed<R: Read, W: Write, O: ScriptObserver>(
+    alloc: Global,
+    reader: &mut R,
+    writer: &mut W,
+    observer: &O,
+) -> Result<PlayEnd, ToolError>
+    ensures { HasRun PlayAnswer RunsOutIn (R.remaining reader.old) (R.remaining reader.new)
+        (W.contents writer.old) (W.contents writer.new) result }
+{
+    run_command(&Player { observer }, alloc, reader, writer)
 }
 
 /// Playing of scripts.
 #[derive(Drop)]
-pub struct Player;
+pub struct Player<'a, O: ScriptObserver> {
+    observer: &'a O,
+}
 
-impl Command for Player {
+impl<'a, O: ScriptObserver> Command for Player<'a, O> {
     type End = PlayEnd;
 
     ghost Answers = { λ _. PlayAnswer };
@@ -55,7 +71,7 @@ impl Command for Player {
         match read_script(alloc, text) {
             Ok(read) => {
                 let ScriptText { head, script } = read;
-                let report = play_on(alloc, head, &script)?;
+                let report = play_on(alloc, head, &script, self.observer)?;
                 Ok((report.lines, Ok(report.end)))
             }
             Err(error) => {
@@ -81,7 +97,12 @@ impl From<PlayError> for NoAnswer {
 }
 
 // Plays the script on a new master of the cluster that the head makes.
-fn play_on(alloc: Global, head: Head, script: &Script<'_>) -> Result<Report, PlayError>
+fn play_on<O: ScriptObserver>(
+    alloc: Global,
+    head: Head,
+    script: &Script<'_>,
+    observer: &O,
+) -> Result<Report, PlayError>
     requires fit { IsFitHead head }
     requires known { IsOfHead head script.now }
     ensures report { IfOk result (λ report. IsReport (setup_for (cluster_in head) script.now) script.now
@@ -89,5 +110,5 @@ fn play_on(alloc: Global, head: Head, script: &Script<'_>) -> Result<Report, Pla
     ensures full { result ≡ Err PlayError.HistoryFull → RunsOut (cluster_in head) script.now }
 {
     let cluster = cluster_of(alloc, head)?;
-    play_script(alloc, cluster, script)
+    play_script_observed(alloc, cluster, script, observer)
 }

@@ -21,7 +21,7 @@ use crate::clusters::cluster_of;
 use crate::ending::add_open;
 use fault_answers::fault_answer;
 use head_text::Head;
-use job_threads::{Gate, Job, Record, RunError, run_recorded};
+use job_threads::{Gate, Job, Observer, Record, RunError, Unobserved, run_recorded};
 use master_core::Master;
 use master_state::Limits;
 use report_lines::{add_history, add_index};
@@ -76,24 +76,27 @@ pub fn run_text<T: Threads + Wait + Clock + Sync, R: Read, W: Write, G: Gate>(
         (W.contents writer.old) (W.contents writer.new) (ran_as result) }
     ensures never_full { result ≢ Err (RunTextError.Tool ToolError.HistoryFull) }
 {
-    told(run_job(rt, alloc, reader, writer, gate, false))
+    run_text_observed(rt, alloc, reader, writer, gate, &Unobserved, false)
 }
 
-/// The same, and before the lines of how the job ended it writes those of all that was done.
-pub fn run_text_recorded<T: Threads + Wait + Clock + Sync, R: Read, W: Write, G: Gate>(
+/// The same. While the job runs, the observer is told how far it is; where the history is asked for, the lines of
+/// all that was done are written before those of how the job ended.
+pub fn run_text_observed<T: Threads + Wait + Clock + Sync, R: Read, W: Write, G: Gate, O: Observer>(
     rt: &T,
     alloc: Global,
     reader: &mut R,
     writer: &mut W,
     gate: &G,
+    observer: &O,
+    asked: bool,
 ) -> Result<RunEnd, RunTextError>
-    ensures ran { HasRun (RunAnswer true) NoText (R.remaining reader.old) (R.remaining reader.new)
+    ensures ran { HasRun (RunAnswer asked) NoText (R.remaining reader.old) (R.remaining reader.new)
         (W.contents writer.old) (W.contents writer.new) (ran_as result) }
-    ensures same { WroteItsAnswer (RunAnswer true) AreEnds AnyLines (R.remaining reader.old)
+    ensures same { WroteItsAnswer (RunAnswer asked) AreEnds AnyLines (R.remaining reader.old)
         (W.contents writer.old) (W.contents writer.new) (ran_as result) }
     ensures never_full { result ≢ Err (RunTextError.Tool ToolError.HistoryFull) }
 {
-    told(run_job(rt, alloc, reader, writer, gate, true))
+    told(run_job(rt, alloc, reader, writer, gate, observer, asked))
 }
 
 // How a job's text was answered, as the end of its run.
@@ -109,12 +112,13 @@ fn told(end: Result<JobEnd, ToolError>) -> Result<RunEnd, RunTextError>
 
 // As `run_command` for the commands that start no thread which runs by a gate: the bounds of an impl hold of
 // one thread alone.
-fn run_job<T: Threads + Wait + Clock + Sync, R: Read, W: Write, G: Gate>(
+fn run_job<T: Threads + Wait + Clock + Sync, R: Read, W: Write, G: Gate, O: Observer>(
     rt: &T,
     alloc: Global,
     reader: &mut R,
     writer: &mut W,
     gate: &G,
+    observer: &O,
     asked: bool,
 ) -> Result<JobEnd, ToolError>
     ensures ran { HasRun (RunAnswer asked) NoText (R.remaining reader.old) (R.remaining reader.new)
@@ -123,7 +127,7 @@ fn run_job<T: Threads + Wait + Clock + Sync, R: Read, W: Write, G: Gate>(
         (W.contents writer.old) (W.contents writer.new) result }
 {
     let text = read_text(alloc, reader)?;
-    let (lines, end) = answer_job(rt, alloc, text.as_slice(), gate, asked)?;
+    let (lines, end) = answer_job(rt, alloc, text.as_slice(), gate, observer, asked)?;
     write_text(writer, lines.as_bytes())?;
     ended(end)
 }
@@ -138,18 +142,19 @@ fn ended(end: Result<JobEnd, TextFault>) -> Result<JobEnd, ToolError>
 }
 
 // The lines that answer the text of a job, and how it ended with them.
-fn answer_job<T: Threads + Wait + Clock + Sync, G: Gate>(
+fn answer_job<T: Threads + Wait + Clock + Sync, G: Gate, O: Observer>(
     rt: &T,
     alloc: Global,
     text: &[u8],
     gate: &G,
+    observer: &O,
     asked: bool,
 ) -> Result<(String, Result<JobEnd, TextFault>), AllocError>
     ensures { IfOk result (λ given. RunAnswer asked text.now given.1 (string_bytes given.0)) }
 {
     match read_job(alloc, text) {
         Ok(read) => {
-            let (lines, end) = run_read(rt, alloc, read, gate, asked)?;
+            let (lines, end) = run_read(rt, alloc, read, gate, observer, asked)?;
             Ok((lines, Ok(end)))
         }
         Err(error) => {
@@ -160,11 +165,12 @@ fn answer_job<T: Threads + Wait + Clock + Sync, G: Gate>(
 }
 
 // Runs the job that was read, and tells how it has ended.
-fn run_read<T: Threads + Wait + Clock + Sync, G: Gate>(
+fn run_read<T: Threads + Wait + Clock + Sync, G: Gate, O: Observer>(
     rt: &T,
     alloc: Global,
     read: ScriptText<'_>,
     gate: &G,
+    observer: &O,
     asked: bool,
 ) -> Result<(String, JobEnd), AllocError>
     requires fit { IsFitHead read.head }
@@ -176,7 +182,7 @@ fn run_read<T: Threads + Wait + Clock + Sync, G: Gate>(
 {
     let ScriptText { head, script } = read;
     let job = job_of(alloc, head, script.target)?;
-    let ended = run_recorded(rt, alloc, job, gate);
+    let ended = run_recorded(rt, alloc, job, gate, observer);
     tell(alloc, &script.names, ended, asked)
 }
 

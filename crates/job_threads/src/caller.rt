@@ -14,6 +14,7 @@ use crate::common::Common;
 use crate::gate::{Gate, NAPS_FROM, Turn};
 use crate::holdings::Holdings;
 use crate::lanes::LaneEnd;
+use crate::observer::{Observer, Progress};
 use crate::outcome::RunError;
 use master_state::Glance;
 use node_ids::WorkerNo;
@@ -44,27 +45,44 @@ pub(crate) struct Caller<L: Ledger> {
     pub(crate) pause: u32,
     // how many sweeps saw no dead worker rise while nothing ran and nothing could start
     pub(crate) quiet: u32,
+    // how many waves were started and how many deaths seen, for the observer
+    pub(crate) waves: u32,
+    pub(crate) deaths: u32,
 }
 
 impl<L: Ledger> Caller<L> {
     // Turn after turn, until the job is done or stuck, or something ends the run.
-    pub(crate) fn call<G: Gate, R: Wait + Clock>(
+    pub(crate) fn call<G: Gate, O: Observer, R: Wait + Clock>(
         &mut self,
         rt: &R,
         alloc: Global,
         common: &Common<'_, L, G>,
+        observer: &O,
     ) -> Result<(), RunError> {
         for _ in rt.forever() {
             if common.flags.is_over() {
                 break;
             }
             let glance = common.shared.glance(rt);
+            observer.seen(&self.progress(common, &glance));
             if self.has_ended(&glance) {
                 break;
             }
             self.turn(rt, alloc, common, &glance)?;
         }
         Ok(())
+    }
+
+    // How far the job is.
+    fn progress<G: Gate>(&self, common: &Common<'_, L, G>, glance: &Glance) -> Progress {
+        Progress {
+            splits: self.texts.len(),
+            parts: common.parts,
+            open_splits: glance.open_splits,
+            open_parts: glance.open_parts,
+            waves: self.waves,
+            deaths: self.deaths,
+        }
     }
 
     // Whether all parts are done; or nothing ran, nothing could start and no dead worker rose through as many

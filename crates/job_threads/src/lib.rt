@@ -14,6 +14,7 @@ pub mod gate;
 mod holdings;
 pub mod job;
 mod lanes;
+pub mod observer;
 pub mod outcome;
 pub mod running;
 mod starting;
@@ -23,5 +24,6 @@ mod work;
 
 pub use gate::{Gate, Go, PlainGate, Turn};
 pub use job::Job;
+pub use observer::{Observer, Progress, Unobserved};
 pub use outcome::{Outcome, Record, RunError};
 pub use running::{run, run_recorded};

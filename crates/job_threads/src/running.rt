@@ -11,6 +11,7 @@ use crate::gate::Gate;
 use crate::holdings::Holdings;
 use crate::job::Job;
 use crate::lanes::LaneEnd;
+use crate::observer::{Observer, Unobserved};
 use crate::outcome::{Outcome, Record, RunError};
 use crate::threads::{Ended, run_threads};
 use crate::work::Worker;
@@ -44,29 +45,32 @@ pub fn run<G: Gate, R: Threads + Wait + Clock + Sync>(
     requires limits { AreAllowed job.limits }
     ensures { IfOk result (IsOutcomeOf job.cluster.texts) }
 {
-    Ok(outcome_of(run_recorded(rt, alloc, job, gate)?))
+    Ok(outcome_of(run_recorded(rt, alloc, job, gate, &Unobserved)?))
 }
 
-/// The same, and hands back the master with all that was done.
-pub fn run_recorded<G: Gate, R: Threads + Wait + Clock + Sync>(
+/// The same, and hands back the master with all that was done. While the job runs, the observer is told how far it
+/// is.
+pub fn run_recorded<G: Gate, O: Observer, R: Threads + Wait + Clock + Sync>(
     rt: &R,
     alloc: Global,
     job: Job,
     gate: &G,
+    observer: &O,
 ) -> Result<Record, RunError>
     requires workers { length job.cluster.slots ≤ 32 }
     requires limits { AreAllowed job.limits }
     ensures { IfOk result (IsRecordOf job.cluster.texts) }
 {
-    run_on::<Brand, G, R>(rt, alloc, Blank::new(4096), job, gate)
+    run_on::<Brand, G, O, R>(rt, alloc, Blank::new(4096), job, gate, observer)
 }
 
-fn run_on<L: Ledger + Send + Sync, G: Gate, R: Threads + Wait + Clock + Sync>(
+fn run_on<L: Ledger + Send + Sync, G: Gate, O: Observer, R: Threads + Wait + Clock + Sync>(
     rt: &R,
     alloc: Global,
     blank: Blank,
     job: Job,
     gate: &G,
+    observer: &O,
 ) -> Result<Record, RunError>
     requires ledger { (blank.name ≡ L.name) × (blank.parts ≡ L.parts) × (blank.parts ≡ 4096) }
     requires workers { length job.cluster.slots ≤ 32 }
@@ -82,12 +86,13 @@ fn run_on<L: Ledger + Send + Sync, G: Gate, R: Threads + Wait + Clock + Sync>(
         return Err(RunError::Memory);
     };
     let parts = cluster.parts();
-    let aims = aims_of(alloc, &cluster, usize::from(target))?;
+    let aims = aims_of(alloc, &cluster, usize::from(target), limits)?;
     let Ok(master) = Master::new(alloc, cluster, limits) else {
         return Err(RunError::Memory);
     };
     let shared: SharedMaster<L> = SharedMaster::new(blank, master);
-    let ended = run_shared(rt, alloc, &shared, gate, parts, limits, aims)?;
+    let common = Common::new(&shared, gate, parts);
+    let ended = run_shared(rt, alloc, &common, observer, aims)?;
     conclude(alloc, parts, &texts, shared, ended)
 }
 
@@ -100,10 +105,11 @@ struct Aims {
     target: usize,
     silence: u32,
     workers: usize,
+    room: Limits,
     ghost few: { workers ≤ 32 },
 }
 
-fn aims_of(alloc: Global, cluster: &Cluster, target: usize) -> Result<Aims, RunError>
+fn aims_of(alloc: Global, cluster: &Cluster, target: usize, room: Limits) -> Result<Aims, RunError>
     requires { length cluster.now.slots ≤ 32 }
 {
     let workers = cluster.slots().len();
@@ -123,23 +129,18 @@ fn aims_of(alloc: Global, cluster: &Cluster, target: usize) -> Result<Aims, RunE
         target,
         silence: cluster.silence(),
         workers,
+        room,
     })
 }
 
 // Makes the hands, the lanes and the seats, and runs the threads.
-fn run_shared<'a, L: Ledger + Send + Sync, G: Gate, R: Threads + Wait + Clock + Sync>(
+fn run_shared<L: Ledger + Send + Sync, G: Gate, O: Observer, R: Threads + Wait + Clock + Sync>(
     rt: &R,
     alloc: Global,
-    shared: &'a SharedMaster<L>,
-    gate: &'a G,
-    parts: usize,
-    limits: Limits,
+    common: &Common<'_, L, G>,
+    observer: &O,
     aims: Aims,
-) -> Result<Ended<L>, RunError>
-    requires some { 0 < parts }
-    requires few { parts ≤ 64 }
-{
-    let common = Common::new(shared, gate, parts);
+) -> Result<Ended<L>, RunError> {
     let Aims {
         watch,
         texts,
@@ -147,8 +148,9 @@ fn run_shared<'a, L: Ledger + Send + Sync, G: Gate, R: Threads + Wait + Clock + 
         target,
         silence,
         workers,
+        room,
     } = aims;
-    let hand = hand_of(rt, alloc, shared, limits)?;
+    let hand = hand_of(rt, alloc, common.shared, room)?;
     let mut caller = Caller {
         hand,
         watch,
@@ -161,9 +163,11 @@ fn run_shared<'a, L: Ledger + Send + Sync, G: Gate, R: Threads + Wait + Clock + 
         idle: 0,
         pause: 0,
         quiet: 0,
+        waves: 0,
+        deaths: 0,
     };
-    let all = make_workers(rt, alloc, shared, &mut caller, workers)?;
-    Ok(run_threads(rt, alloc, &common, caller, all))
+    let all = make_workers(rt, alloc, common.shared, &mut caller, workers)?;
+    Ok(run_threads(rt, alloc, common, caller, all, observer))
 }
 
 // Settles, and tells how the job ended.

@@ -50,7 +50,10 @@ impl<L: Ledger> Caller<L> {
         requires { IsTrue _glance.now.ready }
     {
         match common.shared.plan_wave(rt, alloc, &mut self.hand) {
-            Ok(wave) => self.send_wave(rt, common, &wave),
+            Ok(wave) => {
+                self.waves = self.waves.saturating_add(1);
+                self.send_wave(rt, common, &wave)
+            }
             Err(WaveError::Memory) => Err(RunError::Memory),
             Err(WaveError::HistoryFull) => Err(RunError::HistoryFull),
             Err(WaveError::StrangeHand) => Err(RunError::Torn(self.hand.last_place())),

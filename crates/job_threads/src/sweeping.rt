@@ -59,6 +59,7 @@ impl<L: Ledger> Caller<L> {
         for worker in 0..256 {
             let number = WorkerNo::new(worker as u16);
             if dead.has(number) {
+                self.deaths = self.deaths.saturating_add(1);
                 self.bury(number, counts[worker]);
             }
         }

@@ -3,6 +3,7 @@ ghost use Rattle.std.specs.Prelude.{◌≡◌, ◌<◌, ◌≤◌};
 use crate::caller::Caller;
 use crate::common::Common;
 use crate::gate::Gate;
+use crate::observer::Observer;
 use crate::outcome::RunError;
 use crate::work::{Worker, work};
 use shared_master::Hand;
@@ -21,12 +22,18 @@ pub(crate) struct Ended<L: Ledger> {
 }
 
 // Each worker in a thread of its own, while this thread calls.
-pub(crate) fn run_threads<L: Ledger + Send + Sync, G: Gate, R: Threads + Wait + Clock + Sync>(
+pub(crate) fn run_threads<
+    L: Ledger + Send + Sync,
+    G: Gate,
+    O: Observer,
+    R: Threads + Wait + Clock + Sync,
+>(
     rt: &R,
     alloc: Global,
     common: &Common<'_, L, G>,
     mut caller: Caller<L>,
     workers: Vec<Worker<L>>,
+    observer: &O,
 ) -> Ended<L> {
     let (end, mut hands) = thread::scope(
         thread::scope_env(),
@@ -46,7 +53,7 @@ pub(crate) fn run_threads<L: Ledger + Send + Sync, G: Gate, R: Threads + Wait + 
                 }
             }
             if end.is_ok() {
-                end = caller.call(rt, alloc, common);
+                end = caller.call(rt, alloc, common, observer);
             }
             common.flags.end();
             for thread in threads {

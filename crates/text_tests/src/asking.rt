@@ -9,7 +9,7 @@ use wave_planner::NetworkKind;
 fn options_in(alloc: Global, words: &[&str]) -> Option<PlanOptions> {
     match ask(alloc, words) {
         Ok(Ask::Plan(options)) => Some(options),
-        Ok(Ask::Check | Ask::Play | Ask::Run(_)) | Err(_) => None,
+        Ok(Ask::Check | Ask::Play(_) | Ask::Run(_)) | Err(_) => None,
     }
 }
 

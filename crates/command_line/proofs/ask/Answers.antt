@@ -7,9 +7,10 @@ use Rattle.clap.specs.declared.error.Error.{Error}
 use Rattle.clap.specs.declared.error.kind.ErrorKind.TheVariants.{OutOfMemory}
 use Rattle.clap.specs.contracts.error.kind.ErrorKind.{the_type}
 use Rattle.command_line.specs.declared.asked.Ask.{Ask}
-use Rattle.command_line.specs.declared.asked.Ask.TheVariants.{Plan, Run}
+use Rattle.command_line.specs.declared.asked.Ask.TheVariants.{Plan, Play, Run}
 use Rattle.command_line.specs.declared.asked.AskError.{AskError}
 use Rattle.command_line.specs.declared.asked.PlanOptions.{PlanOptions}
+use Rattle.command_line.specs.declared.asked.PlayOptions.{PlayOptions}
 use Rattle.command_line.specs.declared.asked.RunOptions.{RunOptions}
 use Rattle.clap.specs.Matches.{subcommand_name_of}
 use Rattle.command_line.specs.declared.asked.AskError.TheVariants.{Fault}
@@ -23,6 +24,9 @@ the_some a b same = cc
 
 the_options : (a b : PlanOptions) → ◌≡◌ {A = Result Ask AskError} (Ok (Plan a)) (Ok (Plan b)) → a ≡ b
 the_options a b same = cc
+
+the_play : (a b : PlayOptions) → ◌≡◌ {A = Result Ask AskError} (Ok (Play a)) (Ok (Play b)) → a ≡ b
+the_play a b same = cc
 
 the_run : (a b : RunOptions) → ◌≡◌ {A = Result Ask AskError} (Ok (Run a)) (Ok (Run b)) → a ≡ b
 the_run a b same = cc
@@ -64,6 +68,14 @@ returns-in-play-clause-command c =
     c.in-Ok-try_get_matches_from.matches c.in-Ok-try_get_matches_from.ensures.matches
     _ (codes "play") c.in-Some.ensures.name (search rules)
 
+pub returns-in-play-clause-play_quiet : goal.returns-in-play-clause-play_quiet
+returns-in-play-clause-play_quiet c =
+    let found = found_value c.in-Ok.commands _ c.in-Ok.ensures
+    c.in-Ok-try_get_matches_from.matches c.in-Ok-try_get_matches_from.ensures.matches
+    c.in-Some.options.now c.in-Some.ensures.rows (codes "quiet") in
+    λ options is. ap (λ (o : PlayOptions). o.quiet) (sym (the_play _ _ is))
+    ∙ c.is_given-in-play.ensures ∙ ap is_set found
+
 pub returns-in-play-clause-ok : goal.returns-in-play-clause-ok
 returns-in-play-clause-ok c ok =
     unfaulted c.in-Ok.commands _ c.in-Ok.ensures c.in-Ok-try_get_matches_from.ensures.kinds
@@ -81,6 +93,14 @@ returns-in-run-clause-history c =
     c.in-Some.options.now c.in-Some.ensures.rows (codes "history") in
     λ options is. ap (λ (o : RunOptions). o.history) (sym (the_run _ _ is))
     ∙ c.is_given-in-run.ensures ∙ ap is_set found
+
+pub returns-in-run-clause-run_quiet : goal.returns-in-run-clause-run_quiet
+returns-in-run-clause-run_quiet c =
+    let found = found_value c.in-Ok.commands _ c.in-Ok.ensures
+    c.in-Ok-try_get_matches_from.matches c.in-Ok-try_get_matches_from.ensures.matches
+    c.in-Some.options.now c.in-Some.ensures.rows (codes "quiet") in
+    λ options is. ap (λ (o : RunOptions). o.quiet) (sym (the_run _ _ is))
+    ∙ c.is_given-in-run-2.ensures ∙ ap is_set found
 
 pub returns-in-run-clause-ok : goal.returns-in-run-clause-ok
 returns-in-run-clause-ok c ok =

@@ -11,6 +11,6 @@ returns c =
     let with_check =
     added _ _ _ program check c.in_ok-subcommand.ensures is_program c.check_command.ensures refl in
     let with_plan = added _ _ _ _ plan c.in_ok-subcommand-2.ensures with_check c.in_ok-plan.ensures refl in
-    let with_play = added _ _ _ _ play c.in_ok-subcommand-3.ensures with_plan c.play_command.ensures refl in
+    let with_play = added _ _ _ _ play c.in_ok-subcommand-3.ensures with_plan c.in_ok-play.ensures refl in
     IfOk-weaker c.subcommand-4.result _ _
     (λ commands adds. added _ _ _ _ run adds with_play c.in_ok-run.ensures refl) c.subcommand-4.ensures

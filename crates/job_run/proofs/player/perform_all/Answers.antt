@@ -6,7 +6,7 @@ use Rattle.job_run.proofs.Played.{performed_more}
 use Rattle.job_run.proofs.player.perform_all.Goals as goal
 
 pub loop-command-preserved : goal.loop-command-preserved
-loop-command-preserved c =
+loop-command-preserved g c =
     let done = c.in_ok-perform.ensures.ok in
     record {
       setup = performed_setup done ∙ c.loop-command.invariant.setup;
@@ -17,7 +17,7 @@ loop-command-preserved c =
     }
 
 pub returns-in_err-perform-clause-full : goal.returns-in_err-perform-clause-full
-returns-in_err-perform-clause-full c full =
+returns-in_err-perform-clause-full g c full =
     let left = c.from_residual-in_err-perform in
     let is = err_is left.result c.in_err-perform.field-0.0 left.ensures.1 in
     let wave = c.in_err-perform.ensures.full (sym is ∙ full) in
