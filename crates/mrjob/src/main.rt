@@ -8,10 +8,13 @@
 ghost use Rattle.std.specs.Prelude.{◌≡◌};
 ghost use Rattle.mrjob.specs.Ending.{ending_of_error, ending_of_play, ending_of_run};
 
+mod terminal;
+
+use crate::terminal::Terminal;
 use command_line::ask;
 use command_line::asked::{Ask, AskError};
 use job_run::{
-    PlainGate, PlayEnd, RunEnd, RunError, RunTextError, play, run_text, run_text_recorded,
+    PlainGate, PlayEnd, RunEnd, RunError, RunTextError, play_observed, run_text_observed,
 };
 use std::process::ExitCode;
 use std::rt::Clock;
@@ -86,15 +89,27 @@ fn run_command(
     match ask {
         Ask::Check => Ending::of_check(check_on(threads, alloc, &mut input, &mut output)),
         Ask::Plan(options) => Ending::of_plan(plan(alloc, &mut input, &mut output, options)),
-        Ask::Play => of_play(play(alloc, &mut input, &mut output)),
-        Ask::Run(options) if options.history => of_run(run_text_recorded(
-            threads,
-            alloc,
-            &mut input,
-            &mut output,
-            &PlainGate,
-        )),
-        Ask::Run(_) => of_run(run_text(threads, alloc, &mut input, &mut output, &PlainGate)),
+        Ask::Play(options) => {
+            let told = Terminal::new(rt, options.quiet);
+            let end = play_observed(alloc, &mut input, &mut output, &told);
+            told.clear();
+            of_play(end)
+        }
+        Ask::Run(options) => {
+            let told = Terminal::new(rt, options.quiet);
+            let history = options.history;
+            let end = run_text_observed(
+                threads,
+                alloc,
+                &mut input,
+                &mut output,
+                &PlainGate,
+                &told,
+                history,
+            );
+            told.clear();
+            of_run(end)
+        }
     }
 }
 
