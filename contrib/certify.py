@@ -1,0 +1,87 @@
+#!/usr/bin/env python3
+"""Answers a text as `mrjob check` does: a problem with a plan and its prices, on standard input.
+
+It is written from docs/MODEL.md alone, in plain Python, for whoever trusts neither the program nor its proofs. The
+status is 0 where the plan is certified, 1 where a condition fails, and 2 where the text has a fault.
+
+    contrib/certify.py < examples/swap.txt
+
+writes `certified 2 20`.
+"""
+import argparse
+import sys
+
+sys.dont_write_bytecode = True
+from texts import Fault, read
+
+
+class Wave:
+    """The wave of a text, by numbers, with the plan and the prices."""
+
+    def __init__(self, text):
+        self.text, self.split_names, self.worker_names = text, list(text.numbers["split"]), list(text.numbers["worker"])
+        self.splits, self.workers = range(len(self.split_names)), range(len(self.worker_names))
+        self.lives = [("dead", name) not in text.marks for name in self.worker_names]
+        self.live_holders = [[h for h in holders if self.lives[h]] for holders in text.holders]
+        self.is_open = [
+            ("busy", name) not in text.marks and bool(self.live_holders[s]) for s, name in enumerate(self.split_names)
+        ]
+        self.start = [text.numbers["worker"].get(text.starts.get(name)) for name in self.split_names]
+        self.started = [(s, w) for s, w in enumerate(self.start) if w is not None]
+        self.load = [self.start.count(w) for w in self.workers]
+        self.price = [int(text.prices.get(name, 0)) for name in self.split_names]
+        self.slot_price = [int(text.prices.get(name, 0)) for name in self.worker_names]
+        self.reward = 1 + (6 if len(text.numbers["centre"]) > 1 else 4) * sum(text.bytes)
+
+    def distance(self, a, b):
+        one, other = self.text.rack_of[a], self.text.rack_of[b]
+        if a == b or one == other:
+            return 0 if a == b else 2
+        return 4 if self.text.centre_of[one] == self.text.centre_of[other] else 6
+
+    def cost(self, s, w):
+        return self.text.bytes[s] * min(self.distance(h, w) for h in self.live_holders[s])
+
+    def sum(self, s, w):
+        return self.price[s] + self.slot_price[w] + self.cost(s, w)
+
+    def may_take(self, s, w):
+        return self.lives[w] and ("barred", self.split_names[s], self.worker_names[w]) not in self.text.marks
+
+    def failures(self):
+        """The demands that fail, in their order, each with its places by split and then by worker."""
+        free = self.text.free
+        yield from (("C1", s, None) for s, _ in self.started if not self.is_open[s])
+        yield from (("C2", s, w) for s, w in self.started if not self.may_take(s, w))
+        yield from (("C3", None, w) for w in self.workers if self.load[w] > free[w])
+        yield from (("C4", s, None) for s in self.splits if self.price[s] > self.reward)
+        yield from (("C4", None, w) for w in self.workers if self.slot_price[w] > self.reward)
+        pairs = ((s, w) for s in self.splits if self.is_open[s] for w in self.workers if free[w])
+        yield from (("C5", s, w) for s, w in pairs if self.may_take(s, w) and self.sum(s, w) < self.reward)
+        yield from (("C6", s, w) for s, w in self.started if self.sum(s, w) != self.reward)
+        yield from (("C7", s, None) for s in self.splits if self.start[s] is None and self.price[s] != 0)
+        yield from (("C8", None, w) for w in self.workers if self.load[w] < free[w] and self.slot_price[w] != 0)
+
+
+def answer(data):
+    """The line that answers a text, and the status."""
+    try:
+        wave = Wave(read(data, has_plan=True))
+    except Fault as fault:
+        return str(fault), 2
+    for name, s, w in wave.failures():
+        places = [] if s is None else [wave.split_names[s]]
+        places += [] if w is None else [wave.worker_names[w]]
+        return " ".join(["refused", name, *places]), 1
+    return f"certified {len(wave.started)} {sum(wave.cost(s, w) for s, w in wave.started)}", 0
+
+
+def main():
+    argparse.ArgumentParser(description=__doc__, formatter_class=argparse.RawDescriptionHelpFormatter).parse_args()
+    said, status = answer(sys.stdin.buffer.read())
+    print(said)
+    return status
+
+
+if __name__ == "__main__":
+    sys.exit(main())

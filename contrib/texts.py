@@ -1,0 +1,132 @@
+"""Reads a problem, with a plan and its prices or without, or finds the least fault of its text.
+
+It is written from docs/MODEL.md alone. The scripts beside it stand on it.
+"""
+import re
+
+NAME, NUMBER = re.compile(r"[A-Za-z][A-Za-z0-9._-]{0,31}"), re.compile(r"0|[1-9][0-9]*")
+MOST = {"centre": 8, "rack": 32, "worker": 256, "split": 1024}
+# The places of each line: `+KIND` declares a name, KIND uses one, LEAST-GREATEST is a number, and a `*` says any count.
+HEAD = {
+    "centre": "+centre", "rack": "+rack", "worker": "+worker rack 0-16", "split": "+split 0-67108864 worker*",
+    "barred": "split worker", "dead": "worker", "busy": "split",
+}
+END = {"end": ""}
+PLAN = {"start": "split worker", "price": "priced 0-18446744073709551615", **END}
+# Lines of scripts and jobs are known by their shape, and may stand nowhere here; nor may a second first line.
+OTHERS = {
+    **dict.fromkeys("problem script job parts target silence done fail withdraw".split(), "1-2"), "doc": "x x text",
+    **dict.fromkeys("begin wave reduce copies".split(), ""), **dict.fromkeys("add lose backup".split(), "x x"),
+    "die": "x", "join": "x x*",
+}
+SHAPES = {**HEAD, **PLAN, **OTHERS, "plan": ""}
+
+
+class Fault(Exception):
+    """The least fault of the first faulty line."""
+
+
+class Text:
+    """What the lines so far declare; names of a kind are numbered as they come."""
+
+    def __init__(self, has_plan):
+        self.has_plan, self.lines, self.version = has_plan, 0, 1
+        self.section = {*HEAD, "plan" if has_plan else "end"}
+        self.kinds, self.numbers = {}, {kind: {} for kind in MOST}
+        self.centre_of, self.rack_of, self.free, self.bytes, self.holders = [], [], [], [], []
+        self.marks, self.starts, self.prices = set(), {}, {}
+
+    def places(self, keyword):
+        """The places of a line, or None where the first word is no keyword."""
+        if keyword == "rack" and self.version == 2:
+            return ["+rack", "centre"]
+        if keyword == "sweep":
+            return ["0-1"] * len(self.numbers["worker"])
+        places = SHAPES.get(keyword)
+        return None if places is None else places.split()
+
+    def faults(self, line):
+        """The faults 1 to 10 of a line, with its words."""
+        keyword, *words = line.split(" ")
+        places = self.places(keyword)
+        if places is None:
+            return [1], []
+        if places[-1:] == ["text"]:
+            words, places = words[:2], places[:2]
+        if places and places[-1].endswith("*"):
+            places[-1:] = [places[-1][:-1]] * (len(words) - len(places) + 1)
+        if len(words) != len(places) or "" in words:
+            return [1], words
+        if any("-" in place and not NUMBER.fullmatch(word) for place, word in zip(places, words)):
+            return [1], words
+        allowed = ["problem"] if self.lines == 0 else self.section
+        if keyword not in allowed or keyword == "centre" and self.version == 1:
+            return [7], words
+        found = [fault for it in zip(places, words) for fault in self.word_faults(*it)]
+        return found + self.again(keyword, words), words
+
+    def word_faults(self, place, word):
+        """The faults of a word in its place."""
+        if "-" in place:
+            least, greatest = map(int, place.split("-"))
+            return [] if len(word) <= 20 and least <= int(word) <= greatest else [5]
+        if not NAME.fullmatch(word):
+            return [2]
+        if place[0] == "+":
+            return [4] * (word in self.kinds) + [6] * (len(self.numbers[place[1:]]) == MOST[place[1:]])
+        return [] if self.kinds.get(word) in (["split", "worker"] if place == "priced" else [place]) else [3]
+
+    def again(self, keyword, words):
+        """What a line says too often, or `end` leaves out."""
+        found = [4] if (keyword, *words) in self.marks else []
+        if keyword == "split":
+            found += [6] * (len(words) > 10) + [8] * (len(set(words[2:])) < len(words[2:]))
+        if keyword in ("start", "price") and words[0] in (self.starts if keyword == "start" else self.prices):
+            found.append(9)
+        priced = len(self.numbers["split"]) + len(self.numbers["worker"])
+        if keyword == "end" and self.has_plan and len(self.prices) < priced:
+            found.append(10)
+        return found
+
+    def enter(self, keyword, *words):
+        """Takes a line without a fault."""
+        self.lines += 1
+        if keyword in MOST:
+            self.kinds[words[0]] = keyword
+            self.numbers[keyword][words[0]] = len(self.numbers[keyword])
+        if keyword == "problem":
+            self.version = int(words[0])
+        elif keyword == "rack":
+            self.centre_of.append(words[1:])
+        elif keyword == "worker":
+            self.rack_of.append(self.numbers["rack"][words[1]])
+            self.free.append(int(words[2]))
+        elif keyword == "split":
+            self.bytes.append(int(words[1]))
+            self.holders.append([self.numbers["worker"][name] for name in words[2:]])
+        elif keyword in ("start", "price"):
+            (self.starts if keyword == "start" else self.prices)[words[0]] = words[1]
+        elif keyword in ("plan", "end"):
+            self.section = PLAN if keyword == "plan" else None
+        else:
+            self.marks.add((keyword, *words))
+
+
+def read(data, has_plan):
+    """What a problem's text declares, or its least fault."""
+    if len(data) > 16_777_216:
+        raise Fault("line 0: fault 11")
+    *lines, rest = data.decode("latin-1").split("\n")
+    text = Text(has_plan)
+    for number, line in enumerate(lines, 1):
+        if re.search("[^ -~]", line):
+            raise Fault(f"line {number}: fault 13")
+        if text.section is None:
+            raise Fault(f"line {number}: fault 14")
+        faults, words = text.faults(line)
+        if faults:
+            raise Fault(f"line {number}: fault {min(faults)}")
+        text.enter(line.split(" ")[0], *words)
+    if rest or text.section is not None:
+        raise Fault(f"line {len(lines) + 1}: fault {12 if rest else 7}")
+    return text
