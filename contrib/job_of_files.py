@@ -95,6 +95,8 @@ class Documents:
 
     def splits(self, block):
         """The documents of each split by number: files one after another, as many as a block has room for."""
+        if not self.texts:
+            raise Limit("no file was taken")
         splits, size = [], 0
         for number, text in enumerate(self.texts):
             if not splits or size + len(text) > block:

@@ -60,6 +60,7 @@ else
     start scripts/statuses.sh "${programs[@]}"
     start scripts/refused_calls.sh "${programs[@]}"
     start scripts/differential.py "${programs[@]}"
+    start scripts/contrib.py "${programs[0]}"
 fi
 start scripts/another_ledger.py
 start scripts/edits.py

@@ -1,0 +1,356 @@
+#!/usr/bin/env python3
+"""Tries the scripts of contrib/ beside built programs.
+
+    contrib.py PROGRAM..
+
+The examples in each script's help run. certify.py answers what `check` answers: the examples, 500 made texts and those
+at the limits on counts. The starts of plans come to their cost. A least flow over dimacs_of_problem.py's network, by
+a search of its own, starts and costs what `plan` says. The jobs and scripts of job_of_files.py have the index that is
+made here of the files, lie on workers as HDFS places blocks, and past a limit none is written. The last line counts.
+"""
+import ast
+import collections
+import csv
+import heapq
+import io
+import json
+import os
+import random
+import re
+import shlex
+import subprocess
+import sys
+import tempfile
+from concurrent.futures import ThreadPoolExecutor
+from pathlib import Path
+
+sys.dont_write_bytecode = True
+import make_texts
+from crates import ROOT
+
+sys.path.append(str(ROOT / "contrib"))
+from certify import answer
+
+CONTRIB, EXAMPLES = ROOT / "contrib", ROOT / "examples"
+TALES = CONTRIB / "samples/tales"
+SCRIPTS = ["certify.py", "starts_of_plan.py", "dimacs_of_problem.py", "job_of_files.py"]
+CERTIFIED = {"best": 120, "changed": 200, "faulty": 180}
+
+
+def said(words, given=b""):
+    """What a command writes, on both streams, and its status."""
+    ran = subprocess.run([str(it) for it in words], input=given, stdout=subprocess.PIPE, stderr=subprocess.PIPE)
+    return ran.stdout, ran.stderr.decode(), ran.returncode
+
+
+def script(name, *words, given=b""):
+    return said([sys.executable, CONTRIB / name, *words], given)
+
+
+class Counted:
+    """Counts what holds, and shows what does not."""
+
+    def __init__(self):
+        self.passed = self.failed = 0
+
+    def expect(self, name, found, wanted=True):
+        if found == wanted:
+            self.passed += 1
+            print(f"{name}: ok", flush=True)
+        else:
+            self.failed += 1
+            print(f"{name}: FAILED, with {str(found)[:600]} and not {str(wanted)[:600]}", flush=True)
+
+    def none(self, name, wrong):
+        """All of a group hold, where the list of what is wrong is empty."""
+        self.expect(name, list(wrong)[:3], [])
+
+
+def plain(count):
+    """Each script is Python 3.8 over the standard library, and its help ends well."""
+    own = {it.stem for it in CONTRIB.glob("*.py")}
+    for path in sorted(CONTRIB.glob("*.py")):
+        tree = ast.parse(path.read_text(), feature_version=(3, 8))
+        names = [name.name for it in ast.walk(tree) if isinstance(it, ast.Import) for name in it.names]
+        names += [it.module for it in ast.walk(tree) if isinstance(it, ast.ImportFrom)]
+        known = own | set(getattr(sys, "stdlib_module_names", names))
+        count.none(f"{path.name} imports the standard library alone", {it.split(".")[0] for it in names} - known)
+    for name in SCRIPTS:
+        out, wrong, status = script(name, "--help")
+        count.expect(f"{name} --help", (b"contrib/" in out, wrong, status), (True, "", 0))
+
+
+def help_examples(count, program):
+    """The commands in each script's help run."""
+    for name in SCRIPTS:
+        doc = ast.get_docstring(ast.parse((CONTRIB / name).read_text()))
+        for line in re.findall(r"^ {4}(contrib/.*)$", doc, re.M):
+            words = line.replace("bin/mrjob", shlex.quote(str(program)))
+            ran = subprocess.run(["bash", "-o", "pipefail", "-c", words], cwd=ROOT, capture_output=True)
+            count.expect(line, (ran.returncode, bool(ran.stdout)), (0, True))
+
+
+def made(kind, some):
+    return [make_texts.KINDS[kind](random.Random(seed)) for seed in range(1, some + 1)]
+
+
+def certified(count, program):
+    """certify.py answers what check answers."""
+    examples = [it for it in sorted(EXAMPLES.glob("*.txt")) if not it.with_suffix(".args").exists()]
+    for path in examples:
+        wanted = (path.with_suffix(".out").read_bytes(), "", int(path.with_suffix(".status").read_text()))
+        count.expect(f"certify.py < examples/{path.name}", script("certify.py", given=path.read_bytes()), wanted)
+    groups = {f"{some} {kind} texts": made(kind, some) for kind, some in CERTIFIED.items()}
+    groups["texts at the limits"] = [make_texts.limit(kind, over) for kind in make_texts.MOST for over in (0, 1)]
+    groups["all examples"] = [path.read_bytes() for path in sorted(EXAMPLES.glob("*.txt"))]
+    for name, texts in groups.items():
+        with ThreadPoolExecutor() as pool:
+            answers = list(pool.map(lambda text: said([program, "check"], text), texts))
+        found = [(f"{line}\n".encode(), "", status) for line, status in map(answer, texts)]
+        count.none(f"certify.py on {name}", [it for it in zip(texts, found, answers) if it[1] != it[2]])
+
+
+def problems():
+    """The examples that are planned, and made problems, without those that have a fault."""
+    for path in sorted(EXAMPLES.glob("plan_*.txt")):
+        if path.with_suffix(".status").read_text().strip() == "0":
+            yield path.read_bytes()
+    yield from made("problem", 40)
+
+
+def started(count, program):
+    """The rows of starts are those of the plans, and come to their costs."""
+    wanted = "split,worker,rack,distance,bytes_moved\ns,b,r,2,10\nt,a,r,0,0\n"
+    swap, plan = EXAMPLES / "plan_swap.txt", (EXAMPLES / "plan_swap.out").read_bytes()
+    count.expect("the starts of plan_swap", script("starts_of_plan.py", swap, given=plan), (wanted.encode(), "", 0))
+    wrong = []
+    with tempfile.NamedTemporaryFile() as file:
+        for text in problems():
+            Path(file.name).write_bytes(text)
+            plan = said([program, "plan", "--prices"], text)[0]
+            rows = list(csv.DictReader(io.StringIO(script("starts_of_plan.py", file.name, given=plan)[0].decode())))
+            objects = script("starts_of_plan.py", "--format", "json", file.name, given=plan)[0].splitlines()
+            cost = sum(int(row["distance"]) * int(row["bytes_moved"]) for row in rows)
+            starts = [f"start {row['split']} {row['worker']}".encode() for row in rows]
+            same = [{key: str(value) for key, value in json.loads(it).items()} for it in objects] == rows
+            if not same or plan.splitlines()[: len(rows) + 1] != [f"wave {len(rows)} {cost}".encode(), *starts]:
+                wrong.append((text, plan, rows))
+    count.none("the starts of made problems", wrong)
+    for name, false in {
+        "a cost that is not theirs": b"wave 2 21\nstart s b\nstart t a\n",
+        "a slot too many": b"wave 2 0\nstart s a\nstart t a\n",
+        "a split twice": b"wave 2 0\nstart t a\nstart t b\n",
+        "an unknown worker": b"wave 1 0\nstart t c\n",
+        "a worker that is a rack": b"wave 1 0\nstart t r\n",
+        "half a line": b"wave 1 0\nstart t\n",
+        "a fault": b"line 2: fault 7\n",
+        "nothing": b"",
+    }.items():
+        out, _, status = script("starts_of_plan.py", swap, given=false)
+        count.expect(f"no starts of {name}", (out, status), (b"", 1))
+
+
+def least_flow(lines):
+    """The cost of a least flow of a DIMACS text, by shortest paths from a source that feeds all others."""
+    arcs, residual = [], collections.defaultdict(list)
+
+    def join(start, end, capacity, cost):
+        residual[start].append(len(arcs))
+        residual[end].append(len(arcs) + 1)
+        arcs.extend([[end, capacity, cost], [start, 0, -cost]])
+
+    for words in (line.split() for line in lines):
+        if words[0] == "n":
+            node, supply = int(words[1]), int(words[2])
+            join(*((0, node) if supply > 0 else (node, -1)), abs(supply), 0)
+        elif words[0] == "a":
+            start, end, low, capacity, cost = map(int, words[1:])
+            assert low == 0
+            join(start, end, capacity, cost)
+    depth, total = collections.defaultdict(int), 0
+    while True:
+        near, by, heap = {0: 0}, {}, [(0, 0)]
+        while heap:
+            far, node = heapq.heappop(heap)
+            if far > near[node]:
+                continue
+            for at in residual[node]:
+                end, room, cost = arcs[at]
+                length = far + cost + depth[node] - depth[end]
+                if room and length < near.get(end, length + 1):
+                    near[end], by[end] = length, at
+                    heapq.heappush(heap, (length, end))
+        if -1 not in near:
+            return total
+        for node, far in near.items():
+            depth[node] += min(far, near[-1]) - near[-1]
+        node = -1
+        while node:
+            at = by[node]
+            arcs[at][1] -= 1
+            arcs[at ^ 1][1] += 1
+            total += arcs[at][2]
+            node = arcs[at ^ 1][0]
+
+
+def flows(count, program):
+    """A least flow of the DIMACS text starts as many splits at the same cost as the plan."""
+    wrong = []
+    for text in problems():
+        lines = script("dimacs_of_problem.py", given=text)[0].decode().splitlines()
+        reward, flow = int(lines[0].split()[2]), least_flow(lines[2:])
+        pending = sum(line.startswith("n ") for line in lines) - 1
+        nodes, arcs = map(int, lines[1].split()[2:])
+        shape = (sum(it.startswith("c node") for it in lines), sum(it.startswith("a ") for it in lines))
+        plan = f"wave {pending - flow // reward} {flow % reward}"
+        if (nodes, arcs) != shape or said([program, "plan"], text)[0].splitlines()[:1] != [plan.encode()]:
+            wrong.append((text, lines, plan))
+    count.none("least flows cost what plans cost", wrong)
+    out, _, status = script("dimacs_of_problem.py", given=b"problem 3\n")
+    count.expect("no flow of a fault", (out, status), (b"", 1))
+
+
+def index_of(names):
+    """The index of the files of a list of names and files, made one after another."""
+    index = collections.defaultdict(list)
+    for line in names.splitlines():
+        name, path = line.split("\t")[:2]
+        if name != "-":
+            for word in set(re.findall(rb"[a-z]+", Path(path).read_bytes().lower())):
+                index[word.decode()].append(name)
+    return "".join([f"index {len(index)}\n", *(f"word {it} {' '.join(index[it])}\n" for it in sorted(index))])
+
+
+SETTINGS = [
+    [],
+    ["--block", "1"],
+    ["--racks", "1", "--workers", "1", "--slots", "1", "--replicas", "8", "--block", "100"],
+    ["--racks", "6", "--workers", "12", "--centres", "3", "--parts", "64", "--block", "130"],
+    ["--racks", "32", "--workers", "32", "--slots", "16", "--centres", "8", "--parts", "1", "--seed", "7"],
+    ["--only", "*.txt", "--replicas", "1"],
+]
+
+
+def indexed(count, program, room):
+    """The index of a job and of a script is that of the files."""
+    names = room / "names"
+    for words in SETTINGS:
+        words = [TALES, *words, "--names", names]
+        job, script_text = (script("job_of_files.py", *words, *more)[0] for more in ([], ["--script"]))
+        index = index_of(names.read_text()).encode()
+        shown = " ".join(str(it) for it in words[1:-2]) or "nothing"
+        count.expect(f"run of a job of files, {shown}", said([program, "run"], job), (index, "", 0))
+        report, wrong, status = said([program, "play"], script_text)
+        lines = report.decode().splitlines()
+        is_played = not [line for line in lines if line.startswith("ignored")] and report.endswith(b"\n" + index)
+        count.expect(f"play of a script of files, {shown}", (is_played, wrong, status), (True, "", 0))
+    out, told, _ = script("job_of_files.py", TALES, "--names", names)
+    count.expect("what was left out", [it.split("/")[-1] for it in re.findall("(?m)^-.*$", names.read_text())],
+                 ["link.txt\ta link", "zero.bin\ta zero byte, so no text"])
+    told = [line.partition(": ")[2] for line in told.splitlines()]
+    count.expect("what was changed", told, [
+        "7 files of 438 bytes are documents in 1 splits",
+        "12 line ends and 11 other bytes outside printable ASCII became spaces",
+        "7 names differ from their file's path, 1 cut to 32 characters and 1 numbered",
+        "1 left out: a link",
+        "1 left out: a zero byte, so no text",
+    ])
+    texts = [line.split(b" ", 3)[3] for line in out.splitlines() if line.startswith(b"doc ")]
+    paths = [line.split("\t")[1] for line in names.read_text().splitlines() if line[0] != "-"]
+    files = [re.sub(rb"[^ -~]", b" ", Path(path).read_bytes()) for path in paths]
+    count.expect("each byte of a file stands in its document, or a space for it", texts, files)
+
+
+def misplaced(lines, racks, workers, replicas):
+    """The splits whose replicas do not lie as HDFS places them by default."""
+    rack_of = {line.split()[1]: line.split()[2] for line in lines if line.startswith("worker ")}
+    sizes = collections.Counter(rack_of.values())
+    wanted = min(replicas, workers)
+    for line in (it for it in lines if it.startswith("split ")):
+        held = line.split()[3:]
+        at = [rack_of[name] for name in held]
+        most = max(collections.Counter(at).values())
+        fits = len(set(held)) == len(held) == wanted and (racks == 1 or most <= (wanted - 1) // racks + 2)
+        if racks > 1 and wanted > 1:
+            fits = fits and at[1] != at[0]
+        if racks > 1 and wanted > 2:
+            fits = fits and (at[2] == at[1] or sizes[at[1]] == 1)
+        if not fits:
+            yield line
+
+
+def placed(count, room):
+    """Replicas lie as HDFS places them."""
+    many = room / "many"
+    many.mkdir()
+    for number in range(300):
+        (many / f"{number}").write_text("x")
+    shapes = [(1, 5, 3), (2, 2, 3), (2, 5, 3), (4, 4, 3), (4, 16, 3), (4, 16, 8), (3, 7, 2), (5, 9, 1)]
+    for racks, workers, replicas in shapes:
+        words = [many, "--block", "1", "--racks", racks, "--workers", workers, "--replicas", replicas]
+        lines = script("job_of_files.py", *words)[0].decode().splitlines()
+        wrong = misplaced(lines, racks, workers, replicas)
+        count.none(f"{replicas} replicas on {workers} workers in {racks} racks", wrong)
+        held = {name for line in lines if line.startswith("split ") for name in line.split()[3:]}
+        count.expect(f"each of the {workers} workers holds some", len(held), workers)
+    again = [script("job_of_files.py", many, "--block", "1", "--seed", seed)[0] for seed in (1, 1, 2)]
+    count.expect("the same seed, the same text", (again[0] == again[1], again[0] == again[2]), (True, False))
+
+
+def refused(count, room):
+    """Past a limit nothing is written, and a sentence says which."""
+    folder = lambda name, files: [room / name, *((room / name / at, text) for at, text in files)]
+    rooms = [
+        folder("splits", ((f"{number}", "x") for number in range(1025))),
+        folder("documents", ((f"{number}", "") for number in range(65_537))),
+        folder("bytes", [("one", "x" * 9_000_000), ("two", "x" * 7_777_217)]),
+        folder("text", [("one", "x" * 9_000_000), ("two", "x" * 7_777_216)]),
+        folder("empty", []),
+    ]
+    for path, *files in rooms:
+        path.mkdir()
+        for file, text in files:
+            file.write_text(text)
+    cases = [
+        (["splits", "--block", "1"], "the files fill 1,025 splits, past 1,024: take a greater --block"),
+        (["documents"], "there are more than 65,536 files, the most documents of a text"),
+        (["bytes"], "the files have more than 16,777,216 bytes, the most of a text"),
+        (["text", "--racks", 1, "--workers", 1], "the text has 16,777,376 bytes, past 16,777,216"),
+        (["empty"], "no file was taken"),
+        (["none"], f"{room}/none is no folder"),
+        (["empty", "--workers", "33"], "--workers 33: a job has at most 32, a script 256"),
+        (["empty", "--workers", "257", "--script"], "--workers 257: there may be 1 to 256"),
+        (["empty", "--workers", "3"], "--racks 4: each rack has a worker, and there are 3"),
+        (["empty", "--centres", "5"], "--centres 5: each centre has a rack, and there are 4"),
+    ]
+    most = {"racks": 32, "slots": 16, "centres": 8, "replicas": 8, "block": 67_108_864, "parts": 64}
+    for name, number in most.items():
+        for past in (0, number + 1):
+            cases.append((["empty", f"--{name}", past], f"--{name} {past}: there may be 1 to {number:,}"))
+    for words, sentence in cases:
+        answer = script("job_of_files.py", room / words[0], *words[1:])
+        lines = answer[1].splitlines()
+        count.expect(f"job_of_files.py says: {sentence}", (answer[0], lines, answer[2]),
+                     (b"", [f"job_of_files.py: {sentence}"], 1))
+    answer = script("job_of_files.py", room / "splits", "--block", "2")
+    count.expect("513 splits are not too many", answer[2], 0)
+
+
+def main():
+    count = Counted()
+    with tempfile.TemporaryDirectory() as room:
+        plain(count)
+        placed(count, Path(room))
+        refused(count, Path(room))
+        for program in map(os.path.abspath, sys.argv[1:]):
+            help_examples(count, program)
+            certified(count, program)
+            started(count, program)
+            flows(count, program)
+            indexed(count, program, Path(room))
+    print(f"{count.passed} passed, {count.failed} failed")
+    return 1 if count.failed or not count.passed else 0
+
+
+if __name__ == "__main__":
+    sys.exit(main())
