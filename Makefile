@@ -1,6 +1,6 @@
 # Everything goes by rt, the command of the Rattle kit. Nothing here needs the network, and only `install` installs.
 
-.PHONY: all library install demo test profile bench clean
+.PHONY: all library install uninstall pictures demo test profile bench clean
 
 PREFIX ?= /usr/local
 
@@ -18,13 +18,17 @@ library:
 lib/libmrjob.a:
 	@scripts/library.py
 
-# The program, the C library and its header, below DESTDIR and PREFIX. The two are made first where they are not there.
-install: bin/mrjob lib/libmrjob.a
-	install -D -m 755 bin/mrjob $(DESTDIR)$(PREFIX)/bin/mrjob
-	install -D -m 644 include/mrjob.h $(DESTDIR)$(PREFIX)/include/mrjob.h
-	install -D -m 644 lib/pkgconfig/mrjob.pc $(DESTDIR)$(PREFIX)/lib/pkgconfig/mrjob.pc
-	install -D -m 644 lib/libmrjob.a $(DESTDIR)$(PREFIX)/lib/libmrjob.a
-	cp -P lib/libmrjob.so lib/libmrjob.so.* $(DESTDIR)$(PREFIX)/lib
+# The program with its manual page, completions and scripts, and where `make library` has left it the C library, below
+# DESTDIR and PREFIX; and just these taken away.
+install: bin/mrjob
+	@scripts/install.py "$(DESTDIR)$(PREFIX)"
+
+uninstall:
+	@scripts/install.py --undo "$(DESTDIR)$(PREFIX)"
+
+# The pictures of the docs, of the samples' texts with their answers.
+pictures:
+	@scripts/pictures.py
 
 # The main job on examples/, by bin/mrjob, or by the program built without its proofs.
 demo:

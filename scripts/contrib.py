@@ -6,7 +6,9 @@
 The examples in each script's help run. certify.py answers what `check` answers: the examples, 500 made texts and those
 at the limits on counts. The starts of plans come to their cost. A least flow over dimacs_of_problem.py's network, by
 a search of its own, starts and costs what `plan` says. The jobs and scripts of job_of_files.py have the index that is
-made here of the files, lie on workers as HDFS places blocks, and past a limit none is written. The last line counts.
+made here of the files, lie on workers as HDFS places blocks, and past a limit none is written. The pictures of docs/
+are what picture.py makes of the samples anew, whose answers are a best plan and a report. What `make install` puts into
+an empty folder runs from there, and `make uninstall` leaves nothing. The last line counts.
 """
 import ast
 import collections
@@ -23,17 +25,20 @@ import sys
 import tempfile
 from concurrent.futures import ThreadPoolExecutor
 from pathlib import Path
+from xml.etree import ElementTree
 
 sys.dont_write_bytecode = True
 import make_texts
+import pictures
 from crates import ROOT
+from reference_play import misplayed
 
 sys.path.append(str(ROOT / "contrib"))
 from certify import answer
 
 CONTRIB, EXAMPLES = ROOT / "contrib", ROOT / "examples"
 TALES = CONTRIB / "samples/tales"
-SCRIPTS = ["certify.py", "starts_of_plan.py", "dimacs_of_problem.py", "job_of_files.py"]
+SCRIPTS = ["certify.py", "starts_of_plan.py", "dimacs_of_problem.py", "job_of_files.py", "picture.py"]
 CERTIFIED = {"best": 120, "changed": 200, "faulty": 180}
 
 
@@ -336,18 +341,101 @@ def refused(count, room):
     count.expect("513 splits are not too many", answer[2], 0)
 
 
+def drawn(count):
+    """The pictures are those of their texts, and each answer of an example can be drawn."""
+    for name in pictures.PICTURES:
+        count.expect(f"docs/pictures/{name} made anew", (pictures.FOLDER / name).read_bytes() == pictures.made(name))
+    report = (CONTRIB / "samples/job.out").read_bytes()
+    count.expect("samples/job.out is a report", misplayed((CONTRIB / "samples/job.txt").read_bytes(), report, 0), None)
+    for path in sorted(EXAMPLES.glob("pl*_*.txt")):
+        drawing, wrong, status = script("picture.py", path, path.with_suffix(".out"))
+        if path.with_suffix(".status").read_text().strip() == "2":
+            count.expect(f"no picture of {path.stem}", (drawing, status), (b"", 1))
+            continue
+        elements = list(ElementTree.fromstring(drawing).iter())
+        families = {it.get("font-family") for it in elements} - {None}
+        count.expect(f"the picture of {path.stem}", (wrong, status, families), ("", 0, {"monospace"}))
+    swap = EXAMPLES / "plan_swap.txt"
+    for false in ("play_first", "plan_two_centres"):
+        for text in (swap, EXAMPLES / "play_death.txt"):
+            answer_of = script("picture.py", text, EXAMPLES / f"{false}.out")
+            count.expect(f"no picture of {text.stem} with the answer of {false}", answer_of[::2], (b"", 1))
+    drawing = script("picture.py", swap, EXAMPLES / "plan_swap.out")[0].decode()
+    head = "2 of 2 pending splits start, at a byte-distance of 20"
+    for words in (head, "s of 10 bytes on b: 2 steps", "greatest split prices: s 101, t 101"):
+        count.expect(f"the picture of plan_swap says {words}", words in drawing)
+    drawing = script("picture.py", EXAMPLES / "play_death.txt", EXAMPLES / "play_death.out")[0].decode()
+    for words in ("map of s on a: done, and then lost with its worker", "map of s on b: done", "part 1 on b: done"):
+        count.expect(f"the picture of play_death says {words}", words in drawing)
+
+
+def many_drawn(count, program):
+    """A plan of 256 workers has a cell for each slot, and a report of them a row for each."""
+    text = said([ROOT / "bench/make_problems.py", "half_wait", 1024, 4])[0]
+    with tempfile.TemporaryDirectory() as room:
+        problem, plan = Path(room) / "problem", Path(room) / "plan"
+        problem.write_bytes(text)
+        plan.write_bytes(said([program, "plan", "--prices"], text)[0])
+        drawing = ElementTree.fromstring(script("picture.py", problem, plan)[0])
+        titles = [it.text for it in drawing.iter() if it.tag.endswith("title") and it.text.endswith(" steps")]
+        starts = [line.split() for line in plan.read_text().splitlines() if line.startswith("start")]
+        said_of = [(words[1], words[2]) for words in starts]
+        shown = [tuple(re.match(r"(\S+) of \S+ bytes on (\S+): ", it).groups()) for it in titles]
+        count.expect("the picture of 256 workers has each start", sorted(shown), sorted(said_of))
+    sample = CONTRIB / "samples/wave"
+    count.expect("samples/wave.out is a best plan", said([program, "plan"], sample.with_suffix(".txt").read_bytes())[0]
+                 .splitlines()[0], sample.with_suffix(".out").read_bytes().splitlines()[0])
+
+
+def installed(count, program, room):
+    """What is installed runs from where it is, and is taken away again. The program is that of bin/, which the gate put
+    there."""
+    root, prefix = room / "root", room / "root/usr"
+    make = lambda what: subprocess.run(["make", "-s", what, f"DESTDIR={root}", "PREFIX=/usr"], cwd=ROOT).returncode
+    count.expect("make install", make("install"), 0)
+    (prefix / "share/mrjob/kept").write_text("of another")
+    for name, words in (("swap", ["check"]), ("plan_swap", ["plan", "--prices"]), ("run_words", ["run"])):
+        wanted = (EXAMPLES / f"{name}.out").read_bytes()
+        count.expect(f"the installed program on {name}",
+                     said([prefix / "bin/mrjob", *words], (EXAMPLES / f"{name}.txt").read_bytes()), (wanted, "", 0))
+    for name in ("check", "plan", "play", "run"):
+        words = said([program, name, "--help"])[0].decode().split()
+        page = re.sub(r"\\(.)", lambda it: {"e": "\\", "&": ""}.get(it[1], it[1]),
+                      (prefix / "share/man/man1/mrjob.1").read_text().replace("\\(aq", "'").replace("\\(ga", "`"))
+        missing = set(words) - set(page.split()) - {"Usage:", "Options:", "-h,", "<NETWORK>"}
+        count.expect(f"the manual page has the words of the help on {name}", missing, set())
+    for path in sorted((prefix / "share/mrjob/contrib").glob("*.py")):
+        same = path.read_bytes() == (CONTRIB / path.name).read_bytes()
+        runs = os.access(path, os.X_OK) == path.read_text().startswith("#!")
+        count.expect(f"{path.name} is installed", (same, runs), (True, True))
+    certified = said([prefix / "share/mrjob/contrib/certify.py"], (EXAMPLES / "swap.txt").read_bytes())
+    count.expect("certify.py runs from there", certified, (b"certified 2 20\n", "", 0))
+    completes = f"source {prefix}/share/bash-completion/completions/mrjob; "
+    for line, wanted in {"mrjob p": ["plan", "play"], "mrjob plan --n": ["--network"],
+                         "mrjob plan --network d": ["direct"], "mrjob help ru": ["run"]}.items():
+        words = line.split()
+        asks = f"COMP_WORDS=({line}); COMP_CWORD={len(words) - 1}; _mrjob; echo ${{COMPREPLY[@]}}"
+        count.expect(f"bash completes {line}", said(["bash", "-c", completes + asks])[0].decode().split(), wanted)
+    count.expect("make uninstall", make("uninstall"), 0)
+    left = [str(it.relative_to(prefix)) for it in prefix.rglob("*") if it.is_file() or it.is_symlink()]
+    count.expect("what was not installed is left", left, ["share/mrjob/kept"])
+
+
 def main():
     count = Counted()
     with tempfile.TemporaryDirectory() as room:
         plain(count)
         placed(count, Path(room))
         refused(count, Path(room))
+        drawn(count)
         for program in map(os.path.abspath, sys.argv[1:]):
             help_examples(count, program)
             certified(count, program)
             started(count, program)
             flows(count, program)
             indexed(count, program, Path(room))
+            many_drawn(count, program)
+            installed(count, program, Path(room))
     print(f"{count.passed} passed, {count.failed} failed")
     return 1 if count.failed or not count.passed else 0
 

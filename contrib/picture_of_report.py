@@ -1,0 +1,240 @@
+"""The picture of a script with its report."""
+from drawing import Drawing, shortened, width_of
+from texts import Fault
+
+WIDE = 1040
+# How an attempt ended: the class of its bar, and the words of its title.
+ENDS = {
+    "done": ("good", "done"),
+    "undone": ("far", "done, and then lost with its worker"),
+    "outrun": ("hollow", "the split's other attempt was done first"),
+    "failed": ("bad", "failed"),
+    "withdrawn": ("hollow", "withdrawn"),
+    "lost": ("hatch", "lost with its worker"),
+    "runs": ("grey", "still runs"),
+}
+
+
+class Attempt:
+    """An attempt: its work, where it started and ended in the history, and how."""
+
+    def __init__(self, number, kind, of, worker, start):
+        self.number, self.kind, self.of, self.worker, self.start = number, kind, of, worker, start
+        self.end, self.how = None, "runs"
+
+    def ends(self, place, how):
+        self.end, self.how = place, how
+
+
+class History:
+    """What a script and its report tell, with the place in the history of each event."""
+
+    def __init__(self, script, report):
+        lines = [line.split(" ") for line in script.decode("ascii").splitlines()]
+        head = lines[: lines.index(["begin"])] if ["begin"] in lines else lines
+        self.slots = {words[1]: int(words[3]) for words in head if words[0] == "worker"}
+        self.parts = next((int(words[1]) for words in head if words[0] == "parts"), 1)
+        self.attempts, self.place = {}, 0
+        self.waves, self.deaths, self.returns, self.ignored = [], [], [], 0
+        self.said = [line.split(" ") for line in report.splitlines()]
+        for words in lines[len(head) + 1 : -1]:
+            self.take(words)
+        if not self.said or self.said[0][0] not in ("index", "stuck"):
+            raise Fault("the report does not end as a report does")
+        self.ending = " ".join(self.said[0])
+
+    def next(self, *keywords):
+        """Takes the report's next line if it begins with one of these words."""
+        return self.said.pop(0) if self.said and self.said[0][0] in keywords else None
+
+    def take(self, words):
+        """Follows a command and what the report says of it."""
+        if words[0] == "copies":
+            if not self.next("copies"):
+                raise Fault("the report is not of this script")
+            while self.next("copy"):
+                pass
+            return
+        answer = self.next("accepted", "ignored")
+        if not answer:
+            raise Fault("the report is not of this script")
+        if answer[0] == "ignored":
+            self.ignored += 1
+            return
+        self.place = int(answer[1])
+        self.event(words)
+
+    def event(self, words):
+        """An event at the present place."""
+        keyword = words[0]
+        if keyword == "wave":
+            self.waves.append((self.place, self.next("wave")))
+            while self.said and self.said[0][0] == "start":
+                self.begin("map", *self.next("start")[1:])
+        elif keyword == "backup":
+            self.begin("backup", *self.next("backup")[1:])
+        elif keyword == "reduce":
+            self.begin("part", *self.next("reduce")[1:])
+        elif keyword == "done":
+            self.done(self.attempts[words[1]])
+        elif keyword in ("fail", "withdraw"):
+            self.attempts[words[1]].ends(self.place, "failed" if keyword == "fail" else "withdrawn")
+        elif keyword == "die":
+            self.dies(words[1])
+        elif keyword == "join":
+            self.returns.append((self.place, words[1]))
+        elif keyword == "sweep":
+            while self.said and self.said[0][0] == "dead":
+                self.dies(self.next("dead")[1])
+
+    def begin(self, kind, number, of, worker):
+        self.attempts[number] = Attempt(number, kind, of, worker, self.place)
+
+    def done(self, attempt):
+        attempt.ends(self.place, "done")
+        for other in self.attempts.values():
+            if other.how == "runs" and other.of == attempt.of and (other.kind == "part") == (attempt.kind == "part"):
+                other.ends(self.place, "outrun")
+
+    def dies(self, worker):
+        """Its attempts are lost, and what it had mapped, unless every part is done."""
+        self.deaths.append((self.place, worker))
+        done = [it for it in self.attempts.values() if it.how == "done"]
+        all_done = sum(it.kind == "part" for it in done) == self.parts
+        for attempt in self.attempts.values():
+            if attempt.worker == worker and attempt.how == "runs":
+                attempt.ends(self.place, "lost")
+            elif attempt.worker == worker and attempt in done and attempt.kind != "part" and not all_done:
+                attempt.how = "undone"
+
+
+class Chart:
+    """Where the history's places and the workers' rows lie."""
+
+    def __init__(self, history, top):
+        workers = len(history.slots)
+        self.top, self.row = top, 26 if workers <= 16 else 16 if workers <= 64 else 9
+        self.size = 11 if workers <= 64 else 8
+        self.names = min(max([len(name) for name in history.slots], default=1), 16)
+        self.left = width_of(self.names, self.size) + 10
+        self.last = max(history.place + 1, 2)
+        self.rows = {name: top + at * self.row for at, name in enumerate(history.slots)}
+        self.bottom = top + workers * self.row
+
+    def x(self, place):
+        return self.left + WIDE * (place - 0.5) / (self.last - 0.5)
+
+
+def draw_report(script, report):
+    """Draws a report; a Fault where it is no report of the script."""
+    history = History(script, report)
+    counts = f"{len(history.attempts):,} attempts, {history.place:,} events, {history.ignored:,} ignored"
+    drawing = Drawing(f"{counts}; {history.ending}")
+    drawing.text(0, 14, f"{counts}; at the end `{history.ending}`", 15)
+    chart = Chart(history, 66)
+    legend(drawing, history)
+    frame(drawing, chart, history)
+    lanes = {}
+    for attempt in history.attempts.values():
+        bar(drawing, chart, history, lanes, attempt)
+    for place, worker in history.deaths:
+        cross(drawing, chart.x(place), chart.rows[worker] + chart.row / 2, chart.row / 3.2)
+    for place, worker in history.returns:
+        x, y, size = chart.x(place), chart.rows[worker] + chart.row / 2, chart.row / 3.2
+        arrow(drawing, x, y, size)
+    return drawing
+
+
+def legend(drawing, history):
+    """The kinds of bars and marks that the picture has."""
+    x, y = 0, 24
+    found = {it.how for it in history.attempts.values()}
+    kinds = {it.kind for it in history.attempts.values()}
+    for how in (it for it in ENDS if it in found):
+        shape(drawing, x, y, 22, 12, "map", how, "")
+        drawing.text(x + 28, y + 10, how, 11)
+        x += width_of(len(how), 11) + 44
+    for kind in (it for it in ("part", "backup") if it in kinds):
+        shape(drawing, x, y, 22, 12, kind, "done", "")
+        drawing.text(x + 28, y + 10, kind, 11)
+        x += width_of(len(kind), 11) + 44
+    if history.deaths:
+        cross(drawing, x + 6, y + 6, 5)
+        drawing.text(x + 18, y + 10, "death", 11)
+        x += 68
+    if history.returns:
+        arrow(drawing, x + 6, y + 6, 5)
+        drawing.text(x + 18, y + 10, "return", 11)
+
+
+def cross(drawing, x, y, size):
+    drawing.path(f"M{x - size:.1f} {y - size:.1f}L{x + size:.1f} {y + size:.1f}"
+                 f"M{x - size:.1f} {y + size:.1f}L{x + size:.1f} {y - size:.1f}", "mark", 2.2)
+
+
+def arrow(drawing, x, y, size):
+    drawing.path(f"M{x - size:.1f} {y - size:.1f}L{x + size:.1f} {y:.1f}L{x - size:.1f} {y + size:.1f}Z", "mark", 1.6)
+
+
+def frame(drawing, chart, history):
+    """The rows with their workers, the waves as ticks, and the places along the foot."""
+    right = chart.left + WIDE
+    for at, (name, top) in enumerate(chart.rows.items()):
+        if at % 2 == 0:
+            drawing.box(chart.left, top, WIDE, chart.row, "box", more=' stroke="none" style="stroke:none"')
+        drawing.text(0, top + chart.row / 2 + chart.size / 3, shortened(name, chart.names), chart.size)
+    after = -100
+    for number, (place, _) in enumerate(history.waves, 1):
+        x = chart.x(place)
+        drawing.line(x, chart.top - 6, x, chart.bottom, "line", 1, ' stroke-dasharray="2 3"')
+        words = f"wave {number}"
+        if x > after:
+            drawing.text(x, chart.top - 10, words, 10, "faint")
+            after = x + width_of(len(words) + 1, 10)
+    drawing.line(chart.left, chart.bottom, right, chart.bottom, "line")
+    steps = (times * 10**power for power in range(7) for times in (1, 2, 5))
+    step = next(step for step in steps if chart.last <= 16 * step)
+    for place in range(step, history.place + 1, step):
+        x = chart.x(place)
+        drawing.line(x, chart.bottom, x, chart.bottom + 4, "line")
+        drawing.text(x, chart.bottom + 15, f"{place:,}", 10, "faint", "middle")
+    drawing.text(chart.left, chart.bottom + 30, "place in the history", 10, "faint")
+
+
+def bar(drawing, chart, history, lanes, attempt):
+    """An attempt in the first lane of its worker that is free."""
+    free = lanes.setdefault(attempt.worker, [0] * max(history.slots[attempt.worker], 1))
+    lane = next((at for at, until in enumerate(free) if until <= attempt.start), 0)
+    end = attempt.end or chart.last
+    free[lane] = end
+    high = (chart.row - 4) / len(free)
+    x, width = chart.x(attempt.start), chart.x(end) - chart.x(attempt.start)
+    work = f"part {attempt.of}" if attempt.kind == "part" else f"{attempt.kind} of {attempt.of}"
+    says = f"attempt {attempt.number}, {work} on {attempt.worker}: {ENDS[attempt.how][1]}"
+    y = chart.rows[attempt.worker] + 2 + lane * high
+    gap = 1 if high > 3 else 0
+    shape(drawing, x, y, max(width - 2, 1.5), max(high - gap, 0.6), attempt.kind, attempt.how, says)
+    letters = int((width - 6) / (9 * 0.62))
+    if high >= 9 and letters >= min(len(attempt.of), 3):
+        ink = "dark" if ENDS[attempt.how][0] not in ("hollow", "hatch") else "ink"
+        words = f"part {attempt.of}" if attempt.kind == "part" and letters >= len(attempt.of) + 5 else attempt.of
+        words = shortened(words, letters)
+        if attempt.how == "lost":
+            drawing.box(x + 2, y + high / 2 - 5, width_of(len(words), 9) + 2, 10, "paper")
+        drawing.text(x + 3, y + high / 2 + 2.6, words, 9, ink)
+
+
+def shape(drawing, x, y, width, height, kind, how, says):
+    """A bar: round for a part, with a line below it for a backup, across its end for a failure, and a broken edge where
+    what was done was lost, or the split's other attempt was first."""
+    broken = ' stroke-dasharray="3 2"' if how in ("undone", "outrun") else ""
+    edge = ' style="stroke:#111111"' if how == "undone" else ""
+    drawing.box(x, y, width, height, ENDS[how][0], says, min(height, width) / 2 if kind == "part" else 0, broken + edge)
+    if kind == "backup":
+        drawing.line(x, y + height - 1.5, x + width, y + height - 1.5, "mark", 1.4)
+    if how == "failed":
+        drawing.line(x + width, y, x + width, y + height, "mark", 2.4)
+    if how == "runs":
+        x += width
+        middle, foot = y + height / 2, y + height - 1
+        drawing.path(f"M{x - 4:.1f} {y + 1:.1f}L{x:.1f} {middle:.1f}L{x - 4:.1f} {foot:.1f}", "mark", 1.4)

@@ -1,0 +1,129 @@
+#!/usr/bin/env python3
+"""Makes the manual page and the completions of the program, of the words of its own help.
+
+    manual.py PROGRAM FOLDER       writes there mrjob.1, mrjob.bash, _mrjob and mrjob.fish
+"""
+import re
+import subprocess
+import sys
+from pathlib import Path
+
+# The words that may follow an option, which its help has among its words.
+VALUES = {"--network": ["direct", "racks"]}
+
+
+class Help:
+    """The help of the program, or of a command: what it is, its usage, its commands, its options and the rest."""
+
+    def __init__(self, program, *words):
+        self.text = subprocess.run([program, *words, "--help"], check=True, capture_output=True, text=True).stdout
+        self.about, rest = re.match(r"(.*?)\n\nUsage: (.*)", self.text, re.S).groups()
+        self.usage, _, rest = rest.partition("\n\n")
+        listed = dict(re.findall(r"^(Commands|Options):\n((?:  .*\n)*)", rest, re.M))
+        self.commands = re.findall(r"^  (\w+) +(.*)$", listed.get("Commands", ""), re.M)
+        options = re.findall(r"^ +(?:(-\w), )?(--\w+)(?: <(\w+)>)? +(.*)$", listed["Options"], re.M)
+        self.options = [(long, short, value, says) for short, long, value, says in options]
+        self.rest = rest.split(listed["Options"], 1)[1].strip("\n")
+
+
+def plain(line):
+    """A line as roff has it, whatever it begins with."""
+    line = line.replace("\\", "\\e").replace("-", "\\-").replace("'", "\\(aq").replace("`", "\\(ga")
+    return "\\&" + line if line.startswith((".", " ")) else line
+
+
+def verbatim(text):
+    return [".nf", *map(plain, text.split("\n")), ".fi"]
+
+
+def sections(text):
+    """A text in paragraphs, of which those that begin with a line and a colon are sections."""
+    for part in re.split(r"\n\n(?=\S)", text):
+        head, _, body = part.partition("\n")
+        if head.endswith(":") and body:
+            yield from [f'.SH "{plain(head[:-1].upper())}"', *verbatim(body)]
+        elif part:
+            yield from [".SH NOTES", *verbatim(part)]
+
+
+def options_of(given):
+    for long, short, value, says in given.options:
+        names = ", ".join(filter(None, [short, long])) + (f" {value}" if value else "")
+        yield from [".TP", f".B {plain(names)}", plain(says)]
+
+
+def manual(whole, commands):
+    """The lines of mrjob.1."""
+    about = " ".join(whole.about.split())
+    yield from ['.TH MRJOB 1 "" "mrjob" "User Commands"', ".SH NAME", plain(f"mrjob - {about[0].lower()}{about[1:]}")]
+    yield ".SH SYNOPSIS"
+    for given in commands.values():
+        yield from [f".B {plain(given.usage)}", ".br"]
+    yield from [".SH OPTIONS", *options_of(whole), ".SH COMMANDS"]
+    for name, given in commands.items():
+        yield from [f'.SS "mrjob {name}"', plain(given.about), *options_of(given), ".PP", *verbatim(given.rest)]
+    yield from sections(whole.rest)
+
+
+def bash(whole, commands):
+    """The lines of a completion for bash."""
+    yield "_mrjob() {"
+    yield '    local word="${COMP_WORDS[COMP_CWORD]}" before="${COMP_WORDS[COMP_CWORD-1]}" words'
+    yield '    case "$before" in'
+    for option, values in VALUES.items():
+        yield f'        {option}) COMPREPLY=($(compgen -W "{" ".join(values)}" -- "$word")); return ;;'
+    yield "    esac"
+    yield '    case "$COMP_CWORD ${COMP_WORDS[1]}" in'
+    yield f'        1\\ *) words="{" ".join([*commands, "help", *(it[0] for it in whole.options)])}" ;;'
+    for name, given in commands.items():
+        yield f'        *\\ {name}) words="{" ".join(it[0] for it in given.options)}" ;;'
+    yield f'        2\\ help) words="{" ".join(commands)}" ;;'
+    yield from ["    esac", '    COMPREPLY=($(compgen -W "$words" -- "$word"))', "}", "complete -F _mrjob mrjob"]
+
+
+def quoted(words):
+    return "'" + words.replace("'", "'\\''") + "'"
+
+
+def zsh(whole, commands):
+    """The lines of a completion for zsh."""
+    says = lambda words: words.replace("[", "\\[").replace("]", "\\]").replace(":", "\\:")
+    yield from ["#compdef mrjob", "_mrjob() {", "    local -a commands", "    commands=("]
+    yield from (f"        {quoted(f'{name}:{says(about)}')}" for name, about in whole.commands)
+    yield from ["    )", "    if (( CURRENT == 2 )); then", "        _describe command commands"]
+    yield from ["        return", "    fi", "    case $words[2] in"]
+    for name, given in commands.items():
+        yield f"        {name}) _arguments \\"
+        for long, _, value, about in given.options:
+            after = f":{value}:({' '.join(VALUES.get(long, []))})" if value else ""
+            yield f"            {quoted(f'{long}[{says(about)}]{after}')} \\"
+        yield "            ;;"
+    yield from ["    esac", "}", '_mrjob "$@"']
+
+
+def fish(whole, commands):
+    """The lines of a completion for fish."""
+    yield "complete -c mrjob -f"
+    for name, about in whole.commands:
+        yield f"complete -c mrjob -n __fish_use_subcommand -a {name} -d {quoted(about)}"
+    for name, given in commands.items():
+        for long, _, value, about in given.options:
+            after = f" -x -a {quoted(' '.join(VALUES.get(long, [])))}" if value else ""
+            seen = quoted(f"__fish_seen_subcommand_from {name}")
+            yield f"complete -c mrjob -n {seen} -l {long[2:]}{after} -d {quoted(about)}"
+
+
+def write(program, folder):
+    """Writes the four files, and returns their names."""
+    whole = Help(program)
+    commands = {name: Help(program, name) for name, _ in whole.commands if name != "help"}
+    made = {"mrjob.1": manual, "mrjob.bash": bash, "_mrjob": zsh, "mrjob.fish": fish}
+    for name, lines in made.items():
+        (Path(folder) / name).write_text("".join(f"{line}\n" for line in lines(whole, commands)))
+    return list(made)
+
+
+if __name__ == "__main__":
+    if len(sys.argv) != 3:
+        sys.exit(__doc__.strip())
+    write(sys.argv[1], sys.argv[2])
