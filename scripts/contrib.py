@@ -362,8 +362,10 @@ def drawn(count):
             count.expect(f"no picture of {text.stem} with the answer of {false}", answer_of[::2], (b"", 1))
     drawing = script("picture.py", swap, EXAMPLES / "plan_swap.out")[0].decode()
     head = "2 of 2 pending splits start, at a byte-distance of 20"
-    for words in (head, "s of 10 bytes on b: 2 steps", "greatest split prices: s 101, t 101"):
+    for words in (head, "s of 10 bytes on b: 2 steps"):
         count.expect(f"the picture of plan_swap says {words}", words in drawing)
+    drawing = script("picture.py", *(EXAMPLES / f"plan_prices.{it}" for it in ("txt", "out")))[0].decode()
+    count.expect("the picture of plan_prices has its prices", "greatest split prices: s 41" in drawing)
     drawing = script("picture.py", EXAMPLES / "play_death.txt", EXAMPLES / "play_death.out")[0].decode()
     for words in ("map of s on a: done, and then lost with its worker", "map of s on b: done", "part 1 on b: done"):
         count.expect(f"the picture of play_death says {words}", words in drawing)
@@ -394,7 +396,7 @@ def installed(count, program, room):
     make = lambda what: subprocess.run(["make", "-s", what, f"DESTDIR={root}", "PREFIX=/usr"], cwd=ROOT).returncode
     count.expect("make install", make("install"), 0)
     (prefix / "share/mrjob/kept").write_text("of another")
-    for name, words in (("swap", ["check"]), ("plan_swap", ["plan", "--prices"]), ("run_words", ["run"])):
+    for name, words in (("swap", ["check"]), ("plan_swap", ["plan"]), ("run_words", ["run"])):
         wanted = (EXAMPLES / f"{name}.out").read_bytes()
         count.expect(f"the installed program on {name}",
                      said([prefix / "bin/mrjob", *words], (EXAMPLES / f"{name}.txt").read_bytes()), (wanted, "", 0))
