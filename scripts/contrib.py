@@ -8,7 +8,8 @@ at the limits on counts. The starts of plans come to their cost. A least flow ov
 a search of its own, starts and costs what `plan` says. The jobs and scripts of job_of_files.py have the index that is
 made here of the files, lie on workers as HDFS places blocks, and past a limit none is written. The pictures of docs/
 are what picture.py makes of the samples anew, whose answers are a best plan and a report. What `make install` puts into
-an empty folder runs from there, and `make uninstall` leaves nothing. The last line counts.
+an empty folder runs from there, and `make uninstall` leaves nothing. README's commands write what it shows of them. The
+last line counts.
 """
 import ast
 import collections
@@ -423,6 +424,21 @@ def installed(count, program, room):
     count.expect("what was not installed is left", left, ["share/mrjob/kept"])
 
 
+def shown(count, program):
+    """Each command that the README shows writes the lines below it; it has at most 1,000 words."""
+    text = (ROOT / "README.md").read_text()
+    count.expect("the README has at most 1,000 words", len(text.split()) <= 1000)
+    lines = text.splitlines() + [""]
+    for at, line in enumerate(lines):
+        if line.startswith("    $ "):
+            after = lines[at + 1 :]
+            stop = next(n for n, it in enumerate(after) if not it.startswith("    ") or it.startswith("    $ "))
+            wanted = [it[4:] for it in after[:stop]]
+            words = line[6:].replace("bin/mrjob", shlex.quote(str(program)))
+            ran = subprocess.run(["bash", "-c", words], cwd=ROOT, stdout=subprocess.PIPE, stderr=subprocess.DEVNULL)
+            count.expect(f"README: {line[6:80]}", ran.stdout.decode().splitlines(), wanted)
+
+
 def main():
     count = Counted()
     with tempfile.TemporaryDirectory() as room:
@@ -438,6 +454,7 @@ def main():
             indexed(count, program, Path(room))
             many_drawn(count, program)
             installed(count, program, Path(room))
+            shown(count, program)
     print(f"{count.passed} passed, {count.failed} failed")
     return 1 if count.failed or not count.passed else 0
 
