@@ -3,7 +3,10 @@
 # 1,024, and workers from 16 to 256. As in plan.sh each is a whole process, and both must answer the same count and
 # cost. The two run in turn, and of each the time is the least of forty, in microseconds. It needs a C++ compiler and
 # LEMON (Debian's liblemon-dev).
+# usage: plan_sizes.sh [--plot PICTURE.svg]
 set -euo pipefail
+picture=
+if [ "${1:-}" = --plot ]; then picture=$(realpath "$2"); fi
 cd "$(dirname "$0")/.."
 bench/needs_lemon
 room=$(mktemp -d)
@@ -23,19 +26,26 @@ take_time() { # NAME COMMAND..
 }
 
 line='%-14s %8s %8s %8s %8s %13s\n'
-printf "$line" problem splits workers mrjob LEMON mrjob/LEMON
-for shape in spread crowded; do
-    for splits in 128 256 512 1024; do
-        for workers in 16 64 256; do
-            bench/make_problems.py $shape $splits 1 $workers > "$room/text"
-            least=()
-            for _ in {1..40}; do
-                take_time ours bin/mrjob plan --network racks
-                take_time theirs "$room/plan_by_lemon" racks
+take_times() {
+    printf "$line" problem splits workers mrjob LEMON mrjob/LEMON
+    for shape in spread crowded; do
+        for splits in 128 256 512 1024; do
+            for workers in 16 64 256; do
+                bench/make_problems.py $shape $splits 1 $workers > "$room/text"
+                least=()
+                for _ in {1..40}; do
+                    take_time ours bin/mrjob plan --network racks
+                    take_time theirs "$room/plan_by_lemon" racks
+                done
+                cmp "$room/ours" "$room/theirs"
+                printf "$line" $shape $splits $workers "${least[ours]}" "${least[theirs]}" \
+                    "$(awk -v a="${least[ours]}" -v b="${least[theirs]}" 'BEGIN { printf "%.2f", a / b }')"
             done
-            cmp "$room/ours" "$room/theirs"
-            printf "$line" $shape $splits $workers "${least[ours]}" "${least[theirs]}" \
-                "$(awk -v a="${least[ours]}" -v b="${least[theirs]}" 'BEGIN { printf "%.2f", a / b }')"
         done
     done
-done
+}
+
+take_times | tee "$room/table"
+if [ -n "$picture" ]; then
+    bench/plot_sizes.py "mrjob plan beside LEMON's NetworkSimplex, $(date +%F)" < "$room/table" > "$picture"
+fi

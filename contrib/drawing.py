@@ -47,8 +47,8 @@ class Drawing:
         place = "" if anchor == "start" else f' text-anchor="{anchor}"'
         self.parts.append(f'<text class="{kind}" x="{number(x)}" y="{number(y)}" font-size="{number(size)}"{place}>'
                           f"{escape(words)}</text>")
-        if anchor == "start":
-            self.room(x + width_of(len(words), size), y + size / 3)
+        beyond = {"start": 1, "middle": 0.5, "end": 0}[anchor]
+        self.room(x + beyond * width_of(len(words), size), y + size / 3)
 
     def box(self, x, y, width, height, kind, says="", corner=0, more=""):
         """A rectangle; what it says is shown by readers that show titles."""

@@ -365,6 +365,10 @@ def drawn(count):
     head = "2 of 2 pending splits start, at a byte-distance of 20"
     for words in (head, "s of 10 bytes on b: 2 steps"):
         count.expect(f"the picture of plan_swap says {words}", words in drawing)
+    table = "".join(f"spread {splits} 16 {splits + 500} {2 * splits} 0.9\n" for splits in (128, 256, 512)).encode()
+    drawing, wrong, status = said([ROOT / "bench/plot_sizes.py", "a title"], table)
+    curves = [it for it in ElementTree.fromstring(drawing).iter() if it.get("class") == "curve"]
+    count.expect("plot_sizes.py draws ours and LEMON's", (len(curves), wrong, status), (2, "", 0))
     drawing = script("picture.py", *(EXAMPLES / f"plan_prices.{it}" for it in ("txt", "out")))[0].decode()
     count.expect("the picture of plan_prices has its prices", "greatest split prices: s 41" in drawing)
     drawing = script("picture.py", EXAMPLES / "play_death.txt", EXAMPLES / "play_death.out")[0].decode()
