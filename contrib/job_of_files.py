@@ -111,9 +111,11 @@ class Documents:
     def said(self, splits, block):
         """What became of the files, in sentences."""
         yield f"{len(self.texts):,} files of {self.bytes:,} bytes are documents in {len(splits):,} splits"
-        yield f"{self.ends:,} line ends and {self.others:,} other bytes outside printable ASCII became spaces"
-        made = f"{self.cut:,} cut to 32 characters and {self.numbered:,} numbered"
-        yield f"{self.changed:,} names differ from their file's path, {made}"
+        if self.ends or self.others:
+            yield f"{self.ends:,} line ends and {self.others:,} other bytes outside printable ASCII became spaces"
+        if self.changed:
+            made = f"{self.cut:,} cut to 32 characters and {self.numbered:,} numbered"
+            yield f"{self.changed:,} names differ from their file's path, {made}"
         long = sum(len(text) > block for text in self.texts)
         if long:
             yield f"{long:,} files are longer than a block, and each is a split of its own"
