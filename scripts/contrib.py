@@ -96,6 +96,19 @@ def help_examples(count, program):
             count.expect(line, (ran.returncode, bool(ran.stdout)), (0, True))
 
 
+def helped(count, program):
+    """The examples in the program's own help run, and the page that it names is there."""
+    for words in ([], ["check"], ["plan"], ["play"], ["run"]):
+        text = said([program, *words, "--help"])[0].decode()
+        tried = re.findall(r"mrjob (.*) < (examples/\S+)", text)
+        count.expect(f"mrjob {' '.join(words)} --help has examples", len(tried), 1 if words else 4)
+        for asks, name in tried:
+            ran = said([program, *asks.split()], (ROOT / name).read_bytes())
+            count.expect(f"mrjob {asks} < {name}", (bool(ran[0]), *ran[1:]), (True, "", 0))
+        pages = re.findall(r"docs/\S+\.md", text)
+        count.expect(f"mrjob {' '.join(words)} --help names a page", [(ROOT / it).exists() for it in pages], [True])
+
+
 def made(kind, some):
     return [make_texts.KINDS[kind](random.Random(seed)) for seed in range(1, some + 1)]
 
@@ -452,6 +465,7 @@ def main():
         drawn(count)
         for program in map(os.path.abspath, sys.argv[1:]):
             help_examples(count, program)
+            helped(count, program)
             certified(count, program)
             started(count, program)
             flows(count, program)

@@ -22,10 +22,12 @@ Statuses:
   64  the words of the command line are wrong
 
 Examples:
-  mrjob plan --prices < job.txt
-  mrjob check < plan.txt
-  mrjob play < script.txt
-  mrjob run < documents.txt";
+  mrjob plan --prices < examples/plan_swap.txt
+  mrjob check < examples/swap.txt
+  mrjob play < examples/play_death.txt
+  mrjob run < examples/run_words.txt
+
+docs/MODEL.md defines the texts and the answers.";
 
 const CHECK_ABOUT: &str = "Certifies a plan by its prices, or says which condition fails";
 
@@ -33,6 +35,8 @@ const CHECK_TEXTS: &str = "\
 Input:   a problem, a plan and its prices, as text on standard input
 Output:  `certified COUNT COST`, `refused CONDITION NAME..`, or `line LINE: fault NUMBER`
 Status:  0 certified, 1 refused, 2 fault; `mrjob --help` has the others
+Try:     mrjob check < examples/swap.txt
+More:    docs/MODEL.md, from `Certificate` on
 
 Example of an input, which is answered by `certified 1 0`:
   problem 1
@@ -57,6 +61,8 @@ Input:   a problem, as text on standard input
 Output:  `wave COUNT COST`, then `start SPLIT WORKER` for each start, and with --prices
          `price NAME NUMBER` for each split and worker; or `line LINE: fault NUMBER`
 Status:  0 planned, 2 fault; `mrjob --help` has the others
+Try:     mrjob plan --prices < examples/plan_swap.txt
+More:    docs/MODEL.md, `Texts` and `The answer of plan`
 
 Example of an input:
   problem 1
@@ -81,6 +87,8 @@ Input:   a script, as text on standard input: a cluster, its documents, and comm
 Output:  `accepted PLACE` or `ignored WHY` for each command, with the lines of what it did; at last
          the index of the documents, or the splits that are not done; or `line LINE: fault NUMBER`
 Status:  0 every part is done, 1 stuck, 2 fault, 5 history full; `mrjob --help` has the others
+Try:     mrjob play < examples/play_death.txt
+More:    docs/MODEL.md, `The answer of play` and `The master's machine`
 
 Example of an input:
   script 1
@@ -118,6 +126,8 @@ Output:  the index of the documents, or the splits that are not done; or `line L
          with --history, before these, what was done in the words of a script and its report
 Status:  0 every part is done, 1 stuck, 2 fault, 5 history full, 6 torn or no thread; `mrjob --help`
          has the others
+Try:     mrjob run < examples/run_words.txt
+More:    docs/MODEL.md, `The answer of run` and `A job on threads`
 
 Example of an input:
   job 1
