@@ -39,7 +39,7 @@ from certify import answer
 
 CONTRIB, EXAMPLES = ROOT / "contrib", ROOT / "examples"
 TALES = CONTRIB / "samples/tales"
-SCRIPTS = ["certify.py", "starts_of_plan.py", "dimacs_of_problem.py", "job_of_files.py", "picture.py"]
+SCRIPTS = [it.name for it in sorted(CONTRIB.glob("*.py")) if it.read_text().startswith("#!")]
 CERTIFIED = {"best": 120, "changed": 200, "faulty": 180}
 
 
