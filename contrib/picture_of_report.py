@@ -127,7 +127,10 @@ class Chart:
 
 def draw_report(script, report):
     """Draws a report; a Fault where it is no report of the script."""
-    history = History(script, report)
+    try:
+        history = History(script, report)
+    except (IndexError, KeyError, ValueError):
+        raise Fault("the report is not of this script") from None
     counts = f"{len(history.attempts):,} attempts, {history.place:,} events, {history.ignored:,} ignored"
     drawing = Drawing(f"{counts}; {history.ending}")
     drawing.text(0, 14, f"{counts}; at the end `{history.ending}`", 15)

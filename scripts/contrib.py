@@ -29,6 +29,7 @@ from pathlib import Path
 from xml.etree import ElementTree
 
 sys.dont_write_bytecode = True
+import demo
 import make_texts
 import pictures
 from crates import ROOT
@@ -410,14 +411,17 @@ def many_drawn(count, program):
 def installed(count, program, room):
     """What is installed runs from where it is, and is taken away again. The program is that of bin/, which the gate put
     there."""
+    if not (ROOT / "bin/mrjob").exists():
+        print("bin/mrjob is not there, so nothing was installed")
+        return
     root, prefix = room / "root", room / "root/usr"
     make = lambda what: subprocess.run(["make", "-s", what, f"DESTDIR={root}", "PREFIX=/usr"], cwd=ROOT).returncode
     count.expect("make install", make("install"), 0)
     (prefix / "share/mrjob/kept").write_text("of another")
-    for name, words in (("swap", ["check"]), ("plan_swap", ["plan"]), ("run_words", ["run"])):
-        wanted = (EXAMPLES / f"{name}.out").read_bytes()
-        count.expect(f"the installed program on {name}",
-                     said([prefix / "bin/mrjob", *words], (EXAMPLES / f"{name}.txt").read_bytes()), (wanted, "", 0))
+    for name, words, status, _ in demo.RUNS:
+        out, wrong, ended = said([prefix / "bin/mrjob", *words], (EXAMPLES / f"{name}.txt").read_bytes())
+        front = out.startswith((EXAMPLES / f"{name}.out").read_bytes())
+        count.expect(f"the demo's {name} by what is installed", (front, wrong, ended), (True, "", status))
     for name in ("check", "plan", "play", "run"):
         words = said([program, name, "--help"])[0].decode().split()
         page = re.sub(r"\\(.)", lambda it: {"e": "\\", "&": ""}.get(it[1], it[1]),
