@@ -6,9 +6,9 @@ reference_run.py say of them.
 
 The texts are the same in each run: those of `make_texts.py KIND SEED` for the seeds from 1, each front of two
 examples, a script with a death more at each of its places, problems of up to 1,023 splits, and texts at the limits
-on counts. A check's answer has to be the reference's. A plan with its prices, over either network, has to start as
-many splits at as little cost as any choice of starts, and to be certified by the reference; without prices its
-lines are the same up to them. A script's report is followed command by command. A job's answer has to be the
+on counts and bytes. A check's answer has to be the reference's. A plan with its prices, over either network, has to
+start as many splits at as little cost as any choice of starts, and to be certified by the reference; without prices
+its lines are the same up to them. A script's report is followed command by command. A job's answer has to be the
 reference's, and the end of the report of a script that brings it as far; what a run says was done is followed event by
 event. The last line counts the groups of texts that agree.
 """
@@ -23,6 +23,7 @@ import make_texts
 import reference_run
 from reference_check import answer, misplanned
 from reference_play import misplayed
+from reference_text import MAX_TEXT_BYTES
 
 CHECKED = {"best": 120, "changed": 200, "faulty": 320}
 PLANNED = {"problem": 300, "faulty_problem": 200}
@@ -59,6 +60,7 @@ def groups():
     yield "front", wrong_play, fronts("play_death.txt")
     yield "front", wrong_run, fronts("run_words.txt")
     yield "death", wrong_death, deaths("play_death.txt", [b"a", b"b"])
+    yield "full", wrong_index, [(f"a job of {over} bytes past the most", full_of_bytes(over)) for over in (0, 1)]
     limits = [(kind, over) for kind in make_texts.MOST for over in (0, 1)]
     yield "limit", wrong_check, [
         (f"{over} past the most {kind}s", make_texts.limit(kind, over)) for kind, over in limits
@@ -77,6 +79,13 @@ def many(splits):
     lines += [f"busy s{s}" for s in range(splits) if rnd.random() < 0.1]
     lines += [f"barred s{s} {rnd.choice(workers)}" for s in range(splits) if rnd.random() < 0.1]
     return make_texts.text_of([*lines, "end"])
+
+
+def full_of_bytes(over):
+    """A job of as many bytes as a text may have, or one more."""
+    front, end = b"job 1\nsilence 1000\nrack r\nworker a r 1\nsplit s 1 a\ndoc d s ", b"\nend\n"
+    room = MAX_TEXT_BYTES + over - len(front) - len(end)
+    return front + (b"some words " * room)[:room] + end
 
 
 def example(name):
@@ -140,12 +149,15 @@ def wrong_play(program, text):
     return f"it says {said}, but {wrong}" if wrong else None
 
 
-def wrong_run(program, text):
+def wrong_index(program, text):
     said, wanted = said_by(program, ["run"], text), reference_run.answer(text)
-    if said != wanted:
-        return f"it says {said}, and the reference {wanted}"
-    if said[1] == 2:
-        return None
+    return None if said == wanted else f"it says {said[0][:999]} {said[1]}, and the reference {wanted[0][:999]} {wanted[1]}"
+
+
+def wrong_run(program, text):
+    wrong, said = wrong_index(program, text), reference_run.answer(text)
+    if wrong or said[1] == 2:
+        return wrong
     report, status = said_by(program, ["play"], reference_run.script(text))
     if status != said[1] or not (b"\n" + report).endswith(b"\n" + said[0]):
         return f"it says {said}, and a script of the same job {report}"
