@@ -151,7 +151,8 @@ def wrong_play(program, text):
 
 def wrong_index(program, text):
     said, wanted = said_by(program, ["run"], text), reference_run.answer(text)
-    return None if said == wanted else f"it says {said[0][:999]} {said[1]}, and the reference {wanted[0][:999]} {wanted[1]}"
+    shown = [(out[:999], status) for out, status in (said, wanted)]
+    return None if said == wanted else f"it says {shown[0]}, and the reference {shown[1]}"
 
 
 def wrong_run(program, text):

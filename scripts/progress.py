@@ -1,6 +1,6 @@
 #!/usr/bin/env python3
-"""Tries what `mrjob run` tells a terminal: on standard error a line once a second has passed, which is taken away at the
-end; nothing with --quiet, or where standard error is no terminal.
+"""Tries what `mrjob run` tells a terminal: on standard error a line once a second has passed, which is taken away at
+the end; nothing with --quiet, or where standard error is no terminal.
 
     progress.py PROGRAM..
 

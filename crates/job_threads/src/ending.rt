@@ -48,9 +48,10 @@ pub(crate) fn record_of(
 pub(crate) fn outcome_of(ran: Record) -> Outcome
     ensures { (texts : List SplitDocuments) → IsRecordOf texts ran → IsOutcomeOf texts result }
 {
-    match ran.index {
+    let Record { master, index } = ran;
+    match index {
         Some(index) => Outcome::Done(index),
-        None => Outcome::Stuck(ran.master),
+        None => Outcome::Stuck(master),
     }
 }
 
@@ -59,10 +60,17 @@ fn is_done(texts: &[Arc<SplitText>], master: &Master) -> bool
     ensures { IsTrue result → IsDoneOn (values_of texts.now) master.now }
 {
     master.is_kept();
-    if !are_equal_texts(master.texts(), texts) {
+    if !has_texts(texts, master) {
         return false;
     }
     master.glance().open_parts == 0
+}
+
+// Whether these are the texts of the master's job.
+fn has_texts(texts: &[Arc<SplitText>], master: &Master) -> bool
+    ensures { IsTrue result → master.now.setup.cluster.texts ≡ values_of texts.now }
+{
+    are_equal_texts(master.texts(), texts)
 }
 
 // The index of these texts, made of the results that the master has.
@@ -92,7 +100,7 @@ fn is_stuck(texts: &[Arc<SplitText>], master: &Master) -> bool
     ensures { IsTrue result → IsStuckWith (values_of texts.now) master.now }
 {
     master.is_kept();
-    if !are_equal_texts(master.texts(), texts) {
+    if !has_texts(texts, master) {
         return false;
     }
     let glance = master.glance();

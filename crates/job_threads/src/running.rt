@@ -91,8 +91,7 @@ fn run_on<L: Ledger + Send + Sync, G: Gate, O: Observer, R: Threads + Wait + Clo
         return Err(RunError::Memory);
     };
     let shared: SharedMaster<L> = SharedMaster::new(blank, master);
-    let common = Common::new(&shared, gate, parts);
-    let ended = run_shared(rt, alloc, &common, observer, aims)?;
+    let ended = run_shared(rt, alloc, &shared, gate, observer, parts, aims)?;
     conclude(alloc, parts, &texts, shared, ended)
 }
 
@@ -134,13 +133,19 @@ fn aims_of(alloc: Global, cluster: &Cluster, target: usize, room: Limits) -> Res
 }
 
 // Makes the hands, the lanes and the seats, and runs the threads.
-fn run_shared<L: Ledger + Send + Sync, G: Gate, O: Observer, R: Threads + Wait + Clock + Sync>(
+fn run_shared<'a, L: Ledger + Send + Sync, G: Gate, O: Observer, R: Threads + Wait + Clock + Sync>(
     rt: &R,
     alloc: Global,
-    common: &Common<'_, L, G>,
+    shared: &'a SharedMaster<L>,
+    gate: &'a G,
     observer: &O,
+    parts: usize,
     aims: Aims,
-) -> Result<Ended<L>, RunError> {
+) -> Result<Ended<L>, RunError>
+    requires some { 0 < parts }
+    requires few { parts ≤ 64 }
+{
+    let common = Common::new(shared, gate, parts);
     let Aims {
         watch,
         texts,
@@ -150,7 +155,7 @@ fn run_shared<L: Ledger + Send + Sync, G: Gate, O: Observer, R: Threads + Wait +
         workers,
         room,
     } = aims;
-    let hand = hand_of(rt, alloc, common.shared, room)?;
+    let hand = hand_of(rt, alloc, shared, room)?;
     let mut caller = Caller {
         hand,
         watch,
@@ -166,8 +171,8 @@ fn run_shared<L: Ledger + Send + Sync, G: Gate, O: Observer, R: Threads + Wait +
         waves: 0,
         deaths: 0,
     };
-    let all = make_workers(rt, alloc, common.shared, &mut caller, workers)?;
-    Ok(run_threads(rt, alloc, common, caller, all, observer))
+    let all = make_workers(rt, alloc, shared, &mut caller, workers)?;
+    Ok(run_threads(rt, alloc, &common, caller, all, observer))
 }
 
 // Settles, and tells how the job ended.

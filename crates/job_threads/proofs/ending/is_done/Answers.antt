@@ -6,7 +6,7 @@ pub returns : goal.returns
 returns c = λ is_done. (
     record {
       legal = c.is_kept.ensures.legal;
-      texts = sym c.texts.ensures ∙ c.are_equal_texts.ensures.0 (search rules);
+      texts = c.has_texts.ensures (search rules);
       done = sym (none_open c.args.master.now.state.parts)
           ∙ ap (λ (n : ℕ). n == 0) (sym c.glance.ensures.open_parts) ∙ is_done;
     })

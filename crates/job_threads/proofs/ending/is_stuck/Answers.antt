@@ -10,7 +10,7 @@ returns c = λ is_open. (
     let some : 0 < c.glance-glance.result.open_parts = search rules in
     record {
       legal = c.is_kept.ensures.legal;
-      texts = sym c.texts.ensures ∙ c.are_equal_texts.ensures.0 (search rules);
+      texts = c.has_texts.ensures (search rules);
       idle = sym glance.running ∙ (search rules);
       unready = λ ready. false≢true (sym c.if-glance.false ∙ glance.ready.1 ready);
       irreducible = not_false _ (sym glance.reducible ∙ c.if-glance-2.false);
