@@ -1,4 +1,4 @@
-ghost use Rattle.std.specs.Prelude.{◌≡◌, ◌≢◌, ◌≤◌, ◌++◌, List, Err, IfOk, OnOk, length, string_bytes, true, false};
+ghost use Rattle.std.specs.Prelude.{◌≡◌, ◌≢◌, ◌≤◌, ◌++◌, List, Err, IfOk, OnOk, length, string_bytes, true, false, [], if◌then◌else◌};
 ghost use Rattle.word_map.specs.Texts.{SplitDocuments};
 ghost use Rattle.shuffle_reduce.specs.Gather.{values_of};
 ghost use Rattle.text_reading.specs.Running.{AnyLines, HasRun, NoText, WroteItsAnswer, outcome};
@@ -239,19 +239,26 @@ fn tell_run(
         → IfOk result (λ told. TellsRun texts names.now asked told.1 (string_bytes told.0)) }
 {
     let mut lines = String::new(alloc);
-    if asked {
-        add_done(names, &ran.master, &mut lines)?;
-    }
+    add_done(names, &ran.master, asked, &mut lines)?;
     let end = add_ending(alloc, names, ran, &mut lines)?;
     Ok((lines, end))
 }
 
-// The lines of all that was done.
-fn add_done(names: &Names<'_>, master: &Master, lines: &mut String) -> Result<(), AllocError>
+// The lines of all that was done, where they are asked for.
+fn add_done(
+    names: &Names<'_>,
+    master: &Master,
+    asked: bool,
+    lines: &mut String,
+) -> Result<(), AllocError>
     requires named { length names.now.splits ≡ length master.now.setup.cluster.texts }
     requires few { length names.now.workers ≤ 32 }
-    ensures { OnOk result (string_bytes lines.new ≡ string_bytes lines.old ++ done_lines names.now master.now) }
+    ensures { OnOk result (string_bytes lines.new
+        ≡ string_bytes lines.old ++ (if asked then done_lines names.now master.now else [])) }
 {
+    if !asked {
+        return Ok(());
+    }
     master.is_kept();
     let (splits, workers) = (&names.splits, &names.workers);
     let (starts, sweeps) = (master.starts(), master.sweeps());

@@ -4,7 +4,7 @@ use Rattle.job_run.specs.Playing.{PerformedAll}
 use Rattle.job_run.proofs.player.perform_all.Given as goal
 
 abbrev pub invariant-loop-command : goal.invariant-loop-command
-invariant-loop-command l = record {
+invariant-loop-command g l = record {
   setup : l.master.setup ≡ l.initial.master.setup;
   given : HoldsRuns l.given l.master;
   performed : PerformedAll l.script.names l.script.target l.initial.master
