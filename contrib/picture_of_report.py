@@ -2,7 +2,8 @@
 from drawing import Drawing, shortened, width_of
 from texts import Fault
 
-WIDE = 1040
+# How wide a chart is of few events, and of many.
+FEW, NARROW, WIDE = 60, 640, 1040
 # How an attempt ended: the class of its bar, and the words of its title.
 ENDS = {
     "done": ("good", "done"),
@@ -111,10 +112,11 @@ class History:
 class Chart:
     """Where the history's places and the workers' rows lie."""
 
-    def __init__(self, history, top):
+    def __init__(self, history, wide, top):
         workers = len(history.slots)
         self.top, self.row = top, 26 if workers <= 16 else 16 if workers <= 64 else 9
         self.size = 11 if workers <= 64 else 8
+        self.wide = wide
         self.names = min(max([len(name) for name in history.slots], default=1), 16)
         self.left = width_of(self.names, self.size) + 10
         self.last = max(history.place + 1, 2)
@@ -122,7 +124,7 @@ class Chart:
         self.bottom = top + workers * self.row
 
     def x(self, place):
-        return self.left + WIDE * (place - 0.5) / (self.last - 0.5)
+        return self.left + self.wide * (place - 0.5) / (self.last - 0.5)
 
 
 def draw_report(script, report):
@@ -134,8 +136,8 @@ def draw_report(script, report):
     counts = f"{len(history.attempts):,} attempts, {history.place:,} events, {history.ignored:,} ignored"
     drawing = Drawing(f"{counts}; {history.ending}")
     drawing.text(0, 14, f"{counts}; at the end `{history.ending}`", 15)
-    chart = Chart(history, 66)
-    legend(drawing, history)
+    wide = NARROW if history.place <= FEW else WIDE
+    chart = Chart(history, wide, 62 + legend(drawing, history, wide))
     frame(drawing, chart, history)
     lanes = {}
     for attempt in history.attempts.values():
@@ -148,26 +150,23 @@ def draw_report(script, report):
     return drawing
 
 
-def legend(drawing, history):
-    """The kinds of bars and marks that the picture has."""
-    x, y = 0, 24
+def legend(drawing, history, wide):
+    """The kinds of bars and marks that the picture has, in rows, and how high these are."""
     found = {it.how for it in history.attempts.values()}
     kinds = {it.kind for it in history.attempts.values()}
-    for how in (it for it in ENDS if it in found):
-        shape(drawing, x, y, 22, 12, "map", how, "")
-        drawing.text(x + 28, y + 10, how, 11)
-        x += width_of(len(how), 11) + 44
-    for kind in (it for it in ("part", "backup") if it in kinds):
-        shape(drawing, x, y, 22, 12, kind, "done", "")
-        drawing.text(x + 28, y + 10, kind, 11)
-        x += width_of(len(kind), 11) + 44
-    if history.deaths:
-        cross(drawing, x + 6, y + 6, 5)
-        drawing.text(x + 18, y + 10, "death", 11)
-        x += 68
-    if history.returns:
-        arrow(drawing, x + 6, y + 6, 5)
-        drawing.text(x + 18, y + 10, "return", 11)
+    bar_of = lambda kind, how: lambda x, y: shape(drawing, x, y, 22, 12, kind, how, "")
+    entries = [(how, bar_of("map", how)) for how in ENDS if how in found]
+    entries += [(kind, bar_of(kind, "done")) for kind in ("part", "backup") if kind in kinds]
+    entries += [("death", lambda x, y: cross(drawing, x + 14, y + 6, 5))] * bool(history.deaths)
+    entries += [("return", lambda x, y: arrow(drawing, x + 14, y + 6, 5))] * bool(history.returns)
+    x, y = 0, 24
+    for words, draw in entries:
+        if x + 28 + width_of(len(words), 11) > wide:
+            x, y = 0, y + 18
+        draw(x, y)
+        drawing.text(x + 28, y + 10, words, 11)
+        x += width_of(len(words), 11) + 44
+    return y - 20
 
 
 def cross(drawing, x, y, size):
@@ -181,10 +180,10 @@ def arrow(drawing, x, y, size):
 
 def frame(drawing, chart, history):
     """The rows with their workers, the waves as ticks, and the places along the foot."""
-    right = chart.left + WIDE
+    right = chart.left + chart.wide
     for at, (name, top) in enumerate(chart.rows.items()):
         if at % 2 == 0:
-            drawing.box(chart.left, top, WIDE, chart.row, "box", more=' stroke="none" style="stroke:none"')
+            drawing.box(chart.left, top, chart.wide, chart.row, "box", more=' stroke="none" style="stroke:none"')
         drawing.text(0, top + chart.row / 2 + chart.size / 3, shortened(name, chart.names), chart.size)
     after = -100
     for number, (place, _) in enumerate(history.waves, 1):

@@ -397,12 +397,13 @@ def many_drawn(count, program):
         problem, plan = Path(room) / "problem", Path(room) / "plan"
         problem.write_bytes(text)
         plan.write_bytes(said([program, "plan", "--prices"], text)[0])
-        drawing = ElementTree.fromstring(script("picture.py", problem, plan)[0])
-        titles = [it.text for it in drawing.iter() if it.tag.endswith("title") and it.text.endswith(" steps")]
+        drawing, *ended = script("picture.py", problem, plan)
+        count.expect("a picture of 256 workers", ended, ["", 0])
+        titles = re.findall("<title>([^<]* steps)</title>", drawing.decode())
         starts = [line.split() for line in plan.read_text().splitlines() if line.startswith("start")]
         said_of = [(words[1], words[2]) for words in starts]
-        shown = [tuple(re.match(r"(\S+) of \S+ bytes on (\S+): ", it).groups()) for it in titles]
-        count.expect("the picture of 256 workers has each start", sorted(shown), sorted(said_of))
+        drawn_of = [tuple(re.match(r"(\S+) of \S+ bytes on (\S+): ", it).groups()) for it in titles]
+        count.expect("the picture of 256 workers has each start", sorted(drawn_of), sorted(said_of))
     sample = CONTRIB / "samples/wave"
     count.expect("samples/wave.out is a best plan", said([program, "plan"], sample.with_suffix(".txt").read_bytes())[0]
                  .splitlines()[0], sample.with_suffix(".out").read_bytes().splitlines()[0])
