@@ -405,8 +405,9 @@ def many_drawn(count, program):
         drawn_of = [tuple(re.match(r"(\S+) of \S+ bytes on (\S+): ", it).groups()) for it in titles]
         count.expect("the picture of 256 workers has each start", sorted(drawn_of), sorted(said_of))
     sample = CONTRIB / "samples/wave"
-    count.expect("samples/wave.out is a best plan", said([program, "plan"], sample.with_suffix(".txt").read_bytes())[0]
-                 .splitlines()[0], sample.with_suffix(".out").read_bytes().splitlines()[0])
+    planned = said([program, "plan"], sample.with_suffix(".txt").read_bytes())[0]
+    recorded = sample.with_suffix(".out").read_bytes()
+    count.expect("samples/wave.out is a best plan", planned.splitlines()[:1], recorded.splitlines()[:1])
 
 
 def installed(count, program, room):
