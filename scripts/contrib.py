@@ -92,7 +92,8 @@ def help_examples(count, program):
     for name in SCRIPTS:
         doc = ast.get_docstring(ast.parse((CONTRIB / name).read_text()))
         for line in re.findall(r"^ {4}(contrib/.*)$", doc, re.M):
-            words = line.replace("bin/mrjob", shlex.quote(str(program)))
+            # (what would go to a file is read here)
+            words = line.partition(" > ")[0].replace("bin/mrjob", shlex.quote(str(program)))
             ran = subprocess.run(["bash", "-o", "pipefail", "-c", words], cwd=ROOT, capture_output=True)
             count.expect(line, (ran.returncode, bool(ran.stdout)), (0, True))
 
