@@ -32,7 +32,7 @@ sys.dont_write_bytecode = True
 import demo
 import make_texts
 import pictures
-from crates import ROOT
+from crates import ROOT, read_crates
 from reference_play import misplayed
 
 sys.path.append(str(ROOT / "contrib"))
@@ -448,6 +448,17 @@ def installed(count, program, room):
     count.expect("what was not installed is left", left, ["share/mrjob/kept"])
 
 
+def mapped(count):
+    """docs/MAP.md has a row for each crate, but for crates of tests, which it names, and no cell past 60 words."""
+    text = (ROOT / "docs/MAP.md").read_text()
+    rows = re.findall(r"^\| `(\w+)` \|", text, re.M)
+    names = [it for it in read_crates() if not it.endswith("_tests")]
+    count.expect("each crate has a row in docs/MAP.md", sorted(rows), sorted(names))
+    count.none("docs/MAP.md names each crate", [it for it in read_crates() if f"`{it}`" not in text])
+    cells = [cell for line in text.splitlines() if line.startswith("|") for cell in line.split("|")]
+    count.none("no cell of docs/MAP.md is past 60 words", [it for it in cells if len(it.split()) > 60])
+
+
 def shown(count, program):
     """Each command that the README shows writes the lines below it; it has at most 1,000 words."""
     text = (ROOT / "README.md").read_text()
@@ -470,6 +481,7 @@ def main():
         placed(count, Path(room))
         refused(count, Path(room))
         drawn(count)
+        mapped(count)
         for program in map(os.path.abspath, sys.argv[1:]):
             help_examples(count, program)
             helped(count, program)
