@@ -1,0 +1,127 @@
+#!/usr/bin/python3
+"""The inverted index of files, by a Dask cluster that runs, each wave of its maps placed by `mrjob plan`.
+
+    dask-scheduler &
+    dask-worker tcp://HOST:8786 --name r0.w0 --nthreads 2 &         one on each node
+    contrib/dask/index.py FOLDER --scheduler tcp://HOST:8786 --planner "bin/mrjob plan" --check
+
+The files below FOLDER are cut in blocks and laid in the memory of workers, as HDFS would lay them. Or blocks lie on the
+nodes' disks already: by `--table FILE`, of lines `FILE OFFSET BYTES NODE..`, each being a worker's name or host, a map
+reads its block from its own disk or from that of the nearest holder; by `--hdfs FILE`, which has what `hdfs fsck PATH
+-files -blocks -locations` prints, it reads from `--webhdfs ADDRESS`. A worker's place is a line `NAME RACK [CENTRE]` of
+the topology, else the rack is its name up to the first dot, else one for all.
+
+The index is written in the lines of `mrjob run`: `index N`, and `word WORD DOCUMENT..` for each. The status is 1 where
+a block has no living holder, and 2 where the cluster or an answer does not fit; then nothing is written.
+"""
+from __future__ import annotations
+
+import argparse
+import itertools
+import sys
+from random import Random
+from typing import Callable, Optional, TextIO
+
+from distributed import Client
+
+from blocks import Blocks, FileBlocks, KeyBlocks, as_hdfs, read_listing, read_table, read_web
+from calls import look, read_from
+from job import Job, LostBlock, Work
+from planner import Place, Unfit, planner_of
+from report import progress, report_lines
+from words import blocks_of, index_lines, map_words, reduce_words, texts_of
+
+
+def places_of(topology: Optional[str]) -> Callable[[str], Place]:
+    """The place of a worker by its name."""
+    table = {}
+    if topology:
+        with open(topology, encoding="utf-8") as file:
+            table = {name: Place(*place) for name, *place in map(str.split, file) if place}
+    return lambda name: table.get(name) or Place(name.partition(".")[0] if "." in name else "default")
+
+
+def laid(client: Client, asked: argparse.Namespace, place_of: Callable[[str], Place]) -> KeyBlocks:
+    """The files of a folder as blocks in the memory of workers."""
+    places = {at: place_of(it.name) for at, it in look(client, []).workers.items()}
+    if not places:
+        raise Unfit("there is no worker")
+    blocks, rnd = KeyBlocks(client, f"mrjob-{client.id}", asked.replicas), Random(asked.seed)
+    for data, pieces in blocks_of(texts_of(asked.folder), itertools.repeat(asked.block)):
+        blocks.put(data, pieces, as_hdfs(places, rnd, asked.replicas))
+    blocks.lay()
+    return blocks
+
+
+def blocks_asked(client: Client, asked: argparse.Namespace, place_of: Callable[[str], Place]) -> Blocks:
+    """The blocks that the words of the command speak of."""
+    if asked.folder:
+        return laid(client, asked, place_of)
+    with open(asked.table or asked.hdfs, encoding="utf-8") as file:
+        rows = (read_table if asked.table else read_listing)(file)
+    return FileBlocks(client, rows, read_web(asked.webhdfs) if asked.webhdfs else read_from)
+
+
+def words_of() -> argparse.Namespace:
+    parser = argparse.ArgumentParser(description=__doc__, formatter_class=argparse.RawDescriptionHelpFormatter)
+    add = parser.add_argument
+    add("folder", nargs="?", help="files below it are laid on the workers")
+    add("--table", help="blocks in files, in lines FILE OFFSET BYTES NODE..")
+    add("--hdfs", help="blocks in HDFS, as fsck lists them")
+    add("--webhdfs", help="where HDFS is read, such as http://NAMENODE:9870")
+    add("--scheduler", required=True, help="the address of Dask's scheduler")
+    add("--planner", default="bin/mrjob plan", help="a command, or `library`")
+    add("--check", action="store_true", help="let each plan be checked by its prices")
+    add("--topology", help="lines NAME RACK [CENTRE]")
+    add("--replicas", type=int, default=3, help="so many workers hold a block that is laid")
+    add("--block", type=int, default=1 << 20, help="its bytes")
+    add("--parts", type=int, default=8, help="into how many parts words are divided")
+    add("--seed", type=int, default=1, help="which places blocks are laid at")
+    add("--out", help="where the index is written; standard output else")
+    add("--report", help="where it is told what was started and carried")
+    asked = parser.parse_args()
+    if sum(map(bool, (asked.folder, asked.table, asked.hdfs))) != 1:
+        parser.error("one of FOLDER, --table and --hdfs is wanted")
+    return asked
+
+
+def write(lines: list[str], out: TextIO) -> None:
+    out.writelines(f"{line}\n" for line in lines)
+
+
+def run(asked: argparse.Namespace) -> None:
+    """Runs the job on the cluster, and writes index and report once it is done."""
+    place_of = places_of(asked.topology)
+    with Client(asked.scheduler) as client:
+        client.amm.stop()  # it would drop replicas
+        blocks = blocks_asked(client, asked, place_of)
+        work = Work(map_words, reduce_words, asked.parts)
+        job = Job(client, blocks, planner_of(asked.planner, asked.check), work, place_of, progress)
+        lines = index_lines(job.run())
+        report = report_lines(job)
+    if asked.report:
+        with open(asked.report, "w", encoding="utf-8") as file:
+            write(report, file)
+    if asked.out:
+        with open(asked.out, "w", encoding="utf-8") as file:
+            write(lines, file)
+    else:
+        write(lines, sys.stdout)
+    write(report[-1:], sys.stderr)
+
+
+def main() -> int:
+    asked = words_of()
+    try:
+        run(asked)
+    except LostBlock as why:
+        print(f"index.py: {why}", file=sys.stderr)
+        return 1
+    except (Unfit, OSError) as why:
+        print(f"index.py: {why}", file=sys.stderr)
+        return 2
+    return 0
+
+
+if __name__ == "__main__":
+    sys.exit(main())
