@@ -137,11 +137,11 @@ class Job:
             status = attempt.future.status
             if status == "finished":
                 attempt.end = "done"
-            if status == "error":
+            if status == "error" and attempt.source in seen.workers:
                 attempt.end = "failed"
                 if len(self.failed_on(split)) >= min(MOST_TRIES, len(seen.workers)):
                     attempt.future.result()
-            elif status in ("cancelled", "lost") or seen.states.get(attempt.future.key) == "no-worker":
+            elif status in ("error", "cancelled", "lost") or seen.states.get(attempt.future.key) == "no-worker":
                 attempt.end = "lost"
             if attempt.end in ("failed", "lost"):
                 self.client.cancel([self.maps.pop(split).future], force=True)

@@ -1,0 +1,204 @@
+"""Jobs on a cluster of this machine, in which workers die, maps fail and others' tasks run: what must hold, by counts.
+
+Nothing depends on time: where something has to happen while a task runs, the task waits for a file.
+"""
+from __future__ import annotations
+
+from collections import Counter
+from typing import Callable
+
+from blocks import FileBlocks, Row
+from calls import look, sent_keys, sent_pieces
+from cluster import Cluster
+from job import LostBlock
+from planner import Planner, distance
+from trial import NAMES, Count, Gate, Trial, Watched, place_of
+from words import index_lines, map_words
+
+
+def carried(trial: Trial, blocks) -> Counter:
+    """The blocks that workers sent one another so far, by the senders' own logs: (block, sender, receiver, bytes)."""
+    if isinstance(blocks, FileBlocks):
+        return Counter(sent_pieces(trial.here.client))
+    keys = {*blocks.keys()}
+    return Counter(it for it in sent_keys(trial.here.client) if it[0] in keys)
+
+
+def within_slots(job: Watched) -> bool:
+    return all(
+        number <= it.wave.slots[worker] <= 1
+        for it in job.waves for worker, number in Counter(it.starts.values()).items()
+    )
+
+
+def undisturbed(trial: Trial, count: Count, sort: str) -> None:
+    """Nobody dies: what was carried is what was planned."""
+    blocks = getattr(trial, sort)()
+    with trial.room() as room:
+        before = carried(trial, blocks)
+        job = trial.job(blocks, Gate(room), set(), lambda job: None)
+        lines = index_lines(job.run())
+    places = {address: place_of(name) for name, address in trial.here.addresses().items()}
+    steps = sum(size * distance(places, a, b) for _, a, b, size in (carried(trial, blocks) - before).elements())
+    planned = sum(it.cost for it in job.waves)
+    count.holds(f"{sort}: the index is that of the reference", lines == trial.wanted)
+    count.holds(f"{sort}: what was carried, by distance, is what was planned", steps == planned > 0, steps, planned)
+    count.holds(f"{sort}: each block starts once", len(job.attempts) == len(blocks.pieces) == len(job.ended("done")))
+    count.holds(f"{sort}: no wave starts more on a worker than it has slots", within_slots(job))
+
+
+def killer(trial: Trial, gate: Gate, is_time: Callable[[Watched], str], killed: list) -> Callable[[Watched], None]:
+    """A step that kills the worker that `is_time` names, once, notes how many maps it had, and opens the gate."""
+
+    def step(job: Watched) -> None:
+        name = "" if killed else is_time(job)
+        if name:
+            killed.extend([name, sum(job.names[it.worker] == name for it in job.maps.values())])
+            trial.here.kill(name)
+            gate.open()
+
+    return step
+
+
+def first_started(job: Watched) -> str:
+    return job.names[job.attempts[0].worker] if job.attempts else ""
+
+
+def most_done(job: Watched) -> str:
+    """Whoever has the most done maps, once there are twelve."""
+    done = Counter(it.worker for it in job.maps.values() if it.future.status == "finished")
+    return job.names[done.most_common(1)[0][0]] if done.total() >= 12 else ""
+
+
+def with_result(job: Watched) -> str:
+    """Whoever has a done map, once a part is done."""
+    return job.names[next(iter(job.maps.values())).worker] if job.results else ""
+
+
+DEATHS = {"a running map": first_started, "a done map": most_done, "reduces": with_result}
+
+
+def death(trial: Trial, count: Count, sort: str, when: str) -> None:
+    """A worker dies: what it had is made again, and nothing else."""
+    blocks = getattr(trial, sort)()
+    firsts = [pieces[0] for pieces in blocks.pieces.values()]
+    closed = {"a running map": {*firsts}, "a done map": {*firsts[-3:]}, "reduces": set()}[when]
+    killed: list = []
+    with trial.room() as room:
+        gate = Gate(room)
+        step = killer(trial, gate, DEATHS[when], killed)
+        job = trial.job(blocks, gate, closed, step, when == "reduces")
+        lines = index_lines(job.run())
+    seen = look(trial.here.client, blocks.keys())
+    says = f"{sort}, a death at {when}"
+    count.holds(f"{says}: the index is that of the reference", lines == trial.wanted)
+    gone = [*job.ended("lost"), *job.ended("failed")]
+    own = [it for it in gone if job.names[it.worker] == killed[0]]
+    reads = [it for it in gone if job.names[it.source] == killed[0] and it not in own]
+    count.holds(f"{says}: just its maps and its readers' are lost", len(own) == killed[1] > 0 and len(gone) == len(own + reads))
+    count.holds(f"{says}: a start more for each", len(job.attempts) == len(blocks.pieces) + len(gone))
+    count.holds(f"{says}: no wave starts more on a worker than it has slots", within_slots(job))
+    count.holds(f"{says}: no part that was done is started again", not any(a & b for a, b in job.seen_rounds))
+    if when == "reduces":
+        count.holds(f"{says}: there was such a part", any(a for a, _ in job.seen_rounds))
+    if sort == "keys":
+        held = [len(blocks.holders(it, seen)) for it in blocks.pieces]
+        count.holds(f"{says}: each block has three holders again", min(held) >= 3, held)
+    trial.here.revive(NAMES)
+
+
+def lost_key(trial: Trial, count: Count) -> None:
+    """The only holder of a block that waits dies: its name ends the job."""
+    blocks, killed, said = trial.keys(replicas=1), [], ""
+    with trial.room() as room:
+        gate = Gate(room)
+        step = killer(trial, gate, first_started, killed)
+        job = trial.job(blocks, gate, {pieces[0] for pieces in blocks.pieces.values()}, step)
+        try:
+            job.run()
+        except LostBlock as why:
+            said = str(why)
+    of_killed = {it for it in blocks.pieces if it not in job.maps and not blocks.holders(it, job.look()[0])}
+    count.holds("a key without a living holder ends the job", said.partition(" has no living")[0] in of_killed, said)
+    trial.here.revive(NAMES)
+
+
+def lost_file(trial: Trial, count: Count) -> None:
+    """A block in a file that no worker holds."""
+    said = ""
+    with trial.room() as room:
+        rows = [Row("here", 0, 0, NAMES), Row("a file", 5, 7, ["nobody"])]
+        try:
+            trial.job(FileBlocks(trial.here.client, rows), Gate(room), set(), lambda job: None).run()
+        except LostBlock as why:
+            said = str(why)
+    count.holds("a file without a living holder ends the job", said == "a%20file@5 has no living holder", said)
+
+
+def lost_files(trial: Trial, count: Count) -> None:
+    """The files of one disk are gone: the maps that fail there are started elsewhere."""
+    blocks, bad = trial.files(), trial.here.disk(NAMES[0])
+    hidden = {path: path.read_bytes() for path in bad.glob("*.md")}
+    for path in hidden:
+        path.unlink()
+    with trial.room() as room:
+        job = trial.job(blocks, Gate(room), set(), lambda job: None)
+        lines = index_lines(job.run())
+    for path, data in hidden.items():
+        path.write_bytes(data)
+    again = Counter((it.split, it.worker) for it in job.attempts).most_common(1)[0][1]
+    count.holds("a disk that lost files: the index is that of the reference", lines == trial.wanted)
+    count.holds("a disk that lost files: maps failed, and none twice at one place", job.ended("failed") and again == 1)
+
+
+def failing(trial: Trial, count: Count) -> None:
+    """A map that fails everywhere ends the job by what it raised."""
+
+    def fails(data, pieces, parts):
+        raise ValueError("this map fails")
+
+    job, said = trial.job(trial.keys(), Gate("/"), set(), lambda job: None), ""
+    job.work = job.work._replace(map=fails)
+    try:
+        job.run()
+    except ValueError as why:
+        said = str(why)
+    most = Counter(it.split for it in job.attempts).most_common(1)[0][1]
+    count.holds("a map that always fails ends the job after four tries", (said, most) == ("this map fails", 4), said, most)
+
+
+def beside_others(trial: Trial, count: Count) -> None:
+    """Others' tasks take slots."""
+    client, address = trial.here.client, trial.here.addresses()
+    with trial.room() as room:
+        gate = Gate(room)
+        waits = gate.map({("", 0, 0)})
+        tasks = [
+            client.submit(waits, b"", [("", 0, 0)], 1, key=f"others-{name}", workers=[address[name]])
+            for name in NAMES[:4]
+        ]
+        while sum(len(it.busy) for it in look(client, []).workers.values()) < len(tasks):
+            pass
+        step = lambda job: gate.open() if len(job.ended("done")) > 8 else None
+        job = trial.job(trial.keys(), gate, set(), step)
+        lines = index_lines(job.run())
+        client.gather(tasks)
+    free = {job.names[it] for it, number in job.waves[0].wave.slots.items() if number}
+    count.holds("beside others' tasks: the index is that of the reference", lines == trial.wanted)
+    count.holds("beside others' tasks: the first wave goes to those that are free", free == {*NAMES[4:]}, free)
+
+
+def jobs(planner: Planner, count: Count, more: Callable[[Trial, Count], None]) -> None:
+    """All of them on one cluster, and what else is tried on it."""
+    with Cluster(3, 2) as here:
+        trial = Trial(here, planner)
+        for sort in ("files", "keys"):
+            undisturbed(trial, count, sort)
+            for when in DEATHS:
+                death(trial, count, sort, when)
+        lost_file(trial, count)
+        lost_files(trial, count)
+        failing(trial, count)
+        beside_others(trial, count)
+        more(trial, count)
+        lost_key(trial, count)

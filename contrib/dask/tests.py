@@ -1,0 +1,240 @@
+#!/usr/bin/python3
+"""Tests of a job on a Dask cluster: words and waves against the references of scripts/, and then jobs on a cluster.
+
+    tests.py PROGRAM            by the built program, from the folder of the repository
+
+The last line is 'N passed, M failed'.
+"""
+from __future__ import annotations
+
+import json
+import os
+import subprocess
+import sys
+import threading
+from http.server import BaseHTTPRequestHandler, ThreadingHTTPServer
+from pathlib import Path
+from random import Random
+from urllib.parse import parse_qs, urlsplit
+
+sys.dont_write_bytecode = True
+from blocks import as_hdfs
+from job import Work
+from planner import Command, Library, Place, Planner, Split, Unfit, Wave, planner_of, wave_of
+from test_jobs import jobs
+from trial import NAMES, ROOT, Count, Trial, index_of, place_of
+from words import blocks_of, index_lines, map_words, reduce_words
+
+import reference_check
+
+INDEX = str(Path(__file__).resolve().with_name("index.py"))
+
+
+def words(count: Count) -> None:
+    """Texts cut at any bytes give the reference's index."""
+    wrong = []
+    for seed in range(200):
+        rnd = Random(seed)
+        documents = [(f"d{it}", bytes(rnd.choices(b"aB -", k=rnd.randint(0, 40)))) for it in range(rnd.randint(1, 6))]
+        sizes = iter(lambda: rnd.randint(1, 12), None)
+        parts = rnd.randint(1, 3)
+        outputs = [map_words(data, pieces, parts) for data, pieces in blocks_of(documents, sizes)]
+        results = [reduce_words([output[part] for output in outputs]) for part in range(parts)]
+        wrong += [seed] * (index_lines(results) != index_of(documents))
+    count.holds("200 texts, cut at any bytes: the index is that of the reference", not wrong, wrong)
+
+
+class Direct(reference_check.Wave):
+    """A wave as the reference takes it, from its numbers and no text."""
+
+    def __init__(self, wave: Wave) -> None:
+        racks, workers = sorted({*wave.places.values()}), [*wave.places]
+        centres = sorted({it.centre for it in racks})
+        self.splits, self.workers = [*wave.splits], workers
+        self.centre_of = [centres.index(it.centre) for it in racks]
+        self.rack_of = [racks.index(wave.places[it]) for it in workers]
+        self.free, self.live = [wave.slots[it] for it in workers], [True] * len(workers)
+        self.bytes = [it.bytes for it in wave.splits.values()]
+        self.holders = [[workers.index(at) for at in it.holders] for it in wave.splits.values()]
+        self.pending = [True] * len(self.splits)
+        self.barred = {
+            (number, workers.index(at)) for number, it in enumerate(wave.splits.values()) for at in it.barred
+        }
+
+
+def some_wave(rnd: Random) -> Wave:
+    places = {f"tcp://{it}": Place(f"r{rnd.randint(0, 1)}", f"c{rnd.randint(0, 1)}") for it in range(rnd.randint(1, 5))}
+    workers = [*places]
+    sample = lambda most: rnd.sample(workers, rnd.randint(0, min(most, len(workers))))
+    splits = {f"block {it}": Split(rnd.randint(0, 99), sample(3), sample(1)) for it in range(rnd.randint(0, 6))}
+    return wave_of(places, {it: rnd.randint(0, 2) for it in workers}, splits)
+
+
+def misplanned(planner: Planner, wave: Wave) -> bool:
+    """Whether a plan has a pair that may not start, or is not best."""
+    plan, direct = planner.plan(wave), Direct(wave)
+    pairs = [(direct.splits.index(split), direct.workers.index(at)) for split, at in plan.starts.items()]
+    loads = [sum(at == worker for _, at in pairs) for worker in range(len(direct.workers))]
+    is_fit = all(direct.is_admissible(*it) for it in pairs) and all(map(int.__le__, loads, direct.free))
+    cost = sum(direct.cost(*it) for it in pairs)
+    return not is_fit or (len(pairs), cost) != reference_check.most_and_least(direct) or plan.cost != cost
+
+
+def waves(program: str, count: Count) -> None:
+    """Plans of small clusters are best, by the reference, and are checked."""
+    planners: dict[str, Planner] = {"plan": Command(f"{program} plan"), "plan and check": Command(f"{program} plan", True)}
+    try:
+        planners["the library"] = Library(True)
+    except ImportError as why:
+        print(f"the library was left out: {why}")
+    for name, planner in planners.items():
+        wrong = [seed for seed in range(100) if misplanned(planner, some_wave(Random(seed)))]
+        count.holds(f"100 clusters, by {name}: each plan is best, by the reference", not wrong, wrong)
+
+
+def refuses(planner: Planner, wave: Wave) -> str:
+    try:
+        planner.plan(wave)
+    except Unfit as why:
+        return str(why)
+    return ""
+
+
+class Wrong(Planner):
+    """Tells another cost than its starts come to."""
+
+    def ask(self, wave, units):
+        return {next(iter(wave.splits)): next(iter(wave.places))}, 1
+
+
+def faults(program: str, count: Count) -> None:
+    """Answers that are no best plan, and clusters past the limits, are refused."""
+    wave = wave_of({"a": Place("r")}, {"a": 1}, {"s": Split(10, ["a"], [])})
+    lazy = 'if [ "$0" = check ]; then exec "$1" check; else printf "wave 0 0\\nprice s0 0\\nprice w0 0\\n"; fi'
+    planner = Command("sh plan", True)
+    planner.plan_words, planner.check_words = ["sh", "-c", lazy, "plan"], ["sh", "-c", lazy, "check", program]
+    count.holds("a plan that is not best is refused", "refused C5 s0 w0" in refuses(planner, wave), refuses(planner, wave))
+    count.holds("a wrong cost is refused", "do not come to" in refuses(Wrong(), wave))
+    count.holds("a command that fails is told", "ended with" in refuses(Command("false plan"), wave))
+    many = {f"w{it}": Place(f"r{it}", f"c{it}") for it in range(257)}
+    for most, says in ((257, "257 workers"), (33, "33 racks"), (9, "9 data centres")):
+        try:
+            wave_of(dict([*many.items()][:most]), {}, {})
+            said = ""
+        except Unfit as why:
+            said = str(why)
+        count.holds(f"there may not be {says}", f"there are {says}" in said, said)
+    wide = wave_of(
+        {f"w{it}": Place("r") for it in range(9)}, {"w0": 17, "w1": 1},
+        {f"s{it}": Split(1 << 27, [f"w{at}" for at in range(9)], []) for it in range(1025)},
+    )
+    shape = len(wide.splits), max(len(it.holders) for it in wide.splits.values()), wide.slots["w0"]
+    plan = planner_of(f"{program} plan", True).plan(wide)
+    count.holds("a wave takes 1,024 blocks, 8 holders and 16 slots", shape == (1024, 8, 16), shape)
+    count.holds("blocks of 128 MB are planned in units of 2 bytes", (len(plan.starts), plan.unit) == (17, 2), plan.unit)
+
+
+def placing(count: Count) -> None:
+    """Replicas lie as HDFS lays them: two racks, the second and the third in one."""
+    places, rnd = {name: place_of(name) for name in NAMES}, Random(3)
+    held = [as_hdfs(places, rnd) for _ in range(200)]
+    is_so = all(places[a] != places[b] == places[c] and len({a, b, c}) == 3 for a, b, c in held)
+    count.holds("replicas lie as HDFS lays them, and first ones anywhere", is_so and {a for a, _, _ in held} == {*NAMES})
+    count.holds("few workers hold what they can", len(as_hdfs({"a": Place("r"), "b": Place("r")}, rnd)) == 2)
+
+
+def index(trial: Trial, *asked: str) -> tuple[str, str, int]:
+    """What index.py writes: the index, its last words, and its status."""
+    words = [sys.executable, INDEX, "--scheduler", trial.here.client.scheduler.address, *asked]
+    ran = subprocess.run(words, capture_output=True, text=True, cwd=ROOT, stdin=subprocess.DEVNULL)
+    return ran.stdout, ran.stderr, ran.returncode
+
+
+def command(program: str, trial: Trial, count: Count) -> None:
+    """The command over a folder, whose index `mrjob run` gives as well."""
+    room = trial.here.disk("folder")
+    room.mkdir()
+    for name, text in trial.documents:
+        (room / name).write_bytes(text)
+    report, out = trial.here.disk("report"), trial.here.disk("index")
+    ended = index(trial, str(room), "--planner", f"{program} plan", "--check", "--block", str(5000), "--parts", "3",
+                  "--report", str(report), "--out", str(out))
+    count.holds("index.py FOLDER ends well", (ended[0], ended[2]) == ("", 0), ended)
+    lines = out.read_text().splitlines() if out.exists() else []
+    count.holds("index.py FOLDER: the index is that of the reference", lines == trial.wanted)
+    rows = [json.loads(line) for line in report.read_text().splitlines()]
+    starts, whole = [row for row in rows if "attempt" in row], rows[-1]
+    cost = sum(row["distance"] * row["bytes"] for row in starts)
+    told = cost == whole["cost"] == sum(row["cost"] for row in rows[:-1] if "cost" in row)
+    total = sum(len(text) for _, text in trial.documents)
+    count.holds("index.py FOLDER: its report adds up", told and sum(row["bytes"] for row in starts) == total, whole)
+
+
+def tables(program: str, trial: Trial, count: Count) -> None:
+    """The command over blocks in files, and over one that nobody holds."""
+    blocks, table, out = trial.files(), trial.here.disk("table"), trial.here.disk("no-index")
+    rows = [" ".join(map(str, (*piece, *blocks.nodes[it]))) for it, (piece,) in blocks.pieces.items()]
+    table.write_text("\n".join(rows) + "\n")
+    asked = ["--planner", f"{program} plan", "--table", str(table)]
+    said, _, status = index(trial, *asked)
+    count.holds("index.py --table: the index is that of the reference", (said.splitlines(), status) == (trial.wanted, 0))
+    table.write_text("\n".join([*rows, "lost 7 1 nobody"]) + "\n")
+    said, why, status = index(trial, *asked, "--out", str(out))
+    is_so = (said, status) == ("", 1) and "lost@7 has no living holder" in why and not out.exists()
+    count.holds("index.py: a block without a living holder is named, and nothing written", is_so, said, why, status)
+
+
+class Served(BaseHTTPRequestHandler):
+    """Files as WebHDFS serves them."""
+
+    folder = Path()
+
+    def do_GET(self) -> None:
+        asked = urlsplit(self.path)
+        words = {name: value for name, (value,) in parse_qs(asked.query).items()}
+        data = (self.folder / asked.path.removeprefix("/webhdfs/v1/")).read_bytes()
+        self.send_response(200)
+        self.end_headers()
+        self.wfile.write(data[int(words["offset"]) :][: int(words["length"])])
+
+    def log_message(self, *_) -> None:
+        pass
+
+
+def hdfs(program: str, trial: Trial, count: Count) -> None:
+    """The command over what fsck lists, read by WebHDFS."""
+    listing, lines = trial.here.disk("listing"), []
+    for name, text in trial.documents:
+        lines.append(f"/{name} {len(text)} bytes, replicated: replication=1, 1 block(s):  OK")
+        lines.append(f"0. BP-1-127.0.0.1-1:blk_{len(lines)}_1 len={len(text)} Live_repl=1  [/r/127.0.0.1:9866]")
+    listing.write_text("\n".join([*lines, ""]))
+    Served.folder = trial.here.disk("folder")
+    with ThreadingHTTPServer(("127.0.0.1", 0), Served) as server:
+        threading.Thread(target=server.serve_forever, daemon=True).start()
+        said, why, status = index(trial, "--planner", f"{program} plan", "--hdfs", str(listing), "--webhdfs",
+                                  f"http://127.0.0.1:{server.server_port}")
+        server.shutdown()
+    wanted = index_of([(name, text) for name, text in trial.documents])
+    said = said.replace(" /", " ").splitlines()
+    count.holds("index.py --hdfs: the index is that of the reference", (said, status) == (wanted, 0), why, status)
+
+
+def main() -> int:
+    program = os.path.abspath(sys.argv[1])
+    count = Count()
+    words(count)
+    placing(count)
+    waves(program, count)
+    faults(program, count)
+
+    def commands(trial: Trial, count: Count) -> None:
+        for tried in (command, tables, hdfs):
+            tried(program, trial, count)
+
+    jobs(planner_of(f"{program} plan", True), count, commands)
+    print(f"{count.passed} passed, {count.failed} failed")
+    return int(count.failed != 0)
+
+
+if __name__ == "__main__":
+    sys.exit(main())

@@ -1,0 +1,156 @@
+"""What the tests of jobs stand on: texts with their index by a reference, blocks of both sorts, gates, and a count."""
+from __future__ import annotations
+
+import itertools
+import os
+import sys
+import tempfile
+import time
+from pathlib import Path
+from random import Random
+from typing import Callable, Iterator
+
+from blocks import FileBlocks, KeyBlocks, Row, as_hdfs
+from cluster import Cluster
+from job import Attempt, Job, Work
+from planner import Place, Planner
+from words import Piece, blocks_of, map_words, reduce_words
+
+ROOT = Path(__file__).resolve().parents[2]
+sys.path.append(str(ROOT / "scripts"))
+import reference_run
+
+RACKS, PER_RACK, BLOCK, PARTS = 3, 2, 6000, 4
+NAMES = [f"r{rack}.w{worker}" for rack in range(RACKS) for worker in range(PER_RACK)]
+SKEWED = ["r0.w0", "r0.w1", "r1.w0"]
+
+
+class Count:
+    """How many checks hold."""
+
+    def __init__(self) -> None:
+        self.passed = self.failed = 0
+
+    def holds(self, says: str, is_so: object, *shown: object) -> None:
+        self.passed, self.failed = self.passed + bool(is_so), self.failed + (not is_so)
+        print("ok  " if is_so else "FAIL", says, *(() if is_so else shown), flush=True)
+
+
+def texts() -> list[tuple[str, bytes]]:
+    """The pages of docs/ and some scripts, as documents that a job's text can have."""
+    files = sorted([*(ROOT / "docs").glob("*.md"), *(ROOT / "scripts").glob("[a-l]*.py")], key=lambda it: it.name)
+    return [(it.name, bytes(byte if 32 <= byte < 127 else 32 for byte in it.read_bytes())) for it in files]
+
+
+def job_text(documents: list[tuple[str, bytes]]) -> bytes:
+    """The documents as a job for `mrjob run`."""
+    lines = [b"job 1", b"rack r", b"worker w r 2", b"split s 1 w"]
+    lines += [b"doc %s s %s" % (name.encode(), text) for name, text in documents]
+    return b"\n".join([*lines, b"end", b""])
+
+
+def index_of(documents: list[tuple[str, bytes]]) -> list[str]:
+    """The lines of their index, by the reference."""
+    return reference_run.answer(job_text(documents))[0].decode().splitlines()
+
+
+def place_of(name: str) -> Place:
+    return Place(name.partition(".")[0])
+
+
+class Gate:
+    """A file for which tasks wait, each in its worker's process, until it is there."""
+
+    def __init__(self, room: str) -> None:
+        self.path = os.path.join(room, "open")
+
+    def open(self) -> None:
+        Path(self.path).touch()
+
+    def map(self, closed: set[Piece]) -> Callable:
+        """A map that waits where its block begins with one of these pieces."""
+        path = self.path
+
+        def mapped(data, pieces, parts):
+            while pieces[0] in closed and not os.path.exists(path):
+                time.sleep(0.02)
+            return map_words(data, pieces, parts)
+
+        return mapped
+
+    def reduce(self) -> Callable:
+        """A reduce that waits, but for the first that is called."""
+        path = self.path
+
+        def reduced(outputs):
+            try:
+                os.close(os.open(f"{path}.first", os.O_CREAT | os.O_EXCL))
+            except FileExistsError:
+                while not os.path.exists(path):
+                    time.sleep(0.02)
+            return reduce_words(outputs)
+
+        return reduced
+
+
+class Watched(Job):
+    """A job that keeps which parts were done and which were started in each round of reduces."""
+
+    def __init__(self, *arguments, **named) -> None:
+        super().__init__(*arguments, **named)
+        self.seen_rounds: list[tuple[set[int], set[int]]] = []
+
+    def start_reduces(self) -> None:
+        super().start_reduces()
+        self.seen_rounds.append(({*self.results}, {*self.reduces}))
+
+    def ended(self, end: str) -> list[Attempt]:
+        return [it for it in self.attempts if it.end == end]
+
+
+class Trial:
+    """Jobs over the same documents on a cluster, four of five blocks of each on the same three workers."""
+
+    def __init__(self, here: Cluster, planner: Planner) -> None:
+        self.here, self.planner, self.documents = here, planner, texts()
+        self.wanted = index_of(self.documents)
+        self.cut = [*blocks_of(self.documents, itertools.repeat(BLOCK))]
+        self.laid = 0
+
+    def holders(self) -> Iterator[list[str]]:
+        rnd, places = Random(7), {name: place_of(name) for name in NAMES}
+        while True:
+            yield rnd.sample(SKEWED, 3) if rnd.random() < 0.8 else as_hdfs(places, rnd)
+
+    def keys(self, replicas: int = 3) -> KeyBlocks:
+        """The documents as blocks in the memory of workers."""
+        self.laid += 1
+        blocks, address = KeyBlocks(self.here.client, f"trial-{self.laid}", replicas), self.here.addresses()
+        for (data, pieces), held in zip(self.cut, self.holders()):
+            blocks.put(data, pieces, [address[it] for it in held[:replicas]])
+        blocks.lay()
+        return blocks
+
+    def files(self) -> FileBlocks:
+        """The documents as blocks in files: on a disk that lacks a block, zeros stand in its place, or nothing."""
+        rows, holders = [], self.holders()
+        for name, text in self.documents:
+            for offset in range(0, len(text), BLOCK):
+                piece, held = text[offset : offset + BLOCK], next(holders)
+                rows.append(Row(name, offset, len(piece), held))
+                for node in held:
+                    self.write(self.here.disk(node) / name, offset, piece)
+        return FileBlocks(self.here.client, rows)
+
+    def write(self, path: Path, offset: int, data: bytes) -> None:
+        with open(path, "r+b" if path.exists() else "x+b") as file:
+            file.seek(offset)
+            file.write(data)
+
+    def job(self, blocks, gate: Gate, closed: set[Piece], step: Callable, is_reduce_gated: bool = False) -> Watched:
+        work = Work(gate.map(closed), gate.reduce() if is_reduce_gated else reduce_words, PARTS)
+        return Watched(self.here.client, blocks, self.planner, work, place_of, step)
+
+    def room(self) -> tempfile.TemporaryDirectory:
+        return tempfile.TemporaryDirectory(dir=self.here.room.name)
+
