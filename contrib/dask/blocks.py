@@ -2,6 +2,7 @@
 from __future__ import annotations
 
 import sys
+from collections import defaultdict
 from pathlib import Path
 from random import Random
 from typing import Callable, Iterable, NamedTuple
@@ -25,6 +26,8 @@ AT_ONCE = 64  # so many copies are under way at most while blocks are laid
 class Blocks:
     """What a job asks of its blocks. A block is known by its split's name, and its bytes are those of its pieces."""
 
+    spreads = False  # whether a worker to which a block is brought holds it from then on
+
     def __init__(self) -> None:
         self.pieces: dict[str, list[Piece]] = {}
 
@@ -47,9 +50,9 @@ class Blocks:
         """How a map comes to a block's bytes from a holder: a function, and what Dask brings to it."""
         raise NotImplementedError
 
-    def repair(self, look: Look, places: dict[str, Place]) -> int:
-        """Gives blocks back the holders that they lost, where that is the client's part. How many copies were made."""
-        return 0
+    def repair(self, look: Look, places: dict[str, Place]) -> list[Copy]:
+        """Gives blocks back the holders that they lost, where that is the client's part. The copies that were made."""
+        return []
 
 
 class Row(NamedTuple):
@@ -97,17 +100,19 @@ class FileBlocks(Blocks):
     def __init__(self, client: Client, rows: Iterable[Row], read: Callable[[str, list[Piece]], bytes] = read_from):
         super().__init__()
         self.read, self.nodes = read, {}
+        self.seen, self.workers_on = None, {}
         for row in rows:
             split = f"{document_name(row.file)}@{row.offset}"
-            self.pieces[split], self.nodes[split] = [(row.file, row.offset, row.bytes)], {*row.nodes}
+            self.pieces[split], self.nodes[split] = [(row.file, row.offset, row.bytes)], row.nodes
         client.register_worker_plugin(Shelf())
 
     def holders(self, split: str, look: Look) -> list[str]:
-        nodes = self.nodes[split]
-        return [
-            it for it, seen in look.workers.items()
-            if seen.name in nodes or it.split("://")[-1].rpartition(":")[0] in nodes
-        ]
+        if self.seen is not look:
+            self.seen, self.workers_on = look, defaultdict(list)
+            for address, worker in look.workers.items():
+                for node in {worker.name, address.split("://")[-1].rpartition(":")[0]}:
+                    self.workers_on[node].append(address)
+        return [*dict.fromkeys(it for node in self.nodes[split] for it in self.workers_on[node])]
 
     def data(self, split: str, source: str) -> tuple[Callable[..., bytes], list[Future]]:
         read, pieces = self.read, self.pieces[split]
@@ -129,6 +134,8 @@ def as_hdfs(places: dict[str, Place], rnd: Random, replicas: int = 3) -> list[st
 
 class KeyBlocks(Blocks):
     """Blocks scattered on workers, each as one key without a recipe, on so many workers."""
+
+    spreads = True
 
     def __init__(self, client: Client, mark: str, replicas: int = 3) -> None:
         super().__init__()
@@ -163,7 +170,7 @@ class KeyBlocks(Blocks):
     def data(self, split: str, source: str) -> tuple[Callable[..., bytes], list[Future]]:
         return lambda block: block, [self.futures[split]]
 
-    def repair(self, look: Look, places: dict[str, Place]) -> int:
+    def repair(self, look: Look, places: dict[str, Place]) -> list[Copy]:
         """A new holder is in another rack where all stand in one, and of these the one with the fewest blocks."""
         held = {split: self.holders(split, look) for split in self.futures}
         load = {it: sum(it in at for at in held.values()) for it in places}
@@ -176,6 +183,8 @@ class KeyBlocks(Blocks):
                 copies.append(Copy(split, nearest(places, to, at), to))
                 at = [*at, to]
                 load[to] += 1
-        for first in range(0, len(copies), AT_ONCE):
-            self.bring(copies[first : first + AT_ONCE])
-        return len(copies)
+        return [it for first in range(0, len(copies), AT_ONCE) for it in self.made(copies[first : first + AT_ONCE])]
+
+    def made(self, copies: list[Copy]) -> list[Copy]:
+        failed = self.bring(copies)
+        return [it for it in copies if it.key not in failed]

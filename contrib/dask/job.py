@@ -8,11 +8,11 @@ from __future__ import annotations
 import asyncio
 import time
 import uuid
-from collections import Counter
+from collections import Counter, defaultdict
 from concurrent.futures import CancelledError
 from contextlib import suppress
 from dataclasses import dataclass
-from typing import Any, Callable, NamedTuple
+from typing import Any, Callable, NamedTuple, Optional
 
 from distributed import Client, Future, wait
 
@@ -53,16 +53,16 @@ class Attempt:
     worker: str
     source: str
     steps: int
-    future: Future
+    future: Optional[Future] = None
     end: str = "running"
 
 
 class Planned(NamedTuple):
-    """A wave that started something, with its byte-distance."""
+    """A wave that started something, with its byte-distance and its attempts."""
 
     wave: Wave
-    starts: dict[str, str]
     cost: int
+    attempts: list[Attempt]
 
 
 def map_task(work: Work, pieces: list[Piece], read: Callable[..., bytes]) -> Callable[..., list[bytes]]:
@@ -102,23 +102,23 @@ class Job:
         self.waves: list[Planned] = []
         self.reduces: dict[int, Future] = {}
         self.results: dict[int, Any] = {}
-        self.rounds, self.copies, self.failed_reduces = 0, 0, 0
+        self.failed_on: dict[str, list[str]] = defaultdict(list)
+        self.rounds, self.failed_reduces = 0, 0
+        self.first: Optional[Look] = None
+        self.alive: set[str] = set()
         self.names: dict[str, str] = {}
+        self.events: list[tuple] = []  # what happened to maps, workers and holders, in order
 
     def run(self) -> list[Any]:
         """The result of each part. Raises LostBlock, Unfit of the planner, or what a map or a reduce raised too often."""
-        known = None
         while len(self.results) < self.work.parts:
             seen, places = self.look()
-            if known != {*places}:
-                known, copies = {*places}, self.blocks.repair(seen, places)
-                if copies:
-                    self.copies += copies
-                    seen, places = self.look()
+            if self.alive != {*places} and self.enter_workers(seen, places):
+                continue  # (copies were made, so the look is old)
             self.forget_lost(seen)
             if len(self.maps) < len(self.blocks.pieces):
                 self.start_wave(seen, places)
-            elif not self.reduces and all(it.future.status == "finished" for it in self.maps.values()):
+            elif not self.reduces and all(it.end == "done" for it in self.maps.values()):
                 self.start_reduces()
             self.step(self)
             self.pause()
@@ -131,30 +131,49 @@ class Job:
         self.names.update((address, it.name) for address, it in seen.workers.items())
         return seen, {address: self.place_of(it.name) for address, it in seen.workers.items()}
 
+    def enter_workers(self, seen: Look, places: dict[str, Place]) -> bool:
+        """Notes who came and who is gone, and lets blocks get their holders back. Whether copies were made."""
+        if self.first is None:
+            self.first, self.alive = seen, {*places}
+        self.events += [("die", it) for it in self.alive - {*places}]
+        self.events += [("join", it, self.held_by(it, seen)) for it in {*places} - self.alive]
+        self.alive = {*places}
+        copies = self.blocks.repair(seen, places)
+        self.events += [("add", it.key, it.worker) for it in copies]
+        return bool(copies)
+
+    def held_by(self, worker: str, seen: Look) -> list[str]:
+        return [split for split in self.blocks.pieces if worker in self.blocks.holders(split, seen)]
+
     def forget_lost(self, seen: Look) -> None:
         """Takes back the maps that failed, or whose worker is gone, and with them the reduces that are not done."""
         for split, attempt in [*self.maps.items()]:
-            status = attempt.future.status
-            if status == "finished":
-                attempt.end = "done"
-            if status == "error" and attempt.source in seen.workers:
-                attempt.end = "failed"
-                if len(self.failed_on(split)) >= min(MOST_TRIES, len(seen.workers)):
+            end = self.end_of(attempt, seen)
+            if end == attempt.end:
+                continue
+            attempt.end = end
+            self.events.append((end, attempt))
+            if end == "failed":
+                self.failed_on[split].append(attempt.worker)
+                if len(self.failed_on[split]) >= min(MOST_TRIES, len(seen.workers)):
                     attempt.future.result()
-            elif status in ("error", "cancelled", "lost") or seen.states.get(attempt.future.key) == "no-worker":
-                attempt.end = "lost"
-            if attempt.end in ("failed", "lost"):
+            if end != "done":
                 self.client.cancel([self.maps.pop(split).future], force=True)
                 self.reduces = {}
 
-    def failed_on(self, split: str) -> list[str]:
-        """The workers on which a split failed, once for each attempt."""
-        return [it.worker for it in self.attempts if it.split == split and it.end == "failed"]
+    def end_of(self, attempt: Attempt, seen: Look) -> str:
+        """How an attempt stands. One that fails as its source dies is lost, as one is whose worker dies."""
+        status, state = attempt.future.status, seen.states.get(attempt.future.key)
+        if attempt.worker not in seen.workers or status in ("cancelled", "lost") or state == "no-worker":
+            return "lost"
+        if status == "error":
+            return "failed" if attempt.source in seen.workers else "lost"
+        return "done" if status == "finished" else attempt.end
 
     def slots(self, seen: Look) -> dict[str, int]:
         """The free slots: threads less own maps that are open, counted here since the scheduler may not know them yet,
         and less what others run."""
-        mine = Counter(it.worker for it in self.maps.values() if it.future.status == "pending")
+        mine = Counter(it.worker for it in self.maps.values() if it.end == "running")
         others = {at: sum(not key.startswith(f"{self.mark}-map-") for key in it.busy) for at, it in seen.workers.items()}
         return {at: max(0, it.threads - mine[at] - others[at]) for at, it in seen.workers.items()}
 
@@ -166,7 +185,7 @@ class Job:
                 holders = self.blocks.holders(split, seen)
                 if not holders:
                     raise LostBlock(f"{split} has no living holder")
-                barred = [it for it in seen.workers if it in self.failed_on(split)]
+                barred = [it for it in seen.workers if it in self.failed_on[split]]
                 barred = barred if len(barred) < len(seen.workers) else []
                 splits[split] = Split(self.blocks.size(split), holders, barred)
         return splits
@@ -177,30 +196,37 @@ class Job:
         plan = self.planner.plan(wave)
         if not plan.starts:
             return
-        moves = [
-            Copy(split, nearest(places, worker, wave.splits[split].holders), worker)
-            for split, worker in plan.starts.items()
-        ]
-        steps = {it.key: distance(places, it.source, it.worker) for it in moves}
-        cost = sum(wave.splits[split].bytes * steps[split] for split in steps)
-        self.waves.append(Planned(wave, plan.starts, cost))
-        for move in (it for it in moves if not steps[it.key]):
-            self.start(move, 0)
-        far = [it for it in moves if steps[it.key]]
-        failed = self.blocks.bring(far) if far else set()
-        for move in (it for it in far if it.key not in failed):
-            self.start(move, steps[move.key])
+        attempts = []
+        for split, worker in plan.starts.items():
+            source, number = nearest(places, worker, wave.splits[split].holders), len(self.attempts) + len(attempts) + 1
+            steps = distance(places, source, worker)
+            attempts.append(Attempt(split, number, len(self.waves) + 1, worker, source, steps))
+        planned = Planned(wave, sum(wave.splits[it.split].bytes * it.steps for it in attempts), attempts)
+        self.waves.append(planned)
+        self.attempts += attempts
+        self.events.append(("wave", planned))
+        self.start([it for it in attempts if not it.steps])
+        self.start(self.brought([it for it in attempts if it.steps]))
 
-    def start(self, move: Copy, steps: int) -> None:
-        """Starts a map on its planned worker, and nowhere else."""
-        split, number = move.key, len(self.attempts) + 1
-        read, given = self.blocks.data(split, move.source)
-        future = self.client.submit(
-            map_task(self.work, self.blocks.pieces[split], read), *given,
-            key=f"{self.mark}-map-{number}", workers=[move.worker], allow_other_workers=False,
-        )
-        self.maps[split] = Attempt(split, number, len(self.waves), move.worker, move.source, steps, future)
-        self.attempts.append(self.maps[split])
+    def brought(self, far: list[Attempt]) -> list[Attempt]:
+        """Of attempts away from their blocks those that can start; the others are lost already."""
+        moves = [Copy(it.split, it.source, it.worker) for it in far]
+        failed = self.blocks.bring(moves) if moves else set()
+        for it in far:
+            it.end = "lost" if it.split in failed else it.end
+        self.events += [("lost", it) for it in far if it.split in failed]
+        self.events += [("add", it.split, it.worker) for it in far if self.blocks.spreads and it.split not in failed]
+        return [it for it in far if it.split not in failed]
+
+    def start(self, attempts: list[Attempt]) -> None:
+        """Starts maps, each on its planned worker and nowhere else."""
+        for it in attempts:
+            read, given = self.blocks.data(it.split, it.source)
+            it.future = self.client.submit(
+                map_task(self.work, self.blocks.pieces[it.split], read), *given,
+                key=f"{self.mark}-map-{it.number}", workers=[it.worker], allow_other_workers=False,
+            )
+            self.maps[it.split] = it
 
     def start_reduces(self) -> None:
         """Starts what is left of the parts. Maps are divided where they lie; Dask places what merges a part."""

@@ -43,7 +43,7 @@ def report_lines(job: Job) -> list[str]:
     """A line for each wave, for each start, and for the whole."""
     name = lambda address: job.names.get(address, address)
     rows = [
-        dict(wave=number, pending=len(it.wave.splits), slots=sum(it.wave.slots.values()), starts=len(it.starts),
+        dict(wave=number, pending=len(it.wave.splits), slots=sum(it.wave.slots.values()), starts=len(it.attempts),
              cost=it.cost)
         for number, it in enumerate(job.waves, 1)
     ]
@@ -55,7 +55,7 @@ def report_lines(job: Job) -> list[str]:
     ends = Counter(it.end for it in job.attempts)
     rows.append(
         dict(waves=len(job.waves), starts=len(job.attempts), lost=ends["lost"], failed=ends["failed"],
-             cost=sum(it.cost for it in job.waves), copies=job.copies, blocks_carried=blocks_carried(job),
+             cost=sum(it.cost for it in job.waves), copies=sum(it[0] == "add" for it in job.events), blocks_carried=blocks_carried(job),
              outputs_carried=outputs_carried(job))
     )
     return [json.dumps(row) for row in rows]

@@ -10,10 +10,13 @@ from typing import Callable
 from blocks import FileBlocks, Row
 from calls import look, sent_keys, sent_pieces
 from cluster import Cluster
+from history import History
 from job import LostBlock
 from planner import Planner, distance
 from trial import NAMES, Count, Gate, Trial, Watched, place_of
-from words import index_lines, map_words
+from words import index_lines
+
+from reference_play import misplayed
 
 
 def carried(trial: Trial, blocks) -> Counter:
@@ -27,7 +30,7 @@ def carried(trial: Trial, blocks) -> Counter:
 def within_slots(job: Watched) -> bool:
     return all(
         number <= it.wave.slots[worker] <= 1
-        for it in job.waves for worker, number in Counter(it.starts.values()).items()
+        for it in job.waves for worker, number in Counter(attempt.worker for attempt in it.attempts).items()
     )
 
 
@@ -45,6 +48,15 @@ def undisturbed(trial: Trial, count: Count, sort: str) -> None:
     count.holds(f"{sort}: what was carried, by distance, is what was planned", steps == planned > 0, steps, planned)
     count.holds(f"{sort}: each block starts once", len(job.attempts) == len(blocks.pieces) == len(job.ended("done")))
     count.holds(f"{sort}: no wave starts more on a worker than it has slots", within_slots(job))
+    judged(job, count, sort)
+
+
+def judged(job: Watched, count: Count, says: str) -> None:
+    """The reference for scripts finds each event legal, and each wave best in its state."""
+    told = History(job)
+    script, report = ("".join(f"{line}\n" for line in it).encode() for it in (told.script, told.report))
+    wrong = misplayed(script, report, 1)
+    count.holds(f"{says}: its maps are a legal history, each wave best, by the reference", wrong is None, wrong)
 
 
 def killer(trial: Trial, gate: Gate, is_time: Callable[[Watched], str], killed: list) -> Callable[[Watched], None]:
@@ -99,6 +111,8 @@ def death(trial: Trial, count: Count, sort: str, when: str) -> None:
     count.holds(f"{says}: a start more for each", len(job.attempts) == len(blocks.pieces) + len(gone))
     count.holds(f"{says}: no wave starts more on a worker than it has slots", within_slots(job))
     count.holds(f"{says}: no part that was done is started again", not any(a & b for a, b in job.seen_rounds))
+    if when != "reduces":
+        judged(job, count, says)
     if when == "reduces":
         count.holds(f"{says}: there was such a part", any(a for a, _ in job.seen_rounds))
     if sort == "keys":

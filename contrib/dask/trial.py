@@ -11,7 +11,8 @@ from random import Random
 from typing import Callable, Iterator
 
 from blocks import FileBlocks, KeyBlocks, Row, as_hdfs
-from cluster import Cluster
+from calls import look
+from cluster import Cluster, until
 from job import Attempt, Job, Work
 from planner import Place, Planner
 from words import Piece, blocks_of, map_words, reduce_words
@@ -37,8 +38,8 @@ class Count:
 
 
 def texts() -> list[tuple[str, bytes]]:
-    """The pages of docs/ and some scripts, as documents that a job's text can have."""
-    files = sorted([*(ROOT / "docs").glob("*.md"), *(ROOT / "scripts").glob("[a-l]*.py")], key=lambda it: it.name)
+    """The pages of docs/, as documents that a job's text can have."""
+    files = sorted((ROOT / "docs").glob("*.md"))
     return [(it.name, bytes(byte if 32 <= byte < 127 else 32 for byte in it.read_bytes())) for it in files]
 
 
@@ -148,8 +149,10 @@ class Trial:
             file.write(data)
 
     def job(self, blocks, gate: Gate, closed: set[Piece], step: Callable, is_reduce_gated: bool = False) -> Watched:
+        client = self.here.client
+        until(lambda: not any(it.busy for it in look(client, []).workers.values()), "no worker is busy")
         work = Work(gate.map(closed), gate.reduce() if is_reduce_gated else reduce_words, PARTS)
-        return Watched(self.here.client, blocks, self.planner, work, place_of, step)
+        return Watched(client, blocks, self.planner, work, place_of, step)
 
     def room(self) -> tempfile.TemporaryDirectory:
         return tempfile.TemporaryDirectory(dir=self.here.room.name)

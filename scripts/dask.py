@@ -1,0 +1,31 @@
+#!/usr/bin/env python3
+"""Tries contrib/dask by a built program, where Debian's Python has Dask (the package python3-distributed).
+
+    dask.py PROGRAM..           the first program is taken
+
+The last line is 'N passed, M failed'; where Dask is not there, nothing is counted.
+"""
+import subprocess
+import sys
+from pathlib import Path
+
+PYTHON = "/usr/bin/python3"
+ROOT = Path(__file__).resolve().parent.parent
+
+
+def has_dask():
+    try:
+        return subprocess.run([PYTHON, "-c", "import distributed"], capture_output=True, cwd="/").returncode == 0
+    except OSError:
+        return False
+
+
+def main():
+    if not has_dask():
+        print(f"contrib/dask was skipped: {PYTHON} has no Dask (python3-distributed)\n0 passed, 0 failed")
+        return 0
+    return subprocess.run([PYTHON, "contrib/dask/tests.py", str(Path(sys.argv[1]).resolve())], cwd=ROOT).returncode
+
+
+if __name__ == "__main__":
+    sys.exit(main())
