@@ -10,6 +10,7 @@ import sys
 from pathlib import Path
 
 PYTHON = "/usr/bin/python3"
+MOST_SECONDS = 1800  # which only a hang takes
 ROOT = Path(__file__).resolve().parent.parent
 
 
@@ -24,7 +25,15 @@ def main():
     if not has_dask():
         print(f"contrib/dask was skipped: {PYTHON} has no Dask (python3-distributed)\n0 passed, 0 failed")
         return 0
-    return subprocess.run([PYTHON, "contrib/dask/tests.py", str(Path(sys.argv[1]).resolve())], cwd=ROOT).returncode
+    words = [PYTHON, "contrib/dask/tests.py", str(Path(sys.argv[1]).resolve())]
+    tests = subprocess.Popen(words, cwd=ROOT, stdin=subprocess.DEVNULL)
+    try:
+        return tests.wait(MOST_SECONDS)
+    except subprocess.TimeoutExpired:
+        tests.terminate()  # (it ends the processes of its cluster)
+        tests.wait()
+        print("contrib/dask hung\n0 passed, 1 failed")
+        return 1
 
 
 if __name__ == "__main__":

@@ -62,6 +62,7 @@ else
     start scripts/refused_calls.sh "${programs[@]}"
     start scripts/differential.py "${programs[@]}"
     start scripts/contrib.py "${programs[0]}"
+    start scripts/hdfs.py "${programs[@]}"
 fi
 start scripts/another_ledger.py
 start scripts/edits.py

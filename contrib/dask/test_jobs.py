@@ -9,7 +9,7 @@ from typing import Callable
 
 from blocks import FileBlocks, Row
 from calls import look, sent_keys, sent_pieces
-from cluster import Cluster
+from cluster import Cluster, until
 from history import History
 from job import LostBlock
 from planner import Planner, distance
@@ -60,13 +60,15 @@ def judged(job: Watched, count: Count, says: str) -> None:
 
 
 def killer(trial: Trial, gate: Gate, is_time: Callable[[Watched], str], killed: list) -> Callable[[Watched], None]:
-    """A step that kills the worker that `is_time` names, once, notes how many maps it had, and opens the gate."""
+    """A step that kills the worker that `is_time` names, once, and notes how many maps it had. The gate is opened when
+    the job knows of the death."""
 
     def step(job: Watched) -> None:
         name = "" if killed else is_time(job)
         if name:
             killed.extend([name, sum(job.names[it.worker] == name for it in job.maps.values())])
             trial.here.kill(name)
+        elif killed and killed[0] not in {job.names[it] for it in job.alive}:
             gate.open()
 
     return step
@@ -186,15 +188,13 @@ def beside_others(trial: Trial, count: Count) -> None:
     client, address = trial.here.client, trial.here.addresses()
     with trial.room() as room:
         gate = Gate(room)
+        job = trial.job(trial.keys(), gate, set(), lambda job: gate.open() if len(job.ended("done")) > 8 else None)
         waits = gate.map({("", 0, 0)})
         tasks = [
             client.submit(waits, b"", [("", 0, 0)], 1, key=f"others-{name}", workers=[address[name]])
             for name in NAMES[:4]
         ]
-        while sum(len(it.busy) for it in look(client, []).workers.values()) < len(tasks):
-            pass
-        step = lambda job: gate.open() if len(job.ended("done")) > 8 else None
-        job = trial.job(trial.keys(), gate, set(), step)
+        until(lambda: sum(len(it.busy) for it in look(client, []).workers.values()) == 4, "others' tasks run")
         lines = index_lines(job.run())
         client.gather(tasks)
     free = {job.names[it] for it, number in job.waves[0].wave.slots.items() if number}

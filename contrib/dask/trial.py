@@ -10,6 +10,8 @@ from pathlib import Path
 from random import Random
 from typing import Callable, Iterator
 
+import cloudpickle
+
 from blocks import FileBlocks, KeyBlocks, Row, as_hdfs
 from calls import look
 from cluster import Cluster, until
@@ -24,6 +26,9 @@ import reference_run
 RACKS, PER_RACK, BLOCK, PARTS = 3, 2, 6000, 4
 NAMES = [f"r{rack}.w{worker}" for rack in range(RACKS) for worker in range(PER_RACK)]
 SKEWED = ["r0.w0", "r0.w1", "r1.w0"]
+
+
+cloudpickle.register_pickle_by_value(sys.modules[__name__])
 
 
 class Count:
@@ -60,38 +65,42 @@ def place_of(name: str) -> Place:
 
 
 class Gate:
-    """A file for which tasks wait, each in its worker's process, until it is there."""
+    """A file for which tasks wait, each in its worker's process, until it is there, or its folder no more."""
 
     def __init__(self, room: str) -> None:
-        self.path = os.path.join(room, "open")
+        self.room = room
 
     def open(self) -> None:
-        Path(self.path).touch()
+        (Path(self.room) / "open").touch()
 
     def map(self, closed: set[Piece]) -> Callable:
         """A map that waits where its block begins with one of these pieces."""
-        path = self.path
+        room = self.room
 
         def mapped(data, pieces, parts):
-            while pieces[0] in closed and not os.path.exists(path):
-                time.sleep(0.02)
+            if pieces[0] in closed:
+                wait_at(room)
             return map_words(data, pieces, parts)
 
         return mapped
 
     def reduce(self) -> Callable:
         """A reduce that waits, but for the first that is called."""
-        path = self.path
+        room = self.room
 
         def reduced(outputs):
             try:
-                os.close(os.open(f"{path}.first", os.O_CREAT | os.O_EXCL))
+                os.close(os.open(f"{room}/first", os.O_CREAT | os.O_EXCL))
             except FileExistsError:
-                while not os.path.exists(path):
-                    time.sleep(0.02)
+                wait_at(room)
             return reduce_words(outputs)
 
         return reduced
+
+
+def wait_at(room: str) -> None:
+    while os.path.isdir(room) and not os.path.exists(f"{room}/open"):
+        time.sleep(0.02)
 
 
 class Watched(Job):
