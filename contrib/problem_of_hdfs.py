@@ -25,7 +25,7 @@ FILE = re.compile(r"(?P<file>/.*) \d+ bytes, (?P<sort>\S+: \S+, )?\d+ block\(s\)
 BLOCK = re.compile(r"\d+\. (?:\S+:)?(?P<name>blk_-?\d+)\S* +len=(?P<bytes>\d+)(?P<rest>.*)")
 CORRUPT = re.compile(r"/.*: CORRUPT blockpool \S+ block (?P<name>blk_-?\d+)")
 LIVE = re.compile(r"\b(?:Live_)?repl=(\d+)")
-# A replica: `/RACK/HOST:PORT`, `HOST:PORT` or `DatanodeInfoWithStorage[HOST:PORT,STORAGE,KIND]`, and its state after it.
+# A replica: `/RACK/HOST:PORT`, `HOST:PORT` or `DatanodeInfoWithStorage[HOST:PORT,STORAGE,KIND]`, its state after it.
 REPLICA = re.compile(r"(?:\w+\[)?(?P<rack>/.*(?=/))?/?(?P<host>[^/,]+):\d+(?:,[^\]]*\])?(?:\((?P<state>.*)\))?")
 
 
@@ -83,7 +83,7 @@ def nodes_of(rest: str, racks: Dict[str, str], told: "Counter[str]") -> List[str
 
 
 def read_listing(lines: Iterable[str]) -> Listing:
-    """What fsck listed. Blocks of erasure-coded files, of which no node has the whole, and unfinished ones are left out."""
+    """What fsck listed, without unfinished blocks and those of erasure-coded files, of which no node has the whole."""
     listing = Listing([], {}, Counter())
     file, is_whole, offset, corrupt = "", True, 0, set()
     for line in lines:

@@ -88,13 +88,14 @@ def parts(count):
     said, told, status = problem(listing_of(1025, 2), "--skip", "1", "--take", "2")
     lines = [line for line in said.splitlines() if line.startswith("split")]
     wanted = ["split blk_2 5 n10.0.0.1", "split blk_3 5 n10.0.0.0"]
-    count.holds("--skip and --take", (lines, status) == (wanted, 0) and told[0].startswith("1023 blocks"), (lines, told))
+    is_so = (lines, status) == (wanted, 0) and told[0].startswith("1023 blocks")
+    count.holds("--skip and --take", is_so, (lines, told))
     with tempfile.TemporaryDirectory() as room:
         slots, names = Path(room) / "slots", Path(room) / "names"
         slots.write_text("node:one 17 a/b\nnode_one 1 a-b\n")
         said, told, _ = problem(listing_of(1, 1), "--names", str(names), slots=slots)
         count.holds("racks that would be called alike", "rack a-b\nrack a-b-2\n" in said, said)
-        count.holds("more slots than a worker has", "worker node-one a-b 16" in said and "17" not in said, said)
+        count.holds("more slots than a worker may have", "worker node-one a-b 16" in said and "17" not in said, said)
         count.holds("what names stand for", "node-one node node:one\n" in names.read_text(), names.read_text())
 
 

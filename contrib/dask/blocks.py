@@ -12,8 +12,8 @@ from urllib.request import urlopen
 import cloudpickle
 from distributed import Client, Future
 
-from calls import Copy, Look, Shelf, bring, read_from
-from planner import Place, nearest
+from calls import SHELF, Copy, Look, Shelf, bring, read_from
+from planner import Place, Unfit, nearest
 from words import Piece, document_name
 
 sys.path.append(str(Path(__file__).resolve().parents[1]))
@@ -54,6 +54,9 @@ class Blocks:
         """Gives blocks back the holders that they lost, where that is the client's part. The copies that were made."""
         return []
 
+    def close(self) -> None:
+        """Takes away from the cluster what only these blocks need."""
+
 
 class Row(NamedTuple):
     """So many bytes of a file from an offset on, and the nodes that hold them: names or hosts of workers."""
@@ -66,13 +69,18 @@ class Row(NamedTuple):
 
 def read_table(lines: Iterable[str]) -> list[Row]:
     """Rows of lines `FILE OFFSET BYTES NODE..`, in which %20 stands for a space of a file's name."""
-    words = [line.split() for line in lines]
-    return [Row(unquote(it[0]), int(it[1]), int(it[2]), it[3:]) for it in words if it]
+    rows = []
+    for line in lines:
+        words = line.split()
+        if len(words) < 3 or not (words[1].isdigit() and words[2].isdigit()):
+            raise Unfit(f"`{line.rstrip()}` is not FILE OFFSET BYTES NODE..")
+        rows.append(Row(unquote(words[0]), int(words[1]), int(words[2]), words[3:]))
+    return rows
 
 
-def read_listing(lines: Iterable[str]) -> list[Row]:
-    """Rows of what `hdfs fsck` lists."""
-    return [Row(it.file, it.offset, it.bytes, it.nodes) for it in problem_of_hdfs.read_listing(lines).blocks]
+def rows_of(listing: problem_of_hdfs.Listing) -> list[Row]:
+    """Rows of what `hdfs fsck` listed."""
+    return [Row(it.file, it.offset, it.bytes, it.nodes) for it in listing.blocks]
 
 
 def read_web(address: str) -> Callable[[str, list[Piece]], bytes]:
@@ -99,10 +107,12 @@ class FileBlocks(Blocks):
 
     def __init__(self, client: Client, rows: Iterable[Row], read: Callable[[str, list[Piece]], bytes] = read_from):
         super().__init__()
-        self.read, self.nodes = read, {}
+        self.client, self.read, self.nodes = client, read, {}
         self.seen, self.workers_on = None, {}
         for row in rows:
             split = f"{document_name(row.file)}@{row.offset}"
+            if split in self.pieces:
+                raise Unfit(f"{split} stands twice")
             self.pieces[split], self.nodes[split] = [(row.file, row.offset, row.bytes)], row.nodes
         client.register_worker_plugin(Shelf())
 
@@ -117,6 +127,9 @@ class FileBlocks(Blocks):
     def data(self, split: str, source: str) -> tuple[Callable[..., bytes], list[Future]]:
         read, pieces = self.read, self.pieces[split]
         return lambda: read(source, pieces), []
+
+    def close(self) -> None:
+        self.client.unregister_worker_plugin(SHELF)
 
 
 def as_hdfs(places: dict[str, Place], rnd: Random, replicas: int = 3) -> list[str]:

@@ -54,10 +54,11 @@ class Cluster:
     def begin(self, name: str, kind: str, *words: str) -> None:
         """Starts a process of Dask in the folder of its name."""
         self.disk(name).mkdir(exist_ok=True)
-        command = [sys.executable, "-m", f"distributed.cli.dask_{kind}", "--host", "127.0.0.1", "--no-dashboard", *words]
+        command = [sys.executable, "-m", f"distributed.cli.dask_{kind}", "--host", "127.0.0.1", "--no-dashboard"]
         with open(self.disk(name) / "log", "w", encoding="utf-8") as log:
             self.processes[name] = subprocess.Popen(
-                command, stdin=subprocess.DEVNULL, stdout=log, stderr=log, cwd=self.disk(name), env=self.environment
+                [*command, *words], stdin=subprocess.DEVNULL, stdout=log, stderr=log, cwd=self.disk(name),
+                env=self.environment,
             )
 
     def disk(self, name: str) -> Path:

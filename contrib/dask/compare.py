@@ -3,9 +3,10 @@
 
     contrib/dask/compare.py --planner "bin/mrjob plan"
 
-A cluster of this machine has 12 workers with one thread each, in 4 racks; 72 blocks of 0.5 MB have three holders each, and
-a map takes half a second. A row of a table is written for each way in which blocks lie: of each run, by another seed, the
-megabytes times steps that the senders' logs have, and how many blocks moved, after the stroke those within a rack.
+A cluster of this machine has 12 workers with one thread each, in 4 racks; 72 blocks of 0.5 MB have three holders
+each, and a map takes half a second. A row of a table is written for each way in which blocks lie: of each run, by
+another seed, the megabytes times steps that the senders' logs have, and how many blocks moved, after the stroke those
+within a rack.
 """
 from __future__ import annotations
 

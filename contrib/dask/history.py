@@ -1,4 +1,4 @@
-"""The maps of a job as a script with its report, in the words of docs/MODEL.md: what one master would have said of them.
+"""The maps of a job as a script with its report (docs/MODEL.md): what one master would have said of them.
 
 A picture is drawn of the two, and the reference of scripts/ judges them. Reduces, which Dask places, are not told, so
 the report ends with `stuck 0`, and a wave that others' tasks or reduces left fewer slots is none of that master's.

@@ -12,24 +12,29 @@ reads its block from its own disk or from that of the nearest holder; by `--hdfs
 the topology, else the rack is its name up to the first dot, else one for all.
 
 The index is written in the lines of `mrjob run`: `index N`, and `word WORD DOCUMENT..` for each. The status is 1 where
-a block has no living holder, and 2 where the cluster or an answer does not fit; then nothing is written.
+a block has no living holder, and 2 where the cluster, a file or a plan does not fit; then nothing is written.
 """
 from __future__ import annotations
 
 import argparse
 import itertools
 import sys
+from contextlib import contextmanager, nullcontext
 from random import Random
-from typing import Callable, Optional, TextIO
+from typing import Callable, Iterator, Optional
 
 from distributed import Client
 
-from blocks import Blocks, FileBlocks, KeyBlocks, as_hdfs, read_listing, read_table, read_web
+sys.dont_write_bytecode = True
+from blocks import Blocks, FileBlocks, KeyBlocks, as_hdfs, read_table, read_web, rows_of
 from calls import look, read_from
+from history import History
 from job import Job, LostBlock, Work
 from planner import Place, Unfit, planner_of
 from report import progress, report_lines
 from words import blocks_of, index_lines, map_words, reduce_words, texts_of
+
+from problem_of_hdfs import Stop, read_listing
 
 
 def places_of(topology: Optional[str]) -> Callable[[str], Place]:
@@ -37,7 +42,11 @@ def places_of(topology: Optional[str]) -> Callable[[str], Place]:
     table = {}
     if topology:
         with open(topology, encoding="utf-8") as file:
-            table = {name: Place(*place) for name, *place in map(str.split, file) if place}
+            for line in file:
+                name, *place = line.split() or [""]
+                if len(place) not in (1, 2):
+                    raise Unfit(f"`{line.rstrip()}` is not NAME RACK [CENTRE]")
+                table[name] = Place(*place)
     return lambda name: table.get(name) or Place(name.partition(".")[0] if "." in name else "default")
 
 
@@ -46,10 +55,12 @@ def laid(client: Client, asked: argparse.Namespace, place_of: Callable[[str], Pl
     places = {at: place_of(it.name) for at, it in look(client, []).workers.items()}
     if not places:
         raise Unfit("there is no worker")
-    blocks, rnd = KeyBlocks(client, f"mrjob-{client.id}", asked.replicas), Random(asked.seed)
-    for data, pieces in blocks_of(texts_of(asked.folder), itertools.repeat(asked.block)):
+    blocks, rnd, left_out = KeyBlocks(client, f"mrjob-{client.id}", asked.replicas), Random(asked.seed), []
+    for data, pieces in blocks_of(texts_of(asked.folder, left_out), itertools.repeat(asked.block)):
         blocks.put(data, pieces, as_hdfs(places, rnd, asked.replicas))
     blocks.lay()
+    if left_out:
+        print(f"{len(left_out)} files were left out, such as {left_out[0]}", file=sys.stderr)
     return blocks
 
 
@@ -58,8 +69,12 @@ def blocks_asked(client: Client, asked: argparse.Namespace, place_of: Callable[[
     if asked.folder:
         return laid(client, asked, place_of)
     with open(asked.table or asked.hdfs, encoding="utf-8") as file:
-        rows = (read_table if asked.table else read_listing)(file)
-    return FileBlocks(client, rows, read_web(asked.webhdfs) if asked.webhdfs else read_from)
+        if asked.table:
+            return FileBlocks(client, read_table(file))
+        listing = read_listing(file)
+    for words, count in listing.told.items():
+        print(f"{count} {words}", file=sys.stderr)
+    return FileBlocks(client, rows_of(listing), read_web(asked.webhdfs) if asked.webhdfs else read_from)
 
 
 def words_of() -> argparse.Namespace:
@@ -79,35 +94,54 @@ def words_of() -> argparse.Namespace:
     add("--seed", type=int, default=1, help="which places blocks are laid at")
     add("--out", help="where the index is written; standard output else")
     add("--report", help="where it is told what was started and carried")
+    add("--history", metavar="NAME", help="write the maps as a script NAME.txt with its report NAME.out")
     asked = parser.parse_args()
     if sum(map(bool, (asked.folder, asked.table, asked.hdfs))) != 1:
         parser.error("one of FOLDER, --table and --hdfs is wanted")
     return asked
 
 
-def write(lines: list[str], out: TextIO) -> None:
-    out.writelines(f"{line}\n" for line in lines)
+@contextmanager
+def undropped(client: Client) -> Iterator[None]:
+    """Keeps the cluster from dropping replicas, as its active memory manager does."""
+    was_running = client.amm.running()
+    client.amm.stop()
+    try:
+        yield
+    finally:
+        if was_running:
+            client.amm.start()
+
+
+def write(lines: list[str], path: Optional[str]) -> None:
+    """Writes lines to a file, or to standard output."""
+    with open(path, "w", encoding="utf-8") if path else nullcontext(sys.stdout) as out:
+        out.writelines(f"{line}\n" for line in lines)
+
+
+def write_all(job: Job, lines: list[str], asked: argparse.Namespace) -> None:
+    """Writes what a done job is asked for."""
+    report = report_lines(job)
+    if asked.report:
+        write(report, asked.report)
+    if asked.history:
+        history = History(job)
+        write(history.script, f"{asked.history}.txt")
+        write(history.report, f"{asked.history}.out")
+    write(lines, asked.out)
+    print(report[-1], file=sys.stderr)
 
 
 def run(asked: argparse.Namespace) -> None:
-    """Runs the job on the cluster, and writes index and report once it is done."""
-    place_of = places_of(asked.topology)
-    with Client(asked.scheduler) as client:
-        client.amm.stop()  # it would drop replicas
+    """Runs the job on the cluster."""
+    place_of, planner = places_of(asked.topology), planner_of(asked.planner, asked.check)
+    with Client(asked.scheduler) as client, undropped(client):
         blocks = blocks_asked(client, asked, place_of)
-        work = Work(map_words, reduce_words, asked.parts)
-        job = Job(client, blocks, planner_of(asked.planner, asked.check), work, place_of, progress)
-        lines = index_lines(job.run())
-        report = report_lines(job)
-    if asked.report:
-        with open(asked.report, "w", encoding="utf-8") as file:
-            write(report, file)
-    if asked.out:
-        with open(asked.out, "w", encoding="utf-8") as file:
-            write(lines, file)
-    else:
-        write(lines, sys.stdout)
-    write(report[-1:], sys.stderr)
+        job = Job(client, blocks, planner, Work(map_words, reduce_words, asked.parts), place_of, progress)
+        try:
+            write_all(job, index_lines(job.run()), asked)
+        finally:
+            blocks.close()
 
 
 def main() -> int:
@@ -117,7 +151,7 @@ def main() -> int:
     except LostBlock as why:
         print(f"index.py: {why}", file=sys.stderr)
         return 1
-    except (Unfit, OSError) as why:
+    except (Unfit, Stop, OSError) as why:
         print(f"index.py: {why}", file=sys.stderr)
         return 2
     return 0

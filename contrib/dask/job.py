@@ -1,7 +1,7 @@
 """A MapReduce job on a Dask cluster, whose maps start where a planner says, wave by wave.
 
-The client is the master. A map may run on its planned worker alone, so Dask never queues, moves or steals it. Where that
-worker dies the scheduler sets the map aside as `no-worker`, running or done alike, and the client plans it again.
+The client is the master. A map may run on its planned worker alone, so Dask never queues, moves or steals it. Where
+that worker dies the scheduler sets the map aside as `no-worker`, running or done alike, and the client plans it again.
 """
 from __future__ import annotations
 
@@ -83,7 +83,7 @@ def reduce_task(work: Work) -> Callable[[list[bytes]], Any]:
 
 
 class Job:
-    """A job over blocks. `place_of` is the place of a worker's name; `step` is called after each look and its starts."""
+    """A job over blocks. `place_of` is the place of a worker's name; `step` is called after each look's starts."""
 
     def __init__(
         self,
@@ -110,7 +110,7 @@ class Job:
         self.events: list[tuple] = []  # what happened to maps, workers and holders, in order
 
     def run(self) -> list[Any]:
-        """The result of each part. Raises LostBlock, Unfit of the planner, or what a map or a reduce raised too often."""
+        """The result of each part. Raises LostBlock, Unfit, or what a map or a reduce raised too often."""
         while len(self.results) < self.work.parts:
             seen, places = self.look()
             if self.alive != {*places} and self.enter_workers(seen, places):
@@ -174,7 +174,8 @@ class Job:
         """The free slots: threads less own maps that are open, counted here since the scheduler may not know them yet,
         and less what others run."""
         mine = Counter(it.worker for it in self.maps.values() if it.end == "running")
-        others = {at: sum(not key.startswith(f"{self.mark}-map-") for key in it.busy) for at, it in seen.workers.items()}
+        own = f"{self.mark}-map-"
+        others = {at: sum(not key.startswith(own) for key in it.busy) for at, it in seen.workers.items()}
         return {at: max(0, it.threads - mine[at] - others[at]) for at, it in seen.workers.items()}
 
     def pending(self, seen: Look) -> dict[str, Split]:
@@ -198,8 +199,8 @@ class Job:
             return
         attempts = []
         for split, worker in plan.starts.items():
-            source, number = nearest(places, worker, wave.splits[split].holders), len(self.attempts) + len(attempts) + 1
-            steps = distance(places, source, worker)
+            source = nearest(places, worker, wave.splits[split].holders)
+            steps, number = distance(places, source, worker), len(self.attempts) + len(attempts) + 1
             attempts.append(Attempt(split, number, len(self.waves) + 1, worker, source, steps))
         planned = Planned(wave, sum(wave.splits[it.split].bytes * it.steps for it in attempts), attempts)
         self.waves.append(planned)

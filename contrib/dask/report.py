@@ -16,8 +16,7 @@ def progress(job: Job) -> None:
         ends = Counter(it.end for it in job.attempts)
         print(
             f"\rwave {len(job.waves)}, maps {ends['done']} of {len(job.blocks.pieces)}, lost {ends['lost']},"
-            f" parts {len(job.results)} of {job.work.parts} ",
-            end="\n" if len(job.results) == job.work.parts else "", file=sys.stderr, flush=True,
+            f" parts {len(job.results)} of {job.work.parts} ", end="", file=sys.stderr, flush=True,
         )
 
 
@@ -55,7 +54,7 @@ def report_lines(job: Job) -> list[str]:
     ends = Counter(it.end for it in job.attempts)
     rows.append(
         dict(waves=len(job.waves), starts=len(job.attempts), lost=ends["lost"], failed=ends["failed"],
-             cost=sum(it.cost for it in job.waves), copies=sum(it[0] == "add" for it in job.events), blocks_carried=blocks_carried(job),
-             outputs_carried=outputs_carried(job))
+             cost=sum(it.cost for it in job.waves), copies=sum(it[0] == "add" for it in job.events),
+             blocks_carried=blocks_carried(job), outputs_carried=outputs_carried(job))
     )
     return [json.dumps(row) for row in rows]

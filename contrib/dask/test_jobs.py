@@ -109,7 +109,8 @@ def death(trial: Trial, count: Count, sort: str, when: str) -> None:
     gone = [*job.ended("lost"), *job.ended("failed")]
     own = [it for it in gone if job.names[it.worker] == killed[0]]
     reads = [it for it in gone if job.names[it.source] == killed[0] and it not in own]
-    count.holds(f"{says}: just its maps and its readers' are lost", len(own) == killed[1] > 0 and len(gone) == len(own + reads))
+    is_so = len(own) == killed[1] > 0 and len(gone) == len(own + reads)
+    count.holds(f"{says}: just its maps and its readers' are lost", is_so, killed, gone)
     count.holds(f"{says}: a start more for each", len(job.attempts) == len(blocks.pieces) + len(gone))
     count.holds(f"{says}: no wave starts more on a worker than it has slots", within_slots(job))
     count.holds(f"{says}: no part that was done is started again", not any(a & b for a, b in job.seen_rounds))
@@ -180,7 +181,7 @@ def failing(trial: Trial, count: Count) -> None:
     except ValueError as why:
         said = str(why)
     most = Counter(it.split for it in job.attempts).most_common(1)[0][1]
-    count.holds("a map that always fails ends the job after four tries", (said, most) == ("this map fails", 4), said, most)
+    count.holds("a map that always fails ends the job after four tries", (said, most) == ("this map fails", 4), said)
 
 
 def beside_others(trial: Trial, count: Count) -> None:

@@ -26,6 +26,7 @@ from trial import NAMES, ROOT, Count, Trial, index_of, place_of
 from words import blocks_of, index_lines, map_words, reduce_words
 
 import reference_check
+from reference_play import misplayed
 
 INDEX = str(Path(__file__).resolve().with_name("index.py"))
 
@@ -82,7 +83,8 @@ def misplanned(planner: Planner, wave: Wave) -> bool:
 
 def waves(program: str, count: Count) -> None:
     """Plans of small clusters are best, by the reference, and are checked."""
-    planners: dict[str, Planner] = {"plan": Command(f"{program} plan"), "plan and check": Command(f"{program} plan", True)}
+    words = f"{program} plan"
+    planners: dict[str, Planner] = {"plan": Command(words), "plan and check": Command(words, True)}
     try:
         planners["the library"] = Library(True)
     except ImportError as why:
@@ -113,7 +115,8 @@ def faults(program: str, count: Count) -> None:
     lazy = 'if [ "$0" = check ]; then exec "$1" check; else printf "wave 0 0\\nprice s0 0\\nprice w0 0\\n"; fi'
     planner = Command("sh plan", True)
     planner.plan_words, planner.check_words = ["sh", "-c", lazy, "plan"], ["sh", "-c", lazy, "check", program]
-    count.holds("a plan that is not best is refused", "refused C5 s0 w0" in refuses(planner, wave), refuses(planner, wave))
+    said = refuses(planner, wave)
+    count.holds("a plan that is not best is refused", "refused C5 s0 w0" in said, said)
     count.holds("a wrong cost is refused", "do not come to" in refuses(Wrong(), wave))
     count.holds("a command that fails is told", "ended with" in refuses(Command("false plan"), wave))
     many = {f"w{it}": Place(f"r{it}", f"c{it}") for it in range(257)}
@@ -139,7 +142,8 @@ def placing(count: Count) -> None:
     places, rnd = {name: place_of(name) for name in NAMES}, Random(3)
     held = [as_hdfs(places, rnd) for _ in range(200)]
     is_so = all(places[a] != places[b] == places[c] and len({a, b, c}) == 3 for a, b, c in held)
-    count.holds("replicas lie as HDFS lays them, and first ones anywhere", is_so and {a for a, _, _ in held} == {*NAMES})
+    firsts = {first for first, _, _ in held}
+    count.holds("replicas lie as HDFS lays them, and first ones anywhere", is_so and firsts == {*NAMES})
     count.holds("few workers hold what they can", len(as_hdfs({"a": Place("r"), "b": Place("r")}, rnd)) == 2)
 
 
@@ -156,18 +160,20 @@ def command(program: str, trial: Trial, count: Count) -> None:
     room.mkdir()
     for name, text in trial.documents:
         (room / name).write_bytes(text)
-    report, out = trial.here.disk("report"), trial.here.disk("index")
+    report, out, told = (trial.here.disk(name) for name in ("report", "index", "history"))
     ended = index(trial, str(room), "--planner", f"{program} plan", "--check", "--block", str(5000), "--parts", "3",
-                  "--report", str(report), "--out", str(out))
+                  "--report", str(report), "--out", str(out), "--history", str(told))
     count.holds("index.py FOLDER ends well", (ended[0], ended[2]) == ("", 0), ended)
     lines = out.read_text().splitlines() if out.exists() else []
     count.holds("index.py FOLDER: the index is that of the reference", lines == trial.wanted)
     rows = [json.loads(line) for line in report.read_text().splitlines()]
     starts, whole = [row for row in rows if "attempt" in row], rows[-1]
     cost = sum(row["distance"] * row["bytes"] for row in starts)
-    told = cost == whole["cost"] == sum(row["cost"] for row in rows[:-1] if "cost" in row)
+    adds_up = cost == whole["cost"] == sum(row["cost"] for row in rows[:-1] if "cost" in row)
     total = sum(len(text) for _, text in trial.documents)
-    count.holds("index.py FOLDER: its report adds up", told and sum(row["bytes"] for row in starts) == total, whole)
+    count.holds("index.py FOLDER: its report adds up", adds_up and sum(row["bytes"] for row in starts) == total, whole)
+    wrong = misplayed(Path(f"{told}.txt").read_bytes(), Path(f"{told}.out").read_bytes(), 1)
+    count.holds("index.py FOLDER: its maps are a legal history, by the reference", wrong is None, wrong)
 
 
 def tables(program: str, trial: Trial, count: Count) -> None:
@@ -177,7 +183,8 @@ def tables(program: str, trial: Trial, count: Count) -> None:
     table.write_text("\n".join(rows) + "\n")
     asked = ["--planner", f"{program} plan", "--table", str(table)]
     said, _, status = index(trial, *asked)
-    count.holds("index.py --table: the index is that of the reference", (said.splitlines(), status) == (trial.wanted, 0))
+    is_so = (said.splitlines(), status) == (trial.wanted, 0)
+    count.holds("index.py --table: the index is that of the reference", is_so)
     table.write_text("\n".join([*rows, "lost 7 1 nobody"]) + "\n")
     said, why, status = index(trial, *asked, "--out", str(out))
     is_so = (said, status) == ("", 1) and "lost@7 has no living holder" in why and not out.exists()

@@ -96,16 +96,19 @@ def document_name(path: str) -> str:
     return quote(path, safe="/!#$&'()*+,:;=?@[]~{}|^`\"<>\\")
 
 
-def texts_of(folder: str) -> Iterator[tuple[str, bytes]]:
-    """The files below a folder that are no links and have no byte 0 in front, by name."""
+def texts_of(folder: str, left_out: list[str]) -> Iterator[tuple[str, bytes]]:
+    """The files below a folder, by name; links and files with a byte 0 in front are left out."""
     for place, folders, files in os.walk(folder):
         folders.sort()
         for path in sorted(os.path.join(place, file) for file in files):
+            text = b"\0"
             if os.path.isfile(path) and not os.path.islink(path):
                 with open(path, "rb") as file:
                     text = file.read()
-                if b"\0" not in text[:4096]:
-                    yield document_name(os.path.relpath(path, folder)), text
+            if b"\0" in text[:4096]:
+                left_out.append(path)
+            else:
+                yield document_name(os.path.relpath(path, folder)), text
 
 
 def blocks_of(texts: Iterable[tuple[str, bytes]], sizes: Iterator[int]) -> Iterator[tuple[bytes, list[Piece]]]:
