@@ -45,13 +45,15 @@ class History:
 
     def head(self) -> Iterator[str]:
         """The cluster as the job first saw it."""
-        seen, places = self.job.first, {at: self.job.place_of(it.name) for at, it in self.job.first.workers.items()}
+        seen = self.job.first
+        workers = dict(sorted(seen.workers.items(), key=lambda it: it[1].name))
+        places = {at: self.job.place_of(it.name) for at, it in workers.items()}
         centre = lambda place: self.names.of("centre", place.centre)
         rack = lambda place: self.names.of("rack", f"{place.rack} {place.centre}" if place.centre else place.rack)
         yield "script 2"
         yield from (f"centre {it}" for it in dict.fromkeys(map(centre, places.values())))
         yield from (f"rack {rack(it)} {centre(it)}" for it in dict.fromkeys(places.values()))
-        yield from (f"worker {self.worker(at)} {rack(places[at])} {it.threads}" for at, it in seen.workers.items())
+        yield from (f"worker {self.worker(at)} {rack(places[at])} {it.threads}" for at, it in workers.items())
         for split in self.job.blocks.pieces:
             held = map(self.worker, self.job.blocks.holders(split, seen))
             yield " ".join([f"split {self.split(split)} {self.job.blocks.size(split)}", *held])

@@ -18,6 +18,7 @@ from __future__ import annotations
 
 import argparse
 import itertools
+import os
 import sys
 from contextlib import contextmanager, nullcontext
 from random import Random
@@ -27,7 +28,7 @@ from distributed import Client
 
 sys.dont_write_bytecode = True
 from blocks import Blocks, FileBlocks, KeyBlocks, as_hdfs, read_table, read_web, rows_of
-from calls import look, read_from
+from calls import look
 from history import History
 from job import Job, LostBlock, Work
 from planner import Place, Unfit, planner_of
@@ -52,9 +53,9 @@ def places_of(topology: Optional[str]) -> Callable[[str], Place]:
 
 def laid(client: Client, asked: argparse.Namespace, place_of: Callable[[str], Place]) -> KeyBlocks:
     """The files of a folder as blocks in the memory of workers."""
+    if not os.path.isdir(asked.folder):
+        raise Unfit(f"{asked.folder} is no folder")
     places = {at: place_of(it.name) for at, it in look(client, []).workers.items()}
-    if not places:
-        raise Unfit("there is no worker")
     blocks, rnd, left_out = KeyBlocks(client, f"mrjob-{client.id}", asked.replicas), Random(asked.seed), []
     for data, pieces in blocks_of(texts_of(asked.folder, left_out), itertools.repeat(asked.block)):
         blocks.put(data, pieces, as_hdfs(places, rnd, asked.replicas))
@@ -74,7 +75,7 @@ def blocks_asked(client: Client, asked: argparse.Namespace, place_of: Callable[[
         listing = read_listing(file)
     for words, count in listing.told.items():
         print(f"{count} {words}", file=sys.stderr)
-    return FileBlocks(client, rows_of(listing), read_web(asked.webhdfs) if asked.webhdfs else read_from)
+    return FileBlocks(client, rows_of(listing), read_web(asked.webhdfs))
 
 
 def words_of() -> argparse.Namespace:
@@ -87,6 +88,7 @@ def words_of() -> argparse.Namespace:
     add("--scheduler", required=True, help="the address of Dask's scheduler")
     add("--planner", default="bin/mrjob plan", help="a command, or `library`")
     add("--check", action="store_true", help="let each plan be checked by its prices")
+    add("--workers", type=int, default=1, help="wait until so many are there")
     add("--topology", help="lines NAME RACK [CENTRE]")
     add("--replicas", type=int, default=3, help="so many workers hold a block that is laid")
     add("--block", type=int, default=1 << 20, help="its bytes")
@@ -98,6 +100,8 @@ def words_of() -> argparse.Namespace:
     asked = parser.parse_args()
     if sum(map(bool, (asked.folder, asked.table, asked.hdfs))) != 1:
         parser.error("one of FOLDER, --table and --hdfs is wanted")
+    if bool(asked.hdfs) != bool(asked.webhdfs):
+        parser.error("--hdfs and --webhdfs go together")
     return asked
 
 
@@ -136,6 +140,7 @@ def run(asked: argparse.Namespace) -> None:
     """Runs the job on the cluster."""
     place_of, planner = places_of(asked.topology), planner_of(asked.planner, asked.check)
     with Client(asked.scheduler) as client, undropped(client):
+        client.wait_for_workers(asked.workers)
         blocks = blocks_asked(client, asked, place_of)
         job = Job(client, blocks, planner, Work(map_words, reduce_words, asked.parts), place_of, progress)
         try:
