@@ -133,7 +133,7 @@ def write_all(job: Job, lines: list[str], asked: argparse.Namespace) -> None:
         write(history.script, f"{asked.history}.txt")
         write(history.report, f"{asked.history}.out")
     write(lines, asked.out)
-    print(report[-1], file=sys.stderr)
+    print("\n" * sys.stderr.isatty() + report[-1], file=sys.stderr)
 
 
 def run(asked: argparse.Namespace) -> None:
