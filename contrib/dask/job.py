@@ -34,8 +34,8 @@ class Work(NamedTuple):
 
     `map(data, pieces, parts)` gives the output of a block for each part, as a list of bytes, and nothing else:
     it may be called again for the same block, on another worker. `reduce(outputs)` gives the result of one part,
-    from its outputs of all blocks in their order. A script's own functions are sent to the workers whole; those of a
-    module go by name, unless `cloudpickle.register_pickle_by_value(module)` was called, and what they import is not sent.
+    from its outputs of all blocks in their order. A script's own functions are sent to the workers whole, those of a
+    module by name, unless `cloudpickle.register_pickle_by_value(module)` was called. What they import is not sent.
     """
 
     map: Callable[[bytes, list[Piece], int], list[bytes]]
