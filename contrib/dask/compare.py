@@ -4,15 +4,16 @@
     contrib/dask/compare.py --planner "bin/mrjob plan"
 
 A cluster of this machine has 12 workers with one thread each, in 4 racks; 72 blocks of 0.5 MB have three holders
-each, and a map takes half a second. A row of a table is written for each way in which blocks lie: of each run, by
-another seed, the megabytes times steps that the senders' logs have, and how many blocks moved, after the stroke those
-within a rack.
+each, and a map takes half a second and gives a checksum. A row of a table is written for each way in which blocks lie:
+of each run, by another seed, the megabytes times steps that the senders' logs have, and how many blocks moved, after
+the stroke those within a rack.
 """
 from __future__ import annotations
 
 import argparse
 import sys
 import time
+import zlib
 from collections import Counter
 from random import Random
 from typing import Callable
@@ -25,9 +26,8 @@ from calls import read_from, sent_keys, sent_pieces
 from cluster import Cluster
 from job import Attempt, Job, Work, map_task
 from planner import Place, Planner, distance, nearest, planner_of
-from words import blocks_of, index_lines, map_words, reduce_words
 
-RACKS, PER_RACK, BLOCKS, BYTES, PARTS, SECONDS = 4, 3, 72, 500_000, 4, 0.5
+RACKS, PER_RACK, BLOCKS, BYTES, SECONDS = 4, 3, 72, 500_000, 0.5
 # Where four of five blocks lie, if not as HDFS lays them.
 SHAPES = {
     "balanced": None,
@@ -40,9 +40,9 @@ def place_of(name: str) -> Place:
     return Place(name.partition(".")[0])
 
 
-def slow_map(data, pieces, parts):
+def checksum(data, pieces, parts):
     time.sleep(SECONDS)
-    return map_words(data, pieces, parts)
+    return [str(zlib.crc32(data)).encode()]
 
 
 class ByDask(Job):
@@ -72,16 +72,6 @@ class NearestFiles(FileBlocks):
         return lambda: read_from(sources[get_worker().address], pieces), []
 
 
-def made_blocks() -> list[tuple[bytes, list]]:
-    """Texts of random words, cut in blocks."""
-    rnd = Random(5)
-    known = ["".join(rnd.choices("abcdefghijklmnopqrstuvwxyz", k=rnd.randint(2, 9))) for _ in range(5000)]
-    document = lambda: " ".join(rnd.choices(known, k=BYTES // 6)).encode()
-    texts = ((f"document-{number:03}", document()) for number in range(BLOCKS * 2))
-    sizes = iter(lambda: BYTES, None)
-    return [block for _, block in zip(range(BLOCKS), blocks_of(texts, sizes))]
-
-
 def holders(shape: str, rnd: Random) -> list[list[str]]:
     """The names of each block's holders."""
     places = {f"r{rack}.w{worker}": Place(f"r{rack}") for rack in range(RACKS) for worker in range(PER_RACK)}
@@ -91,36 +81,31 @@ def holders(shape: str, rnd: Random) -> list[list[str]]:
     ]
 
 
-def index_of(blocks: list[tuple[bytes, list]]) -> list[str]:
-    """The index of blocks by one sequential run."""
-    outputs = [map_words(data, pieces, PARTS) for data, pieces in blocks]
-    return index_lines(reduce_words([it[part] for it in outputs]) for part in range(PARTS))
-
-
 class Comparison:
     """Jobs over the same blocks on one cluster."""
 
     def __init__(self, here: Cluster, planner: Planner) -> None:
-        self.here, self.planner, self.cut, self.laid = here, planner, made_blocks(), 0
-        in_files = [(data, [(f"block-{number:03}", 0, len(data))]) for number, (data, _) in enumerate(self.cut)]
-        self.wanted = {"keys": index_of(self.cut), "files": index_of(in_files)}
+        self.here, self.planner, self.laid = here, planner, 0
+        rnd = Random(5)
+        self.data = [rnd.randbytes(BYTES) for _ in range(BLOCKS)]
+        self.wanted = [str(zlib.crc32(it)).encode() for it in self.data]
         self.address = here.addresses()
         self.places = {address: place_of(name) for name, address in self.address.items()}
 
     def keys(self, held: list[list[str]]) -> KeyBlocks:
         self.laid += 1
         blocks = KeyBlocks(self.here.client, f"compared-{self.laid}")
-        for (data, pieces), names in zip(self.cut, held):
-            blocks.put(data, pieces, [self.address[it] for it in names])
+        for data, names in zip(self.data, held):
+            blocks.put(data, [("block", 0, BYTES)], [self.address[it] for it in names])
         blocks.lay()
         return blocks
 
     def files(self, held: list[list[str]]) -> FileBlocks:
         """A file for each block, on its holders' disks."""
         rows = []
-        for number, ((data, _), names) in enumerate(zip(self.cut, held)):
+        for number, (data, names) in enumerate(zip(self.data, held)):
             file = f"block-{number:03}"
-            rows.append(Row(file, 0, len(data), names))
+            rows.append(Row(file, 0, BYTES, names))
             for name in names:
                 (self.here.disk(name) / file).write_bytes(data)
         return NearestFiles(self.here.client, rows, self.places, self.address)
@@ -135,13 +120,12 @@ class Comparison:
     def run(self, kind: Callable, sort: str, shape: str, seed: int) -> str:
         """One job: megabytes times steps, blocks that moved, and of these those within a rack."""
         blocks = getattr(self, sort)(holders(shape, Random(seed)))
-        work, before = Work(slow_map, reduce_words, PARTS), self.carried(blocks)
+        work, before = Work(checksum, list, 1), self.carried(blocks)
         began = time.perf_counter()
-        job = kind(self.here.client, blocks, self.planner, work, place_of)
-        lines = index_lines(job.run())
+        results = kind(self.here.client, blocks, self.planner, work, place_of).run()
         seconds = time.perf_counter() - began
-        if lines != self.wanted[sort]:
-            raise AssertionError("the index is wrong")
+        if results != [self.wanted]:
+            raise AssertionError("a checksum is wrong")
         moved = [*(self.carried(blocks) - before).elements()]
         steps = [distance(self.places, source, to) for _, source, to, _ in moved]
         weighted = sum(size * step for (*_, size), step in zip(moved, steps)) / 1e6
