@@ -150,7 +150,8 @@ def placing(count: Count) -> None:
 def index(trial: Trial, *asked: str) -> tuple[str, str, int]:
     """What index.py writes: the index, its last words, and its status."""
     words = [sys.executable, INDEX, "--scheduler", trial.here.client.scheduler.address, *asked]
-    ran = subprocess.run(words, capture_output=True, text=True, cwd=ROOT, stdin=subprocess.DEVNULL)
+    patient = {**os.environ, "DASK_DISTRIBUTED__COMM__TIMEOUTS__CONNECT": "300s"}
+    ran = subprocess.run(words, capture_output=True, text=True, cwd=ROOT, stdin=subprocess.DEVNULL, env=patient)
     return ran.stdout, ran.stderr, ran.returncode
 
 
