@@ -51,7 +51,7 @@ class ByDask(Job):
     def start_wave(self, seen, places) -> None:
         for split, pieces in self.blocks.pieces.items():
             read, given = self.blocks.data(split, "")
-            key = f"{self.mark}-map-{len(self.attempts)}"
+            key = f"{self.map_key}{len(self.attempts)}"
             future = self.client.submit(map_task(self.work, pieces, read), *given, key=key)
             self.maps[split] = Attempt(split, len(self.attempts), 1, "", "", 0, future)
             self.attempts.append(self.maps[split])

@@ -96,7 +96,9 @@ class Job:
     ) -> None:
         self.client, self.blocks, self.planner, self.work = client, blocks, planner, work
         self.place_of, self.step = place_of, step
-        self.mark = f"mrjob-{uuid.uuid4().hex[:8]}"
+        # (Dask learns how long tasks take by the words in front of a key)
+        mark = uuid.uuid4().hex[:8]
+        self.map_key, self.part_key, self.reduce_key = (f"mrjob-{it}-{mark}-" for it in ("map", "part", "reduce"))
         self.maps: dict[str, Attempt] = {}  # of each split the attempt that runs or is done
         self.attempts: list[Attempt] = []
         self.waves: list[Planned] = []
@@ -174,7 +176,7 @@ class Job:
         """The free slots: threads less own maps that are open, counted here since the scheduler may not know them yet,
         and less what others run."""
         mine = Counter(it.worker for it in self.maps.values() if it.end == "running")
-        own = f"{self.mark}-map-"
+        own = self.map_key
         others = {at: sum(not key.startswith(own) for key in it.busy) for at, it in seen.workers.items()}
         return {at: max(0, it.threads - mine[at] - others[at]) for at, it in seen.workers.items()}
 
@@ -225,7 +227,7 @@ class Job:
             read, given = self.blocks.data(it.split, it.source)
             it.future = self.client.submit(
                 map_task(self.work, self.blocks.pieces[it.split], read), *given,
-                key=f"{self.mark}-map-{it.number}", workers=[it.worker], allow_other_workers=False,
+                key=f"{self.map_key}{it.number}", workers=[it.worker], allow_other_workers=False,
             )
             self.maps[it.split] = it
 
@@ -237,12 +239,12 @@ class Job:
         pairs = [(it, part) for part in parts for it in maps]
         outputs = self.client.map(
             pick_task(), [it.future for it, _ in pairs], [part for _, part in pairs],
-            key=[f"{self.mark}-part-{part}-{it.number}-{self.rounds}" for it, part in pairs],
+            key=[f"{self.part_key}{part}-{it.number}-{self.rounds}" for it, part in pairs],
         )
         for at, part in enumerate(parts):
             self.reduces[part] = self.client.submit(
                 reduce_task(self.work), outputs[at * len(maps) : (at + 1) * len(maps)],
-                key=f"{self.mark}-reduce-{part}-{self.rounds}",
+                key=f"{self.reduce_key}{part}-{self.rounds}",
             )
 
     def pause(self) -> None:

@@ -25,7 +25,7 @@ def outputs_carried(job: Job) -> dict[int, int]:
     places = {address: job.place_of(name) for address, name in job.names.items()}
     carried: Counter[int] = Counter()
     for key, sender, receiver, size in sent_keys(job.client):
-        if key.startswith(f"{job.mark}-part-") and receiver in places:
+        if key.startswith(job.part_key) and receiver in places:
             carried[distance(places, sender, receiver)] += size
     return dict(sorted(carried.items()))
 
