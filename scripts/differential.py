@@ -61,10 +61,13 @@ def groups():
     yield "front", wrong_run, fronts("run_words.txt")
     yield "death", wrong_death, deaths("play_death.txt", [b"a", b"b"])
     yield "full", wrong_index, [(f"a job of {over} bytes past the most", full_of_bytes(over)) for over in (0, 1)]
-    limits = [(kind, over) for kind in make_texts.MOST for over in (0, 1)]
-    yield "limit", wrong_check, [
-        (f"{over} past the most {kind}s", make_texts.limit(kind, over)) for kind, over in limits
-    ]
+    for most, wrong, make in (
+        (make_texts.MOST, wrong_check, make_texts.limit),
+        (make_texts.MOST_OF_SCRIPTS, wrong_play, make_texts.limit_of_scripts),
+    ):
+        yield "limit", wrong, [
+            (f"{over} past the most {kind}s", make(kind, over)) for kind in most for over in (0, 1)
+        ]
 
 
 def many(splits):

@@ -8,7 +8,8 @@ and jobs.
 import random
 import sys
 
-MOST = {"rack": 32, "worker": 256, "split": 1024}
+MOST = {"centre": 8, "rack": 32, "worker": 256, "split": 1024}
+MOST_OF_SCRIPTS = {"document": 65_536, "command": 65_536}
 KEYWORDS = ["problem", "script", "job", "centre", "rack", "worker", "split", "barred", "dead", "busy", "plan", "start"]
 KEYWORDS += ["price", "end", "parts", "target", "silence", "doc", "begin", "wave", "done", "fail", "withdraw", "die"]
 KEYWORDS += ["join", "add", "lose", "sweep", "reduce", "copies", "backup"]
@@ -326,13 +327,22 @@ def spoiled(rnd, lines):
 
 
 def limit(kind, over):
-    """A text with so many past the most racks, workers or splits."""
-    count = {"rack": 1, "worker": 1, "split": 0, kind: MOST[kind] + over}
-    lines = ["problem 1", *(f"rack r{i}" for i in range(count["rack"]))]
+    """A text with so many past the most data centres, racks, workers or splits."""
+    count = {"centre": 1, "rack": 1, "worker": 1, "split": 0, kind: MOST[kind] + over}
+    lines = ["problem 2", *(f"centre c{i}" for i in range(count["centre"]))]
+    lines += [f"rack r{i} c0" for i in range(count["rack"])]
     lines += [f"worker w{i} r0 16" for i in range(count["worker"])]
     lines += [f"split s{i} 0" for i in range(count["split"])] + ["plan"]
     lines += [f"price w{i} 0" for i in range(count["worker"])] + [f"price s{i} 0" for i in range(count["split"])]
     return text_of([*lines, "end"])
+
+
+def limit_of_scripts(kind, over):
+    """A script with so many past the most documents or commands."""
+    count = {"document": 1, "command": 1, kind: MOST_OF_SCRIPTS[kind] + over}
+    lines = ["script 1", "rack r", "worker a r 1", "split s 1 a"]
+    lines += [f"doc d{i} s word" for i in range(count["document"])] + ["begin"]
+    return text_of([*lines, *["reduce"] * count["command"], "end"])
 
 
 def large(rnd):
