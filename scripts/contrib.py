@@ -21,6 +21,7 @@ import os
 import random
 import re
 import shlex
+import shutil
 import subprocess
 import sys
 import tempfile
@@ -253,10 +254,12 @@ SETTINGS = [
 
 
 def indexed(count, program, room):
-    """The index of a job and of a script is that of the files."""
-    names = room / "names"
+    """The index of a job and of a script is that of the files. A link, which is left out, is put beside them."""
+    names, tales = room / "names", room / "tales"
+    shutil.copytree(TALES, tales)
+    (tales / "south/link.txt").symlink_to("wind.txt")
     for words in SETTINGS:
-        words = [TALES, *words, "--names", names]
+        words = [tales, *words, "--names", names]
         job, script_text = (script("job_of_files.py", *words, *more)[0] for more in ([], ["--script"]))
         index = index_of(names.read_text()).encode()
         shown = " ".join(str(it) for it in words[1:-2]) or "nothing"
@@ -265,7 +268,7 @@ def indexed(count, program, room):
         lines = report.decode().splitlines()
         is_played = not [line for line in lines if line.startswith("ignored")] and report.endswith(b"\n" + index)
         count.expect(f"play of a script of files, {shown}", (is_played, wrong, status), (True, "", 0))
-    out, told, _ = script("job_of_files.py", TALES, "--names", names)
+    out, told, _ = script("job_of_files.py", tales, "--names", names)
     count.expect("what was left out", [it.split("/")[-1] for it in re.findall("(?m)^-.*$", names.read_text())],
                  ["link.txt\ta link", "zero.bin\ta zero byte, so no text"])
     told = [line.partition(": ")[2] for line in told.splitlines()]
