@@ -70,8 +70,7 @@ pub fn tell(rt: &impl Abort, alloc: Global, outcome: Result<Outcome, RunError>) 
     }
 }
 
-/// Whether a split is done.
-pub fn is_done(master: &Master, split: usize) -> bool {
+fn is_done(master: &Master, split: usize) -> bool {
     split < 1024
         && split < master.cluster().splits().len()
         && matches!(

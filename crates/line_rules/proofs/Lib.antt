@@ -1,4 +1,3 @@
-pub mod Listed
 pub mod Keyed
 pub mod Kept
 pub mod Counted

@@ -119,16 +119,14 @@ fn is_free(rows: &Rows<'_>, name: &str) -> bool
     !is_taken(rows, name)
 }
 
-// Most names that are asked for are new, which is found at once.
 fn is_taken(rows: &Rows<'_>, name: &str) -> bool
     ensures { IsTrue result ↔ IsTaken rows.now name.now }
 {
-    rows.has_word(name)
-        && (has_row(rows, Keyword::Centre, name)
-            || has_row(rows, Keyword::Rack, name)
-            || has_row(rows, Keyword::Worker, name)
-            || has_row(rows, Keyword::Split, name)
-            || has_row(rows, Keyword::Doc, name))
+    has_row(rows, Keyword::Centre, name)
+        || has_row(rows, Keyword::Rack, name)
+        || has_row(rows, Keyword::Worker, name)
+        || has_row(rows, Keyword::Split, name)
+        || has_row(rows, Keyword::Doc, name)
 }
 
 // Whether a row of this keyword has this first word and is entered by it alone.
@@ -145,8 +143,7 @@ pub fn is_first(rows: &Rows<'_>, line: &KeyedLine<'_, '_>) -> bool
     !rows.has(line.keyword, first_of_key(line), second_of_key(line))
 }
 
-/// The first word of a line's key, empty where it has none.
-pub fn first_of_key<'t>(line: &KeyedLine<'_, 't>) -> &'t str
+fn first_of_key<'t>(line: &KeyedLine<'_, 't>) -> &'t str
     ensures { result.now ≡ first_key (entering line.now.keyword) (statement_of line.now).words }
 {
     match entering_of(line.keyword) {
@@ -156,8 +153,7 @@ pub fn first_of_key<'t>(line: &KeyedLine<'_, 't>) -> &'t str
     }
 }
 
-/// The second word of a line's key, empty where it has none.
-pub fn second_of_key<'t>(line: &KeyedLine<'_, 't>) -> &'t str
+fn second_of_key<'t>(line: &KeyedLine<'_, 't>) -> &'t str
     ensures { result.now ≡ second_key (entering line.now.keyword) (statement_of line.now).words }
 {
     match entering_of(line.keyword) {

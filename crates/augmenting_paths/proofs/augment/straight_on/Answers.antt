@@ -1,0 +1,20 @@
+use Rattle.std.proofs.Common.{List, ap, sym, ◌∙◌}
+use Rattle.flow_network.specs.declared.arcs.FlowArc.{FlowArc}
+use Rattle.flow_network.specs.Flows.{arc_at, tail_of}
+use Rattle.augmenting_paths.proofs.Straight.{exit_on}
+use Rattle.augmenting_paths.proofs.augment.straight_on.Goals as goal
+
+pub is_open-requires-in-Forward-clause-listed : goal.is_open-requires-in-Forward-clause-listed
+is_open-requires-in-Forward-clause-listed g c =
+    (exit_on _ _ _ _ _ _ c.requires.may.guests (sym c.exit.ensures ∙ c.in_ok-on-in-Forward.was)).0
+
+pub returns-then-is_open : goal.returns-then-is_open
+returns-then-is_open g c =
+    let exit = exit_on _ _ _ _ _ _ c.requires.may.guests (sym c.exit.ensures ∙ c.in_ok-on-in-Forward.was) in
+    record {
+      first = c.is_open.ensures c.if-not-is_open.false;
+      second = c.is_open-in-Forward.ensures c.if-is_open.true;
+      leaves = ap (tail_of c.args.network.now.arcs) (sym c.in-Forward.is);
+      meets = exit.1 ∙ ap (λ (arcs : List FlowArc). (arc_at arcs c.in-Forward.out).to) c.all_arcs.ensures;
+      arrives = exit.2;
+    }

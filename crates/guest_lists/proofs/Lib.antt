@@ -1,0 +1,4 @@
+-- the lists of each node's arcs, and the guests among them
+pub mod Sorting
+pub mod Following
+pub mod Kept

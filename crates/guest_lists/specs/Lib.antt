@@ -1,0 +1,3 @@
+pub mod Guests
+pub mod Standing
+pub mod Ways

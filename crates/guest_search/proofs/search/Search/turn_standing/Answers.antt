@@ -1,0 +1,50 @@
+use Rattle.std.proofs.Common.{◌∙◌, arith, refl}
+use Rattle.std.proofs.lemmas.List.{get_or_default}
+use Rattle.guest_search.proofs.Searching.{top_inside, standing_turns}
+use Rattle.guest_search.proofs.search.Search.turn_standing.Goals as goal
+
+pub bounds-standing-left : goal.bounds-standing-left
+bounds-standing-left g c =
+    let inside = top_inside _ _ _ _ _ _ _ c.requires.stands.1 c.requires.top.1 in
+    let size = c.requires.stands.1.left_standing_size in
+    let is = c.index-left.ensures ∙ get_or_default c.args.self.now.left_standing.items c.args.node
+    c.index-left.result.now 0 (omega arith) in
+    let few = c.requires.few in
+    let some = c.requires.left in
+    rw c.standing.ensures (omega arith)
+
+pub step-requires-clause-stands : goal.step-requires-clause-stands
+step-requires-clause-stands g c =
+    let inside = top_inside _ _ _ _ _ _ _ c.requires.stands.1 c.requires.top.1 in
+    let size = c.requires.stands.1.left_standing_size in
+    let is = c.index-left.ensures ∙ get_or_default c.args.self.now.left_standing.items c.args.node
+    c.index-left.result.now 0 (omega arith) in
+    let some = c.requires.left in (
+      c.requires.stands.0,
+      rw c.standing.ensures (standing_turns _ _ _ _ _ c.requires.top.0 c.args.node c.index-left.result.now _
+          c.requires.stands.1 c.requires.may.guests c.requires.top.1
+          c.index-left.ensures (omega arith) refl).0,
+    )
+
+pub step-requires-clause-leaves : goal.step-requires-clause-leaves
+step-requires-clause-leaves g c =
+    let inside = top_inside _ _ _ _ _ _ _ c.requires.stands.1 c.requires.top.1 in
+    let size = c.requires.stands.1.left_standing_size in
+    let is = c.index-left.ensures ∙ get_or_default c.args.self.now.left_standing.items c.args.node
+    c.index-left.result.now 0 (omega arith) in
+    let some = c.requires.left in
+    rw c.standing.ensures (standing_turns _ _ _ _ _ c.requires.top.0 c.args.node c.index-left.result.now _
+    c.requires.stands.1 c.requires.may.guests c.requires.top.1
+    c.index-left.ensures (omega arith) refl).1
+
+pub returns-clause-goes : goal.returns-clause-goes
+returns-clause-goes g c = λ start s.
+    let inside = top_inside _ _ _ _ _ _ _ s c.requires.top.1 in
+    let size = s.left_standing_size in
+    let is = c.index-left.ensures ∙ get_or_default c.args.self.now.left_standing.items c.args.node
+    c.index-left.result.now 0 (omega arith) in
+    let some = c.requires.left in
+    c.in_ok-found.ensures.goes start
+    (rw c.standing.ensures (standing_turns _ _ _ _ _ c.requires.top.0 c.args.node c.index-left.result.now
+    _ s c.requires.may.guests c.requires.top.1
+    c.index-left.ensures (omega arith) refl).0)

@@ -1,0 +1,5 @@
+pub mod Lowering
+pub mod ToSink
+pub mod Searching
+pub mod Search
+pub mod Finding
