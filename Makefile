@@ -1,6 +1,6 @@
 # Everything goes by rt, the command of the Rattle kit. Nothing here needs the network, and only `install` installs.
 
-.PHONY: all library install uninstall pictures demo test profile bench clean
+.PHONY: all library install uninstall pictures demo test soak profile bench clean
 
 PREFIX ?= /usr/local
 
@@ -37,6 +37,10 @@ demo:
 # The whole gate. The last line is 'N passed, M failed'.
 test:
 	@scripts/gate.sh
+
+# Made jobs and scripts for minutes, under schedules that nobody chose, once the gate has built the tests of jobs.
+soak: bin/mrjob
+	@scripts/soak.py
 
 # Each crate's processor seconds for its proof, its tests and its edits.
 profile:

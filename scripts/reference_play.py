@@ -260,7 +260,8 @@ def misplayed(text, written, status):
     at = 0
     try:
         for command, words in given.commands:
-            wanted = master.answer(command, words, lines[at:])
+            # (a wave's lines are two and its starts)
+            wanted = master.answer(command, words, lines[at : at + 2 + len(given.bytes)])
             if lines[at : at + len(wanted)] != wanted:
                 return f"line {at + 1}: {' '.join([command, *(it.decode() for it in words)])} answers {wanted}"
             at += len(wanted)

@@ -1,7 +1,8 @@
 #!/usr/bin/env bash
 # Refuses the built programs one call in turn, on examples, until a run meets none: each allocation, each read and
-# each write of the output, and each thread of a job. It also interrupts each transfer, and has them all move one byte.
-# Last, it refuses each allocation of built tests that hold whichever is refused.
+# each write of the output, and each thread. It also interrupts each transfer, once or for ever, has them all move one
+# byte, and has the output take each front of the answer and no more. Last, it refuses each allocation of built tests
+# that hold whichever is refused.
 # usage: refused_calls.sh PROGRAM..
 set -euo pipefail
 cd "$(dirname "$0")/.."
@@ -10,48 +11,105 @@ trap 'rm -rf "$room"' EXIT
 kit=$(dirname "$(rt doc)")
 # (by the compiler that the kit brings)
 "$kit/toolchain/bin/clang" -O2 -fPIC -shared -nostdlib -fuse-ld=lld -o "$room/refuse.so" scripts/refuse_call.c
+: > "$room/nothing"
 passed=0 failed=0
 
-# The example that is run, and the words of its command.
+# The example that is run, the words of its command, and its status.
 example=examples/swap
 words=(check)
+wanted=0
 
-# Runs the program with one call refused; the words that it says and its status are in $said.
+# Takes an example with its words and its status.
+take() { # EXAMPLE
+    example=examples/$1
+    words=(check)
+    if [ -e "$example.args" ]; then mapfile -t words < "$example.args"; fi
+    wanted=$(< "$example.status")
+}
+
+# Runs the program with one call refused; the words that it says and its status are in $said, and in $met what met it.
+# (A run that does not end is stopped after a time that none comes near.)
 run() { # PROGRAM KIND NTH
-    : > "$room/met"
     local status=0
-    env -i LD_PRELOAD="$room/refuse.so" REFUSE="$2" NTH="$3" "$1" "${words[@]}" \
+    timeout 300 env -i LD_PRELOAD="$room/refuse.so" REFUSE="$2" NTH="$3" "$1" "${words[@]}" \
         < "$example.txt" > "$room/out" 2> "$room/err" 9> "$room/met" || status=$?
     said="$(cat "$room/err") ($status)"
+    met=$(cat "$room/met")
 }
 
 # Whether the last run gave the whole answer: std asks for an amortized growth first, and where that is refused for
 # just as much as is needed, so a run may go on after a refusal.
 is_whole() {
-    [ "$said" = " (0)" ] && cmp -s "$room/out" "$example.out"
+    [ "$said" = " ($wanted)" ] && cmp -s "$room/out" "$example.out"
+}
+
+# Counts a sweep, and shows what it came to.
+count() { # PROGRAM KIND SUM WRONG
+    echo "$1 ${words[*]}: $2: $3, $4 wrong"
+    if [ "$4" = 0 ]; then passed=$((passed + 1)); else failed=$((failed + 1)); fi
+}
+
+show() { # PROGRAM KIND NTH
+    echo "$1 ${words[*]}: $2 $3: it says: $said"
 }
 
 sweep() { # PROGRAM KIND WORDS-AND-STATUS OUTPUT
     local wrong=0 calls=0 told=0 nth
     for ((nth = 1; nth <= 10000; nth++)); do
         run "$1" "$2" "$nth"
-        [ -s "$room/met" ] || break
+        [[ $met == x* ]] || break
         calls=$nth
         if [ "$said" = "$3" ] && cmp -s "$room/out" "$4"; then
             told=$((told + 1))
         elif [ "$2" != alloc ] || ! is_whole; then
             wrong=$((wrong + 1))
-            echo "$1 ${words[*]}: $2 $nth: it says: $said"
+            show "$1" "$2" "$nth"
         fi
     done
     # the run that met no refusal, and at least one that did
     if ! is_whole || [ "$told" = 0 ] || [ "$nth" -gt 10000 ]; then
         wrong=$((wrong + 1))
-        echo "$1 ${words[*]}: $2: after $calls calls that were refused, it says: $said"
+        show "$1" "$2" "after $calls"
     fi
-    local without=$((calls - told - wrong))
-    echo "$1 ${words[*]}: $2: $calls calls, one refused in each run: $told told, $without done without, $wrong wrong"
-    if [ "$wrong" = 0 ]; then passed=$((passed + 1)); else failed=$((failed + 1)); fi
+    count "$1" "$2" "$calls calls, one refused in each run: $told told, $((calls - told - wrong)) done without" "$wrong"
+}
+
+# The output takes one byte a call, up to each front of the answer, and then no more.
+sweep_fronts() { # PROGRAM KIND
+    local wrong=0 nth size
+    size=$(stat -c %s "$example.out")
+    for ((nth = 1; nth <= size; nth++)); do
+        run "$1" "$2" "$nth"
+        head -c $((nth - 1)) "$example.out" > "$room/front"
+        if [ "$said" != "mrjob: write fault (4)" ] || ! cmp -s "$room/out" "$room/front"; then
+            wrong=$((wrong + 1))
+            show "$1" "$2" "$nth"
+        fi
+    done
+    run "$1" "$2" "$nth"
+    if ! is_whole; then wrong=$((wrong + 1)); show "$1" "$2" "$nth"; fi
+    count "$1" "$2" "$size fronts of the answer" "$wrong"
+}
+
+# Refuses each thread. Where the program can't do without it, it says so; all that were started have ended by then.
+sweep_threads() { # PROGRAM WORDS-AND-STATUS
+    local wrong=0 threads=0 told=0 nth
+    for ((nth = 1; nth <= 1000; nth++)); do
+        run "$1" thread "$nth"
+        [[ $met == x* ]] || break
+        threads=$nth
+        if [ "$said" = "$2" ] && [ ! -s "$room/out" ] && [ "$met" = x0 ]; then
+            told=$((told + 1))
+        else
+            wrong=$((wrong + 1))
+            show "$1" thread "$nth, after which $met ran"
+        fi
+    done
+    if ! is_whole || [ "$met" != 0 ] || [ "$told" = 0 ]; then
+        wrong=$((wrong + 1))
+        show "$1" thread "after $threads"
+    fi
+    count "$1" thread "$threads threads, one refused in each run: $told told" "$wrong"
 }
 
 # Refuses each allocation of a job on threads. Which one is met in which run depends on the threads, and a worker that
@@ -60,7 +118,7 @@ sweep_job() { # PROGRAM
     local wrong=0 calls=0 told=0 nth
     for ((nth = 1; nth <= 10000; nth++)); do
         run "$1" alloc "$nth"
-        [ -s "$room/met" ] || break
+        [[ $met == x* ]] || break
         calls=$nth
         case "$said" in
             "mrjob: no memory (3)" | "mrjob: no thread (6)") [ ! -s "$room/out" ] && told=$((told + 1)) && continue ;;
@@ -68,73 +126,71 @@ sweep_job() { # PROGRAM
             *) is_whole && continue ;;
         esac
         wrong=$((wrong + 1))
-        echo "$1 ${words[*]}: alloc $nth: it says: $said"
+        show "$1" alloc "$nth"
     done
     if ! is_whole || [ "$told" = 0 ] || [ "$nth" -gt 10000 ]; then
         wrong=$((wrong + 1))
-        echo "$1 ${words[*]}: alloc: after $calls calls that were refused, it says: $said"
+        show "$1" alloc "after $calls"
     fi
-    echo "$1 ${words[*]}: alloc: $calls calls, one refused in each run: $told told, $wrong wrong"
-    if [ "$wrong" = 0 ]; then passed=$((passed + 1)); else failed=$((failed + 1)); fi
+    count "$1" alloc "$calls calls, one refused in each run: $told told" "$wrong"
 }
 
-: > "$room/nothing"
 for program in "$@"; do
-    example=examples/swap
-    words=(check)
-    sweep "$program" alloc "mrjob: no memory (3)" "$room/nothing"
-    sweep "$program" read "mrjob: read fault (4)" "$room/nothing"
-    sweep "$program" write "mrjob: write fault (4)" "$room/nothing"
-    sweep "$program" interrupt " (0)" "$example.out"
-    sweep "$program" short " (0)" "$example.out"
-    for example in examples/plan_swap examples/plan_count_first examples/plan_prices; do
+    for name in swap plan_prices play_death run_words; do
+        take $name
+        for kind in read broken asleep; do
+            sweep "$program" $kind "mrjob: read fault (4)" "$room/nothing"
+        done
+        sweep "$program" write "mrjob: write fault (4)" "$room/nothing"
+        for kind in full idle; do sweep_fronts "$program" $kind; done
+        for kind in interrupt short; do sweep "$program" $kind " ($wanted)" "$example.out"; done
+    done
+    for name in swap nothing_started; do
+        take $name
+        sweep "$program" alloc "mrjob: no memory (3)" "$room/nothing"
+    done
+    for name in plan_swap plan_count_first plan_prices; do
         for network in direct racks; do
-            mapfile -t words < "$example.args"
+            take $name
             words+=(--network "$network")
             sweep "$program" alloc "mrjob: no memory (3)" "$room/nothing"
         done
     done
-    sweep "$program" read "mrjob: read fault (4)" "$room/nothing"
-    sweep "$program" write "mrjob: write fault (4)" "$room/nothing"
-    example=examples/play_death
-    words=(play)
+    take play_death
     sweep "$program" alloc "mrjob: no memory (3)" "$room/nothing"
-    sweep "$program" read "mrjob: read fault (4)" "$room/nothing"
-    sweep "$program" write "mrjob: write fault (4)" "$room/nothing"
-    example=examples/run_words
-    words=(run)
+    take run_words
     sweep_job "$program"
-    sweep "$program" thread "mrjob: no thread (6)" "$room/nothing"
-    sweep "$program" read "mrjob: read fault (4)" "$room/nothing"
-    sweep "$program" write "mrjob: write fault (4)" "$room/nothing"
-    sweep "$program" interrupt " (0)" "$example.out"
-    sweep "$program" short " (0)" "$example.out"
+    for name in run_words run_many_parts; do
+        take $name
+        sweep_threads "$program" "mrjob: no thread (6)"
+    done
 done
 
 # Refuses each allocation of a built test that holds whichever of them is refused.
-sweep_test() { # TESTS NAME
-    local tests=$1 name=$2 calls=0 wrong=0 nth
+sweep_test() { # CRATE TEST
+    local tests=crates/$1/out/$1_tests calls=0 wrong=0 nth
     for ((nth = 1; nth <= 10000; nth++)); do
-        : > "$room/met"
-        env -i LD_PRELOAD="$room/refuse.so" REFUSE=alloc NTH="$nth" "$tests" "$name" \
+        env -i LD_PRELOAD="$room/refuse.so" REFUSE=alloc NTH="$nth" "$tests" "$2" \
             > "$room/out" 2>&1 9> "$room/met" || { wrong=$((wrong + 1)); cat "$room/out"; }
         [ -s "$room/met" ] || break
         calls=$nth
     done
-    echo "$tests: $name: $calls allocations, one refused in each run, $wrong wrong"
-    if [ "$wrong" != 0 ] || [ "$calls" = 0 ] || [ "$nth" -gt 10000 ]; then failed=$((failed + 1)); else passed=$((passed + 1)); fi
+    echo "$tests: $2: $calls allocations, one refused in each run, $wrong wrong"
+    if [ "$calls" = 0 ] || [ "$nth" -gt 10000 ]; then wrong=$((wrong + 1)); fi
+    if [ "$wrong" = 0 ]; then passed=$((passed + 1)); else failed=$((failed + 1)); fi
 }
 
-sweep_test crates/plan_tests/out/plan_tests_tests flows::refused_arcs_leave_no_trace
-sweep_test crates/text_tests/out/text_tests_tests indexes::a_refused_allocation_is_told
-for name in commit_changes_nothing reduce_start_changes_nothing; do
-    sweep_test crates/master_tests/out/master_tests_tests "refusals::a_refused_$name"
+sweep_test plan_tests flows::refused_arcs_leave_no_trace
+sweep_test text_tests indexes::a_refused_allocation_is_told
+for name in commit_changes_nothing commit_of_an_old_plan_changes_nothing reduce_start_changes_nothing; do
+    sweep_test master_tests "refusals::a_refused_$name"
 done
-sweep_test crates/master_tests/out/master_tests_tests refusals::refused_readers_change_nothing
-sweep_test crates/master_tests/out/master_tests_tests hand_refusals::a_refused_hand_changes_nothing
-sweep_test crates/master_tests/out/master_tests_tests hand_refusals::a_refused_wave_changes_nothing
-sweep_test crates/thread_tests/out/thread_tests_tests boards::a_refused_board_leaves_no_trace
-sweep_test crates/thread_tests/out/thread_tests_tests lanes::a_refused_close_gives_all_back
+sweep_test master_tests refusals::refused_readers_change_nothing
+for name in hand_changes_nothing wave_changes_nothing call_leaves_the_whole_master; do
+    sweep_test master_tests "hand_refusals::a_refused_$name"
+done
+sweep_test thread_tests boards::a_refused_board_leaves_no_trace
+sweep_test thread_tests lanes::a_refused_close_gives_all_back
 
 echo "$passed passed, $failed failed"
 [ "$failed" = 0 ] && [ "$passed" != 0 ]

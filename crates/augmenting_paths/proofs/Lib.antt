@@ -1,4 +1,4 @@
 pub mod Shipped
 pub mod Orders
 pub mod Starts
-pub mod Straight
+pub mod TightPath

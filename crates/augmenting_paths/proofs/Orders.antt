@@ -51,8 +51,8 @@ module _ (nodes : ℕ) (arcs : List FlowArc) (xs ys : List ℕ) (sink : ℕ) (p 
   pub order_can : CanShip nodes arcs ys sink
   order_can = record {
     arcs_in = can.arcs_in;
-    ways = λ k l.
-        (let at = place xs ys p k l in let w = can.ways at.0 at.1 in
+    paths = λ k l.
+        (let at = place xs ys p k l in let w = can.paths at.0 at.1 in
         let size = length_permutation xs ys p in let room = w.room in
         record {
           out = w.out;
@@ -176,5 +176,5 @@ pub sources_in : (nodes : ℕ) (arcs : List FlowArc) (sources : List ℕ) (sink 
     CanShip nodes arcs sources sink
     → (k : ℕ) → k < length sources → get_or sources k 0 < nodes
 sources_in nodes arcs sources sink can k l =
-    let w = can.ways k l in let inside = (can.arcs_in w.out w.out_in).from_in in let e = w.leaves in
+    let w = can.paths k l in let inside = (can.arcs_in w.out w.out_in).from_in in let e = w.leaves in
     omega arith

@@ -16,13 +16,13 @@ use Rattle.flow_network.specs.Flows.{path_end, arc_index, NoNegative, AreArcs, W
 use Rattle.flow_network.proofs.Balance.{push_balance, length-shifted}
 use Rattle.flow_network.proofs.Cheapest.{no_negative_is_cheapest}
 use Rattle.flow_network.specs.Leaving.{IsIn}
-use Rattle.guest_search.specs.Finding.{Finding, IsTotal, total_of}
-use Rattle.guest_search.specs.Lowering.{lowered}
-use Rattle.guest_search.specs.Searching.{distance_at}
-use Rattle.guest_lists.specs.Standing.{GoesOnce}
-use Rattle.guest_search.specs.ToSink.{far, IsSearched, IsTrace}
-use Rattle.guest_search.proofs.Lowering.{lift_law}
-use Rattle.guest_search.proofs.ToSink.{searched_is_least, unit_over_trace}
+use Rattle.shortest_paths.specs.Finding.{Finding, IsTotal, total_of}
+use Rattle.shortest_paths.specs.Lowering.{lowered}
+use Rattle.shortest_paths.specs.Searching.{distance_at}
+use Rattle.shortest_paths.specs.Matched.{GoesOnce}
+use Rattle.shortest_paths.specs.ToSink.{far, IsSearched, IsTrace}
+use Rattle.shortest_paths.proofs.Lowering.{lift_law}
+use Rattle.shortest_paths.proofs.ToSink.{searched_is_least, unit_over_trace}
 use Rattle.augmenting_paths.specs.Shipping.{times_in, CanShip, HasShipped, IsLifted, AreMembers}
 use Rattle.augmenting_paths.specs.Shipping.{IsShipment, IsCheapest}
 
@@ -159,22 +159,22 @@ module _ (nodes : ℕ) (arcs : List FlowArc) (sources : List ℕ) (sink count : 
   other_source k c l e = let same = can.distinct count k left l e in absurd (omega arith)
 
   pub start_in : get_or sources count 0 < nodes
-  start_in = let w = can.ways count left in let inside = (can.arcs_in w.out w.out_in).from_in in
+  start_in = let w = can.paths count left in let inside = (can.arcs_in w.out w.out_in).from_in in
       let e = w.leaves in omega arith
 
   pub sink_in : sink < nodes
-  sink_in = let w = can.ways count left in let inside = (can.arcs_in w.on w.on_in).to_in in
+  sink_in = let w = can.paths count left in let inside = (can.arcs_in w.on w.on_in).to_in in
       let e = w.arrives in omega arith
 
   pub start_level : h (get_or sources count 0) ≡ 0
   start_level = state.untouched count (omega arith) left
 
-  -- the way of the source's own, and what it comes to
+  -- the source's path of two arcs, and what it comes to
   pub own_way : (k : ℕ) × (k < length arcs) × ((arc_at arcs k).from ≡ get_or sources count 0)
       × (0 < (arc_at arcs k).capacity)
       × ((arc_at arcs k).cost + h (arc_at arcs k).to ≤ 2 ^ 40)
   own_way =
-      let w = can.ways count left in
+      let w = can.paths count left in
       let few = state.few w.on in
       let room = w.room in
       let on = (state.reduced w.on w.on_in).0 (omega arith) in
@@ -200,11 +200,11 @@ module _ (nodes : ℕ) (arcs : List FlowArc) (sources : List ℕ) (sink count : 
     ]
 
     module _ (d : ℕ → ℕ) (found : IsSearched arcs flows h' (get_or sources count 0) sink d) where
-      -- the sink is no farther than the source's own way
+      -- the sink is no farther than by the source's path of two arcs
       near : d sink + h' (get_or sources count 0) ≤ 2 ^ 40
       near =
           let s : ℕ = get_or sources count 0 in
-          let w = can.ways count left in
+          let w = can.paths count left in
           let own : get_or flows w.out 0 ≡ 0 = state.unused count w.out (omega arith) left w.out_in w.leaves
           in
           let few = state.few w.on in

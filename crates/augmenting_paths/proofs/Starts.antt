@@ -5,15 +5,15 @@ use Rattle.std.proofs.lemmas.List.{take_more}
 use Rattle.std.proofs.lemmas.Bool.{cases_lt}
 use Rattle.flow_network.specs.declared.arcs.FlowArc.{FlowArc}
 use Rattle.flow_network.specs.Flows.{AreArcs}
-use Rattle.augmenting_paths.specs.Shipping.{HasWay, CanShip, AreSources, AreMembers}
+use Rattle.augmenting_paths.specs.Shipping.{HasPath, CanShip, AreSources, AreMembers}
 
 pub can_ship_from : (nodes : ℕ) (arcs : List FlowArc) (sources : List ℕ) (sink : ℕ) → AreArcs nodes arcs →
     AreSources arcs sources sink
-    → ((k : ℕ) → k < length sources → HasWay arcs sources sink (get_or sources k 0)) →
+    → ((k : ℕ) → k < length sources → HasPath arcs sources sink (get_or sources k 0)) →
     CanShip nodes arcs sources sink
-can_ship_from nodes arcs sources sink are starts ways = record {
+can_ship_from nodes arcs sources sink are starts paths = record {
   arcs_in = are;
-  ways = ways;
+  paths = paths;
   distinct = λ j k l m e. elim (cases_lt j k) [
     | inl before ↦ absurd ((starts k m).first j before e)
     | inr past ↦ elim (cases_lt k j) [

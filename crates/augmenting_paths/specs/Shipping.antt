@@ -5,9 +5,9 @@ use Rattle.flow_network.specs.declared.arcs.FlowArc.{FlowArc}
 use Rattle.flow_network.specs.Flows.{arc_at, AreArcs, WithinCapacities, NoNegative, inflow, outflow}
 use Rattle.flow_network.specs.Flows.{unit_at}
 use Rattle.flow_network.specs.Laws.{flow_cost}
-use Rattle.guest_lists.specs.Guests.{GuestLists, source_at}
-use Rattle.guest_lists.specs.Standing.{AreStanding}
-use Rattle.guest_lists.specs.Ways.{AreSorted}
+use Rattle.shortest_paths.specs.Lists.{ArcLists, source_at}
+use Rattle.shortest_paths.specs.Matched.{AreMatched}
+use Rattle.shortest_paths.specs.Sorted.{AreSorted}
 
 -- how often a node stands in a list
 abbrev pub times_in : ℕ → List ℕ → ℕ
@@ -15,7 +15,7 @@ times_in w [] = 0
 times_in w (s ∷ sources) = unit_at s w + times_in w sources
 
 -- an own arc to a node that is no source, and from there an arc to the sink with room for all units
-pub record HasWay (arcs : List FlowArc) (sources : List ℕ) (sink s : ℕ) : Type 0 where
+pub record HasPath (arcs : List FlowArc) (sources : List ℕ) (sink s : ℕ) : Type 0 where
   pub out : ℕ
   pub on : ℕ
   pub out_in : out < length arcs
@@ -29,7 +29,7 @@ pub record HasWay (arcs : List FlowArc) (sources : List ℕ) (sink s : ℕ) : Ty
 -- what is asked of a network and its sources
 pub record CanShip (nodes : ℕ) (arcs : List FlowArc) (sources : List ℕ) (sink : ℕ) : Type 0 where
   pub arcs_in : AreArcs nodes arcs
-  pub ways : (k : ℕ) → k < length sources → HasWay arcs sources sink (slice_index sources k)
+  pub paths : (k : ℕ) → k < length sources → HasPath arcs sources sink (slice_index sources k)
   pub distinct : (j k : ℕ) → j < length sources → k < length sources → slice_index sources j
       ≡ slice_index sources k → j ≡ k
   pub not_sink : (k : ℕ) → k < length sources → slice_index sources k ≡ sink → ⊥
@@ -76,11 +76,11 @@ pub record HasLiftedNext (arcs : List FlowArc) (sources : List ℕ) (sink count 
   pub state : HasShipped arcs sources sink count flows h
   pub up : IsLifted arcs h h' (slice_index sources count)
 
--- the lists of arcs and the guests of a flow, over a network to whose sink units are shipped
-pub record KeepsGuests (nodes : ℕ) (arcs : List FlowArc) (flows : List ℕ) (sink : ℕ)
-    (g : GuestLists) : Type 0 where
+-- the lists of arcs and the lists of a flow, over a network to whose sink units are shipped
+pub record KeepsArcs (nodes : ℕ) (arcs : List FlowArc) (flows : List ℕ) (sink : ℕ)
+    (g : ArcLists) : Type 0 where
   pub sorted : AreSorted nodes arcs sink g
-  pub standing : AreStanding arcs flows g
+  pub matched : AreMatched arcs flows g
   pub sink_apart : source_at g sink ≡ false
 
 -- just the indices of the list are marked

@@ -2,28 +2,26 @@
 ghost use Rattle.std.specs.Prelude.{◌≡◌, ℕ, ◌+◌, ◌*◌, ◌<◌, ◌≤◌, ◌^◌, List, length, map, slice_index, true};
 ghost use Rattle.std.specs.Prelude.{false, IfOk, IfSome, IsSome, IsTrue};
 ghost use Rattle.flow_network.specs.Flows.{arc_at, arc_index, tail_of, AreArcs};
-ghost use Rattle.guest_search.specs.Finding.{IsTotal};
-ghost use Rattle.guest_search.specs.Search.{MaySearch};
-ghost use Rattle.guest_search.specs.Searching.{distance_at};
-ghost use Rattle.guest_search.specs.ToSink.{IsSearched, IsTrace};
+ghost use Rattle.shortest_paths.specs.Finding.{IsTotal};
+ghost use Rattle.shortest_paths.specs.Search.{MaySearch};
+ghost use Rattle.shortest_paths.specs.Searching.{distance_at};
+ghost use Rattle.shortest_paths.specs.ToSink.{IsSearched, IsTrace};
 ghost use Rattle.augmenting_paths.specs.Shipping.{CanShip, HasShipped, IsCheapest, AreMembers, IsLifted};
-ghost use Rattle.augmenting_paths.specs.Shipping.{HasLiftedNext, KeepsGuests, AreMarked};
-ghost use Rattle.augmenting_paths.specs.Straight.{IsTightArc, IsStraight};
+ghost use Rattle.augmenting_paths.specs.Shipping.{HasLiftedNext, KeepsArcs, AreMarked};
+ghost use Rattle.augmenting_paths.specs.TightPath.{IsTightArc, IsTightPath};
 
 use crate::order::shipping_order;
-use crate::ways::indices;
+use crate::requirements::indices;
 use flow_network::{ArcNo, FlowArc, Meter, Network};
-use guest_lists::Guests;
-use guest_search::{Buffers, Found};
 use node_ids::Layout;
-use shortest_paths::{Potentials, leaving};
+use shortest_paths::{Buffers, Found, Potentials, ResidualArcs, leaving};
 use std::alloc::{AllocError, Global};
 
 // What is kept from unit to unit, and how many looks at arcs the searches took.
 #[derive(Drop)]
 struct Shipping {
     potentials: Potentials,
-    guests: Guests,
+    lists: ResidualArcs,
     buffers: Buffers,
     looks: u64,
 }
@@ -56,22 +54,42 @@ pub fn saturate<L: Layout>(
     ensures arcs { network.new.arcs ≡ network.old.arcs }
     ensures layout { network.new.layout ≡ network.old.layout }
 {
-    network.limits();
-    let nodes = network.layout().size();
     let end = network.layout().index(sink);
     let starts = indices(alloc, network.layout(), sources)?;
-    let order = shipping_order(alloc, network, &starts, end)?;
-    let marks = marked(alloc, nodes, &starts)?;
+    let potentials = ship_all(alloc, network, &starts, end)?;
+    network.limits();
+    Ok(potentials)
+}
+
+// The same by the indices of the nodes.
+fn ship_all<L: Layout>(
+    alloc: Global,
+    network: &mut Network<L>,
+    sources: &[usize],
+    sink: usize,
+) -> Result<Potentials, AllocError>
+    requires limit { length sources.now ≤ 4096 }
+    requires can { CanShip (L.node_count network.old.layout) network.old.arcs sources.now sink }
+    requires no_flow { (k : ℕ) → slice_index network.old.flows k ≡ 0 }
+    ensures size { IfOk result (λ p. length p ≡ L.node_count network.old.layout) }
+    ensures shipped { IfOk result (λ p. HasShipped network.old.arcs sources.now sink (length sources.now)
+        network.new.flows (slice_index p)) }
+    ensures arcs { network.new.arcs ≡ network.old.arcs }
+    ensures layout { network.new.layout ≡ network.old.layout }
+{
+    network.limits();
+    let nodes = network.layout().size();
+    let order = shipping_order(alloc, network, sources, sink)?;
+    let marks = marked(alloc, nodes, sources)?;
     let mut shipping = Shipping {
         potentials: Potentials::new(alloc, nodes)?,
-        guests: Guests::new(alloc, network, marks, end)?,
+        lists: ResidualArcs::new(alloc, network, marks, sink)?,
         buffers: Buffers::new(alloc, nodes)?,
         looks: 0,
     };
     for count in 0..order.len() {
-        shipping = ship(alloc, network, shipping, &order, end, count)?;
+        shipping = ship(alloc, network, shipping, &order, sink, count)?;
     }
-    network.limits();
     let Shipping { potentials, .. } = shipping;
     Ok(potentials)
 }
@@ -95,42 +113,42 @@ fn ship<L: Layout>(
     requires can { CanShip (L.node_count network.old.layout) network.old.arcs order.now sink }
     requires state { HasShipped network.old.arcs order.now sink count network.old.flows
         (slice_index shipping.potentials) }
-    requires guests { KeepsGuests (L.node_count network.old.layout) network.old.arcs network.old.flows sink
-        shipping.guests }
+    requires lists { KeepsArcs (L.node_count network.old.layout) network.old.arcs network.old.flows sink
+        shipping.lists }
     ensures looks { IfOk result (λ s. s.looks ≤ (count + 1) * (2 * length network.old.arcs)) }
     ensures size { IfOk result (λ s. length s.potentials ≡ L.node_count network.old.layout) }
     ensures buffers { IfOk result (λ s. s.buffers ≡ L.node_count network.old.layout) }
     ensures state { IfOk result (λ s. HasShipped network.old.arcs order.now sink (count + 1) network.new.flows
         (slice_index s.potentials)) }
-    ensures guests { IfOk result (λ s. KeepsGuests (L.node_count network.old.layout) network.old.arcs
-        network.new.flows sink s.guests) }
+    ensures lists { IfOk result (λ s. KeepsArcs (L.node_count network.old.layout) network.old.arcs
+        network.new.flows sink s.lists) }
     ensures arcs { network.new.arcs ≡ network.old.arcs }
     ensures layout { network.new.layout ≡ network.old.layout }
 {
     let Shipping {
         mut potentials,
-        guests,
+        lists,
         buffers,
         looks,
     } = shipping;
     network.limits();
     let start = order[count];
     lift(network, &mut potentials, start);
-    let straight = straight_way(network, &potentials, &guests, start, sink);
+    let tight = tight_path(network, &potentials, &lists, start, sink);
     let lifted = Shipping {
         potentials,
-        guests,
+        lists,
         buffers,
         looks,
     };
-    match straight {
-        Some((out, on)) => ship_straight(network, lifted, order, sink, count, out, on),
+    match tight {
+        Some((out, on)) => ship_tight(network, lifted, order, sink, count, out, on),
         None => ship_found(alloc, network, lifted, order, sink, count),
     }
 }
 
 // Ships the unit of the next source, which is lifted, over an arc of its own and one to the sink.
-fn ship_straight<L: Layout>(
+fn ship_tight<L: Layout>(
     network: &mut Network<L>,
     shipping: Shipping,
     order: &[usize],
@@ -147,33 +165,33 @@ fn ship_straight<L: Layout>(
     requires can { CanShip (L.node_count network.old.layout) network.old.arcs order.now sink }
     requires lifted { HasLiftedNext network.old.arcs order.now sink count network.old.flows
         (slice_index shipping.potentials) }
-    requires straight { IsStraight network.old.arcs network.old.flows (slice_index shipping.potentials)
+    requires tight { IsTightPath network.old.arcs network.old.flows (slice_index shipping.potentials)
         (slice_index order.now count) sink out on }
-    requires guests { KeepsGuests (L.node_count network.old.layout) network.old.arcs network.old.flows sink
-        shipping.guests }
+    requires lists { KeepsArcs (L.node_count network.old.layout) network.old.arcs network.old.flows sink
+        shipping.lists }
     ensures looks { IfOk result (λ s. s.looks ≤ (count + 1) * (2 * length network.old.arcs)) }
     ensures size { IfOk result (λ s. length s.potentials ≡ L.node_count network.old.layout) }
     ensures buffers { IfOk result (λ s. s.buffers ≡ L.node_count network.old.layout) }
     ensures state { IfOk result (λ s. HasShipped network.old.arcs order.now sink (count + 1) network.new.flows
         (slice_index s.potentials)) }
-    ensures guests { IfOk result (λ s. KeepsGuests (L.node_count network.old.layout) network.old.arcs
-        network.new.flows sink s.guests) }
+    ensures lists { IfOk result (λ s. KeepsArcs (L.node_count network.old.layout) network.old.arcs
+        network.new.flows sink s.lists) }
     ensures arcs { network.new.arcs ≡ network.old.arcs }
     ensures layout { network.new.layout ≡ network.old.layout }
 {
     let Shipping {
         potentials,
-        mut guests,
+        mut lists,
         buffers,
         looks,
     } = shipping;
     network.limits();
     let path = [ArcNo::Forward(out), ArcNo::Forward(on)];
     network.push(&path);
-    guests.follow(network, &path)?;
+    lists.follow(network, &path)?;
     Ok(Shipping {
         potentials,
-        guests,
+        lists,
         buffers,
         looks,
     })
@@ -196,21 +214,21 @@ fn ship_found<L: Layout>(
     requires can { CanShip (L.node_count network.old.layout) network.old.arcs order.now sink }
     requires lifted { HasLiftedNext network.old.arcs order.now sink count network.old.flows
         (slice_index shipping.potentials) }
-    requires guests { KeepsGuests (L.node_count network.old.layout) network.old.arcs network.old.flows sink
-        shipping.guests }
+    requires lists { KeepsArcs (L.node_count network.old.layout) network.old.arcs network.old.flows sink
+        shipping.lists }
     ensures looks { IfOk result (λ s. s.looks ≤ (count + 1) * (2 * length network.old.arcs)) }
     ensures size { IfOk result (λ s. length s.potentials ≡ L.node_count network.old.layout) }
     ensures buffers { IfOk result (λ s. s.buffers ≡ L.node_count network.old.layout) }
     ensures state { IfOk result (λ s. HasShipped network.old.arcs order.now sink (count + 1) network.new.flows
         (slice_index s.potentials)) }
-    ensures guests { IfOk result (λ s. KeepsGuests (L.node_count network.old.layout) network.old.arcs
-        network.new.flows sink s.guests) }
+    ensures lists { IfOk result (λ s. KeepsArcs (L.node_count network.old.layout) network.old.arcs
+        network.new.flows sink s.lists) }
     ensures arcs { network.new.arcs ≡ network.old.arcs }
     ensures layout { network.new.layout ≡ network.old.layout }
 {
     let Shipping {
         mut potentials,
-        mut guests,
+        mut lists,
         buffers,
         mut looks,
     } = shipping;
@@ -220,7 +238,7 @@ fn ship_found<L: Layout>(
         buffers,
         network,
         &potentials,
-        &guests,
+        &lists,
         start,
         sink,
         &mut looks,
@@ -231,59 +249,57 @@ fn ship_found<L: Layout>(
     };
     network.push(&path);
     let buffers = found.lower(&mut potentials);
-    guests.follow(network, &path)?;
+    lists.follow(network, &path)?;
     Ok(Shipping {
         potentials,
-        guests,
+        lists,
         buffers,
         looks,
     })
 }
 
 // An arc of a node's own and one from there to the sink, both with room and at no reduced cost.
-fn straight_way<L: Layout>(
+fn tight_path<L: Layout>(
     network: &Network<L>,
     potentials: &Potentials,
-    guests: &Guests,
+    lists: &ResidualArcs,
     node: usize,
     sink: usize,
 ) -> Option<(u32, u32)>
-    requires may { MaySearch (L.node_count network.now.layout) network.now.arcs network.now.flows
-        potentials.now guests.now sink }
+    requires may { MaySearch L.node_count network.now potentials.now lists.now sink }
     requires node { node < length potentials.now }
-    ensures { IfSome result (λ way. IsStraight network.now.arcs network.now.flows
-        (slice_index potentials.now) node sink way.0 way.1) }
+    ensures { IfSome result (λ p. IsTightPath network.now.arcs network.now.flows
+        (slice_index potentials.now) node sink p.0 p.1) }
 {
     network.limits();
     let meter = Meter::new(network);
     for arc in leaving(&meter, node) {
-        if let Some(way) = straight_on(network, potentials, guests, *arc, sink) {
-            return Some(way);
+        if let Some(arcs) = tight_path_by(network, potentials, lists, *arc, sink) {
+            return Some(arcs);
         }
     }
     None
 }
 
 // The same, by one residual arc.
-fn straight_on<L: Layout>(
+fn tight_path_by<L: Layout>(
     network: &Network<L>,
     potentials: &Potentials,
-    guests: &Guests,
+    lists: &ResidualArcs,
     arc: ArcNo,
     sink: usize,
 ) -> Option<(u32, u32)>
-    requires may { MaySearch (L.node_count network.now.layout) network.now.arcs network.now.flows
-        potentials.now guests.now sink }
+    requires may { MaySearch L.node_count network.now potentials.now lists.now sink }
     requires listed { arc_index arc < length network.now.arcs }
-    ensures { IfSome result (λ way. IsStraight network.now.arcs network.now.flows
-        (slice_index potentials.now) (tail_of network.now.arcs arc) sink way.0 way.1) }
+    ensures { IfSome result (λ p. IsTightPath network.now.arcs network.now.flows
+        (slice_index potentials.now) (tail_of network.now.arcs arc) sink p.0 p.1) }
 {
     match arc {
         ArcNo::Forward(out) => {
             if !is_open(network, potentials, out as usize) {
                 return None;
             }
-            let on = guests.exit(network.all_arcs()[out as usize].to as usize)?;
+            let on = lists.sink_arc(network.all_arcs()[out as usize].to as usize)?;
             if is_open(network, potentials, on as usize) {
                 return Some((out, on));
             }
@@ -313,7 +329,7 @@ fn lift<L: Layout>(network: &Network<L>, potentials: &mut Potentials, source: us
     requires size { length potentials.old ≡ L.node_count network.now.layout }
     requires source { source < L.node_count network.now.layout }
     requires level { slice_index potentials.old source ≡ 0 }
-    requires way { (k : ℕ) × (k < length network.now.arcs) × ((arc_at network.now.arcs k).from ≡ source)
+    requires arc { (k : ℕ) × (k < length network.now.arcs) × ((arc_at network.now.arcs k).from ≡ source)
         × (0 < (arc_at network.now.arcs k).capacity)
         × ((arc_at network.now.arcs k).cost + slice_index potentials.old (arc_at network.now.arcs k).to
         ≤ 2 ^ 52) }
@@ -321,12 +337,12 @@ fn lift<L: Layout>(network: &Network<L>, potentials: &mut Potentials, source: us
     ensures lifted { IsLifted network.now.arcs (slice_index potentials.old)
         (slice_index potentials.new) source }
 {
-    let way = least_way(network, potentials.depths(), source);
-    potentials.lower(source, way);
+    let depth = least_depth(network, potentials.depths(), source);
+    potentials.lower(source, depth);
 }
 
 // The least of what an arc with room of a node's own costs together with the depth of its end.
-fn least_way<L: Layout>(network: &Network<L>, depths: &[u64], node: usize) -> u64
+fn least_depth<L: Layout>(network: &Network<L>, depths: &[u64], node: usize) -> u64
     requires size { length depths.now ≡ L.node_count network.now.layout }
     requires node { node < L.node_count network.now.layout }
     requires deep { (v : ℕ) → slice_index depths.now v ≤ 2 ^ 52 }
@@ -338,18 +354,18 @@ fn least_way<L: Layout>(network: &Network<L>, depths: &[u64], node: usize) -> u6
     let mut least = u64::MAX;
     let meter = Meter::new(network);
     for arc in leaving(&meter, node) {
-        least = lesser_way(network.all_arcs(), depths, *arc, least);
+        least = lesser_depth(network.all_arcs(), depths, *arc, least);
     }
     least
 }
 
 // The same of one arc, and of what is known.
-fn lesser_way(arcs: &[FlowArc], depths: &[u64], arc: ArcNo, least: u64) -> u64
+fn lesser_depth(arcs: &[FlowArc], depths: &[u64], arc: ArcNo, least: u64) -> u64
     requires arcs { AreArcs (length depths.now) arcs.now }
     requires listed { arc_index arc < length arcs.now }
     requires deep { (v : ℕ) → slice_index depths.now v ≤ 2 ^ 52 }
     ensures known { result ≤ least }
-    ensures way { (k : ℕ) → arc ≡ ArcNo.Forward k → 0 < (arc_at arcs.now k).capacity
+    ensures arc { (k : ℕ) → arc ≡ ArcNo.Forward k → 0 < (arc_at arcs.now k).capacity
         → result ≤ (arc_at arcs.now k).cost + slice_index depths.now (arc_at arcs.now k).to }
 {
     match arc {
@@ -366,14 +382,13 @@ fn find<L: Layout>(
     buffers: Buffers,
     network: &Network<L>,
     potentials: &Potentials,
-    guests: &Guests,
+    lists: &ResidualArcs,
     start: usize,
     sink: usize,
     looks: &mut u64,
 ) -> Result<Found, AllocError>
     requires looks { looks.old + 2 * length network.now.arcs < 2 ^ 64 }
-    requires may { MaySearch (L.node_count network.now.layout) network.now.arcs network.now.flows
-        potentials.now guests.now sink }
+    requires may { MaySearch L.node_count network.now potentials.now lists.now sink }
     requires nodes { buffers ≡ length potentials.now }
     requires start { start < length potentials.now }
     requires sink { sink < length potentials.now }
@@ -387,7 +402,7 @@ fn find<L: Layout>(
     ensures looks { looks.new ≤ looks.old + 2 * length network.now.arcs }
 {
     let mut meter = Meter::new(network);
-    let found = buffers.search(&mut meter, potentials, guests, start, sink);
+    let found = buffers.search(&mut meter, potentials, lists, start, sink);
     *looks += meter.count();
     found
 }

@@ -3,13 +3,13 @@
 //! `saturate` augments along one least path after the other and answers the potentials under which no
 //! residual arc has a negative reduced cost, so that its flow is a cheapest one; `can_ship` tests what it
 //! requires. Only a source's own arc and one more to the sink are asked of the network, and this is why
-//! every unit finds a path. Stands on `guest_search`, for the layers that read plans and prices off flows
+//! every unit finds a path. Stands on `shortest_paths`, for the layers that read plans and prices off flows
 //! and potentials.
 #![tactic(auto)]
 
 mod augment;
 mod order;
-mod ways;
+mod requirements;
 
 pub use augment::saturate;
-pub use ways::{MAX_SOURCES, can_ship};
+pub use requirements::{MAX_SOURCES, can_ship};

@@ -6,7 +6,7 @@ use node_ids::Layout;
 use std::alloc::{AllocError, Global};
 
 // The greatest cost of a node's own arcs, and the greatest that is less: what its unit costs at most where
-// it need not take the dearest way.
+// it need not take the dearest arc.
 #[derive(Clone, Copy)]
 struct Costs {
     most: u64,

@@ -13,7 +13,7 @@ use Rattle.line_shapes.proofs.Mapped.{AllPairs-map, AllPairs-unmap}
 use Rattle.line_rules.specs.Entering.{entering_of, key_of}
 use Rattle.line_rules.specs.Known.{is_of, keys_of, rows_of}
 use Rattle.line_rules.specs.declared.entering.Entering.TheVariants.{Word as ByWord}
-use Rattle.line_rules.specs.declared.rows.Row.{Row}
+use Rattle.line_shapes.specs.declared.line.KeyedLine.{KeyedLine}
 use Rattle.plan_text.specs.Names.{names_of, said_in, nth_word}
 use Rattle.plan_text.specs.Tidy.{AreTidy, IsAtMost, IsTidyRow}
 use Rattle.plan_text.proofs.Named.{key_by_word, keyword_of, row_named}
@@ -85,12 +85,12 @@ told_within least most n (s ∷ ss) within low high =
     (here.1, here.2)
 
 -- the first of these rows, as the line that it is
-module _ (rows : List Row) (lines : List Statement) (row : Row) (same : map said_in rows ≡ lines)
+module _ (rows : List KeyedLine) (lines : List Statement) (row : KeyedLine) (same : map said_in rows ≡ lines)
     (first : Some row ≡ slice_get rows 0) where
   pub first_is_setting : All IsSetting lines → IsSetting (said_in row)
   first_is_setting settings = by rows same first
     where
-      by : (rs : List Row) → map said_in rs ≡ lines → Some row ≡ slice_get rs 0 → IsSetting (said_in row)
+      by : (rs : List KeyedLine) → map said_in rs ≡ lines → Some row ≡ slice_get rs 0 → IsSetting (said_in row)
       by [] is found = absurd cc
       by (r ∷ rs) is found =
           let here : r ≡ row = cc in
@@ -99,6 +99,6 @@ module _ (rows : List Row) (lines : List Statement) (row : Row) (same : map said
           (settings 0 (said_in r) some)
 
 -- the slots that the row of a worker tells
-pub slots_at : (rows : List Row) → All (λ s. IsAtMost (nth_word 2 s) 16) (map said_in rows) → (i : ℕ)
+pub slots_at : (rows : List KeyedLine) → All (λ s. IsAtMost (nth_word 2 s) 16) (map said_in rows) → (i : ℕ)
     → i < length rows → IsAtMost (nth_word 2 (said_in (get_or rows i no_row))) 16
 slots_at rows slots i lt = All-unmap (λ s. IsAtMost (nth_word 2 s) 16) said_in rows slots i no_row lt

@@ -8,8 +8,8 @@ ghost use Rattle.plan_text.specs.Tidy.{AreTidy};
 ghost use Rattle.head_text.specs.Documents.{document_of as document_told, documents_of, text_of_split};
 ghost use Rattle.head_text.specs.Documents.{texts_of};
 
-use line_rules::{Row, Rows};
-use line_shapes::Keyword;
+use line_rules::Rows;
+use line_shapes::{KeyedLine, Keyword};
 use node_ids::{DocNo, SplitNo};
 use plan_text::built::number_of;
 use plan_text::row_lists::{names_of, rows_of, word};
@@ -34,7 +34,7 @@ pub fn build_texts(alloc: Global, rows: &Rows<'_>) -> Result<Vec<Arc<SplitText>>
 fn documents_by_split(
     alloc: Global,
     splits: &NameTable<'_>,
-    lines: &[Row<'_, '_>],
+    lines: &[KeyedLine<'_, '_>],
 ) -> Result<Vec<Vec<Document>>, AllocError>
     requires few { length lines.now ≤ 65536 }
     requires differ { AllPairs (λ a b. a ≢ b) splits.now }
@@ -63,7 +63,11 @@ fn empty_lists(alloc: Global, count: usize) -> Result<Vec<Vec<Document>>, AllocE
 }
 
 // The document of a line that has this number.
-fn document_of(alloc: Global, line: &Row<'_, '_>, number: usize) -> Result<Document, AllocError>
+fn document_of(
+    alloc: Global,
+    line: &KeyedLine<'_, '_>,
+    number: usize,
+) -> Result<Document, AllocError>
     requires { number < 2 ^ 32 }
     ensures { IfOk result (λ document. document ≡ document_told (number, said_in line.now)) }
 {

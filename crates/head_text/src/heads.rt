@@ -10,8 +10,8 @@ ghost use Rattle.head_text.specs.Settings.{setting};
 
 use crate::documents::build_texts;
 use crate::settings::setting_of;
-use line_rules::{Row, Rows};
-use line_shapes::Keyword;
+use line_rules::Rows;
+use line_shapes::{KeyedLine, Keyword};
 use plan_text::built::{build_split_lines, build_tree};
 use plan_text::row_lists::{names_of, number, rows_of, word};
 use rack_tree::RackTree;
@@ -106,7 +106,7 @@ fn build_splits(alloc: Global, rows: &Rows<'_>) -> Result<Vec<SplitLine>, AllocE
 }
 
 // The slots of each worker, by number.
-fn build_slots(alloc: Global, rows: &[Row<'_, '_>]) -> Result<Vec<u8>, AllocError>
+fn build_slots(alloc: Global, rows: &[KeyedLine<'_, '_>]) -> Result<Vec<u8>, AllocError>
     requires { All (λ s. IsAtMost (nth_word 2 s) 16) (map said_in rows.now) }
     ensures { IfOk result (λ slots. slots.items ≡ map slots_told (map said_in rows.now)) }
 {

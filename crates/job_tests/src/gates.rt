@@ -317,15 +317,6 @@ impl Gate for Ends {
     }
 }
 
-/// Made of a number: stops, held maps, sweeps and backups at turns that it gives.
-#[derive(Drop)]
-pub struct Made {
-    pub seen: Seen,
-    pub seed: u64,
-    // no worker is stopped where they are none
-    pub workers: u64,
-}
-
 /// The number at a place of the sequence that a seed gives.
 pub fn drawn(seed: u64, place: u64) -> u64 {
     let mixed = (seed ^ place.wrapping_mul(0x9e37_79b9_7f4a_7c15)).wrapping_mul(
@@ -335,13 +326,82 @@ pub fn drawn(seed: u64, place: u64) -> u64 {
     mixed ^ (mixed >> 32)
 }
 
+/// Made of a number: at turns and maps that it gives workers are stopped, maps are held, also until their
+/// workers must have died, sweeps and backups are made, and some runs are ended.
+#[derive(Drop)]
+pub struct Made {
+    pub seen: Seen,
+    pub seed: u64,
+    // no worker is stopped where they are none
+    pub workers: u64,
+    // the map and the turn that end the run
+    pub last_map: u64,
+    pub last_turn: u64,
+    // how often each was done
+    pub overs: AtomicU64,
+    pub stops: AtomicU64,
+    pub backups: AtomicU64,
+    pub deaths: AtomicU64,
+}
+
+impl Made {
+    /// The gate of a seed, for so many workers. One of 16 ends its run.
+    pub fn new(seed: u64, workers: u64) -> Made {
+        let at = drawn(seed, 6);
+        let (last_map, last_turn) = match drawn(seed, 4) % 32 {
+            0 => (at % 8, u64::MAX),
+            1 => (u64::MAX, at % 512),
+            _ => (u64::MAX, u64::MAX),
+        };
+        Made {
+            seen: Seen::new(),
+            seed,
+            workers: if drawn(seed, 5) % 3 == 0 { workers } else { 0 },
+            last_map,
+            last_turn,
+            overs: AtomicU64::new(0),
+            stops: AtomicU64::new(0),
+            backups: AtomicU64::new(0),
+            deaths: AtomicU64::new(0),
+        }
+    }
+
+    // Holds a map until four sweeps were made, or for many yields: the run may be over.
+    fn hold(&self) {
+        let until = self.seen.sweeps.load(Ordering::SeqCst).saturating_add(4);
+        for _ in 0..2_000u32 {
+            if self.seen.sweeps.load(Ordering::SeqCst) >= until {
+                self.deaths.fetch_add(1, Ordering::SeqCst);
+                return;
+            }
+            thread::yield_now();
+        }
+    }
+
+    fn over(&self) {
+        self.overs.fetch_add(1, Ordering::SeqCst);
+    }
+
+    fn count_turn(&self) -> u64 {
+        self.seen.turns.fetch_add(1, Ordering::SeqCst)
+    }
+}
+
 impl Gate for Made {
     fn before_map(&self, order: &Order) -> Go {
         let place = self.seen.begin(order);
-        if drawn(self.seed, place) % 4 == 0 {
-            for _ in 0..drawn(self.seed, place.saturating_add(1)) % 512 {
-                thread::yield_now();
+        if place == self.last_map {
+            self.over();
+            return Go::Over;
+        }
+        match drawn(self.seed, place) % 16 {
+            0 => self.hold(),
+            1..=3 => {
+                for _ in 0..drawn(self.seed, place.saturating_add(1)) % 64 {
+                    thread::yield_now();
+                }
             }
+            _ => {}
         }
         Go::On
     }
@@ -352,15 +412,23 @@ impl Gate for Made {
 
     fn turn(&self, idle: u64) -> Turn {
         let turn = self.seen.turns.load(Ordering::SeqCst);
+        if turn == self.last_turn {
+            self.over();
+            return Turn::Over;
+        }
         let number = drawn(self.seed ^ 0x5555, turn);
-        if number % 257 == 0 && self.workers > 0 && self.seed % 3 == 0 {
-            self.seen.turns.fetch_add(1, Ordering::SeqCst);
+        if number % 257 == 0 && self.workers > 0 {
+            self.stops.fetch_add(1, Ordering::SeqCst);
+            self.count_turn();
             return Turn::Stop(WorkerNo::new((number / 257 % self.workers % 256) as u16));
         }
         if number % 61 == 0 {
-            self.seen.turns.fetch_add(1, Ordering::SeqCst);
+            self.backups.fetch_add(1, Ordering::SeqCst);
+            self.count_turn();
             return Turn::Backup;
         }
-        self.seen.turn(idle, 97)
+        let every = [13, 61, 97, 97];
+        self.seen
+            .turn(idle, every[(drawn(self.seed, 11) % 4) as usize])
     }
 }

@@ -70,7 +70,8 @@ pub fn tell(rt: &impl Abort, alloc: Global, outcome: Result<Outcome, RunError>) 
     }
 }
 
-fn is_done(master: &Master, split: usize) -> bool {
+/// Whether a split is done.
+pub fn is_done(master: &Master, split: usize) -> bool {
     split < 1024
         && split < master.cluster().splits().len()
         && matches!(

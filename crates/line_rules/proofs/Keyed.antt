@@ -1,23 +1,23 @@
--- Keys that are the same, and rows under their keys.
-use Rattle.std.proofs.Common.{ℕ, List, [], ◌∷◌, ◌++◌, ◌≡◌, ◌<◌, ◌∙◌, ◌&&◌, Bool, true, false, Bor}
-use Rattle.std.proofs.Common.{Option, Some, None, length, map, sym, ap, ap₂, refl, subst, arith, slice_get}
-use Rattle.std.proofs.Common.{zero, suc}
-use Rattle.std.specs.Prelude.{◌↔◌, Contains, IsTrue}
+-- Keys that are the same, and the tables of keys.
+use Rattle.std.proofs.Common.{ℕ, List, [], ◌∷◌, ◌++◌, ◌≡◌, ◌==◌, ◌<◌, ◌∙◌, ◌&&◌, Bool, true, false, Bor, inl, inr}
+use Rattle.std.proofs.Common.{Option, Some, None, cond, length, map, sym, ap, refl, subst, arith, get_or}
+use Rattle.std.proofs.Common.{eqb-true, true≢false}
+use Rattle.std.specs.Prelude.{◌↔◌, ◌⊎◌, ◌||◌, Contains, IsTrue, if◌then◌else◌}
 use Rattle.std.specs.Bool.{Decides}
-use Rattle.std.specs.Global.{Vec}
-use Rattle.std.specs.Option.{is_some}
+use Rattle.std.specs.Option.{IsSome, is_some}
 use Rattle.std.specs.Str.{bytes_eq}
 use Rattle.std.specs.List.{list_any}
-use Rattle.std.specs.Map as of_map
-use Rattle.std.proofs.lemmas.List.{map-append}
-use Rattle.std.proofs.lemmas.List.Elements.{All-append, All-cons, All-head, All-nil, All-tail}
+use Rattle.std.proofs.lemmas.List.{get_or-map, get_or_default, length-map, map-append}
+use Rattle.std.proofs.lemmas.List.Elements.{Contains-append_left, Contains-push, Contains-push_cases}
 use Rattle.std.proofs.lemmas.Slice.Eq.{bytes_eq-Decides}
+use Rattle.text_lines.specs.Texts.{Word}
 use Rattle.text_lines.proofs.Keys.{found_key}
 use Rattle.line_shapes.specs.Lines.{Statement}
+use Rattle.line_shapes.specs.declared.keyword.Keyword.{Keyword}
 use Rattle.line_shapes.specs.contracts.keyword.Keyword.{the_type}
 use Rattle.line_rules.specs.Entering.{Key, key_of}
-use Rattle.line_rules.specs.Known.{keys_of}
-use Rattle.line_rules.specs.Rows.{AreKeyed, IsKeyAt, IsRowAt, TextKey, key_in, statement_of_entry}
+use Rattle.line_rules.specs.Known.{HasRow, keys_of}
+use Rattle.line_rules.specs.Rows.{AreTabled, HasKeyMore, IsKeyAt, IsRowAt, IsTabled, TextKey, first_by, key_in}
 use denote.Enum.Bare.{sameb, same_true, true_same}
 
 -- ---- keys
@@ -38,83 +38,236 @@ same_key-Decides p q =
     by true false c k l m = (λ h. cc, λ h. l.1 (ap (λ r. r.1) h))
     by false b c k l m = (λ h. cc, λ h. k.1 (ap (λ r. r.0) h))
 
--- ---- rows under their keys
+-- the key of the row at a place
+pub key_at : (rows : List Statement) (i : ℕ) (s : Statement) → i < length rows → IsRowAt rows i s
+    → IsKeyAt (keys_of rows) i s.keyword (key_of s).1
+key_at rows i s inside is d =
+    let key : get_or (keys_of rows) i d ≡ key_of s = get_or-map key_of rows i s d inside ∙ ap key_of (is s) in
+    (ap (λ (k : Key). k.0) key, ap (λ (k : Key). k.1) key)
 
-abbrev Entry : Type 0
-Entry = TextKey × Vec (Bor (List ℕ))
+-- ---- the first table
 
-abbrev IsKeyed : Entry → Type 0
-IsKeyed e = key_of (statement_of_entry e) ≡ key_in e.0
+abbrev Firsts : Type 0
+Firsts = List (Bor (List ℕ) × Keyword)
 
-pub keys_shown : (es : List Entry) → AreKeyed es
-    → map key_in (of_map.keys_of es) ≡ keys_of (map statement_of_entry es)
-keys_shown [] keyed = refl
-keys_shown (e ∷ es) keyed =
-    ap₂ (λ (k : Key) (ks : List Key). k ∷ ks) (sym (All-head IsKeyed e es keyed))
-    (keys_shown es (All-tail IsKeyed e es keyed))
+module _ (e : Bor (List ℕ) × Keyword) (word : Word) where
+  first_kept : (firsts : Firsts) (k : Keyword) → first_by firsts word ≡ Some k
+      → first_by (firsts ++ e ∷ []) word ≡ Some k
+  first_kept [] k is = absurd (let bad : None ≡ Some k = is in cc)
+  first_kept (x ∷ firsts) k is = by (bytes_eq word x.0.now) (first_kept firsts k) is
+    where
+      by : (b : Bool) → (first_by firsts word ≡ Some k → first_by (firsts ++ e ∷ []) word ≡ Some k)
+          → cond b (Some x.1) (first_by firsts word) ≡ Some k
+          → cond b (Some x.1) (first_by (firsts ++ e ∷ []) word) ≡ Some k
+      by true rest is = is
+      by false rest is = rest is
 
--- a look-up finds what the keys contain
-pub found_row : (r : Bool) (key : Key) (es : List Entry) (rows : List Statement) → AreKeyed es
-    → map statement_of_entry es ≡ rows → r ≡ list_any (λ k. same_key key (key_in k)) (of_map.keys_of es)
-    → IsTrue r ↔ Contains (keys_of rows) key
-found_row r key es rows keyed shown is =
-    found_key same_key same_key-Decides key_in r key (of_map.keys_of es) (keys_of rows)
-    (keys_shown es keyed ∙ ap keys_of shown) is
+  first_found : (firsts : Firsts) → first_by firsts word ≡ None → word ≡ e.0.now
+      → first_by (firsts ++ e ∷ []) word ≡ Some e.1
+  first_found [] none same = rw ((bytes_eq-Decides word e.0.now).1 same) refl
+  first_found (x ∷ firsts) none same = by (bytes_eq word x.0.now) (λ none. first_found firsts none same) none
+    where
+      by : (b : Bool) → (first_by firsts word ≡ None → first_by (firsts ++ e ∷ []) word ≡ Some e.1)
+          → cond b (Some x.1) (first_by firsts word) ≡ None
+          → cond b (Some x.1) (first_by (firsts ++ e ∷ []) word) ≡ Some e.1
+      by true rest none = absurd (let bad : Some x.1 ≡ None = none in cc)
+      by false rest none = rest none
 
-none_of : {X : Type 0} (o : Option X) → (IsTrue (is_some o) → ⊥) → o ≡ None
-none_of None h = refl
-none_of (Some x) h = absurd (h refl)
+  first_cases : (firsts : Firsts) (k : Keyword) → first_by (firsts ++ e ∷ []) word ≡ Some k
+      → (first_by firsts word ≡ Some k) ⊎ ((word ≡ e.0.now) × (k ≡ e.1))
+  first_cases [] k is = by (bytes_eq word e.0.now) (bytes_eq-Decides word e.0.now) is
+    where
+      by : (b : Bool) → Decides b (word ≡ e.0.now) → cond b (Some e.1) None ≡ Some k
+          → (first_by [] word ≡ Some k) ⊎ ((word ≡ e.0.now) × (k ≡ e.1))
+      by true same is = let found : Some e.1 ≡ Some k = is in inr (same.0 refl, cc)
+      by false same is = absurd (let bad : None ≡ Some k = is in cc)
+  first_cases (x ∷ firsts) k is = by (bytes_eq word x.0.now) (first_cases firsts k) is
+    where
+      by : (b : Bool) → (first_by (firsts ++ e ∷ []) word ≡ Some k
+          → (first_by firsts word ≡ Some k) ⊎ ((word ≡ e.0.now) × (k ≡ e.1)))
+          → cond b (Some x.1) (first_by (firsts ++ e ∷ []) word) ≡ Some k
+          → (cond b (Some x.1) (first_by firsts word) ≡ Some k) ⊎ ((word ≡ e.0.now) × (k ≡ e.1))
+      by true rest is = inl is
+      by false rest is = rest is
 
--- a key that no row has finds nothing
-pub absent : {X : Type 0} (key : Key) (es : List Entry) (rows : List Statement) (o : Option X) → AreKeyed es
-    → map statement_of_entry es ≡ rows → (Contains (keys_of rows) key → ⊥)
-    → is_some o ≡ list_any (λ k. same_key key (key_in k)) (of_map.keys_of es) → o ≡ None
-absent key es rows o keyed shown lacks is =
-    none_of o (λ t. lacks ((found_row (is_some o) key es rows keyed shown is).0 t))
+some_of : {X : Type 0} (o : Option X) → IsSome o → (x : X) × (o ≡ Some x)
+some_of None some = absurd (true≢false (sym some))
+some_of (Some x) some = (x, refl)
 
-module _ (es new : List Entry) (e : Entry) (grown : new ≡ es ++ e ∷ []) where
-  pub keyed_more : AreKeyed es → IsKeyed e → AreKeyed new
-  keyed_more keyed last =
-      subst AreKeyed (sym grown) (All-append IsKeyed es (e ∷ []) keyed (All-cons IsKeyed e [] last
-      (All-nil IsKeyed)))
+pub none_at : {X : Type 0} (o : Option X) → is_some o ≡ false → o ≡ None
+none_at None none = refl
+none_at (Some x) none = absurd (true≢false none)
 
-  pub rows_more : (rows : List Statement) → map statement_of_entry es ≡ rows
-      → map statement_of_entry new ≡ rows ++ statement_of_entry e ∷ []
-  rows_more rows shown =
-      ap (map statement_of_entry) grown ∙ map-append statement_of_entry es (e ∷ [])
-      ∙ ap (λ l. l ++ statement_of_entry e ∷ []) shown
+pub empty_at : (word : Word) → (length word == 0) ≡ true → word ≡ []
+empty_at [] is = refl
+empty_at (b ∷ bs) is = absurd (let none : length (b ∷ bs) ≡ 0 = eqb-true _ _ is in omega (arith, none))
 
--- the row at a place stands under the key there
-pub key_at : (es : List Entry) (i : ℕ) (e : Entry) → AreKeyed es → slice_get es i ≡ Some e
-    → (i < length (map statement_of_entry es))
-    × IsKeyAt (keys_of (map statement_of_entry es)) i e.0.0 e.0.1.now
-key_at [] i e keyed is = absurd (let bad : None ≡ Some e = is in cc)
-key_at (x ∷ es) zero e keyed is =
-    let here : x ≡ e = search is in
-    let key : key_of (statement_of_entry e)
-    ≡ key_in e.0 = subst IsKeyed here (All-head IsKeyed x es keyed) in (
-      omega arith,
-      λ d. (
-        ap (λ x. (key_of (statement_of_entry x)).0) here ∙ ap (λ k. k.0) key,
-        ap (λ x. (key_of (statement_of_entry x)).1) here ∙ ap (λ k. k.1) key,
-      ),
+pub not_empty : (word : Word) → (length word == 0) ≡ false → word ≡ [] → ⊥
+not_empty word some empty = true≢false (sym (ap (λ (w : Word). length w == 0) empty) ∙ some)
+
+is_some_at : {X : Type 0} (o : Option X) (x : X) → o ≡ Some x → IsSome o
+is_some_at o x is = ap is_some is
+
+-- a word that was in no entry is now
+pub key_put_first : (firsts new : Firsts) (others : List TextKey) (word : Bor (List ℕ)) (k : Keyword)
+    (second : Word) → new ≡ firsts ++ (word, k) ∷ [] → first_by firsts word.now ≡ None → second ≡ []
+    → HasKeyMore firsts others (k, word.now, second) new others
+key_put_first firsts new others word k second grown none empty =
+    let e : Bor (List ℕ) × Keyword = (word, k) in
+    let all = firsts ++ e ∷ [] in
+    let found : first_by all word.now ≡ Some k = first_found e word.now firsts none refl in
+    subst (λ (l : Firsts). HasKeyMore firsts others (k, word.now, second) l others) (sym grown) (record {
+      keys = λ q. (
+        λ h. elim h [
+          | inl first ↦ elim (first_cases e q.1 firsts q.0 first.1) [
+            | inl old ↦ inl (inl (first.0, old))
+            | inr same ↦
+                let last : q.2 ≡ second = first.0 ∙ sym empty in
+                inr (λ i. (same.1 i, same.0 i, last i))
+          ]
+          | inr other ↦ inl (inr other)
+        ],
+        λ h. elim h [
+          | inl old ↦ elim old [
+            | inl first ↦ inl (first.0, first_kept e q.1 firsts q.0 first.1)
+            | inr other ↦ inr other
+          ]
+          | inr same ↦ subst (IsTabled all others) (sym same) (inl (empty, found))
+        ],
+      );
+      kept = λ w some.
+          let had = some_of (first_by firsts w) some in
+          is_some_at _ had.0 (first_kept e w firsts had.0 had.1);
+      word = λ _. is_some_at _ k found;
+    })
+
+-- ---- the second table
+
+abbrev IsOther : List TextKey → Key → Type 0
+IsOther others key = Contains (map key_in others) key
+
+other_cases : (others new : List TextKey) (key : TextKey) (q : Key)
+    → new ≡ (if list_any (λ k. same_key (key_in key) (key_in k)) others then others else others ++ key ∷ [])
+    → IsOther new q ↔ (IsOther others q ⊎ (q ≡ key_in key))
+other_cases others new key q grown =
+    by (list_any (λ k. same_key (key_in key) (key_in k)) others) refl grown
+  where
+    by : (b : Bool) → b ≡ list_any (λ k. same_key (key_in key) (key_in k)) others
+        → new ≡ (if b then others else others ++ key ∷ [])
+        → IsOther new q ↔ (IsOther others q ⊎ (q ≡ key_in key))
+    by true is grown =
+        let has : IsOther others (key_in key) =
+        (found_key same_key same_key-Decides key_in true (key_in key) others (map key_in others) refl is).0 refl in (
+          λ h. inl (subst (λ l. IsOther l q) grown h),
+          λ h. elim h [
+            | inl old ↦ subst (λ l. IsOther l q) (sym grown) old
+            | inr same ↦ subst (λ l. IsOther l q) (sym grown) (subst (IsOther others) (sym same) has)
+          ],
+        )
+    by false is grown =
+        let shown : map key_in new ≡ map key_in others ++ key_in key ∷ [] =
+        ap (map key_in) grown ∙ map-append key_in others (key ∷ []) in (
+          λ h. elim (Contains-push_cases (map key_in others) (key_in key) q (subst (λ l. Contains l q) shown h)) [
+            | inl old ↦ inl old
+            | inr same ↦ inr (sym same)
+          ],
+          λ h. elim h [
+            | inl old ↦ subst (λ l. Contains l q) (sym shown)
+                (Contains-append_left (map key_in others) (key_in key ∷ []) q old)
+            | inr same ↦ subst (λ l. Contains l q) (sym shown)
+                (subst (Contains (map key_in others ++ key_in key ∷ [])) (sym same)
+                (Contains-push (map key_in others) (key_in key)))
+          ],
+        )
+
+pub key_put_other : (firsts : Firsts) (others new : List TextKey) (key : TextKey)
+    → new ≡ (if list_any (λ k. same_key (key_in key) (key_in k)) others then others else others ++ key ∷ [])
+    → (key.2.now ≡ [] → IsSome (first_by firsts key.1.now))
+    → HasKeyMore firsts others (key_in key) firsts new
+key_put_other firsts others new key grown word = record {
+  keys = λ q.
+      let other = other_cases others new key q grown in (
+        λ h. elim h [
+          | inl first ↦ inl (inl first)
+          | inr there ↦ elim (other.0 there) [
+            | inl old ↦ inl (inr old)
+            | inr same ↦ inr same
+          ]
+        ],
+        λ h. elim h [
+          | inl old ↦ elim old [
+            | inl first ↦ inl first
+            | inr there ↦ inr (other.1 (inl there))
+          ]
+          | inr same ↦ inr (other.1 (inr same))
+        ],
+      );
+  kept = λ w some. some;
+  word = word;
+}
+
+-- ---- both tables
+
+-- one row more, whose key they have
+pub tabled_more : (rows new_rows : List Statement) (s : Statement) (firsts new : Firsts)
+    (others new_others : List TextKey) → new_rows ≡ rows ++ s ∷ [] → AreTabled rows firsts others
+    → HasKeyMore firsts others (key_of s) new new_others → AreTabled new_rows new new_others
+tabled_more rows new_rows s firsts new others new_others grown tabled more =
+    subst (λ (l : List Statement). AreTabled l new new_others) (sym grown) (record {
+      keys = λ q. (
+        λ h. elim (cases q h) [
+          | inl old ↦ (more.keys q).1 (inl ((tabled.keys q).0 old))
+          | inr same ↦ (more.keys q).1 (inr same)
+        ],
+        λ h. elim ((more.keys q).0 h) [
+          | inl old ↦ subst (λ l. Contains l q) (sym shown)
+              (Contains-append_left (keys_of rows) (key_of s ∷ []) q ((tabled.keys q).1 old))
+          | inr same ↦ subst (λ l. Contains l q) (sym shown)
+              (subst (Contains (keys_of rows ++ key_of s ∷ [])) (sym same) (Contains-push (keys_of rows) (key_of s)))
+        ],
+      );
+      words = λ k word h. elim (cases (k, word, []) h) [
+        | inl old ↦ more.kept word (tabled.words k word old)
+        | inr same ↦ subst (λ (w : Word). IsSome (first_by new w)) (sym (ap (λ (q : Key). q.1) same))
+            (more.word (sym (ap (λ (q : Key). q.2) same)))
+      ];
+    })
+  where
+    shown : keys_of (rows ++ s ∷ []) ≡ keys_of rows ++ key_of s ∷ []
+    shown = map-append key_of rows (s ∷ [])
+
+    cases : (q : Key) → Contains (keys_of (rows ++ s ∷ [])) q → Contains (keys_of rows) q ⊎ (q ≡ key_of s)
+    cases q h = elim (Contains-push_cases (keys_of rows) (key_of s) q (subst (λ l. Contains l q) shown h)) [
+      | inl old ↦ inl old
+      | inr same ↦ inr (sym same)
+    ]
+
+module _ (rows : List Statement) (firsts : Firsts) (others : List TextKey) (tabled : AreTabled rows firsts others)
+  where
+    -- a look-up in the second table, of a key that is not in the first
+    pub found_other : (b : Bool) (key : Key) → b ≡ list_any (λ k. same_key key (key_in k)) others
+        → (key.2 ≡ [] → first_by firsts key.1 ≡ Some key.0 → ⊥) → IsTrue b ↔ Contains (keys_of rows) key
+    found_other b key is not_first =
+        let found = found_key same_key same_key-Decides key_in b key others (map key_in others) refl is in (
+          λ t. (tabled.keys key).1 (inr (found.0 t)),
+          λ h. elim ((tabled.keys key).0 h) [
+            | inl first ↦ absurd (not_first first.0 first.1)
+            | inr other ↦ found.1 other
+          ],
+        )
+
+    -- a word that the first table lacks
+    pub found_none : (key : Key) → key.2 ≡ [] → first_by firsts key.1 ≡ None → Contains (keys_of rows) key → ⊥
+    found_none key empty none h =
+        let at : Contains (keys_of rows) (key.0, key.1, []) =
+        subst (Contains (keys_of rows)) (λ i. (key.0, key.1, empty i)) h in
+        true≢false (sym (tabled.words key.0 key.1 at) ∙ ap is_some none)
+
+    pub found_word : (b : Bool) (word : Word) → b ≡ is_some (first_by firsts word)
+        → IsTrue b ↔ ((k : Keyword) × HasRow rows k word)
+    found_word b word is = (
+      λ t.
+          let some = some_of (first_by firsts word) (sym is ∙ t) in
+          (some.0, (tabled.keys (some.0, word, [])).1 (inl (refl, some.1))),
+      λ (k, h). is ∙ tabled.words k word h,
     )
-key_at (x ∷ es) (suc i) e keyed is =
-    let rest = key_at es i e (All-tail IsKeyed x es keyed) is in
-    let lt : i < length (map statement_of_entry es) = rest.0 in
-    (omega arith, rest.1)
-
--- the row at a place is what the entry there says
-pub row_at : (es : List Entry) (i : ℕ) (e : Entry) (s : Statement) → slice_get es i ≡ Some e
-    → statement_of_entry e ≡ s
-    → (i < length (map statement_of_entry es)) × IsRowAt (map statement_of_entry es) i s
-row_at [] i e s is said = absurd (let bad : None ≡ Some e = is in cc)
-row_at (x ∷ es) zero e s is said =
-    let here : x ≡ e = search is in
-    (omega arith, λ d. ap statement_of_entry here ∙ said)
-row_at (x ∷ es) (suc i) e s is said =
-    let rest = row_at es i e s is said in
-    let lt : i < length (map statement_of_entry es) = rest.0 in
-    (omega arith, rest.1)
-
--- ---- a line as a row

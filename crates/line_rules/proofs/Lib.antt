@@ -1,3 +1,4 @@
+pub mod Listed
 pub mod Keyed
 pub mod Kept
 pub mod Counted

@@ -1,4 +1,5 @@
-ghost use Rattle.std.specs.Prelude.{◌≡◌, ◌≢◌, ◌++◌, ◌≤◌, ◌↔◌, IsTrue, MatchOption, OnErr, OnOk, Some, length};
+ghost use Rattle.std.specs.Prelude.{◌≡◌, ◌≢◌, ◌++◌, ◌≤◌, ◌↔◌, IfOk, IsTrue, MatchOption, OnErr, OnOk, Some};
+ghost use Rattle.std.specs.Prelude.{length};
 ghost use Rattle.line_shapes.specs.Lines.{statement_of};
 ghost use Rattle.line_shapes.specs.Places.{places_of};
 ghost use Rattle.line_rules.specs.Entering.{command_of, entered_of, entering_of as entering};
@@ -6,10 +7,10 @@ ghost use Rattle.line_rules.specs.Faults.{IsFirst, centres_in as centres};
 ghost use Rattle.line_rules.specs.declared.entering.Entering.TheVariants.{Nothing};
 ghost use Rattle.text_lines.specs.declared.fault.Fault.{Fault};
 
-use crate::commands::Commands;
 use crate::counts::{Counts, is_below};
 use crate::edition::{Version, is_of_version, version_after};
 use crate::entering::{Entering, Follow, entering_of, follow_of, most_of};
+use crate::line_list::LineList;
 use crate::purpose::Purpose;
 use crate::rows::Rows;
 use crate::rule::Rule;
@@ -22,6 +23,13 @@ use std::alloc::{AllocError, Global};
 use std::marker::Model;
 use text_lines::Fault;
 
+// For how many bytes there is room for a line and for a word, and for how many there is room at most.
+const BYTES_OF_A_LINE: usize = 24;
+
+const BYTES_OF_A_WORD: usize = 6;
+
+const MOST_ROOM: usize = 16_384;
+
 /// What the lines so far say, as far as the faults of the next line ask.
 #[derive(Drop)]
 pub struct KnownLines<'t> {
@@ -30,7 +38,7 @@ pub struct KnownLines<'t> {
     section: Section,
     rows: Rows<'t>,
     counts: Counts,
-    commands: Commands<'t>,
+    commands: LineList<'t>,
 }
 
 impl<'t> Model for KnownLines<'t> {
@@ -62,18 +70,28 @@ impl<'t> KnownLines<'t> {
     ghost use Rattle.line_rules.specs.Sections.{section_of as section_in};
     ghost use Rattle.line_rules.specs.declared.rule.Rule.TheVariants as rule;
 
-    /// Before the first line. Nothing is allocated.
-    pub fn new(alloc: Global, purpose: Purpose) -> KnownLines<'t>
-        ensures { result ≡ known_at purpose [] }
+    /// Before the first line of a text, with room for what so many bytes say.
+    pub fn before(
+        alloc: Global,
+        purpose: Purpose,
+        bytes: usize,
+    ) -> Result<KnownLines<'t>, AllocError>
+        ensures { IfOk result (λ known. known ≡ known_at purpose []) }
     {
-        KnownLines {
+        let (lines, words) = (
+            MOST_ROOM.min(bytes / BYTES_OF_A_LINE),
+            MOST_ROOM.min(bytes / BYTES_OF_A_WORD),
+        );
+        let rows = Rows::with_room(alloc, lines, words)?;
+        let commands = LineList::with_room(alloc, 0, 0)?;
+        Ok(KnownLines {
             purpose,
             version: Version::One,
             section: Section::First,
-            rows: Rows::new(alloc),
+            rows,
             counts: Counts::none(),
-            commands: Commands::new(alloc),
-        }
+            commands,
+        })
     }
 
     /// Where the next line stands.
@@ -90,8 +108,8 @@ impl<'t> KnownLines<'t> {
         self.version
     }
 
-    /// The commands of a script.
-    pub fn commands(&self) -> &Commands<'t>
+    /// The commands of a script, in their order.
+    pub fn commands(&self) -> &LineList<'t>
         ensures { result.now ≡ self.now.commands }
     {
         &self.commands
@@ -218,13 +236,12 @@ impl<'t> KnownLines<'t> {
     }
 
     /// Takes one line more. After an error it was not taken.
-    pub fn enter(&mut self, alloc: Global, line: &KeyedLine<'_, 't>) -> Result<(), AllocError>
-        requires whole { length (places_of line.now.keyword) ≤ length line.now.words.now }
-        requires fit { IsFit self.old (statement_of line.now) }
+    pub fn enter(&mut self, line: &KeyedLine<'_, 't>) -> Result<(), AllocError>
+        requires { IsFit self.old (statement_of line.now) }
         ensures ok { OnOk result (self.new ≡ entered self.old (statement_of line.now)) }
         ensures err { OnErr result (self.new ≡ self.old) }
     {
-        put(alloc, line, &mut self.rows, &mut self.commands)?;
+        put(line, &mut self.rows, &mut self.commands)?;
         self.counts = self.counts.with(line.keyword);
         self.version = version_after(self.version, line);
         self.section = section_after(line.keyword);
@@ -244,21 +261,17 @@ fn centres_in(version: Version) -> usize
 
 // Puts a line where lines of its keyword are entered. After an error it was not put.
 fn put<'t>(
-    alloc: Global,
     line: &KeyedLine<'_, 't>,
     rows: &mut Rows<'t>,
-    commands: &mut Commands<'t>,
+    commands: &mut LineList<'t>,
 ) -> Result<(), AllocError>
-    requires whole { length (places_of line.now.keyword) ≤ length line.now.words.now }
-    requires new { entering line.now.keyword ≢ Nothing → IsFirst rows.old (statement_of line.now) }
+    requires { entering line.now.keyword ≢ Nothing → IsFirst rows.old (statement_of line.now) }
     ensures rows { OnOk result (rows.new ≡ rows.old ++ entered_of (statement_of line.now)) }
     ensures commands { OnOk result (commands.new ≡ commands.old ++ command_of (statement_of line.now)) }
     ensures err { OnErr result ((rows.new ≡ rows.old) × (commands.new ≡ commands.old)) }
 {
     match entering_of(line.keyword) {
-        Entering::InTurn => commands.push(alloc, line),
-        Entering::Nothing | Entering::Alone | Entering::Word | Entering::Pair => {
-            rows.enter(alloc, line)
-        }
+        Entering::InTurn => commands.push(line),
+        Entering::Nothing | Entering::Alone | Entering::Word | Entering::Pair => rows.enter(line),
     }
 }

@@ -9,11 +9,11 @@
 //! are made of what was entered.
 #![tactic(auto)]
 
-pub mod commands;
 mod counts;
 pub mod edition;
 pub mod entering;
 pub mod known;
+pub mod line_list;
 pub mod purpose;
 pub mod reading;
 pub mod rows;
@@ -21,12 +21,12 @@ pub mod rule;
 pub mod rules;
 pub mod section;
 
-pub use commands::Commands;
 pub use edition::{Edition, Version};
 pub use entering::{Entering, Follow};
 pub use known::KnownLines;
+pub use line_list::LineList;
 pub use purpose::Purpose;
 pub use reading::{ReadingError, read_lines};
-pub use rows::{Row, Rows};
+pub use rows::Rows;
 pub use rule::Rule;
 pub use section::Section;

@@ -12,7 +12,7 @@ ghost use Rattle.line_rules.specs.declared.reading.LineError.TheVariants.{Memory
 use crate::known::KnownLines;
 use crate::purpose::Purpose;
 use crate::section::Section;
-use line_shapes::{KeyedLine, keyword_of, said_by, words_after};
+use line_shapes::{KeyedLine, cut_words, keyword_of, said_by};
 use std::alloc::{AllocError, Global};
 use text_lines::{Fault, TextFault, printable, split_line};
 
@@ -55,14 +55,17 @@ pub fn read_lines(
     if text.len() > MAX_TEXT_BYTES {
         return Err(fault_in(0, Fault::TooLong));
     }
-    let mut known = KnownLines::new(alloc, purpose);
-    take_lines(alloc, text, &mut known)?;
+    let Ok(mut known) = KnownLines::before(alloc, purpose, text.len()) else {
+        return Err(ReadingError::Memory);
+    };
+    let mut words = Vec::new(alloc);
+    take_lines(&mut words, text, &mut known)?;
     Ok(known)
 }
 
-// Takes all lines of a text, and what follows the last line feed.
+// Takes all lines of a text, and what follows the last line feed. `words` holds those of one line at a time.
 fn take_lines<'t>(
-    alloc: Global,
+    words: &mut Vec<&'t str>,
     text: &'t [u8],
     known: &mut KnownLines<'t>,
 ) -> Result<(), ReadingError>
@@ -81,7 +84,7 @@ fn take_lines<'t>(
                 None => Ok(()),
             };
         };
-        if let Err(error) = take_line(alloc, line, known) {
+        if let Err(error) = take_line(words, line, known) {
             return Err(error_in(lines_read + 1, error));
         }
         rest = after;
@@ -89,8 +92,12 @@ fn take_lines<'t>(
     }
 }
 
-// Takes a line that has its line feed, given without it.
-fn take_line<'t>(alloc: Global, line: &'t [u8], known: &mut KnownLines<'t>) -> Result<(), LineError>
+// Takes a line that has its line feed, given without it. Its words are put into `words`, in place of those there.
+fn take_line<'t>(
+    words: &mut Vec<&'t str>,
+    line: &'t [u8],
+    known: &mut KnownLines<'t>,
+) -> Result<(), LineError>
     ensures ok { OnOk result (Takes known.old line.entry.now known.new) }
     ensures err { IfErr result (IsLeastError (LineHas known.old line.entry.now)) }
     ensures memory { result ≡ Err LineError.Memory → HasKeyword known.old line.entry.now }
@@ -104,19 +111,15 @@ fn take_line<'t>(alloc: Global, line: &'t [u8], known: &mut KnownLines<'t>) -> R
     let Some((keyword, rest)) = keyword_of(line) else {
         return Err(LineError::Fault(Fault::Shape));
     };
-    let words = words_after(alloc, keyword, rest)?;
-    match said_by(keyword, &words) {
-        Some(line) => take_said(alloc, &line, known),
+    cut_words(keyword, rest, words)?;
+    match said_by(keyword, words.as_slice()) {
+        Some(line) => take_said(&line, known),
         None => Err(LineError::Fault(Fault::Shape)),
     }
 }
 
 // Takes what a line says.
-fn take_said<'t>(
-    alloc: Global,
-    line: &KeyedLine<'_, 't>,
-    known: &mut KnownLines<'t>,
-) -> Result<(), LineError>
+fn take_said<'t>(line: &KeyedLine<'_, 't>, known: &mut KnownLines<'t>) -> Result<(), LineError>
     requires { IsShaped (statement_of line.now) }
     ensures ok { OnOk result (Enters known.old (statement_of line.now) known.new) }
     ensures err { IfErr result (IsLeastError (Fails known.old (statement_of line.now))) }
@@ -124,7 +127,7 @@ fn take_said<'t>(
     if let Some(fault) = known.fault_of(line) {
         return Err(LineError::Fault(fault));
     }
-    known.enter(alloc, line)?;
+    known.enter(line)?;
     Ok(())
 }
 

@@ -1,72 +1,70 @@
 ghost use Rattle.std.specs.Prelude.{◌≡◌, ◌++◌, ◌∷◌, ◌↔◌, ◌≤◌, ◌<◌, IsTrue, MatchOption, OnErr, OnOk};
-ghost use Rattle.std.specs.Prelude.{Contains, length, map};
+ghost use Rattle.std.specs.Prelude.{Contains, IfOk, length};
+ghost use Rattle.line_rules.specs.Rows.{HasKeyMore};
 
 use crate::entering::{Entering, entering_of};
-use indexmap::IndexMap;
+use crate::line_list::LineList;
+use crate::rules::{first_of_key, second_of_key};
+use indexmap::{IndexMap, IndexSet};
 use line_shapes::{KeyedLine, Keyword};
 use std::alloc::{AllocError, Global};
 use std::marker::Model;
 
-/// The lines that were entered, in their order. A look-up hashes a keyword and two words once.
+/// The lines that were entered, in their order. A word by which no line was entered is found by one hash of it.
 #[derive(Drop)]
 pub struct Rows<'t> {
-    // By keyword and key, with the words after the key. A line without such words takes no list.
-    entries: IndexMap<(Keyword, &'t str, &'t str), Vec<&'t str>>,
-}
-
-/// A line that was entered.
-#[derive(Clone, Copy)]
-pub struct Row<'r, 't> {
-    pub keyword: Keyword,
-    /// The words by which it was entered; what is absent is empty.
-    pub first: &'t str,
-    pub second: &'t str,
-    /// The words after them.
-    pub rest: &'r [&'t str],
+    lines: LineList<'t>,
+    // Of each word that is a key alone: the keyword of the first line that was entered by it.
+    firsts: IndexMap<&'t str, Keyword>,
+    // All other keys.
+    others: IndexSet<(Keyword, &'t str, &'t str)>,
 }
 
 impl<'t> Model for Rows<'t> {
-    ghost use Rattle.std.specs.Prelude.{List, map};
+    ghost use Rattle.std.specs.Prelude.{List};
     ghost use Rattle.line_shapes.specs.Lines.{Statement};
-    ghost use Rattle.line_rules.specs.Rows.{AreKeyed, statement_of_entry};
+    ghost use Rattle.line_rules.specs.Rows.{AreTabled};
 
     ghost Value = { List Statement };
 
-    ghost view = { λ r. map statement_of_entry r.entries.entries };
+    ghost view = { λ r. r.lines };
 
-    ghost invariant = { λ r. AreKeyed r.entries.entries };
+    ghost invariant = { λ r. AreTabled r.lines r.firsts.entries r.others.keys };
 }
 
 impl<'t> Rows<'t> {
     ghost use Rattle.std.specs.Prelude.{[], ◌≢◌};
     ghost use Rattle.line_shapes.specs.Lines.{statement_of};
-    ghost use Rattle.line_shapes.specs.Places.{places_of};
+    ghost use Rattle.line_shapes.specs.declared.keyword.Keyword.{Keyword};
     ghost use Rattle.line_rules.specs.Entering.{entered_of, entering_of as entering, key_of};
-    ghost use Rattle.line_rules.specs.Known.{keys_of};
-    ghost use Rattle.line_rules.specs.Rows.{IsKeyAt, IsRowAt, made_of};
+    ghost use Rattle.line_rules.specs.Known.{HasRow, keys_of};
+    ghost use Rattle.line_rules.specs.Rows.{IsKeyAt, IsRowAt};
     ghost use Rattle.line_rules.specs.declared.entering.Entering.TheVariants.{Nothing};
 
-    /// No lines. Nothing is allocated.
-    pub fn new(alloc: Global) -> Rows<'t>
-        ensures { result ≡ [] }
+    /// No lines, with room for so many, and for their words.
+    pub fn with_room(alloc: Global, lines: usize, words: usize) -> Result<Rows<'t>, AllocError>
+        ensures { IfOk result (λ rows. rows ≡ []) }
     {
-        Rows {
-            entries: IndexMap::new(alloc),
-        }
+        let lines = LineList::with_room(alloc, lines, words)?;
+        Ok(Rows {
+            lines,
+            firsts: IndexMap::new(alloc),
+            others: IndexSet::new(alloc),
+        })
     }
 
     /// How many there are.
     pub fn len(&self) -> usize
         ensures { result ≡ length self.now }
     {
-        self.entries.len()
+        self.lines.len()
     }
 
     /// Whether there are none.
     pub fn is_empty(&self) -> bool
         ensures { IsTrue result ↔ (self.now ≡ []) }
     {
-        self.entries.is_empty()
+        self.lines.is_empty()
     }
 
     /// Whether a line of this keyword was entered by these words; a line that is entered by one word has an
@@ -74,7 +72,21 @@ impl<'t> Rows<'t> {
     pub fn has(&self, keyword: Keyword, first: &str, second: &str) -> bool
         ensures { IsTrue result ↔ Contains (keys_of self.now) (keyword, first.now, second.now) }
     {
-        self.entries.contains_key(&(keyword, first, second))
+        if second.is_empty() {
+            match self.firsts.get(&first) {
+                Some(of) => *of == keyword || self.others.contains(&(keyword, first, second)),
+                None => false,
+            }
+        } else {
+            self.others.contains(&(keyword, first, second))
+        }
+    }
+
+    /// Whether a line of any keyword was entered by this word alone.
+    pub fn has_word(&self, word: &str) -> bool
+        ensures { IsTrue result ↔ ((keyword : Keyword) × HasRow self.now keyword word.now) }
+    {
+        self.firsts.contains_key(&word)
     }
 
     /// The keyword of a row, counted from 0, and the first word of its key.
@@ -82,63 +94,75 @@ impl<'t> Rows<'t> {
         ensures { MatchOption result (length self.now ≤ row)
             (λ key. (row < length self.now) × IsKeyAt (keys_of self.now) row key.0 key.1.now) }
     {
-        match self.entries.get_index(row) {
-            Some((key, _)) => Some((key.0, key.1)),
+        match self.lines.line(row) {
+            Some(line) => Some((line.keyword, first_of_key(&line))),
             None => None,
         }
     }
 
     /// A row, counted from 0.
-    pub fn row(&self, row: usize) -> Option<Row<'_, 't>>
+    pub fn row(&self, row: usize) -> Option<KeyedLine<'_, 't>>
         ensures { MatchOption result (length self.now ≤ row)
-            (λ r. (row < length self.now)
-            × IsRowAt self.now row (made_of r.keyword r.first.now r.second.now r.rest.now)) }
+            (λ line. (row < length self.now) × IsRowAt self.now row (statement_of line)) }
     {
-        match self.entries.get_index(row) {
-            Some((key, rest)) => Some(Row {
-                keyword: key.0,
-                first: key.1,
-                second: key.2,
-                rest,
-            }),
-            None => None,
-        }
+        self.lines.line(row)
     }
 
     /// Enters a line, if lines of its keyword are entered. After an error nothing was entered.
-    pub fn enter(&mut self, alloc: Global, line: &KeyedLine<'_, 't>) -> Result<(), AllocError>
-        requires whole { length (places_of line.now.keyword) ≤ length line.now.words.now }
-        requires new { entering line.now.keyword ≢ Nothing
+    pub fn enter(&mut self, line: &KeyedLine<'_, 't>) -> Result<(), AllocError>
+        requires { entering line.now.keyword ≢ Nothing
             → Contains (keys_of self.old) (key_of (statement_of line.now)) → ⊥ }
         ensures ok { OnOk result (self.new ≡ self.old ++ entered_of (statement_of line.now)) }
         ensures err { OnErr result (self.new ≡ self.old) }
     {
-        let words = line.words;
         match entering_of(line.keyword) {
             Entering::Nothing | Entering::InTurn => Ok(()),
-            Entering::Alone => self.put(alloc, line.keyword, "", "", words),
-            Entering::Word => self.put(alloc, line.keyword, words[0], "", &words[1..]),
-            Entering::Pair => self.put(alloc, line.keyword, words[0], words[1], &words[2..]),
+            Entering::Alone | Entering::Word | Entering::Pair => self.put(line),
         }
     }
 
     // Puts a row behind the others.
-    fn put(
-        &mut self,
-        alloc: Global,
-        keyword: Keyword,
-        first: &'t str,
-        second: &'t str,
-        rest: &[&'t str],
-    ) -> Result<(), AllocError>
-        requires keyed { key_of (made_of keyword first.now second.now rest.now)
-            ≡ (keyword, first.now, second.now) }
-        requires new { Contains (keys_of self.old) (keyword, first.now, second.now) → ⊥ }
-        ensures ok { OnOk result (self.new ≡ self.old ++ made_of keyword first.now second.now rest.now ∷ []) }
+    fn put(&mut self, line: &KeyedLine<'_, 't>) -> Result<(), AllocError>
+        requires { Contains (keys_of self.old) (key_of (statement_of line.now)) → ⊥ }
+        ensures ok { OnOk result (self.new ≡ self.old ++ statement_of line.now ∷ []) }
         ensures err { OnErr result (self.new ≡ self.old) }
     {
-        let rest = Vec::from_slice(alloc, rest)?;
-        self.entries.insert((keyword, first, second), rest)?;
-        Ok(())
+        let count = self.lines.len();
+        self.lines.push(line)?;
+        let (first, second) = (first_of_key(line), second_of_key(line));
+        match put_key(
+            &mut self.firsts,
+            &mut self.others,
+            line.keyword,
+            first,
+            second,
+        ) {
+            Ok(()) => Ok(()),
+            Err(error) => {
+                self.lines.truncate(count);
+                Err(error)
+            }
+        }
     }
+}
+
+// Puts a key that is new into its table. After an error it was not put.
+fn put_key<'t>(
+    firsts: &mut IndexMap<&'t str, Keyword>,
+    others: &mut IndexSet<(Keyword, &'t str, &'t str)>,
+    keyword: Keyword,
+    first: &'t str,
+    second: &'t str,
+) -> Result<(), AllocError>
+    ensures ok { OnOk result (HasKeyMore firsts.old.entries others.old.keys (keyword, first.now, second.now)
+        firsts.new.entries others.new.keys) }
+    ensures err { OnErr result ((firsts.new.entries ≡ firsts.old.entries)
+        × (others.new.keys ≡ others.old.keys)) }
+{
+    if second.is_empty() && !firsts.contains_key(&first) {
+        firsts.insert(first, keyword)?;
+    } else {
+        others.insert((keyword, first, second))?;
+    }
+    Ok(())
 }

@@ -119,14 +119,16 @@ fn is_free(rows: &Rows<'_>, name: &str) -> bool
     !is_taken(rows, name)
 }
 
+// Most names that are asked for are new, which is found at once.
 fn is_taken(rows: &Rows<'_>, name: &str) -> bool
     ensures { IsTrue result ↔ IsTaken rows.now name.now }
 {
-    has_row(rows, Keyword::Centre, name)
-        || has_row(rows, Keyword::Rack, name)
-        || has_row(rows, Keyword::Worker, name)
-        || has_row(rows, Keyword::Split, name)
-        || has_row(rows, Keyword::Doc, name)
+    rows.has_word(name)
+        && (has_row(rows, Keyword::Centre, name)
+            || has_row(rows, Keyword::Rack, name)
+            || has_row(rows, Keyword::Worker, name)
+            || has_row(rows, Keyword::Split, name)
+            || has_row(rows, Keyword::Doc, name))
 }
 
 // Whether a row of this keyword has this first word and is entered by it alone.
@@ -143,7 +145,8 @@ pub fn is_first(rows: &Rows<'_>, line: &KeyedLine<'_, '_>) -> bool
     !rows.has(line.keyword, first_of_key(line), second_of_key(line))
 }
 
-fn first_of_key<'t>(line: &KeyedLine<'_, 't>) -> &'t str
+/// The first word of a line's key, empty where it has none.
+pub fn first_of_key<'t>(line: &KeyedLine<'_, 't>) -> &'t str
     ensures { result.now ≡ first_key (entering line.now.keyword) (statement_of line.now).words }
 {
     match entering_of(line.keyword) {
@@ -153,7 +156,8 @@ fn first_of_key<'t>(line: &KeyedLine<'_, 't>) -> &'t str
     }
 }
 
-fn second_of_key<'t>(line: &KeyedLine<'_, 't>) -> &'t str
+/// The second word of a line's key, empty where it has none.
+pub fn second_of_key<'t>(line: &KeyedLine<'_, 't>) -> &'t str
     ensures { result.now ≡ second_key (entering line.now.keyword) (statement_of line.now).words }
 {
     match entering_of(line.keyword) {

@@ -1,12 +1,12 @@
-ghost use Rattle.std.specs.Prelude.{◌≡◌, ◌∷◌, ℕ, suc, IfOk, Option, map};
+ghost use Rattle.std.specs.Prelude.{◌≡◌, ◌∷◌, [], ℕ, suc, OnOk, Option, map};
 ghost use Rattle.line_shapes.specs.Lines.{first_words as front, pieces, pieces_after};
 ghost use Rattle.line_shapes.specs.Lines.{words_after as words_of_rest};
 ghost use Rattle.line_shapes.specs.declared.place.Place.{Place};
 
 use crate::keyword::Keyword;
 use crate::place::Place;
-use std::alloc::{AllocError, Global};
-use text_lines::words;
+use std::alloc::AllocError;
+use text_lines::add_words;
 
 /// The first word of a text, and what follows the space after it.
 pub fn first_word(text: &str) -> (&str, Option<&str>)
@@ -19,38 +19,39 @@ pub fn first_word(text: &str) -> (&str, Option<&str>)
     }
 }
 
-// The first words, so many, and what follows them as it stands.
-fn first_words(alloc: Global, count: usize, text: &str) -> Result<Vec<&str>, AllocError>
-    ensures { IfOk result (λ words. map (λ w. w.now) words.items ≡ front count text.entry.now) }
+// Puts the first words, so many, into an empty list, and what follows them as it stands.
+fn first_words<'t>(count: usize, text: &'t str, words: &mut Vec<&'t str>) -> Result<(), AllocError>
+    requires { words.old.items ≡ [] }
+    ensures { OnOk result (map (λ w. w.now) words.new.items ≡ front count text.entry.now) }
 {
-    let mut words = Vec::new(alloc);
     let mut rest = text;
     for number in 0..count {
         let (word, after) = first_word(rest);
         words.push(word)?;
         let Some(after) = after else {
-            return Ok(words);
+            return Ok(());
         };
         rest = after;
     }
     words.push(rest)?;
-    Ok(words)
+    Ok(())
 }
 
-/// The words after a keyword, of what follows the space after it. A text that may follow them is one word,
-/// whatever spaces it has.
-pub fn words_after<'t>(
-    alloc: Global,
+/// Puts the words after a keyword into a list, in place of what it has: those of what follows the space after the
+/// keyword. A text that may follow them is one word, whatever spaces it has.
+pub fn cut_words<'t>(
     keyword: Keyword,
     rest: Option<&'t str>,
-) -> Result<Vec<&'t str>, AllocError>
-    ensures { IfOk result (λ words. map (λ w. w.now) words.items ≡ words_of_rest keyword rest.entry) }
+    words: &mut Vec<&'t str>,
+) -> Result<(), AllocError>
+    ensures { OnOk result (map (λ w. w.now) words.new.items ≡ words_of_rest keyword rest.entry) }
 {
+    words.clear();
     let Some(rest) = rest else {
-        return Ok(Vec::new(alloc));
+        return Ok(());
     };
     match keyword.more() {
-        Some(Place::Text) => first_words(alloc, keyword.places().len(), rest),
-        None | Some(Place::New | Place::Used(_) | Place::Number(_, _)) => words(alloc, rest),
+        Some(Place::Text) => first_words(keyword.places().len(), rest, words),
+        None | Some(Place::New | Place::Used(_) | Place::Number(_, _)) => add_words(rest, words),
     }
 }

@@ -14,7 +14,7 @@ pub mod keyword;
 pub mod line;
 pub mod place;
 
-pub use cut::words_after;
+pub use cut::cut_words;
 pub use demand::Demand;
 pub use keyword::{Keyword, keyword_of};
 pub use line::{KeyedLine, said_by};

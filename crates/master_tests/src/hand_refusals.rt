@@ -1,9 +1,12 @@
 //! Allocations that are refused: they hold whichever is, one or none.
 ghost use Rattle.std.specs.Prelude.{◌≡◌};
 
-use crate::jobs::SplitRow;
+use crate::jobs::{Call, Shape, SplitRow, answer, end};
+use crate::refusals::{is_as_before, one_master};
+use crate::seen::{Shown, seen};
 use crate::shared_masters::{AMPLE, list_of, settles, share};
 use master_state::Answer;
+use node_ids::{SplitNo, WorkerNo};
 use shared_master::{Hand, HandError, SharedMaster, WaveError};
 use std::alloc::Global;
 use std::marker::Brand;
@@ -112,4 +115,68 @@ fn plan_twice<L: Ledger, R: Wait + Abort>(rt: &R, alloc: Global, blank: Blank)
 #[test]
 fn a_refused_wave_changes_nothing(rt: HostRuntime) {
     plan_twice::<Brand, _>(&rt, rt.alloc(), Blank::new(4096))
+}
+
+// Split 1 gets a holder.
+fn add_holder<L: Ledger, R: Wait + Abort>(rt: &R, shared: &SharedMaster<L>, hand: &mut Hand<L>) {
+    let (split, worker) = (SplitNo::new(1), WorkerNo::new(0));
+    assert!(rt; split.index() < shared.sizes().splits && worker.index() < shared.sizes().workers);
+    assert_eq!(rt; shared.add(rt, hand, split, worker), Answer::Accepted(2));
+}
+
+// The calls of a hand until an allocation is refused.
+const CALLS: [Call; 3] = [Call::Wave, Call::Add(1, 0), Call::Wave];
+
+// How many of them were accepted.
+fn call_until_refused<L: Ledger, R: Wait + Abort>(
+    rt: &R,
+    alloc: Global,
+    shared: &SharedMaster<L>,
+) -> usize {
+    let Some(mut hand) = make_hand(rt, alloc, shared) else {
+        return 0;
+    };
+    if plan(rt, alloc, shared, &mut hand).is_none() {
+        return 0;
+    }
+    add_holder(rt, shared, &mut hand);
+    if plan(rt, alloc, shared, &mut hand).is_none() {
+        return 2;
+    }
+    3
+}
+
+const SHAPE: Shape<'static> = Shape {
+    racks: &[2, 0],
+    slots: &[1, 1],
+    splits: &ROWS,
+    parts: 2,
+};
+
+// What a master of one thread shows after so many of them.
+fn seen_after(rt: &impl Abort, alloc: Global, calls: usize) -> Option<Shown> {
+    let mut job = one_master(rt, alloc, &SHAPE)?;
+    for call in &CALLS[..calls.min(3)] {
+        answer(rt, alloc, &mut job, *call)?;
+    }
+    let shown = seen(alloc, &job.master).ok();
+    end(job);
+    shown
+}
+
+fn compare_with_one_thread<L: Ledger, R: Wait + Abort>(rt: &R, alloc: Global, blank: Blank)
+    requires { (blank.name ≡ L.name) × (blank.parts ≡ L.parts) × (blank.parts ≡ 4096) }
+{
+    let made: Option<SharedMaster<L>> = share(rt, alloc, blank, (2, 0), &ROWS, AMPLE);
+    if let Some(shared) = made {
+        let calls = call_until_refused(rt, alloc, &shared);
+        let before = seen_after(rt, alloc, calls);
+        is_as_before(rt, alloc, shared.into_master().master(), before);
+    }
+}
+
+// Under the lock stands what the accepted calls made, whichever allocation is refused.
+#[test]
+fn a_refused_call_leaves_the_whole_master(rt: HostRuntime) {
+    compare_with_one_thread::<Brand, _>(&rt, rt.alloc(), Blank::new(4096))
 }

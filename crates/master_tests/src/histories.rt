@@ -175,7 +175,7 @@ fn commit_an_old_plan(rt: &impl Abort, alloc: Global, job: &mut Job, old: &Plann
     let told = commit(rt, alloc, job, old);
     let after = seen(alloc, &job.master).expect(rt, "no memory");
     assert_eq!(rt; told, Err(CommitError::Stale(fails(rt, old))));
-    assert_eq!(rt; after.as_slice(), before.as_slice());
+    assert_eq!(rt; after, before);
 }
 
 #[test]

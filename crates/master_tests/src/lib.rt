@@ -20,6 +20,8 @@ mod histories;
 #[cfg(test)]
 mod jobs;
 #[cfg(test)]
+mod late;
+#[cfg(test)]
 mod numbers;
 #[cfg(test)]
 mod own_threads;

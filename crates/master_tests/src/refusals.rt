@@ -1,8 +1,8 @@
 //! Allocations that are refused: they hold whichever is, one or none.
 use crate::jobs;
 use crate::jobs::{AMPLE, Call, Job, Shape, answer, end, make_cluster, make_master, planned};
-use crate::seen::seen;
-use master_core::ClusterError;
+use crate::seen::{Shown, seen};
+use master_core::{ClusterError, Master};
 use master_state::{CommitError, ReduceAnswer, Why};
 use std::alloc::Global;
 use std::process::Abort;
@@ -22,8 +22,8 @@ const ONE_SPLIT: Shape<'static> = Shape {
     parts: 2,
 };
 
-// A master of these splits, unless an allocation is refused.
-fn one_master(rt: &impl Abort, alloc: Global, of: &Shape<'_>) -> Option<Job> {
+/// A master of these splits, unless an allocation is refused.
+pub fn one_master(rt: &impl Abort, alloc: Global, of: &Shape<'_>) -> Option<Job> {
     match make_cluster(rt, alloc, of)? {
         Ok(cluster) => make_master(rt, alloc, cluster, AMPLE),
         Err(why) => {
@@ -41,10 +41,10 @@ fn a_master(rt: &impl Abort, alloc: Global, of: &Shape<'_>) -> Job {
     }
 }
 
-// Whether what is seen now is what was seen before, where both could be told.
-fn is_as_before(rt: &impl Abort, alloc: Global, job: &Job, before: Option<Vec<usize>>) {
-    if let (Some(before), Some(after)) = (before, seen(alloc, &job.master).ok()) {
-        assert_eq!(rt; before.as_slice(), after.as_slice());
+/// The master shows what it showed before, where both could be told.
+pub fn is_as_before(rt: &impl Abort, alloc: Global, master: &Master, before: Option<Shown>) {
+    if let (Some(before), Some(after)) = (before, seen(alloc, master).ok()) {
+        assert_eq!(rt; before, after);
     }
 }
 
@@ -56,7 +56,7 @@ fn commit(rt: &impl Abort, alloc: Global, job: &mut Job) -> Option<u32> {
         Ok(wave) => Some(wave.place),
         Err(why) => {
             assert_eq!(rt; why, CommitError::Memory);
-            is_as_before(rt, alloc, job, before);
+            is_as_before(rt, alloc, &job.master, before);
             None
         }
     }
@@ -71,6 +71,41 @@ fn a_refused_commit_changes_nothing(rt: HostRuntime) {
     end(job);
 }
 
+// Hands in a plan of before split 0 was done, which is refused in any case.
+fn commit_an_old_plan(rt: &impl Abort, alloc: Global, job: &mut Job) -> Option<()> {
+    let old = planned(alloc, job)?;
+    answer(rt, alloc, job, Call::Done(1))?;
+    let before = seen(alloc, &job.master).ok();
+    match jobs::commit(rt, alloc, job, &old) {
+        Err(CommitError::Memory | CommitError::Stale(_)) => {}
+        told => panic!(rt; "{told:?}"),
+    }
+    is_as_before(rt, alloc, &job.master, before);
+    Some(())
+}
+
+// Split 0 runs on worker 0, which holds split 1 too, unless an allocation is refused.
+fn a_running_master(rt: &impl Abort, alloc: Global) -> Option<Job> {
+    let mut job = a_master(rt, alloc, &TWO_SPLITS);
+    for call in [Call::Wave, Call::Add(1, 0)] {
+        answer(rt, alloc, &mut job, call)?;
+    }
+    Some(job)
+}
+
+#[test]
+fn a_refused_commit_of_an_old_plan_changes_nothing(rt: HostRuntime) {
+    let Some(mut job) = a_running_master(&rt, rt.alloc()) else {
+        return;
+    };
+    if commit_an_old_plan(&rt, rt.alloc(), &mut job).is_some() {
+        let first = commit(&rt, rt.alloc(), &mut job);
+        let second = commit(&rt, rt.alloc(), &mut job);
+        assert_eq!(rt; first.or(second), Some(4));
+    }
+    end(job);
+}
+
 // Starts a reduce attempt, at the second call where the first is refused.
 fn reduce(rt: &impl Abort, alloc: Global, job: &mut Job) -> Option<u32> {
     let before = seen(alloc, &job.master).ok();
@@ -81,7 +116,7 @@ fn reduce(rt: &impl Abort, alloc: Global, job: &mut Job) -> Option<u32> {
         }
         ReduceAnswer::Ignored(why) => {
             assert_eq!(rt; why, Why::Memory);
-            is_as_before(rt, alloc, job, before);
+            is_as_before(rt, alloc, &job.master, before);
             None
         }
     }
@@ -122,7 +157,7 @@ fn refused_readers_change_nothing(rt: HostRuntime) {
     let before = seen(rt.alloc(), &job.master).ok();
     let first = read(rt.alloc(), &job);
     let second = read(rt.alloc(), &job);
-    is_as_before(&rt, rt.alloc(), &job, before);
+    is_as_before(&rt, rt.alloc(), &job.master, before);
     assert!(rt; first == (true, Some(1)) || second == (true, Some(1)));
     end(job);
 }

@@ -1,12 +1,26 @@
 //! All that a master shows, as numbers that can be compared.
 use master_core::Master;
-use master_state::{Attempt, PartState, SplitState};
+use master_state::{Attempt, Event, PartState, SplitState};
 use node_ids::{PartNo, SplitNo, WorkerNo};
 use std::alloc::{AllocError, Global};
 use wave_problem::Problem;
 
-/// All that the master shows beside its events and starts, of which it shows how many there are.
-pub fn seen(alloc: Global, master: &Master) -> Result<Vec<usize>, AllocError> {
+/// What a master shows: its events, and in numbers all beside them.
+#[derive(Drop, Debug, PartialEq, Eq)]
+pub struct Shown {
+    events: Vec<Event>,
+    numbers: Vec<usize>,
+}
+
+/// All that the master shows. Of its starts it is how many there are, which tells the next attempt.
+pub fn seen(alloc: Global, master: &Master) -> Result<Shown, AllocError> {
+    let mut events = Vec::new(alloc);
+    events.extend_from_slice(master.history())?;
+    let numbers = numbers_of(alloc, master)?;
+    Ok(Shown { events, numbers })
+}
+
+fn numbers_of(alloc: Global, master: &Master) -> Result<Vec<usize>, AllocError> {
     let mut numbers = Vec::new(alloc);
     add_counts(master, &mut numbers)?;
     add_splits(master, &mut numbers)?;

@@ -16,7 +16,7 @@ pub can_ship : (wave : Wave) (nodes : WaveNodes) (arcs : List FlowArc) (size : �
     → CanShip size arcs (pending_splits wave) nodes.sink
 can_ship wave nodes arcs size network ends = record {
   arcs_in = ends;
-  ways = λ k l. (
+  paths = λ k l. (
       let source = source_in wave (length wave.splits) k l in
       let w = network.wait (get_or (pending_splits wave) k 0) source.1 in
       let wait = w.1 in

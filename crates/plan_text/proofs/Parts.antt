@@ -1,7 +1,7 @@
 -- Lists that are mapped twice, and the parts that the rows of a text without a fault make.
 use Rattle.std.proofs.Common.{ℕ, List, [], ◌∷◌, ◌++◌, ◌≡◌, ◌≢◌, ◌<◌, ◌≤◌, ◌+◌, ◌∙◌, Option, Some, None}
 use Rattle.std.proofs.Common.{IfSome}
-use Rattle.std.proofs.Common.{Bor, length, take, map, subst, sym, ap, refl, arith}
+use Rattle.std.proofs.Common.{length, take, map, subst, sym, ap, refl, arith}
 use Rattle.std.specs.List.{All, Contains, position, slice_index_or}
 use Rattle.std.specs.Option.{option_map}
 use Rattle.std.specs.Str.{bytes_eq}
@@ -12,7 +12,7 @@ use Rattle.line_shapes.specs.Lines.{Statement, tail_words}
 use Rattle.line_shapes.specs.declared.keyword.Keyword.TheVariants.{Problem, Dead, Busy, Split, Start, Worker}
 use Rattle.line_shapes.proofs.Mapped.{AllPairs-map}
 use Rattle.line_rules.specs.Known.{rows_of}
-use Rattle.line_rules.specs.declared.rows.Row.{Row}
+use Rattle.line_shapes.specs.declared.line.KeyedLine.{KeyedLine}
 use Rattle.text_lines.specs.Texts.{Word}
 use Rattle.wave_problem.specs.Wave.{AreHeldWell, AreSmall, IsHeldWell, IsSmall}
 use Rattle.plan_text.specs.Names.{names_in, names_of, said_in, nth_word}
@@ -26,18 +26,9 @@ pub All-unmap : {X Y : Type 0} (P : X → Type 0) (f : Y → X) (ys : List Y) �
     → All (λ y. P (f y)) ys
 All-unmap P f ys h k d lt = subst P (get_or-map f ys k d (f d) lt) (h k (f d) (rw length-map lt))
 
-abbrev no_text : Bor (List ℕ)
-no_text = record { ref_ptr = (0, 0); now = [] }
-
 -- a row to stand past the last
-abbrev pub no_row : Row
-no_row = record {
-  keyword = Problem;
-  first = no_text;
-  second = no_text;
-  rest =
-      record { ref_ptr = (0, 0); now = [] };
-}
+abbrev pub no_row : KeyedLine
+no_row = record { keyword = Problem; words = record { ref_ptr = (0, 0); now = [] } }
 
 pub mapped_more : {X Y Z : Type 0} (g : Y → Z) (f : X → Y) (xs : List X) (i : ℕ) (d : X) → i < length xs
     → map g (map f (take (i + 1) xs)) ≡ map g (map f (take i xs)) ++ g (f (slice_index_or xs i d)) ∷ []
@@ -102,7 +93,7 @@ start_inside lines name place is =
     )
 
 -- what a line of the name found says
-module _ (rows : List Row) (names : List Word) (name : Word) (found : Option ℕ) (place : ℕ)
+module _ (rows : List KeyedLine) (names : List Word) (name : Word) (found : Option ℕ) (place : ℕ)
     (same : names ≡ names_in (map said_in rows)) (is : found ≡ position (λ n. bytes_eq name n) names)
     (some : found ≡ Some place) where
   pub at_place : position (λ n. bytes_eq name n) (names_in (map said_in rows)) ≡ Some place

@@ -2,13 +2,12 @@
 use Rattle.std.specs.Prelude.{ℕ, List, [], map, slice_index_or}
 use Rattle.std.specs.List.{flat_map}
 use Rattle.text_lines.specs.Texts.{Word}
-use Rattle.line_shapes.specs.Lines.{Statement}
+use Rattle.line_shapes.specs.Lines.{Statement, statement_of}
 use Rattle.line_shapes.specs.declared.keyword.Keyword.{Keyword}
 use Rattle.line_shapes.specs.declared.keyword.Keyword.TheVariants.{Worker, Split}
+use Rattle.line_shapes.specs.declared.line.KeyedLine.{KeyedLine}
 use Rattle.line_rules.specs.Entering.{entered_of}
 use Rattle.line_rules.specs.Known.{rows_of}
-use Rattle.line_rules.specs.Rows.{made_of}
-use Rattle.line_rules.specs.declared.rows.Row.{Row}
 
 -- the word at a place after the keyword, counted from 0, empty past the last
 abbrev pub nth_word : ℕ → Statement → Word
@@ -33,5 +32,5 @@ abbrev pub workers : List Statement → List Word
 workers ss = names_of Worker (rows_in ss)
 
 -- a row of the code as a line
-abbrev pub said_in : Row → Statement
-said_in r = made_of r.keyword r.first.now r.second.now r.rest.now
+abbrev pub said_in : KeyedLine → Statement
+said_in r = statement_of r

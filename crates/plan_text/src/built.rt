@@ -20,8 +20,8 @@ ghost use Rattle.plan_text.specs.Value.{centre_number, rack_number, start_at, de
 ghost use Rattle.plan_text.specs.Value.{declared_worker};
 
 use crate::row_lists::{holders, names_of, number, rows_of, word};
-use line_rules::{Row, Rows};
-use line_shapes::Keyword;
+use line_rules::Rows;
+use line_shapes::{KeyedLine, Keyword};
 use node_ids::{CentreNo, PairSet, RackNo, SplitNo, WorkerNo};
 use price_certificate::Prices;
 use rack_tree::{RackTree, TreeError};
@@ -176,7 +176,7 @@ fn build_standing(alloc: Global, rows: &Rows<'_>) -> Result<Standing, AllocError
 fn worker_lines(
     alloc: Global,
     rows: &Rows<'_>,
-    worker_rows: &[Row<'_, '_>],
+    worker_rows: &[KeyedLine<'_, '_>],
 ) -> Result<Vec<WorkerLine>, AllocError>
     requires tidy { AreTidy rows.now }
     requires workers { map said_in worker_rows.now ≡ lines_of Worker rows.now }
@@ -246,7 +246,7 @@ fn build_plan(
 #[derive(Drop)]
 struct NamedRows<'r, 't> {
     names: NameTable<'t>,
-    rows: Vec<Row<'r, 't>>,
+    rows: Vec<KeyedLine<'r, 't>>,
 }
 
 fn named_rows<'r, 't>(
@@ -313,7 +313,7 @@ fn worker_no(workers: &NameTable<'_>, name: &str) -> WorkerNo
 pub fn build_tree(
     alloc: Global,
     rows: &Rows<'_>,
-    worker_rows: &[Row<'_, '_>],
+    worker_rows: &[KeyedLine<'_, '_>],
 ) -> Result<RackTree, AllocError>
     requires tidy { AreTidy rows.now }
     requires workers { map said_in worker_rows.now ≡ lines_of Worker rows.now }
@@ -340,7 +340,7 @@ fn build_racks(alloc: Global, rows: &Rows<'_>) -> Result<RackTree, AllocError>
 fn add_workers(
     tree: &mut RackTree,
     racks: &NameTable<'_>,
-    rows: &[Row<'_, '_>],
+    rows: &[KeyedLine<'_, '_>],
 ) -> Result<(), AllocError>
     requires same { length tree.old.centre_of ≡ length racks.now }
     requires none { tree.old.rack_of ≡ [] }
@@ -357,7 +357,7 @@ fn add_workers(
 }
 
 // The centres, or one without a name where there is none, and the racks in them.
-fn tree_with_racks(alloc: Global, centres: &NameTable<'_>, rows: &[Row<'_, '_>]) -> RackTree
+fn tree_with_racks(alloc: Global, centres: &NameTable<'_>, rows: &[KeyedLine<'_, '_>]) -> RackTree
     requires few_centres { length centres.now ≤ MAX_CENTRES }
     requires few_racks { length rows.now ≤ MAX_RACKS }
     ensures centres { result.centres ≡ max 1 (length centres.now) }
@@ -438,7 +438,7 @@ fn add_worker(tree: &mut RackTree, racks: &NameTable<'_>, rack: &str) -> Result<
 fn build_workers(
     alloc: Global,
     dead: &NameTable<'_>,
-    rows: &[Row<'_, '_>],
+    rows: &[KeyedLine<'_, '_>],
 ) -> Result<Vec<WorkerLine>, AllocError>
     requires { All (λ s. IsAtMost (nth_word 2 s) MAX_SLOTS) (map said_in rows.now) }
     ensures { IfOk result (λ lines. lines.items ≡ map (declared_worker dead.now) (map said_in rows.now)) }
@@ -450,7 +450,7 @@ fn build_workers(
     Ok(lines)
 }
 
-fn worker_line_of(dead: &NameTable<'_>, row: &Row<'_, '_>) -> WorkerLine
+fn worker_line_of(dead: &NameTable<'_>, row: &KeyedLine<'_, '_>) -> WorkerLine
     requires { IsAtMost (nth_word 2 (said_in row.now)) MAX_SLOTS }
     ensures { result ≡ declared_worker dead.now (said_in row.now) }
 {
@@ -464,7 +464,7 @@ fn build_splits(
     alloc: Global,
     workers: &NameTable<'_>,
     busy: &NameTable<'_>,
-    rows: &[Row<'_, '_>],
+    rows: &[KeyedLine<'_, '_>],
 ) -> Result<Vec<SplitLine>, AllocError>
     requires few { length workers.now ≤ MAX_WORKERS }
     requires known { All (IsTidySplit workers.now) (map said_in rows.now) }
@@ -482,7 +482,7 @@ fn split_line_of(
     alloc: Global,
     workers: &NameTable<'_>,
     busy: &NameTable<'_>,
-    row: &Row<'_, '_>,
+    row: &KeyedLine<'_, '_>,
 ) -> Result<SplitLine, AllocError>
     requires few { length workers.now ≤ MAX_WORKERS }
     requires known { IsTidySplit workers.now (said_in row.now) }
@@ -539,7 +539,7 @@ fn build_barred(
 }
 
 // Puts the pair of a row into the set.
-fn bar(set: &mut PairSet, splits: &NameTable<'_>, workers: &NameTable<'_>, row: &Row<'_, '_>)
+fn bar(set: &mut PairSet, splits: &NameTable<'_>, workers: &NameTable<'_>, row: &KeyedLine<'_, '_>)
     requires few_splits { length splits.now ≤ MAX_SPLITS }
     requires few_workers { length workers.now ≤ MAX_WORKERS }
     requires known { IsTidyBar splits.now workers.now (said_in row.now) }
@@ -556,7 +556,7 @@ fn build_starts(
     splits: &NameTable<'_>,
     workers: &NameTable<'_>,
     started: &NameTable<'_>,
-    rows: &[Row<'_, '_>],
+    rows: &[KeyedLine<'_, '_>],
 ) -> Result<Vec<Option<WorkerNo>>, AllocError>
     requires few { length workers.now ≤ MAX_WORKERS }
     requires names { started.now ≡ names_in (map said_in rows.now) }
@@ -575,7 +575,7 @@ fn build_starts(
 fn start_of(
     workers: &NameTable<'_>,
     started: &NameTable<'_>,
-    rows: &[Row<'_, '_>],
+    rows: &[KeyedLine<'_, '_>],
     split: &str,
 ) -> Option<WorkerNo>
     requires few { length workers.now ≤ MAX_WORKERS }
@@ -592,7 +592,7 @@ fn prices_of(
     alloc: Global,
     table: &NameTable<'_>,
     priced: &NameTable<'_>,
-    rows: &[Row<'_, '_>],
+    rows: &[KeyedLine<'_, '_>],
 ) -> Result<Vec<u64>, AllocError>
     requires names { priced.now ≡ names_in (map said_in rows.now) }
     requires amounts { All IsTidyPrice (map said_in rows.now) }
@@ -606,7 +606,7 @@ fn prices_of(
 }
 
 // The price of a name, 0 where it has none.
-fn price_of(priced: &NameTable<'_>, rows: &[Row<'_, '_>], name: &str) -> u64
+fn price_of(priced: &NameTable<'_>, rows: &[KeyedLine<'_, '_>], name: &str) -> u64
     requires names { priced.now ≡ names_in (map said_in rows.now) }
     requires amounts { All IsTidyPrice (map said_in rows.now) }
     ensures { result ≡ price_at (map said_in rows.now) name.now }

@@ -1,4 +1,4 @@
-ghost use Rattle.std.specs.Prelude.{◌≡◌, ◌≤◌, ◌<◌, ◌^◌, ℕ, List, [], IfOk, length, map, slice_index_or};
+ghost use Rattle.std.specs.Prelude.{◌≡◌, ◌≤◌, ◌<◌, ◌^◌, IfOk, length, map};
 ghost use Rattle.text_lines.specs.Texts.{IsNumber, number_of};
 ghost use Rattle.line_shapes.specs.Lines.{tail_words};
 ghost use Rattle.line_shapes.specs.declared.keyword.Keyword.TheVariants.{Split};
@@ -8,9 +8,8 @@ ghost use Rattle.line_rules.specs.declared.entering.Entering.TheVariants.{Word a
 ghost use Rattle.plan_text.specs.Names.{names_of as said_names, said_in, nth_word};
 ghost use Rattle.plan_text.specs.Tidy.{AreTidy};
 
-use line_rules::entering::{Entering, entering_of};
-use line_rules::{Row, Rows};
-use line_shapes::Keyword;
+use line_rules::Rows;
+use line_shapes::{KeyedLine, Keyword};
 use std::alloc::{AllocError, Global};
 use text_lines::{NameTable, Number};
 
@@ -19,7 +18,7 @@ pub fn rows_of<'r, 't>(
     alloc: Global,
     rows: &'r Rows<'t>,
     keyword: Keyword,
-) -> Result<Vec<Row<'r, 't>>, AllocError>
+) -> Result<Vec<KeyedLine<'r, 't>>, AllocError>
     ensures { IfOk result (λ found. map said_in found.items ≡ lines_of keyword rows.now) }
 {
     let mut found = Vec::new(alloc);
@@ -61,40 +60,22 @@ pub fn names_of<'t>(
 }
 
 /// The word at a place after the keyword of a row, counted from 0, empty past the last.
-pub fn word<'t>(row: &Row<'_, 't>, place: usize) -> &'t str
+pub fn word<'t>(row: &KeyedLine<'_, 't>, place: usize) -> &'t str
     ensures { result.now ≡ nth_word place (said_in row.now) }
 {
-    match entering_of(row.keyword) {
-        Entering::Nothing | Entering::InTurn | Entering::Alone => word_in(row.rest, place),
-        Entering::Word => match place {
-            0 => row.first,
-            _ => word_in(row.rest, place - 1),
-        },
-        Entering::Pair => match place {
-            0 => row.first,
-            1 => row.second,
-            _ => word_in(row.rest, place - 2),
-        },
-    }
-}
-
-// The word at a place, empty past the last.
-fn word_in<'t>(words: &[&'t str], place: usize) -> &'t str
-    ensures { result.now ≡ slice_index_or (map (λ w. w.now) words.now) place [] }
-{
-    match words.get(place) {
+    match row.words.get(place) {
         Some(word) => word,
         None => "",
     }
 }
 
 /// The holders of a split's row.
-pub fn holders<'r, 't>(row: &Row<'r, 't>) -> &'r [&'t str]
+pub fn holders<'r, 't>(row: &KeyedLine<'r, 't>) -> &'r [&'t str]
     requires split { row.now.keyword ≡ Split }
     requires whole { 2 ≤ length (said_in row.now).words }
     ensures { map (λ w. w.now) result.now ≡ tail_words (said_in row.now) }
 {
-    &row.rest[1..]
+    &row.words[2..]
 }
 
 /// The number that a word stands for.

@@ -6,7 +6,7 @@ ghost use Rattle.script_text.specs.Ready.{AreFew, HavePair, HasWords, IsWholeCom
 
 use crate::numbers::{attempt_at, numbers_in, split_at, splits_from, worker_at};
 use crate::script::{Command, Names};
-use line_rules::Commands;
+use line_rules::LineList;
 use line_shapes::{KeyedLine, Keyword};
 use node_ids::{SplitNo, WorkerNo};
 use std::alloc::{AllocError, Global};
@@ -15,7 +15,7 @@ use std::alloc::{AllocError, Global};
 pub fn commands_of(
     alloc: Global,
     names: &Names<'_>,
-    lines: &Commands<'_>,
+    lines: &LineList<'_>,
 ) -> Result<Vec<Command>, AllocError>
     requires few { AreFew names.now }
     requires ready { All (IsWholeCommand names.now) lines.now }
@@ -32,7 +32,7 @@ pub fn commands_of(
 fn command_at(
     alloc: Global,
     names: &Names<'_>,
-    lines: &Commands<'_>,
+    lines: &LineList<'_>,
     place: usize,
 ) -> Result<Command, AllocError>
     requires few { AreFew names.now }
@@ -41,7 +41,7 @@ fn command_at(
     ensures { IfOk result (λ command. (s : Statement)
         → SaysCommand names.now (slice_index_or lines.now place s) command) }
 {
-    match lines.command(place) {
+    match lines.line(place) {
         Some(line) => command_of(alloc, names, &line),
         None => unreachable!(),
     }

@@ -6,7 +6,7 @@ use Rattle.std.specs.BinaryHeap.{IsUpperBound}
 use Rattle.std.specs.declared.cmp.Reverse.{Reverse}
 use Rattle.std.proofs.HeapSift.{at_most}
 use Rattle.std.proofs.lemmas.List.Elements.{All-cons}
-use Rattle.shortest_paths.specs.Frontier.{nearer}
+use Rattle.shortest_paths.specs.Order.{nearer}
 
 first_not_lt : (o r : Ordering) → is_lt (ordering_then o r) ≡ false → is_lt o ≡ false
 first_not_lt Less r h = h

@@ -1,10 +1,22 @@
--- labels: one path after the other is taken
-pub mod Relaxing
--- the frontier: the order of the queue, what waits
+-- members of lists, the order of the queue, costs
+pub mod Members
 pub mod InOrder
-pub mod Waiting
--- the search: the arcs of one node, then node after node
-pub mod Turning
-pub mod Settling
--- the paths that labels go back
-pub mod Traced
+pub mod Costs
+-- the lists of each node's arcs, and the matched sources among them
+pub mod Sorting
+pub mod Following
+pub mod Kept
+-- the laws of lowering, and what they make of a search's distances
+pub mod Lowering
+pub mod ToSink
+-- the search: its moves, its ends
+pub mod Listing
+pub mod Arriving
+pub mod Sums
+pub mod Cursors
+pub mod Settled
+pub mod Searching
+pub mod SearchEnds
+pub mod Finds
+-- its paths to all nodes
+pub mod AllPaths

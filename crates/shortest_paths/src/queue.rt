@@ -15,7 +15,7 @@ pub struct Queue {
 impl Model for Queue {
     ghost use Rattle.std.specs.Prelude.{ℕ, List, map};
     ghost use Rattle.std.specs.BinaryHeap.{IsHeap, heap_items};
-    ghost use Rattle.shortest_paths.specs.Frontier.{nearer};
+    ghost use Rattle.shortest_paths.specs.Order.{nearer};
 
     ghost Value = { List (ℕ × ℕ) };
 

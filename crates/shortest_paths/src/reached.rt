@@ -1,15 +1,12 @@
-//! What a search found: the least distances of all nodes from one, with their paths.
-ghost use Rattle.std.specs.Prelude.{◌≡◌, ℕ, ◌+◌, ◌*◌, ◌<◌, ◌≤◌, List, [], ◌∷◌, ◌++◌, length, false};
-ghost use Rattle.std.specs.Prelude.{replicate, slice_index, slice_index_or, Option, None, Some, OnOk, IfOk};
-ghost use Rattle.std.specs.Prelude.{MatchOption};
+//! What a search over all nodes found: the least distances from one node, with their paths.
+ghost use Rattle.std.specs.Prelude.{◌≡◌, ℕ, ◌*◌, ◌<◌, ◌≤◌, length, slice_index, slice_index_or, None, Some};
+ghost use Rattle.std.specs.Prelude.{IfOk, MatchOption};
 ghost use Rattle.flow_network.specs.Flows.{NoNegative};
-ghost use Rattle.shortest_paths.specs.Labels.{trace, IsTraced, IsLinked};
 ghost use Rattle.shortest_paths.specs.Paths.{option_distance, option_path, AreLeastPaths};
 
 use crate::Potentials;
-use crate::frontier::Frontier;
-use crate::labels::Label;
-use crate::nearest_first::settle;
+use crate::residual_arcs::ResidualArcs;
+use crate::search::Search;
 use flow_network::{ArcNo, Meter};
 use node_ids::Layout;
 use std::alloc::{AllocError, Global};
@@ -18,22 +15,22 @@ use std::marker::Model;
 /// For each node the least reduced cost of a path to it, with such a path, by the nodes' indices.
 #[derive(Drop)]
 pub struct Distances {
-    labels: Vec<Option<Label>>,
+    search: Search,
 }
 
 impl Model for Distances {
     ghost use Rattle.std.specs.Prelude.{ℕ, List, Option};
     ghost use Rattle.flow_network.specs.declared.arcs.ArcNo.{ArcNo};
-    ghost use Rattle.shortest_paths.specs.Labels.{paths_of, IsTraced};
+    ghost use Rattle.shortest_paths.specs.Finding.{paths_of, AreTracedBack};
 
     ghost Value = { List (Option (ℕ × List ArcNo)) };
 
-    ghost view = { λ d. paths_of d.labels.items };
+    ghost view = { λ d. paths_of d.search.distances.items d.search.arrivals.items };
 
-    ghost invariant = { λ d. IsTraced d.labels.items };
+    ghost invariant = { λ d. AreTracedBack d.search.distances.items d.search.arrivals.items };
 }
 
-/// The least paths from the node of an index.
+/// The least paths from the node of an index: a search over all residual arcs, to no sink.
 pub fn find<L: Layout>(
     alloc: Global,
     meter: &mut Meter<L>,
@@ -53,18 +50,10 @@ pub fn find<L: Layout>(
 {
     meter.limits();
     let nodes = potentials.depths().len();
-    let mut labels = vec![in alloc; None; nodes]?;
-    let mut settled = vec![in alloc; false; nodes]?;
-    let mut frontier = Frontier::new(alloc);
-    settle(
-        meter,
-        potentials,
-        &mut labels,
-        &mut settled,
-        &mut frontier,
-        start,
-    )?;
-    Ok(Distances { labels })
+    let arcs = ResidualArcs::all(alloc, meter)?;
+    let mut search = Search::new(alloc, nodes)?;
+    search.run(meter, potentials, &arcs, start, nodes)?;
+    Ok(Distances { search })
 }
 
 impl Distances {
@@ -73,10 +62,7 @@ impl Distances {
         requires { node < length self.now }
         ensures { result ≡ option_distance (slice_index_or self.now node None) }
     {
-        match self.labels[node] {
-            Some(label) => Some(label.distance),
-            None => None,
-        }
+        self.search.distance(node)
     }
 
     /// A path to a node of the least reduced cost, or none where there is no path.
@@ -85,32 +71,10 @@ impl Distances {
         ensures { IfOk result (λ p. MatchOption p (slice_index_or self.now node None ≡ None)
             (λ v. option_path (slice_index_or self.now node None) ≡ Some v.items)) }
     {
-        match self.labels[node] {
-            Some(label) => Ok(Some(trace_back(alloc, &self.labels, label)?)),
-            None => Ok(None),
+        if self.of(node).is_none() {
+            return Ok(None);
         }
+        let path = self.search.trace(alloc, node)?;
+        Ok(Some(path))
     }
-}
-
-// The path that a label goes back.
-fn trace_back(
-    alloc: Global,
-    labels: &[Option<Label>],
-    label: Label,
-) -> Result<Vec<ArcNo>, AllocError>
-    requires traced { IsTraced labels.now }
-    requires linked { IsLinked labels.now label.last label.arcs }
-    ensures { IfOk result (λ p. p.items ≡ trace labels.now label.last label.arcs) }
-{
-    let mut path = Vec::new(alloc);
-    let mut here = label;
-    while let Some(step) = here.last {
-        path.push(step.arc)?;
-        match labels[step.before] {
-            Some(before) => here = before,
-            None => unreachable!(),
-        }
-    }
-    path.reverse();
-    Ok(path)
 }

@@ -1,6 +1,6 @@
 -- The first byte that passes a test stands at the position of the test.
 use Rattle.std.proofs.Common.{ℕ, List, ◌≡◌, Option, Some, None, Bool, true, false, arith, length}
-use Rattle.std.proofs.Common.{inl, inr, refl}
+use Rattle.std.proofs.Common.{◌<◌, get_or, inl, inr, refl}
 use Rattle.std.specs.List.{position, position_or_len}
 use Rattle.std.proofs.lemmas.Bool.{cases_Bool, le-ltb, lt-ltb}
 use Rattle.std.proofs.lemmas.List.Sums.{position_or_len_is}
@@ -24,3 +24,18 @@ position-first p xs (Some k) h =
     position_or_len_is p xs k 0 (omega (arith, h.0.high)) (λ j lt. fails _ (h.0.before j (omega arith) lt))
     (λ _. h.1) in
     rw (at, lt-ltb k (length xs) h.0.high) refl
+
+-- the first place that passes, told by all before it
+pub position-at : (p : ℕ → Bool) (xs : List ℕ) (k : ℕ) → k < length xs
+    → ((j : ℕ) → j < k → p (get_or xs j 0) ≡ false) → p (get_or xs k 0) ≡ true → Some k ≡ position p xs
+position-at p xs k inside before passes =
+    let at : position_or_len p xs ≡ k =
+    position_or_len_is p xs k 0 (omega (arith, inside)) before (λ _. passes) in
+    rw (at, lt-ltb k (length xs) inside) refl
+
+pub position-nowhere : (p : ℕ → Bool) (xs : List ℕ) → ((j : ℕ) → j < length xs → p (get_or xs j 0) ≡ false)
+    → None ≡ position p xs
+position-nowhere p xs none =
+    let at : position_or_len p xs ≡ length xs =
+    position_or_len_is p xs (length xs) 0 (omega arith) none (λ lt. absurd (omega (arith, lt))) in
+    rw (at, le-ltb (length xs) (length xs) (omega arith)) refl

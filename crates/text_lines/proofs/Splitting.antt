@@ -1,6 +1,6 @@
 -- Where a list is cut first, and the rest of its parts.
 use Rattle.std.proofs.Common.{ℕ, List, [], ◌∷◌, ◌≡◌, ◌+◌, ◌≤◌, ◌∙◌, length, take, drop, Bool, true, false}
-use Rattle.std.proofs.Common.{not, Some, None, ap, refl, arith, cond, suc}
+use Rattle.std.proofs.Common.{not, ◌-◌, Some, None, ap, refl, arith, cond, length-drop, suc, take_all}
 use Rattle.std.specs.List.{position, slice_split, position_or_len}
 use Rattle.std.specs.Prelude.{nat_lt}
 use Rattle.std.proofs.lemmas.List.Splits.{slice_split_first}
@@ -41,3 +41,7 @@ cut_none p [] e = refl
 cut_none p (x ∷ xs) e =
     let h = none_cons p x xs e in
     rw (h.0, cut_none p xs h.1) refl
+
+-- what is left once some were dropped
+pub all_of_rest : (n : ℕ) (xs : List ℕ) → take (length xs - n) (drop n xs) ≡ drop n xs
+all_of_rest n xs = take_all (length xs - n) (drop n xs) (rw (length-drop n xs) (omega arith))

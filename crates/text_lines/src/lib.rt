@@ -14,7 +14,7 @@ pub mod streams;
 pub mod tables;
 
 pub use fault::{Fault, TextFault};
-pub use lines::{printable, split_line, words};
+pub use lines::{add_words, printable, split_line, split_word};
 pub use names::is_name;
 pub use number::Number;
 pub use streams::{MAX_READ_BYTES, MAX_READS, ReadError, WriteError, read_text, write_text};

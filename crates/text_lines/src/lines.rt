@@ -1,12 +1,9 @@
-ghost use Rattle.std.specs.Prelude.{◌≡◌, ◌∷◌, [], ◌<◌, ◌↔◌, ◌==◌, IfOk, IsTrue, MatchOption, length, map};
+ghost use Rattle.std.specs.Prelude.{◌≡◌, ◌∷◌, ◌++◌, [], ◌<◌, ◌↔◌, ◌==◌, IsTrue, MatchOption, OnOk, length, map};
 ghost use Rattle.std.specs.Prelude.{position, All};
 ghost use Rattle.text_lines.specs.Texts.{IsPrintable, lines_of, words_of};
 
 use memchr::memchr;
-use std::alloc::{AllocError, Global};
-
-// Room for as many words as most lines have.
-const USUAL_WORDS: usize = 12;
+use std::alloc::AllocError;
 
 /// The first line of a text, without its line feed, and what follows the line feed, if it has one.
 pub fn split_line(text: &[u8]) -> (&[u8], Option<&[u8]>)
@@ -56,12 +53,45 @@ fn is_printable_byte(byte: u8) -> bool
     (b' '..=b'~').contains(&byte)
 }
 
-/// The words of a line. Between two spaces side by side stands an empty word, as it does before a
-/// space that stands first and after one that stands last; an empty line is one empty word.
-pub fn words(alloc: Global, line: &str) -> Result<Vec<&str>, AllocError>
-    ensures { IfOk result (λ words. map (λ w. w.now) words.items ≡ words_of line.entry.now) }
+/// The first word of a line, and what follows the space after it, if it has one.
+#[inline(always)]
+pub fn split_word(line: &str) -> (&str, Option<&str>)
+    ensures { MatchOption result.1 (words_of line.entry.now ≡ result.0.now ∷ [])
+        (λ rest. (words_of line.entry.now ≡ result.0.now ∷ words_of rest.now)
+        × (length rest.now < length line.entry.now)) }
 {
-    let mut words = Vec::with_capacity(alloc, USUAL_WORDS)?;
-    words.extend(line.split(' '))?;
-    Ok(words)
+    match first_space(line.as_bytes()) {
+        Some(at) => (&line[..at], Some(&line[at + 1..])),
+        None => (line, None),
+    }
+}
+
+// Where the first space stands. It is looked for byte by byte, since most words are short.
+#[inline(always)]
+fn first_space(line: &[u8]) -> Option<usize>
+    ensures { result ≡ position (λ b. b == 32) line.now }
+{
+    for at in 0..line.len() {
+        if line[at] == b' ' {
+            return Some(at);
+        }
+    }
+    None
+}
+
+/// Puts the words of a line behind those of a list. Between two spaces side by side stands an empty word, as it does
+/// before a space that stands first and after one that stands last; an empty line is one empty word.
+pub fn add_words<'t>(line: &'t str, words: &mut Vec<&'t str>) -> Result<(), AllocError>
+    ensures { OnOk result (map (λ w. w.now) words.new.items
+        ≡ map (λ w. w.now) words.old.items ++ words_of line.entry.now) }
+{
+    let mut rest = line;
+    loop {
+        let (word, after) = split_word(rest);
+        words.push(word)?;
+        let Some(after) = after else {
+            return Ok(());
+        };
+        rest = after;
+    }
 }

@@ -2,6 +2,7 @@ use crate::faults::{fault_in, fault_of};
 use line_rules::{Purpose, Version, read_lines};
 use line_shapes::Keyword;
 use std::alloc::{AllocError, Global};
+use text_lines::NameTable;
 
 // What stands in a script after `script 1`, a rack r, the workers a and b and a split s: its lines from the
 // sixth on.
@@ -155,10 +156,34 @@ fn each_front_of_a_job_has_a_fault(rt: HostRuntime) {
 fn read_of(alloc: Global, text: &str) -> Option<(usize, bool, bool)> {
     let known = read_lines(alloc, Purpose::Playing, text.as_bytes()).ok()?;
     let row = known.rows().row(6)?;
-    let is_text = row.rest.len() == 2 && row.rest[1] == "cat, THE dog";
-    let is_document = row.keyword == Keyword::Doc && row.first == "d2" && is_text;
+    let words = row.words;
+    let is_text = words.len() == 3 && words[0] == "d2" && words[2] == "cat, THE dog";
+    let is_document = row.keyword == Keyword::Doc && is_text;
     let is_first = matches!(known.version(), Version::One);
     Some((known.commands().len(), is_document, is_first))
+}
+
+// Whether a text to plan from enters no row and no command, and a table no name.
+fn none_entered(alloc: Global, text: &str) -> Option<[bool; 3]> {
+    let known = read_lines(alloc, Purpose::Planning, text.as_bytes()).ok()?;
+    let names = NameTable::new(alloc);
+    Some([
+        known.rows().is_empty(),
+        known.commands().is_empty(),
+        names.is_empty(),
+    ])
+}
+
+#[test]
+fn a_problem_may_be_empty(rt: HostRuntime) {
+    for (rest, empty) in [("end\n", true), ("rack r\nend\n", false)] {
+        let text = format!(in rt.alloc(); "problem 1\n{rest}").expect(&rt, "no text");
+        assert_eq!(rt;
+            none_entered(rt.alloc(), &text),
+            Some([empty, true, true]),
+            "{rest}"
+        );
+    }
 }
 
 #[test]

@@ -1,5 +1,5 @@
 use Rattle.std.proofs.Common.{sym, ◌∙◌, arith}
-use Rattle.guest_lists.proofs.Kept.{kept_are_guests}
+use Rattle.shortest_paths.proofs.Kept.{kept_are_residual}
 use Rattle.augmenting_paths.proofs.Shipped.{start_in, start_level, own_way, lift_keeps, lifted_depth}
 use Rattle.augmenting_paths.proofs.augment.ship.Goals as goal
 
@@ -9,16 +9,16 @@ lift-requires-clause-source g c = start_in _ _ _ _ _ _ _ c.requires.can c.requir
 pub lift-requires-clause-level : goal.lift-requires-clause-level
 lift-requires-clause-level g c = start_level _ _ _ _ _ _ _ c.requires.can c.requires.count c.requires.state
 
-pub lift-requires-clause-way : goal.lift-requires-clause-way
-lift-requires-clause-way g c =
+pub lift-requires-clause-arc : goal.lift-requires-clause-arc
+lift-requires-clause-arc g c =
     let w = own_way _ _ _ _ _ _ _ c.requires.can c.requires.count c.requires.state in
     let low = w.4 in
     (w.0, w.1, w.2, w.3, omega arith)
 
-pub straight_way-straight-requires-clause-may : goal.straight_way-straight-requires-clause-may
-straight_way-straight-requires-clause-may g c =
+pub tight_path-tight-requires-clause-may : goal.tight_path-tight-requires-clause-may
+tight_path-tight-requires-clause-may g c =
     let size = c.lift.ensures.size ∙ c.requires.size in
-    let sized = c.requires.guests.sorted.sized in
+    let sized = c.requires.lists.sorted.sized in
     let limit = c.requires.limit in
     let left = c.requires.count in
     record {
@@ -33,17 +33,17 @@ straight_way-straight-requires-clause-may g c =
       };
       sized = record {
         sources = sized.sources ∙ sym size;
-        exits = sized.exits ∙ sym size;
+        sink_arcs = sized.sink_arcs ∙ sym size;
         inner = sized.inner ∙ sym size;
-        standing = sized.standing ∙ sym size;
+        matched = sized.matched ∙ sym size;
       };
-      guests = kept_are_guests _ _ _ _ _ c.limits.ensures.arcs_in c.requires.guests.sorted
-          c.requires.guests.standing;
-      sink_apart = c.requires.guests.sink_apart;
+      lists = kept_are_residual _ _ _ _ _ c.requires.lists.sorted
+          c.requires.lists.matched;
+      sink_apart = c.requires.lists.sink_apart;
     }
 
-pub straight_way-straight-requires-clause-node : goal.straight_way-straight-requires-clause-node
-straight_way-straight-requires-clause-node g c =
+pub tight_path-tight-requires-clause-node : goal.tight_path-tight-requires-clause-node
+tight_path-tight-requires-clause-node g c =
     let inside = start_in _ _ _ _ _ _ _ c.requires.can c.requires.count c.requires.state in
     let size = c.lift.ensures.size ∙ c.requires.size in
     omega arith

@@ -4,11 +4,11 @@ use Rattle.flow_network.specs.declared.arcs.FlowArc.{FlowArc}
 use Rattle.flow_network.specs.declared.arcs.ArcNo.{ArcNo}
 use Rattle.flow_network.specs.Flows.{pushed}
 use Rattle.flow_network.specs.Leaving.{IsIn}
-use Rattle.guest_lists.specs.Standing.{AreStanding}
-use Rattle.guest_lists.specs.Ways.{AreSorted}
+use Rattle.shortest_paths.specs.Matched.{AreMatched}
+use Rattle.shortest_paths.specs.Sorted.{AreSorted}
 use Rattle.flow_network.specs.Flow.{Flow}
-use Rattle.guest_lists.specs.Guests.{GuestLists, source_at}
-use Rattle.guest_lists.proofs.Kept.{kept_are_guests, sorted_stays}
+use Rattle.shortest_paths.specs.Lists.{ArcLists, source_at}
+use Rattle.shortest_paths.proofs.Kept.{kept_are_residual, sorted_stays}
 use Rattle.augmenting_paths.proofs.Shipped.{start_in, sink_in, lift_keeps, lifted_depth}
 use Rattle.augmenting_paths.proofs.Shipped.{not_none, unit_path, unit_distinct, unit_once, unit_listed}
 use Rattle.augmenting_paths.proofs.Shipped.{total_low, unit_shipped}
@@ -17,7 +17,7 @@ use Rattle.augmenting_paths.proofs.augment.ship_found.Goals as goal
 pub find-requires-clause-may : goal.find-requires-clause-may
 find-requires-clause-may g c =
     let size = c.requires.size in
-    let sized = c.requires.guests.sorted.sized in
+    let sized = c.requires.lists.sorted.sized in
     let limit = c.requires.limit in
     let left = c.requires.count in
     record {
@@ -32,13 +32,13 @@ find-requires-clause-may g c =
       };
       sized = record {
         sources = sized.sources ∙ sym size;
-        exits = sized.exits ∙ sym size;
+        sink_arcs = sized.sink_arcs ∙ sym size;
         inner = sized.inner ∙ sym size;
-        standing = sized.standing ∙ sym size;
+        matched = sized.matched ∙ sym size;
       };
-      guests = kept_are_guests _ _ _ _ _ c.limits.ensures.arcs_in c.requires.guests.sorted
-          c.requires.guests.standing;
-      sink_apart = c.requires.guests.sink_apart;
+      lists = kept_are_residual _ _ _ _ _ c.requires.lists.sorted
+          c.requires.lists.matched;
+      sink_apart = c.requires.lists.sink_apart;
     }
 
 pub find-requires-clause-start : goal.find-requires-clause-start
@@ -111,8 +111,8 @@ returns-clause-state g c =
     c.in_ok-found.ensures.path (slice_index c.lower-buffers.new.potentials)
     c.lower-buffers.ensures.lowered)
 
-pub returns-clause-guests : goal.returns-clause-guests
-returns-clause-guests g c =
+pub returns-clause-lists : goal.returns-clause-lists
+returns-clause-lists g c =
     let some : c.in-Some.path.items ≡ c.in_ok-found.found.path = rw c.in-Some.is at c.in_ok-path.ensures in
     let lists = c.follow.ensures.lists in
     let arcs : c.push.new.self.arcs ≡ c.args.network.now.arcs =
@@ -122,16 +122,16 @@ returns-clause-guests g c =
     ∙ ap (λ (p : List ArcNo). pushed p c.args.network.now.flows) (c.deref.ensures.value
     ∙ sym c.deref-2.ensures.value) in
     record {
-      sorted = subst (λ (w : GuestLists). AreSorted (g.L.Layout.node_count c.args.network.now.layout)
+      sorted = subst (λ (w : ArcLists). AreSorted (g.L.Layout.node_count c.args.network.now.layout)
           c.args.network.now.arcs c.args.sink w) (sym lists)
-          (sorted_stays _ _ _ _ c.follow.new.self.standing c.follow.ensures.size c.requires.guests.sorted);
-      standing = subst (λ (xs : List FlowArc). AreStanding xs c.push.new.self.flows c.follow.new.self) arcs
-          (c.in_ok-follow.ensures.standing c.args.network.now.flows flows
+          (sorted_stays _ _ _ _ c.follow.new.self.matched c.follow.ensures.size c.requires.lists.sorted);
+      matched = subst (λ (xs : List FlowArc). AreMatched xs c.push.new.self.flows c.follow.new.self) arcs
+          (c.in_ok-follow.ensures.matched c.args.network.now.flows flows
           (rw (c.deref-2.ensures.value, some) (unit_once _ _ _ _ _ _ _ c.requires.can c.requires.count
           c.requires.lifted.state _ c.requires.lifted.up c.in_ok-found.found c.in_ok-found.ensures.total
           c.in_ok-found.ensures.searched c.in_ok-found.ensures.path))
-          (subst (λ (xs : List FlowArc). AreStanding xs c.args.network.now.flows c.args.shipping.guests)
+          (subst (λ (xs : List FlowArc). AreMatched xs c.args.network.now.flows c.args.shipping.lists)
           (sym arcs)
-          c.requires.guests.standing));
-      sink_apart = ap (λ (w : GuestLists). source_at w c.args.sink) lists ∙ c.requires.guests.sink_apart;
+          c.requires.lists.matched));
+      sink_apart = ap (λ (w : ArcLists). source_at w c.args.sink) lists ∙ c.requires.lists.sink_apart;
     }

@@ -11,8 +11,8 @@ pub returns-in-Some-said_by-clause-err : goal.returns-in-Some-said_by-clause-err
 returns-in-Some-said_by-clause-err c =
     let line = c.in-Some.ensures.0 in
     let k = c.in-Some-keyword_of.keyword in
-    let words = sym c.in_ok-words.ensures ∙ ap (map (λ w. w.now)) (sym c.deref.ensures.value) in
-    let cut : words_in k c.args.line.now ≡ spelling_of k ∷ map (λ w. w.now) c.deref.result.now =
+    let words = sym c.in_ok-cut_words.ensures ∙ ap (map (λ w. w.now)) (sym c.as_slice.ensures.value) in
+    let cut : words_in k c.args.line.now ≡ spelling_of k ∷ map (λ w. w.now) c.as_slice.result.now =
     ap (words_in k) (sym line) ∙ c.in-Some-keyword_of.ensures ∙ ap (λ ws. spelling_of k ∷ ws) words in
     let said = c.in-Some-said_by.ensures in
     let sound : IsLegible c.args.known.now c.args.line.now = search rules in
@@ -20,18 +20,18 @@ returns-in-Some-said_by-clause-err c =
     (says_same c.args.line.now k _ (statement_of c.in-Some-said_by.line) cut said.0 said.1))
     c.take_said.ensures.err
 
-pub returns-clause-err : goal.returns-clause-err
-returns-clause-err c =
+pub returns-in-None-clause-err : goal.returns-in-None-clause-err
+returns-in-None-clause-err c =
     let line = c.in-Some.ensures.0 in
     let k = c.in-Some-keyword_of.keyword in
-    let words = sym c.in_ok-words.ensures ∙ ap (map (λ w. w.now)) (sym c.deref.ensures.value) in
-    let cut : words_in k c.args.line.now ≡ spelling_of k ∷ map (λ w. w.now) c.deref.result.now =
+    let words = sym c.in_ok-cut_words.ensures ∙ ap (map (λ w. w.now)) (sym c.as_slice.ensures.value) in
+    let cut : words_in k c.args.line.now ≡ spelling_of k ∷ map (λ w. w.now) c.as_slice.result.now =
     ap (words_in k) (sym line) ∙ c.in-Some-keyword_of.ensures ∙ ap (λ ws. spelling_of k ∷ ws) words in
     let sound : IsLegible c.args.known.now c.args.line.now = search rules in
     no_shape c.args.known.now c.args.line.now k _ sound cut c.in-None.ensures
 
-pub returns-in_err-words-clause-memory : goal.returns-in_err-words-clause-memory
-returns-in_err-words-clause-memory c memory =
+pub returns-in_err-cut_words-clause-memory : goal.returns-in_err-cut_words-clause-memory
+returns-in_err-cut_words-clause-memory c memory =
     let k = c.in-Some-keyword_of.keyword in
     let sound : IsLegible c.args.known.now c.args.line.now = search rules in
     has_keyword _ _ k _ sound (ap (words_in k) (sym c.in-Some.ensures.0) ∙ c.in-Some-keyword_of.ensures)

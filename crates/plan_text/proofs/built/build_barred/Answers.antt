@@ -6,7 +6,7 @@ use Rattle.line_shapes.specs.Lines.{Statement}
 use Rattle.line_shapes.specs.contracts.keyword.Keyword.{the_type}
 use Rattle.line_shapes.specs.declared.keyword.Keyword.TheVariants.{Barred, Split, Worker}
 use Rattle.line_rules.specs.Known.{rows_of}
-use Rattle.line_rules.specs.declared.rows.Row.{Row}
+use Rattle.line_shapes.specs.declared.line.KeyedLine.{KeyedLine}
 use denote.Enum.Bare.{same_true, true_same}
 use Rattle.plan_text.specs.Names.{names_of, said_in}
 use Rattle.plan_text.specs.Tidy.{IsTidyBar}
@@ -20,7 +20,7 @@ use Rattle.plan_text.proofs.built.build_barred.Goals.{in-None, in-Some+else-eq, 
 pub bar-requires-clause-known : goal.bar-requires-clause-known
 bar-requires-clause-known c =
     let rows = c.args.rows.now in
-    let row : Row = c.in-Some.row in
+    let row : KeyedLine = c.in-Some.row in
     let found = c.in-Some.ensures in
     let same : row.keyword ≡ Barred =
     same_true the_type tt row.keyword Barred (sym c.eq.ensures ∙ c.if-eq.true) in
@@ -48,7 +48,7 @@ loop-place-preserved c s n lt =
     λ lines. HasPair c.match-row.set s n ↔ IsBarred splits workers lines s n in
     elim c.match-row.branch [
       | in-Some+then-eq w ↦
-          let row : Row = w.in-Some.row in
+          let row : KeyedLine = w.in-Some.row in
           let found = w.in-Some.ensures in
           let same : row.keyword ≡ Barred =
           same_true the_type tt row.keyword Barred (sym w.eq.ensures ∙ w.if-eq.true) in
@@ -59,7 +59,7 @@ loop-place-preserved c s n lt =
           ↔ IsBarred splits workers (rows_of Barred (take place rows) ++ said_in row ∷ []) s n)
           (sym w.set-is) step)
       | in-Some+else-eq w ↦
-          let row : Row = w.in-Some.row in
+          let row : KeyedLine = w.in-Some.row in
           let found = w.in-Some.ensures in
           let other : row.keyword ≡ Barred → ⊥ =
           λ e. let same = sym (true_same the_type row.keyword Barred e) ∙ sym w.eq.ensures ∙ w.if-eq.false in

@@ -2,7 +2,7 @@ use Rattle.std.proofs.Common.{List, ◌≡◌, ◌++◌, ◌∷◌, ◌∙◌, [
 use Rattle.std.proofs.lemmas.List.{map-append}
 use Rattle.line_shapes.specs.Lines.{Statement}
 use Rattle.line_shapes.specs.contracts.keyword.Keyword.{the_type}
-use Rattle.line_rules.specs.declared.rows.Row.{Row}
+use Rattle.line_shapes.specs.declared.line.KeyedLine.{KeyedLine}
 use denote.Enum.Bare.{same_true, true_same}
 use Rattle.plan_text.specs.Names.{said_in}
 use Rattle.plan_text.proofs.Named.{rows_more, rows_same}
@@ -14,7 +14,7 @@ pub loop-place-preserved : goal.loop-place-preserved
 loop-place-preserved c = elim c.match-row.branch [
   | in-Some+then-eq+in_ok-push-in-Some w ↦
       let found = w.in-Some.ensures in
-      let row : Row = w.in-Some.row in
+      let row : KeyedLine = w.in-Some.row in
       let same : row.keyword ≡ c.args.keyword =
       same_true the_type tt row.keyword c.args.keyword (sym w.eq.ensures ∙ w.if-eq.true) in
       ap (λ (v : _). map said_in v.items) w.found-is ∙ ap (map said_in) w.in_ok-push-in-Some.ensures.items
@@ -23,7 +23,7 @@ loop-place-preserved c = elim c.match-row.branch [
       ∙ sym (rows_more c.args.keyword c.args.rows.now c.loop-place.place (said_in row) found.0 found.1 same)
   | in-Some+else-eq w ↦
       let found = w.in-Some.ensures in
-      let row : Row = w.in-Some.row in
+      let row : KeyedLine = w.in-Some.row in
       let other : row.keyword ≡ c.args.keyword → ⊥ =
       λ e. let same = sym (true_same the_type row.keyword c.args.keyword e) ∙ sym w.eq.ensures
       ∙ w.if-eq.false in

@@ -1,11 +1,27 @@
-use Rattle.std.proofs.Common.{◌≡◌, length, arith, ap, ◌∙◌}
-use Rattle.std.proofs.lemmas.List.{with_items_is}
-use Rattle.shortest_paths.proofs.Traced.{least_paths}
+use Rattle.std.proofs.Common.{◌≡◌, ◌≤◌, length, ap, arith}
+use Rattle.shortest_paths.proofs.AllPaths.{finds_all}
 use Rattle.shortest_paths.proofs.reached.find.Goals as goal
+
+pub invariant_of-result : goal.invariant_of-result
+invariant_of-result g c =
+    let size = ap length c.depths-nodes.ensures.depths in
+    let past : length c.args.potentials.now ≤ length c.depths-nodes.result.now = omega arith in
+    (finds_all c.args.meter.now _ c.args.potentials.now _ c.args.start (length c.depths-nodes.result.now) _
+    c.run.new.self _ past c.limits.ensures c.requires.nodes c.depths-nodes.ensures.most c.requires.reduced
+    c.in_ok-run.ensures.ends).back
+
+pub returns-clause-size : goal.returns-clause-size
+returns-clause-size g c =
+    let size = ap length c.depths-nodes.ensures.depths in
+    let past : length c.args.potentials.now ≤ length c.depths-nodes.result.now = omega arith in
+    (finds_all c.args.meter.now _ c.args.potentials.now _ c.args.start (length c.depths-nodes.result.now) _
+    c.run.new.self _ past c.limits.ensures c.requires.nodes c.depths-nodes.ensures.most c.requires.reduced
+    c.in_ok-run.ensures.ends).size
 
 pub returns-clause-least : goal.returns-clause-least
 returns-clause-least g c =
-    let size : length c.settle.new.labels ≡ length c.in_ok-labels.labels.items =
-    c.settle.auto.labels ∙ ap length c.deref_mut.ensures.value in
-    rw (with_items_is c.in_ok-labels.labels c.settle.new.labels (omega arith))
-    (least_paths _ _ _ _ _ c.in_ok-settle.ensures.least)
+    let size = ap length c.depths-nodes.ensures.depths in
+    let past : length c.args.potentials.now ≤ length c.depths-nodes.result.now = omega arith in
+    (finds_all c.args.meter.now _ c.args.potentials.now _ c.args.start (length c.depths-nodes.result.now) _
+    c.run.new.self _ past c.limits.ensures c.requires.nodes c.depths-nodes.ensures.most c.requires.reduced
+    c.in_ok-run.ensures.ends).least

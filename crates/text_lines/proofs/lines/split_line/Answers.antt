@@ -1,12 +1,8 @@
-use Rattle.std.proofs.Common.{rules, ℕ, List, ◌==◌, ◌+◌, ◌-◌, ◌≡◌, arith, ◌∙◌, ap, sym, ◌∷◌, take, drop}
-use Rattle.std.proofs.Common.{length, take_all, length-drop}
-use Rattle.text_lines.proofs.Splitting.{cut_none, cut_some}
+use Rattle.std.proofs.Common.{rules, ◌==◌, ◌+◌, arith, ◌∙◌, ap, sym, ◌∷◌, take, length-drop}
+use Rattle.text_lines.proofs.Splitting.{all_of_rest, cut_none, cut_some}
 use Rattle.std.proofs.lemmas.List.Quantifiers.{position-Some}
 use Rattle.text_lines.specs.Texts.{lines_of}
 use Rattle.text_lines.proofs.lines.split_line.Goals as goal
-
-all_of_rest : (n : ℕ) (xs : List ℕ) → take (length xs - n) (drop n xs) ≡ drop n xs
-all_of_rest n xs = take_all (length xs - n) (drop n xs) (rw (length-drop n xs) (omega arith))
 
 pub returns-in-Some : goal.returns-in-Some
 returns-in-Some c = (

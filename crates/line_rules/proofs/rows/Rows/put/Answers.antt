@@ -1,31 +1,17 @@
-use Rattle.std.proofs.Common.{◌≡◌, ◌++◌, ◌∷◌, ◌∙◌, [], ap, sym, subst}
-use Rattle.std.proofs.lemmas.Map.Made.{is_some-lookup}
-use Rattle.indexmap.proofs.CallerLemmas.{insert_entry-new}
+use Rattle.std.proofs.Common.{◌∷◌, ◌++◌, ◌∙◌, [], ap, subst}
+use Rattle.line_shapes.specs.Lines.{statement_of}
 use Rattle.line_rules.specs.Entering.{Key, key_of}
-use Rattle.line_rules.specs.Rows.{TextKey, made_of}
-use Rattle.line_rules.proofs.Keyed.{absent, keyed_more, rows_more}
+use Rattle.line_rules.specs.Rows.{HasKeyMore}
+use Rattle.line_rules.proofs.Keyed.{tabled_more}
 use Rattle.line_rules.proofs.rows.Rows.put.Goals as goal
 
-pub invariant_of-self-2 : goal.invariant_of-self-2
-invariant_of-self-2 c =
-    let es = c.self.inside.entries.entries in
-    let text : TextKey = (c.args.keyword, c.args.first, c.args.second) in
-    let key : Key = (c.args.keyword, c.args.first.now, c.args.second.now) in
-    let lacks = absent key es _ _ c.self.invariant c.self.view_is c.requires.new (is_some-lookup _ es) in
-    let grown = c.in_ok-insert.ensures.entries
-    ∙ insert_entry-new _ c.self.inside.entries text c.in_ok-rest.rest lacks in
-    keyed_more es _ (text, c.in_ok-rest.rest) grown c.self.invariant
-    (subst (λ ws. key_of (made_of c.args.keyword c.args.first.now c.args.second.now ws) ≡ key)
-    (sym c.in_ok-rest.ensures.items) c.requires.keyed)
-
-pub returns-clause-ok : goal.returns-clause-ok
-returns-clause-ok c =
-    let es = c.self.inside.entries.entries in
-    let text : TextKey = (c.args.keyword, c.args.first, c.args.second) in
-    let key : Key = (c.args.keyword, c.args.first.now, c.args.second.now) in
-    let lacks = absent key es _ _ c.self.invariant c.self.view_is c.requires.new (is_some-lookup _ es) in
-    let grown = c.in_ok-insert.ensures.entries
-    ∙ insert_entry-new _ c.self.inside.entries text c.in_ok-rest.rest lacks in
-    rows_more es _ (text, c.in_ok-rest.rest) grown _ c.self.view_is
-    ∙ ap (λ ws. c.args.self.now ++ made_of c.args.keyword c.args.first.now c.args.second.now ws ∷ [])
-    c.in_ok-rest.ensures.items
+pub invariant_of-self-in-Ok : goal.invariant_of-self-in-Ok
+invariant_of-self-in-Ok c =
+    let said = statement_of c.args.line.now in
+    let firsts = c.self.inside.firsts.entries in
+    let others = c.self.inside.others.keys in
+    let more : HasKeyMore firsts others (key_of said) c.put_key.new.firsts.entries c.put_key.new.others.keys =
+    subst (λ (k : Key). HasKeyMore firsts others k c.put_key.new.firsts.entries c.put_key.new.others.keys)
+    (λ i. (said.keyword, c.first_of_key-first.ensures i, c.second_of_key-second.ensures i)) c.in-Ok.ensures.ok in
+    tabled_more c.self.inside.lines c.push.new.self said firsts _ others _ c.in_ok-push.ensures.ok c.self.invariant
+    more

@@ -1,4 +1,0 @@
--- the lists of each node's arcs, and the guests among them
-pub mod Sorting
-pub mod Following
-pub mod Kept

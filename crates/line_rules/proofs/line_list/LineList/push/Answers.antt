@@ -1,0 +1,27 @@
+use Rattle.std.proofs.Common.{◌≡◌, ◌∙◌, ◌++◌, ◌∷◌, [], ap, arith, map, rules, sym}
+use Rattle.line_shapes.specs.Lines.{statement_of}
+use Rattle.line_rules.specs.Rows.{statement_at}
+use Rattle.line_rules.proofs.Listed.{kept_by, lines_put}
+use Rattle.line_rules.proofs.line_list.LineList.push.Goals as goal
+
+pub returns-in_err-push-clause-err : goal.returns-in_err-push-clause-err
+returns-in_err-push-clause-err c =
+    let words = c.self.inside.words.items in
+    let ps = c.self.inside.places.items in
+    let all = c.extend_from_slice.new.self.items in
+    let same : map (statement_at all) c.push.new.self.items ≡ c.args.self.now =
+    ap (map (statement_at all)) c.in_err-push.ensures.items
+    ∙ (kept_by words c.args.line.now.words.now all ps c.in_ok-extend_from_slice.ensures.items c.self.invariant).1
+    ∙ c.self.view_is in
+    search rules
+
+pub returns-clause-ok : goal.returns-clause-ok
+returns-clause-ok c =
+    let words = c.self.inside.words.items in
+    let ps = c.self.inside.places.items in
+    lines_put words c.args.line.now.words.now c.extend_from_slice.new.self.items ps c.push.new.self.items _
+    c.in_ok-extend_from_slice.ensures.items c.in_ok-push.ensures.items
+    (omega (arith, c.len-start.ensures))
+    (omega (arith, c.len-start.ensures, c.len-end.ensures, c.in_ok-extend_from_slice.ensures.len))
+    c.self.invariant
+    ∙ ap (λ ss. ss ++ statement_of c.args.line.now ∷ []) c.self.view_is

@@ -1,0 +1,206 @@
+//! Results that come late, twice, from the dead, or of another text.
+ghost use Rattle.std.specs.Prelude.{◌≡◌};
+
+use crate::jobs::{AMPLE, Call, Row, Shape, SplitRow, answers, last_glance, played};
+use crate::shared_masters;
+use crate::shared_masters::{hand_of, list_of, settles, shared_of, wave_of};
+use master_state::{Answer, AnswerWith, Why};
+use node_ids::{AttemptNo, SplitNo, SplitSet, WorkerNo};
+use shared_master::{Hand, SharedMaster};
+use std::alloc::Global;
+use std::marker::Brand;
+use std::process::Abort;
+use std::sync::Wait;
+use std::sync::ledger::{Blank, Ledger};
+use word_map::MapResult;
+
+// Two workers with a slot each, of which the first holds the one split.
+const ONE_SPLIT: [SplitRow<'static>; 1] = [(5, &[0], "one")];
+
+const OLD: Answer = Answer::Ignored(Why::OldAttempt);
+
+// Attempts of the split that are done, lost, failed and withdrawn. Worker 0 comes back with the split, on
+// which it fails, and worker 1 without it.
+const LATE: [Row; 21] = [
+    (Call::Wave, Answer::Accepted(1)),
+    (Call::Done(1), Answer::Accepted(2)),
+    (Call::Done(1), OLD),
+    (Call::Die(0), Answer::Accepted(3)),
+    (Call::Done(1), OLD),
+    (Call::Join(0, Some(0)), Answer::Accepted(4)),
+    (Call::Done(1), OLD),
+    (Call::Wave, Answer::Accepted(5)),
+    (Call::Fail(2), Answer::Accepted(6)),
+    (Call::Done(2), OLD),
+    (Call::Wave, Answer::Accepted(7)),
+    (Call::Withdraw(3), Answer::Accepted(8)),
+    (Call::Done(3), OLD),
+    (Call::Wave, Answer::Accepted(9)),
+    (Call::Die(1), Answer::Accepted(10)),
+    (Call::Done(4), OLD),
+    (Call::Join(1, None), Answer::Accepted(11)),
+    (Call::Done(4), OLD),
+    (Call::Wave, Answer::Accepted(12)),
+    (Call::Done(5), Answer::Accepted(13)),
+    (Call::Done(4), OLD),
+];
+
+// The same of attempts of the parts, once the split is done on worker 1.
+const LATE_PARTS: [Row; 14] = [
+    (Call::Reduce, Answer::Accepted(14)),
+    (Call::Done(6), Answer::Accepted(15)),
+    (Call::Done(6), OLD),
+    (Call::Reduce, Answer::Accepted(16)),
+    (Call::Withdraw(7), Answer::Accepted(17)),
+    (Call::Done(7), OLD),
+    (Call::Reduce, Answer::Accepted(18)),
+    (Call::Fail(8), Answer::Accepted(19)),
+    (Call::Done(8), OLD),
+    (Call::Reduce, Answer::Accepted(20)),
+    (Call::Die(0), Answer::Accepted(21)),
+    (Call::Done(9), OLD),
+    (Call::Reduce, Answer::Accepted(22)),
+    (Call::Done(10), Answer::Accepted(23)),
+];
+
+#[test]
+fn late_results_are_ignored(rt: HostRuntime) {
+    let of = Shape {
+        racks: &[2],
+        slots: &[1, 1],
+        splits: &ONE_SPLIT,
+        parts: 2,
+    };
+    let mut job = played(&rt, rt.alloc(), &of, AMPLE, &LATE);
+    answers(&rt, rt.alloc(), &mut job, &LATE_PARTS);
+    assert_eq!(rt; last_glance(job).1, 2);
+}
+
+// What is made of the split, if these are its words.
+fn made_of(rt: &impl Abort, alloc: Global, words: &str) -> MapResult {
+    shared_masters::made_of(alloc, SplitNo::new(0), words).expect(rt, "no result")
+}
+
+// A result of these words is handed in: the answer, and whether it came back.
+fn hand_in<L: Ledger, R: Wait + Abort>(
+    rt: &R,
+    alloc: Global,
+    shared: &SharedMaster<L>,
+    hand: &mut Hand<L>,
+    attempt: u32,
+    words: &str,
+) -> (Answer, bool) {
+    let made = made_of(rt, alloc, words);
+    match shared.map_done(rt, hand, AttemptNo::new(attempt), made) {
+        AnswerWith::Accepted(place) => (Answer::Accepted(place), false),
+        AnswerWith::Ignored(why, back) => {
+            let is_same = back.text().is_same(made_of(rt, alloc, words).text());
+            (Answer::Ignored(why), is_same)
+        }
+    }
+}
+
+fn join<L: Ledger, R: Wait + Abort>(
+    rt: &R,
+    shared: &SharedMaster<L>,
+    hand: &mut Hand<L>,
+    worker: WorkerNo,
+    split: Option<u16>,
+) -> Answer {
+    let mut set = SplitSet::new();
+    if split.is_some() {
+        set.put(SplitNo::new(0));
+    }
+    let sizes = shared.sizes();
+    assert!(rt; worker.index() < sizes.workers && set.are_below(sizes.splits));
+    shared.join(rt, hand, worker, &set)
+}
+
+fn die<L: Ledger, R: Wait + Abort>(
+    rt: &R,
+    shared: &SharedMaster<L>,
+    hand: &mut Hand<L>,
+    worker: WorkerNo,
+) -> Answer {
+    assert!(rt; worker.index() < shared.sizes().workers);
+    shared.die(rt, hand, worker)
+}
+
+// What the call of a hand is answered.
+fn answer_by_hand<L: Ledger, R: Wait + Abort>(
+    rt: &R,
+    alloc: Global,
+    shared: &SharedMaster<L>,
+    hand: &mut Hand<L>,
+    call: Call,
+) -> Answer {
+    match call {
+        Call::Wave => Answer::Accepted(
+            wave_of(rt, alloc, shared, hand).expect(rt, "no wave").place,
+        ),
+        Call::Done(attempt) => hand_in(rt, alloc, shared, hand, attempt, "one").0,
+        Call::Fail(attempt) => shared.map_failed(rt, hand, AttemptNo::new(attempt)),
+        Call::Withdraw(attempt) => shared.withdraw(rt, hand, AttemptNo::new(attempt)),
+        Call::Die(worker) => die(rt, shared, hand, WorkerNo::new(worker)),
+        Call::Join(worker, split) => join(rt, shared, hand, WorkerNo::new(worker), split),
+        _ => panic!(rt; "{call:?}"),
+    }
+}
+
+fn late_by_hand<L: Ledger, R: Wait + Abort>(
+    rt: &R,
+    alloc: Global,
+    shared: &SharedMaster<L>,
+    hand: &mut Hand<L>,
+) {
+    for (call, want) in &LATE {
+        let told = answer_by_hand(rt, alloc, shared, hand, *call);
+        assert_eq!(rt; told, *want, "{call:?}");
+    }
+}
+
+// A result of a text in which one byte differs comes back, and the right one is accepted.
+fn lie_by_hand<L: Ledger, R: Wait + Abort>(
+    rt: &R,
+    alloc: Global,
+    shared: &SharedMaster<L>,
+    hand: &mut Hand<L>,
+) {
+    assert!(rt; wave_of(rt, alloc, shared, hand).is_some());
+    let lie = hand_in(rt, alloc, shared, hand, 1, "onf");
+    let truth = hand_in(rt, alloc, shared, hand, 1, "one");
+    let wrong = Answer::Ignored(Why::WrongInput);
+    assert_eq!(rt; (lie, truth.0), ((wrong, true), Answer::Accepted(2)));
+}
+
+// Both are calls of a hand, which settles alone.
+fn settle_by_hand<L: Ledger, R: Wait + Abort>(rt: &R, alloc: Global, blank: Blank, lies: bool)
+    requires { (blank.name ≡ L.name) × (blank.parts ≡ L.parts) × (blank.parts ≡ 4096) }
+{
+    let shared: SharedMaster<L> = shared_of(
+        rt,
+        alloc,
+        blank,
+        (2, 0),
+        &ONE_SPLIT,
+        shared_masters::AMPLE,
+    );
+    let mut hand = hand_of(rt, alloc, &shared);
+    if lies {
+        lie_by_hand(rt, alloc, &shared, &mut hand);
+    } else {
+        late_by_hand(rt, alloc, &shared, &mut hand);
+    }
+    let hands = list_of(alloc, hand).expect(rt, "no list");
+    assert!(rt; settles(shared, hands));
+}
+
+#[test]
+fn late_results_of_a_hand_are_ignored(rt: HostRuntime) {
+    settle_by_hand::<Brand, _>(&rt, rt.alloc(), Blank::new(4096), false)
+}
+
+#[test]
+fn a_lie_of_a_hand_comes_back(rt: HostRuntime) {
+    settle_by_hand::<Brand, _>(&rt, rt.alloc(), Blank::new(4096), true)
+}

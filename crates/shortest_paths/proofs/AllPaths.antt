@@ -1,0 +1,204 @@
+-- The least paths to all nodes, which a search to no sink leaves.
+use Rattle.std.proofs.Common.{◌≡◌, ℕ, zero, suc, ◌+◌, ◌^◌, ◌<◌, ◌≤◌, cond, leb, List, [], ◌∷◌, length, get_or}
+use Rattle.std.proofs.Common.{Bool, true, false, Option, Some, None, refl, sym, ap, ◌∙◌, subst, inl, inr}
+use Rattle.std.proofs.Common.{arith}
+use Rattle.std.proofs.lemmas.Bool.{cases_Bool, cases_lt, leb-true, leb-false, false≢true}
+use Rattle.std.specs.Prelude.{slice_index, is_some}
+use Rattle.flow_network.specs.declared.arcs.ArcNo.{ArcNo}
+use Rattle.flow_network.specs.Flows.{IsNetwork, IsResidual, IsPath, IsDistinct, NoNegative, tail_of, head_of}
+use Rattle.flow_network.specs.Flows.{path_cost}
+use Rattle.shortest_paths.specs.declared.arrival.Arrival.{Arrival}
+use Rattle.flow_network.specs.Flow.{Counted}
+use Rattle.shortest_paths.specs.declared.search.Search.{Search}
+use Rattle.shortest_paths.specs.Lists.{ArcLists}
+use Rattle.shortest_paths.specs.Search.{tables, problem, EndsSearch}
+use Rattle.shortest_paths.specs.Finding.{reached_at, found_at, paths_from, paths_of, AreTracedBack}
+use Rattle.shortest_paths.specs.Paths.{IsPriced, AreLeastPaths, option_distance, option_path}
+use Rattle.shortest_paths.specs.Searching.{Problem, Tables, distance_at, arrival_at, trace_to, rc}
+use Rattle.shortest_paths.specs.Searching.{IsSearching}
+use Rattle.shortest_paths.specs.ToSink.{far}
+use Rattle.shortest_paths.proofs.Costs.{residual_cost, reduced_bound}
+use Rattle.shortest_paths.proofs.Lowering.{steps_cost}
+use Rattle.shortest_paths.proofs.Sums.{ones_le}
+use Rattle.std.proofs.lemmas.List.{get_or_past}
+use Rattle.shortest_paths.proofs.Members.{first_in}
+use Rattle.shortest_paths.proofs.SearchEnds.{path_back, all_covered, leads_back}
+
+pub get_or-paths : (arrivals : List Arrival) (distances : List ℕ) (i v : ℕ)
+    → get_or (paths_from arrivals i distances) v None ≡ found_at arrivals (i + v) (distance_at distances v)
+get_or-paths arrivals [] i v = refl
+get_or-paths arrivals (d ∷ distances) i zero = let at : i ≡ i + 0 = omega arith in
+    ap (λ w. found_at arrivals w d) at
+get_or-paths arrivals (d ∷ distances) i (suc v) = let at : suc i + v ≡ i + suc v = omega arith in
+    get_or-paths arrivals distances (suc i) v
+    ∙ ap (λ w. found_at arrivals w (distance_at distances v)) at
+
+pub path_found : (arrivals : List Arrival) (distances : List ℕ) (v : ℕ)
+    → get_or (paths_of distances arrivals) v None ≡ found_at arrivals v (distance_at distances v)
+path_found arrivals distances v = let at : 0 + v ≡ v = omega arith in
+    get_or-paths arrivals distances 0 v ∙ ap (λ w. found_at arrivals w (distance_at distances v)) at
+
+pub length-paths : (arrivals : List Arrival) (distances : List ℕ) (i : ℕ)
+    → length (paths_from arrivals i distances) ≡ length distances
+length-paths arrivals [] i = refl
+length-paths arrivals (d ∷ distances) i = ap suc (length-paths arrivals distances (suc i))
+
+pub reached_far : {X : Type 0} (x : X) (d : ℕ) → far ≤ d → cond (leb far d) None (Some x) ≡ None
+reached_far x d l = elim (cases_Bool (leb far d)) [
+  | inl t ↦ ap (λ b. cond b None (Some x)) t
+  | inr f ↦ absurd (let near = leb-false _ _ f in omega arith)
+]
+
+pub reached_near : {X : Type 0} (x : X) (d : ℕ) → d < far → cond (leb far d) None (Some x) ≡ Some x
+reached_near x d l = elim (cases_Bool (leb far d)) [
+  | inl t ↦ absurd (let past = leb-true _ _ t in omega arith)
+  | inr f ↦ ap (λ b. cond b None (Some x)) f
+]
+
+-- the distance that is found, and the path
+pub distance_found : (arrivals : List Arrival) (distances : List ℕ) (v : ℕ)
+    → option_distance (get_or (paths_of distances arrivals) v None) ≡ reached_at (distance_at distances v)
+distance_found arrivals distances v =
+    ap option_distance (path_found arrivals distances v)
+    ∙ of_both (leb far (distance_at distances v)) (distance_at distances v) (trace_to arrivals v)
+  where
+    of_both : (b : Bool) (d : ℕ) (path : List ArcNo)
+        → option_distance (cond b None (Some (d, path))) ≡ cond b None (Some d)
+    of_both true d path = refl
+    of_both false d path = refl
+
+pub trace_found : (arrivals : List Arrival) (distances : List ℕ) (v : ℕ) → distance_at distances v < far
+    → option_path (get_or (paths_of distances arrivals) v None) ≡ Some (trace_to arrivals v)
+trace_found arrivals distances v near = ap option_path (path_found arrivals distances v
+    ∙ reached_near (distance_at distances v, trace_to arrivals v) (distance_at distances v) near)
+
+pub near_where_some : (arrivals : List Arrival) (distances : List ℕ) (v : ℕ)
+    → is_some (option_distance (get_or (paths_of distances arrivals) v None)) ≡ true
+    → distance_at distances v < far
+near_where_some arrivals distances v some = elim (cases_lt (distance_at distances v) far) [
+  | inl near ↦ near
+  | inr past ↦ absurd (false≢true (sym (ap is_some (distance_found arrivals distances v
+      ∙ reached_far (distance_at distances v) (distance_at distances v) past)) ∙ some))
+]
+
+-- what is found of a node that was reached
+found_some : (arrivals : List Arrival) (v d c : ℕ) (path : List ArcNo)
+    → found_at arrivals v d ≡ Some (c, path)
+    → (d < far) × (d ≡ c) × (trace_to arrivals v ≡ path)
+found_some arrivals v d c path e = elim (cases_Bool (leb far d)) [
+  | inl t ↦ absurd (let q : None ≡ Some (c, path) = sym (reached_far (d, trace_to arrivals v) d
+      (leb-true _ _ t)) ∙ e in cc)
+  | inr f ↦ (let near = leb-false _ _ f in
+      let q : (d, trace_to arrivals v) ≡ (c, path) = (let r : Some (d, trace_to arrivals v) ≡ Some (c, path) =
+      sym (reached_near (d, trace_to arrivals v) d near) ∙ e in cc) in
+      (near, ap (λ (r : ℕ × List ArcNo). r.0) q, ap (λ (r : ℕ × List ArcNo). r.1) q))
+]
+
+-- a search from which nothing is left
+module _ (n : ℕ) (p : Problem) (level count : ℕ) (t : Tables)
+    (s : IsSearching p (length p.depths) level count [] [] t) (empty : t.stack ≡ []) (none : t.queue ≡ [])
+    (priced : IsPriced n p.arcs p.flows p.depths) where
+  -- the potentials bound the distances, so that an arc leads on to a node that was reached
+  goes_on : (a : ArcNo) → IsResidual p.arcs p.flows a → distance_at t.distances (tail_of p.arcs a) < far
+      → (distance_at t.distances (head_of p.arcs a) ≤ distance_at t.distances (tail_of p.arcs a) + rc p a)
+      × (distance_at t.distances (head_of p.arcs a) < far)
+  goes_on a r near =
+      let on = all_covered p (length p.depths) level count t s empty none a r near in
+      let b = s.reached.bounded (tail_of p.arcs a) near in
+      let arcs = b.0 in
+      let most = b.1 in
+      let ones = ones_le t.settled 0 in
+      let marks = s.reached.settled_size in
+      let size = priced.size in
+      let limit = priced.network.node_limit in
+      let least = residual_cost p.arcs p.flows (slice_index p.depths) a priced.reduced r in
+      let cost = reduced_bound p.arcs n (slice_index p.depths) a priced.network.arcs_in r.listed least in
+      let from = priced.deep (tail_of p.arcs a) in
+      let to = priced.deep (head_of p.arcs a) in
+      (on, omega arith)
+
+  least_from : (path : List ArcNo) (u v m : ℕ) → distance_at t.distances u < far
+      → distance_at t.distances u ≤ m
+      → IsPath p.arcs p.flows path u v
+      → (distance_at t.distances v < far)
+      × (distance_at t.distances v ≤ m + path_cost p.arcs (slice_index p.depths) path)
+  least_from [] u v m near at w = let same = ap (distance_at t.distances) w in (omega arith, omega arith)
+  least_from (a ∷ path) u v m near at w =
+      let from : distance_at t.distances (tail_of p.arcs a) ≡ distance_at t.distances u =
+      ap (distance_at t.distances) w.1 in
+      let on = goes_on a w.0 (omega arith) in
+      let farther = on.0 in
+      let rest = least_from path (head_of p.arcs a) v (m + rc p a) on.1 (omega arith) w.2 in
+      let cost = rest.1 in
+      (rest.0, omega arith)
+
+  pub all_least : AreLeastPaths p.arcs p.flows (slice_index p.depths) p.start
+      (paths_of t.distances t.arrivals)
+  all_least =
+      let begun = s.reached.begun.0 in
+      record {
+        reached = λ v c path e.
+            (let f = found_some t.arrivals v (distance_at t.distances v) c path
+            (sym (path_found t.arrivals t.distances v) ∙ e) in
+            let b = path_back p (length p.depths) level t.distances t.arrivals t.settled s.reached
+            (arrival_at t.arrivals v).arcs v f.0 refl in
+            let cost = steps_cost p.arcs p.flows (slice_index p.depths) (distance_at t.distances)
+            (trace_to t.arrivals v) p.start v b.0 b.1 in
+            let same = f.1 in
+            let sum : path_cost p.arcs (slice_index p.depths) (trace_to t.arrivals v) ≡ c = omega arith in
+            subst (λ (q : List ArcNo). IsPath p.arcs p.flows q p.start v
+            × (path_cost p.arcs (slice_index p.depths) q ≡ c) × IsDistinct q) f.2 (b.0, sum, b.2));
+        least = λ v path w.
+            (let r = least_from path p.start v 0 (omega arith) (omega arith) w in
+            let cost = r.1 in (
+              (distance_at t.distances v, trace_to t.arrivals v),
+              path_found t.arrivals t.distances v
+                  ∙ reached_near (distance_at t.distances v, trace_to t.arrivals v)
+                  (distance_at t.distances v) r.0,
+              omega arith,
+            ));
+      }
+
+-- a search to a sink that is no node comes to an end where nothing is left
+ends_all : {L : Type 0} (m : Counted L) (depths : List ℕ) (g : ArcLists) (start sink count : ℕ) (s : Search)
+    (found : Option ℕ) → length depths ≤ sink → EndsSearch found m depths g start sink count s
+    → EndsSearch None m depths g start sink count s
+ends_all m depths g start sink count s None past e = e
+ends_all m depths g start sink count s (Some total) past e = absurd
+    (let here = (e.1.waiting.next sink (first_in sink [])).1 in
+    let top = e.1.reached.level_in in
+    let size = e.1.reached.size in
+    let away = get_or_past s.distances.items sink far (omega arith) in
+    omega arith)
+
+-- what it leaves for its callers
+pub record FindsAll {L : Type 0} (m : Counted L) (depths : List ℕ) (start : ℕ) (s : Search) : Type 0 where
+  pub least : AreLeastPaths m.network.arcs m.network.flows (slice_index depths) start
+      (paths_of s.distances.items s.arrivals.items)
+  pub back : AreTracedBack s.distances.items s.arrivals.items
+  pub size : length (paths_of s.distances.items s.arrivals.items) ≡ length depths
+
+pub finds_all : {L : Type 0} (m : Counted L) (n : ℕ) (depths : List ℕ) (g : ArcLists) (start sink count : ℕ)
+    (s : Search) (found : Option ℕ) → length depths ≤ sink
+    → IsNetwork n m.network.arcs m.network.flows → length depths ≡ n
+    → ((v : ℕ) → slice_index depths v ≤ 2 ^ 52)
+    → NoNegative m.network.arcs m.network.flows (slice_index depths)
+    → EndsSearch found m depths g start sink count s → FindsAll m depths start s
+finds_all m n depths g start sink count s found past network size deep reduced ends =
+    let priced : IsPriced n m.network.arcs m.network.flows depths = record {
+      network = network;
+      size = size;
+      deep = deep;
+      reduced = reduced;
+    } in
+    let e = ends_all m depths g start sink count s found past ends in
+    let r = e.1.0 in
+    record {
+      least = all_least n (problem m depths g start sink) e.0 count (tables s) r e.1.1.0 e.1.1.1 priced;
+      back = record {
+        size = r.reached.arrivals_size ∙ sym r.reached.size;
+        back = λ v near. leads_back (problem m depths g start sink) (length depths) e.0 (tables s) r.reached
+            _ v near refl;
+      };
+      size = length-paths s.arrivals.items s.distances.items 0 ∙ r.reached.size;
+    }

@@ -1,0 +1,210 @@
+-- The cursors of the nodes on the stack move, and a node leaves it.
+use Rattle.std.proofs.Common.{◌≡◌, ℕ, zero, suc, ◌+◌, ◌<◌, true, List, [], ◌∷◌, ◌++◌, length, map, take}
+use Rattle.std.proofs.Common.{get_or, set, Contains, refl, sym, ap, ◌∙◌, subst, inl, inr, ◌⊎◌, arith}
+use Rattle.std.proofs.Common.{get_or-set_same, get_or-set_other, length-set}
+use Rattle.std.proofs.lemmas.Bool.{cases_eq}
+use Rattle.std.proofs.lemmas.List.{take_more}
+use Rattle.std.proofs.lemmas.List.Elements.{Contains-append_left, Contains-push_cases}
+use Rattle.flow_network.specs.declared.arcs.ArcNo.{ArcNo}
+use Rattle.flow_network.specs.declared.arcs.ArcNo.TheVariants.{Forward, Reverse}
+use Rattle.flow_network.specs.Flows.{tail_of, arc_index}
+use Rattle.flow_network.specs.Leaving.{IsIn}
+use Rattle.flow_network.proofs.Listed.{in_left, in_right, in_split, in_at}
+use Rattle.shortest_paths.specs.Lists.{ArcLists, AreResidualArcs, inner_at, matched_at, sink_arcs_at}
+use Rattle.shortest_paths.specs.Lists.{first_arcs}
+use Rattle.shortest_paths.specs.Lists.{stack_arcs}
+use Rattle.shortest_paths.specs.Searching.{is_settled}
+use Rattle.shortest_paths.specs.Searching.{Problem, Tables, distance_at, IsSearching}
+use Rattle.shortest_paths.proofs.Sums.{less_at}
+
+in_map : (ks : List ℕ) (k : ℕ) (b : ArcNo) → IsIn b (map Reverse (ks ++ k ∷ []))
+    → IsIn b (map Reverse ks) ⊎ (b ≡ Reverse k)
+in_map [] k b (inl e) = inr e
+in_map [] k b (inr n) = absurd n
+in_map (j ∷ ks) k b (inl e) = inl (inl e)
+in_map (j ∷ ks) k b (inr i) = elim (in_map ks k b i) [ inl o ↦ inl (inr o) | inr e ↦ inr e ]
+
+pub map_at : (ks : List ℕ) (i : ℕ) → i < length ks → IsIn (Reverse (get_or ks i 0)) (map Reverse ks)
+map_at [] i l = absurd (omega arith)
+map_at (k ∷ ks) zero l = inl refl
+map_at (k ∷ ks) (suc i) l = inr (map_at ks i (omega arith))
+
+-- an arc before a cursor was the last one, or stands before the cursor that is one less
+first_inner : (g : ArcLists) (u k m : ℕ) (b : ArcNo) → k < length (inner_at g u)
+    → IsIn b (first_arcs g u (k + 1) m)
+    → IsIn b (first_arcs g u k m) ⊎ (b ≡ get_or (inner_at g u) k (Forward 0))
+first_inner g u k m b l i =
+    let lists : List ArcNo = map Reverse (take m (matched_at g u)) in
+    let xs : List ArcNo = inner_at g u in
+    elim (in_split b (take (k + 1) xs) lists i) [
+      | inr old ↦ inl (in_right b (take k xs) lists old)
+      | inl held ↦ elim (in_split b (take k xs) (get_or xs k (Forward 0) ∷ [])
+          (subst (λ ys. IsIn b ys) (take_more xs k (Forward 0) l) held)) [
+            | inl old ↦ inl (in_left b (take k xs) lists old)
+            | inr e ↦ elim e [ inl same ↦ inr same | inr n ↦ absurd n ]
+          ]
+    ]
+
+first_matched : (g : ArcLists) (u n k : ℕ) (b : ArcNo) → k < length (matched_at g u)
+    → IsIn b (first_arcs g u n (k + 1))
+    → IsIn b (first_arcs g u n k) ⊎ (b ≡ Reverse (get_or (matched_at g u) k 0))
+first_matched g u n k b l i =
+    let xs : List ArcNo = take n (inner_at g u) in
+    let ks : List ℕ = matched_at g u in
+    elim (in_split b xs (map Reverse (take (k + 1) ks)) i) [
+      | inl old ↦ inl (in_left b xs (map Reverse (take k ks)) old)
+      | inr held ↦ elim (in_map (take k ks) (get_or ks k 0) b
+          (subst (λ ys. IsIn b (map Reverse ys)) (take_more ks k 0 l) held)) [
+            | inl old ↦ inl (in_right b xs (map Reverse (take k ks)) old)
+            | inr e ↦ inr e
+          ]
+    ]
+
+-- a cursor moves: the arc that it passes is looked at next
+module _ (p : Problem) (nodes level count : ℕ) (entering : List ℕ) (rest : List ArcNo) (t : Tables)
+    (s : IsSearching p nodes level count entering rest t)
+    (lists : AreResidualArcs p.arcs p.flows p.sink p.lists) (u : ℕ) (on : Contains t.stack u)
+    (inside : u < nodes) where
+  moved_rest : (a : ArcNo) → IsIn a (sink_arcs_at p.lists u ++ stack_arcs p.lists u) → (b : ArcNo)
+      → IsIn b (a ∷ rest)
+      → (arc_index b < length p.arcs) × (is_settled t.settled (tail_of p.arcs b) ≡ true)
+      × (distance_at t.distances (tail_of p.arcs b) ≡ level)
+  moved_rest a i b (inr old) = s.covered.of_rest b old
+  moved_rest a i b (inl q) =
+      let own = lists.own u a i in let here = s.covered.on_stack u on in
+      rw (q, own.1) (own.0, here.0, here.1)
+
+  pub inner_moves : (k : ℕ) → get_or t.left u 0 ≡ k + 1
+      → IsSearching p nodes level count entering (get_or (inner_at p.lists u) k (Forward 0) ∷ rest)
+      (record t { left = set t.left u k })
+  inner_moves k e =
+      let a : ArcNo = get_or (inner_at p.lists u) k (Forward 0) in
+      let c = s.covered in
+      let few = (c.cursors u on).0 in
+      let size = s.left_size in
+      let now : get_or (set t.left u k) u 0 ≡ k = get_or-set_same t.left u k 0 (omega arith) in
+      let other : (w : ℕ) → (w ≡ u → ⊥) → get_or (set t.left u k) w 0 ≡ get_or t.left w 0 = λ w n.
+      get_or-set_other t.left u w k 0 n in
+      let less = less_at t.settled u (λ w. get_or t.left w 0 + get_or t.left_matched w 0)
+      (λ w. get_or (set t.left u k) w 0 + get_or t.left_matched w 0)
+      (c.on_stack u on).0 (omega arith) (λ w n. ap (λ m. m + get_or t.left_matched w 0) (sym (other w n))) in
+      let old = s.looks in
+      record {
+        left_size = length-set t.left u k ∙ size;
+        left_matched_size = s.left_matched_size;
+        reached = s.reached;
+        listed = s.listed;
+        waiting = s.waiting;
+        covered = record {
+          on_stack = c.on_stack;
+          cursors = λ w o. elim (cases_eq w u) [
+            | inl q ↦ rw (q, now) (omega arith, (c.cursors u on).1)
+            | inr n ↦ rw (other w n) (c.cursors w o)
+          ];
+          of_rest = moved_rest a (in_right a (sink_arcs_at p.lists u) (stack_arcs p.lists u)
+              (in_left a (inner_at p.lists u) (map Reverse (matched_at p.lists u))
+              (in_at (inner_at p.lists u) k (Forward 0) (omega arith))));
+          covered = λ b r m. elim (c.covered b r m) [
+            | inl done ↦ inl done
+            | inr more ↦ elim more [
+              | inl held ↦ inr (inl (inr held))
+              | inr cursor ↦ elim (cases_eq (tail_of p.arcs b) u) [
+                | inr n ↦ inr (inr (cursor.0, rw (other (tail_of p.arcs b) n) cursor.1))
+                | inl q ↦ elim (first_inner p.lists u k (get_or t.left_matched u 0) b (omega arith)
+                    (rw (q, e) at cursor.1)) [
+                      | inl before ↦ inr (inr (rw q on, rw (q, now) before))
+                      | inr same ↦ inr (inl (inl same))
+                    ]
+              ]
+            ]
+          ];
+        };
+        looks = omega arith;
+        sink_left = s.sink_left;
+      }
+
+  pub matched_moves : (k : ℕ) → get_or t.left_matched u 0 ≡ k + 1
+      → IsSearching p nodes level count entering (Reverse (get_or (matched_at p.lists u) k 0) ∷ rest)
+      (record t { left_matched = set t.left_matched u k })
+  matched_moves k e =
+      let a : ArcNo = Reverse (get_or (matched_at p.lists u) k 0) in
+      let c = s.covered in
+      let few = (c.cursors u on).1 in
+      let size = s.left_matched_size in
+      let now : get_or (set t.left_matched u k) u 0 ≡ k = get_or-set_same t.left_matched u k 0
+      (omega arith) in
+      let other : (w : ℕ) → (w ≡ u → ⊥)
+      → get_or (set t.left_matched u k) w 0 ≡ get_or t.left_matched w 0 = λ w n.
+      get_or-set_other t.left_matched u w k 0 n in
+      let less = less_at t.settled u (λ w. get_or t.left w 0 + get_or t.left_matched w 0)
+      (λ w. get_or t.left w 0 + get_or (set t.left_matched u k) w 0)
+      (c.on_stack u on).0 (omega arith) (λ w n. ap (λ m. get_or t.left w 0 + m) (sym (other w n))) in
+      let old = s.looks in
+      record {
+        left_size = s.left_size;
+        left_matched_size = length-set t.left_matched u k ∙ size;
+        reached = s.reached;
+        listed = s.listed;
+        waiting = s.waiting;
+        covered = record {
+          on_stack = c.on_stack;
+          cursors = λ w o. elim (cases_eq w u) [
+            | inl q ↦ rw (q, now) ((c.cursors u on).0, omega arith)
+            | inr n ↦ rw (other w n) (c.cursors w o)
+          ];
+          of_rest = moved_rest a (in_right a (sink_arcs_at p.lists u) (stack_arcs p.lists u)
+              (in_right a (inner_at p.lists u) (map Reverse (matched_at p.lists u))
+              (map_at (matched_at p.lists u) k (omega arith))));
+          covered = λ b r m. elim (c.covered b r m) [
+            | inl done ↦ inl done
+            | inr more ↦ elim more [
+              | inl held ↦ inr (inl (inr held))
+              | inr cursor ↦ elim (cases_eq (tail_of p.arcs b) u) [
+                | inr n ↦ inr (inr (cursor.0, rw (other (tail_of p.arcs b) n) cursor.1))
+                | inl q ↦ elim (first_matched p.lists u (get_or t.left u 0) k b (omega arith)
+                    (rw (q, e) at cursor.1)) [
+                      | inl before ↦ inr (inr (rw q on, rw (q, now) before))
+                      | inr same ↦ inr (inl (inl same))
+                    ]
+              ]
+            ]
+          ];
+        };
+        looks = omega arith;
+        sink_left = s.sink_left;
+      }
+
+-- a node whose arcs were all looked at leaves the stack
+pub popped : (p : Problem) (nodes level count : ℕ) (entering : List ℕ) (rest : List ArcNo) (t : Tables)
+    (stack : List ℕ) (u : ℕ) → t.stack ≡ stack ++ u ∷ []
+    → get_or t.left u 0 ≡ 0 → get_or t.left_matched u 0 ≡ 0 → IsSearching p nodes level count entering rest t
+    → IsSearching p nodes level count entering rest (record t { stack = stack })
+popped p nodes level count entering rest t stack u e none none_matched s =
+    let c = s.covered in
+    let was : (w : ℕ) → Contains stack w
+    → Contains t.stack w = λ w o. rw e (Contains-append_left stack (u ∷ []) w o) in
+    record {
+      left_size = s.left_size;
+      left_matched_size = s.left_matched_size;
+      reached = s.reached;
+      listed = s.listed;
+      waiting = s.waiting;
+      covered = record {
+        on_stack = λ w o. c.on_stack w (was w o);
+        cursors = λ w o. c.cursors w (was w o);
+        of_rest = c.of_rest;
+        covered = λ b r m. elim (c.covered b r m) [
+          | inl done ↦ inl done
+          | inr more ↦ elim more [
+            | inl held ↦ inr (inl held)
+            | inr cursor ↦ elim (Contains-push_cases stack u (tail_of p.arcs b) (rw e at cursor.0)) [
+              | inl old ↦ inr (inr (old, cursor.1))
+              | inr top ↦ absurd (let i : IsIn b (first_arcs p.lists u 0 0) =
+                  (rw (← top, none, none_matched) at cursor.1) in i)
+            ]
+          ]
+        ];
+      };
+      looks = s.looks;
+      sink_left = s.sink_left;
+    }

@@ -1,0 +1,17 @@
+use Rattle.std.proofs.Common.{◌≡◌, ℕ, ◌+◌, ◌-◌, ◌*◌, [], length}
+use Rattle.shortest_paths.specs.Search.{Searches}
+use Rattle.shortest_paths.proofs.search.Search.empty_queue.Given as goal
+
+abbrev pub invariant-nodes : goal.invariant-nodes
+invariant-nodes g l = record {
+  network : l.meter.network ≡ l.fn.meter.network;
+  empty : l.self.stack.items ≡ [];
+  goes : (start level : ℕ)
+      → Searches l.fn.meter l.potentials l.lists start l.sink level l.fn.meter.count [] [] l.fn.self
+      → (now : ℕ) × Searches l.fn.meter l.potentials l.lists start l.sink now l.meter.count [] [] l.self;
+}
+
+abbrev pub decreases-nodes : goal.decreases-nodes
+decreases-nodes g l =
+    4 * (2 * length l.fn.meter.network.arcs - l.meter.count) + 2 * length l.self.queue + length
+    l.self.stack.items

@@ -1,0 +1,59 @@
+//! The arcs of the sources that are matched with one node.
+ghost use Rattle.std.specs.Prelude.{◌≡◌, [], ◌∷◌, ◌++◌, OnOk, nat_eq};
+ghost use Rattle.std.specs.List.{IsDistinct};
+ghost use Rattle.shortest_paths.specs.Matched.{Leaves};
+
+use std::alloc::{AllocError, Global};
+use std::marker::Model;
+
+/// The arcs of the sources whose units go to one node.
+#[derive(Drop)]
+pub struct MatchedArcs {
+    arcs: Vec<u32>,
+}
+
+impl Model for MatchedArcs {
+    ghost use Rattle.std.specs.Prelude.{ℕ, List};
+
+    ghost Value = { List ℕ };
+
+    ghost view = { λ l. l.arcs.items };
+}
+
+impl MatchedArcs {
+    /// No arc; nothing is allocated.
+    pub fn new(alloc: Global) -> MatchedArcs
+        ensures { result ≡ [] }
+    {
+        MatchedArcs {
+            arcs: Vec::new(alloc),
+        }
+    }
+
+    /// The numbers of the arcs, counted from 0 as in the network.
+    pub fn all(&self) -> &[u32]
+        ensures { result.now ≡ self.now }
+    {
+        &self.arcs
+    }
+
+    /// One arc more.
+    pub fn enter(&mut self, arc: u32) -> Result<(), AllocError>
+        ensures { OnOk result (self.new ≡ self.old ++ arc ∷ []) }
+    {
+        self.arcs.push(arc)?;
+        Ok(())
+    }
+
+    /// One arc less, where it is here.
+    pub fn leave(&mut self, arc: u32)
+        ensures { IsDistinct nat_eq self.old → Leaves self.old arc self.new }
+    {
+        for i in 0..self.arcs.len() {
+            if self.arcs[i] == arc {
+                self.arcs.swap_remove(i);
+                return;
+            }
+        }
+    }
+}

@@ -1,0 +1,589 @@
+//! The search for a least path to one sink.
+ghost use Rattle.std.specs.Prelude.{◌≡◌, ℕ, ◌+◌, ◌*◌, ◌<◌, ◌≤◌, ◌^◌, List, [], ◌∷◌, ◌++◌, true, false};
+ghost use Rattle.std.specs.Prelude.{length, slice_index, slice_set, Option, Some, None, OnOk, IfOk, IfSome};
+ghost use Rattle.flow_network.specs.Flows.{tail_of, head_of, arc_index};
+ghost use Rattle.shortest_paths.specs.Lists.{ArcLists, AreSized, source_at, inner_at, matched_at};
+ghost use Rattle.shortest_paths.specs.Finding.{reached_at};
+ghost use Rattle.shortest_paths.specs.Lowering.{lowered};
+ghost use Rattle.shortest_paths.specs.ToSink.{far};
+ghost use Rattle.shortest_paths.specs.Paths.{IsPriced};
+ghost use Rattle.shortest_paths.specs.Searching.{ListsReached, IsAtRest, IsLeft, LeadsBack, distance_at};
+ghost use Rattle.shortest_paths.specs.Searching.{arrival_at, trace_to};
+ghost use Rattle.flow_network.specs.declared.arcs.ArcNo.{ArcNo};
+ghost use Rattle.shortest_paths.specs.Search.{tables, option_list, MaySearch, Searches, ComesTo, EndsSearch};
+ghost use Rattle.shortest_paths.specs.Search.{IsAt, IsBetween, IsSearchingAt, Moves, Spends, Falls};
+
+use crate::arrival::Arrival;
+use crate::queue::Queue;
+use crate::reduced_costs::{leaving, reduced};
+use crate::{Potentials, ResidualArcs};
+use flow_network::{ArcNo, Meter};
+use node_ids::Layout;
+use std::alloc::{AllocError, Global};
+
+/// The tables of the searches. Between two searches no node is reached.
+#[derive(Drop)]
+pub struct Search {
+    distances: Vec<u64>,
+    arrivals: Vec<Arrival>,
+    reached: Vec<usize>,
+    settled: Vec<bool>,
+    left: Vec<usize>,
+    left_matched: Vec<usize>,
+    stack: Vec<usize>,
+    queue: Queue,
+}
+
+impl Search {
+    /// Tables for so many nodes.
+    pub fn new(alloc: Global, nodes: usize) -> Result<Search, AllocError>
+        ensures { IfOk result (λ s. IsAtRest nodes (tables s)) }
+    {
+        let arrival = Arrival {
+            arc: ArcNo::Forward(0),
+            before: 0,
+            arcs: 0,
+        };
+        Ok(Search {
+            distances: vec![in alloc; u64::MAX; nodes]?,
+            arrivals: vec![in alloc; arrival; nodes]?,
+            reached: Vec::new(alloc),
+            settled: vec![in alloc; false; nodes]?,
+            left: vec![in alloc; 0; nodes]?,
+            left_matched: vec![in alloc; 0; nodes]?,
+            stack: Vec::new(alloc),
+            queue: Queue::new(alloc),
+        })
+    }
+
+    // Takes a path to a node that is shorter than what is known.
+    fn reach(&mut self, node: usize, distance: u64, arrival: Arrival) -> Result<(), AllocError>
+        requires distances { node < length self.old.distances.items }
+        requires arrivals { node < length self.old.arrivals.items }
+        ensures tables { OnOk result (tables self.new ≡ record (tables self.old) {
+          distances = slice_set self.old.distances.items node distance;
+          arrivals = slice_set self.old.arrivals.items node arrival;
+          reached = self.new.reached.items;
+        }) }
+        ensures listed { OnOk result (ListsReached self.old.distances.items self.old.reached.items
+            → ListsReached (slice_set self.old.distances.items node distance) self.new.reached.items) }
+    {
+        if self.distances[node] == u64::MAX {
+            self.reached.push(node)?;
+        }
+        self.distances[node] = distance;
+        self.arrivals[node] = arrival;
+        Ok(())
+    }
+
+    // Looks at a residual arc that leaves a settled node of the level; which node is to be entered next.
+    #[inline(always)]
+    fn look<L: Layout>(
+        &mut self,
+        meter: &mut Meter<L>,
+        potentials: &Potentials,
+        node: usize,
+        level: u64,
+        arc: ArcNo,
+    ) -> Result<Option<usize>, AllocError>
+        requires priced { IsPriced (L.node_count meter.old.network.layout) meter.old.network.arcs
+            meter.old.network.flows potentials.now }
+        requires count { meter.old.count + 1 < 2 ^ 64 }
+        requires listed { arc_index arc < length meter.old.network.arcs }
+        requires leaves { tail_of meter.old.network.arcs arc ≡ node }
+        requires level { level ≤ 2 ^ 60 }
+        requires few { (arrival_at self.old.arrivals.items node).arcs ≤ 4096 }
+        requires distances { length self.old.distances.items ≡ length potentials.now }
+        requires arrivals { length self.old.arrivals.items ≡ length potentials.now }
+        ensures searching { IfOk result (λ found. (g : ArcLists) (start sink : ℕ) (rest : List ArcNo)
+            → Searches meter.old potentials.now g start sink level meter.old.count [] (arc ∷ rest) self.old
+            → Searches meter.old potentials.now g start sink level meter.new.count (option_list found) rest
+            self.new) }
+        ensures head { IfOk result (λ found. IfSome found (λ v. v ≡ head_of meter.old.network.arcs arc)) }
+        ensures counted { meter.new ≡ record meter.old { count = meter.old.count + 1 } }
+        ensures stack { OnOk result (self.new.stack.items ≡ self.old.stack.items) }
+        ensures queue { OnOk result (length self.new.queue ≤ length self.old.queue + 1) }
+    {
+        let look = meter.look(arc);
+        if look.residual == 0 {
+            return Ok(None);
+        }
+        let cost = reduced(potentials, node, look);
+        let distance = level + cost;
+        if distance >= self.distances[look.to] {
+            return Ok(None);
+        }
+        let arcs = self.arrivals[node].arcs + 1;
+        self.reach(
+            look.to,
+            distance,
+            Arrival {
+                arc,
+                before: node,
+                arcs,
+            },
+        )?;
+        if cost == 0 {
+            return Ok(Some(look.to));
+        }
+        self.queue.put(distance, look.to)?;
+        Ok(None)
+    }
+
+    // Settles a node that is no source: it goes on the stack, with all its arcs still to be looked at.
+    fn open(&mut self, lists: &ResidualArcs, node: usize) -> Result<(), AllocError>
+        requires sized { AreSized (length self.old.settled.items) lists.now }
+        requires node { node < length self.old.settled.items }
+        requires left { length self.old.left.items ≡ length self.old.settled.items }
+        requires left_matched { length self.old.left_matched.items ≡ length self.old.settled.items }
+        ensures { OnOk result (tables self.new ≡ record (tables self.old) {
+          settled = slice_set self.old.settled.items node true;
+          left = slice_set self.old.left.items node (length (inner_at lists.now node));
+          left_matched = slice_set self.old.left_matched.items node (length (matched_at lists.now node));
+          stack = self.old.stack.items ++ node ∷ [];
+        }) }
+    {
+        self.stack.push(node)?;
+        self.settled[node] = true;
+        self.left[node] = lists.inner(node).len();
+        self.left_matched[node] = lists.matched(node).len();
+        Ok(())
+    }
+
+    // Settles a node that is no source, and looks at its arc to the sink; whether that is entered next.
+    fn visit<L: Layout>(
+        &mut self,
+        meter: &mut Meter<L>,
+        potentials: &Potentials,
+        lists: &ResidualArcs,
+        node: usize,
+        level: u64,
+        sink: usize,
+    ) -> Result<bool, AllocError>
+        requires may { MaySearch L.node_count meter.old.network potentials.now lists.now sink }
+        requires node { node < length potentials.now }
+        requires no_source { source_at lists.now node ≡ false }
+        requires state { IsSearchingAt meter.old potentials.now lists.now sink level (node ∷ [])
+            (tables self.old) }
+        ensures goes { IfOk result (λ found. (start : ℕ) (rest : List ArcNo)
+            → Searches meter.old potentials.now lists.now start sink level meter.old.count
+            (node ∷ []) rest self.old
+            → ComesTo found meter.old potentials.now lists.now start sink level meter.new.count rest
+            self.new) }
+        ensures network { meter.new.network ≡ meter.old.network }
+        ensures steps { meter.new.count ≤ 2 * length meter.old.network.arcs }
+        ensures spends { OnOk result (Spends 1 meter.old self.old meter.new self.new) }
+        ensures counted { meter.old.count ≤ meter.new.count }
+    {
+        if node == sink {
+            return Ok(true);
+        }
+        self.open(lists, node)?;
+        match lists.sink_arc(node) {
+            Some(k) => {
+                let found = self.look(meter, potentials, node, level, ArcNo::Forward(k))?;
+                Ok(found.is_some())
+            }
+            None => Ok(false),
+        }
+    }
+
+    // Looks at an arc that leads to no source, and settles its end where that costs nothing; whether the
+    // sink is entered next.
+    fn pass<L: Layout>(
+        &mut self,
+        meter: &mut Meter<L>,
+        potentials: &Potentials,
+        lists: &ResidualArcs,
+        node: usize,
+        level: u64,
+        sink: usize,
+        arc: ArcNo,
+    ) -> Result<bool, AllocError>
+        requires may { MaySearch L.node_count meter.old.network potentials.now lists.now sink }
+        requires leaves { tail_of meter.old.network.arcs arc ≡ node }
+        requires no_source { source_at lists.now (head_of meter.old.network.arcs arc) ≡ false }
+        requires state { (start : ℕ)
+            × ((rest : List ArcNo) × Searches meter.old potentials.now lists.now start sink level
+            meter.old.count [] (arc ∷ rest) self.old) }
+        ensures goes { IfOk result (λ found. (start : ℕ) (rest : List ArcNo)
+            → Searches meter.old potentials.now lists.now start sink level meter.old.count []
+            (arc ∷ rest) self.old
+            → ComesTo found meter.old potentials.now lists.now start sink level meter.new.count rest
+            self.new) }
+        ensures network { meter.new.network ≡ meter.old.network }
+        ensures steps { meter.new.count ≤ 2 * length meter.old.network.arcs }
+        ensures spends { OnOk result (Spends 0 meter.old self.old meter.new self.new) }
+        ensures counted { meter.old.count ≤ meter.new.count }
+        ensures looked { OnOk result (meter.old.count < meter.new.count) }
+    {
+        match self.look(meter, potentials, node, level, arc)? {
+            Some(to) => {
+                let found = self.visit(meter, potentials, lists, to, level, sink)?;
+                Ok(found)
+            }
+            None => Ok(false),
+        }
+    }
+
+    // Settles a source, and looks over its arcs from the last on, so that what is added first, the highest
+    // node, is gone on from first; whether the sink is entered next.
+    fn scan<L: Layout>(
+        &mut self,
+        meter: &mut Meter<L>,
+        potentials: &Potentials,
+        lists: &ResidualArcs,
+        node: usize,
+        level: u64,
+        sink: usize,
+    ) -> Result<bool, AllocError>
+        requires may { MaySearch L.node_count meter.old.network potentials.now lists.now sink }
+        requires node { node < length potentials.now }
+        requires source { source_at lists.now node ≡ true }
+        requires not_sink { node ≡ sink → ⊥ }
+        requires state { IsAt meter.old potentials.now lists.now sink level (node ∷ []) [] self.old }
+        ensures goes { IfOk result (λ found. Moves found meter.old meter.new potentials.now lists.now sink
+            level (node ∷ []) [] self.old self.new) }
+        ensures network { meter.new.network ≡ meter.old.network }
+        ensures steps { meter.new.count ≤ 2 * length meter.old.network.arcs }
+        ensures counted { meter.old.count ≤ meter.new.count }
+        ensures spends { OnOk result (Spends 0 meter.old self.old meter.new self.new) }
+    {
+        self.settled[node] = true;
+        self.left[node] = 0;
+        self.left_matched[node] = 0;
+        let arcs = leaving(meter, node);
+        for i in 0..arcs.len() {
+            let arc = arcs[arcs.len() - 1 - i];
+            if self.pass(meter, potentials, lists, node, level, sink, arc)? {
+                return Ok(true);
+            }
+        }
+        Ok(false)
+    }
+
+    // Settles the node that is entered: a source looks over its arcs, another stands on the stack; whether
+    // the sink is entered next.
+    fn enter<L: Layout>(
+        &mut self,
+        meter: &mut Meter<L>,
+        potentials: &Potentials,
+        lists: &ResidualArcs,
+        node: usize,
+        level: u64,
+        sink: usize,
+    ) -> Result<bool, AllocError>
+        requires may { MaySearch L.node_count meter.old.network potentials.now lists.now sink }
+        requires node { node < length potentials.now }
+        requires state { IsAt meter.old potentials.now lists.now sink level (node ∷ []) [] self.old }
+        ensures goes { IfOk result (λ found. Moves found meter.old meter.new potentials.now lists.now sink
+            level (node ∷ []) [] self.old self.new) }
+        ensures network { meter.new.network ≡ meter.old.network }
+        ensures steps { meter.new.count ≤ 2 * length meter.old.network.arcs }
+        ensures spends { OnOk result (Spends 1 meter.old self.old meter.new self.new) }
+    {
+        if lists.is_source(node) {
+            let found = self.scan(meter, potentials, lists, node, level, sink)?;
+            return Ok(found);
+        }
+        let found = self.visit(meter, potentials, lists, node, level, sink)?;
+        Ok(found)
+    }
+
+    // Looks at an arc that leaves a node on the stack, and settles its end where that costs nothing;
+    // whether the sink is entered next.
+    fn step<L: Layout>(
+        &mut self,
+        meter: &mut Meter<L>,
+        potentials: &Potentials,
+        lists: &ResidualArcs,
+        node: usize,
+        level: u64,
+        sink: usize,
+        arc: ArcNo,
+    ) -> Result<bool, AllocError>
+        requires may { MaySearch L.node_count meter.old.network potentials.now lists.now sink }
+        requires leaves { tail_of meter.old.network.arcs arc ≡ node }
+        requires state { IsAt meter.old potentials.now lists.now sink level [] (arc ∷ []) self.old }
+        ensures goes { IfOk result (λ found. Moves found meter.old meter.new potentials.now lists.now sink
+            level [] (arc ∷ []) self.old self.new) }
+        ensures network { meter.new.network ≡ meter.old.network }
+        ensures steps { meter.new.count ≤ 2 * length meter.old.network.arcs }
+        ensures falls { OnOk result (Falls meter.old self.old meter.new self.new) }
+    {
+        match self.look(meter, potentials, node, level, arc)? {
+            Some(to) => {
+                let found = self.enter(meter, potentials, lists, to, level, sink)?;
+                Ok(found)
+            }
+            None => Ok(false),
+        }
+    }
+
+    // Looks at the next inner arc of the node on top of the stack; whether the sink is entered next.
+    fn turn_inner<L: Layout>(
+        &mut self,
+        meter: &mut Meter<L>,
+        potentials: &Potentials,
+        lists: &ResidualArcs,
+        node: usize,
+        level: u64,
+        sink: usize,
+    ) -> Result<bool, AllocError>
+        requires may { MaySearch L.node_count meter.old.network potentials.now lists.now sink }
+        requires top { (stack : List ℕ) × (self.old.stack.items ≡ stack ++ node ∷ []) }
+        requires left { 0 < slice_index self.old.left.items node }
+        requires few { slice_index self.old.left.items node ≤ length (inner_at lists.now node) }
+        requires state { IsAt meter.old potentials.now lists.now sink level [] [] self.old }
+        ensures goes { IfOk result (λ found. Moves found meter.old meter.new potentials.now lists.now sink
+            level [] [] self.old self.new) }
+        ensures network { meter.new.network ≡ meter.old.network }
+        ensures steps { meter.new.count ≤ 2 * length meter.old.network.arcs }
+        ensures falls { OnOk result (Falls meter.old self.old meter.new self.new) }
+    {
+        let left = self.left[node];
+        let arc = lists.inner(node)[left - 1];
+        self.left[node] = left - 1;
+        let found = self.step(meter, potentials, lists, node, level, sink, arc)?;
+        Ok(found)
+    }
+
+    // Looks back over the arc of the next matched source of the node on top of the stack; whether the sink is
+    // entered next.
+    fn turn_matched<L: Layout>(
+        &mut self,
+        meter: &mut Meter<L>,
+        potentials: &Potentials,
+        lists: &ResidualArcs,
+        node: usize,
+        level: u64,
+        sink: usize,
+    ) -> Result<bool, AllocError>
+        requires may { MaySearch L.node_count meter.old.network potentials.now lists.now sink }
+        requires top { (stack : List ℕ) × (self.old.stack.items ≡ stack ++ node ∷ []) }
+        requires left { 0 < slice_index self.old.left_matched.items node }
+        requires few { slice_index self.old.left_matched.items node ≤ length (matched_at lists.now node) }
+        requires state { IsAt meter.old potentials.now lists.now sink level [] [] self.old }
+        ensures goes { IfOk result (λ found. Moves found meter.old meter.new potentials.now lists.now sink
+            level [] [] self.old self.new) }
+        ensures network { meter.new.network ≡ meter.old.network }
+        ensures steps { meter.new.count ≤ 2 * length meter.old.network.arcs }
+        ensures falls { OnOk result (Falls meter.old self.old meter.new self.new) }
+    {
+        let left = self.left_matched[node];
+        let arc = ArcNo::Reverse(lists.matched(node)[left - 1]);
+        self.left_matched[node] = left - 1;
+        let found = self.step(meter, potentials, lists, node, level, sink, arc)?;
+        Ok(found)
+    }
+
+    // One turn of the node on top of the stack: its next arc is looked at, or it leaves the stack; whether
+    // the sink is entered next.
+    fn turn<L: Layout>(
+        &mut self,
+        meter: &mut Meter<L>,
+        potentials: &Potentials,
+        lists: &ResidualArcs,
+        node: usize,
+        level: u64,
+        sink: usize,
+    ) -> Result<bool, AllocError>
+        requires may { MaySearch L.node_count meter.old.network potentials.now lists.now sink }
+        requires top { (stack : List ℕ) × (self.old.stack.items ≡ stack ++ node ∷ []) }
+        requires node { node < length self.old.left.items }
+        requires node_matched { node < length self.old.left_matched.items }
+        requires state { IsAt meter.old potentials.now lists.now sink level [] [] self.old }
+        ensures goes { IfOk result (λ found. Moves found meter.old meter.new potentials.now lists.now sink
+            level [] [] self.old self.new) }
+        ensures network { meter.new.network ≡ meter.old.network }
+        ensures steps { meter.new.count ≤ 2 * length meter.old.network.arcs }
+        ensures falls { OnOk result (Falls meter.old self.old meter.new self.new) }
+    {
+        if self.left[node] > 0 {
+            let found = self.turn_inner(meter, potentials, lists, node, level, sink)?;
+            return Ok(found);
+        }
+        if self.left_matched[node] > 0 {
+            let found = self.turn_matched(meter, potentials, lists, node, level, sink)?;
+            return Ok(found);
+        }
+        self.stack.pop();
+        Ok(false)
+    }
+
+    // Goes on along arcs of reduced cost 0 from the nodes on the stack, depth first; whether the sink is
+    // entered next.
+    fn follow<L: Layout>(
+        &mut self,
+        meter: &mut Meter<L>,
+        potentials: &Potentials,
+        lists: &ResidualArcs,
+        level: u64,
+        sink: usize,
+    ) -> Result<bool, AllocError>
+        requires may { MaySearch L.node_count meter.old.network potentials.now lists.now sink }
+        requires state { IsAt meter.old potentials.now lists.now sink level [] [] self.old }
+        ensures goes { IfOk result (λ found. Moves found meter.old meter.new potentials.now lists.now sink
+            level [] [] self.old self.new) }
+        ensures network { meter.new.network ≡ meter.old.network }
+        ensures steps { meter.new.count ≤ 2 * length meter.old.network.arcs }
+        ensures spends { OnOk result (Spends 0 meter.old self.old meter.new self.new) }
+        ensures empty { IfOk result (λ found. found ≡ false → self.new.stack.items ≡ []) }
+    {
+        'turns: while let Some(top) = self.stack.last() {
+            let node = *top;
+            if self.turn(meter, potentials, lists, node, level, sink)? {
+                return Ok(true);
+            }
+        }
+        Ok(false)
+    }
+
+    // Settles a node, and those to which arcs of reduced cost 0 lead from it; whether the sink is entered
+    // next.
+    fn settle<L: Layout>(
+        &mut self,
+        meter: &mut Meter<L>,
+        potentials: &Potentials,
+        lists: &ResidualArcs,
+        node: usize,
+        level: u64,
+        sink: usize,
+    ) -> Result<bool, AllocError>
+        requires may { MaySearch L.node_count meter.old.network potentials.now lists.now sink }
+        requires node { node < length potentials.now }
+        requires state { IsAt meter.old potentials.now lists.now sink level (node ∷ []) [] self.old }
+        ensures goes { IfOk result (λ found. Moves found meter.old meter.new potentials.now lists.now sink
+            level (node ∷ []) [] self.old self.new) }
+        ensures network { meter.new.network ≡ meter.old.network }
+        ensures steps { meter.new.count ≤ 2 * length meter.old.network.arcs }
+        ensures spends { OnOk result (Spends 1 meter.old self.old meter.new self.new) }
+        ensures empty { IfOk result (λ found. found ≡ false → self.new.stack.items ≡ []) }
+    {
+        if self.enter(meter, potentials, lists, node, level, sink)? {
+            return Ok(true);
+        }
+        let found = self.follow(meter, potentials, lists, level, sink)?;
+        Ok(found)
+    }
+
+    // Settles the nodes that wait in the queue, nearest first; the sink's distance, if it is entered next.
+    fn empty_queue<L: Layout>(
+        &mut self,
+        meter: &mut Meter<L>,
+        potentials: &Potentials,
+        lists: &ResidualArcs,
+        sink: usize,
+    ) -> Result<Option<u64>, AllocError>
+        requires may { MaySearch L.node_count meter.old.network potentials.now lists.now sink }
+        requires state { IsBetween meter.old potentials.now lists.now sink meter.old.count self.old }
+        ensures ends { IfOk result (λ found. (start level : ℕ)
+            → Searches meter.old potentials.now lists.now start sink level meter.old.count [] [] self.old
+            → EndsSearch found meter.old potentials.now lists.now start sink meter.new.count self.new) }
+        ensures network { meter.new.network ≡ meter.old.network }
+        ensures steps { meter.new.count ≤ 2 * length meter.old.network.arcs }
+    {
+        'nodes: while let Some((level, node)) = self.queue.take() {
+            if self.settled[node] {
+                continue;
+            }
+            if self.settle(meter, potentials, lists, node, level, sink)? {
+                return Ok(Some(level));
+            }
+        }
+        Ok(None)
+    }
+
+    /// Searches from the start, over tables at rest; the sink's distance, if a path leads to it.
+    pub fn run<L: Layout>(
+        &mut self,
+        meter: &mut Meter<L>,
+        potentials: &Potentials,
+        lists: &ResidualArcs,
+        start: usize,
+        sink: usize,
+    ) -> Result<Option<u64>, AllocError>
+        requires may { MaySearch L.node_count meter.old.network potentials.now lists.now sink }
+        requires count { meter.old.count ≡ 0 }
+        requires start { start < length potentials.now }
+        requires rest { IsAtRest (length potentials.now) (tables self.old) }
+        ensures ends { IfOk result (λ found.
+            EndsSearch found meter.old potentials.now lists.now start sink meter.new.count self.new) }
+        ensures network { meter.new.network ≡ meter.old.network }
+        ensures steps { meter.new.count ≤ 2 * length meter.old.network.arcs }
+    {
+        let arrival = Arrival {
+            arc: ArcNo::Forward(0),
+            before: start,
+            arcs: 0,
+        };
+        self.reach(start, 0, arrival)?;
+        if self.settle(meter, potentials, lists, start, 0, sink)? {
+            return Ok(Some(0));
+        }
+        let found = self.empty_queue(meter, potentials, lists, sink)?;
+        Ok(found)
+    }
+
+    /// Lowers each potential by what the node's distance lacks of the total, and forgets the distances.
+    pub fn forget(&mut self, potentials: &mut Potentials, total: u64)
+        requires left { IsLeft (length potentials.old) (tables self.old) }
+        requires low { (v : ℕ) → slice_index potentials.old v + total ≤ 2 ^ 52 }
+        ensures rest { IsAtRest (length potentials.old) (tables self.new) }
+        ensures lowered { (v : ℕ) → slice_index potentials.new v
+            ≡ lowered (slice_index potentials.old) (distance_at self.old.distances.items) total v }
+        ensures size { length potentials.new ≡ length potentials.old }
+    {
+        self.stack.clear();
+        self.queue.clear();
+        'nodes: while let Some(node) = self.reached.pop() {
+            potentials.lower(node, total.saturating_sub(self.distances[node]));
+            self.clear(node);
+        }
+    }
+
+    // Forgets the distance of a node.
+    fn clear(&mut self, node: usize)
+        requires node { node < length self.old.distances.items }
+        requires settled { node < length self.old.settled.items }
+        ensures { tables self.new ≡ record (tables self.old) {
+          distances = slice_set self.old.distances.items node far;
+          settled = slice_set self.old.settled.items node false;
+        } }
+    {
+        self.distances[node] = u64::MAX;
+        self.settled[node] = false;
+    }
+
+    /// The distance of a node, or none where it was not reached.
+    pub fn distance(&self, node: usize) -> Option<u64>
+        requires { node < length self.now.distances.items }
+        ensures { result ≡ reached_at (distance_at self.now.distances.items node) }
+    {
+        let distance = self.distances[node];
+        if distance == u64::MAX {
+            return None;
+        }
+        Some(distance)
+    }
+
+    /// The path that the arrivals lead back over from a node.
+    pub fn trace(&self, alloc: Global, node: usize) -> Result<Vec<ArcNo>, AllocError>
+        requires inside { node < length self.now.arrivals.items }
+        requires back { LeadsBack self.now.arrivals.items node
+            (arrival_at self.now.arrivals.items node).arcs }
+        ensures { IfOk result (λ p. p.items ≡ trace_to self.now.arrivals.items node) }
+    {
+        let mut path = Vec::new(alloc);
+        let mut here = node;
+        let mut left = self.arrivals[node].arcs;
+        'back: while left > 0 {
+            let last = self.arrivals[here];
+            path.push(last.arc)?;
+            here = last.before;
+            left -= 1;
+        }
+        path.reverse();
+        Ok(path)
+    }
+}

@@ -1,0 +1,255 @@
+#!/usr/bin/env python3
+"""Runs and plays made jobs for minutes, under schedules that nobody chose. It ends by counts, never by time.
+
+    soak.py [--short] [PROGRAM]    PROGRAM is bin/mrjob where none is named; --short is what the gate runs
+
+- The made jobs of job_tests under their made gates, 10,000 of them; and how many blocks of memory a process holds at
+  the end of one of them, and of 1,000.
+- Jobs of make_texts.py by `mrjob run`: bound to one processor, and at the lowest priority beside a spinning process for
+  each processor. Each has its own index, or is stuck, with all that nobody holds among what is left.
+- A script of 65,536 commands, more than 1,000 waves among them, followed by reference_play.py.
+
+A failing seed can be run alone: SEEDS="17 17" crates/job_tests/out/job_tests_tests made, or the text that
+`make_texts.py job 17` writes. The last line is 'N passed, M failed'.
+"""
+import os
+import random
+import re
+import subprocess
+import sys
+import tempfile
+import time
+from collections import Counter
+from concurrent.futures import ThreadPoolExecutor
+from pathlib import Path
+
+sys.dont_write_bytecode = True
+import make_texts
+import reference_run
+from crates import ROOT, kit
+from reference_play import misplayed
+
+TESTS = ROOT / "crates/job_tests/out/job_tests_tests"
+MADE = "made::made_jobs_have_no_other_index"
+PROCESSORS = sorted(os.sched_getaffinity(0))
+# Far past what any run takes: one that has not ended by then hangs.
+HANGS = 3600
+
+
+class Sizes:
+    """How much is run, of each kind."""
+
+    def __init__(self, is_short):
+        # (the first 300 made jobs are a test, which the gate has run)
+        self.gates = 0 if is_short else 10_000
+        self.held = 100 if is_short else 1_000
+        self.jobs = 12 if is_short else 200
+        self.commands = 4_000 if is_short else 65_536
+
+
+class Failure(Exception):
+    """What was found."""
+
+
+def ran(words, text=b"", **how):
+    out = subprocess.run(words, input=text, stdout=subprocess.PIPE, stderr=subprocess.PIPE, timeout=HANGS, **how)
+    return out.stdout, out.returncode, out.stderr
+
+
+# The made jobs of job_tests.
+
+
+def seeds_in_parts(count):
+    """The seeds from 1 to this, in some ranges for each processor."""
+    parts = min(count, 4 * len(PROCESSORS))
+    edges = [1 + count * at // parts for at in range(parts + 1)]
+    return [(first, after - 1) for first, after in zip(edges, edges[1:])]
+
+
+def run_seeds(first, last):
+    """The two lines of figures that the made jobs of these seeds come to."""
+    said, status, _ = ran([TESTS, MADE], env={"SEEDS": f"{first} {last}"})
+    lines = re.findall(r"\d+ (?:runs:|workers stopped,) .*", said.decode())
+    if status or len(lines) != 2:
+        raise Failure(f"made jobs of the seeds {first} to {last}: status {status}: {said.decode()[-2000:]}")
+    return lines
+
+
+def made_gates(_program, sizes, pool):
+    """The made jobs under their made gates, side by side; the figures of all."""
+    sums = Counter()
+    kinds = {}
+    for lines in pool.map(lambda it: run_seeds(*it), seeds_in_parts(sizes.gates)):
+        for number, kind in re.findall(r"(?:at most )?(\d+) ([a-z ]+)", ", ".join(lines)):
+            kinds[kind] = None
+            sums[kind] = max(sums[kind], int(number)) if kind == "turns" else sums[kind] + int(number)
+    return ", ".join(f"{'at most ' if kind == 'turns' else ''}{sums[kind]} {kind}" for kind in kinds)
+
+
+def held_blocks(shim, count):
+    """How many blocks of memory are held at the end of so many made jobs in one process."""
+    met = Path(f"{shim}.met")
+    shell = 'exec 9> "$0.met"; LD_PRELOAD=$0 REFUSE=none NTH=1 exec "$@"'
+    said, status, _ = ran(["/bin/sh", "-c", shell, shim, TESTS, MADE], env={"SEEDS": f"1 {count}"})
+    told = met.read_text() if met.exists() else ""
+    if status or not told.isdigit():
+        raise Failure(f"{count} made jobs whose blocks are counted: status {status}: {said.decode()[-2000:]}")
+    return int(told)
+
+
+def memory(_program, sizes, _pool):
+    """That many jobs in one process hold no more memory at the end than one."""
+    with tempfile.TemporaryDirectory() as room:
+        shim = f"{room}/refuse.so"
+        words = [kit() / "toolchain/bin/clang", "-O2", "-fPIC", "-shared", "-nostdlib", "-fuse-ld=lld"]
+        subprocess.run([*words, "-o", shim, ROOT / "scripts/refuse_call.c"], check=True)
+        one, many = held_blocks(shim, 1), held_blocks(shim, sizes.held)
+    if one != many:
+        raise Failure(f"{one} blocks are held after one run, and {many} after {sizes.held}")
+    return f"{one} blocks are held after one run, and after {sizes.held}"
+
+
+# Jobs by `mrjob run`.
+
+
+def job_texts(count):
+    """Made jobs, of which one in 20 has 32 workers, 64 parts and 300 splits."""
+    makes = [(seed, wide_job if seed % 20 == 0 else make_texts.job) for seed in range(1, count + 1)]
+    return [(seed, make(random.Random(seed))) for seed, make in makes]
+
+
+def wide_job(rnd):
+    words, workers = ["one", "two", "The", "the", "x1y", "zebra"], [f"w{at}" for at in range(32)]
+    lines = ["job 1", "parts 64", "silence 1", "rack r", "rack q"]
+    lines += [f"worker {name} {rnd.choice('rq')} {rnd.choice([1, 16])}" for name in workers]
+    for at in range(300):
+        lines.append(" ".join([f"split s{at} {rnd.randint(0, 99)}", *rnd.sample(workers, rnd.randint(1, 8))]))
+        lines.append(" ".join([f"doc d{at} s{at}", *rnd.choices(words, k=9)]))
+    return make_texts.text_of([*lines, "end"])
+
+
+def wrong_run(said, text):
+    """Whether a job was stuck by its schedule alone; and what is wrong, or None."""
+    wanted, (lines, status, words) = reference_run.answer(text), said
+    if (lines, status) == wanted:
+        return False, None
+    first, *rest = lines.decode().split("\n")[:-1] or [""]
+    left = [line for line in wanted[0].decode().split("\n") if line.startswith("open ")]
+    if status == 1 and first == f"stuck {len(rest)}" and set(left) <= set(rest) and len(set(rest)) == len(rest):
+        # (a thread that gets no processor for long enough passes for dead, and what it holds for lost)
+        return True, None
+    return False, f"it ends with {status}, {words}, {lines}, and the reference with {wanted}"
+
+
+def run_all(program, before, texts, pool):
+    stuck = done = 0
+    began = time.monotonic()
+    longest = 0
+    for (seed, text), (said, took) in zip(texts, pool.map(lambda it: timed_run(program, before, it[1]), texts)):
+        is_stuck, wrong = wrong_run(said, text)
+        if wrong:
+            raise Failure(f"{' '.join(before)} job {seed}: {wrong}")
+        stuck, done, longest = stuck + is_stuck, done + (said[1] == 0), max(longest, took)
+    whole = time.monotonic() - began
+    return (f"{len(texts)} runs: {done} done, {len(texts) - done} stuck, of these {stuck} by the schedule; "
+            f"{whole:.0f} s, the longest {longest:.1f} s")
+
+
+def timed_run(program, before, text):
+    began = time.monotonic()
+    return ran([*before, program, "run"], text), time.monotonic() - began
+
+
+def on_one_processor(program, sizes, pool):
+    """Jobs that share one processor, some side by side."""
+    return run_all(program, ["taskset", "-c", str(PROCESSORS[-1])], job_texts(sizes.jobs), pool)
+
+
+def beside_spinners(program, sizes, pool):
+    """Jobs at the lowest priority, beside as many spinning processes as there are processors."""
+    spinners = [subprocess.Popen(["/bin/sh", "-c", "while :; do :; done"]) for _ in PROCESSORS]
+    try:
+        return run_all(program, ["nice", "-n", "19"], job_texts(sizes.jobs), pool)
+    finally:
+        for spinner in spinners:
+            spinner.kill()
+            spinner.wait()
+
+
+# Scripts by `mrjob play`.
+
+
+def script_of(program, count):
+    """A script of so many commands, at least one of 65 a wave. Their attempts are about the newest of the report."""
+    rnd = random.Random(count)
+    scenario = make_texts.Scenario(rnd)
+    while scenario.workers < 4 or scenario.splits < 5 or scenario.version == 1:
+        scenario = make_texts.Scenario(rnd)
+    scenario.free = [max(free, 1) for free in scenario.free]
+    racks, workers, splits = scenario.cluster()
+    head = [f"script {scenario.version}", "parts 64", "target 2", "silence 2", *racks, *workers, *splits]
+    head += [*make_texts.documents_of(rnd, scenario), "begin"]
+    commands, newest = [], 0
+    while len(commands) < count:
+        # (who is dead comes back, and each split has a holder again)
+        commands += [f"join w{worker}" for worker in range(scenario.workers)]
+        commands += [f"add s{split} w{rnd.randrange(scenario.workers)}" for split in range(scenario.splits)]
+        others = 64 - scenario.workers - scenario.splits
+        commands += ["wave", *(command_near(rnd, scenario, newest) for _ in range(others))]
+        report = ran([program, "play"], make_texts.text_of([*head, *commands[:count], "end"]))[0]
+        found = re.findall(rb"^(?:start|backup|reduce) (\d+)", report, re.M)
+        newest = int(found[-1]) if found else 0
+    return make_texts.text_of([*head, *commands[:count], "end"]), commands[:count].count("wave")
+
+
+def command_near(rnd, scenario, newest):
+    """A command, whose attempt is one of the newest or of the next. Few maps fail, since a pair is barred for good,
+    and few parts are done, since a job whose parts are done is over."""
+    words = make_texts.command(rnd, scenario, 1).split(" ")
+    if words[0] in ("reduce", "die") and rnd.random() < 0.9:
+        return "wave"
+    if words[0] == "sweep":
+        # (their beats rise with the attempts)
+        return " ".join(["sweep", *(str(newest + rnd.randint(0, 9)) for _ in words[1:])])
+    if words[0] in ("done", "fail", "withdraw"):
+        word = "done" if words[0] == "fail" and rnd.random() < 0.998 else words[0]
+        return f"{word} {max(0, newest + rnd.randint(-6, 8))}"
+    return " ".join(words)
+
+
+def long_script(program, sizes, _pool):
+    """Each command of a long script has its answer."""
+    text, waves = script_of(program, sizes.commands)
+    report, status, words = ran([program, "play"], text)
+    wrong = misplayed(text, report, status)
+    if wrong:
+        raise Failure(f"{words}: {wrong}")
+    lines = report.split(b"\n")
+    answers = sum(line.startswith((b"accepted ", b"ignored ", b"copies ")) for line in lines)
+    if answers != sizes.commands:
+        raise Failure(f"{answers} answers to {sizes.commands} commands")
+    accepted, started = (sum(line.startswith(it) for line in lines) for it in (b"accepted ", b"start "))
+    return f"{sizes.commands} commands, {waves} waves, {accepted} accepted, {started} starts"
+
+
+def main(words):
+    sizes = Sizes("--short" in words)
+    named = [word for word in words if word != "--short"]
+    program = os.path.abspath(named[0]) if named else str(ROOT / "bin/mrjob")
+    parts = [made_gates] if sizes.gates else []
+    passed = failed = 0
+    with ThreadPoolExecutor(len(PROCESSORS)) as pool:
+        for part in [*parts, memory, on_one_processor, beside_spinners, long_script]:
+            name = part.__name__.replace("_", " ")
+            try:
+                print(f"{name}: {part(program, sizes, pool)}", flush=True)
+                passed += 1
+            except (Failure, OSError, subprocess.SubprocessError) as why:
+                print(f"{name}: FAILED: {why}", flush=True)
+                failed += 1
+    print(f"{passed} passed, {failed} failed")
+    return 1 if failed or not passed else 0
+
+
+if __name__ == "__main__":
+    sys.exit(main(sys.argv[1:]))
