@@ -4,12 +4,11 @@ use Rattle.std.proofs.Common.{subst, sym}
 use Rattle.std.proofs.lemmas.List.{length-map}
 use Rattle.std.proofs.lemmas.List.FromFn.{length-range_with_len}
 use Rattle.line_rules.specs.declared.purpose.Purpose.TheVariants.{Running}
-use Rattle.word_map.specs.Texts.{SplitDocuments}
 use Rattle.word_map.specs.Entries.{EntryView}
 use Rattle.shuffle_reduce.specs.Gather.{values_of}
 use Rattle.head_text.specs.Heads.{IsFitHead}
 use Rattle.head_text.specs.declared.heads.Head.{Head}
-use Rattle.master_state.specs.States.{Cluster, IsWhole}
+use Rattle.master_state.specs.States.{Cluster, IsWhole, Setup}
 use Rattle.script_text.specs.Scripts.{IsOfHead, IsScriptOf}
 use Rattle.script_text.specs.declared.script.Names.{Names}
 use Rattle.script_text.specs.declared.script.Script.{Script}
@@ -18,8 +17,10 @@ use Rattle.master_state.specs.Jobs.{Job}
 use Rattle.job_threads.specs.Outcomes.{EndsWith, IsRecordOf}
 use Rattle.job_threads.specs.declared.outcome.Record.{Record}
 use Rattle.job_threads.specs.declared.outcome.RunError.{RunError}
-use Rattle.job_run.specs.RunAnswer.{HasTextsNamed, RunsRead, TellsJob}
+use Rattle.job_run.specs.PlayAnswer.{cluster_in}
+use Rattle.job_run.specs.RunAnswer.{HasTextsNamed, RunsRead, TellsJob, setup_on}
 use Rattle.job_run.specs.declared.running.JobEnd.{JobEnd}
+use Rattle.job_run.proofs.Answered.{same_cluster}
 
 -- a text for each split that has a name
 pub texts_named : (head : Head) (script : Script) → IsFitHead head → IsOfHead head script
@@ -34,25 +35,27 @@ splits_named names cluster whole named =
     named ∙ sym (length-map cluster.texts (λ text. text.split)) ∙ ap length whole.texts
     ∙ length-range_with_len 0 (length cluster.splits)
 
--- a master of which a run tells has the texts of the job
-texts_kept : (texts : List SplitDocuments) (master : Job) (index : Option (List EntryView))
-    → EndsWith texts master index → master.setup.cluster.texts ≡ texts
-texts_kept texts master (Some index) is = is.0.texts
-texts_kept texts master None is = is.texts
+-- a master of which a run tells was given the job
+setup_kept : (given : Setup) (last : Job) (index : Option (List EntryView))
+    → EndsWith given last index → last.setup ≡ given
+setup_kept given last (Some index) is = is.0.setup
+setup_kept given last None is = is.setup
 
-pub texts_told : (names : Names) (texts : List SplitDocuments) (ended : Result Record RunError)
-    → length names.splits ≡ length texts → IfOk ended (IsRecordOf texts) → IfOk ended (HasTextsNamed names)
-texts_told names texts (Ok ran) named is = named ∙ sym (ap length (texts_kept texts ran.master ran.index is))
-texts_told names texts (Err why) named is = tt
+pub texts_told : (names : Names) (given : Setup) (ended : Result Record RunError)
+    → length names.splits ≡ length given.cluster.texts → IfOk ended (IsRecordOf given)
+    → IfOk ended (HasTextsNamed names)
+texts_told names given (Ok ran) named is =
+    named ∙ sym (ap (λ (setup : Setup). length setup.cluster.texts) (setup_kept given ran.master ran.index is))
+texts_told names given (Err why) named is = tt
 
 pub runs_read : (asked : Bool) (text : List ℕ) (v : ScriptText) (end : JobEnd) (lines : List ℕ)
-    → IsScriptOf Running text v → TellsJob (values_of v.head.texts.items) v.script.names asked end lines
+    → IsScriptOf Running text v → TellsJob (setup_on (cluster_in v.head)) v.script.names asked end lines
     → RunsRead asked text end lines
 runs_read asked text v end lines is tells = record {
   known = is.known;
   script = v.script;
   read = is.read;
   declares = is.declares;
-  tells = subst (λ (texts : List SplitDocuments). TellsJob texts v.script.names asked end lines) is.head.texts
-      tells;
+  tells = subst (λ (cluster : Cluster). TellsJob (setup_on cluster) v.script.names asked end lines)
+      (same_cluster is.known.rows v.head is.head) tells;
 }

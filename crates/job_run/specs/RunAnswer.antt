@@ -7,10 +7,10 @@ use Rattle.line_rules.specs.Reading.{IsAllRead}
 use Rattle.line_rules.specs.declared.purpose.Purpose.TheVariants.{Running}
 use Rattle.text_reading.specs.declared.tool_error.ToolError.{ToolError}
 use Rattle.fault_answers.specs.Faulty.{IsFaulty}
-use Rattle.word_map.specs.Texts.{SplitDocuments}
-use Rattle.head_text.specs.Documents.{texts_of}
 use Rattle.head_text.specs.declared.heads.Head.{Head}
 use Rattle.master_state.specs.Jobs as master
+use Rattle.master_state.specs.States.{Cluster, Setup}
+use Rattle.master_state.specs.declared.states.Limits.{Limits}
 use Rattle.script_text.specs.Scripts.{Declares}
 use Rattle.script_text.specs.declared.script.Names.{Names}
 use Rattle.script_text.specs.declared.script.Script.{Script}
@@ -19,7 +19,7 @@ use Rattle.report_lines.specs.Lines.{stuck_lines}
 use Rattle.job_threads.specs.Outcomes.{IsDoneOn, IsStuckWith}
 use Rattle.job_threads.specs.declared.job.Job.{Job}
 use Rattle.job_threads.specs.declared.outcome.Record.{Record}
-use Rattle.job_run.specs.PlayAnswer.{cluster_in}
+use Rattle.job_run.specs.PlayAnswer.{cluster_in, declared_cluster}
 use Rattle.job_run.specs.Reports.{TellsIndex}
 use Rattle.job_run.specs.declared.running.JobEnd.{JobEnd}
 use Rattle.job_run.specs.declared.running.JobEnd.TheVariants as job
@@ -28,18 +28,27 @@ use Rattle.job_run.specs.declared.running.RunEnd.TheVariants as finish
 use Rattle.job_run.specs.declared.running.RunTextError.{RunTextError}
 use Rattle.job_run.specs.declared.running.RunTextError.TheVariants as error
 
--- the lines with which a run of these texts ends so, of a master that has done all parts or is stuck
-abbrev pub TellsEnd : List SplitDocuments → Names → master.Job → RunEnd → List ℕ → Type 0
-TellsEnd texts names last finish.Done out = IsDoneOn texts last × TellsIndex texts names.documents out
-TellsEnd texts names last finish.Stuck out =
-    IsStuckWith texts last × (out ≡ stuck_lines names.splits last.state.splits)
+-- the room that a run has
+abbrev pub run_room : Limits
+run_room = record { events = 65536; attempts = 65536; sweeps = 16384 }
+
+-- a cluster with the job that is run on it
+abbrev pub setup_on : Cluster → Setup
+setup_on cluster = record { cluster = cluster; limits = run_room }
+
+-- the lines with which a run of this job ends so, of a master that has done all its parts or is stuck with it
+abbrev pub TellsEnd : Setup → Names → master.Job → RunEnd → List ℕ → Type 0
+TellsEnd given names last finish.Done out =
+    IsDoneOn given last × TellsIndex given.cluster.texts names.documents out
+TellsEnd given names last finish.Stuck out =
+    IsStuckWith given last × (out ≡ stuck_lines names.splits last.state.splits)
 
 -- these lines were added
 pub record HasEnding
-    (texts : List SplitDocuments) (names : Names) (last : master.Job) (end : RunEnd) (before now : List ℕ)
+    (given : Setup) (names : Names) (last : master.Job) (end : RunEnd) (before now : List ℕ)
     : Type 0 where
   pub ending : List ℕ
-  pub ends : TellsEnd texts names last end ending
+  pub ends : TellsEnd given names last end ending
   pub written : now ≡ before ++ ending
 
 -- the lines of all that was done to the master
@@ -49,17 +58,17 @@ done_lines names last =
 
 -- the lines of a run: of all that was done, where that is asked for, and of how it ended
 pub record TellsRun
-    (texts : List SplitDocuments) (names : Names) (asked : Bool) (end : RunEnd) (out : List ℕ)
+    (given : Setup) (names : Names) (asked : Bool) (end : RunEnd) (out : List ℕ)
     : Type 0 where
   pub last : master.Job
   pub ending : List ℕ
-  pub ends : TellsEnd texts names last end ending
+  pub ends : TellsEnd given names last end ending
   pub out_is : out ≡ (if asked then done_lines names last else []) ++ ending
 
 -- a job that has no outcome has no lines
-abbrev pub TellsJob : List SplitDocuments → Names → Bool → JobEnd → List ℕ → Type 0
-TellsJob texts names asked (job.Ran end) out = TellsRun texts names asked end out
-TellsJob texts names asked (job.Broken why) out = out ≡ []
+abbrev pub TellsJob : Setup → Names → Bool → JobEnd → List ℕ → Type 0
+TellsJob given names asked (job.Ran end) out = TellsRun given names asked end out
+TellsJob given names asked (job.Broken why) out = out ≡ []
 
 -- the lines tell how the job ended that the text declares
 pub record RunsRead (asked : Bool) (text : List ℕ) (end : JobEnd) (lines : List ℕ) : Type 0 where
@@ -67,7 +76,7 @@ pub record RunsRead (asked : Bool) (text : List ℕ) (end : JobEnd) (lines : Lis
   pub script : Script
   pub read : IsAllRead Running text known
   pub declares : Declares known script
-  pub tells : TellsJob (texts_of known.rows) script.names asked end lines
+  pub tells : TellsJob (setup_on (declared_cluster known.rows)) script.names asked end lines
 
 -- the lines with which running ends so, without or with all that was done
 abbrev pub RunAnswer : Bool → List ℕ → Result JobEnd TextFault → List ℕ → Type 0
@@ -82,11 +91,7 @@ ran_as (Err (error.Run why)) = Ok (job.Broken why)
 
 -- the job of a head, with the room that a run has
 abbrev pub job_in : Head → ℕ → Job
-job_in head target = record {
-  cluster = cluster_in head;
-  target = target;
-  limits = record { events = 65536; attempts = 65536; sweeps = 16384 };
-}
+job_in head target = record { cluster = cluster_in head; target = target; limits = run_room }
 
 -- the split of each text of the master has a name
 abbrev pub HasTextsNamed : Names → Record → Type 0

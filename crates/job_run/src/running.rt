@@ -1,11 +1,10 @@
 ghost use Rattle.std.specs.Prelude.{◌≡◌, ◌≢◌, ◌≤◌, ◌++◌, List, Err, IfOk, OnOk, length, string_bytes, true, false, [], if◌then◌else◌};
-ghost use Rattle.word_map.specs.Texts.{SplitDocuments};
-ghost use Rattle.shuffle_reduce.specs.Gather.{values_of};
 ghost use Rattle.text_reading.specs.Running.{AnyLines, HasRun, NoText, WroteItsAnswer, outcome};
 ghost use Rattle.head_text.specs.Heads.{IsFitHead};
+ghost use Rattle.master_state.specs.States.{Setup};
 ghost use Rattle.script_text.specs.Scripts.{IsOfHead, IsTarget};
 ghost use Rattle.job_threads.specs.Outcomes.{IsRecordOf};
-ghost use Rattle.job_run.specs.PlayAnswer.{AreEnds};
+ghost use Rattle.job_run.specs.PlayAnswer.{AreEnds, cluster_in};
 ghost use Rattle.job_run.specs.RunAnswer.{
   HasEnding,
   HasTextsNamed,
@@ -15,6 +14,7 @@ ghost use Rattle.job_run.specs.RunAnswer.{
   done_lines,
   job_in,
   ran_as,
+  setup_on,
 };
 
 use crate::clusters::cluster_of;
@@ -177,8 +177,8 @@ fn run_read<T: Threads + Wait + Clock + Sync, G: Gate, O: Observer>(
     requires known { IsOfHead read.head read.script }
     requires target { IsTarget read.script.target }
     requires few { length read.head.slots.items ≤ 32 }
-    ensures { IfOk result (λ told. TellsJob (values_of read.entry.head.texts.items) read.entry.script.names asked
-        told.1 (string_bytes told.0)) }
+    ensures { IfOk result (λ told. TellsJob (setup_on (cluster_in read.entry.head)) read.entry.script.names
+        asked told.1 (string_bytes told.0)) }
 {
     let ScriptText { head, script } = read;
     let job = job_of(alloc, head, script.target)?;
@@ -214,8 +214,8 @@ fn tell(
 ) -> Result<(String, JobEnd), AllocError>
     requires named { IfOk ended (HasTextsNamed names.now) }
     requires few { length names.now.workers ≤ 32 }
-    ensures { (texts : List SplitDocuments) → IfOk ended (IsRecordOf texts)
-        → IfOk result (λ told. TellsJob texts names.now asked told.1 (string_bytes told.0)) }
+    ensures { (given : Setup) → IfOk ended (IsRecordOf given)
+        → IfOk result (λ told. TellsJob given names.now asked told.1 (string_bytes told.0)) }
 {
     match ended {
         Ok(ran) => {
@@ -235,8 +235,8 @@ fn tell_run(
 ) -> Result<(String, RunEnd), AllocError>
     requires named { HasTextsNamed names.now ran.now }
     requires few { length names.now.workers ≤ 32 }
-    ensures { (texts : List SplitDocuments) → IsRecordOf texts ran.now
-        → IfOk result (λ told. TellsRun texts names.now asked told.1 (string_bytes told.0)) }
+    ensures { (given : Setup) → IsRecordOf given ran.now
+        → IfOk result (λ told. TellsRun given names.now asked told.1 (string_bytes told.0)) }
 {
     let mut lines = String::new(alloc);
     add_done(names, &ran.master, asked, &mut lines)?;
@@ -273,8 +273,8 @@ fn add_ending(
     lines: &mut String,
 ) -> Result<RunEnd, AllocError>
     requires { HasTextsNamed names.now ran.now }
-    ensures { (texts : List SplitDocuments) → IsRecordOf texts ran.now
-        → IfOk result (λ end. HasEnding texts names.now ran.now.master end
+    ensures { (given : Setup) → IsRecordOf given ran.now
+        → IfOk result (λ end. HasEnding given names.now ran.now.master end
         (string_bytes lines.old) (string_bytes lines.new)) }
 {
     match &ran.index {

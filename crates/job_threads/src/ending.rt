@@ -1,17 +1,15 @@
-ghost use Rattle.std.specs.Prelude.{◌≡◌, ◌<◌, ◌≤◌, IfOk, IsTrue, List};
-ghost use Rattle.shuffle_reduce.specs.Gather.{values_of};
+ghost use Rattle.std.specs.Prelude.{◌≡◌, IfOk, IsTrue};
 ghost use Rattle.shuffle_reduce.specs.Indexed.{IsIndexOf};
-ghost use Rattle.word_map.specs.Texts.{SplitDocuments};
+ghost use Rattle.master_state.specs.States.{Setup};
 ghost use Rattle.job_threads.specs.Outcomes.{IsDoneOn, IsOutcomeOf, IsRecordOf, IsStuckWith};
 
+use crate::given::Given;
 use crate::outcome::{Outcome, Record, RunError};
 use master_core::Master;
 use shared_master::{Closed, Hand, Settled, settle};
-use shuffle_reduce::{FinishError, Index, are_equal_texts, are_ready, finish};
+use shuffle_reduce::{FinishError, Index, are_ready, finish};
 use std::alloc::Global;
-use std::sync::Arc;
 use std::sync::ledger::Ledger;
-use word_map::SplitText;
 
 // The master, where its history is made of the hands' calls.
 pub(crate) fn settled<L: Ledger>(closed: Closed<L>, hands: Vec<Hand<L>>) -> Result<Master, RunError>
@@ -23,20 +21,13 @@ pub(crate) fn settled<L: Ledger>(closed: Closed<L>, hands: Vec<Hand<L>>) -> Resu
     }
 }
 
-// What has become of a job with these texts.
-pub(crate) fn record_of(
-    alloc: Global,
-    parts: usize,
-    texts: &[Arc<SplitText>],
-    master: Master,
-) -> Result<Record, RunError>
-    requires some { 0 < parts }
-    requires few { parts ≤ 64 }
-    ensures { IfOk result (IsRecordOf (values_of texts.now)) }
+// What has become of a job.
+pub(crate) fn record_of(alloc: Global, given: &Given, master: Master) -> Result<Record, RunError>
+    ensures { IfOk result (IsRecordOf given.now) }
 {
-    let index = if is_done(texts, &master) {
-        Some(index_of(alloc, parts, texts, &master)?)
-    } else if is_stuck(texts, &master) {
+    let index = if is_done(given, &master) {
+        Some(index_of(alloc, given, &master)?)
+    } else if is_stuck(given, &master) {
         None
     } else {
         return Err(RunError::Torn(0));
@@ -46,7 +37,7 @@ pub(crate) fn record_of(
 
 // The outcome alone.
 pub(crate) fn outcome_of(ran: Record) -> Outcome
-    ensures { (texts : List SplitDocuments) → IsRecordOf texts ran → IsOutcomeOf texts result }
+    ensures { (given : Setup) → IsRecordOf given ran → IsOutcomeOf given result }
 {
     let Record { master, index } = ran;
     match index {
@@ -55,35 +46,22 @@ pub(crate) fn outcome_of(ran: Record) -> Outcome
     }
 }
 
-// Whether all parts are done, of a master with these texts.
-fn is_done(texts: &[Arc<SplitText>], master: &Master) -> bool
-    ensures { IsTrue result → IsDoneOn (values_of texts.now) master.now }
+// Whether all parts are done, of a master of this job.
+fn is_done(given: &Given, master: &Master) -> bool
+    ensures { IsTrue result → IsDoneOn given.now master.now }
 {
     master.is_kept();
-    if !has_texts(texts, master) {
+    if !given.is_of(master) {
         return false;
     }
     master.glance().open_parts == 0
 }
 
-// Whether these are the texts of the master's job.
-fn has_texts(texts: &[Arc<SplitText>], master: &Master) -> bool
-    ensures { IsTrue result → master.now.setup.cluster.texts ≡ values_of texts.now }
+// The index of the job's texts, made of the results that the master has.
+fn index_of(alloc: Global, given: &Given, master: &Master) -> Result<Index, RunError>
+    ensures { IfOk result (IsIndexOf given.now.cluster.texts) }
 {
-    are_equal_texts(master.texts(), texts)
-}
-
-// The index of these texts, made of the results that the master has.
-fn index_of(
-    alloc: Global,
-    parts: usize,
-    texts: &[Arc<SplitText>],
-    master: &Master,
-) -> Result<Index, RunError>
-    requires some { 0 < parts }
-    requires few { parts ≤ 64 }
-    ensures { IfOk result (IsIndexOf (values_of texts.now)) }
-{
+    let (parts, texts) = (given.cluster.parts(), given.cluster.texts());
     let results = master.results();
     if !are_ready(parts, texts, results) {
         return Err(RunError::Torn(0));
@@ -95,12 +73,12 @@ fn index_of(
     }
 }
 
-// Whether nothing runs, nothing can start and a part is not done, of a master with these texts.
-fn is_stuck(texts: &[Arc<SplitText>], master: &Master) -> bool
-    ensures { IsTrue result → IsStuckWith (values_of texts.now) master.now }
+// Whether nothing runs, nothing can start and a part is not done, of a master of this job.
+fn is_stuck(given: &Given, master: &Master) -> bool
+    ensures { IsTrue result → IsStuckWith given.now master.now }
 {
     master.is_kept();
-    if !has_texts(texts, master) {
+    if !given.is_of(master) {
         return false;
     }
     let glance = master.glance();

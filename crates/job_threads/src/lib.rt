@@ -11,6 +11,7 @@ mod caller;
 mod common;
 mod ending;
 pub mod gate;
+mod given;
 mod holdings;
 pub mod job;
 mod lanes;

@@ -1,13 +1,13 @@
 ghost use Rattle.std.specs.Prelude.{◌≡◌, ◌<◌, ◌≤◌, length, IfOk, []};
-ghost use Rattle.shuffle_reduce.specs.Gather.{values_of};
 ghost use Rattle.master_state.specs.States.{AreAllowed};
-ghost use Rattle.job_threads.specs.Outcomes.{IsOutcomeOf, IsRecordOf};
+ghost use Rattle.job_threads.specs.Outcomes.{IsOutcomeOf, IsRecordOf, setup_of};
 
 use crate::beats::{Pulse, Watch};
 use crate::caller::Caller;
 use crate::common::Common;
 use crate::ending::{outcome_of, record_of, settled};
 use crate::gate::Gate;
+use crate::given::{Given, copy_texts};
 use crate::holdings::Holdings;
 use crate::job::Job;
 use crate::lanes::LaneEnd;
@@ -43,7 +43,7 @@ pub fn run<G: Gate, R: Threads + Wait + Clock + Sync>(
 ) -> Result<Outcome, RunError>
     requires workers { length job.cluster.slots ≤ 32 }
     requires limits { AreAllowed job.limits }
-    ensures { IfOk result (IsOutcomeOf job.cluster.texts) }
+    ensures { IfOk result (IsOutcomeOf (setup_of job)) }
 {
     Ok(outcome_of(run_recorded(rt, alloc, job, gate, &Unobserved)?))
 }
@@ -59,7 +59,7 @@ pub fn run_recorded<G: Gate, O: Observer, R: Threads + Wait + Clock + Sync>(
 ) -> Result<Record, RunError>
     requires workers { length job.cluster.slots ≤ 32 }
     requires limits { AreAllowed job.limits }
-    ensures { IfOk result (IsRecordOf job.cluster.texts) }
+    ensures { IfOk result (IsRecordOf (setup_of job)) }
 {
     run_on::<Brand, G, O, R>(rt, alloc, Blank::new(4096), job, gate, observer)
 }
@@ -75,14 +75,14 @@ fn run_on<L: Ledger + Send + Sync, G: Gate, O: Observer, R: Threads + Wait + Clo
     requires ledger { (blank.name ≡ L.name) × (blank.parts ≡ L.parts) × (blank.parts ≡ 4096) }
     requires workers { length job.cluster.slots ≤ 32 }
     requires limits { AreAllowed job.limits }
-    ensures { IfOk result (IsRecordOf job.cluster.texts) }
+    ensures { IfOk result (IsRecordOf (setup_of job)) }
 {
     let Job {
         cluster,
         target,
         limits,
     } = job;
-    let Ok(texts) = copy_texts(alloc, cluster.texts()) else {
+    let Ok(given) = Given::of(alloc, &cluster, limits) else {
         return Err(RunError::Memory);
     };
     let parts = cluster.parts();
@@ -92,7 +92,7 @@ fn run_on<L: Ledger + Send + Sync, G: Gate, O: Observer, R: Threads + Wait + Clo
     };
     let shared: SharedMaster<L> = SharedMaster::new(blank, master);
     let ended = run_shared(rt, alloc, &shared, gate, observer, parts, aims)?;
-    conclude(alloc, parts, &texts, shared, ended)
+    conclude(alloc, &given, shared, ended)
 }
 
 // What the calling thread is to know before there is a master.
@@ -178,20 +178,17 @@ fn run_shared<'a, L: Ledger + Send + Sync, G: Gate, O: Observer, R: Threads + Wa
 // Settles, and tells how the job ended.
 fn conclude<L: Ledger>(
     alloc: Global,
-    parts: usize,
-    texts: &[Arc<SplitText>],
+    given: &Given,
     shared: SharedMaster<L>,
     ended: Ended<L>,
 ) -> Result<Record, RunError>
-    requires some { 0 < parts }
-    requires few { parts ≤ 64 }
-    ensures { IfOk result (IsRecordOf (values_of texts.now)) }
+    ensures { IfOk result (IsRecordOf given.now) }
 {
     let Ended { hands, end } = ended;
     match end {
         Ok(()) => {
             let master = settled(shared.into_master(), hands)?;
-            record_of(alloc, parts, texts, master)
+            record_of(alloc, given, master)
         }
         Err(RunError::HistoryFull) => {
             settled(shared.into_master(), hands)?;
@@ -199,16 +196,6 @@ fn conclude<L: Ledger>(
         }
         Err(error) => Err(error),
     }
-}
-
-fn copy_texts(alloc: Global, texts: &[Arc<SplitText>]) -> Result<Vec<Arc<SplitText>>, AllocError>
-    ensures { IfOk result (λ copied. values_of copied.items ≡ values_of texts.now) }
-{
-    let mut copied = Vec::with_capacity(alloc, texts.len())?;
-    for text in texts {
-        copied.push(Arc::try_clone(text)?)?;
-    }
-    Ok(copied)
 }
 
 fn hand_of<L: Ledger, R: Wait>(

@@ -5,8 +5,8 @@ use Rattle.job_threads.proofs.ending.is_done.Goals as goal
 pub returns : goal.returns
 returns c = λ is_done. (
     record {
+      setup = c.is_of.ensures (search rules);
       legal = c.is_kept.ensures.legal;
-      texts = c.has_texts.ensures (search rules);
       done = sym (none_open c.args.master.now.state.parts)
           ∙ ap (λ (n : ℕ). n == 0) (sym c.glance.ensures.open_parts) ∙ is_done;
     })

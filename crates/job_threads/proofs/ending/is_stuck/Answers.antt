@@ -9,8 +9,8 @@ returns c = λ is_open. (
     let parts = c.args.master.now.state.parts in
     let some : 0 < c.glance-glance.result.open_parts = search rules in
     record {
+      setup = c.is_of.ensures (search rules);
       legal = c.is_kept.ensures.legal;
-      texts = c.has_texts.ensures (search rules);
       idle = sym glance.running ∙ (search rules);
       unready = λ ready. false≢true (sym c.if-glance.false ∙ glance.ready.1 ready);
       irreducible = not_false _ (sym glance.reducible ∙ c.if-glance-2.false);
