@@ -20,6 +20,8 @@ mod indexes;
 #[cfg(test)]
 mod maps;
 #[cfg(test)]
+mod played;
+#[cfg(test)]
 mod readers;
 #[cfg(test)]
 mod runs;
