@@ -5,8 +5,8 @@ use Rattle.line_shapes.specs.Lines.{Statement}
 use Rattle.line_rules.specs.declared.purpose.Purpose.TheVariants.{Playing}
 use Rattle.text_reading.specs.declared.tool_error.NoAnswer.{NoAnswer}
 use Rattle.text_reading.specs.declared.tool_error.NoAnswer.TheVariants as none
-use Rattle.head_text.specs.Heads.{IsFitHead, MakesHead}
-use Rattle.head_text.specs.declared.heads.Head.{Head}
+use Rattle.script_text.specs.Heads.{IsFitHead, MakesHead}
+use Rattle.script_text.specs.declared.heads.Head.{Head}
 use Rattle.master_state.specs.States.{Cluster}
 use Rattle.master_core.specs.Clusters.{AreFewAndSmall}
 use Rattle.script_text.specs.Scripts.{IsOfHead, IsScriptOf}

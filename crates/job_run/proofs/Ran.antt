@@ -6,8 +6,8 @@ use Rattle.std.proofs.lemmas.List.FromFn.{length-range_with_len}
 use Rattle.line_rules.specs.declared.purpose.Purpose.TheVariants.{Running}
 use Rattle.word_map.specs.Entries.{EntryView}
 use Rattle.shuffle_reduce.specs.Gather.{values_of}
-use Rattle.head_text.specs.Heads.{IsFitHead}
-use Rattle.head_text.specs.declared.heads.Head.{Head}
+use Rattle.script_text.specs.Heads.{IsFitHead}
+use Rattle.script_text.specs.declared.heads.Head.{Head}
 use Rattle.master_state.specs.States.{Cluster, IsWhole, Setup}
 use Rattle.script_text.specs.Scripts.{IsOfHead, IsScriptOf}
 use Rattle.script_text.specs.declared.script.Names.{Names}

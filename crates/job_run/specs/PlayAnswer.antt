@@ -13,10 +13,10 @@ use Rattle.text_reading.specs.declared.tool_error.NoAnswer.TheVariants as none
 use Rattle.fault_answers.specs.Faulty.{IsFaulty}
 use Rattle.plan_text.specs.Names.{names_of}
 use Rattle.plan_text.specs.Value.{declared_split, declared_tree}
-use Rattle.head_text.specs.Documents.{texts_of}
-use Rattle.head_text.specs.Heads.{slots_told}
-use Rattle.head_text.specs.Settings.{setting}
-use Rattle.head_text.specs.declared.heads.Head.{Head}
+use Rattle.script_text.specs.Documents.{texts_of}
+use Rattle.script_text.specs.Heads.{slots_told}
+use Rattle.script_text.specs.Settings.{setting}
+use Rattle.script_text.specs.declared.heads.Head.{Head}
 use Rattle.master_state.specs.States.{Cluster}
 use Rattle.master_core.specs.Clusters.{cluster_from}
 use Rattle.script_text.specs.Scripts.{Declares}

@@ -1,9 +1,9 @@
 ghost use Rattle.std.specs.Prelude.{◌≡◌, IfOk};
-ghost use Rattle.head_text.specs.Heads.{IsFitHead};
+ghost use Rattle.script_text.specs.Heads.{IsFitHead};
 ghost use Rattle.job_run.specs.PlayAnswer.{cluster_in};
 
-use head_text::Head;
 use master_core::{Cluster, ClusterError};
+use script_text::Head;
 use std::alloc::{AllocError, Global};
 
 /// The cluster that a head makes.

@@ -1,6 +1,6 @@
 ghost use Rattle.std.specs.Prelude.{◌≡◌, Err, IfOk, string_bytes};
 ghost use Rattle.text_reading.specs.Running.{HasRun, AnyLines};
-ghost use Rattle.head_text.specs.Heads.{IsFitHead};
+ghost use Rattle.script_text.specs.Heads.{IsFitHead};
 ghost use Rattle.script_text.specs.Scripts.{IsOfHead};
 ghost use Rattle.job_run.specs.Reports.{IsReport};
 ghost use Rattle.job_run.specs.Rooms.{RunsOut, setup_for};
@@ -10,9 +10,8 @@ ghost use Rattle.job_run.specs.OneAnswer.{one_play_answer};
 use crate::clusters::cluster_of;
 use crate::player::{PlayEnd, PlayError, Report, ScriptObserver, play_script_observed};
 use fault_answers::fault_answer;
-use head_text::Head;
 use job_threads::Unobserved;
-use script_text::{Script, ScriptText, read_script};
+use script_text::{Head, Script, ScriptText, read_script};
 use std::alloc::Global;
 use std::io::{Read, Write};
 use text_lines::TextFault;

@@ -1,6 +1,6 @@
 ghost use Rattle.std.specs.Prelude.{◌≡◌, ◌≢◌, ◌≤◌, ◌++◌, List, Err, IfOk, OnOk, length, string_bytes, true, false, [], if◌then◌else◌};
 ghost use Rattle.text_reading.specs.Running.{AnyLines, HasRun, NoText, WroteItsAnswer, outcome};
-ghost use Rattle.head_text.specs.Heads.{IsFitHead};
+ghost use Rattle.script_text.specs.Heads.{IsFitHead};
 ghost use Rattle.master_state.specs.States.{Setup};
 ghost use Rattle.script_text.specs.Scripts.{IsOfHead, IsTarget};
 ghost use Rattle.job_threads.specs.Outcomes.{IsRecordOf};
@@ -20,12 +20,11 @@ ghost use Rattle.job_run.specs.RunAnswer.{
 use crate::clusters::cluster_of;
 use crate::ending::add_open;
 use fault_answers::fault_answer;
-use head_text::Head;
 use job_threads::{Gate, Job, Observer, Record, RunError, Unobserved, run_recorded};
 use master_core::Master;
 use master_state::Limits;
 use report_lines::{add_history, add_index};
-use script_text::{Names, ScriptText, read_job};
+use script_text::{Head, Names, ScriptText, read_job};
 use std::alloc::{AllocError, Global};
 use std::io::{Read, Write};
 use std::rt::Clock;

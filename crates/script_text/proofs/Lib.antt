@@ -1,4 +1,9 @@
-pub mod Growing
 pub mod Bounds
-pub mod Ready
+pub mod Fits
+pub mod Gathering
+pub mod Growing
+pub mod Lines
 pub mod OfHead
+pub mod Read
+pub mod Ready
+pub mod Sharing

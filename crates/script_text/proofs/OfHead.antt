@@ -13,9 +13,9 @@ use Rattle.line_rules.specs.declared.purpose.Purpose.{Purpose}
 use Rattle.plan_text.specs.Names.{names_of, nth_word}
 use Rattle.plan_text.specs.Value.{declared_split}
 use Rattle.plan_text.proofs.Tidy.{tidy-read}
-use Rattle.head_text.specs.Heads.{slots_told}
-use Rattle.head_text.proofs.Lines.{target_within, told_within}
-use Rattle.head_text.proofs.Read.{few-read}
+use Rattle.script_text.specs.Heads.{slots_told}
+use Rattle.script_text.proofs.Lines.{target_within, told_within}
+use Rattle.script_text.proofs.Read.{few-read}
 use Rattle.script_text.specs.Commands.{IsKnownIn, IsNumbered, SaysCommand}
 use Rattle.script_text.specs.Scripts.{IsOfHead, IsScriptOf, IsTarget}
 use Rattle.script_text.specs.declared.script.Command.{Command}

@@ -18,7 +18,7 @@ use Rattle.plan_text.specs.Tidy.{AreTidy, IsTidyRow}
 use Rattle.plan_text.proofs.Named.{row_named}
 use Rattle.plan_text.proofs.Words.{few_names, line}
 use Rattle.script_text.specs.Commands.{word_at}
-use Rattle.script_text.specs.Heads.{AreNames}
+use Rattle.script_text.specs.Naming.{AreNames}
 use Rattle.script_text.specs.Ready.{AreFew, HasName, HasNumber, HasWords, HaveNames, HavePair, IsWholeCommand}
 use Rattle.script_text.specs.Ready.{told_names}
 use Rattle.script_text.specs.declared.script.Names.{Names}

@@ -1,4 +1,7 @@
 pub mod Commands
-pub mod Ready
+pub mod Documents
 pub mod Heads
+pub mod Naming
+pub mod Ready
 pub mod Scripts
+pub mod Settings

@@ -4,11 +4,11 @@ use Rattle.line_shapes.specs.declared.keyword.Keyword.TheVariants as keyword
 use Rattle.line_rules.specs.Known.{Known}
 use Rattle.line_rules.specs.Reading.{IsAllRead}
 use Rattle.line_rules.specs.declared.purpose.Purpose.{Purpose}
-use Rattle.head_text.specs.Heads.{MakesHead}
-use Rattle.head_text.specs.Settings.{setting}
-use Rattle.head_text.specs.declared.heads.Head.{Head}
+use Rattle.script_text.specs.Heads.{MakesHead}
+use Rattle.script_text.specs.Settings.{setting}
+use Rattle.script_text.specs.declared.heads.Head.{Head}
 use Rattle.script_text.specs.Commands.{IsKnownIn, SayCommands}
-use Rattle.script_text.specs.Heads.{AreNames}
+use Rattle.script_text.specs.Naming.{AreNames}
 use Rattle.script_text.specs.declared.script.Script.{Script}
 use Rattle.script_text.specs.declared.script.ScriptText.{ScriptText}
 

@@ -5,14 +5,14 @@ ghost use Rattle.line_rules.specs.Known.{rows_of};
 ghost use Rattle.line_rules.specs.Reading.{IsReadingError};
 ghost use Rattle.line_rules.specs.declared.purpose.Purpose.TheVariants.{Playing, Running};
 ghost use Rattle.plan_text.specs.Tidy.{AreTidy};
-ghost use Rattle.head_text.specs.Heads.{IsFitHead, MakesHead};
+ghost use Rattle.script_text.specs.Heads.{IsFitHead, MakesHead};
 ghost use Rattle.script_text.specs.Ready.{IsWholeCommand, told_names};
 ghost use Rattle.script_text.specs.Scripts.{Declares, IsOfHead, IsScriptOf, IsTarget};
 
 use crate::commands::commands_of;
-use crate::heads::{all_names, target_of};
+use crate::heads::build_head;
+use crate::naming::{all_names, target_of};
 use crate::script::{Script, ScriptText};
-use head_text::build_head;
 use line_rules::{KnownLines, Purpose, ReadingError, read_lines};
 use std::alloc::{AllocError, Global};
 

@@ -1,4 +1,4 @@
-use head_text::Head;
+use crate::heads::Head;
 use node_ids::{AttemptNo, SplitNo, WorkerNo};
 use text_lines::NameTable;
 

@@ -1,6 +1,5 @@
-use head_text::Head;
 use line_rules::ReadingError;
-use script_text::{read_job, read_script};
+use script_text::{Head, read_job, read_script};
 use std::alloc::Global;
 
 fn head_of(alloc: Global, text: &str) -> Option<Head> {

@@ -1,7 +1,6 @@
-use head_text::Head;
 use job_run::{PlayEnd, fits, play_script};
 use master_core::Cluster;
-use script_text::read_script;
+use script_text::{Head, read_script};
 use std::alloc::Global;
 
 const HEAD: &str = "script 1\nrack r\nworker a r 1\nsplit s 10 a\ndoc d s The cat\nbegin\n";

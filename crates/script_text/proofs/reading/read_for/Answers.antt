@@ -1,6 +1,6 @@
 use Rattle.line_shapes.specs.declared.keyword.Keyword.TheVariants.{Doc}
 use Rattle.plan_text.proofs.Tidy.{tidy-read}
-use Rattle.head_text.proofs.Read.{few-read}
+use Rattle.script_text.proofs.Read.{few-read}
 use Rattle.script_text.specs.Scripts.{IsScriptOf}
 use Rattle.script_text.proofs.OfHead.{few_workers, is_of_head, is_target}
 use Rattle.script_text.proofs.Ready.{ready-read}

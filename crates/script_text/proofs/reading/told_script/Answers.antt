@@ -1,7 +1,7 @@
 use Rattle.std.proofs.Common.{List, subst, sym}
 use Rattle.std.specs.List.{All}
 use Rattle.line_shapes.specs.Lines.{Statement}
-use Rattle.script_text.specs.Heads.{AreNames}
+use Rattle.script_text.specs.Naming.{AreNames}
 use Rattle.script_text.specs.Ready.{AreFew, IsWholeCommand}
 use Rattle.script_text.specs.declared.script.Names.{Names}
 use Rattle.script_text.proofs.Ready.{few_told, names_told}

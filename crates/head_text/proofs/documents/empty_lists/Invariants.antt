@@ -1,6 +1,0 @@
-use Rattle.std.proofs.Common.{[], ◌≡◌, replicate}
-use Rattle.head_text.proofs.Gathering.{items_of}
-use Rattle.head_text.proofs.documents.empty_lists.Given as goal
-
-abbrev pub invariant-loop : goal.invariant-loop
-invariant-loop l = items_of l.lists.items ≡ replicate l.counter []
