@@ -10,7 +10,7 @@ use Rattle.line_rules.specs.Reading.{IsAllRead}
 use Rattle.line_rules.specs.declared.purpose.Purpose.TheVariants.{Playing}
 use Rattle.text_reading.specs.declared.tool_error.NoAnswer.{NoAnswer}
 use Rattle.text_reading.specs.declared.tool_error.NoAnswer.TheVariants as none
-use Rattle.fault_answers.specs.Faulty.{IsFaulty}
+use Rattle.line_rules.specs.Faulty.{IsFaulty}
 use Rattle.plan_text.specs.Names.{names_of}
 use Rattle.plan_text.specs.Value.{declared_split, declared_tree}
 use Rattle.script_text.specs.Documents.{texts_of}

@@ -6,7 +6,7 @@ use Rattle.line_rules.specs.Known.{Known}
 use Rattle.line_rules.specs.Reading.{IsAllRead}
 use Rattle.line_rules.specs.declared.purpose.Purpose.TheVariants.{Running}
 use Rattle.text_reading.specs.declared.tool_error.ToolError.{ToolError}
-use Rattle.fault_answers.specs.Faulty.{IsFaulty}
+use Rattle.line_rules.specs.Faulty.{IsFaulty}
 use Rattle.script_text.specs.declared.heads.Head.{Head}
 use Rattle.master_state.specs.Jobs as master
 use Rattle.master_state.specs.States.{Cluster, Setup}

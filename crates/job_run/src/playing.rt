@@ -9,8 +9,8 @@ ghost use Rattle.job_run.specs.OneAnswer.{one_play_answer};
 
 use crate::clusters::cluster_of;
 use crate::player::{PlayEnd, PlayError, Report, ScriptObserver, play_script_observed};
-use fault_answers::fault_answer;
 use job_threads::Unobserved;
+use line_rules::fault_answer;
 use script_text::{Head, Script, ScriptText, read_script};
 use std::alloc::Global;
 use std::io::{Read, Write};

@@ -19,8 +19,8 @@ ghost use Rattle.job_run.specs.RunAnswer.{
 
 use crate::clusters::cluster_of;
 use crate::ending::add_open;
-use fault_answers::fault_answer;
 use job_threads::{Gate, Job, Observer, Record, RunError, Unobserved, run_recorded};
+use line_rules::fault_answer;
 use master_core::Master;
 use master_state::Limits;
 use report_lines::{add_history, add_index};

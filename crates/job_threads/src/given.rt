@@ -97,7 +97,9 @@ fn are_equal(cluster: &Cluster, other: &Cluster) -> bool
 fn are_equal_trees(tree: &RackTree, other: &RackTree) -> bool
     ensures { IsTrue result → tree.now ≡ other.now }
 {
-    tree.centres() == other.centres() && have_equal_racks(tree, other) && have_equal_workers(tree, other)
+    tree.centres() == other.centres()
+        && have_equal_racks(tree, other)
+        && have_equal_workers(tree, other)
 }
 
 fn have_equal_racks(tree: &RackTree, other: &RackTree) -> bool

@@ -5,6 +5,8 @@ pub mod Counted
 pub mod Fits
 pub mod Steps
 pub mod OneReading
+pub mod OneFault
+pub mod LeastFault
 pub mod LineErrors
 pub mod Least
 pub mod Saying

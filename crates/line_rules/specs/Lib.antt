@@ -4,5 +4,6 @@ pub mod Known
 pub mod Rows
 pub mod Counts
 pub mod Faults
+pub mod Faulty
 pub mod Texts
 pub mod Reading

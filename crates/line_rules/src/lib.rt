@@ -5,10 +5,11 @@
 //! may be (`specs/Entering.antt`). `KnownLines` holds what was entered, in one table, and answers the least
 //! fault of a line; each fault is one definition over the places of a line (`specs/Faults.antt`) and one test
 //! here.
-//! `read_lines` takes all lines of a text, or answers its least fault (`specs/Texts.antt`). Above it, values
-//! are made of what was entered.
+//! `read_lines` takes all lines of a text, or answers its least fault (`specs/Texts.antt`), which
+//! `fault_answer` tells. Above it, values are made of what was entered.
 #![tactic(auto)]
 
+pub mod answer;
 mod counts;
 pub mod edition;
 pub mod entering;
@@ -21,6 +22,7 @@ pub mod rule;
 pub mod rules;
 pub mod section;
 
+pub use answer::fault_answer;
 pub use edition::{Edition, Version};
 pub use entering::{Entering, Follow};
 pub use known::KnownLines;

@@ -35,9 +35,13 @@ fn played(alloc: Global, script: &str, on: &str) -> Option<(PlayEnd, String)> {
 #[test]
 fn a_script_is_played_on_a_cluster_that_it_fits(rt: HostRuntime) {
     let alloc = rt.alloc();
-    let script = format!(in alloc; "{HEAD}wave\ndone 1\nreduce\ndone 2\nend\n").expect(&rt, "no memory");
+    let script = format!(in alloc; "{HEAD}wave\ndone 1\nreduce\ndone 2\nend\n").expect(
+        &rt,
+        "no memory",
+    );
     let (end, lines) = played(alloc, script.as_str(), script.as_str()).expect(&rt, "not played");
-    let wanted = "accepted 1\nwave 1 0\nstart 1 s a\naccepted 2\naccepted 3\nreduce 2 0 a\naccepted 4\n\
+    let wanted =
+        "accepted 1\nwave 1 0\nstart 1 s a\naccepted 2\naccepted 3\nreduce 2 0 a\naccepted 4\n\
                   index 2\nword cat d\nword the d\n";
     assert_eq!(rt; end, PlayEnd::Done);
     assert_eq!(rt; lines.as_str(), wanted);

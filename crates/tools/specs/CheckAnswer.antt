@@ -13,7 +13,7 @@ use Rattle.line_rules.specs.Texts.{ReadsAs}
 use Rattle.line_rules.specs.declared.purpose.Purpose.TheVariants.{Checking}
 use Rattle.plan_text.specs.Value.{DeclaresWave, prices, starts}
 use Rattle.plan_text.specs.Report.{certified_line, refused_line}
-use Rattle.fault_answers.specs.Faulty.{IsFaulty}
+use Rattle.line_rules.specs.Faulty.{IsFaulty}
 use Rattle.tools.specs.declared.ending.CheckEnd.{CheckEnd}
 use Rattle.tools.specs.declared.ending.CheckEnd.TheVariants.{Certified, Refused}
 

@@ -10,7 +10,7 @@ use Rattle.line_rules.proofs.OneReading.{reads-faultless, reads-unique}
 use Rattle.plan_text.specs.Report.{refused_line}
 use Rattle.plan_text.specs.Value.{DeclaresWave}
 use Rattle.text_reading.specs.Running.{HasOneAnswer, AnyLines}
-use Rattle.fault_answers.proofs.OneFault.{one_fault}
+use Rattle.line_rules.proofs.OneFault.{one_fault}
 use Rattle.plan_text.proofs.OneWave.{same_bars, same_parts}
 use Rattle.tools.specs.CheckAnswer.{AnswersRead, CheckAnswer, Judges, declared_claim}
 use Rattle.tools.specs.PlanAnswer.{PlanAnswer}

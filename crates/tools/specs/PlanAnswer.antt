@@ -14,7 +14,7 @@ use Rattle.line_rules.specs.declared.purpose.Purpose.TheVariants.{Planning}
 use Rattle.plan_text.specs.Value.{DeclaresWave}
 use Rattle.plan_text.specs.Report.{certified_line, lines_of_plan, price_lines, start_lines, wave_line}
 use Rattle.written_plan.specs.Joined.{IsWritable, with_plan}
-use Rattle.fault_answers.specs.Faulty.{IsFaulty}
+use Rattle.line_rules.specs.Faulty.{IsFaulty}
 use Rattle.tools.specs.CheckAnswer.{CheckAnswer}
 use Rattle.tools.specs.declared.ending.CheckEnd.TheVariants.{Certified}
 use Rattle.tools.specs.declared.ending.PlanEnd.{PlanEnd}

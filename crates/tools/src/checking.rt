@@ -8,7 +8,7 @@ ghost use Rattle.tools.specs.OneAnswer.{one_check_answer};
 
 use crate::ending::CheckEnd;
 use certificate_checker::{Certified, CheckError, certify, certify_on};
-use fault_answers::fault_answer;
+use line_rules::fault_answer;
 use plan_text::check_report::{certified, refused};
 use plan_text::{PlanText, read_plan};
 use price_certificate::Condition;

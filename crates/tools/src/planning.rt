@@ -8,7 +8,7 @@ ghost use Rattle.tools.specs.OneAnswer.{one_plan_answer};
 
 use crate::ending::PlanEnd;
 use command_line::asked::PlanOptions;
-use fault_answers::fault_answer;
+use line_rules::fault_answer;
 use plan_text::plan_report::{add_prices, planned};
 use plan_text::{ProblemText, read_problem};
 use std::alloc::{AllocError, Global};

@@ -1,6 +1,6 @@
 use Rattle.std.proofs.Common.{string_bytes}
 use Rattle.line_rules.specs.declared.purpose.Purpose.TheVariants.{Running}
-use Rattle.fault_answers.proofs.LeastFault.{tells_least}
+use Rattle.line_rules.proofs.LeastFault.{tells_least}
 use Rattle.job_run.proofs.Ran.{runs_read}
 use Rattle.job_run.proofs.running.answer_job.Goals as goal
 

@@ -1,6 +1,6 @@
 use Rattle.std.proofs.Common.{Err, ap, string_bytes}
 use Rattle.line_rules.specs.declared.purpose.Purpose.TheVariants.{Playing}
-use Rattle.fault_answers.proofs.LeastFault.{tells_least}
+use Rattle.line_rules.proofs.LeastFault.{tells_least}
 use Rattle.job_run.proofs.Answered.{full_in_playing, plays_read, runs_out_in}
 use Rattle.job_run.proofs.playing.PlayerCommand.answer.Goals as goal
 

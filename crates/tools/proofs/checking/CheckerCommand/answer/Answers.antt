@@ -1,6 +1,6 @@
 use Rattle.std.proofs.Common.{string_bytes}
 use Rattle.line_rules.specs.declared.purpose.Purpose.TheVariants.{Checking}
-use Rattle.fault_answers.proofs.LeastFault.{tells_least}
+use Rattle.line_rules.proofs.LeastFault.{tells_least}
 use Rattle.tools.proofs.checking.CheckerCommand.answer.Goals as goal
 
 pub returns-in_ok-line-in-Err-clause-answers : goal.returns-in_ok-line-in-Err-clause-answers

@@ -1,7 +1,7 @@
 use Rattle.std.proofs.Common.{string_bytes}
 use Rattle.line_rules.specs.declared.purpose.Purpose.TheVariants.{Planning}
 use Rattle.tools.proofs.BestPlans.{plans_read}
-use Rattle.fault_answers.proofs.LeastFault.{tells_least}
+use Rattle.line_rules.proofs.LeastFault.{tells_least}
 use Rattle.tools.proofs.planning.PlannerCommand.answer.Goals as goal
 
 pub returns-in_ok-plan_lines-in-Ok-clause-answers : goal.returns-in_ok-plan_lines-in-Ok-clause-answers

@@ -4,7 +4,7 @@ use Rattle.text_lines.specs.declared.fault.TextFault.{TextFault}
 use Rattle.line_rules.specs.declared.purpose.Purpose.{Purpose}
 use Rattle.line_rules.proofs.OneReading.{least_fault-unique}
 use Rattle.text_reading.specs.FaultLine.{fault_line}
-use Rattle.fault_answers.specs.Faulty.{IsFaulty}
+use Rattle.line_rules.specs.Faulty.{IsFaulty}
 
 pub one_fault : (purpose : Purpose) (text : List ℕ) (f g : TextFault) (x y : List ℕ) →
     IsFaulty purpose text f x

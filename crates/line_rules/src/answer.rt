@@ -1,14 +1,7 @@
-//! What every command answers to a text with a fault: the line of its least fault.
-//!
-//! A command that reads its text by the rules of `line_rules` gets a text's least fault in place of what the
-//! text says, or finds no memory. `fault_answer` makes the line of the fault, and hands the fault on; below
-//! stands `text_reading`, above it the commands.
-#![tactic(auto)]
-
 ghost use Rattle.std.specs.Prelude.{IfOk, string_bytes};
-ghost use Rattle.fault_answers.specs.Faulty.{TellsFault};
+ghost use Rattle.line_rules.specs.Faulty.{TellsFault};
 
-use line_rules::ReadingError;
+use crate::reading::ReadingError;
 use std::alloc::{AllocError, Global};
 use text_lines::TextFault;
 use text_reading::faulty;

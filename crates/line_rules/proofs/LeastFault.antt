@@ -7,7 +7,7 @@ use Rattle.line_rules.specs.Reading.{IsReadingError}
 use Rattle.line_rules.specs.declared.reading.ReadingError.{ReadingError}
 use Rattle.line_rules.specs.declared.reading.ReadingError.TheVariants as reading
 use Rattle.text_reading.specs.FaultLine.{fault_line}
-use Rattle.fault_answers.specs.Faulty.{IsFaulty, TellsFault}
+use Rattle.line_rules.specs.Faulty.{IsFaulty, TellsFault}
 
 pub tells_least : (purpose : Purpose) (text : List ℕ) (error : ReadingError) (fault : TextFault)
     (line : List ℕ)
