@@ -109,7 +109,7 @@ fn have_equal_racks(tree: &RackTree, other: &RackTree) -> bool
         return false;
     }
     for number in 0..tree.racks() {
-        let rack = RackNo::new(number as u8);
+        let rack = RackNo::new(number as u16);
         if tree.centre_of(rack) != other.centre_of(rack) {
             return false;
         }
