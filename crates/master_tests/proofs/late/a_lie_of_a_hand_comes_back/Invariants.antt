@@ -1,0 +1,5 @@
+use Rattle.master_tests.proofs.late.a_lie_of_a_hand_comes_back.Given as goal
+
+-- the ledger of the blank
+abbrev pub ghosts-settle_by_hand : goal.ghosts-settle_by_hand
+ghosts-settle_by_hand g a = record { name = a.blank.name; parts = a.blank.parts }
