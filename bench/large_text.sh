@@ -9,5 +9,5 @@ scripts/make_texts.py large 1 > "$text"
 echo "$(stat -c %s "$text") bytes, $(wc -l < "$text") lines"
 TIMEFORMAT="%R s"
 for _ in 1 2 3 4 5; do
-    time bin/mrjob check < "$text"
+    time "${MRJOB:-bin/mrjob}" check < "$text"
 done

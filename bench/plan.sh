@@ -7,6 +7,7 @@
 # usage: plan.sh [CENTRES]    with the racks in so many data centres, of one where none is given
 set -euo pipefail
 cd "$(dirname "$0")/.."
+mrjob=${MRJOB:-bin/mrjob}
 bench/needs_lemon
 room=$(mktemp -d)
 trap 'rm -rf "$room"' EXIT
@@ -15,7 +16,7 @@ g++ -std=c++17 -O2 -o "$room/plan_by_paths" bench/plan_by_paths.cc
 
 run() { # PROGRAM NETWORK
     case "$1 $2" in
-        mrjob*) bin/mrjob plan --network "$2" ;;
+        mrjob*) "$mrjob" plan --network "$2" ;;
         lemon*) "$room/plan_by_lemon" "$2" ;;
         plain*) "$room/plan_by_paths" "$2" ;;
     esac

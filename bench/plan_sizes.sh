@@ -8,6 +8,7 @@ set -euo pipefail
 picture=
 if [ "${1:-}" = --plot ]; then picture=$(realpath "$2"); fi
 cd "$(dirname "$0")/.."
+mrjob=${MRJOB:-bin/mrjob}
 bench/needs_lemon
 room=$(mktemp -d)
 trap 'rm -rf "$room"' EXIT
@@ -34,7 +35,7 @@ take_times() {
                 bench/make_problems.py $shape $splits 1 $workers > "$room/text"
                 least=()
                 for _ in {1..40}; do
-                    take_time ours bin/mrjob plan --network racks
+                    take_time ours "$mrjob" plan --network racks
                     take_time theirs "$room/plan_by_lemon" racks
                 done
                 cmp "$room/ours" "$room/theirs"

@@ -12,7 +12,7 @@ sys.dont_write_bytecode = True
 sys.path.append(str(Path(__file__).resolve().parent.parent / "contrib"))
 from drawing import Drawing, FILLS, width_of
 
-WIDE, HIGH, GAP = 330, 300, 90
+WIDE, HIGH, GAP = 250, 250, 78
 COLOURS = ["good", "near", "bad"]
 STEPS = [times * 10**power for power in range(7) for times in (1, 2, 5)]
 
@@ -81,7 +81,7 @@ def draw(title, times):
             for which, is_ours in ((1, False), (0, True)):
                 sizes = {splits: both[which] for splits, both in of.get(workers_, {}).items()}
                 panel.curve(drawing, sizes, colour, is_ours)
-    drawing.text(0, 80 + HIGH + 40, "microseconds of a whole process, by splits", 11, "faint")
+    drawing.text(0, 80 + HIGH + 40, "microseconds of a whole process, by splits; both scales are logarithmic", 11, "faint")
     return drawing
 
 

@@ -69,7 +69,10 @@ start scripts/another_ledger.py
 start scripts/edits.py
 count_all
 # (`rt lib` takes away libraries that the edits are tried over)
+rm -f lib/libmrjob.so
 start scripts/c_library.sh "${programs[@]:0:1}"
+# (that makes the library first, by which jobs of Dask are planned too)
+until [ -e lib/libmrjob.so ] || ! kill -0 "${started[0]}" 2> /dev/null; do sleep 1; done
 start scripts/dask.py "${programs[@]}"
 count_all
 echo "$passed passed, $failed failed"

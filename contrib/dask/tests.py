@@ -3,7 +3,8 @@
 
     tests.py PROGRAM            by the built program, from the folder of the repository
 
-The last line is 'N passed, M failed'.
+Where the C library stands, in lib/ or where MRJOB_LIBRARY says, jobs are planned by it too; else a line says that this
+was skipped. The last line is 'N passed, M failed'.
 """
 from __future__ import annotations
 
@@ -15,14 +16,17 @@ import threading
 from http.server import BaseHTTPRequestHandler, ThreadingHTTPServer
 from pathlib import Path
 from random import Random
+from typing import Optional
 from urllib.parse import parse_qs, urlsplit
 
 sys.dont_write_bytecode = True
 from blocks import as_hdfs
 from job import Work
-from planner import Command, Library, Place, Planner, Split, Unfit, Wave, planner_of, wave_of
-from test_jobs import jobs
-from trial import NAMES, ROOT, Count, Trial, index_of, place_of
+from calls import look
+from cluster import until
+from planner import Command, Library, Place, Plan, Planner, Split, Unfit, Wave, planner_of, wave_of
+from test_jobs import jobs, judged
+from trial import NAMES, ROOT, Count, Gate, Trial, index_of, place_of
 from words import blocks_of, index_lines, map_words, reduce_words
 
 import reference_check
@@ -81,14 +85,36 @@ def misplanned(planner: Planner, wave: Wave) -> bool:
     return not is_fit or (len(pairs), cost) != reference_check.most_and_least(direct) or plan.cost != cost
 
 
-def waves(program: str, count: Count) -> None:
+class Both(Planner):
+    """Asks two planners, and keeps the count and the cost that each of them gave to each wave."""
+
+    def __init__(self, one: Planner, other: Planner) -> None:
+        self.planners, self.totals = (one, other), []
+
+    def plan(self, wave: Wave) -> Plan:
+        plans = [it.plan(wave) for it in self.planners]
+        self.totals.append([(len(it.starts), it.cost) for it in plans])
+        return plans[0]
+
+    def differing(self) -> list:
+        return [totals for totals in self.totals if totals[0] != totals[1]]
+
+
+def the_library() -> Optional[Planner]:
+    """The planner by the C library, where that stands."""
+    try:
+        return Library(True)
+    except ImportError as why:
+        print(f"the library was skipped: {why}", flush=True)
+        return None
+
+
+def waves(program: str, library: Optional[Planner], count: Count) -> None:
     """Plans of small clusters are best, by the reference, and are checked."""
     words = f"{program} plan"
     planners: dict[str, Planner] = {"plan": Command(words), "plan and check": Command(words, True)}
-    try:
-        planners["the library"] = Library(True)
-    except ImportError as why:
-        print(f"the library was left out: {why}")
+    if library:
+        planners["the library"] = library
     for name, planner in planners.items():
         wrong = [seed for seed in range(100) if misplanned(planner, some_wave(Random(seed)))]
         count.holds(f"100 clusters, by {name}: each plan is best, by the reference", not wrong, wrong)
@@ -155,26 +181,57 @@ def index(trial: Trial, *asked: str) -> tuple[str, str, int]:
     return ran.stdout, ran.stderr, ran.returncode
 
 
-def command(program: str, trial: Trial, count: Count) -> None:
-    """The command over a folder, whose index `mrjob run` gives as well."""
-    room = trial.here.disk("folder")
-    room.mkdir()
-    for name, text in trial.documents:
-        (room / name).write_bytes(text)
-    report, out, told = (trial.here.disk(name) for name in ("report", "index", "history"))
-    ended = index(trial, str(room), "--planner", f"{program} plan", "--check", "--block", str(5000), "--parts", "3",
+def reported(trial: Trial, count: Count, by: str, planner: str) -> list[dict]:
+    """What index.py reports over a folder by a planner; its index is that which `mrjob run` gives as well."""
+    report, out, told = (trial.here.disk(f"{name}-{by}") for name in ("report", "index", "history"))
+    says, room = f"index.py FOLDER by {by}", trial.here.disk("folder")
+    until(lambda: not any(it.busy for it in look(trial.here.client, []).workers.values()), "no worker is busy")
+    ended = index(trial, str(room), "--planner", planner, "--check", "--block", str(5000), "--parts", "3",
                   "--report", str(report), "--out", str(out), "--history", str(told))
-    count.holds("index.py FOLDER ends well", (ended[0], ended[2]) == ("", 0), ended)
+    count.holds(f"{says} ends well", (ended[0], ended[2]) == ("", 0), ended)
     lines = out.read_text().splitlines() if out.exists() else []
-    count.holds("index.py FOLDER: the index is that of the reference", lines == trial.wanted)
+    count.holds(f"{says}: the index is that of the reference", lines == trial.wanted)
     rows = [json.loads(line) for line in report.read_text().splitlines()]
     starts, whole = [row for row in rows if "attempt" in row], rows[-1]
     cost = sum(row["distance"] * row["bytes"] for row in starts)
     adds_up = cost == whole["cost"] == sum(row["cost"] for row in rows[:-1] if "cost" in row)
     total = sum(len(text) for _, text in trial.documents)
-    count.holds("index.py FOLDER: its report adds up", adds_up and sum(row["bytes"] for row in starts) == total, whole)
+    count.holds(f"{says}: its report adds up", adds_up and sum(row["bytes"] for row in starts) == total, whole)
     wrong = misplayed(Path(f"{told}.txt").read_bytes(), Path(f"{told}.out").read_bytes(), 1)
-    count.holds("index.py FOLDER: its maps are a legal history, by the reference", wrong is None, wrong)
+    count.holds(f"{says}: its maps are a legal history, each wave best, by the reference", wrong is None, wrong)
+    return rows
+
+
+def command(program: str, library: Optional[Planner], trial: Trial, count: Count) -> None:
+    """The command over a folder, by the program and by the library."""
+    room = trial.here.disk("folder")
+    room.mkdir()
+    for name, text in trial.documents:
+        (room / name).write_bytes(text)
+    rows = reported(trial, count, "plan", f"{program} plan")
+    if library:
+        others = reported(trial, count, "library", "library")
+        # (when a slot is free again is nobody's to say, so later waves are those of one run alone)
+        is_same = rows[0] == others[0]
+        count.holds("index.py by library: its first wave has plan's count and cost", is_same, rows[0], others[0])
+        started = [sorted(row["split"] for row in it if "attempt" in row) for it in (rows, others)]
+        count.holds("index.py by library: it starts what plan starts", started[0] == started[1], *started)
+
+
+def both(program: str, library: Optional[Planner], trial: Trial, count: Count) -> None:
+    """A job by the library, of whose waves the program is asked as well."""
+    if not library:
+        return
+    usual, trial.planner = trial.planner, Both(library, Command(f"{program} plan"))
+    with trial.room() as room:
+        job = trial.job(trial.keys(), Gate(room), set(), lambda job: None)
+        lines = index_lines(job.run())
+    asked, trial.planner = trial.planner, usual
+    count.holds("by the library: the index is that of the reference", lines == trial.wanted)
+    wrong = asked.differing()
+    count.holds("by the library: each wave has the count and cost of the program's", len(job.waves) > 1 and not wrong,
+                len(job.waves), wrong)
+    judged(job, count, "by the library")
 
 
 def tables(program: str, trial: Trial, count: Count) -> None:
@@ -229,15 +286,17 @@ def hdfs(program: str, trial: Trial, count: Count) -> None:
 
 def main() -> int:
     program = os.path.abspath(sys.argv[1])
-    count = Count()
+    count, library = Count(), the_library()
     words(count)
     placing(count)
-    waves(program, count)
+    waves(program, library, count)
     faults(program, count)
 
     def commands(trial: Trial, count: Count) -> None:
-        for tried in (command, tables, hdfs):
-            tried(program, trial, count)
+        command(program, library, trial, count)
+        both(program, library, trial, count)
+        tables(program, trial, count)
+        hdfs(program, trial, count)
 
     jobs(planner_of(f"{program} plan", True), count, commands)
     print(f"{count.passed} passed, {count.failed} failed")
