@@ -81,7 +81,8 @@ def draw(title, times):
             for which, is_ours in ((1, False), (0, True)):
                 sizes = {splits: both[which] for splits, both in of.get(workers_, {}).items()}
                 panel.curve(drawing, sizes, colour, is_ours)
-    drawing.text(0, 80 + HIGH + 40, "microseconds of a whole process, by splits; both scales are logarithmic", 11, "faint")
+    says = "microseconds of a whole process, by splits; both scales are logarithmic"
+    drawing.text(0, 80 + HIGH + 40, says, 11, "faint")
     return drawing
 
 
