@@ -3,7 +3,7 @@
 and jobs.
 
     make_texts.py KIND SEED        writes one text; KIND is best, changed, faulty, problem, faulty_problem, script,
-                                   faulty_script, job, faulty_job, full or large
+                                   faulty_script, job, wide_job, faulty_job, full or large
 """
 import random
 import sys
@@ -305,6 +305,17 @@ def job(rnd):
     return text_of(job_lines(rnd))
 
 
+def wide_job(rnd):
+    """A job of 32 workers, 64 parts and 300 splits."""
+    words, workers = ["one", "two", "The", "the", "x1y", "zebra"], [f"w{at}" for at in range(32)]
+    lines = ["job 1", "parts 64", "silence 1", "rack r", "rack q"]
+    lines += [f"worker {name} {rnd.choice('rq')} {rnd.choice([1, 16])}" for name in workers]
+    for at in range(300):
+        lines.append(" ".join([f"split s{at} {rnd.randint(0, 99)}", *rnd.sample(workers, rnd.randint(1, 8))]))
+        lines.append(" ".join([f"doc d{at} s{at}", *rnd.choices(words, k=9)]))
+    return text_of([*lines, "end"])
+
+
 def faulty_job(rnd):
     """A job in which a line or a byte was spoiled."""
     return spoiled(rnd, job_lines(rnd))
@@ -377,6 +388,7 @@ KINDS = {
     "script": script,
     "faulty_script": faulty_script,
     "job": job,
+    "wide_job": wide_job,
     "faulty_job": faulty_job,
     "faulty_problem": faulty_problem,
     "full": full,

@@ -5,12 +5,14 @@
 
 - The made jobs of job_tests under their made gates, 10,000 of them; and how many blocks of memory a process holds at
   the end of one of them, and of 1,000.
-- Jobs of make_texts.py by `mrjob run`: bound to one processor, and at the lowest priority beside a spinning process for
-  each processor. Each has its own index, or is stuck, with all that nobody holds among what is left.
+- Jobs of make_texts.py by `mrjob run`, and 300 of those made jobs: bound to one processor, and at the lowest priority
+  beside a spinning process for each processor. Each has its own index, or is stuck, with all that nobody holds among
+  what is left.
 - A script of 65,536 commands, more than 1,000 waves among them, followed by reference_play.py.
 
-A failing seed can be run alone: SEEDS="17 17" crates/job_tests/out/job_tests_tests made, or the text that
-`make_texts.py job 17` writes. The last line is 'N passed, M failed'.
+A failing seed can be run alone: with SEEDS="17 17" in the environment the tests of job_tests run
+made::made_jobs_have_no_other_index on it alone, and `make_texts.py job 17` writes the text of a job. The last line is
+'N passed, M failed'.
 """
 import os
 import random
@@ -42,6 +44,7 @@ class Sizes:
     def __init__(self, is_short):
         # (the first 300 made jobs are a test, which the gate has run)
         self.gates = 0 if is_short else 10_000
+        self.crowded = 0 if is_short else 300
         self.held = 100 if is_short else 1_000
         self.jobs = 12 if is_short else 200
         self.commands = 4_000 if is_short else 65_536
@@ -66,24 +69,29 @@ def seeds_in_parts(count):
     return [(first, after - 1) for first, after in zip(edges, edges[1:])]
 
 
-def run_seeds(first, last):
+def run_seeds(before, first, last):
     """The two lines of figures that the made jobs of these seeds come to."""
-    said, status, _ = ran([TESTS, MADE], env={"SEEDS": f"{first} {last}"})
+    said, status, _ = ran([*before, "env", f"SEEDS={first} {last}", TESTS, MADE])
     lines = re.findall(r"\d+ (?:runs:|workers stopped,) .*", said.decode())
-    if status or len(lines) != 2:
+    if status or len(lines) != 2 or not lines[0].startswith(f"{last - first + 1} runs:"):
         raise Failure(f"made jobs of the seeds {first} to {last}: status {status}: {said.decode()[-2000:]}")
     return lines
 
 
-def made_gates(_program, sizes, pool):
-    """The made jobs under their made gates, side by side; the figures of all."""
+def run_gates(before, count, pool):
+    """The made jobs under their made gates, some side by side; the figures of all."""
     sums = Counter()
     kinds = {}
-    for lines in pool.map(lambda it: run_seeds(*it), seeds_in_parts(sizes.gates)):
+    for lines in pool.map(lambda it: run_seeds(before, *it), seeds_in_parts(count)):
         for number, kind in re.findall(r"(?:at most )?(\d+) ([a-z ]+)", ", ".join(lines)):
             kinds[kind] = None
             sums[kind] = max(sums[kind], int(number)) if kind == "turns" else sums[kind] + int(number)
     return ", ".join(f"{'at most ' if kind == 'turns' else ''}{sums[kind]} {kind}" for kind in kinds)
+
+
+def made_gates(_program, sizes, pool):
+    """The made jobs under their made gates, side by side."""
+    return run_gates([], sizes.gates, pool)
 
 
 def held_blocks(shim, count):
@@ -113,19 +121,9 @@ def memory(_program, sizes, _pool):
 
 
 def job_texts(count):
-    """Made jobs, of which one in 20 has 32 workers, 64 parts and 300 splits."""
-    makes = [(seed, wide_job if seed % 20 == 0 else make_texts.job) for seed in range(1, count + 1)]
-    return [(seed, make(random.Random(seed))) for seed, make in makes]
-
-
-def wide_job(rnd):
-    words, workers = ["one", "two", "The", "the", "x1y", "zebra"], [f"w{at}" for at in range(32)]
-    lines = ["job 1", "parts 64", "silence 1", "rack r", "rack q"]
-    lines += [f"worker {name} {rnd.choice('rq')} {rnd.choice([1, 16])}" for name in workers]
-    for at in range(300):
-        lines.append(" ".join([f"split s{at} {rnd.randint(0, 99)}", *rnd.sample(workers, rnd.randint(1, 8))]))
-        lines.append(" ".join([f"doc d{at} s{at}", *rnd.choices(words, k=9)]))
-    return make_texts.text_of([*lines, "end"])
+    """Made jobs, each with the words by which make_texts.py writes it; one in 20 is wide."""
+    kinds = [(seed, "wide_job" if seed % 20 == 0 else "job") for seed in range(1, count + 1)]
+    return [(f"{kind} {seed}", make_texts.KINDS[kind](random.Random(seed))) for seed, kind in kinds]
 
 
 def wrong_run(said, text):
@@ -135,7 +133,9 @@ def wrong_run(said, text):
         return False, None
     first, *rest = lines.decode().split("\n")[:-1] or [""]
     left = [line for line in wanted[0].decode().split("\n") if line.startswith("open ")]
-    if status == 1 and first == f"stuck {len(rest)}" and set(left) <= set(rest) and len(set(rest)) == len(rest):
+    splits = [f"open {name}" for name in re.findall(r"^split (\S+)", text.decode(), re.M)]
+    is_stuck = status == 1 and first == f"stuck {len(rest)}" and rest == [line for line in splits if line in rest]
+    if is_stuck and set(left) <= set(rest):
         # (a thread that gets no processor for long enough passes for dead, and what it holds for lost)
         return True, None
     return False, f"it ends with {status}, {words}, {lines}, and the reference with {wanted}"
@@ -145,10 +145,10 @@ def run_all(program, before, texts, pool):
     stuck = done = 0
     began = time.monotonic()
     longest = 0
-    for (seed, text), (said, took) in zip(texts, pool.map(lambda it: timed_run(program, before, it[1]), texts)):
+    for (name, text), (said, took) in zip(texts, pool.map(lambda it: timed_run(program, before, it[1]), texts)):
         is_stuck, wrong = wrong_run(said, text)
         if wrong:
-            raise Failure(f"{' '.join(before)} job {seed}: {wrong}")
+            raise Failure(f"{' '.join(before)}, {name}: {wrong}")
         stuck, done, longest = stuck + is_stuck, done + (said[1] == 0), max(longest, took)
     whole = time.monotonic() - began
     return (f"{len(texts)} runs: {done} done, {len(texts) - done} stuck, of these {stuck} by the schedule; "
@@ -160,16 +160,22 @@ def timed_run(program, before, text):
     return ran([*before, program, "run"], text), time.monotonic() - began
 
 
+def crowded(program, before, sizes, pool):
+    """Jobs of both kinds by this command, some side by side."""
+    told = run_all(program, before, job_texts(sizes.jobs), pool)
+    return f"{told}; {run_gates(before, sizes.crowded, pool)}" if sizes.crowded else told
+
+
 def on_one_processor(program, sizes, pool):
-    """Jobs that share one processor, some side by side."""
-    return run_all(program, ["taskset", "-c", str(PROCESSORS[-1])], job_texts(sizes.jobs), pool)
+    """Jobs that share one processor."""
+    return crowded(program, ["taskset", "-c", str(PROCESSORS[-1])], sizes, pool)
 
 
 def beside_spinners(program, sizes, pool):
     """Jobs at the lowest priority, beside as many spinning processes as there are processors."""
     spinners = [subprocess.Popen(["/bin/sh", "-c", "while :; do :; done"]) for _ in PROCESSORS]
     try:
-        return run_all(program, ["nice", "-n", "19"], job_texts(sizes.jobs), pool)
+        return crowded(program, ["nice", "-n", "19"], sizes, pool)
     finally:
         for spinner in spinners:
             spinner.kill()
