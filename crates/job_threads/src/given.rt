@@ -149,7 +149,25 @@ fn are_equal_splits(splits: &[SplitLine], others: &[SplitLine]) -> bool
 fn is_equal(split: &SplitLine, other: &SplitLine) -> bool
     ensures { IsTrue result → split.now ≡ other.now }
 {
-    split.bytes == other.bytes
-        && split.pending == other.pending
-        && split.holders.as_slice() == other.holders.as_slice()
+    if split.bytes != other.bytes {
+        return false;
+    }
+    if split.pending != other.pending {
+        return false;
+    }
+    are_equal_holders(&split.holders, &other.holders)
+}
+
+fn are_equal_holders(holders: &[WorkerNo], others: &[WorkerNo]) -> bool
+    ensures { IsTrue result → holders.now ≡ others.now }
+{
+    if holders.len() != others.len() {
+        return false;
+    }
+    for place in 0..holders.len() {
+        if holders[place] != others[place] {
+            return false;
+        }
+    }
+    true
 }
