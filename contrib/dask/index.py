@@ -18,6 +18,7 @@ from __future__ import annotations
 
 import argparse
 import itertools
+import logging
 import os
 import sys
 from contextlib import contextmanager, nullcontext
@@ -147,6 +148,8 @@ def run(asked: argparse.Namespace) -> None:
             write_all(job, index_lines(job.run()), asked)
         finally:
             blocks.close()
+            # (Dask leaves a timer behind as a client closes, which may run out unheard: asyncio would tell of it)
+            logging.getLogger("asyncio").setLevel(logging.CRITICAL)
 
 
 def main() -> int:
