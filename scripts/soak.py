@@ -5,7 +5,7 @@
 
 - The made jobs of job_tests under their made gates, 10,000 of them; and how many blocks of memory a process holds at
   the end of one of them, and of 1,000.
-- Jobs of make_texts.py by `mrjob run`, and 300 of those made jobs: bound to one processor, and at the lowest priority
+- Jobs of make_texts.py by `mrjob run`: bound to one processor, as 300 of the made jobs are, and at the lowest priority
   beside a spinning process for each processor. Each has its own index, or is stuck, with all that nobody holds among
   what is left.
 - A script of 65,536 commands, more than 1,000 waves among them, followed by reference_play.py.
@@ -160,22 +160,20 @@ def timed_run(program, before, text):
     return ran([*before, program, "run"], text), time.monotonic() - began
 
 
-def crowded(program, before, sizes, pool):
-    """Jobs of both kinds by this command, some side by side."""
+def on_one_processor(program, sizes, pool):
+    """Jobs of both kinds that share one processor, some side by side."""
+    before = ["taskset", "-c", str(PROCESSORS[-1])]
     told = run_all(program, before, job_texts(sizes.jobs), pool)
     return f"{told}; {run_gates(before, sizes.crowded, pool)}" if sizes.crowded else told
 
 
-def on_one_processor(program, sizes, pool):
-    """Jobs that share one processor."""
-    return crowded(program, ["taskset", "-c", str(PROCESSORS[-1])], sizes, pool)
-
-
 def beside_spinners(program, sizes, pool):
     """Jobs at the lowest priority, beside as many spinning processes as there are processors."""
-    spinners = [subprocess.Popen(["/bin/sh", "-c", "while :; do :; done"]) for _ in PROCESSORS]
+    # (they end with this process, however it ends)
+    spin = ["/bin/sh", "-c", "while kill -0 $0; do :; done", str(os.getpid())]
+    spinners = [subprocess.Popen(spin, stderr=subprocess.DEVNULL) for _ in PROCESSORS]
     try:
-        return crowded(program, ["nice", "-n", "19"], sizes, pool)
+        return run_all(program, ["nice", "-n", "19"], job_texts(sizes.jobs), pool)
     finally:
         for spinner in spinners:
             spinner.kill()
