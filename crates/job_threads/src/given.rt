@@ -1,4 +1,5 @@
 ghost use Rattle.std.specs.Prelude.{◌≡◌, IfOk, IsTrue};
+ghost use Rattle.shuffle_reduce.specs.Gather.{values_of};
 
 use master_core::{Cluster, Master};
 use master_state::Limits;
