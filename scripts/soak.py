@@ -42,7 +42,7 @@ class Sizes:
     """How much is run, of each kind."""
 
     def __init__(self, is_short):
-        # (the first 300 made jobs are a test, which the gate has run)
+        # (the first 500 made jobs are a test, which the gate has run)
         self.gates = 0 if is_short else 10_000
         self.crowded = 0 if is_short else 300
         self.held = 100 if is_short else 1_000
