@@ -41,6 +41,7 @@ fn a_split_that_nobody_holds_is_left(rt: HostRuntime) {
     let gate = Stops {
         seen: Seen::new(),
         worker: WorkerNo::new(31),
+        every: 65_536,
     };
     let told = run_rows(&rt, rt.alloc(), &[1], &rows, AMPLE, &gate);
     assert!(rt; told.is_stuck_with(" 1"), "{told:?}");
@@ -52,6 +53,7 @@ fn a_cluster_without_workers_is_stuck(rt: HostRuntime) {
     let gate = Stops {
         seen: Seen::new(),
         worker: WorkerNo::new(0),
+        every: 1024,
     };
     let told = run_rows(&rt, rt.alloc(), &[], &rows, AMPLE, &gate);
     assert!(rt; told.is_stuck_with(" 0"), "{told:?}");

@@ -5,6 +5,10 @@ use node_ids::WorkerNo;
 use std::sync::atomic::{AtomicU64, Ordering};
 use std::thread;
 
+// Once in so many idle turns a gate sweeps that is to see workers that are late, and none that are slow: they last some
+// thirty milliseconds.
+const RARELY: u64 = 8192;
+
 // How often a gate yields before it gives up.
 const PATIENCE: u32 = 10_000_000;
 
@@ -124,11 +128,12 @@ impl Gate for HoldsUntil {
     }
 }
 
-/// Stops a worker in its first turn, and sweeps often.
+/// Stops a worker in its first turn, and sweeps once in so many idle turns.
 #[derive(Drop)]
 pub struct Stops {
     pub seen: Seen,
     pub worker: WorkerNo,
+    pub every: u64,
 }
 
 impl Gate for Stops {
@@ -146,7 +151,7 @@ impl Gate for Stops {
             self.seen.turns.fetch_add(1, Ordering::SeqCst);
             return Turn::Stop(self.worker);
         }
-        self.seen.turn(idle, 1024)
+        self.seen.turn(idle, self.every)
     }
 }
 
@@ -239,7 +244,7 @@ impl Gate for Silences {
     fn turn(&self, idle: u64) -> Turn {
         let held = self.held.load(Ordering::SeqCst);
         if held == 0 {
-            return self.seen.turn(idle, 64);
+            return self.seen.turn(idle, RARELY);
         }
         thread::yield_now();
         if held <= self.sweeps {
@@ -274,7 +279,7 @@ impl Gate for Outlives {
     }
 
     fn turn(&self, idle: u64) -> Turn {
-        self.seen.turn(idle, 64)
+        self.seen.turn(idle, RARELY)
     }
 }
 
