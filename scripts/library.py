@@ -9,6 +9,7 @@ has the same, and shows no names but mrjob_*. Either wants the C library alone. 
 where `make install` puts it. The whole text of what was proved is in lib/build.log.
 """
 import re
+import shutil
 import subprocess
 import sys
 import tempfile
@@ -53,7 +54,8 @@ def link(objects, room):
     names.write_text(EXPORTS)
     words = ["-shared", "-nostdlib", "-fuse-ld=lld", f"-Wl,-soname,{shared.name}", f"-Wl,--version-script={names}"]
     run(tools / "bin/clang", *words, "-Wl,-z,defs", "-o", shared, *objects, tools / "lib/libc.so.6")
-    (LIB / "libmrjob.so").symlink_to(shared.name)
+    # (not a link, which `rt ci` refuses)
+    shutil.copyfile(shared, LIB / "libmrjob.so")
 
 
 def main(words):
