@@ -279,7 +279,7 @@ impl Gate for Outlives {
     }
 
     fn turn(&self, idle: u64) -> Turn {
-        self.seen.turn(idle, RARELY)
+        self.seen.turn(idle, 512)
     }
 }
 
