@@ -1,7 +1,7 @@
 #!/usr/bin/env bash
 # The gate. `rt ci` proves every crate from nothing, tries the must-fail edits and runs the tests. Then, side by side,
-# edits.py tries the edits over the libraries that it left, and the scripts try the programs that it built; at last the
-# C library is made and tried. The last line sums up what all of them counted.
+# edits.py tries the edits over the libraries that it left, and the scripts try the programs that it built; at last jobs
+# on a Dask cluster, where Dask is installed. The last line sums up what all of them counted.
 set -uo pipefail
 cd "$(dirname "$0")/.." || exit 1
 room=$(mktemp -d)
@@ -68,11 +68,7 @@ fi
 start scripts/another_ledger.py
 start scripts/edits.py
 count_all
-# (`rt lib` takes away libraries that the edits are tried over)
-rm -f lib/libmrjob.so
-start scripts/c_library.sh "${programs[@]:0:1}"
-# (that makes the library first, by which jobs of Dask are planned too)
-until [ -e lib/libmrjob.so ] || ! kill -0 "${started[0]}" 2> /dev/null; do sleep 1; done
+# (its workers are processes of their own, which want processors)
 start scripts/dask.py "${programs[@]}"
 count_all
 echo "$passed passed, $failed failed"
