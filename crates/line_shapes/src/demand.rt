@@ -6,7 +6,7 @@ ghost use Rattle.line_shapes.specs.Demands.{MeetIn, MeetsDemand};
 
 use crate::keyword::Keyword;
 use crate::place::Place;
-use text_lines::{Number, is_name};
+use text_lines::{Number, is_name, value_in};
 
 /// What is asked of each word in its place.
 #[derive(Clone, Copy)]
@@ -113,17 +113,7 @@ fn is_within_in(place: Option<Place>, word: &str) -> bool
 fn is_within(word: &str, least: u64, most: u64) -> bool
     ensures { IsTrue result ↔ IsNumberWithin least most word.now }
 {
-    match Number::of(word) {
-        Some(number) => is_between(number, least, most),
-        None => false,
-    }
-}
-
-fn is_between(number: Number<'_>, least: u64, most: u64) -> bool
-    ensures { IsTrue result ↔ ((least ≤ number_of number.entry.digits.now)
-        × (number_of number.entry.digits.now ≤ most)) }
-{
-    match number.value() {
+    match value_in(word) {
         Some(value) => least <= value && value <= most,
         None => false,
     }

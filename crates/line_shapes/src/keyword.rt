@@ -47,43 +47,43 @@ impl Keyword {
     ghost use Rattle.line_shapes.specs.Keywords.{spelling_of};
     ghost use Rattle.line_shapes.specs.declared.keyword.Keyword.{Keyword};
 
-    /// The keyword that is spelled so.
+    /// The keyword that is spelled so. The arms are tried in turn: those of most lines come first.
     pub fn of(word: &str) -> Option<Keyword>
         ensures { MatchOption result ((k : Keyword) → spelling_of k ≡ word.now → ⊥)
             (λ k. spelling_of k ≡ word.now) }
     {
         match word {
-            "problem" => Some(Keyword::Problem),
-            "script" => Some(Keyword::Script),
-            "job" => Some(Keyword::Job),
-            "centre" => Some(Keyword::Centre),
-            "rack" => Some(Keyword::Rack),
-            "worker" => Some(Keyword::Worker),
             "split" => Some(Keyword::Split),
+            "worker" => Some(Keyword::Worker),
+            "done" => Some(Keyword::Done),
+            "wave" => Some(Keyword::Wave),
+            "doc" => Some(Keyword::Doc),
+            "add" => Some(Keyword::Add),
+            "lose" => Some(Keyword::Lose),
+            "fail" => Some(Keyword::Fail),
+            "withdraw" => Some(Keyword::Withdraw),
+            "rack" => Some(Keyword::Rack),
+            "start" => Some(Keyword::Start),
+            "price" => Some(Keyword::Price),
+            "join" => Some(Keyword::Join),
+            "die" => Some(Keyword::Die),
+            "sweep" => Some(Keyword::Sweep),
+            "reduce" => Some(Keyword::Reduce),
+            "backup" => Some(Keyword::Backup),
+            "copies" => Some(Keyword::Copies),
             "barred" => Some(Keyword::Barred),
             "dead" => Some(Keyword::Dead),
             "busy" => Some(Keyword::Busy),
+            "centre" => Some(Keyword::Centre),
             "parts" => Some(Keyword::Parts),
             "target" => Some(Keyword::Target),
             "silence" => Some(Keyword::Silence),
-            "doc" => Some(Keyword::Doc),
-            "plan" => Some(Keyword::Plan),
-            "start" => Some(Keyword::Start),
-            "price" => Some(Keyword::Price),
             "begin" => Some(Keyword::Begin),
-            "wave" => Some(Keyword::Wave),
-            "done" => Some(Keyword::Done),
-            "fail" => Some(Keyword::Fail),
-            "withdraw" => Some(Keyword::Withdraw),
-            "die" => Some(Keyword::Die),
-            "join" => Some(Keyword::Join),
-            "add" => Some(Keyword::Add),
-            "lose" => Some(Keyword::Lose),
-            "sweep" => Some(Keyword::Sweep),
-            "reduce" => Some(Keyword::Reduce),
-            "copies" => Some(Keyword::Copies),
-            "backup" => Some(Keyword::Backup),
+            "plan" => Some(Keyword::Plan),
             "end" => Some(Keyword::End),
+            "problem" => Some(Keyword::Problem),
+            "script" => Some(Keyword::Script),
+            "job" => Some(Keyword::Job),
             _ => None,
         }
     }

@@ -16,6 +16,6 @@ pub mod tables;
 pub use fault::{Fault, TextFault};
 pub use lines::{add_words, printable, split_line, split_word};
 pub use names::is_name;
-pub use number::Number;
+pub use number::{Number, value_in};
 pub use streams::{MAX_READ_BYTES, MAX_READS, ReadError, WriteError, read_text, write_text};
 pub use tables::NameTable;

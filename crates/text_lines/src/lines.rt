@@ -30,7 +30,7 @@ pub fn printable(line: &[u8]) -> Option<&str>
         (λ text. (text.now ≡ line.entry.now) × All IsPrintable line.entry.now) }
 {
     if is_printable(line) {
-        str::from_utf8(line).ok()
+        Some(unsafe { str::from_utf8_unchecked(line) })
     } else {
         None
     }

@@ -1,5 +1,9 @@
-ghost use Rattle.std.specs.Prelude.{◌≡◌, ◌^◌, ◌<◌, ◌↔◌, All, IsTrue, MatchOption, SomeIff};
+ghost use Rattle.std.specs.Prelude.{◌≡◌, ◌≢◌, ◌^◌, ◌<◌, ◌↔◌, All, IsTrue, MatchOption, SomeIff, length};
+ghost use Rattle.std.specs.Prelude.{slice_index};
 ghost use Rattle.text_lines.specs.Texts.{IsDigit, IsNumber, number_of};
+
+// Below this, a digit more gives a number below 2 ^ 64.
+const ROOM_FOR_A_DIGIT: u64 = 1_844_674_407_370_955_161;
 
 /// A number of any size, as the digits of its word.
 #[derive(Clone, Copy)]
@@ -29,6 +33,46 @@ impl<'t> Number<'t> {
     {
         value_of(self.digits)
     }
+}
+
+/// The value of a word that is a number below 2 ^ 64. Its digits are looked at once.
+pub fn value_in(word: &str) -> Option<u64>
+    ensures { SomeIff result (IsNumber word.now × (number_of word.now < 2 ^ 64)) (number_of word.now) }
+{
+    match word.as_bytes().first() {
+        Some(b'0') => zero_in(word),
+        Some(_) => value_from(word),
+        None => None,
+    }
+}
+
+// That of a word that begins with `0`: of no other one than that.
+fn zero_in(word: &str) -> Option<u64>
+    requires nonempty { 0 < length word.now }
+    requires zero { slice_index word.now 0 ≡ 48 }
+    ensures { SomeIff result (IsNumber word.now × (number_of word.now < 2 ^ 64)) (number_of word.now) }
+{
+    if word.len() == 1 { Some(0) } else { None }
+}
+
+// That of a word without a leading zero. More digits than surely fit are left to std.
+fn value_from(word: &str) -> Option<u64>
+    requires nonempty { 0 < length word.now }
+    requires lead { slice_index word.now 0 ≢ 48 }
+    ensures { SomeIff result (IsNumber word.now × (number_of word.now < 2 ^ 64)) (number_of word.now) }
+{
+    let bytes = word.as_bytes();
+    let mut value: u64 = 0;
+    for i in 0..bytes.len() {
+        if !bytes[i].is_ascii_digit() {
+            return None;
+        }
+        if value >= ROOM_FOR_A_DIGIT {
+            return Number::of(word)?.value();
+        }
+        value = 10 * value + u64::from(bytes[i] - b'0');
+    }
+    Some(value)
 }
 
 fn is_number(word: &str) -> bool
