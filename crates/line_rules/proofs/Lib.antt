@@ -12,3 +12,4 @@ pub mod Least
 pub mod Saying
 pub mod FitLines
 pub mod ReadTo
+pub mod Sound

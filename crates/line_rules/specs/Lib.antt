@@ -1,5 +1,6 @@
 pub mod Sections
 pub mod Entering
+pub mod Entered
 pub mod Known
 pub mod Rows
 pub mod Counts

@@ -15,7 +15,8 @@ use crate::purpose::Purpose;
 use crate::rows::Rows;
 use crate::rule::Rule;
 use crate::rules::{
-    are_priced, is_entered_by_new_name, is_few, is_first_of_body, is_first_of_head, keep,
+    are_priced, declares_names, is_command, is_entered_by_new_name, is_few, is_first_of_body,
+    is_first_of_head, keep,
 };
 use crate::section::{Section, section_after, section_of};
 use line_shapes::{KeyedLine, Keyword};
@@ -43,6 +44,7 @@ pub struct KnownLines<'t> {
 
 impl<'t> Model for KnownLines<'t> {
     ghost use Rattle.line_rules.specs.Counts.{AreCounts};
+    ghost use Rattle.line_rules.specs.Entered.{AreSound};
     ghost use Rattle.line_rules.specs.Known.{Known};
 
     ghost Value = { Known };
@@ -55,16 +57,16 @@ impl<'t> Model for KnownLines<'t> {
       commands = k.commands;
     } };
 
-    ghost invariant = { λ k. AreCounts k.counts k.rows };
+    ghost invariant = { λ k. AreCounts k.counts k.rows × AreSound k.rows };
 }
 
 impl<'t> KnownLines<'t> {
     ghost use Rattle.std.specs.Prelude.{[]};
-    ghost use Rattle.line_shapes.specs.Lines.{Statement};
+    ghost use Rattle.line_shapes.specs.Lines.{IsNamed, Statement};
     ghost use Rattle.line_shapes.specs.declared.keyword.Keyword.{Keyword};
     ghost use Rattle.line_rules.specs.Entering.{most_of as most_in};
     ghost use Rattle.line_rules.specs.Faults.{Fails, IsFewer, IsFit, IsLeastOf, IsNew, AreAllPriced};
-    ghost use Rattle.line_rules.specs.Faults.{IsPricedBefore, IsComplete, Keep};
+    ghost use Rattle.line_rules.specs.Faults.{IsFirstOfBody, IsPricedBefore, IsComplete, Keep};
     ghost use Rattle.line_rules.specs.Faults.{IsWithinLimit, MayStand, counted_of};
     ghost use Rattle.line_rules.specs.Known.{entered, known_at};
     ghost use Rattle.line_rules.specs.Sections.{section_of as section_in};
@@ -150,6 +152,16 @@ impl<'t> KnownLines<'t> {
         }
     }
 
+    // Whether the words in the places of names are names. Where the names that the line uses are declared, those that
+    // it declares alone are looked at, since the rows have names alone.
+    fn is_named(&self, known: bool, line: &KeyedLine<'_, 't>) -> bool
+        requires { IsTrue known → Keep rule.Declared self.now.rows (statement_of line.now) }
+        ensures { IsTrue result ↔ IsNamed (statement_of line.now) }
+    {
+        let _rows = &self.rows;
+        (known && declares_names(line)) || line.is_named()
+    }
+
     fn is_known(&self, line: &KeyedLine<'_, 't>) -> bool
         ensures { IsTrue result ↔ Keep rule.Declared self.now.rows (statement_of line.now) }
     {
@@ -185,6 +197,13 @@ impl<'t> KnownLines<'t> {
         }
     }
 
+    // No row is a command, so none is looked for.
+    fn is_once(&self, after: Section, line: &KeyedLine<'_, 't>) -> bool
+        ensures { IsTrue result ↔ IsFirstOfBody after self.now.rows (statement_of line.now) }
+    {
+        is_command(line.keyword) || is_first_of_body(after, &self.rows, line)
+    }
+
     fn is_priced_before(&self, after: Section) -> bool
         ensures { IsTrue result ↔ IsPricedBefore after self.now }
     {
@@ -210,13 +229,14 @@ impl<'t> KnownLines<'t> {
             (IsLeastOf (Fails self.now (statement_of line.now))) }
     {
         let after = section_after(line.keyword);
+        let known = self.is_known(line);
         if !self.is_whole(line) {
             Some(Fault::Shape)
         } else if !self.may_stand(line) {
             Some(Fault::Misplaced)
-        } else if !line.is_named() {
+        } else if !self.is_named(known, line) {
             Some(Fault::Misnamed)
-        } else if !self.is_known(line) {
+        } else if !known {
             Some(Fault::Unknown)
         } else if !self.is_new(line) {
             Some(Fault::Repeated)
@@ -226,7 +246,7 @@ impl<'t> KnownLines<'t> {
             Some(Fault::PassesLimit)
         } else if !line.has_tail_apart() {
             Some(Fault::RepeatedHolder)
-        } else if !is_first_of_body(after, &self.rows, line) {
+        } else if !self.is_once(after, line) {
             Some(Fault::SecondEntry)
         } else if !self.is_priced_before(after) {
             Some(Fault::NoPrice)

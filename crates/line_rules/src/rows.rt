@@ -45,10 +45,11 @@ impl<'t> Rows<'t> {
     pub fn with_room(alloc: Global, lines: usize, words: usize) -> Result<Rows<'t>, AllocError>
         ensures { IfOk result (λ rows. rows ≡ []) }
     {
+        let firsts = IndexMap::with_capacity(alloc, lines)?;
         let lines = LineList::with_room(alloc, lines, words)?;
         Ok(Rows {
             lines,
-            firsts: IndexMap::new(alloc),
+            firsts,
             others: IndexSet::new(alloc),
         })
     }

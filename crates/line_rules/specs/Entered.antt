@@ -1,0 +1,27 @@
+-- What the keys of rows keep to, and what a line's names are asked where those that it uses are declared.
+use Rattle.std.specs.Prelude.{List, ◌≡◌, ◌≢◌, ◌<◌, Option, Some, None, length}
+use Rattle.std.specs.List.{All}
+use Rattle.text_lines.specs.Texts.{IsName, Word}
+use Rattle.line_shapes.specs.Lines.{Statement}
+use Rattle.line_shapes.specs.Places.{place_at}
+use Rattle.line_shapes.specs.declared.place.Place.{Place}
+use Rattle.line_shapes.specs.declared.place.Place.TheVariants.{New, Used, Number, Text}
+use Rattle.line_rules.specs.declared.entering.Entering.TheVariants.{InTurn, Word as ByWord}
+use Rattle.line_rules.specs.Entering.{Key, entering_of}
+use Rattle.line_rules.specs.Known.{keys_of}
+
+-- it is not a command's, and a new name by which a line was entered is a name, if it is not empty
+pub record IsSound (key : Key) : Type 0 where
+  pub entered : entering_of key.0 ≢ InTurn
+  pub named : entering_of key.0 ≡ ByWord → place_at key.0 0 ≡ Some New → 0 < length key.1 → IsName key.1
+
+abbrev pub AreSound : List Statement → Type 0
+AreSound rows = All IsSound (keys_of rows)
+
+-- a name that is declared is one, and a name that is used is not empty
+abbrev pub HasName : Option Place → Word → Type 0
+HasName None w = Unit {0}
+HasName (Some New) w = IsName w
+HasName (Some (Used kind)) w = 0 < length w
+HasName (Some (Number least most)) w = Unit {0}
+HasName (Some Text) w = Unit {0}
