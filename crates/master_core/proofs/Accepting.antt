@@ -1,70 +1,29 @@
 -- A master after a call that it accepted.
-use Rattle.std.proofs.Common.{◌≡◌, ℕ, ◌+◌, ◌-◌, ◌^◌, ◌<◌, List, [], ◌∷◌, ◌++◌, length, false, Option, None}
-use Rattle.std.proofs.Common.{sym, ap, ◌∙◌, arith, subst}
+use Rattle.std.proofs.Common.{◌≡◌, ℕ, ◌+◌, ◌-◌, ◌^◌, ◌<◌, [], ◌∷◌, ◌++◌, length, Bool, true, false, not}
+use Rattle.std.proofs.Common.{Option, None, refl, sym, ap, ◌∙◌, arith, subst}
 use Rattle.std.specs.Prelude.{vec_len, vec_capacity}
 use Rattle.std.proofs.lemmas.List.{length-append, length-map}
 use Rattle.worker_table.specs.declared.Worker.{Worker}
 use Rattle.master_state.specs.declared.answers.Why.{Why}
 use Rattle.master_state.specs.declared.events.Event.{Event}
 use Rattle.master_state.specs.States.{Setup, State}
-use Rattle.master_state.specs.Refusals.{Call, IsKnown, refusal, is_full}
-use Rattle.master_state.specs.Changes.{after, counted}
-use Rattle.master_state.specs.Tidy.{IsTidy}
+use Rattle.master_state.specs.Refusals.{Call, IsKnown, first_true, is_full, reasons, refusal}
+use Rattle.master_state.specs.Changes.{changed, counted}
 use Rattle.master_state.specs.Jobs.{Job, IsAccepted, event_of, added_by}
-use Rattle.master_state.proofs.Reasons.{room_left}
+use Rattle.master_state.proofs.Reasons.{NoneApplies, none_applies, room_left}
+use Rattle.master_state.proofs.Keeping.{calls_keep}
 use Rattle.master_core.specs.declared.master.Master.TheInside.{Inside}
 use Rattle.master_core.specs.Inside.{setup_of, state_of, job_of, IsMaster, HasRoom}
 use Rattle.master_tables.specs.Kept.{AreOfSplits}
-use Rattle.master_state.proofs.Keeping.{calls_keep}
-
--- a worker of the cluster stands in the table, and a split in the lists of holders
-pub in_table : (setup : Setup) (s : State) (w : ℕ) → IsTidy setup s → w < length setup.cluster.slots →
-    w < length s.workers.each
-in_table setup s w tidy known =
-    let same = length-map s.workers.each (λ (worker : Worker). worker.slots) in
-    omega (arith, known, same, ap length tidy.slots)
-
--- what the machine says of a master's job it says of what the master keeps
-pub refusal_of : (m : Inside) (j : Job) (call : Call) (why : Option Why) → job_of m ≡ j →
-    why ≡ refusal j.setup j.state call → refusal (setup_of m) (state_of m) call ≡ why
-refusal_of m j call why is answer = ap (λ (i : Job). refusal i.setup i.state call) is ∙ sym answer
-
--- a place that is left in the history is one of its room
-pub has_place : (m : Inside) → IsMaster m → is_full (setup_of m) (state_of m) ≡ false →
-    vec_len m.history < vec_capacity m.history
-has_place m was free = omega (arith, room_left (setup_of m) (state_of m) free, was.room.events)
-
-pub few_events : (m : Inside) → IsMaster m → is_full (setup_of m) (state_of m) ≡ false →
-    vec_len m.history < 2 ^ 32 - 1
-few_events m was free = omega (arith, room_left (setup_of m) (state_of m) free, was.kept.small.events)
-
--- the call was accepted where its event is recorded and its change made
-pub accepted : (old new : Inside) (call : Call) (place : ℕ) → IsKnown (setup_of old) call →
-    refusal (setup_of old) (state_of old) call ≡ None → setup_of new ≡ setup_of old →
-    new.history.items ≡ old.history.items ++ event_of (state_of old) call ∷ [] →
-    state_of new ≡ after (state_of old) call → new.results.items ≡ old.results.items ++ added_by call →
-    place ≡ length old.history.items + 1 → IsAccepted (job_of old) call place (job_of new)
-accepted old new call place known allowed setup history leads results place_is = record {
-  change = record { known = known; allowed = allowed; leads = leads };
-  next = record { place_is = place_is; setup = setup; history = history; results = results };
-}
-
-pub master_after : (old new : Inside) (call : Call) (place : ℕ) → IsMaster old →
-    IsAccepted (job_of old) call place (job_of new) → HasRoom new →
-    AreOfSplits (setup_of new) new.splits.items →
-    IsMaster new
-master_after old new call place was accepted room made = record {
-  kept = calls_keep (job_of old) (job_of new) call place was.kept accepted;
-  room = room;
-  made = made;
-}
 
 -- what is asked of a master's job holds of its tables
 pub worker_in_table : (m : Inside) (j : Job) (w : ℕ) → IsMaster m → job_of m ≡ j →
     w < length j.setup.cluster.slots → w < length m.workers.each
 worker_in_table m j w was is known =
-    in_table (setup_of m) (state_of m) w was.kept.tidy
-    (subst (λ (i : Job). w < length i.setup.cluster.slots) (sym is) known)
+    let here : w < length m.cluster.slots =
+    subst (λ (i : Job). w < length i.setup.cluster.slots) (sym is) known in
+    let same = length-map m.workers.each (λ (worker : Worker). worker.slots) in
+    omega (arith, here, same, ap length was.kept.tidy.slots)
 
 pub split_in_map : (m : Inside) (j : Job) (split : ℕ) → IsMaster m → job_of m ≡ j →
     split < length j.setup.cluster.splits → split < length m.holders
@@ -73,23 +32,118 @@ split_in_map m j split was is known =
     subst (λ (i : Job). split < length i.setup.cluster.splits) (sym is) known in
     omega (arith, here, was.kept.tidy.holders)
 
-pub known_at : (m : Inside) (j : Job) (call : Call) → job_of m ≡ j → IsKnown j.setup call →
-    IsKnown (setup_of m) call
-known_at m j call is known = subst (λ (i : Job). IsKnown i.setup call) (sym is) known
+-- where a call is not refused, none of its tests is true of what the master keeps
+pub tests_of : (m : Inside) (j : Job) (call : Call) (why : Option Why) → job_of m ≡ j →
+    why ≡ refusal j.setup j.state call → why ≡ None → NoneApplies (reasons (setup_of m) (state_of m) call)
+tests_of m j call why is answer none =
+    none_applies (reasons (setup_of m) (state_of m) call)
+    (ap (λ (i : Job). refusal i.setup i.state call) is ∙ sym answer ∙ none)
 
--- an answer about what the master keeps is one about its job
-pub accepted_at : (m new : Inside) (j : Job) (call : Call) (place : ℕ) → job_of m ≡ j →
-    IsAccepted (job_of m) call place (job_of new) → IsAccepted j call place (job_of new)
-accepted_at m new j call place is accepted =
-    subst (λ (i : Job). IsAccepted i call place (job_of new)) is accepted
+-- a history that is not full has room for an event
+pub record HasPlace (m : Inside) : Type 0 where
+  pub room : vec_len m.history < vec_capacity m.history
+  pub few : vec_len m.history < 2 ^ 32 - 1
 
--- one event more
-pub one_more : (history next : List Event) (event : Event) → next ≡ history ++ event ∷ [] →
-    length next ≡ length history + 1
-one_more history next event is = ap length is ∙ length-append history (event ∷ [])
+pub has_place : (m : Inside) → IsMaster m → is_full (setup_of m) (state_of m) ≡ false → HasPlace m
+has_place m was free =
+    let left = room_left (setup_of m) (state_of m) free in
+    record {
+      room = omega (arith, left, was.room.events);
+      few = omega (arith, left, was.kept.small.events);
+    }
 
--- the tables after a change make the state after the call
-pub counted_from : (changed now : State) (events : ℕ) → changed ≡ now → events ≡ now.events + 1 →
-    record now { events = events } ≡ counted changed
-counted_from changed now events is more =
-    ap (λ (n : ℕ). record now { events = n }) more ∙ ap counted (sym is)
+-- a call of two tests is allowed where neither is true
+pub no_reason : (x y : Bool) (p q : Why) → x ≡ false → y ≡ false → first_true ((x, p) ∷ (y, q) ∷ []) ≡ None
+no_reason x y p q e f = rw (e, f) refl
+
+pub is_false : (b : Bool) → true ≡ not b → b ≡ false
+is_false true e = cc
+is_false false e = refl
+
+-- what no call changes: the setup, and the room of each list
+pub record Rooms : Type 0 where
+  pub setup : Setup
+  pub events : ℕ
+  pub attempts : ℕ
+  pub sweeps : ℕ
+  pub results : ℕ
+
+abbrev pub rooms_of : Inside → Rooms
+rooms_of m = record {
+  setup = setup_of m;
+  events = vec_capacity m.history;
+  attempts = vec_capacity m.starts;
+  sweeps = vec_capacity m.sweeps;
+  results = vec_capacity m.results;
+}
+
+pub room_after : (old new : Inside) → HasRoom old → rooms_of new ≡ rooms_of old → HasRoom new
+room_after old new was same =
+    let setup = ap (λ (rooms : Rooms). rooms.setup) same in
+    record {
+      events = omega (
+        arith,
+        was.events,
+        ap (λ (rooms : Rooms). rooms.events) same,
+        ap (λ (s : Setup). s.limits.events) setup,
+      );
+      attempts = omega (
+        arith,
+        was.attempts,
+        ap (λ (rooms : Rooms). rooms.attempts) same,
+        ap (λ (s : Setup). s.limits.attempts) setup,
+      );
+      sweeps = omega (
+        arith,
+        was.sweeps,
+        ap (λ (rooms : Rooms). rooms.sweeps) same,
+        ap (λ (s : Setup). s.limits.sweeps) setup,
+      );
+      results = omega (
+        arith,
+        was.results,
+        ap (λ (rooms : Rooms). rooms.results) same,
+        ap (λ (s : Setup). s.cluster.parts) setup,
+      );
+    }
+
+-- the tables after a change make a state of one event more
+pub leads_to : (old new : Inside) (made : State) (event : Event) →
+    new.history.items ≡ old.history.items ++ event ∷ [] →
+    made ≡ record (state_of new) { events = length old.history.items } → state_of new ≡ counted made
+leads_to old new made event history change =
+    ap (λ (n : ℕ). record (state_of new) { events = n })
+    (ap length history ∙ length-append old.history.items (event ∷ []))
+    ∙ sym (ap counted change)
+
+-- what a master answers of a call that it accepted, and keeps after it
+pub record Follows (new : Inside) (j : Job) (call : Call) (place : ℕ) : Type 0 where
+  pub accepted : IsAccepted j call place (job_of new)
+  pub master : IsMaster new
+
+-- so it is where no reason applies, the event is recorded and the change made, in lists that keep their rooms
+pub follows : (old new : Inside) (j : Job) (call : Call) (place : ℕ) → IsMaster old → job_of old ≡ j →
+    IsKnown j.setup call → refusal j.setup j.state call ≡ None → rooms_of new ≡ rooms_of old →
+    new.history.items ≡ old.history.items ++ event_of (state_of old) call ∷ [] →
+    place ≡ length old.history.items + 1 →
+    changed (state_of old) call ≡ record (state_of new) { events = length old.history.items } →
+    new.results.items ≡ old.results.items ++ added_by call → AreOfSplits (setup_of old) new.splits.items →
+    Follows new j call place
+follows old new j call place was is known allowed rooms history place_is change results made =
+    let setup = ap (λ (of : Rooms). of.setup) rooms in
+    let accepted : IsAccepted (job_of old) call place (job_of new) = record {
+      change = record {
+        known = subst (λ (i : Job). IsKnown i.setup call) (sym is) known;
+        allowed = ap (λ (i : Job). refusal i.setup i.state call) is ∙ allowed;
+        leads = leads_to old new (changed (state_of old) call) (event_of (state_of old) call) history change;
+      };
+      next = record { place_is = place_is; setup = setup; history = history; results = results };
+    } in
+    record {
+      accepted = subst (λ (i : Job). IsAccepted i call place (job_of new)) is accepted;
+      master = record {
+        kept = calls_keep (job_of old) (job_of new) call place was.kept accepted;
+        room = room_after old new was.room rooms;
+        made = subst (λ (s : Setup). AreOfSplits s new.splits.items) (sym setup) made;
+      };
+    }

@@ -1,12 +1,11 @@
 -- A master after the result of a split or a part.
-use Rattle.std.proofs.Common.{◌≡◌, ◌≢◌, ℕ, suc, ◌+◌, ◌-◌, ◌==◌, List, [], ◌∷◌, ◌++◌, length, map}
+use Rattle.std.proofs.Common.{◌≡◌, ◌≢◌, ℕ, suc, ◌-◌, ◌==◌, List, [], ◌∷◌, length, map}
 use Rattle.std.proofs.Common.{Bool, true, false, not, Option, Some, None, refl, ap, ◌∙◌, sym, arith, inl, inr}
 use Rattle.std.proofs.Common.{All}
 use Rattle.std.specs.Prelude.{find, slice_get}
 use Rattle.std.specs.List.{list_any}
 use Rattle.std.specs.Option.{option_map, option_map_or}
 use Rattle.std.proofs.lemmas.Bool.{false≢true, cases_Bool, cases_eq, eqb-true, ne_eqb, not-false, or_parts}
-use Rattle.std.proofs.lemmas.List.{append-nil}
 use Rattle.std.proofs.lemmas.Option.{same_Some, none-some}
 use Rattle.node_ids.specs.Updates.{updated}
 use Rattle.node_ids.proofs.Updating.{length-updated, get-updated_same, get-updated_other}
@@ -28,7 +27,7 @@ use Rattle.master_state.specs.Refusals.{is_wrong_part, no_part_runs, no_split_ru
 use Rattle.master_state.specs.Tests.{attempts_of, is_numbered, split_at}
 use Rattle.master_state.specs.Changes.{done_by, part_done_by, with_map_done, with_part_done}
 use Rattle.master_state.specs.Tidy.{IsTidy, IsToldAs}
-use Rattle.master_state.specs.Jobs.{IsAccepted, event_of}
+use Rattle.master_state.specs.Jobs.{Job}
 use Rattle.master_state.proofs.Lists.{updated-agree}
 use Rattle.master_state.proofs.Places.{done_at, part_done_at, part_running_is, split_running_is, worker_in}
 use Rattle.master_state.proofs.Running.{TakesSlot, split_takes_slots}
@@ -41,9 +40,8 @@ use Rattle.master_core.specs.Inside.{setup_of, state_of, job_of, IsMaster}
 use Rattle.master_tables.specs.Kept.{AreOfSplits, IsOfSplit}
 use Rattle.master_tables.specs.Places.{RunsPart, RunsSplit}
 use Rattle.master_tables.specs.Slots.{AreTaken, with_slots_given}
-use Rattle.master_core.proofs.Accepting.{accepted, counted_from, one_more}
-use Rattle.master_core.proofs.Ended.{no_reason}
-use Rattle.master_core.proofs.Failing.{parts_are, tables_are}
+use Rattle.master_core.proofs.Accepting.{is_false}
+use Rattle.master_core.proofs.Found.{tidy_at}
 use Rattle.master_tables.proofs.Showing.{shown-updated}
 
 -- the attempt that has the number a, on the worker that its start tells
@@ -163,82 +161,40 @@ made_done setup one made entries k of were split attempt result found = elim (ca
       (sym (get-updated_other (λ _. Done one made) entries k split other) ∙ found)
 ]
 
--- why a result is refused that is of an attempt that runs
-pub map_refusal : (setup : Setup) (s : State) (a split w : ℕ) (result : MapView) → IsTidy setup s →
-    RunsSplit s a split w → no_split_runs s a ≡ false →
-    refusal setup s (MapDone a result)
-    ≡ first_true ((is_wrong_map setup split result, WrongInput) ∷ (is_full setup s, HistoryFull) ∷ [])
-map_refusal setup s a split w result tidy run runs =
-    rw (runs, split_running_is setup s a split tidy run.runs) refl
+-- why a result is refused that is of an attempt that runs, by what its tests say
+pub map_refusal : (m : Inside) (j : Job) (a split w : ℕ) (result : MapView) (wrong full test : Bool) →
+    IsMaster m → job_of m ≡ j → RunsSplit j.state a split w → true ≡ not (no_split_runs j.state a) →
+    ((setup : Setup) → setup.cluster ≡ m.cluster → test ≡ is_wrong_map setup split result) → test ≡ wrong →
+    is_full j.setup j.state ≡ full →
+    refusal j.setup j.state (MapDone a result) ≡ first_true ((wrong, WrongInput) ∷ (full, HistoryFull) ∷ [])
+map_refusal m j a split w result wrong full test was is run runs told tested filled =
+    rw (
+      is_false _ runs,
+      split_running_is j.setup j.state a split (tidy_at m j was is) run.runs,
+      sym (told j.setup (ap (λ (i : Job). i.setup.cluster) (sym is))) ∙ tested,
+      filled,
+    ) refl
 
-pub part_refusal : (setup : Setup) (s : State) (a r w : ℕ) (result : PartView) → IsTidy setup s →
-    RunsPart s a r w → no_part_runs s a ≡ false →
-    refusal setup s (PartDone a result)
-    ≡ first_true ((is_wrong_part setup r result, WrongInput) ∷ (is_full setup s, HistoryFull) ∷ [])
-part_refusal setup s a r w result tidy run runs =
-    rw (runs, part_running_is setup s a r tidy run.runs) refl
+pub part_refusal : (m : Inside) (j : Job) (a r w : ℕ) (result : PartView) (wrong full test : Bool) →
+    IsMaster m → job_of m ≡ j → RunsPart j.state a r w → true ≡ not (no_part_runs j.state a) →
+    ((setup : Setup) → setup.cluster ≡ m.cluster → test ≡ is_wrong_part setup r result) → test ≡ wrong →
+    is_full j.setup j.state ≡ full →
+    refusal j.setup j.state (PartDone a result) ≡ first_true ((wrong, WrongInput) ∷ (full, HistoryFull) ∷ [])
+part_refusal m j a r w result wrong full test was is run runs told tested filled =
+    rw (
+      is_false _ runs,
+      part_running_is j.setup j.state a r (tidy_at m j was is) run.runs,
+      sym (told j.setup (ap (λ (i : Job). i.setup.cluster) (sym is))) ∙ tested,
+      filled,
+    ) refl
 
-pub first_reason : (x y : Bool) → x ≡ true →
-    first_true ((x, WrongInput) ∷ (y, HistoryFull) ∷ []) ≡ Some WrongInput
-first_reason x y e = rw e refl
-
-pub second_reason : (x y : Bool) → x ≡ false → y ≡ true →
-    first_true ((x, WrongInput) ∷ (y, HistoryFull) ∷ []) ≡ Some HistoryFull
-second_reason x y e f = rw (e, f) refl
-
-pub done_accepted : (old new : Inside) (a split w place : ℕ) (entry : SplitEntry) (result : MapView) →
-    IsMaster old → RunsSplit (state_of old) a split w → no_split_runs (state_of old) a ≡ false →
-    is_wrong_map (setup_of old) split result ≡ false → is_full (setup_of old) (state_of old) ≡ false →
-    shown_as entry ≡ split_at (state_of old) split → setup_of new ≡ setup_of old →
-    new.workers ≡ with_slots_given old.workers (attempts_of (shown_as entry)) →
-    new.splits.items ≡ updated (λ _. Done (numbered a w) result) old.splits.items split →
-    state_of new ≡ record (state_of old) {
-      workers = new.workers;
-      splits = map shown_as new.splits.items;
-      events = length new.history.items;
-    } → new.history.items ≡ old.history.items ++ event_of (state_of old) (MapDone a result) ∷ [] →
-    new.results.items ≡ old.results.items → place ≡ length old.history.items + 1 →
-    IsAccepted (job_of old) (MapDone a result) place (job_of new)
-done_accepted old new a split w place entry result was run runs right free at setup workers splits same
-    history results place_is =
-    let s = state_of old in
-    let shown : updated (λ _. states.Done (numbered a w)) s.splits split ≡ map shown_as new.splits.items =
-    sym (ap (map shown_as) splits ∙ shown-done_at (numbered a w) result old.splits.items split) in
-    let given : with_slots_given s.workers (attempts_of (split_at s split)) ≡ new.workers =
-    sym (workers ∙ ap (λ (state : SplitState). with_slots_given old.workers (attempts_of state)) at) in
-    let changed = done_is (setup_of old) s a split w was.kept.tidy run
-    ∙ tables_are s _ new.workers _ (map shown_as new.splits.items) given shown in
-    let leads = same ∙ counted_from (with_map_done s a)
-    (record s { workers = new.workers; splits = map shown_as new.splits.items }) (length new.history.items)
-    changed (one_more old.history.items new.history.items (event_of s (MapDone a result)) history) in
-    accepted old new (MapDone a result) place tt
-    (map_refusal (setup_of old) s a split w result was.kept.tidy run runs
-    ∙ no_reason (is_wrong_map (setup_of old) split result) (is_full (setup_of old) s) WrongInput HistoryFull
-    right free) setup history leads
-    (results ∙ sym (append-nil old.results.items)) place_is
-
-pub part_done_accepted : (old new : Inside) (a r w place : ℕ) (result : PartView) →
-    IsMaster old → RunsPart (state_of old) a r w → no_part_runs (state_of old) a ≡ false →
-    is_wrong_part (setup_of old) r result ≡ false → is_full (setup_of old) (state_of old) ≡ false →
-    setup_of new ≡ setup_of old → new.workers ≡ with_slot_given old.workers w →
-    new.parts.items ≡ updated (part_done_by a) old.parts.items r →
-    state_of new ≡ record (state_of old) {
-      workers = new.workers;
-      parts = new.parts.items;
-      events = length new.history.items;
-    } → new.history.items ≡ old.history.items ++ event_of (state_of old) (PartDone a result) ∷ [] →
-    new.results.items ≡ old.results.items ++ result ∷ [] → place ≡ length old.history.items + 1 →
-    IsAccepted (job_of old) (PartDone a result) place (job_of new)
-part_done_accepted old new a r w place result was run runs right free setup workers parts same history
-    results place_is =
-    let s = state_of old in
-    let changed = part_done_is (setup_of old) s a r w was.kept.tidy run
-    ∙ parts_are s _ new.workers _ new.parts.items (sym workers) (sym parts) in
-    let leads = same ∙ counted_from (with_part_done s a)
-    (record s { workers = new.workers; parts = new.parts.items }) (length new.history.items)
-    changed (one_more old.history.items new.history.items (event_of s (PartDone a result)) history) in
-    accepted old new (PartDone a result) place tt
-    (part_refusal (setup_of old) s a r w result was.kept.tidy run runs
-    ∙ no_reason (is_wrong_part (setup_of old) r result) (is_full (setup_of old) s) WrongInput HistoryFull
-    right free) setup history leads results
-    place_is
+-- a split that is done, in a master's tables
+pub done_made : (m : Inside) (workers : Workers) (entries : List SplitEntry) (a split w : ℕ)
+    (entry : SplitEntry) (result : MapView) → IsMaster m → RunsSplit (state_of m) a split w →
+    shown_as entry ≡ split_at (state_of m) split →
+    workers ≡ with_slots_given m.workers (attempts_of (shown_as entry)) →
+    entries ≡ updated (λ _. Done (numbered a w) result) m.splits.items split →
+    with_map_done (state_of m) a ≡ record (state_of m) { workers = workers; splits = map shown_as entries }
+done_made m workers entries a split w entry result was run at given made =
+    done_is (setup_of m) (state_of m) a split w was.kept.tidy run
+    ∙ rw (given, at, made, shown-done_at (numbered a w) result m.splits.items split) refl

@@ -1,5 +1,5 @@
 -- The end of an attempt that a split or a part runs.
-use Rattle.std.proofs.Common.{◌≡◌, ℕ, ◌<◌, List, [], ◌∷◌, Bool, true, false, not, Option, Some, None, refl}
+use Rattle.std.proofs.Common.{◌≡◌, ℕ, ◌<◌, List, true, Option, Some, refl}
 use Rattle.std.proofs.Common.{ap, ◌∙◌, sym, subst, length, All}
 use Rattle.std.specs.Option.{option_map_or}
 use Rattle.std.specs.List.{list_any}
@@ -11,9 +11,7 @@ use Rattle.master_state.specs.declared.states.Attempt.{Attempt}
 use Rattle.master_state.specs.declared.states.Start.{Start}
 use Rattle.master_state.specs.declared.states.Work.{Work}
 use Rattle.master_state.specs.declared.states.Work.TheVariants as works
-use Rattle.master_state.specs.declared.answers.Why.{Why}
 use Rattle.master_state.specs.States.{Setup, State, start_of, worker_of}
-use Rattle.master_state.specs.Refusals.{first_true}
 use Rattle.master_state.specs.Tests.{is_numbered, attempts_of, part_attempts, split_at, part_at}
 use Rattle.master_state.specs.Changes.{without_attempts, part_without, without_attempt, with_map_failed}
 use Rattle.master_state.specs.Tidy.{IsTidy, IsToldAs}
@@ -86,11 +84,3 @@ part_ended_is setup s a r w tidy run =
     let places = part_without_at setup s a r w tidy run.start in
     let on : worker_of s a ≡ w = ap on_worker run.start in
     rw (on, places.0, places.1) refl
-
--- the answers of a call with two reasons
-pub no_reason : (x y : Bool) (p q : Why) → x ≡ false → y ≡ false → first_true ((x, p) ∷ (y, q) ∷ []) ≡ None
-no_reason x y p q e f = rw (e, f) refl
-
-pub is_false : (b : Bool) → true ≡ not b → b ≡ false
-is_false true e = cc
-is_false false e = refl

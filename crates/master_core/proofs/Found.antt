@@ -166,3 +166,40 @@ part_run m j a r i w state b was is start place at answer =
     let here : state ≡ get_or m.parts.items r state = rw place at at in
     answer ∙ ap (part_runs a) (element_at m.parts.items r state (part_in_list m j a r w was is start) here)
     ∙ ap (λ (l : Job). part_runs a (part_at l.state r)) is
+
+-- what the split of a start, and its part, say of the attempt: whether they run it, and so whether any does
+pub record TellsSplit (s : State) (a k w : ℕ) (b : Bool) : Type 0 where
+  pub start : start_of s a ≡ Some (record { work = works.Split k; worker = w })
+  pub runs : b ≡ runs a (split_at s k)
+  pub found : b ≡ not (no_split_runs s a)
+
+pub split_tells : (m : Inside) (j : Job) (a k i w : ℕ) (work : Work) (entry : SplitEntry) (b : Bool) →
+    IsMaster m → job_of m ≡ j → start_of j.state a ≡ Some (record { work = work; worker = w }) →
+    split_of work ≡ Some k → i ≡ k → entry ≡ get_or m.splits.items i entry → b ≡ runs a (shown_as entry) →
+    TellsSplit j.state a k w b
+split_tells m j a k i w work entry b was is told of place at answer =
+    let start = start_with j.state a w work (works.Split k) told (split_told work k of) in
+    let ran = split_run m j a k i w entry b was is start place at answer in
+    record {
+      start = start;
+      runs = ran;
+      found = split_found j.setup j.state a k w b (tidy_at m j was is) start ran;
+    }
+
+pub record TellsPart (s : State) (a r w : ℕ) (b : Bool) : Type 0 where
+  pub start : start_of s a ≡ Some (record { work = works.Part r; worker = w })
+  pub runs : b ≡ part_runs a (part_at s r)
+  pub found : b ≡ not (no_part_runs s a)
+
+pub part_tells : (m : Inside) (j : Job) (a r i w : ℕ) (work : Work) (state : PartState) (b : Bool) →
+    IsMaster m → job_of m ≡ j → start_of j.state a ≡ Some (record { work = work; worker = w }) →
+    part_of work ≡ Some r → i ≡ r → state ≡ get_or m.parts.items i state → b ≡ part_runs a state →
+    TellsPart j.state a r w b
+part_tells m j a r i w work state b was is told of place at answer =
+    let start = start_with j.state a w work (works.Part r) told (part_told work r of) in
+    let ran = part_run m j a r i w state b was is start place at answer in
+    record {
+      start = start;
+      runs = ran;
+      found = part_found j.setup j.state a r w b (tidy_at m j was is) start ran;
+    }

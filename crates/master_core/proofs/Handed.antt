@@ -1,5 +1,5 @@
 -- Whether a result that is handed in is of its split, or of its part.
-use Rattle.std.proofs.Common.{◌≡◌, ℕ, ◌<◌, ◌||◌, List, get_or, length, Bool, true, false}
+use Rattle.std.proofs.Common.{◌≡◌, ℕ, ◌<◌, ◌||◌, List, [], get_or, length, Bool, true, false}
 use Rattle.std.proofs.Common.{not, refl, ap, ◌∙◌, sym, arith}
 use Rattle.std.specs.Prelude.{◌↔◌, IsTrue, slice_index_or}
 use Rattle.std.proofs.lemmas.Bool.Decides.{same_from_decides}
@@ -12,29 +12,26 @@ use Rattle.word_map.proofs.TextLemmas.{Decides-same_text}
 use Rattle.shuffle_reduce.specs.Gather.{values_of}
 use Rattle.shuffle_reduce.specs.Merged.{AreSameTexts, same_texts}
 use Rattle.shuffle_reduce.proofs.CoverLemmas.{Decides-same_texts}
+use Rattle.master_state.specs.States.{Cluster, Setup}
+use Rattle.master_state.specs.Refusals.{split_text}
 use Rattle.master_core.proofs.Found.{at_mapped}
 
--- the text at a place of a list of pointers
-pub text_at : (texts : List (Arc SplitDocuments Global)) (given : List SplitDocuments) (i k : ℕ)
-    (one : Arc SplitDocuments Global) (d : SplitDocuments) → values_of texts ≡ given → i ≡ k →
-    one ≡ get_or texts i one → k < length given → arc_value one ≡ slice_index_or given k d
-text_at texts given i k one d same place at inside =
+-- a text that was compared with the text of a split, which stands in a list of pointers
+pub compared : (cluster : Cluster) (setup : Setup) (texts : List (Arc SplitDocuments Global)) (i k : ℕ)
+    (one : Arc SplitDocuments Global) (r : Bool) (a b x : SplitDocuments) → setup.cluster ≡ cluster →
+    values_of texts ≡ cluster.texts → i ≡ k → one ≡ get_or texts i one → k < length cluster.texts →
+    IsTrue r ↔ (a ≡ b) → a ≡ x → b ≡ arc_value one → r ≡ same_text x (split_text setup k)
+compared cluster setup texts i k one r a b x same given place at inside told first second =
+    let value : Arc SplitDocuments Global → SplitDocuments = λ text. arc_value text in
     let here : one ≡ get_or texts k one = rw place at at in
-    let many : length (values_of texts) ≡ length texts =
-    length-map texts (λ (text : Arc SplitDocuments Global). arc_value text) in
-    at_mapped (λ (text : Arc SplitDocuments Global). arc_value text) texts k one d
-    (omega (arith, inside, ap length same, many)) here
-    ∙ ap (λ (xs : List SplitDocuments). slice_index_or xs k d) same
-
--- texts that were compared
-pub compared : (r : Bool) (a b x y : SplitDocuments) → IsTrue r ↔ (a ≡ b) → a ≡ x → b ≡ y →
-    r ≡ same_text x y
-compared r a b x y told first second =
-    same_from_decides r (same_text x y) (
-      (λ e. sym first ∙ told.0 e ∙ second),
-      (λ e. told.1 (first ∙ e
-          ∙ sym second)),
-    ) (Decides-same_text x y)
+    let texts_are = given ∙ ap (λ (of : Cluster). of.texts) (sym same) in
+    let is = second
+    ∙ at_mapped value texts k one (record { split = k; documents = [] })
+    (omega (arith, inside, ap length given, length-map texts value)) here
+    ∙ ap (λ (xs : List SplitDocuments). slice_index_or xs k (record { split = k; documents = [] })) texts_are in
+    same_from_decides r (same_text x (split_text setup k))
+    ((λ e. sym first ∙ told.0 e ∙ is), (λ e. told.1 (first ∙ e ∙ sym is)))
+    (Decides-same_text x (split_text setup k))
 
 -- lists of texts that were compared
 pub covered : (r : Bool) (xs ys : List SplitDocuments) → IsTrue r ↔ AreSameTexts xs ys →

@@ -1,32 +1,28 @@
 -- A master after the start of a part.
-use Rattle.std.proofs.Common.{◌≡◌, ℕ, ◌+◌, ◌<◌, ◌||◌, List, [], ◌∷◌, ◌++◌, length, true, false, not, refl}
+use Rattle.std.proofs.Common.{◌≡◌, ℕ, ◌<◌, ◌||◌, List, [], ◌∷◌, ◌++◌, length, true, false, not, refl}
 use Rattle.std.proofs.Common.{sym, ap, ◌∙◌, arith, subst}
 use Rattle.std.specs.List.{list_all, list_any}
 use Rattle.std.proofs.lemmas.Bool.{or_parts, not-false}
-use Rattle.std.proofs.lemmas.List.{append-nil, length-map}
+use Rattle.std.proofs.lemmas.List.{length-map}
 use Rattle.std.proofs.lemmas.List.FromFn.{length-range_with_len}
 use Rattle.node_ids.specs.Updates.{updated}
 use Rattle.word_map.specs.Texts.{SplitDocuments}
 use Rattle.worker_table.specs.Workers.{Workers, free_slots, has_free_slot, with_slot_taken}
-use Rattle.master_state.specs.declared.answers.Why.TheVariants.{NotReady, HistoryFull}
-use Rattle.master_state.specs.declared.events.Event.TheVariants as events
 use Rattle.master_state.specs.declared.states.Start.{Start}
 use Rattle.master_state.specs.declared.states.Work.TheVariants as works
 use Rattle.master_state.specs.declared.states.PartState.{PartState}
 use Rattle.master_state.specs.declared.states.PartState.TheVariants as part
 use Rattle.master_state.specs.States.{State, next_attempt}
 use Rattle.master_state.specs.Tests.{is_done, part_is_pending, next_part, next_worker}
-use Rattle.master_state.specs.Refusals.{ReduceStart, has_no_room, is_not_reducible}
+use Rattle.master_state.specs.Refusals.{is_not_reducible}
 use Rattle.master_state.specs.Changes.{with_reduce_started}
-use Rattle.master_state.specs.Jobs.{Job, IsAccepted, event_of}
+use Rattle.master_state.specs.Jobs.{Job}
 use Rattle.master_state.proofs.Lists.{any_inside, any_found}
 use Rattle.master_state.proofs.Slots.{nobody, live-inside}
 use Rattle.master_state.proofs.Starting.{free_parts}
 use Rattle.master_core.specs.declared.master.Master.TheInside.{Inside}
 use Rattle.master_tables.specs.Entries.{shown_as}
-use Rattle.master_core.specs.Inside.{setup_of, state_of, job_of, IsMaster}
-use Rattle.master_core.proofs.Accepting.{accepted, counted_from, one_more}
-use Rattle.master_core.proofs.Ended.{no_reason}
+use Rattle.master_core.specs.Inside.{state_of, job_of, IsMaster}
 
 -- what a state has of which a part may start
 pub record IsReducible (s : State) : Type 0 where
@@ -79,7 +75,7 @@ next_in m j r w was is may_start at on =
     }
 
 -- the tables after the start make the state after the call
-reduce_started_is : (s : State) (workers : Workers) (parts : List PartState) (starts : List Start)
+pub reduce_started_is : (s : State) (workers : Workers) (parts : List PartState) (starts : List Start)
     (r n w : ℕ) → n ≡ next_attempt s → r ≡ next_part s → w ≡ next_worker s →
     workers ≡ with_slot_taken s.workers w →
     parts ≡ updated (λ _. part.Running (record { number = n; worker = w })) s.parts r →
@@ -87,35 +83,6 @@ reduce_started_is : (s : State) (workers : Workers) (parts : List PartState) (st
     with_reduce_started s ≡ record s { workers = workers; parts = parts; starts = starts }
 reduce_started_is s workers parts starts r n w number at on taken ran told =
     rw (taken, ran, told, number, at, on) refl
-
-pub reduce_accepted : (old new : Inside) (r n w place : ℕ) →
-    is_not_reducible (state_of old) ≡ false → has_no_room (setup_of old) (state_of old) 1 ≡ false →
-    n ≡ next_attempt (state_of old) → r ≡ next_part (state_of old) → w ≡ next_worker (state_of old) →
-    setup_of new ≡ setup_of old → new.workers ≡ with_slot_taken old.workers w →
-    new.parts.items ≡ updated (λ _. part.Running (record { number = n; worker = w })) old.parts.items r →
-    new.starts.items ≡ old.starts.items ++ record { work = works.Part r; worker = w } ∷ [] →
-    state_of new ≡ record (state_of old) {
-      workers = new.workers;
-      parts = new.parts.items;
-      starts = new.starts.items;
-      events = length new.history.items;
-    } → new.history.items ≡ old.history.items ++ events.ReduceStart n r w ∷ [] →
-    new.results.items ≡ old.results.items → place ≡ length old.history.items + 1 →
-    IsAccepted (job_of old) ReduceStart place (job_of new)
-reduce_accepted old new r n w place ready free number at on setup taken ran told same history results
-    place_is =
-    let s = state_of old in
-    let recorded : new.history.items ≡ old.history.items ++ event_of s ReduceStart ∷ [] =
-    history ∙ rw (number, at, on) refl in
-    let changed = reduce_started_is s new.workers new.parts.items new.starts.items r n w number at on taken
-    ran told in
-    let leads = same ∙ counted_from (with_reduce_started s)
-    (record s { workers = new.workers; parts = new.parts.items; starts = new.starts.items })
-    (length new.history.items) changed
-    (one_more old.history.items new.history.items (event_of s ReduceStart) recorded) in
-    accepted old new ReduceStart place tt
-    (no_reason (is_not_reducible s) (has_no_room (setup_of old) s 1) NotReady HistoryFull ready free) setup
-    recorded leads (results ∙ sym (append-nil old.results.items)) place_is
 
 -- there is an entry for each text
 pub entry_of_each : (m : Inside) → IsMaster m → length m.splits.items ≡ length m.cluster.texts

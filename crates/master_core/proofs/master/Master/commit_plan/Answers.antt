@@ -1,27 +1,17 @@
-use Rattle.std.proofs.Common.{◌≡◌, length, false, refl, sym, ap, ◌∙◌, arith, subst}
-use Rattle.wave_problem.specs.Assignment.{IsBest, pairs_of}
-use Rattle.certificate_checker.specs.Verdict.{IsCertified}
+use Rattle.std.proofs.Common.{refl, sym, ap, ◌∙◌, arith}
+use Rattle.wave_problem.specs.Assignment.{pairs_of}
 use Rattle.master_state.specs.declared.answers.Wave.{Wave}
-use Rattle.master_state.specs.declared.events.Event.TheVariants as events
 use Rattle.master_state.specs.Refusals.{has_no_room}
-use Rattle.master_state.specs.Steps.{problem_of}
-use Rattle.master_state.specs.Jobs.{Job, IsCommitted, present}
 use Rattle.master_core.specs.declared.master.Master.TheInside.{Inside}
-use Rattle.master_core.specs.Inside.{setup_of, state_of, job_of}
-use Rattle.master_core.proofs.Committing.{after_starts, best_may_start, committed, master_after_wave}
+use Rattle.master_core.specs.Inside.{setup_of, state_of}
+use Rattle.master_core.proofs.Committing.{Commits, best_may_start, commits}
 use Rattle.master_core.proofs.master.Master.commit_plan.Goals as goal
 
 pub start_each-requires-clause-allowed : goal.start_each-requires-clause-allowed
 start_each-requires-clause-allowed c =
-    let old = c.self.inside in
-    let pairs = pairs_of c.args.plan.now.starts in
-    let best = subst (λ (i : Job). IsBest (problem_of i.setup i.state) pairs) (sym c.self.view_is)
-    c.in_ok-certified.ensures.best in
-    let free : has_no_room (setup_of old) (state_of old) (length pairs) ≡ false =
-    ap (λ (i : Job). has_no_room i.setup i.state (length pairs)) c.self.view_is
-    ∙ ap (has_no_room c.args.self.now.setup c.args.self.now.state) (sym c.count.ensures.count)
-    ∙ sym c.has_no_room.ensures ∙ c.if-has_no_room.false in
-    best_may_start old pairs c.self.invariant best free
+    best_may_start c.self.inside c.args.self.now (pairs_of c.args.plan.now.starts) c.count.result
+    c.self.invariant c.self.view_is c.in_ok-certified.ensures.best c.count.ensures.count
+    (sym c.has_no_room.ensures ∙ c.if-has_no_room.false)
 
 abbrev new_of : goal.After-record_event-place → Inside
 new_of c = record c.self.inside {
@@ -39,41 +29,23 @@ wave_of c = record {
   cost = c.in_ok-certified.certified.cost;
 }
 
-committed_here : (c : goal.After-record_event-place) →
-    IsCommitted (job_of c.self.inside) c.args.plan.now.starts (wave_of c) (job_of (new_of c))
-committed_here c =
+commits_here : (c : goal.After-record_event-place) →
+    Commits (new_of c) c.args.self.now c.args.plan.now.starts (wave_of c)
+commits_here c =
     let old = c.self.inside in
-    let plan = c.args.plan.now.starts in
-    let pairs = pairs_of plan in
-    let wave = wave_of c in
-    let best = subst (λ (i : Job). IsBest (problem_of i.setup i.state) pairs) (sym c.self.view_is)
-    c.in_ok-certified.ensures.best in
-    let certified = subst (λ (i : Job). IsCertified (present i plan c.args.prices.now)
-    c.in_ok-certified.certified) (sym c.self.view_is) c.in_ok-certified.ensures.certified in
-    let free : has_no_room (setup_of old) (state_of old) (length pairs) ≡ false =
-    ap (λ (i : Job). has_no_room i.setup i.state (length pairs)) c.self.view_is
-    ∙ ap (has_no_room c.args.self.now.setup c.args.self.now.state) (sym c.count.ensures.count)
-    ∙ sym c.has_no_room.ensures ∙ c.if-has_no_room.false in
-    let leads = after_starts old (new_of c) pairs (events.Wave wave.first wave.count wave.cost)
-    (c.start_each.ensures.started (state_of old) refl refl refl) refl c.record_event-place.ensures.items in
-    committed old (new_of c) plan wave best free (omega (arith, c.new-first.ensures, c.len.ensures))
-    certified.count certified.cost refl leads c.record_event-place.ensures.items refl
-    c.record_event-place.ensures.place
-
-pub invariant_of-self : goal.invariant_of-self
-invariant_of-self c =
-    let old = c.self.inside in
-    master_after_wave old (new_of c) c.args.plan.now.starts (wave_of c) c.self.invariant (committed_here c)
-    (record {
-      events = rw c.record_event-place.ensures.capacity c.self.invariant.room.events;
-      attempts = rw c.start_each.ensures.capacity c.self.invariant.room.attempts;
-      sweeps = c.self.invariant.room.sweeps;
-      results = c.self.invariant.room.results;
-    })
+    let j = c.args.self.now in
+    let counted = c.count.ensures.count ∙ sym c.in_ok-certified.ensures.certified.count in
+    commits old (new_of c) j c.args.plan.now.starts (wave_of c) c.self.invariant c.self.view_is
+    c.in_ok-certified.ensures.best (ap (has_no_room j.setup j.state) (sym counted) ∙ sym c.has_no_room.ensures
+    ∙ c.if-has_no_room.false) (omega (arith, c.new-first.ensures, c.len.ensures))
+    c.in_ok-certified.ensures.certified.count c.in_ok-certified.ensures.certified.cost
+    (rw (c.record_event-place.ensures.capacity, c.start_each.ensures.capacity) refl)
+    c.record_event-place.ensures.items c.record_event-place.ensures.place
+    (c.start_each.ensures.started (state_of old) refl refl refl) refl
     (c.start_each.ensures.made (setup_of old) c.self.invariant.made)
 
+pub invariant_of-self : goal.invariant_of-self
+invariant_of-self c = (commits_here c).master
+
 pub returns : goal.returns
-returns c =
-    let there = subst (λ (i : Job). IsCommitted i c.args.plan.now.starts (wave_of c) (job_of (new_of c)))
-    c.self.view_is (committed_here c) in
-    (c.in_ok-certified.ensures.certified.certifies, there)
+returns c = (c.in_ok-certified.ensures.certified.certifies, (commits_here c).committed)

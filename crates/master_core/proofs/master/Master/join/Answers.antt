@@ -1,13 +1,8 @@
-use Rattle.std.proofs.Common.{◌≡◌, None, refl, sym, ◌∙◌}
+use Rattle.std.proofs.Common.{refl, sym, ◌∙◌}
 use Rattle.std.proofs.lemmas.List.{append-nil}
-use Rattle.master_state.specs.declared.events.Event.TheVariants as events
-use Rattle.master_state.specs.Refusals.{Call, Join, reasons, refusal}
-use Rattle.master_state.specs.Changes.{after}
-use Rattle.master_state.proofs.Reasons.{none_applies}
+use Rattle.master_state.specs.Refusals.{Join}
 use Rattle.master_core.specs.declared.master.Master.TheInside.{Inside}
-use Rattle.master_core.specs.Inside.{setup_of, state_of}
-use Rattle.master_core.proofs.Accepting.{refusal_of, has_place, few_events, accepted, master_after}
-use Rattle.master_core.proofs.Accepting.{worker_in_table, known_at, one_more}
+use Rattle.master_core.proofs.Accepting.{Follows, follows, has_place, tests_of, worker_in_table}
 use Rattle.master_core.proofs.master.Master.join.Goals as goal
 
 pub join-requires : goal.join-requires
@@ -16,48 +11,32 @@ join-requires c =
 
 pub add_to_all-requires : goal.add_to_all-requires
 add_to_all-requires c =
-    let old = c.self.inside in
-    let call : Call = Join c.args.worker c.args.set.now in
-    let allowed : refusal (setup_of old) (state_of old) call ≡ None =
-    refusal_of old c.args.self.now call _ c.self.view_is c.why_not_join.ensures ∙ c.in_default.is in
-    (none_applies (reasons (setup_of old) (state_of old) call) allowed).1.0
+    (tests_of c.self.inside c.args.self.now (Join c.args.worker c.args.set.now) _ c.self.view_is
+    c.why_not_join.ensures c.in_default.is).1.0
 
 pub record_event-requires : goal.record_event-requires
 record_event-requires c =
-    let old = c.self.inside in
-    let call : Call = Join c.args.worker c.args.set.now in
-    let allowed : refusal (setup_of old) (state_of old) call ≡ None =
-    refusal_of old c.args.self.now call _ c.self.view_is c.why_not_join.ensures ∙ c.in_default.is in
-    let none = none_applies (reasons (setup_of old) (state_of old) call) allowed in
-    record {
-      room = has_place old c.self.invariant none.1.1.0;
-      few = few_events old c.self.invariant none.1.1.0;
-    }
+    let none = tests_of c.self.inside c.args.self.now (Join c.args.worker c.args.set.now) _ c.self.view_is
+    c.why_not_join.ensures c.in_default.is in
+    let place = has_place c.self.inside c.self.invariant none.1.1.0 in
+    record { room = place.room; few = place.few }
+
+abbrev new_of : goal.After-record_event → Inside
+new_of c = record c.self.inside {
+  workers = c.join.new.self;
+  holders = c.add_to_all.new.self;
+  history = c.record_event.new.history;
+}
+
+follows_here : (c : goal.After-record_event) →
+    Follows (new_of c) c.args.self.now (Join c.args.worker c.args.set.now) c.record_event.result
+follows_here c =
+    follows c.self.inside (new_of c) c.args.self.now (Join c.args.worker c.args.set.now)
+    c.record_event.result c.self.invariant c.self.view_is c.requires
+    (sym c.why_not_join.ensures ∙ c.in_default.is) (rw c.record_event.ensures.capacity refl)
+    c.record_event.ensures.items c.record_event.ensures.place
+    (rw (c.join.ensures, c.add_to_all.ensures) refl) (sym (append-nil c.self.inside.results.items))
+    c.self.invariant.made
 
 pub invariant_of-self : goal.invariant_of-self
-invariant_of-self c =
-    let old = c.self.inside in
-    let call : Call = Join c.args.worker c.args.set.now in
-    let new : Inside = record old {
-      workers = c.join.new.self;
-      holders = c.add_to_all.new.self;
-      history = c.record_event.new.history;
-    } in
-    let allowed : refusal (setup_of old) (state_of old) call ≡ None =
-    refusal_of old c.args.self.now call _ c.self.view_is c.why_not_join.ensures ∙ c.in_default.is in
-    let more = one_more old.history.items new.history.items (events.Join c.args.worker c.args.set.now)
-    c.record_event.ensures.items in
-    let returned = c.join.ensures in
-    let held = c.add_to_all.ensures in
-    let leads : state_of new ≡ after (state_of old) call = cc in
-    master_after old new call c.record_event.result c.self.invariant
-    (accepted old new call c.record_event.result
-    (known_at old c.args.self.now call c.self.view_is c.requires) allowed refl
-    c.record_event.ensures.items leads (sym (append-nil old.results.items)) c.record_event.ensures.place)
-    (record {
-      events = rw c.record_event.ensures.capacity c.self.invariant.room.events;
-      attempts = c.self.invariant.room.attempts;
-      sweeps = c.self.invariant.room.sweeps;
-      results = c.self.invariant.room.results;
-    })
-    c.self.invariant.made
+invariant_of-self c = (follows_here c).master
