@@ -242,29 +242,47 @@ impl<L: Layout> Network<L> {
         ensures err { OnErr result (self.new ≡ self.old) }
         ensures limit { IfErr result (λ e. (e ≡ NetError.ArcLimit) ↔ (length self.old.arcs ≡ 1048576)) }
     {
+        let from = self.layout.index(from);
+        let to = self.layout.index(to);
+        self.add_between(FlowArc {
+            from: from as u16,
+            to: to as u16,
+            capacity: capacity as u16,
+            cost,
+        })
+    }
+
+    /// The same between the nodes of these indices.
+    pub fn add_between(&mut self, arc: FlowArc) -> Result<ArcNo, NetError>
+        requires from { arc.from < L.node_count self.old.layout }
+        requires to { arc.to < L.node_count self.old.layout }
+        requires capacity { arc.capacity ≤ 4096 }
+        requires cost { arc.cost < 2 ^ 39 }
+        ensures arc { IfOk result (λ a. a ≡ ArcNo.Forward (length self.old.arcs)) }
+        ensures arcs { OnOk result (self.new ≡ record self.old {
+          arcs = self.old.arcs ++ arc ∷ [];
+          flows = self.old.flows ++ 0 ∷ [];
+        }) }
+        ensures err { OnErr result (self.new ≡ self.old) }
+        ensures limit { IfErr result (λ e. (e ≡ NetError.ArcLimit) ↔ (length self.old.arcs ≡ 1048576)) }
+    {
         if self.arcs.len() >= MAX_ARCS {
             return Err(NetError::ArcLimit);
         }
         let number = self.arcs.len();
-        let from = self.layout.index(from);
-        let to = self.layout.index(to);
-        if self
-            .arcs
-            .push(FlowArc {
-                from: from as u16,
-                to: to as u16,
-                capacity: capacity as u16,
-                cost,
-            })
-            .is_err()
-        {
+        if self.arcs.push(arc).is_err() {
             return Err(NetError::Memory);
         }
         if self.flows.push(0).is_err() {
             self.arcs.truncate(number);
             return Err(NetError::Memory);
         }
-        match list_arc(&mut self.leaving, from, to, number as u32) {
+        match list_arc(
+            &mut self.leaving,
+            arc.from as usize,
+            arc.to as usize,
+            number as u32,
+        ) {
             Ok(()) => Ok(ArcNo::Forward(number as u32)),
             Err(_) => {
                 self.arcs.truncate(number);
