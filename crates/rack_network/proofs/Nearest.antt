@@ -1,82 +1,45 @@
--- The next of the nodes above holders, holder by holder.
+-- The next of the nodes above holders, by the nodes' places.
 use Rattle.std.proofs.Common.{◌≡◌, ℕ, ◌+◌, ◌<◌, ◌≤◌, true, List, length, get_or, Option, Some, None, refl}
 use Rattle.std.proofs.Common.{sym, ap, ◌∙◌, subst, ◌⊎◌, inl, inr, arith}
 use Rattle.std.proofs.lemmas.Bool.{cases_Bool, cases_lt, cases_eq, false≢true}
 use Rattle.wave_problem.specs.Wave.{Wave, split_at, worker_at, worker_in, live_holders}
 use Rattle.network_prices.specs.Ways.{IsAmong}
 use Rattle.rack_network.specs.Racks.{node_above, level_count, HasBars, IsReach}
-use Rattle.rack_network.specs.Build.{passed, ArePlaces, IsNearer, IsNextHolder, IsReachable}
+use Rattle.rack_network.specs.Build.{passed, ArePlaces, IsLeastFrom, IsNextHolder, IsNextNode, IsReachable}
 use Rattle.rack_network.proofs.Counts.{passed-more}
 use Rattle.rack_network.proofs.Levels.{among_kept, holder_live, holder_place}
 
--- the place of the node above the holder that is the next so far; past all nodes where there is none
-abbrev pub IsLeast : Wave → ℕ → Option ℕ → ℕ → Type 0
-IsLeast wave level None least = least ≡ 4096
-IsLeast wave level (Some h) least = (least ≡ node_above wave level h) × (least < 4096)
+-- a place more
+pub least_nearer : (places : List ℕ) (place n least : ℕ) → IsLeastFrom places place n least
+    → place ≤ get_or places n 0 → get_or places n 0 < least
+    → IsLeastFrom places place (n + 1) (get_or places n 0)
+least_nearer places place n least was low less = record {
+  most = (let most = was.most in omega arith);
+  found = λ few. (n, omega arith, refl, low);
+  least = λ j l past. elim (cases_eq j n) [
+    | inl q ↦ (let here = ap (λ (x : ℕ). get_or places x 0) q in omega arith)
+    | inr o ↦ (let old = was.least j (omega arith) past in omega arith)
+  ];
+}
 
-module _ (wave : Wave) (holders : List ℕ) (level place n : ℕ) where
-  pub next_found : (h : ℕ) (next : Option ℕ) → get_or holders n 0 ≡ h → IsReachable wave level h
-      → IsNearer wave level place h next
-      → IsNextHolder wave holders level place n next → IsNextHolder wave holders level place (n + 1) (Some h)
-  next_found h next at reached nearer was = record {
-    found = λ k e. (let same : h ≡ k = cc in (
-      n,
-      omega arith,
-      at ∙ same,
-      subst (IsReachable wave level) same reached,
-      (let low = nearer.0 in let node = ap (node_above wave level) same in omega arith),
-    ));
-    least = λ k j e l reach past.
-        (let same : h ≡ k = cc in
-        let node = ap (node_above wave level) same in
-        elim (cases_eq j n) [
-          | inl q ↦ (let here = ap (λ (x : ℕ). node_above wave level (get_or holders x 0)) q in
-              let own = ap (node_above wave level) at in omega arith)
-          | inr o ↦ far next refl j k (omega arith) reach past node
-        ]);
-    none = λ j e l reach. absurd (let no : Some h ≡ None = e in cc);
-  }
-    where
-      far : (o : Option ℕ) → next ≡ o → (j k : ℕ) → j < n → IsReachable wave level (get_or holders j 0)
-          → place ≤ node_above wave level (get_or holders j 0)
-          → node_above wave level h ≡ node_above wave level k
-          → node_above wave level k ≤ node_above wave level (get_or holders j 0)
-      far None e j k l reach past node = let before = was.none j e l reach in absurd (omega arith)
-      far (Some m) e j k l reach past node = let old = was.least m j e l reach past in
-          let less = nearer.1 m e in omega arith
+pub least_kept : (places : List ℕ) (place n least : ℕ) → IsLeastFrom places place n least
+    → (place ≤ get_or places n 0 → get_or places n 0 < least → ⊥)
+    → IsLeastFrom places place (n + 1) least
+least_kept places place n least was never = record {
+  most = was.most;
+  found = λ few. (let f = was.found few in let l = f.1 in (f.0, omega arith, f.2, f.3));
+  least = λ j l past. elim (cases_eq j n) [
+    | inr o ↦ was.least j (omega arith) past
+    | inl q ↦ (let here = ap (λ (x : ℕ). get_or places x 0) q in
+        elim (cases_lt (get_or places n 0) least) [
+          | inr m ↦ omega arith
+          | inl less ↦ absurd (never (omega arith) less)
+        ])
+  ];
+}
 
-  pub next_kept : (h : ℕ) (next : Option ℕ) → get_or holders n 0 ≡ h
-      → (IsReachable wave level h → IsNearer wave level place h next → ⊥)
-      → IsNextHolder wave holders level place n next → IsNextHolder wave holders level place (n + 1) next
-  next_kept h next at never was = record {
-    found = λ k e. (let f = was.found k e in let l = f.1 in (f.0, omega arith, f.2, f.3, f.4));
-    least = λ k j e l reach past. elim (cases_eq j n) [
-      | inr o ↦ was.least k j e (omega arith) reach past
-      | inl q ↦
-          (let here : get_or holders j 0 ≡ h = ap (λ (x : ℕ). get_or holders x 0) q ∙ at in
-          let node = ap (node_above wave level) here in
-          elim (cases_lt (node_above wave level h) (node_above wave level k)) [
-            | inr m ↦ omega arith
-            | inl less ↦ absurd (never (subst (IsReachable wave level) here reach) (
-              omega arith,
-              λ m e'. (let both : Some k ≡ Some m = sym e ∙ e' in let same : k ≡ m = cc in
-                  let other = ap (node_above wave level) same in omega arith),
-            ))
-          ])
-    ];
-    none = λ j e l reach. elim (cases_eq j n) [
-      | inr o ↦ was.none j e (omega arith) reach
-      | inl q ↦
-          (let here : get_or holders j 0 ≡ h = ap (λ (x : ℕ). get_or holders x 0) q ∙ at in
-          let node = ap (node_above wave level) here in
-          elim (cases_lt (node_above wave level h) place) [
-            | inl l ↦ omega arith
-            | inr m ↦ absurd (never (subst (IsReachable wave level) here reach)
-                (omega arith, λ k e'. absurd (let no : None ≡ Some k = sym e ∙ e' in cc)))
-          ])
-    ];
-  }
-
+module _ (wave : Wave) (holders : List ℕ) (level place : ℕ) (places : List ℕ) (few : length holders ≤ 8)
+    (are : ArePlaces wave holders level places) where
   reached_or_not : (h : ℕ) → IsReachable wave level h ⊎ (IsReachable wave level h → ⊥)
   reached_or_not h = elim (cases_Bool (worker_at wave h).live) [
     | inr dead ↦ inr (λ r. false≢true (sym dead ∙ r.0))
@@ -89,58 +52,60 @@ module _ (wave : Wave) (holders : List ℕ) (level place n : ℕ) where
     ]
   ]
 
-  -- the holder of a node that is nearer, by the nodes' places
-  pub next_nearer : (places : List ℕ) (least node h : ℕ) (next : Option ℕ)
-      → ArePlaces wave holders level places → n < length holders → get_or holders n 0 ≡ h
-      → get_or places n 0 ≡ node → place ≤ node → node < least
-      → IsNextHolder wave holders level place n next → IsLeast wave level next least
-      → IsNextHolder wave holders level place (n + 1) (Some h) × IsLeast wave level (Some h) node
-  next_nearer places least node h next are inside at here low less was known =
-      let own = are n inside in
-      let up = ap (node_above wave level) at in
-      let top = least_low next known in
-      elim (reached_or_not (get_or holders n 0)) [
-        | inr out ↦ absurd (let far = own.1 out in omega arith)
-        | inl reached ↦ (let is = own.0 reached in (
-          next_found h next at (subst (IsReachable wave level) at reached) (
-            omega arith,
-            λ k e. (let same = subst (λ (o : Option ℕ). IsLeast wave level o least) e known in
-                omega arith),
-          )
-              was,
-          (omega arith, omega arith),
-        ))
-      ]
-    where
-      least_low : (o : Option ℕ) → IsLeast wave level o least → least ≤ 4096
-      least_low None e = omega arith
-      least_low (Some g) e = let below = e.1 in omega arith
+  -- at a place stands the node above a holder that is reached
+  stands : (j node : ℕ) → j < 8 → get_or places j 0 ≡ node → node < 4096 → (j < length holders)
+      × IsReachable wave level (get_or holders j 0) × (node ≡ node_above wave level (get_or holders j 0))
+  stands j node inside at low = elim (cases_lt j (length holders)) [
+    | inr past ↦ absurd (let out = are.others j (omega arith) inside in omega arith)
+    | inl l ↦ elim (reached_or_not (get_or holders j 0)) [
+      | inr out ↦ absurd (let far = (are.own j l).1 out in omega arith)
+      | inl reached ↦ (let is = (are.own j l).0 reached in let same = is.0 in (l, reached, omega arith))
+    ]
+  ]
 
-  -- any other holder
-  pub next_no_nearer : (places : List ℕ) (least node h : ℕ) (next : Option ℕ)
-      → ArePlaces wave holders level places → n < length holders → get_or holders n 0 ≡ h
-      → get_or places n 0 ≡ node → (place ≤ node → node < least → ⊥)
-      → IsNextHolder wave holders level place n next → IsLeast wave level next least
-      → IsNextHolder wave holders level place (n + 1) next
-  next_no_nearer places least node h next are inside at here never was known =
-      next_kept h next at
-      (λ reached nearer.
-      (let is = (are n inside).0 (subst (IsReachable wave level) (sym at) reached) in
-      let up = ap (node_above wave level) at in
-      let low = nearer.0 in
-      never (omega arith) (below next known nearer (omega arith) (omega arith))))
-      was
-    where
-      below : (o : Option ℕ) → IsLeast wave level o least → IsNearer wave level place h o
-          → node ≡ node_above wave level h → node < 4096 → node < least
-      below None e nearer is few = omega arith
-      below (Some g) e nearer is few = let less = nearer.1 g refl in let same = e.0 in omega arith
+  pub next_is : (node : ℕ) → node < 4096 → IsLeastFrom places place 8 node
+      → IsNextNode wave holders level place (Some node)
+  next_is node low is =
+      let f = is.found low in
+      let s = stands f.0 node f.1 f.2 low in
+      let own = s.2 in
+      let past = f.3 in (
+        get_or holders f.0 0,
+        record {
+          found = λ h e. (let same : get_or holders f.0 0 ≡ h = cc in
+              let up = ap (node_above wave level) same in
+              (f.0, s.0, same, subst (IsReachable wave level) same s.1, omega arith));
+          least = λ h j e l reach low'.
+              (let same : get_or holders f.0 0 ≡ h = cc in
+              let up = ap (node_above wave level) same in
+              let at = ((are.own j l).0 reach).0 in
+              let less = is.least j (omega arith) (omega arith) in
+              omega arith);
+          none = λ j e l reach. absurd (let no : Some (get_or holders f.0 0) ≡ None = e in cc);
+        },
+        own,
+      )
+
+  pub next_is_none : (node : ℕ) → (node < 4096 → ⊥) → IsLeastFrom places place 8 node
+      → IsNextNode wave holders level place None
+  next_is_none node high is = record {
+    found = λ h e. absurd (let no : None ≡ Some h = e in cc);
+    least = λ h j e l reach low. absurd (let no : None ≡ Some h = e in cc);
+    none = λ j e l reach.
+        (let own = (are.own j l).0 reach in
+        let at = own.0 in
+        let in_time = own.1 in
+        elim (cases_lt (node_above wave level (get_or holders j 0)) place) [
+          | inl before ↦ before
+          | inr m ↦ absurd (let less = is.least j (omega arith) (omega arith) in high (omega arith))
+        ]);
+  }
 
 -- the same for the holders of a split, and what it says of the nodes that the split reaches
 module _ (wave : Wave) (s level place : ℕ) (pending : (split_at wave s).pending ≡ true)
     (no_bars : HasBars wave s → ⊥) (known : level < level_count wave) where
   abbrev Next : Option ℕ → Type 0
-  Next next = IsNextHolder wave (split_at wave s).holders level place (length (split_at wave s).holders) next
+  Next next = IsNextHolder wave (split_at wave s).holders level place next
 
   pub next_reach : (h : ℕ) → Next (Some h) → IsReach wave s level h
   next_reach h next =

@@ -43,7 +43,7 @@ module _ (wave : Wave) (tree : IsTree wave) where
   reach_at s level h reach =
       level_at wave tree level h reach.known (live_known wave h (holder_live wave s h reach.holder))
 
-  reach_in : (s level h : ℕ) → IsReach wave s level h
+  pub reach_in : (s level h : ℕ) → IsReach wave s level h
       → (cluster_node wave ≤ node_above wave level h) × (node_above wave level h < unstarted_node wave)
   reach_in s level h reach =
       let at = reach_at s level h reach in

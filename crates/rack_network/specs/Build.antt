@@ -2,6 +2,7 @@
 use Rattle.std.specs.Prelude.{ℕ, zero, suc, ◌≡◌, ◌+◌, ◌*◌, ◌<◌, ◌≤◌, ◌==◌, nat_lt, true, cond, List, [], ◌∷◌}
 use Rattle.std.specs.Prelude.{length, slice_index, Option, Some, None}
 use Rattle.wave_problem.specs.Sums.{sum_below}
+use Rattle.wave_problem.specs.declared.TheConstants.{MAX_HOLDERS}
 use Rattle.wave_problem.specs.Wave.{Wave, worker_at}
 use Rattle.flow_network.specs.Flow.{Flow}
 use Rattle.network_prices.specs.Tables.{IsBuiltTo}
@@ -30,31 +31,40 @@ level_end wave (suc (suc (suc level))) = centre_node wave 0
 abbrev pub IsReachable : Wave → ℕ → ℕ → Type 0
 IsReachable wave level h = ((worker_at wave h).live ≡ true) × (level ≡ 0 → 0 < (worker_at wave h).free)
 
--- the node above a worker is no earlier than a place, and earlier than that above another
-abbrev pub IsNearer : Wave → ℕ → ℕ → ℕ → Option ℕ → Type 0
-IsNearer wave level place h next = (place ≤ node_above wave level h)
-    × ((k : ℕ) → next ≡ Some k → node_above wave level h < node_above wave level k)
-
 -- the place of the node above a holder; past all nodes where the holder is not reached
 abbrev pub IsPlaceOf : Wave → ℕ → ℕ → ℕ → Type 0
 IsPlaceOf wave level h place =
     (IsReachable wave level h → (place ≡ node_above wave level h) × (place < 4096))
     × ((IsReachable wave level h → ⊥) → place ≡ 4096)
 
-abbrev pub ArePlaces : Wave → List ℕ → ℕ → List ℕ → Type 0
-ArePlaces wave holders level places = (j : ℕ) → j < length holders
-    → IsPlaceOf wave level (slice_index holders j) (slice_index places j)
+-- those of some holders, and no place more
+pub record ArePlaces (wave : Wave) (holders : List ℕ) (level : ℕ) (places : List ℕ) : Type 0 where
+  pub own : (j : ℕ) → j < length holders
+      → IsPlaceOf wave level (slice_index holders j) (slice_index places j)
+  pub others : (j : ℕ) → length holders ≤ j → j < MAX_HOLDERS → slice_index places j ≡ 4096
 
--- of the first n holders, one below the first node of a level from a place on
-pub record IsNextHolder (wave : Wave) (holders : List ℕ) (level place n : ℕ) (next : Option ℕ) : Type 0 where
-  pub found : (h : ℕ) → next ≡ Some h → (i : ℕ) × (i < n) × (slice_index holders i ≡ h)
+-- the least of the first n places from one on; past all nodes where there is none
+pub record IsLeastFrom (places : List ℕ) (place n node : ℕ) : Type 0 where
+  pub most : node ≤ 4096
+  pub found : node < 4096 → (j : ℕ) × (j < n) × (slice_index places j ≡ node) × (place ≤ node)
+  pub least : (j : ℕ) → j < n → place ≤ slice_index places j → node ≤ slice_index places j
+
+-- a holder below the first node of a level from a place on
+pub record IsNextHolder (wave : Wave) (holders : List ℕ) (level place : ℕ) (next : Option ℕ) : Type 0 where
+  pub found : (h : ℕ) → next ≡ Some h → (i : ℕ) × (i < length holders) × (slice_index holders i ≡ h)
       × IsReachable wave level h
       × (place ≤ node_above wave level h)
-  pub least : (h j : ℕ) → next ≡ Some h → j < n → IsReachable wave level (slice_index holders j)
+  pub least : (h j : ℕ) → next ≡ Some h → j < length holders → IsReachable wave level (slice_index holders j)
       → place ≤ node_above wave level (slice_index holders j)
       → node_above wave level h ≤ node_above wave level (slice_index holders j)
-  pub none : (j : ℕ) → next ≡ None → j < n → IsReachable wave level (slice_index holders j)
+  pub none : (j : ℕ) → next ≡ None → j < length holders → IsReachable wave level (slice_index holders j)
       → node_above wave level (slice_index holders j) < place
+
+-- that node
+abbrev pub IsNextNode : Wave → List ℕ → ℕ → ℕ → Option ℕ → Type 0
+IsNextNode wave holders level place (Some node) = (h : ℕ) × IsNextHolder wave holders level place (Some h)
+    × (node ≡ node_above wave level h)
+IsNextNode wave holders level place None = IsNextHolder wave holders level place None
 
 -- how many of the holders stand below a node of a level before a place
 abbrev pub passed : Wave → ℕ → ℕ → List ℕ → ℕ

@@ -1,5 +1,5 @@
 //! Builds the rack network of a problem.
-ghost use Rattle.std.specs.Prelude.{◌≡◌, ℕ, ◌+◌, ◌-◌, ◌*◌, ◌<◌, ◌≤◌, ◌^◌, ◌∷◌, ◌++◌, ◌↔◌, [], true, length};
+ghost use Rattle.std.specs.Prelude.{◌≡◌, ℕ, ◌+◌, ◌-◌, ◌*◌, ◌<◌, ◌≤◌, ◌^◌, ◌∷◌, ◌++◌, ◌↔◌, List, [], true, length};
 ghost use Rattle.std.specs.Prelude.{All, IfOk, IfSome, IsTrue, OnOk, Some, slice_index};
 ghost use Rattle.wave_problem.specs.Wave.{reward as reward_in, split_at, worker_at, Wave, IsUsable};
 ghost use Rattle.wave_problem.specs.declared.TheConstants.{MAX_HOLDERS, MAX_SPLITS};
@@ -8,13 +8,13 @@ ghost use Rattle.rack_network.specs.Racks.{arc_of, centre_node, centre_of, clust
 ghost use Rattle.rack_network.specs.Racks.{node_above, rack_node, rack_of, worker_node, unstarted_node};
 ghost use Rattle.rack_network.specs.Racks.{HasBars, IsRackNetwork, IsSized, IsTree, IsWanted};
 ghost use Rattle.rack_network.specs.Build.{branch_arcs, feed_arcs, in_places, level_end, level_start};
-ghost use Rattle.rack_network.specs.Build.{split_arcs, trunk_arcs, ArePlaces, IsBuilt, IsNextHolder};
-ghost use Rattle.rack_network.specs.Build.{IsPlaceOf};
+ghost use Rattle.rack_network.specs.Build.{split_arcs, trunk_arcs, ArePlaces, IsBuilt, IsLeastFrom};
+ghost use Rattle.rack_network.specs.Build.{IsNextNode, IsPlaceOf};
 ghost use Rattle.rack_network.specs.Build.{IsReachable};
 
 use crate::places::{first_centre, first_rack, first_worker, place_above};
 use crate::{LEVELS, RackArc, RackLayout, RackNode};
-use flow_network::{NetError, Network};
+use flow_network::{FlowArc, NetError, Network};
 use node_ids::{CentreNo, RackNo, SplitNo, WorkerNo};
 use std::alloc::{AllocError, Global};
 use wave_problem::{MAX_HOLDERS, Problem, SplitCosts};
@@ -255,11 +255,50 @@ fn add_level(
     let places = places_of(problem, holders, level, first);
     let cost = problem.bytes(split) * (2 * u64::from(level));
     let mut place = first;
-    while let Some(holder) = next_reached(holders, &places, place) {
-        add(network, problem, RackArc::Reach(split, level, holder), cost)?;
-        place = place_above(problem, level, first, holder) + 1;
+    while let Some(node) = next_node(&places, place) {
+        add_reach(network, problem, split, level, node, cost)?;
+        place = node + 1;
     }
     Ok(())
+}
+
+// Adds the arc to the node at this place, which stands so many levels above a holder.
+#[inline(always)]
+fn add_reach(
+    network: &mut Network<RackLayout>,
+    problem: &Problem,
+    split: SplitNo,
+    level: u8,
+    node: usize,
+    cost: u64,
+) -> Result<(), AllocError>
+    requires split { split < length problem.now.splits }
+    requires node { node < unstarted_node problem.now }
+    requires layout { IsSized problem.now network.old.layout }
+    requires cost { cost ≡ (split_at problem.now split).bytes * (2 * level) }
+    requires small { cost < 2 ^ 39 }
+    requires room { length network.old.arcs < MAX_ARCS }
+    ensures layout { OnOk result (network.new.layout ≡ network.old.layout) }
+    ensures arcs { OnOk result ((h : ℕ) → node ≡ node_above problem.now level h
+        → network.new.arcs ≡ network.old.arcs ++ arc_of problem.now (RackArc.Reach split level h) ∷ []) }
+    ensures flows { OnOk result (network.new.flows ≡ network.old.flows ++ 0 ∷ []) }
+{
+    // (there are few of each)
+    let _splits = problem.splits();
+    let tree = problem.tree();
+    let _centres = tree.centres();
+    let _racks = tree.racks();
+    let arc = FlowArc {
+        from: split.index() as u16,
+        to: node as u16,
+        capacity: 1,
+        cost,
+    };
+    match network.add_between(arc) {
+        Ok(_) => Ok(()),
+        Err(NetError::Memory) => Err(AllocError),
+        Err(NetError::ArcLimit) => unreachable!(),
+    }
 }
 
 // The places of the nodes of a level above the holders, the first of which is told; past all nodes where a
@@ -299,22 +338,29 @@ fn place_of(problem: &Problem, level: u8, first: usize, holder: WorkerNo) -> usi
     }
 }
 
-// The first of the nodes at these places, one for each holder, from a place on, by its holder.
+// The first of the nodes at these places, from one on.
 #[inline(always)]
-fn next_reached(holders: &[WorkerNo], places: &[usize], place: usize) -> Option<WorkerNo>
-    requires { length holders.now ≤ length places.now }
-    ensures { (wave : Wave) (level : ℕ) → ArePlaces wave holders.now level places.now
-        → IsNextHolder wave holders.now level place (length holders.now) result }
+fn next_node(places: &[usize; MAX_HOLDERS], place: usize) -> Option<usize>
+    ensures { (wave : Wave) (holders : List ℕ) (level : ℕ) → length holders ≤ MAX_HOLDERS
+        → ArePlaces wave holders level places.now → IsNextNode wave holders level place result }
 {
-    let mut next = None;
+    let node = least_from(places, place);
+    if node < NO_PLACE { Some(node) } else { None }
+}
+
+// The least of the places from one on; past all nodes where there is none. It goes over all of them, so that
+// the processor has no turn to guess.
+#[inline(never)]
+fn least_from(places: &[usize; MAX_HOLDERS], place: usize) -> usize
+    ensures { IsLeastFrom places.now place MAX_HOLDERS result }
+{
     let mut least = NO_PLACE;
-    for i in 0..holders.len() {
+    for i in 0..MAX_HOLDERS {
         if is_nearer(place, places[i], least) {
-            next = Some(holders[i]);
             least = places[i];
         }
     }
-    next
+    least
 }
 
 // Whether a node is no earlier than the place, and earlier than the first one so far.
