@@ -40,10 +40,10 @@ pair_of_own e p h =
     subst (Contains (pairs_of_entry e)) m.2 m.1
 
 module _ {X : Type 0} where
-  first_is_there : (x : X) (xs : List X) → Contains (x ∷ xs) x
+  pub first_is_there : (x : X) (xs : List X) → Contains (x ∷ xs) x
   first_is_there x xs = Contains-append_left (x ∷ []) xs x (Contains-push [] x)
 
-  only_one : (x y : X) → Contains (x ∷ []) y → x ≡ y
+  pub only_one : (x y : X) → Contains (x ∷ []) y → x ≡ y
   only_one x y h = ⊎_elim (λ none. absurd (omega (arith, none.1))) (λ is. is) (Contains-push_cases [] x y h)
 
 -- a pair of the entries is a pair of one of them

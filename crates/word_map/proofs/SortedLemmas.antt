@@ -1,12 +1,13 @@
 -- The entries of a table whose words are in order.
 use Rattle.std.proofs.Common.{◌≡◌, ℕ, ◌+◌, ◌<◌, List, [], ◌∷◌, ◌++◌, length, get_or, map, Some, sym, refl, ap}
-use Rattle.std.proofs.Common.{◌∙◌, subst, arith, append-nil, append_assoc, Vec, inl, inr, ◌⊎◌, ⊎_elim}
+use Rattle.std.proofs.Common.{take, drop, ◌∙◌, subst, arith, append-nil, append_assoc, inl, inr, ◌⊎◌, ⊎_elim}
+use Rattle.std.proofs.Math.Seq.{take-length, drop-length}
 use Rattle.std.specs.Prelude.{◌↔◌, Contains, All, AllPairs, IsSorted, IsSome, nat_eq}
-use Rattle.std.specs.List.{IsDistinct}
+use Rattle.std.specs.List.{IsDistinct, refill}
 use Rattle.std.specs.List.Sorted.{IsStrictlySortedBy}
 use Rattle.std.specs.Map.{keys_of}
 use Rattle.std.specs.Option.{option_map_or}
-use Rattle.std.specs.declared.alloc.Global.{Global}
+use Rattle.smallvec.specs.SmallVec.{SmallVec}
 use Rattle.std.specs.Cmp.Lexicographic.{pointwise, slice_cmp}
 use Rattle.std.specs.Ordering.{nat_cmp, is_lt, ordering_reverse}
 use Rattle.std.specs.declared.cmp.Ordering.{Ordering}
@@ -49,26 +50,26 @@ words_rise words sorted apart = sorted_from_all_adjacent nat_list_cmp_total word
         absurd (false≢true (sym (sorted k [] (omega arith) low) ∙ ap is_lt back))
 
 -- the entries that were made so far of a table, of which some are left
-pub record AreMade (table left : List (List ℕ × Vec ℕ Global)) (made : List EntryView) : Type 0 where
+pub record AreMade (table left : List (List ℕ × SmallVec ℕ)) (made : List EntryView) : Type 0 where
   pub words : map (λ (e : EntryView). e.word) made ++ keys_of left ≡ keys_of table
   pub documents : All DocumentsRise made
   pub some : All (λ (e : EntryView). 0 < length e.documents) made
-  pub left_some : All (λ (e : List ℕ × Vec ℕ Global). 0 < length e.1.items) left
+  pub left_some : All (λ (e : List ℕ × SmallVec ℕ). 0 < length e.1.items) left
   pub same : (pair : Pair) → (Contains (pairs_of_index made) pair ⊎ Contains
       (pairs_of_index (views left)) pair) ↔ Contains (pairs_of_index (views table)) pair
 
 -- each entry of a table has a document
-entries_have_some : {S : Type 0} (m : HashMap (List ℕ) (Vec ℕ Global) S) → IsTable m →
-    All (λ (e : List ℕ × Vec ℕ Global). 0 < length e.1.items) m.entries
+entries_have_some : {S : Type 0} (m : HashMap (List ℕ) (SmallVec ℕ) S) → IsTable m →
+    All (λ (e : List ℕ × SmallVec ℕ). 0 < length e.1.items) m.entries
 entries_have_some m is k d low =
-    let e : List ℕ × Vec ℕ Global = get_or m.entries k d in
+    let e : List ℕ × SmallVec ℕ = get_or m.entries k d in
     let at : get (pointwise nat_eq) m e.0 ≡ Some e.1 = (found m is.unique e.0 e.1).1
     (Contains-get_or m.entries k d low) in
     let documents : documents_of m e.0 ≡ e.1.items = ap
-    (λ o. option_map_or (λ (v : Vec ℕ Global). v.items) o []) at in
+    (λ o. option_map_or (λ (v : SmallVec ℕ). v.items) o []) at in
     subst (λ ds. 0 < length ds) documents (is.some e.0 (subst IsSome (sym at) refl))
 
-pub made_none : {S : Type 0} (m : HashMap (List ℕ) (Vec ℕ Global) S) → IsTable m →
+pub made_none : {S : Type 0} (m : HashMap (List ℕ) (SmallVec ℕ) S) → IsTable m →
     AreMade m.entries m.entries []
 made_none m is = record {
   words = refl;
@@ -90,8 +91,8 @@ same_own entry was word same pair = (
 )
 
 -- one more entry
-pub made_more : (table left : List (List ℕ × Vec ℕ Global)) (made : List EntryView) (word : List ℕ)
-    (documents : Vec ℕ Global) (entry : EntryView) → AreMade table ((word, documents) ∷ left) made →
+pub made_more : (table left : List (List ℕ × SmallVec ℕ)) (made : List EntryView) (word : List ℕ)
+    (documents : SmallVec ℕ) (entry : EntryView) → AreMade table ((word, documents) ∷ left) made →
     entry.word ≡ word → DocumentsRise entry → ((n : ℕ) →
     Contains entry.documents n ↔ Contains documents.items n) → AreMade table left (made ++ entry ∷ [])
 made_more table left made word documents entry before is rises same = record {
@@ -100,7 +101,7 @@ made_more table left made word documents entry before is rises same = record {
       ∙ ap (λ w. map (λ (e : EntryView). e.word) made ++ w ∷ keys_of left) is ∙ before.words;
   documents = All-push DocumentsRise made entry before.documents rises;
   some = All-push (λ (e : EntryView). 0 < length e.documents) made entry before.some has_some;
-  left_some = All-rest (λ (e : List ℕ × Vec ℕ Global). 0 < length e.1.items) (word, documents) left
+  left_some = All-rest (λ (e : List ℕ × SmallVec ℕ). 0 < length e.1.items) (word, documents) left
       ((word, documents) ∷ left) refl before.left_some;
   same = λ pair. (forth pair, back pair);
 }
@@ -149,7 +150,7 @@ made_more table left made word documents entry before is rises same = record {
         ((before.same pair).1 h)
 
 -- when none is left
-pub made_all : (table : List (List ℕ × Vec ℕ Global)) (made : List EntryView) →
+pub made_all : (table : List (List ℕ × SmallVec ℕ)) (made : List EntryView) →
     IsSorted (slice_cmp nat_cmp) (keys_of table) → IsDistinct (pointwise nat_eq) (keys_of table) →
     AreMade table [] made → AreEntries made
 made_all table made sorted apart all = record { words = words; documents = all.documents; some = all.some }
@@ -170,9 +171,18 @@ made_all table made sorted apart all = record { words = words; documents = all.d
         (subst (λ w. slice_cmp nat_cmp (get_or (map (λ (e : EntryView). e.word) made) i d.word) w ≡ Less)
         (get_or-map (λ (e : EntryView). e.word) made j d) less)
 
-pub pairs_of_made : (table : List (List ℕ × Vec ℕ Global)) (made : List EntryView) → AreMade table [] made →
+pub pairs_of_made : (table : List (List ℕ × SmallVec ℕ)) (made : List EntryView) → AreMade table [] made →
     (pair : Pair) → Contains (pairs_of_index made) pair ↔ Contains (pairs_of_index (views table)) pair
 pairs_of_made table made all pair = (
   (λ h. (all.same pair).0 (inl h)),
   (λ h. ⊎_elim (λ all. all) (λ none. absurd (omega (arith, none.1))) ((all.same pair).1 h)),
 )
+
+-- what is written over a whole list is what is there
+pub refill_same : {X : Type 0} (xs ws : List X) → length ws ≡ length xs → refill (length xs) xs ws ≡ ws
+refill_same xs ws long =
+    ap (λ n. take (length xs) (ws ++ drop n xs)) long
+    ∙ ap (λ left. take (length xs) (ws ++ left)) (drop-length xs)
+    ∙ ap (take (length xs)) (append-nil ws)
+    ∙ ap (λ n. take n ws) (sym long)
+    ∙ take-length ws

@@ -1,10 +1,10 @@
 -- A table's pairs, by its words and as a list.
 use Rattle.std.proofs.Common.{◌≡◌, ℕ, ◌+◌, ◌<◌, Bool, true, false, cond, get_or, take, List, [], ◌∷◌, ◌++◌}
-use Rattle.std.proofs.Common.{length, Some, None, Option, sym, refl, ap, ◌∙◌, subst, arith, Vec, inl, inr}
+use Rattle.std.proofs.Common.{length, Some, None, Option, sym, refl, ap, ◌∙◌, subst, arith, inl, inr}
 use Rattle.std.proofs.Common.{◌⊎◌, ⊎_elim}
 use Rattle.std.specs.Prelude.{◌↔◌, Contains, Any, nat_eq}
 use Rattle.std.specs.Option.{option_map_or}
-use Rattle.std.specs.declared.alloc.Global.{Global}
+use Rattle.smallvec.specs.SmallVec.{SmallVec}
 use Rattle.std.specs.Cmp.Lexicographic.{pointwise, nat_list_eq_equiv}
 use Rattle.std.specs.HashMap.{HashMap, get, IsUnique, Updates}
 use Rattle.std.proofs.lemmas.Bool.{false≢true}
@@ -21,38 +21,38 @@ use Rattle.word_map.specs.Table.{documents_of, Has, IsTable, views, AddsPairs}
 use Rattle.word_map.proofs.EntryLemmas.{HasPair, own_from_pair, pair_of_own, pair_in_entries, entries_of_pair}
 use Rattle.word_map.proofs.PairLemmas.{any_map, any_from_map, any_from_member, member_from_any}
 
-module _ {S : Type 0} (m : HashMap (List ℕ) (Vec ℕ Global) S) (unique : IsUnique (pointwise nat_eq) m) where
-  pub found : (w : List ℕ) (d : Vec ℕ Global) → (get (pointwise nat_eq) m w ≡ Some d) ↔ Contains m.entries
+module _ {S : Type 0} (m : HashMap (List ℕ) (SmallVec ℕ) S) (unique : IsUnique (pointwise nat_eq) m) where
+  pub found : (w : List ℕ) (d : SmallVec ℕ) → (get (pointwise nat_eq) m w ≡ Some d) ↔ Contains m.entries
       (w, d)
   found w d = hash_map_get_iff nat_list_eq_equiv (λ x y. (bytes_eq-Decides x y).0) m unique w d
 
-  from_found : (p : Pair) (o : Option (Vec ℕ Global)) → get (pointwise nat_eq) m p.word ≡ o →
-      Contains (option_map_or (λ (d : Vec ℕ Global). d.items) o []) p.document →
-      Any (λ (e : List ℕ × Vec ℕ Global). (e.0 ≡ p.word) × Contains e.1.items p.document) m.entries
+  from_found : (p : Pair) (o : Option (SmallVec ℕ)) → get (pointwise nat_eq) m p.word ≡ o →
+      Contains (option_map_or (λ (d : SmallVec ℕ). d.items) o []) p.document →
+      Any (λ (e : List ℕ × SmallVec ℕ). (e.0 ≡ p.word) × Contains e.1.items p.document) m.entries
   from_found p None is h = absurd (omega (arith, h.1))
-  from_found p (Some d) is h = any_from_member (λ (e : List ℕ × Vec ℕ Global). (e.0 ≡ p.word)
+  from_found p (Some d) is h = any_from_member (λ (e : List ℕ × SmallVec ℕ). (e.0 ≡ p.word)
       × Contains e.1.items p.document) m.entries (p.word, d) ((found p.word d).0 is) (refl, h)
 
   -- the pairs of the table's entries are what it has
   pub pairs_of_table : (p : Pair) → Contains (pairs_of_index (views m.entries)) p ↔ Has m p.word p.document
   pairs_of_table p = (
     (λ h.
-        let e = member_from_any (λ (e : List ℕ × Vec ℕ Global). (e.0 ≡ p.word)
+        let e = member_from_any (λ (e : List ℕ × SmallVec ℕ). (e.0 ≡ p.word)
         × Contains e.1.items p.document) m.entries
-        (any_from_map (λ (e : List ℕ × Vec ℕ Global). let v : EntryView =
+        (any_from_map (λ (e : List ℕ × SmallVec ℕ). let v : EntryView =
         record { word = e.0; documents = e.1.items } in v) (HasPair p) m.entries
         (entries_of_pair (views m.entries) p h)) in
         let at : get (pointwise nat_eq) m p.word ≡ Some e.0.1 =
         (found p.word e.0.1).1 (subst (λ w. Contains m.entries (w, e.0.1)) e.2.0 e.1) in
-        subst (λ o. Contains (option_map_or (λ (d : Vec ℕ Global). d.items) o []) p.document) (sym at) e.2.1),
+        subst (λ o. Contains (option_map_or (λ (d : SmallVec ℕ). d.items) o []) p.document) (sym at) e.2.1),
     (λ h. pair_in_entries (views m.entries) p
-        (any_map (λ (e : List ℕ × Vec ℕ Global). let v : EntryView =
+        (any_map (λ (e : List ℕ × SmallVec ℕ). let v : EntryView =
         record { word = e.0; documents = e.1.items } in v) (HasPair p) m.entries
         (from_found p (get (pointwise nat_eq) m p.word) refl h))),
   )
 
 -- what a table has more than before, its entries' pairs have more
-pub adds_pairs : {S : Type 0} {m n : HashMap (List ℕ) (Vec ℕ Global) S} (Added : List ℕ → ℕ → Type 0) →
+pub adds_pairs : {S : Type 0} {m n : HashMap (List ℕ) (SmallVec ℕ) S} (Added : List ℕ → ℕ → Type 0) →
     IsTable m → IsTable n → ((w : List ℕ) (k : ℕ) → Has n w k ↔ (Has m w k ⊎ Added w k)) →
     AddsPairs (views m.entries) (views n.entries) (λ pair. Added pair.word pair.document)
 adds_pairs {S} {m} {n} Added was is adds = record {
@@ -115,8 +115,8 @@ adds_entry entry {old} {new} adds = record {
 }
 
 -- the documents of a word are more
-pub documents_more : {S : Type 0} (m n : HashMap (List ℕ) (Vec ℕ Global) S) (word : List ℕ)
-    (was is : Vec ℕ Global) (numbers : List ℕ) → get (pointwise nat_eq) m word ≡ Some was →
+pub documents_more : {S : Type 0} (m n : HashMap (List ℕ) (SmallVec ℕ) S) (word : List ℕ)
+    (was is : SmallVec ℕ) (numbers : List ℕ) → get (pointwise nat_eq) m word ≡ Some was →
     Updates (pointwise nat_eq) m n word (Some is) → is.items ≡ was.items ++ numbers → (w : List ℕ) (k : ℕ) →
     Has n w k ↔ (Has m w k ⊎ ((w ≡ word) × Contains numbers k))
 documents_more m n word was is numbers at updates more w k = by (pointwise nat_eq word w) refl
@@ -126,10 +126,10 @@ documents_more m n word was is numbers at updates more w k = by (pointwise nat_e
     by true e =
         let same : word ≡ w = (bytes_eq-Decides word w).0 e in
         let new : documents_of n w ≡ was.items ++ numbers =
-        ap (λ o. option_map_or (λ (d : Vec ℕ Global). d.items) o [])
+        ap (λ o. option_map_or (λ (d : SmallVec ℕ). d.items) o [])
         (updates.0 w ∙ ap (λ b. cond b (Some is) (get (pointwise nat_eq) m w)) e) ∙ more in
         let old : documents_of m w ≡ was.items = ap (λ o. option_map_or
-        (λ (d : Vec ℕ Global). d.items) o []) (ap (get (pointwise nat_eq) m) (sym same) ∙ at) in (
+        (λ (d : SmallVec ℕ). d.items) o []) (ap (get (pointwise nat_eq) m) (sym same) ∙ at) in (
           (λ h. ⊎_elim (λ o. inl (subst (λ ds. Contains ds k) (sym old) o)) (λ this. inr (sym same, this))
               (Contains-append_cases was.items numbers k (subst (λ ds. Contains ds k) new h))),
           (λ h. subst (λ ds. Contains ds k) (sym new) (⊎_elim
@@ -139,7 +139,7 @@ documents_more m n word was is numbers at updates more w k = by (pointwise nat_e
         )
     by false e =
         let kept : documents_of n w ≡ documents_of m w =
-        ap (λ o. option_map_or (λ (d : Vec ℕ Global). d.items) o [])
+        ap (λ o. option_map_or (λ (d : SmallVec ℕ). d.items) o [])
         (updates.0 w ∙ ap (λ b. cond b (Some is) (get (pointwise nat_eq) m w)) e) in (
           (λ h. inl (subst (λ ds. Contains ds k) kept h)),
           (λ h. ⊎_elim
@@ -156,11 +156,11 @@ pairs_of_permutation xs ys moved pair h =
     (Contains-permutation xs ys m.0 moved m.1) m.2)
 
 -- entries in another order have the same pairs
-pub pairs_of_reordered : (xs ys : List (List ℕ × Vec ℕ Global)) → IsPermutation xs ys → (pair : Pair) →
+pub pairs_of_reordered : (xs ys : List (List ℕ × SmallVec ℕ)) → IsPermutation xs ys → (pair : Pair) →
     Contains (pairs_of_index (views xs)) pair ↔ Contains (pairs_of_index (views ys)) pair
 pairs_of_reordered xs ys moved pair =
     let shown : IsPermutation (views xs) (views ys) = IsPermutation-map
-    (λ (e : List ℕ × Vec ℕ Global). let v : EntryView =
+    (λ (e : List ℕ × SmallVec ℕ). let v : EntryView =
     record { word = e.0; documents = e.1.items } in v) xs ys moved in (
       pairs_of_permutation (views xs) (views ys) shown pair,
       pairs_of_permutation (views ys) (views xs)

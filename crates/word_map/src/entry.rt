@@ -2,13 +2,17 @@ ghost use Rattle.std.specs.Prelude.{◌≡◌};
 
 use crate::text::Text;
 use node_ids::DocNo;
+use smallvec::SmallVec;
 use std::marker::Model;
+
+/// Numbers of documents: up to four lie in the value itself, as most words of a split have no more.
+pub(crate) type Documents = SmallVec<DocNo, 4>;
 
 /// A word with documents that have it.
 #[derive(Drop)]
 pub struct Entry {
     word: Text,
-    documents: Vec<DocNo>,
+    documents: Documents,
 }
 
 impl Model for Entry {
@@ -20,7 +24,7 @@ impl Model for Entry {
 }
 
 impl Entry {
-    pub(crate) fn new(word: Text, documents: Vec<DocNo>) -> Entry
+    pub(crate) fn new(word: Text, documents: Documents) -> Entry
         ensures { result ≡ record { word = word; documents = documents.items } }
     {
         Entry { word, documents }

@@ -8,18 +8,19 @@ ghost use Rattle.word_map.specs.Entries.{AreEntries, DocumentsRise, pairs_of_ent
 ghost use Rattle.word_map.specs.Table.{AddsPairs, Has, IsTable, views};
 
 use crate::distinct::sort_distinct;
-use crate::entry::Entry;
+use crate::entry::{Documents, Entry};
 use crate::text::Text;
 use crate::word::Word;
 use indexmap::IndexMap;
 use node_ids::DocNo;
+use smallvec::SmallVec;
 use std::alloc::{AllocError, Global};
 use std::marker::Model;
 
 /// Words with the documents that have them, as they are gathered, in any order.
 #[derive(Drop)]
 pub struct WordTable<'a> {
-    table: IndexMap<Word<'a>, Vec<DocNo>>,
+    table: IndexMap<Word<'a>, Documents>,
 }
 
 impl<'a> Model for WordTable<'a> {
@@ -37,7 +38,7 @@ impl<'a> Model for WordTable<'a> {
 // Notes that the word stands in the document.
 fn note<'a>(
     alloc: Global,
-    table: &mut IndexMap<Word<'a>, Vec<DocNo>>,
+    table: &mut IndexMap<Word<'a>, Documents>,
     word: Word<'a>,
     document: DocNo,
 ) -> Result<(), AllocError>
@@ -52,8 +53,7 @@ fn note<'a>(
             }
         }
         None => {
-            let mut documents = Vec::new(alloc);
-            documents.push(document)?;
+            let documents = SmallVec::from_slice(alloc, &[document])?;
             table.insert(word, documents)?;
         }
     }
@@ -63,7 +63,7 @@ fn note<'a>(
 // Adds the documents of the word.
 fn add_documents<'a>(
     alloc: Global,
-    table: &mut IndexMap<Word<'a>, Vec<DocNo>>,
+    table: &mut IndexMap<Word<'a>, Documents>,
     word: Word<'a>,
     numbers: &[DocNo],
 ) -> Result<(), AllocError>
@@ -75,7 +75,7 @@ fn add_documents<'a>(
     match table.get_mut(&word) {
         Some(documents) => documents.extend_from_slice(numbers)?,
         None => {
-            let documents = Vec::from_slice(alloc, numbers)?;
+            let documents = SmallVec::from_slice(alloc, numbers)?;
             table.insert(word, documents)?;
         }
     }
@@ -138,11 +138,7 @@ impl<'a> WordTable<'a> {
 }
 
 // The entry of the word, with its documents in order, each once.
-fn make_entry(
-    alloc: Global,
-    word: &Word<'_>,
-    mut documents: Vec<DocNo>,
-) -> Result<Entry, AllocError>
+fn make_entry(alloc: Global, word: &Word<'_>, mut documents: Documents) -> Result<Entry, AllocError>
     ensures word { IfOk result (λ made. made.word ≡ word.now) }
     ensures rise { IfOk result DocumentsRise }
     ensures same { IfOk result (λ made. (n : ℕ) → Contains made.documents n ↔ Contains documents.items n) }
@@ -155,7 +151,7 @@ fn make_entry(
 // The entries of a table whose words are in order.
 fn sorted_entries(
     alloc: Global,
-    table: IndexMap<Word<'_>, Vec<DocNo>>,
+    table: IndexMap<Word<'_>, Documents>,
 ) -> Result<Vec<Entry>, AllocError>
     requires sorted { IsSorted (slice_cmp nat_cmp) (keys table) }
     requires table { IsTable table }

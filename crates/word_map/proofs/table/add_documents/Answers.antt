@@ -10,4 +10,4 @@ returns-in_ok-extend_from_slice-in-Some-clause-added c =
     (c.get_mut.follows.lender c.extend_from_slice.new.self) c.args.word c.in-Some.documents.now
     c.extend_from_slice.new.self c.args.numbers.now
     (search rules) ((c.get_mut.follows.holds c.extend_from_slice.new.self).3
-    (search rules)) c.in_ok-extend_from_slice-in-Some.ensures.items
+    (search rules)) c.in_ok-extend_from_slice-in-Some.ensures.ok
