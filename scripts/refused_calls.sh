@@ -91,7 +91,7 @@ sweep_fronts() { # PROGRAM KIND
     count "$1" "$2" "$size fronts of the answer" "$wrong"
 }
 
-# Refuses each thread. Where the program can't do without it, it says so; all that were started have ended by then.
+# Refuses each thread. The program says so where it can't do without it; all that were started have ended by then.
 sweep_threads() { # PROGRAM WORDS-AND-STATUS
     local wrong=0 threads=0 told=0 nth
     for ((nth = 1; nth <= 1000; nth++)); do
@@ -100,7 +100,7 @@ sweep_threads() { # PROGRAM WORDS-AND-STATUS
         threads=$nth
         if [ "$said" = "$2" ] && [ ! -s "$room/out" ] && [ "$met" = x0 ]; then
             told=$((told + 1))
-        else
+        elif ! is_whole || [ "$met" != x0 ]; then
             wrong=$((wrong + 1))
             show "$1" thread "$nth, after which $met ran"
         fi
@@ -109,7 +109,8 @@ sweep_threads() { # PROGRAM WORDS-AND-STATUS
         wrong=$((wrong + 1))
         show "$1" thread "after $threads"
     fi
-    count "$1" thread "$threads threads, one refused in each run: $told told" "$wrong"
+    count "$1" thread "$threads threads, one refused in each run: $told told, $((threads - told - wrong)) done without" \
+        "$wrong"
 }
 
 # Refuses each allocation of a job on threads. Which one is met in which run depends on the threads, and a worker that

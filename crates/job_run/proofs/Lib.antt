@@ -4,7 +4,6 @@ pub mod Played
 pub mod Telling
 pub mod Known
 pub mod Numbers
-pub mod Finished
 pub mod Started
 pub mod Handed
 pub mod Growth

@@ -1,4 +1,5 @@
 -- A text that is played or run has ends of its kind, or one fault.
+-- (Proved here, since an impl cites its own crate's specs alone.)
 use Rattle.std.proofs.Common.{Bool, Ok, Err}
 use Rattle.line_rules.specs.declared.purpose.Purpose.TheVariants.{Playing, Running}
 use Rattle.line_rules.proofs.OneReading.{reads-faultless}

@@ -43,14 +43,6 @@ TellsEnd given names last finish.Done out =
 TellsEnd given names last finish.Stuck out =
     IsStuckWith given last × (out ≡ stuck_lines names.splits last.state.splits)
 
--- these lines were added
-pub record HasEnding
-    (given : Setup) (names : Names) (last : master.Job) (end : RunEnd) (before now : List ℕ)
-    : Type 0 where
-  pub ending : List ℕ
-  pub ends : TellsEnd given names last end ending
-  pub written : now ≡ before ++ ending
-
 -- the lines of all that was done to the master
 abbrev pub done_lines : Names → master.Job → List ℕ
 done_lines names last =

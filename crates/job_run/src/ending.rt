@@ -6,12 +6,12 @@ ghost use Rattle.report_lines.specs.Lines.{stuck_lines};
 ghost use Rattle.job_run.specs.Playing.{Ended};
 
 use crate::player::{PlayEnd, PlayError};
+use job_threads::{are_parts_done, index_of};
 use master_core::Master;
 use master_state::{Attempt, SplitState};
 use node_ids::SplitNo;
 use report_lines::{add_index, add_stuck};
 use script_text::Names;
-use shuffle_reduce::{FinishError, Index, finish};
 use std::alloc::{AllocError, Global};
 
 /// The lines after the last command, and how the script has ended.
@@ -51,28 +51,6 @@ pub(crate) fn add_open(
         return Err(AllocError);
     };
     add_stuck(lines, &names.splits, states.as_slice())
-}
-
-// Whether every part is done.
-fn are_parts_done(master: &Master) -> bool
-    ensures { result ≡ all_parts_done master.now.state }
-{
-    master.glance().open_parts == 0
-}
-
-// The index of all documents, every part being done, so that each has one result.
-fn index_of(alloc: Global, master: &Master) -> Result<Index, AllocError>
-    requires { all_parts_done master.now.state ≡ true }
-    ensures { IfOk result (λ index. IsIndexOf master.now.setup.cluster.texts index) }
-{
-    master.is_kept();
-    let parts = master.cluster().parts();
-    match finish(alloc, parts, master.texts(), master.results()) {
-        Ok(index) => Ok(index),
-        Err(FinishError::Memory) => Err(AllocError),
-        Err(FinishError::DoublePart) => unreachable!(),
-        Err(FinishError::MissingPart) => unreachable!(),
-    }
 }
 
 // What has become of each split, or nothing where memory is wanting.

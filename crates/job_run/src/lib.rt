@@ -4,8 +4,8 @@
 //! these lines, one command after another, and the last lines tell the index, or what is not done
 //! (`specs/Reports.antt`, `specs/PlayAnswer.antt`); `play_script` makes it of a script and a cluster.
 //! `run_text` runs the job that a text declares on the threads of `job_threads`, and writes its outcome,
-//! `run_text_observed` all that was done before it (`specs/RunAnswer.antt`). Below stand the texts of `script_text`, the master of `master_core`, the planner
-//! and the lines of `report_lines`.
+//! `run_text_observed` all that was done before it (`specs/RunAnswer.antt`). Below stand the texts of
+//! `script_text`, the master of `master_core`, the planner and the lines of `report_lines`.
 #![tactic(auto)]
 
 mod clusters;

@@ -1,14 +1,16 @@
-ghost use Rattle.std.specs.Prelude.{◌≡◌, ◌≢◌, ◌≤◌, ◌++◌, List, Err, IfOk, OnOk, length, string_bytes, true, false, [], if◌then◌else◌};
+ghost use Rattle.std.specs.Prelude.{◌≡◌, ◌≢◌, ◌≤◌, ◌++◌, List, Err, IfOk, OnOk, length, string_bytes, true};
+ghost use Rattle.std.specs.Prelude.{false, [], if◌then◌else◌};
 ghost use Rattle.text_reading.specs.Running.{AnyLines, HasRun, NoText, WroteItsAnswer, outcome};
+ghost use Rattle.report_lines.specs.Lines.{index_lines};
 ghost use Rattle.script_text.specs.Heads.{IsFitHead};
 ghost use Rattle.master_state.specs.States.{Setup};
 ghost use Rattle.script_text.specs.Scripts.{IsOfHead, IsTarget};
 ghost use Rattle.job_threads.specs.Outcomes.{IsRecordOf};
 ghost use Rattle.job_run.specs.PlayAnswer.{AreEnds, cluster_in};
 ghost use Rattle.job_run.specs.RunAnswer.{
-  HasEnding,
   HasTextsNamed,
   RunAnswer,
+  TellsEnd,
   TellsJob,
   TellsRun,
   done_lines,
@@ -25,10 +27,13 @@ use master_core::Master;
 use master_state::Limits;
 use report_lines::{add_history, add_index};
 use script_text::{Head, Names, ScriptText, read_job};
+use shuffle_reduce::Index;
 use std::alloc::{AllocError, Global};
 use std::io::{Read, Write};
+use std::mem::drop;
 use std::rt::Clock;
 use std::sync::Wait;
+use std::thread;
 use std::thread::Threads;
 use text_lines::{TextFault, read_text, write_text};
 use text_reading::ToolError;
@@ -182,7 +187,7 @@ fn run_read<T: Threads + Wait + Clock + Sync, G: Gate, O: Observer>(
     let ScriptText { head, script } = read;
     let job = job_of(alloc, head, script.target)?;
     let ended = run_recorded(rt, alloc, job, gate, observer);
-    tell(alloc, &script.names, ended, asked)
+    tell(rt, alloc, &script.names, ended, asked)
 }
 
 // The job of a head, with room for what a run may need.
@@ -205,7 +210,8 @@ fn job_of(alloc: Global, head: Head, target: usize) -> Result<Job, AllocError>
 }
 
 // The lines of a run; none where the job has no outcome.
-fn tell(
+fn tell<T: Threads>(
+    rt: &T,
     alloc: Global,
     names: &Names<'_>,
     ended: Result<Record, RunError>,
@@ -218,7 +224,7 @@ fn tell(
 {
     match ended {
         Ok(ran) => {
-            let (lines, end) = tell_run(alloc, names, &ran, asked)?;
+            let (lines, end) = tell_run(rt, alloc, names, ran, asked)?;
             Ok((lines, JobEnd::Ran(end)))
         }
         Err(error) => Ok((String::new(alloc), JobEnd::Broken(error))),
@@ -226,21 +232,33 @@ fn tell(
 }
 
 // The lines of a run that ended.
-fn tell_run(
+fn tell_run<T: Threads>(
+    rt: &T,
     alloc: Global,
     names: &Names<'_>,
-    ran: &Record,
+    ran: Record,
     asked: bool,
 ) -> Result<(String, RunEnd), AllocError>
-    requires named { HasTextsNamed names.now ran.now }
+    requires named { HasTextsNamed names.now ran }
     requires few { length names.now.workers ≤ 32 }
-    ensures { (given : Setup) → IsRecordOf given ran.now
+    ensures { (given : Setup) → IsRecordOf given ran
         → IfOk result (λ told. TellsRun given names.now asked told.1 (string_bytes told.0)) }
 {
     let mut lines = String::new(alloc);
     add_done(names, &ran.master, asked, &mut lines)?;
-    let end = add_ending(alloc, names, ran, &mut lines)?;
-    Ok((lines, end))
+    let (ending, end) = ending_of(rt, alloc, names, ran)?;
+    Ok((put_together(lines, ending)?, end))
+}
+
+// The lines, and others behind them.
+fn put_together(mut lines: String, others: String) -> Result<String, AllocError>
+    ensures { IfOk result (λ all. string_bytes all ≡ string_bytes lines ++ string_bytes others) }
+{
+    if lines.is_empty() {
+        return Ok(others);
+    }
+    lines.push_str(others.as_str())?;
+    Ok(lines)
 }
 
 // The lines of all that was done, where they are asked for.
@@ -265,26 +283,54 @@ fn add_done(
 }
 
 // The lines of how the job ended.
-fn add_ending(
+fn ending_of<T: Threads>(
+    rt: &T,
     alloc: Global,
     names: &Names<'_>,
-    ran: &Record,
-    lines: &mut String,
-) -> Result<RunEnd, AllocError>
-    requires { HasTextsNamed names.now ran.now }
-    ensures { (given : Setup) → IsRecordOf given ran.now
-        → IfOk result (λ end. HasEnding given names.now ran.now.master end
-        (string_bytes lines.old) (string_bytes lines.new)) }
+    ran: Record,
+) -> Result<(String, RunEnd), AllocError>
+    requires { HasTextsNamed names.now ran }
+    ensures { (given : Setup) → IsRecordOf given ran
+        → IfOk result (λ told. TellsEnd given names.now ran.master told.1 (string_bytes told.0)) }
 {
-    match &ran.index {
+    let Record { master, index } = ran;
+    match index {
         Some(index) => {
-            add_index(lines, &names.documents, index.entries())?;
-            Ok(RunEnd::Done)
+            let lines = index_beside(rt, alloc, names, &index, master)?;
+            Ok((lines, RunEnd::Done))
         }
         None => {
-            ran.master.is_kept();
-            add_open(alloc, &ran.master, names, lines)?;
-            Ok(RunEnd::Stuck)
+            master.is_kept();
+            let mut lines = String::new(alloc);
+            add_open(alloc, &master, names, &mut lines)?;
+            Ok((lines, RunEnd::Stuck))
         }
     }
+}
+
+// The lines of an index. The master has as many pieces of memory as its maps have words, so it is let go in a thread
+// of its own, where one can be started.
+fn index_beside<T: Threads>(
+    rt: &T,
+    alloc: Global,
+    names: &Names<'_>,
+    index: &Index,
+    master: Master,
+) -> Result<String, AllocError>
+    ensures { IfOk result (λ lines. string_bytes lines ≡ index_lines names.now.documents index.now) }
+{
+    let aside = thread::spawn(rt, move || drop(master));
+    let lines = lines_of_index(alloc, names, index);
+    if let Ok(thread) = aside {
+        thread.join(rt);
+    }
+    lines
+}
+
+fn lines_of_index(alloc: Global, names: &Names<'_>, index: &Index) -> Result<String, AllocError>
+    ensures { IfOk result (λ lines. string_bytes lines ≡ index_lines names.now.documents index.now) }
+{
+    let mut lines = String::new(alloc);
+    add_index(&mut lines, &names.documents, index.entries())?;
+    Ok(lines)
 }

@@ -1,14 +1,15 @@
-ghost use Rattle.std.specs.Prelude.{◌≡◌, IfOk, IsTrue};
+ghost use Rattle.std.specs.Prelude.{◌≡◌, IfOk, IsTrue, true};
 ghost use Rattle.shuffle_reduce.specs.Indexed.{IsIndexOf};
 ghost use Rattle.master_state.specs.States.{Setup};
+ghost use Rattle.master_state.specs.Tests.{all_parts_done};
 ghost use Rattle.job_threads.specs.Outcomes.{IsDoneOn, IsOutcomeOf, IsRecordOf, IsStuckWith};
 
 use crate::given::Given;
 use crate::outcome::{Outcome, Record, RunError};
 use master_core::Master;
 use shared_master::{Closed, Hand, Settled, settle};
-use shuffle_reduce::{FinishError, Index, are_ready, finish};
-use std::alloc::Global;
+use shuffle_reduce::{FinishError, Index, finish};
+use std::alloc::{AllocError, Global};
 use std::sync::ledger::Ledger;
 
 // The master, where its history is made of the hands' calls.
@@ -26,7 +27,10 @@ pub(crate) fn record_of(alloc: Global, given: &Given, master: Master) -> Result<
     ensures { IfOk result (IsRecordOf given.now) }
 {
     let index = if is_done(given, &master) {
-        Some(index_of(alloc, given, &master)?)
+        let Ok(index) = index_of(alloc, &master) else {
+            return Err(RunError::Memory);
+        };
+        Some(index)
     } else if is_stuck(given, &master) {
         None
     } else {
@@ -54,22 +58,28 @@ fn is_done(given: &Given, master: &Master) -> bool
     if !given.is_of(master) {
         return false;
     }
+    are_parts_done(master)
+}
+
+/// Whether every part is done.
+pub fn are_parts_done(master: &Master) -> bool
+    ensures { result ≡ all_parts_done master.now.state }
+{
     master.glance().open_parts == 0
 }
 
-// The index of the job's texts, made of the results that the master has.
-fn index_of(alloc: Global, given: &Given, master: &Master) -> Result<Index, RunError>
-    ensures { IfOk result (IsIndexOf given.now.cluster.texts) }
+/// The index of the documents of a master all of whose parts are done, so that each has one result.
+pub fn index_of(alloc: Global, master: &Master) -> Result<Index, AllocError>
+    requires { all_parts_done master.now.state ≡ true }
+    ensures { IfOk result (IsIndexOf master.now.setup.cluster.texts) }
 {
-    let (parts, texts) = (given.cluster.parts(), given.cluster.texts());
-    let results = master.results();
-    if !are_ready(parts, texts, results) {
-        return Err(RunError::Torn(0));
-    }
-    match finish(alloc, parts, texts, results) {
+    master.is_kept();
+    let parts = master.cluster().parts();
+    match finish(alloc, parts, master.texts(), master.results()) {
         Ok(index) => Ok(index),
-        Err(FinishError::Memory) => Err(RunError::Memory),
-        Err(_) => Err(RunError::Torn(0)),
+        Err(FinishError::Memory) => Err(AllocError),
+        Err(FinishError::DoublePart) => unreachable!(),
+        Err(FinishError::MissingPart) => unreachable!(),
     }
 }
 

@@ -9,7 +9,7 @@
 mod beats;
 mod caller;
 mod common;
-mod ending;
+pub mod ending;
 pub mod gate;
 mod given;
 mod holdings;
@@ -23,6 +23,7 @@ mod sweeping;
 mod threads;
 mod work;
 
+pub use ending::{are_parts_done, index_of};
 pub use gate::{Gate, Go, PlainGate, Turn};
 pub use job::Job;
 pub use observer::{Observer, Progress, Unobserved};

@@ -14,7 +14,7 @@ use std::alloc::Global;
 use std::sync::ledger::Ledger;
 use std::sync::{Arc, Wait};
 
-// For how many turns no wave is planned after a lane was full.
+// For how many turns no wave is planned after a lane was full: the next would start the same attempt.
 const PAUSE_TURNS: u32 = 1024;
 
 impl<L: Ledger> Caller<L> {
@@ -162,7 +162,8 @@ impl<L: Ledger> Caller<L> {
         }
     }
 
-    // A second attempt for each split, where one may start: whether an order is in a lane.
+    // A second attempt for each split, where one may start: whether an order is in a lane. At most 32,768 calls, once
+    // in 65,536 idle turns under the plain gate.
     pub(crate) fn back_up<G: Gate, R: Wait>(
         &mut self,
         rt: &R,

@@ -1,5 +1,4 @@
-use Rattle.std.proofs.Common.{rules, ◌∙◌, ◌==◌, ℕ, sym, ap}
-use Rattle.job_threads.proofs.Finished.{none_open}
+use Rattle.std.proofs.Common.{rules, ◌∙◌, sym}
 use Rattle.job_threads.proofs.ending.is_done.Goals as goal
 
 pub returns : goal.returns
@@ -7,6 +6,5 @@ returns c = λ is_done. (
     record {
       setup = c.is_of.ensures (search rules);
       legal = c.is_kept.ensures.legal;
-      done = sym (none_open c.args.master.now.state.parts)
-          ∙ ap (λ (n : ℕ). n == 0) (sym c.glance.ensures.open_parts) ∙ is_done;
+      done = sym c.are_parts_done.ensures ∙ is_done;
     })

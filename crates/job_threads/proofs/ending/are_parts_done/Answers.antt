@@ -1,6 +1,6 @@
 use Rattle.std.proofs.Common.{◌∙◌, ap, ◌==◌, ℕ}
-use Rattle.job_run.proofs.Finished.{none_open}
-use Rattle.job_run.proofs.ending.are_parts_done.Goals as goal
+use Rattle.job_threads.proofs.Finished.{none_open}
+use Rattle.job_threads.proofs.ending.are_parts_done.Goals as goal
 
 pub returns : goal.returns
 returns c =

@@ -1,6 +1,0 @@
-use Rattle.job_run.proofs.Ran.{splits_named}
-use Rattle.job_run.proofs.running.add_ending.Goals as goal
-
-pub add_open-requires : goal.add_open-requires
-add_open-requires c =
-    splits_named c.args.names.now c.args.ran.now.master.setup.cluster c.is_kept.ensures.whole c.requires
