@@ -78,7 +78,8 @@ def job(path):
 def run(path, workers):
     yield "job 1"
     yield "rack r"
-    yield from (f"worker w{worker} r 16" for worker in range(int(workers)))
+    # (one order that it works at, and one that waits in its lane)
+    yield from (f"worker w{worker} r 2" for worker in range(int(workers)))
     yield from (f"split s{split} {BLOCK} w{split % int(workers)}" for split in range(JOB_SPLITS))
     yield from documents(path)
 
