@@ -76,6 +76,7 @@ impl Holders {
     pub(crate) fn remove(&mut self, worker: WorkerNo)
         ensures { self.new ≡ without worker self.old }
     {
+        // (that holders differ is kept by the whole state, and not by this type)
         self.workers.retain(|holder| *holder != worker);
     }
 }

@@ -84,6 +84,7 @@ fn is_given(options: &ArgMatches, flag: &str) -> bool
     ensures { result ≡ is_set (first_value (found_of options.now) flag.now) }
 {
     match options.get_str(flag) {
+        // (clap keeps a flag as this text)
         Some(text) => text == "true",
         None => false,
     }

@@ -275,6 +275,7 @@ impl Problem {
         ensures most { IfSome result (λ c. c ≤ MAX_DISTANCE * MAX_BYTES) }
     {
         let line = &self.splits[split.index()];
+        // (the cost is asked mostly of live holders, which are looked for first)
         match least_distance(&self.tree, &self.workers, line.holders.as_slice(), worker) {
             Some(steps) => Some(line.bytes * u64::from(steps)),
             None => None,
