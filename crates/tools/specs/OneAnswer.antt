@@ -1,4 +1,5 @@
 -- A check answers each text in one way, with at most one end and one line; planning ends in one way.
+-- (Proved here, since an impl cites its own crate's specs alone.)
 use Rattle.std.proofs.Common.{ℕ, List, Bool, Ok, Err, ◌≡◌, ◌∙◌, refl, sym, ap, subst}
 use Rattle.price_certificate.specs.Certificate.{Claim}
 use Rattle.price_certificate.proofs.SameBars.{HaveSamePairs, barring, have_same_pairs-sym}
