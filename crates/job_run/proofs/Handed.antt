@@ -1,10 +1,16 @@
 -- Results that are handed in, and attempts that run no more.
 use Rattle.std.proofs.Common.{◌≡◌, ℕ, zero, suc, ◌<◌, List, [], length, true, false, not, Some, refl, ap, ◌∙◌}
-use Rattle.std.proofs.Common.{subst, arith}
+use Rattle.std.proofs.Common.{subst, arith, get_or}
 use Rattle.std.proofs.lemmas.List.{length-map}
 use Rattle.std.proofs.lemmas.List.FromFn.{length-range_with_len}
 use Rattle.std.proofs.lemmas.Option.{get_or_from_slice_get, slice_get_within, none-some}
-use Rattle.std.specs.Prelude.{slice_get}
+use Rattle.std.specs.Prelude.{slice_get, slice_index_or}
+use Rattle.std.specs.Arc.{arc_value}
+use Rattle.std.specs.declared.alloc.Global.{Global}
+use Rattle.std.specs.declared.sync.Arc.{Arc}
+use Rattle.word_map.specs.Texts.{SplitDocuments}
+use Rattle.shuffle_reduce.specs.Gather.{values_of}
+use Rattle.master_core.proofs.Found.{at_mapped}
 use Rattle.master_state.specs.declared.answers.Answer.TheVariants as answer
 use Rattle.master_state.specs.declared.answers.Why.TheVariants.{OldAttempt}
 use Rattle.master_state.specs.declared.states.PartState.{PartState}
@@ -101,3 +107,15 @@ old_part job a r w state kept start here none =
       texts = λ text. (λ h. h, λ h. h);
       answers = record { refused = rw old refl; same = refl };
     }
+
+-- the text at a place of a list of pointers
+pub text_at : (texts : List (Arc SplitDocuments Global)) (given : List SplitDocuments) (i k : ℕ)
+    (one : Arc SplitDocuments Global) (d : SplitDocuments) → values_of texts ≡ given → i ≡ k →
+    one ≡ get_or texts i one → k < length given → arc_value one ≡ slice_index_or given k d
+text_at texts given i k one d same place at inside =
+    let here : one ≡ get_or texts k one = rw place at at in
+    let many : length (values_of texts) ≡ length texts =
+    length-map texts (λ (text : Arc SplitDocuments Global). arc_value text) in
+    at_mapped (λ (text : Arc SplitDocuments Global). arc_value text) texts k one d
+    (omega (arith, inside, ap length same, many)) here
+    ∙ ap (λ (xs : List SplitDocuments). slice_index_or xs k d) same

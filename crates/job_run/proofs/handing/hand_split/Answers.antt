@@ -5,8 +5,7 @@ use Rattle.std.specs.declared.alloc.Global.{Global}
 use Rattle.std.specs.declared.sync.Arc.{Arc}
 use Rattle.word_map.specs.Texts.{SplitDocuments}
 use Rattle.master_state.specs.States.{Cluster}
-use Rattle.master_core.proofs.Handed.{text_at}
-use Rattle.job_run.proofs.Handed.{old_split, text_inside}
+use Rattle.job_run.proofs.Handed.{old_split, text_at, text_inside}
 use Rattle.job_run.proofs.Writing.{answers_from}
 use Rattle.job_run.proofs.handing.hand_split.Goals as goal
 
