@@ -75,7 +75,8 @@ fn lowest(holders: &[WorkerNo]) -> WorkerNo
     lowest
 }
 
-// How many of the holders are in each rack: counted once for a split, so that a copy takes time linear in the workers.
+// How many of the holders are in each rack: counted once for a split, so that a copy takes time linear in the
+// workers.
 fn replicas_by_rack(tree: &RackTree, holders: &[WorkerNo]) -> [u8; MAX_RACKS]
     requires known { All (λ h. h < length tree.now.rack_of) holders.now }
     requires few { length holders.now ≤ 8 }

@@ -45,7 +45,8 @@ pub(crate) fn done(
     }
 }
 
-// Maps the text of the split, if it runs the attempt, and hands in what is made: so 65,536 lines `done 1` map once.
+// Maps the text of the split, if it runs the attempt, and hands in what is made: so 65,536 lines `done 1` map
+// once.
 fn hand_split(
     alloc: Global,
     master: &mut Master,

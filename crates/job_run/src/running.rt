@@ -83,8 +83,8 @@ pub fn run_text<T: Threads + Wait + Clock + Sync, R: Read, W: Write, G: Gate>(
     run_text_observed(rt, alloc, reader, writer, gate, &Unobserved, false)
 }
 
-/// The same. While the job runs, the observer is told how far it is; where the history is asked for, the lines of
-/// all that was done are written before those of how the job ended.
+/// The same. While the job runs, the observer is told how far it is; where the history is asked for, the
+/// lines of all that was done are written before those of how the job ended.
 pub fn run_text_observed<T: Threads + Wait + Clock + Sync, R: Read, W: Write, G: Gate, O: Observer>(
     rt: &T,
     alloc: Global,
@@ -308,8 +308,8 @@ fn ending_of<T: Threads>(
     }
 }
 
-// The lines of an index. The master has as many pieces of memory as its maps have words, so it is let go in a thread
-// of its own, where one can be started.
+// The lines of an index. The master has as many pieces of memory as its maps have words, so it is let go in a
+// thread of its own, where one can be started.
 fn index_beside<T: Threads>(
     rt: &T,
     alloc: Global,

@@ -162,8 +162,8 @@ impl<L: Ledger> Caller<L> {
         }
     }
 
-    // A second attempt for each split, where one may start: whether an order is in a lane. At most 32,768 calls, once
-    // in 65,536 idle turns under the plain gate.
+    // A second attempt for each split, where one may start: whether an order is in a lane. At most 32,768
+    // calls, once in 65,536 idle turns under the plain gate.
     pub(crate) fn back_up<G: Gate, R: Wait>(
         &mut self,
         rt: &R,

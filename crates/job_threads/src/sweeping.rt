@@ -65,8 +65,8 @@ impl<L: Ledger> Caller<L> {
         }
     }
 
-    // Notes that a worker died. What was started on it is lost, and it passes over these orders if it was dead by
-    // mistake: else its lane would fill.
+    // Notes that a worker died. What was started on it is lost, and it passes over these orders if it was
+    // dead by mistake: else its lane would fill.
     fn bury(&mut self, worker: WorkerNo, seen: u64)
         ensures { self.new.holdings.workers.items
             ≡ changed_at (buried seen) self.old.holdings.workers.items worker }

@@ -152,8 +152,8 @@ impl<'t> KnownLines<'t> {
         }
     }
 
-    // Whether the words in the places of names are names. Where the names that the line uses are declared, those that
-    // it declares alone are looked at, since the rows have names alone.
+    // Whether the words in the places of names are names. Where the names that the line uses are declared,
+    // those that it declares alone are looked at, since the rows have names alone.
     fn is_named(&self, known: bool, line: &KeyedLine<'_, 't>) -> bool
         requires { IsTrue known → Keep rule.Declared self.now.rows (statement_of line.now) }
         ensures { IsTrue result ↔ IsNamed (statement_of line.now) }

@@ -48,8 +48,8 @@ pub(crate) struct Held<L: Ledger> {
     pub(crate) seen: Option<Seen>,
 }
 
-// What was seen at a glance, and how many events there were by then: it is told again while no event has come, since
-// a master remembers none.
+// What was seen at a glance, and how many events there were by then: it is told again while no event has
+// come, since a master remembers none.
 #[derive(Clone, Copy)]
 pub(crate) struct Seen {
     events: u32,

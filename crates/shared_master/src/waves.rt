@@ -59,8 +59,8 @@ impl Between for Nothing {
     fn solved(&self, _turn: u32) {}
 }
 
-// A plan with its prices, and room for its starts: taken while the lock is free, so that want of it is told before a
-// full history.
+// A plan with its prices, and room for its starts: taken while the lock is free, so that want of it is told
+// before a full history.
 #[derive(Drop)]
 pub(crate) struct Solved {
     pub(crate) planned: Planned,

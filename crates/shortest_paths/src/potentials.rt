@@ -5,8 +5,8 @@ ghost use Rattle.std.specs.Prelude.{pos, ◌≤ℤ◌, neg_ℤ, unsigned_abs, If
 use std::alloc::{AllocError, Global};
 use std::marker::Model;
 
-/// One potential for each node, from -2^52 to 0. They are kept as depths below 0, so that all are natural numbers,
-/// and contracts see these.
+/// One potential for each node, from -2^52 to 0. They are kept as depths below 0, so that all are natural
+/// numbers, and contracts see these.
 #[derive(Drop)]
 pub struct Potentials {
     depths: Vec<u64>,
