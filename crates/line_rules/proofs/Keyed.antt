@@ -2,14 +2,15 @@
 use Rattle.std.proofs.Common.{ℕ, List, [], ◌∷◌, ◌++◌, ◌≡◌, ◌==◌, ◌<◌, ◌∙◌, ◌&&◌, Bool, true, false, Bor, inl, inr}
 use Rattle.std.proofs.Common.{Option, Some, None, cond, length, map, sym, ap, refl, subst, arith, get_or}
 use Rattle.std.proofs.Common.{eqb-true, true≢false}
-use Rattle.std.specs.Prelude.{◌↔◌, ◌⊎◌, ◌||◌, Contains, IsTrue, if◌then◌else◌}
+use Rattle.std.specs.Prelude.{◌↔◌, ◌⊎◌, Contains, IsTrue, if◌then◌else◌}
 use Rattle.std.specs.Bool.{Decides}
-use Rattle.std.specs.Option.{IsSome, is_some}
+use Rattle.std.specs.Option.{IsSome, is_some, unwrap_or}
 use Rattle.std.specs.Str.{bytes_eq}
 use Rattle.std.specs.List.{list_any}
-use Rattle.std.proofs.lemmas.List.{get_or-map, get_or_default, length-map, map-append}
+use Rattle.std.proofs.lemmas.List.{get_or-map, map-append}
 use Rattle.std.proofs.lemmas.List.Elements.{Contains-append_left, Contains-push, Contains-push_cases}
 use Rattle.std.proofs.lemmas.Slice.Eq.{bytes_eq-Decides}
+use Rattle.indexmap.specs.IndexMap.{insert_entry}
 use Rattle.text_lines.specs.Texts.{Word}
 use Rattle.text_lines.proofs.Keys.{found_key}
 use Rattle.line_shapes.specs.Lines.{Statement}
@@ -49,6 +50,9 @@ key_at rows i s inside is d =
 
 abbrev Firsts : Type 0
 Firsts = List (Bor (List ℕ) × Keyword)
+
+abbrev pub same_word : Bor (List ℕ) → Bor (List ℕ) → Bool
+same_word a b = bytes_eq a.now b.now
 
 module _ (e : Bor (List ℕ) × Keyword) (word : Word) where
   first_kept : (firsts : Firsts) (k : Keyword) → first_by firsts word ≡ Some k
@@ -140,6 +144,60 @@ key_put_first firsts new others word k second grown none empty =
           is_some_at _ had.0 (first_kept e w firsts had.0 had.1);
       word = λ _. is_some_at _ k found;
     })
+
+-- an entry that has its value already
+entry_same : (firsts : Firsts) (word : Bor (List ℕ)) (k : Keyword) → first_by firsts word.now ≡ Some k
+    → insert_entry same_word firsts word k ≡ firsts
+entry_same [] word k is = absurd (let bad : None ≡ Some k = is in cc)
+entry_same (x ∷ firsts) word k is = by (bytes_eq word.now x.0.now) (entry_same firsts word k) is
+  where
+    by : (b : Bool) → (first_by firsts word.now ≡ Some k → insert_entry same_word firsts word k ≡ firsts)
+        → cond b (Some x.1) (first_by firsts word.now) ≡ Some k
+        → (if b then (x.0, k) ∷ firsts else x ∷ insert_entry same_word firsts word k) ≡ x ∷ firsts
+    by true rest is = let found : Some x.1 ≡ Some k = is in let at : x.1 ≡ k = cc in ap (λ v. (x.0, v) ∷ firsts) (sym at)
+    by false rest is = ap (λ l. x ∷ l) (rest is)
+
+-- the first table once a word was entered, where it was not by another keyword
+pub key_entered : (firsts new : Firsts) (others : List TextKey) (word : Bor (List ℕ)) (k v : Keyword)
+    → new ≡ insert_entry same_word firsts word v → v ≡ unwrap_or (first_by firsts word.now) k → v ≡ k
+    → (first_by firsts word.now ≡ None → insert_entry same_word firsts word v ≡ firsts ++ (word, v) ∷ [])
+    → HasKeyMore firsts others (k, word.now, []) new others
+key_entered firsts new others word k v grown value same last =
+    by (first_by firsts word.now) refl value
+  where
+    by : (o : Option Keyword) → first_by firsts word.now ≡ o → v ≡ unwrap_or o k
+        → HasKeyMore firsts others (k, word.now, []) new others
+    by None none value =
+        key_put_first firsts new others word k []
+        (grown ∙ last none ∙ ap (λ (j : Keyword). firsts ++ (word, j) ∷ []) same) none refl
+    by (Some j) some value =
+        let found : first_by firsts word.now ≡ Some k = some ∙ ap Some (sym value ∙ same) in
+        let kept : new ≡ firsts =
+        grown ∙ ap (insert_entry same_word firsts word) same ∙ entry_same firsts word k found in
+        subst (λ (l : Firsts). HasKeyMore firsts others (k, word.now, []) l others) (sym kept) (record {
+          keys = λ q. (
+            λ h. inl h,
+            λ h. elim h [
+              | inl old ↦ old
+              | inr at ↦ subst (IsTabled firsts others) (sym at) (inl (refl, found))
+            ],
+          );
+          kept = λ w some. some;
+          word = λ _. is_some_at _ k found;
+        })
+
+-- and where it was by another
+pub entered_before : (firsts new : Firsts) (word : Bor (List ℕ)) (k v : Keyword)
+    → new ≡ insert_entry same_word firsts word v → v ≡ unwrap_or (first_by firsts word.now) k → (v ≡ k → ⊥)
+    → (new ≡ firsts) × IsSome (first_by firsts word.now)
+entered_before firsts new word k v grown value other = by (first_by firsts word.now) refl value
+  where
+    by : (o : Option Keyword) → first_by firsts word.now ≡ o → v ≡ unwrap_or o k
+        → (new ≡ firsts) × IsSome (first_by firsts word.now)
+    by None none value = absurd (other value)
+    by (Some j) some value =
+        let found : first_by firsts word.now ≡ Some v = some ∙ ap Some (sym value) in
+        (grown ∙ entry_same firsts word v found, is_some_at _ v found)
 
 -- ---- the second table
 

@@ -1,14 +1,12 @@
 -- Lines whose words stand in one list.
-use Rattle.std.proofs.Common.{ℕ, List, [], ◌∷◌, ◌++◌, ◌≡◌, ◌≤◌, ◌<◌, ◌+◌, ◌-◌, ◌∙◌, Bor, Some, ap, ap₂, arith, drop}
-use Rattle.std.proofs.Common.{length, length-append, length-drop, map, refl, slice_get, sym, take, take_all, subst}
-use Rattle.std.proofs.Common.{Option, None, zero, suc}
-use Rattle.std.specs.List.{All}
-use Rattle.std.proofs.Math.Seq.{drop-append_seam, take-append_seam}
-use Rattle.std.proofs.lemmas.List.{drop-append-le, map-append, take-append-le, length-map}
-use Rattle.std.proofs.lemmas.List.Elements.{All-append, All-cons, All-head, All-nil, All-tail, All-weaker}
+use Rattle.std.proofs.Common.{ℕ, List, [], ◌∷◌, ◌++◌, ◌≡◌, ◌≤◌, ◌+◌, ◌-◌, ◌∙◌, Bor, ap, ap₂, arith, drop}
+use Rattle.std.proofs.Common.{length, length-append, length-drop, map, refl, sym, take, take_all, subst}
+use Rattle.std.proofs.Math.Seq.{drop-append_seam}
+use Rattle.std.proofs.lemmas.List.{drop-append-le, map-append, take-append-le}
+use Rattle.std.proofs.lemmas.List.Elements.{All-head, All-tail, All-weaker}
 use Rattle.line_shapes.specs.Lines.{Statement}
 use Rattle.line_shapes.specs.declared.keyword.Keyword.{Keyword}
-use Rattle.line_rules.specs.Rows.{AreWithin, IsRowAt, statement_at, words_at}
+use Rattle.line_rules.specs.Rows.{AreWithin, statement_at, words_at}
 use Rattle.line_rules.specs.declared.line_list.LinePlace.{LinePlace}
 
 abbrev Words : Type 0

@@ -1,7 +1,7 @@
 -- The keys of rows: none is a command's, and what was declared is named; so the names of a line that uses declared
 -- ones are names.
-use Rattle.std.proofs.Common.{ℕ, List, [], ◌∷◌, ◌++◌, ◌≡◌, ◌≢◌, ◌<◌, ◌∙◌, Bor, Option, Some, None, length, map, get_or}
-use Rattle.std.proofs.Common.{ap, inl, inr, refl, subst, sym, arith}
+use Rattle.std.proofs.Common.{ℕ, List, [], ◌∷◌, ◌++◌, ◌≡◌, ◌≢◌, ◌<◌, Option, Some, None, length, get_or}
+use Rattle.std.proofs.Common.{inl, inr, refl, subst, sym, arith}
 use Rattle.std.specs.List.{All}
 use Rattle.std.proofs.lemmas.List.{map-append}
 use Rattle.std.proofs.lemmas.List.Elements.{All-append, All-cons, All-contains, All-nil}
@@ -17,8 +17,8 @@ use Rattle.line_shapes.specs.declared.place.Place.TheVariants.{New, Used, Number
 use Rattle.line_rules.specs.declared.entering.Entering.{Entering}
 use Rattle.line_rules.specs.declared.entering.Entering.TheVariants.{Nothing, InTurn, Alone, Word as ByWord}
 use Rattle.line_rules.specs.declared.entering.Entering.TheVariants.{Pair as ByPair}
-use Rattle.line_rules.specs.Entered.{AreSound, HasName, IsSound}
-use Rattle.line_rules.specs.Entering.{Key, entered_by, entered_of, entering_of, first_key, key_of}
+use Rattle.line_rules.specs.Entered.{AreFit, AreSound, HasName, IsFitIn, IsSound}
+use Rattle.line_rules.specs.Entering.{entered_by, entered_of, entering_of, first_key, key_of}
 use Rattle.line_rules.specs.Faults.{IsDeclaredIn, IsFirst, Keep}
 use Rattle.line_rules.specs.Known.{HasRow, IsDeclared, keys_of}
 use Rattle.line_rules.specs.declared.rule.Rule.TheVariants.{Declared}
@@ -92,3 +92,15 @@ named_in rows (Some Text) w sound declared has = tt
 pub line_named : (rows : List Statement) (s : Statement) → AreSound rows → Keep Declared rows s
     → ((i : ℕ) → i < length s.words → HasName (place_at s.keyword i) (get_or s.words i [])) → IsNamed s
 line_named rows s sound known has i lt = named_in rows _ _ sound (known i lt) (has i lt)
+
+fit_named_in : (rows : List Statement) (place : Option Place) (w : Word) → AreSound rows → IsFitIn rows place w
+    → IsNamedIn place w
+fit_named_in rows None w sound fit = tt
+fit_named_in rows (Some New) w sound fit = fit.0
+fit_named_in rows (Some (Used kind)) w sound fit = declared_named rows kind w sound fit.1 fit.0
+fit_named_in rows (Some (Number least most)) w sound fit = tt
+fit_named_in rows (Some Text) w sound fit = tt
+
+-- the names of a line whose words are fit are names
+pub fit_named : (rows : List Statement) (s : Statement) → AreSound rows → AreFit rows s → IsNamed s
+fit_named rows s sound fit i lt = fit_named_in rows _ _ sound (fit i lt)

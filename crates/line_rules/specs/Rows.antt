@@ -1,5 +1,5 @@
 -- The rows of the code as lines, and the tables of their keys.
-use Rattle.std.specs.Prelude.{ℕ, List, [], ◌∷◌, ◌++◌, ◌≡◌, ◌≤◌, ◌-◌, ◌⊎◌, ◌↔◌, Option, Some, drop, length, map, take}
+use Rattle.std.specs.Prelude.{ℕ, List, [], ◌≡◌, ◌≤◌, ◌-◌, ◌⊎◌, ◌↔◌, Option, Some, drop, length, map, take}
 use Rattle.std.specs.List.{All, Contains, slice_index_or}
 use Rattle.std.specs.Borrow.{Bor}
 use Rattle.std.specs.Map.{lookup}

@@ -10,6 +10,7 @@ ghost use Rattle.text_lines.specs.declared.fault.Fault.{Fault};
 use crate::counts::{Counts, is_below};
 use crate::edition::{Version, is_of_version, version_after};
 use crate::entering::{Entering, Follow, entering_of, follow_of, most_of};
+use crate::fit::are_fit;
 use crate::line_list::LineList;
 use crate::purpose::Purpose;
 use crate::rows::Rows;
@@ -62,8 +63,9 @@ impl<'t> Model for KnownLines<'t> {
 
 impl<'t> KnownLines<'t> {
     ghost use Rattle.std.specs.Prelude.{[]};
-    ghost use Rattle.line_shapes.specs.Lines.{IsNamed, Statement};
+    ghost use Rattle.line_shapes.specs.Lines.{IsInRange, IsNamed, Statement};
     ghost use Rattle.line_shapes.specs.declared.keyword.Keyword.{Keyword};
+    ghost use Rattle.line_rules.specs.Entered.{AreFit};
     ghost use Rattle.line_rules.specs.Entering.{most_of as most_in};
     ghost use Rattle.line_rules.specs.Faults.{Fails, IsFewer, IsFit, IsLeastOf, IsNew, AreAllPriced};
     ghost use Rattle.line_rules.specs.Faults.{IsFirstOfBody, IsPricedBefore, IsComplete, Keep};
@@ -154,7 +156,7 @@ impl<'t> KnownLines<'t> {
 
     // Whether the words in the places of names are names. Where the names that the line uses are declared,
     // those that it declares alone are looked at, since the rows have names alone.
-    fn is_named(&self, known: bool, line: &KeyedLine<'_, 't>) -> bool
+    fn has_names(&self, known: bool, line: &KeyedLine<'_, 't>) -> bool
         requires { IsTrue known → Keep rule.Declared self.now.rows (statement_of line.now) }
         ensures { IsTrue result ↔ IsNamed (statement_of line.now) }
     {
@@ -162,19 +164,44 @@ impl<'t> KnownLines<'t> {
         (known && declares_names(line)) || line.is_named()
     }
 
-    fn is_known(&self, line: &KeyedLine<'_, 't>) -> bool
-        ensures { IsTrue result ↔ Keep rule.Declared self.now.rows (statement_of line.now) }
+    fn is_named(&self, fit: bool, known: bool, line: &KeyedLine<'_, 't>) -> bool
+        requires fit { IsTrue fit → AreFit self.now.rows (statement_of line.now) }
+        requires known { IsTrue known → Keep rule.Declared self.now.rows (statement_of line.now) }
+        ensures { IsTrue result ↔ IsNamed (statement_of line.now) }
     {
-        keep(Rule::Declared, &self.rows, line)
+        let _rows = &self.rows;
+        fit || self.has_names(known, line)
     }
 
-    fn is_new(&self, line: &KeyedLine<'_, 't>) -> bool
-        requires { length (places_of line.now.keyword) ≤ length line.now.words.now }
+    fn has_free_names(&self, fit: bool, line: &KeyedLine<'_, 't>) -> bool
+        requires { IsTrue fit → AreFit self.now.rows (statement_of line.now) }
+        ensures { IsTrue result ↔ Keep rule.Free self.now.rows (statement_of line.now) }
+    {
+        fit || keep(Rule::Free, &self.rows, line)
+    }
+
+    fn is_known(&self, fit: bool, line: &KeyedLine<'_, 't>) -> bool
+        requires { IsTrue fit → AreFit self.now.rows (statement_of line.now) }
+        ensures { IsTrue result ↔ Keep rule.Declared self.now.rows (statement_of line.now) }
+    {
+        fit || keep(Rule::Declared, &self.rows, line)
+    }
+
+    fn is_new(&self, fit: bool, line: &KeyedLine<'_, 't>) -> bool
+        requires places { length (places_of line.now.keyword) ≤ length line.now.words.now }
+        requires fit { IsTrue fit → AreFit self.now.rows (statement_of line.now) }
         ensures { IsTrue result ↔ IsNew self.now.rows (statement_of line.now) }
     {
-        keep(Rule::Free, &self.rows, line)
+        self.has_free_names(fit, line)
             && (is_entered_by_new_name(line.keyword)
                 || is_first_of_head(section_after(line.keyword), &self.rows, line))
+    }
+
+    fn is_in_range(&self, fit: bool, line: &KeyedLine<'_, 't>) -> bool
+        requires { IsTrue fit → AreFit self.now.rows (statement_of line.now) }
+        ensures { IsTrue result ↔ IsInRange (statement_of line.now) }
+    {
+        fit || line.is_in_range()
     }
 
     fn is_within_limit(&self, line: &KeyedLine<'_, 't>) -> bool
@@ -228,19 +255,29 @@ impl<'t> KnownLines<'t> {
         ensures { MatchOption result (IsFit self.now (statement_of line.now))
             (IsLeastOf (Fails self.now (statement_of line.now))) }
     {
+        self.fault_with(are_fit(&self.rows, line.keyword, line.words), line)
+    }
+
+    /// The same, where it is told whether the words are found fit.
+    pub fn fault_with(&self, fit: bool, line: &KeyedLine<'_, 't>) -> Option<Fault>
+        requires places { length (places_of line.now.keyword) ≤ length line.now.words.now }
+        requires fit { IsTrue fit → AreFit self.now.rows (statement_of line.now) }
+        ensures { MatchOption result (IsFit self.now (statement_of line.now))
+            (IsLeastOf (Fails self.now (statement_of line.now))) }
+    {
         let after = section_after(line.keyword);
-        let known = self.is_known(line);
+        let known = self.is_known(fit, line);
         if !self.is_whole(line) {
             Some(Fault::Shape)
         } else if !self.may_stand(line) {
             Some(Fault::Misplaced)
-        } else if !self.is_named(known, line) {
+        } else if !self.is_named(fit, known, line) {
             Some(Fault::Misnamed)
         } else if !known {
             Some(Fault::Unknown)
-        } else if !self.is_new(line) {
+        } else if !self.is_new(fit, line) {
             Some(Fault::Repeated)
-        } else if !line.is_in_range() {
+        } else if !self.is_in_range(fit, line) {
             Some(Fault::OutOfRange)
         } else if !self.is_within_limit(line) {
             Some(Fault::PassesLimit)

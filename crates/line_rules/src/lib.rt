@@ -13,6 +13,7 @@ pub mod answer;
 mod counts;
 pub mod edition;
 pub mod entering;
+mod fit;
 pub mod known;
 pub mod line_list;
 pub mod purpose;

@@ -1,6 +1,10 @@
 ghost use Rattle.std.specs.Prelude.{◌≡◌, ◌↔◌, ◌+◌, ◌≤◌, [], Err, IfErr, IfOk, IsTrue, MatchOption, OnOk};
-ghost use Rattle.std.specs.Prelude.{length};
-ghost use Rattle.line_shapes.specs.Lines.{IsShaped, statement_of};
+ghost use Rattle.std.specs.Prelude.{All, length, map};
+ghost use Rattle.text_lines.specs.Texts.{IsPrintable};
+ghost use Rattle.line_shapes.specs.Demands.{Meet};
+ghost use Rattle.line_shapes.specs.Lines.{IsShaped, stated, statement_of};
+ghost use Rattle.line_shapes.specs.declared.demand.Demand.TheVariants.{Shape};
+ghost use Rattle.line_rules.specs.Entered.{AreFit};
 ghost use Rattle.line_rules.specs.Faults.{Fails, IsLeastOf};
 ghost use Rattle.line_rules.specs.Known.{known_at};
 ghost use Rattle.line_rules.specs.Reading.{Enters, HasKeyword, IsAllRead, IsLeastError, IsReadingError};
@@ -9,12 +13,13 @@ ghost use Rattle.line_rules.specs.Texts.{LineHas, RestHas, longest};
 ghost use Rattle.line_rules.specs.declared.section.Section.TheVariants.{Ended};
 ghost use Rattle.line_rules.specs.declared.reading.LineError.TheVariants.{Memory};
 
+use crate::fit::are_fit;
 use crate::known::KnownLines;
 use crate::purpose::Purpose;
 use crate::section::Section;
-use line_shapes::{KeyedLine, cut_words, keyword_of, said_by};
+use line_shapes::{KeyedLine, Keyword, cut_words, keyword_of, said_by};
 use std::alloc::{AllocError, Global};
-use text_lines::{Fault, TextFault, printable, split_line};
+use text_lines::{Fault, TextFault, has_printable_lines, printable_in, split_line};
 
 const MAX_TEXT_BYTES: usize = 16_777_216;
 
@@ -74,6 +79,7 @@ fn take_lines<'t>(
     ensures ok { OnOk result (IsAllRead known.old.purpose text.entry.now known.new) }
     ensures err { IfErr result (IsReadingError known.old.purpose text.entry.now) }
 {
+    let printable = has_printable_lines(text);
     let mut rest = text;
     let mut lines_read: u32 = 0;
     loop {
@@ -84,7 +90,7 @@ fn take_lines<'t>(
                 None => Ok(()),
             };
         };
-        if let Err(error) = take_line(words, line, known) {
+        if let Err(error) = take_line(words, printable, line, known) {
             return Err(error_in(lines_read + 1, error));
         }
         rest = after;
@@ -92,17 +98,20 @@ fn take_lines<'t>(
     }
 }
 
-// Takes a line that has its line feed, given without it. Its words are put into `words`, in place of those there.
+// Takes a line that has its line feed, given without it, where it is told whether it is known to be printable. Its
+// words are put into `words`, in place of those there.
 fn take_line<'t>(
     words: &mut Vec<&'t str>,
+    printable: bool,
     line: &'t [u8],
     known: &mut KnownLines<'t>,
 ) -> Result<(), LineError>
+    requires { IsTrue printable → All IsPrintable line.now }
     ensures ok { OnOk result (Takes known.old line.entry.now known.new) }
     ensures err { IfErr result (IsLeastError (LineHas known.old line.entry.now)) }
     ensures memory { result ≡ Err LineError.Memory → HasKeyword known.old line.entry.now }
 {
-    let Some(line) = printable(line) else {
+    let Some(line) = printable_in(printable, line) else {
         return Err(LineError::Fault(Fault::Unprintable));
     };
     if is_ended(known) {
@@ -112,19 +121,40 @@ fn take_line<'t>(
         return Err(LineError::Fault(Fault::Shape));
     };
     cut_words(keyword, rest, words)?;
-    match said_by(keyword, words.as_slice()) {
-        Some(line) => take_said(&line, known),
+    let words = words.as_slice();
+    let fit = are_fit(known.rows(), keyword, words);
+    match said(fit, keyword, words) {
+        Some(line) => take_said(fit, &line, known),
         None => Err(LineError::Fault(Fault::Shape)),
     }
 }
 
-// Takes what a line says.
-fn take_said<'t>(line: &KeyedLine<'_, 't>, known: &mut KnownLines<'t>) -> Result<(), LineError>
-    requires { IsShaped (statement_of line.now) }
+// What `said_by` answers, where fit words have the shapes of their places.
+#[inline(always)]
+fn said<'w, 't>(fit: bool, keyword: Keyword, words: &'w [&'t str]) -> Option<KeyedLine<'w, 't>>
+    requires { IsTrue fit → Meet Shape keyword (map (λ w. w.now) words.now) }
+    ensures { MatchOption result (IsShaped (stated keyword words.entry.now) → ⊥)
+        (λ line. (statement_of line ≡ stated keyword words.entry.now) × IsShaped (statement_of line)) }
+{
+    if fit && words.len() >= keyword.places().len() {
+        Some(KeyedLine { keyword, words })
+    } else {
+        said_by(keyword, words)
+    }
+}
+
+// Takes what a line says, where it is told whether its words are found fit.
+fn take_said<'t>(
+    fit: bool,
+    line: &KeyedLine<'_, 't>,
+    known: &mut KnownLines<'t>,
+) -> Result<(), LineError>
+    requires shaped { IsShaped (statement_of line.now) }
+    requires fit { IsTrue fit → AreFit known.old.rows (statement_of line.now) }
     ensures ok { OnOk result (Enters known.old (statement_of line.now) known.new) }
     ensures err { IfErr result (IsLeastError (Fails known.old (statement_of line.now))) }
 {
-    if let Some(fault) = known.fault_of(line) {
+    if let Some(fault) = known.fault_with(fit, line) {
         return Err(LineError::Fault(fault));
     }
     known.enter(line)?;

@@ -1,6 +1,6 @@
 ghost use Rattle.std.specs.Prelude.{◌≡◌, ◌++◌, ◌∷◌, ◌↔◌, ◌≤◌, ◌<◌, IsTrue, MatchOption, OnErr, OnOk};
-ghost use Rattle.std.specs.Prelude.{Contains, IfOk, length};
-ghost use Rattle.line_rules.specs.Rows.{HasKeyMore};
+ghost use Rattle.std.specs.Prelude.{[], Contains, IfOk, IsSome, List, Ok, false, length, true};
+ghost use Rattle.line_rules.specs.Rows.{HasKeyMore, TextKey, first_by};
 
 use crate::entering::{Entering, entering_of};
 use crate::line_list::LineList;
@@ -83,7 +83,20 @@ impl<'t> Rows<'t> {
         }
     }
 
+    /// The keyword of the first line that was entered by this word alone.
+    #[inline(always)]
+    pub fn first(&self, word: &str) -> Option<Keyword>
+        ensures { MatchOption result ((keyword : Keyword) → HasRow self.now keyword word.now → ⊥)
+            (λ keyword. HasRow self.now keyword word.now) }
+    {
+        match self.firsts.get(&word) {
+            Some(keyword) => Some(*keyword),
+            None => None,
+        }
+    }
+
     /// Whether a line of any keyword was entered by this word alone.
+    #[inline(always)]
     pub fn has_word(&self, word: &str) -> bool
         ensures { IsTrue result ↔ ((keyword : Keyword) × HasRow self.now keyword word.now) }
     {
@@ -160,10 +173,40 @@ fn put_key<'t>(
     ensures err { OnErr result ((firsts.new.entries ≡ firsts.old.entries)
         × (others.new.keys ≡ others.old.keys)) }
 {
-    if second.is_empty() && !firsts.contains_key(&first) {
-        firsts.insert(first, keyword)?;
-    } else {
-        others.insert((keyword, first, second))?;
+    if second.is_empty() && put_first(firsts, keyword, first)? {
+        return Ok(());
+    }
+    make_room(firsts, others)?;
+    others.insert((keyword, first, second))?;
+    Ok(())
+}
+
+// Puts a word that is a key alone into the first table, by one hash of it. Where it stands there by another keyword,
+// that stays, and the key has no place there.
+fn put_first<'t>(
+    firsts: &mut IndexMap<&'t str, Keyword>,
+    keyword: Keyword,
+    word: &'t str,
+) -> Result<bool, AllocError>
+    ensures put { result ≡ Ok true → (others : List TextKey)
+        → HasKeyMore firsts.old.entries others (keyword, word.now, []) firsts.new.entries others }
+    ensures other { result ≡ Ok false → (firsts.new.entries ≡ firsts.old.entries)
+        × IsSome (first_by firsts.old.entries word.now) }
+    ensures err { OnErr result (firsts.new.entries ≡ firsts.old.entries) }
+{
+    let of = *firsts.entry(word)?.or_insert(keyword);
+    Ok(of == keyword)
+}
+
+// Before the first key is put into the second table: makes room there for as many as the first still has room for.
+fn make_room<'t>(
+    firsts: &IndexMap<&'t str, Keyword>,
+    others: &mut IndexSet<(Keyword, &'t str, &'t str)>,
+) -> Result<(), AllocError>
+    ensures { others.new.keys ≡ others.old.keys }
+{
+    if others.is_empty() {
+        others.reserve(firsts.capacity() - firsts.len())?;
     }
     Ok(())
 }

@@ -22,18 +22,16 @@ use line_shapes::{KeyedLine, Keyword, Kind, Place};
 use text_lines::is_name;
 
 /// Whether each word after the keyword keeps to the rule in its place.
-#[inline(always)]
 pub fn keep(rule: Rule, rows: &Rows<'_>, line: &KeyedLine<'_, '_>) -> bool
     ensures { IsTrue result ↔ Keep rule rows.now (statement_of line.now) }
 {
     keep_words(rule, rows, line.keyword, line.words)
 }
 
-#[inline(always)]
 fn keep_words(rule: Rule, rows: &Rows<'_>, keyword: Keyword, words: &[&str]) -> bool
     ensures { IsTrue result ↔ KeepIn rule rows.now keyword words.now }
 {
-    for i in 0..asked(rule, keyword, words.len()) {
+    for i in 0..words.len() {
         if !keeps_to(rule, rows, keyword.place(i), words[i]) {
             return false;
         }
@@ -41,34 +39,6 @@ fn keep_words(rule: Rule, rows: &Rows<'_>, keyword: Keyword, words: &[&str]) -> 
     true
 }
 
-// Of how many of the words the rule asks something: of those in the places alone, where any word that may
-// follow them keeps to it.
-#[inline(always)]
-fn asked(rule: Rule, keyword: Keyword, count: usize) -> usize
-    ensures within { result ≤ count }
-    ensures rest { (rows : List Statement) (i : ℕ) (w : Word) → result ≤ i → i < count
-        → KeepsTo rule rows (place_at keyword i) w }
-{
-    if any_keeps_to(rule, keyword.more()) {
-        count.min(keyword.places().len())
-    } else {
-        count
-    }
-}
-
-// Whether any word that may follow the places keeps to the rule; told of free names alone.
-#[inline(always)]
-fn any_keeps_to(rule: Rule, more: Option<Place>) -> bool
-    ensures { IsTrue result → (rows : List Statement) (w : Word) → KeepsTo rule rows more w }
-{
-    match (rule, more) {
-        (Rule::Declared, _) => false,
-        (Rule::Free, Some(Place::New)) => false,
-        (Rule::Free, None | Some(Place::Used(_) | Place::Number(_, _) | Place::Text)) => true,
-    }
-}
-
-#[inline(always)]
 fn keeps_to(rule: Rule, rows: &Rows<'_>, place: Option<Place>, word: &str) -> bool
     ensures { IsTrue result ↔ KeepsTo rule rows.now place word.now }
 {
@@ -78,7 +48,6 @@ fn keeps_to(rule: Rule, rows: &Rows<'_>, place: Option<Place>, word: &str) -> bo
     }
 }
 
-#[inline(always)]
 fn is_declared_in(rows: &Rows<'_>, place: Option<Place>, word: &str) -> bool
     ensures { IsTrue result ↔ IsDeclaredIn rows.now place word.now }
 {
@@ -91,7 +60,6 @@ fn is_declared_in(rows: &Rows<'_>, place: Option<Place>, word: &str) -> bool
     }
 }
 
-#[inline(always)]
 fn is_free_in(rows: &Rows<'_>, place: Option<Place>, word: &str) -> bool
     ensures { IsTrue result ↔ IsFreeIn rows.now place word.now }
 {
@@ -106,7 +74,6 @@ fn is_free_in(rows: &Rows<'_>, place: Option<Place>, word: &str) -> bool
 
 /// Whether each name that the line declares is one, and none that it uses is empty. All its names are names
 /// then, where those that it uses are declared.
-#[inline(always)]
 pub fn declares_names(line: &KeyedLine<'_, '_>) -> bool
     ensures { IsTrue result → (rows : List Statement) → AreSound rows → Keep Declared rows (statement_of line.now)
         → IsNamed (statement_of line.now) }
@@ -114,7 +81,6 @@ pub fn declares_names(line: &KeyedLine<'_, '_>) -> bool
     have_names(line.keyword, line.words)
 }
 
-#[inline(always)]
 fn have_names(keyword: Keyword, words: &[&str]) -> bool
     ensures { IsTrue result → (i : ℕ) (d : Bor (List ℕ)) → i < length words.now
         → HasName (place_at keyword i) (slice_index_or words.now i d).now }
@@ -127,7 +93,6 @@ fn have_names(keyword: Keyword, words: &[&str]) -> bool
     true
 }
 
-#[inline(always)]
 fn has_name(place: Option<Place>, word: &str) -> bool
     ensures { IsTrue result ↔ HasName place word.now }
 {
@@ -152,13 +117,16 @@ fn is_declared(rows: &Rows<'_>, kind: Kind, name: &str) -> bool
     }
 }
 
-fn is_free(rows: &Rows<'_>, name: &str) -> bool
+/// Whether the name is not taken.
+#[inline(always)]
+pub fn is_free(rows: &Rows<'_>, name: &str) -> bool
     ensures { IsTrue result ↔ (IsTaken rows.now name.now → ⊥) }
 {
     !is_taken(rows, name)
 }
 
 // Most names that are asked for are new, which is found at once.
+#[inline(always)]
 fn is_taken(rows: &Rows<'_>, name: &str) -> bool
     ensures { IsTrue result ↔ IsTaken rows.now name.now }
 {

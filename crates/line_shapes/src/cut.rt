@@ -6,17 +6,15 @@ ghost use Rattle.line_shapes.specs.declared.place.Place.{Place};
 use crate::keyword::Keyword;
 use crate::place::Place;
 use std::alloc::AllocError;
-use text_lines::add_words;
+use text_lines::{add_words, split_word};
 
 /// The first word of a text, and what follows the space after it.
+#[inline(always)]
 pub fn first_word(text: &str) -> (&str, Option<&str>)
     ensures { (more : Option Place) (n : ℕ)
         → pieces more (suc n) text.entry.now ≡ result.0.now ∷ pieces_after more n result.1 }
 {
-    match text.split_once(' ') {
-        Some((first, rest)) => (first, Some(rest)),
-        None => (text, None),
-    }
+    split_word(text)
 }
 
 // Puts the first words, so many, into an empty list, and what follows them as it stands.

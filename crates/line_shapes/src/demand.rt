@@ -1,6 +1,4 @@
-ghost use Rattle.std.specs.Prelude.{◌≡◌, ◌↔◌, ◌≤◌, ◌<◌, ℕ, IsTrue};
-ghost use Rattle.text_lines.specs.Texts.{Word, number_of};
-ghost use Rattle.line_shapes.specs.Places.{place_at};
+ghost use Rattle.std.specs.Prelude.{◌↔◌, IsTrue};
 ghost use Rattle.line_shapes.specs.Demands.{HasShape, IsNamedIn, IsNumberWithin, IsWithinIn};
 ghost use Rattle.line_shapes.specs.Demands.{MeetIn, MeetsDemand};
 
@@ -24,38 +22,12 @@ pub enum Demand {
 pub fn meet(demand: Demand, keyword: Keyword, words: &[&str]) -> bool
     ensures { IsTrue result ↔ MeetIn demand keyword words.now }
 {
-    for i in 0..asked(demand, keyword, words.len()) {
+    for i in 0..words.len() {
         if !meets(demand, keyword.place(i), words[i]) {
             return false;
         }
     }
     true
-}
-
-// Of how many of the words the demand asks something: of those in the places alone, where any word that may
-// follow them meets it.
-#[inline(always)]
-fn asked(demand: Demand, keyword: Keyword, count: usize) -> usize
-    ensures within { result ≤ count }
-    ensures rest { (i : ℕ) (w : Word) → result ≤ i → i < count → MeetsDemand demand (place_at keyword i) w }
-{
-    if any_meets(demand, keyword.more()) {
-        count.min(keyword.places().len())
-    } else {
-        count
-    }
-}
-
-// Whether any word that may follow the places meets the demand; told of ranges alone.
-#[inline(always)]
-fn any_meets(demand: Demand, more: Option<Place>) -> bool
-    ensures { IsTrue result → (w : Word) → MeetsDemand demand more w }
-{
-    match (demand, more) {
-        (Demand::Shape | Demand::Name, _) => false,
-        (Demand::Range, Some(Place::Number(_, _))) => false,
-        (Demand::Range, None | Some(Place::New | Place::Used(_) | Place::Text)) => true,
-    }
 }
 
 #[inline(always)]
@@ -109,8 +81,9 @@ fn is_within_in(place: Option<Place>, word: &str) -> bool
     }
 }
 
-// Whether the word is a number of at least and at most so much.
-fn is_within(word: &str, least: u64, most: u64) -> bool
+/// Whether the word is a number of at least and at most so much.
+#[inline(always)]
+pub fn is_within(word: &str, least: u64, most: u64) -> bool
     ensures { IsTrue result ↔ IsNumberWithin least most word.now }
 {
     match value_in(word) {

@@ -1,5 +1,5 @@
 -- Where a list is cut first, and the rest of its parts.
-use Rattle.std.proofs.Common.{ℕ, List, [], ◌∷◌, ◌≡◌, ◌+◌, ◌≤◌, ◌∙◌, length, take, drop, Bool, true, false}
+use Rattle.std.proofs.Common.{ℕ, List, [], ◌∷◌, ◌≡◌, ◌+◌, ◌≤◌, ◌<◌, ◌∙◌, length, take, drop, Bool, true, false}
 use Rattle.std.proofs.Common.{not, ◌-◌, Some, None, ap, refl, arith, cond, length-drop, suc, take_all}
 use Rattle.std.specs.List.{position, slice_split, position_or_len}
 use Rattle.std.specs.Prelude.{nat_lt}
@@ -14,12 +14,20 @@ unchosen : (b : Bool) (n : ℕ) → cond b (Some n) None ≡ None → b ≡ fals
 unchosen true n e = cc
 unchosen false n e = refl
 
+-- the first place that passes, in other words
+pub first_at : (p : ℕ → Bool) (xs : List ℕ) (i : ℕ) → position p xs ≡ Some i
+    → (position_or_len p xs < length xs) × (position_or_len p xs ≡ i)
+first_at p xs i e = let at = chosen _ _ _ e in (ltb-true _ _ at.0, at.1)
+
+pub first_none : (p : ℕ → Bool) (xs : List ℕ) → position p xs ≡ None → length xs ≤ position_or_len p xs
+first_none p xs e = ltb-false _ _ (unchosen _ _ e)
+
 -- at the first place that passes
 pub cut_some : (p : ℕ → Bool) (xs : List ℕ) (i : ℕ) → position p xs ≡ Some i
     → slice_split p xs ≡ take i xs ∷ slice_split p (drop (i + 1) xs)
 cut_some p xs i e =
-    let at = chosen _ _ _ e in
-    slice_split_first p xs 0 (ltb-true _ _ at.0)
+    let at = first_at p xs i e in
+    slice_split_first p xs 0 at.0
     ∙ ap (λ k. take k xs ∷ slice_split p (drop (k + 1) xs)) at.1
 
 none_step : (b : Bool) (n m : ℕ)

@@ -1,7 +1,8 @@
 -- Texts, lines, words, names and numbers. A text is a list of lines, each ended by one line feed.
 use Rattle.std.specs.Prelude.{ℕ, List, [], ◌∷◌, ◌≡◌, ◌==◌, ◌+◌, ◌-◌, ◌*◌, ◌≤◌, ◌<◌, ◌⊎◌, length, slice_index}
-use Rattle.std.specs.Prelude.{slice_index_or}
-use Rattle.std.specs.List.{All, range_with_len, slice_split}
+use Rattle.std.specs.Prelude.{Option, Some, None, slice_index_or}
+use Rattle.std.specs.Borrow.{Bor}
+use Rattle.std.specs.List.{All, after_first, before_first, position_or_len, range_with_len, slice_split}
 
 abbrev pub Word : Type 0
 Word = List ℕ
@@ -17,6 +18,12 @@ lines_of text = slice_split (λ b. b == 10) text
 abbrev pub words_of : Line → List Word
 words_of line = slice_split (λ b. b == 32) line
 
+-- the line is cut at its first space, and nothing follows where it has none
+abbrev pub IsCutAtSpace : Line → Word → Option (Bor (List ℕ)) → Type 0
+IsCutAtSpace line word None = (length line ≤ position_or_len (λ b. b == 32) line) × (word ≡ line)
+IsCutAtSpace line word (Some rest) = (position_or_len (λ b. b == 32) line < length line)
+    × (word ≡ before_first (λ b. b == 32) line) × (rest.now ≡ after_first (λ b. b == 32) line)
+
 -- the name of a number, and the numbers of some names, from 0 on
 abbrev pub name_of : List Word → ℕ → Word
 name_of names number = slice_index_or names number []
@@ -27,6 +34,10 @@ numbers_of names = range_with_len 0 (length names)
 -- printable ASCII
 abbrev pub IsPrintable : ℕ → Type 0
 IsPrintable b = (32 ≤ b) × (b ≤ 126)
+
+-- that, or a line feed
+abbrev pub IsOfLine : ℕ → Type 0
+IsOfLine b = (b ≡ 10) ⊎ IsPrintable b
 
 -- A to Z, or a to z
 abbrev pub IsLetter : ℕ → Type 0

@@ -1,6 +1,6 @@
 ghost use Rattle.std.specs.Prelude.{◌≡◌, ◌∷◌, ◌++◌, [], ◌<◌, ◌↔◌, ◌==◌, IsTrue, MatchOption, OnOk, length, map};
 ghost use Rattle.std.specs.Prelude.{position, All};
-ghost use Rattle.text_lines.specs.Texts.{IsPrintable, lines_of, words_of};
+ghost use Rattle.text_lines.specs.Texts.{IsCutAtSpace, IsOfLine, IsPrintable, lines_of, words_of};
 
 use memchr::memchr;
 use std::alloc::AllocError;
@@ -24,16 +24,55 @@ fn line_end(text: &[u8]) -> Option<usize>
     memchr(b'\n', text)
 }
 
+/// Whether each line of a text is found printable by one pass over its bytes.
+pub fn has_printable_lines(text: &[u8]) -> bool
+    ensures { IsTrue result → All (All IsPrintable) (lines_of text.now) }
+{
+    are_of_lines(text)
+}
+
+fn are_of_lines(text: &[u8]) -> bool
+    ensures { IsTrue result → All IsOfLine text.now }
+{
+    let mut all = true;
+    for byte in text {
+        all &= is_of_line(*byte);
+    }
+    all
+}
+
+fn is_of_line(byte: u8) -> bool
+    ensures { IsTrue result ↔ IsOfLine byte }
+{
+    byte == b'\n' || is_printable_byte(byte)
+}
+
+/// The line as text, where all its bytes are printable ASCII; they are looked at where that is not known.
+pub fn printable_in(known: bool, line: &[u8]) -> Option<&str>
+    requires { IsTrue known → All IsPrintable line.now }
+    ensures { MatchOption result (¬ (All IsPrintable line.entry.now))
+        (λ text. (text.now ≡ line.entry.now) × All IsPrintable line.entry.now) }
+{
+    if has_printable(known, line) {
+        Some(unsafe { str::from_utf8_unchecked(line) })
+    } else {
+        None
+    }
+}
+
 /// The line as text, where all its bytes are printable ASCII.
 pub fn printable(line: &[u8]) -> Option<&str>
     ensures { MatchOption result (¬ (All IsPrintable line.entry.now))
         (λ text. (text.now ≡ line.entry.now) × All IsPrintable line.entry.now) }
 {
-    if is_printable(line) {
-        Some(unsafe { str::from_utf8_unchecked(line) })
-    } else {
-        None
-    }
+    printable_in(false, line)
+}
+
+fn has_printable(known: bool, line: &[u8]) -> bool
+    requires { IsTrue known → All IsPrintable line.now }
+    ensures { IsTrue result ↔ All IsPrintable line.now }
+{
+    known || is_printable(line)
 }
 
 // Every byte is looked at, so that many can be tested in one step.
@@ -56,9 +95,10 @@ fn is_printable_byte(byte: u8) -> bool
 /// The first word of a line, and what follows the space after it, if it has one.
 #[inline(always)]
 pub fn split_word(line: &str) -> (&str, Option<&str>)
-    ensures { MatchOption result.1 (words_of line.entry.now ≡ result.0.now ∷ [])
+    ensures words { MatchOption result.1 (words_of line.entry.now ≡ result.0.now ∷ [])
         (λ rest. (words_of line.entry.now ≡ result.0.now ∷ words_of rest.now)
         × (length rest.now < length line.entry.now)) }
+    ensures cut { IsCutAtSpace line.entry.now result.0.now result.1 }
 {
     match first_space(line.as_bytes()) {
         Some(at) => (&line[..at], Some(&line[at + 1..])),

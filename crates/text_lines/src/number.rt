@@ -2,8 +2,8 @@ ghost use Rattle.std.specs.Prelude.{◌≡◌, ◌≢◌, ◌^◌, ◌<◌, ◌�
 ghost use Rattle.std.specs.Prelude.{slice_index};
 ghost use Rattle.text_lines.specs.Texts.{IsDigit, IsNumber, number_of};
 
-// Below this, a digit more gives a number below 2 ^ 64.
-const ROOM_FOR_A_DIGIT: u64 = 1_844_674_407_370_955_161;
+// So many digits give a number below 2 ^ 64.
+const SHORT: usize = 19;
 
 /// A number of any size, as the digits of its word.
 #[derive(Clone, Copy)]
@@ -62,13 +62,13 @@ fn value_from(word: &str) -> Option<u64>
     ensures { SomeIff result (IsNumber word.now × (number_of word.now < 2 ^ 64)) (number_of word.now) }
 {
     let bytes = word.as_bytes();
+    if bytes.len() > SHORT {
+        return Number::of(word)?.value();
+    }
     let mut value: u64 = 0;
     for i in 0..bytes.len() {
         if !bytes[i].is_ascii_digit() {
             return None;
-        }
-        if value >= ROOM_FOR_A_DIGIT {
-            return Number::of(word)?.value();
         }
         value = 10 * value + u64::from(bytes[i] - b'0');
     }

@@ -14,7 +14,7 @@ pub const MAX_READ_BYTES: usize = 16_777_217;
 pub const MAX_READS: u32 = 33_554_434;
 
 // The most bytes of one read.
-const PIECE: usize = 65_536;
+const PIECE: usize = 8_192;
 
 /// Why a text was not read.
 #[derive(Clone, Copy, Debug, Error, PartialEq, Eq)]

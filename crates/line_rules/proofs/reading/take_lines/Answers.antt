@@ -1,5 +1,7 @@
-use Rattle.std.proofs.Common.{arith, ◌≡◌, [], ◌∷◌, ◌∙◌, ap}
-use Rattle.text_lines.specs.Texts.{lines_of}
+use Rattle.std.proofs.Common.{arith, ◌≡◌, [], ◌∷◌, ◌∙◌, ap, subst}
+use Rattle.std.specs.List.{All}
+use Rattle.std.proofs.lemmas.List.Elements.{All-head, All-tail}
+use Rattle.text_lines.specs.Texts.{IsPrintable, lines_of}
 use Rattle.line_rules.proofs.ReadTo.{error_of_text, least_at_rest, least_fault, read_more, reads_all}
 use Rattle.line_rules.proofs.ReadTo.{some_line}
 use Rattle.line_rules.proofs.reading.take_lines.Goals as goal
@@ -38,4 +40,12 @@ loop-after-preserved c =
           c.loop-after.invariant.0 follows.0
           (some_line c.in-Some.after.now) c.in_default-take_line.ensures.ok,
       omega (arith, c.loop-after.invariant.1, follows.1),
+      λ t. All-tail (All IsPrintable) c.split_line.result.0.now (lines_of c.in-Some.after.now)
+          (subst (All (All IsPrintable)) follows.0 (c.loop-after.invariant.2 t)),
     )
+
+pub take_line-requires : goal.take_line-requires
+take_line-requires c t =
+    let follows = rw c.in-Some.is at c.split_line.ensures in
+    All-head (All IsPrintable) c.split_line.result.0.now (lines_of c.in-Some.after.now)
+    (subst (All (All IsPrintable)) follows.0 (c.loop-after.invariant.2 t))

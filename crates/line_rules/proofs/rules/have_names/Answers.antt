@@ -1,4 +1,4 @@
-use Rattle.std.proofs.Common.{[], get_or, subst, Bor, List, ℕ, arith}
+use Rattle.std.proofs.Common.{[], get_or, subst, Bor, List, ℕ}
 use Rattle.line_shapes.specs.Places.{place_at}
 use Rattle.line_shapes.proofs.Each.{each_more}
 use Rattle.line_rules.specs.Entered.{HasName}

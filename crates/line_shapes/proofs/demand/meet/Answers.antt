@@ -1,4 +1,4 @@
-use Rattle.std.proofs.Common.{[], get_or, subst, arith}
+use Rattle.std.proofs.Common.{[], get_or, subst}
 use Rattle.line_shapes.specs.Demands.{MeetsDemand}
 use Rattle.line_shapes.specs.Places.{place_at}
 use Rattle.line_shapes.proofs.Each.{each_more}
@@ -9,5 +9,5 @@ loop-i-preserved c =
     let word = (get_or c.args.words.now c.loop-i.i (record { ref_ptr = (0, 0); now = [] })).now in
     each_more (λ k w. MeetsDemand c.args.demand (place_at c.args.keyword k) w.now) c.args.words.now c.loop-i.i
     (record { ref_ptr = (0, 0); now = [] })
-    (omega (arith, c.loop-i-test.true, c.asked-i-end.ensures.within)) c.loop-i.invariant
+    c.loop-i-test.true c.loop-i.invariant
     (subst (λ p. MeetsDemand c.args.demand p word) c.place.ensures (c.meets.ensures.0 c.if-not-meets.false))

@@ -1,4 +1,4 @@
-use Rattle.std.proofs.Common.{◌≡◌, ◌==◌, arith, eq-eqb, get_or, rules, true}
+use Rattle.std.proofs.Common.{◌≡◌, ◌==◌, arith, get_or, rules, true}
 use Rattle.text_lines.proofs.FirstByte.{position-at, position-nowhere}
 use Rattle.text_lines.proofs.lines.first_space.Goals as goal
 

@@ -1,9 +1,10 @@
 use Rattle.std.proofs.Common.{rules, ◌==◌, ◌<◌, ◌∙◌, ◌∷◌, List, ℕ, Some, ap₂, arith, eqb-true, get_or, sym, take, true, ap, ◌-◌, ◌≡◌}
+use Rattle.std.proofs.Common.{◌+◌, drop, refl}
 use Rattle.std.specs.List.{position}
 use Rattle.std.proofs.lemmas.List.Quantifiers.{position-Some}
 use Rattle.std.proofs.lemmas.Str.{IsCharBoundary-after_ascii, IsCharBoundary-before_ascii}
 use Rattle.text_lines.specs.Texts.{words_of}
-use Rattle.text_lines.proofs.Splitting.{cut_none, cut_some}
+use Rattle.text_lines.proofs.Splitting.{cut_none, cut_some, first_at, first_none}
 use Rattle.text_lines.proofs.lines.split_word.Goals as goal
 
 ascii_at : (line : List ℕ) (at : ℕ) → (get_or line at 0 == 32) ≡ true → get_or line at 0 < 128
@@ -23,8 +24,8 @@ range_from-requires c past =
     let at = position-Some (λ b. b == 32) line c.in-Some.at 0 (search rules) in
     IsCharBoundary-after_ascii line c.in-Some.at (search rules) at.0 (ascii_at line c.in-Some.at at.1)
 
-pub returns-in-Some : goal.returns-in-Some
-returns-in-Some c =
+pub returns-in-Some-clause-words : goal.returns-in-Some-clause-words
+returns-in-Some-clause-words c =
     let line = c.args.line.now in
     let found : position (λ b. b == 32) line ≡ Some c.in-Some.at = search rules in
     let whole : c.in-Some.at - 0 ≡ c.in-Some.at = omega arith in
@@ -35,5 +36,19 @@ returns-in-Some c =
       omega (arith, c.range_from.ensures.len),
     )
 
-pub returns-in-None : goal.returns-in-None
-returns-in-None c = cut_none (λ b. b == 32) c.args.line.now (search rules)
+pub returns-in-Some-clause-cut : goal.returns-in-Some-clause-cut
+returns-in-Some-clause-cut c =
+    let line = c.args.line.now in
+    let found : position (λ b. b == 32) line ≡ Some c.in-Some.at = search rules in
+    let at = first_at (λ b. b == 32) line c.in-Some.at found in
+    let whole : c.in-Some.at - 0 ≡ c.in-Some.at = omega arith in (
+      at.0,
+      c.range.ensures.value ∙ ap (λ n. take n line) (whole ∙ sym at.1),
+      c.range_from.ensures.value ∙ ap (λ n. drop (n + 1) line) (sym at.1),
+    )
+
+pub returns-in-None-clause-words : goal.returns-in-None-clause-words
+returns-in-None-clause-words c = cut_none (λ b. b == 32) c.args.line.now (search rules)
+
+pub returns-in-None-clause-cut : goal.returns-in-None-clause-cut
+returns-in-None-clause-cut c = (first_none (λ b. b == 32) c.args.line.now (search rules), refl)

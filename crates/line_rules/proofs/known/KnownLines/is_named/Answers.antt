@@ -1,17 +1,14 @@
-use Rattle.std.proofs.Common.{◌∙◌, subst, sym, true≢false}
+use Rattle.std.proofs.Common.{subst}
+use Rattle.line_shapes.specs.Lines.{statement_of}
 use Rattle.line_rules.specs.Entered.{AreSound}
 use Rattle.line_rules.specs.Known.{Known}
+use Rattle.line_rules.proofs.Sound.{fit_named}
 use Rattle.line_rules.proofs.known.KnownLines.is_named.Goals as goal
-use Rattle.line_rules.proofs.known.KnownLines.is_named.Goals.{then-known, else-known}
 
-pub returns-then-declares_names : goal.returns-then-declares_names
-returns-then-declares_names c =
+pub returns-then-fit : goal.returns-then-fit
+returns-then-fit c =
     let sound : AreSound c.args.self.now.rows =
     subst (λ (k : Known). AreSound k.rows) c.self.view_is c.self.invariant.1 in (
-      λ t. elim c.if-known.branch [
-        | then-known w ↦
-            w.declares_names.ensures (sym w.value-is ∙ t) c.args.self.now.rows sound (c.requires w.if-known.true)
-        | else-known w ↦ absurd (true≢false (sym t ∙ w.value-is ∙ w.if-known.false))
-      ],
-      λ h. c.if-declares_names.true,
+      λ t. fit_named _ (statement_of c.args.line.now) sound (c.requires.fit c.if-fit.true),
+      λ h. c.if-fit.true,
     )

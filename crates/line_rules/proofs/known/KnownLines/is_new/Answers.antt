@@ -1,7 +1,6 @@
-use Rattle.std.proofs.Common.{List, subst}
+use Rattle.std.proofs.Common.{List}
 use Rattle.line_shapes.specs.Lines.{Statement, statement_of}
 use Rattle.line_rules.specs.Faults.{IsFirst, IsFirstOfHead, Keep}
-use Rattle.line_rules.specs.Known.{Known}
 use Rattle.line_rules.specs.declared.rule.Rule.TheVariants.{Free}
 use Rattle.line_rules.specs.declared.section.Section.{Section}
 use Rattle.line_rules.specs.declared.section.Section.TheVariants.{First, Head, Body, Ended}
@@ -18,12 +17,12 @@ pub returns-then-is_entered_by_new_name : goal.returns-then-is_entered_by_new_na
 returns-then-is_entered_by_new_name c =
     let line = statement_of c.args.line.now in
     let free : Keep Free c.args.self.now.rows line =
-    subst (λ (known : Known). Keep Free known.rows line) c.self.view_is (c.keep.ensures.0 c.if-keep.true) in
+    c.has_free_names.ensures.0 c.if-has_free_names.true in
     let entered = c.if-is_entered_by_new_name.true in (
       λ t. record {
         names = free;
         first = first_of_head _ _ _ (c.is_entered_by_new_name.ensures entered c.args.self.now.rows
-            c.args.line.now.words.now c.requires free);
+            c.args.line.now.words.now c.requires.places free);
       },
       λ new. entered,
     )

@@ -1,4 +1,4 @@
-use Rattle.std.proofs.Common.{◌≡◌, ◌∙◌, ◌++◌, ◌∷◌, [], ap, arith, map, rules, sym}
+use Rattle.std.proofs.Common.{◌≡◌, ◌∙◌, ◌++◌, ◌∷◌, [], ap, arith, map, rules}
 use Rattle.line_shapes.specs.Lines.{statement_of}
 use Rattle.line_rules.specs.Rows.{statement_at}
 use Rattle.line_rules.proofs.Listed.{kept_by, lines_put}

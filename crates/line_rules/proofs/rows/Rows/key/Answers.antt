@@ -1,7 +1,6 @@
 use Rattle.std.proofs.Common.{List, ◌<◌, ◌∙◌, length, subst, sym}
 use Rattle.line_shapes.specs.Lines.{Statement, statement_of}
-use Rattle.line_rules.specs.Known.{keys_of}
-use Rattle.line_rules.specs.Rows.{IsKeyAt, IsRowAt}
+use Rattle.line_rules.specs.Rows.{IsRowAt}
 use Rattle.line_rules.proofs.Keyed.{key_at}
 use Rattle.line_rules.proofs.rows.Rows.key.Goals as goal
 

@@ -1,4 +1,4 @@
-use Rattle.std.proofs.Common.{◌∷◌, ◌++◌, ◌∙◌, [], ap, subst}
+use Rattle.std.proofs.Common.{subst}
 use Rattle.line_shapes.specs.Lines.{statement_of}
 use Rattle.line_rules.specs.Entering.{Key, key_of}
 use Rattle.line_rules.specs.Rows.{HasKeyMore}

@@ -5,7 +5,7 @@ use Rattle.std.proofs.lemmas.Bool.{cases_lt}
 use Rattle.std.proofs.lemmas.List.{get_or_past}
 use Rattle.std.proofs.lemmas.Str.{IsUtf8-from_ascii}
 use Rattle.text_lines.specs.Texts.{IsPrintable}
-use Rattle.text_lines.proofs.lines.printable.Goals as goal
+use Rattle.text_lines.proofs.lines.printable_in.Goals as goal
 
 ascii : (line : List ℕ) → All IsPrintable line → IsAscii line
 ascii line h i = elim (cases_lt i (length line)) [
@@ -15,4 +15,4 @@ ascii line h i = elim (cases_lt i (length line)) [
 
 pub from_utf8_unchecked-requires : goal.from_utf8_unchecked-requires
 from_utf8_unchecked-requires c =
-    IsUtf8-from_ascii c.args.line.now (ascii c.args.line.now (c.is_printable.ensures.0 c.if-is_printable.true))
+    IsUtf8-from_ascii c.args.line.now (ascii c.args.line.now (c.has_printable.ensures.0 c.if-has_printable.true))

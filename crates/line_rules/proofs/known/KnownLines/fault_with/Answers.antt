@@ -1,6 +1,6 @@
 use Rattle.std.proofs.Common.{◌∙◌, sym, true≢false}
 use Rattle.line_rules.proofs.Least.{least_repeated, least_unknown}
-use Rattle.line_rules.proofs.known.KnownLines.fault_of.Goals as goal
+use Rattle.line_rules.proofs.known.KnownLines.fault_with.Goals as goal
 
 pub returns-then-not-known : goal.returns-then-not-known
 returns-then-not-known c =

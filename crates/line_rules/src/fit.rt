@@ -1,0 +1,92 @@
+ghost use Rattle.std.specs.Prelude.{◌≡◌, ◌<◌, ℕ, List, IsTrue, length};
+ghost use Rattle.std.specs.Prelude.{slice_get, slice_index_or};
+ghost use Rattle.std.specs.Borrow.{Bor};
+ghost use Rattle.text_lines.specs.Texts.{IsName, Word};
+ghost use Rattle.line_shapes.specs.Lines.{Statement, stated};
+ghost use Rattle.line_shapes.specs.Places.{or_more, place_at};
+ghost use Rattle.line_rules.specs.Entered.{AreFit, IsFitIn};
+ghost use Rattle.line_rules.specs.Known.{HasRow, IsDeclared, IsTaken};
+
+use crate::rows::Rows;
+use crate::rules::is_free;
+use line_shapes::{Keyword, Kind, Place, is_within};
+use text_lines::is_name;
+
+/// Whether each word after the keyword is all that its place asks of it. It is told by one pass over the words, and
+/// most lines are so; of another line it is told elsewhere which fault it has, if it has one.
+#[inline(always)]
+pub fn are_fit(rows: &Rows<'_>, keyword: Keyword, words: &[&str]) -> bool
+    ensures { IsTrue result → AreFit rows.now (stated keyword words.now) }
+{
+    have_fit(rows, keyword, words)
+}
+
+#[inline(always)]
+fn have_fit(rows: &Rows<'_>, keyword: Keyword, words: &[&str]) -> bool
+    ensures { IsTrue result → (i : ℕ) (d : Bor (List ℕ)) → i < length words.now
+        → IsFitIn rows.now (place_at keyword i) (slice_index_or words.now i d).now }
+{
+    let places = keyword.places();
+    let more = keyword.more();
+    for i in 0..words.len() {
+        if !is_fit(rows, place_among(places, more, i), words[i]) {
+            return false;
+        }
+    }
+    true
+}
+
+#[inline(always)]
+fn place_among(places: &[Place], more: Option<Place>, number: usize) -> Option<Place>
+    ensures { result ≡ or_more (slice_get places.now number) more }
+{
+    match places.get(number) {
+        Some(place) => Some(*place),
+        None => more,
+    }
+}
+
+#[inline(always)]
+fn is_fit(rows: &Rows<'_>, place: Option<Place>, word: &str) -> bool
+    ensures { IsTrue result → IsFitIn rows.now place word.now }
+{
+    match place {
+        None => false,
+        Some(Place::New) => is_free_name(rows, word),
+        Some(Place::Used(kind)) => !word.is_empty() && is_of_kind(rows, kind, word),
+        Some(Place::Number(least, most)) => is_within(word, least, most),
+        Some(Place::Text) => true,
+    }
+}
+
+#[inline(always)]
+fn is_free_name(rows: &Rows<'_>, word: &str) -> bool
+    ensures { IsTrue result → IsName word.now × (IsTaken rows.now word.now → ⊥) }
+{
+    is_name(word) && is_free(rows, word)
+}
+
+// Whether the first line that was entered by the name declares one of this kind.
+#[inline(always)]
+fn is_of_kind(rows: &Rows<'_>, kind: Kind, name: &str) -> bool
+    ensures { IsTrue result → IsDeclared rows.now kind name.now }
+{
+    match rows.first(name) {
+        Some(keyword) => declares(keyword, kind),
+        None => false,
+    }
+}
+
+// Whether a line of this keyword declares one of this kind.
+#[inline(always)]
+fn declares(keyword: Keyword, kind: Kind) -> bool
+    ensures { IsTrue result → (rows : List Statement) (w : Word) → HasRow rows keyword w → IsDeclared rows kind w }
+{
+    match kind {
+        Kind::Centre => matches!(keyword, Keyword::Centre),
+        Kind::Rack => matches!(keyword, Keyword::Rack),
+        Kind::Worker => matches!(keyword, Keyword::Worker),
+        Kind::Split => matches!(keyword, Keyword::Split),
+        Kind::Priced => matches!(keyword, Keyword::Split | Keyword::Worker),
+    }
+}
