@@ -1,7 +1,7 @@
 // Minimum cost flow as the planner finds it (crates/augmenting_paths, crates/shortest_paths), without its limits and
-// without its proofs: what it costs past them. Sources are lifted and shipped dearest first, over a source's own arc
-// and one to the sink where both are tight, else along the path of a search that goes depth first over tight arcs, and
-// back to those sources alone whose unit comes in.
+// without its proofs: what it costs past them. Sources are lifted and shipped dearest first, down a path of tight arcs
+// where a walk finds one, else along the path of a search that goes depth first over tight arcs, and back to those
+// sources alone whose unit comes in.
 #ifndef BENCH_LIFTED_PATHS_H_
 #define BENCH_LIFTED_PATHS_H_
 
@@ -41,7 +41,7 @@ class LiftedPaths {
   std::int64_t Run() {
     for (const int source : InOrder()) {
       Lift(source);
-      if (!ShipTight(source)) ShipFound(source);
+      if (!ShipWalk(source)) ShipFound(source);
     }
     std::int64_t cost = 0;
     for (std::size_t number = 0; number < arcs_.size(); ++number) cost += flow_[number] * arcs_[number].cost;
@@ -50,6 +50,8 @@ class LiftedPaths {
 
  private:
   static constexpr std::int64_t kFar = std::int64_t{1} << 62;
+
+  using Entry = std::pair<std::int64_t, int>;
 
   // A residual arc is twice an arc's number, and one more where it leads back. `own`, `matched` have arcs' numbers.
   struct Node {
@@ -91,17 +93,36 @@ class LiftedPaths {
     nodes_[source].depth = least;
   }
 
-  bool IsTight(int number) const {
+  // Whether an arc has room, costs nothing and leads to the sink or further down: a node's number is less than that of
+  // each node above it.
+  bool LeadsDown(int number) const {
     const Arc& arc = arcs_[number];
-    return nodes_[arc.from].depth == arc.cost + nodes_[arc.to].depth && flow_[number] < arc.capacity;
+    return nodes_[arc.from].depth == arc.cost + nodes_[arc.to].depth && flow_[number] < arc.capacity &&
+           (arc.to == sink_ || arc.to < arc.from);
   }
 
-  bool ShipTight(int source) {
+  // A node's arc to the sink, or else its first inner arc, that leads down, or -1.
+  int ArcDown(const Node& node) const {
+    if (node.to_sink >= 0 && LeadsDown(node.to_sink)) return node.to_sink;
+    for (const int residual : node.inner) {
+      if (residual % 2 == 0 && LeadsDown(residual / 2)) return residual / 2;
+    }
+    return -1;
+  }
+
+  bool Walk(int first) {
+    path_.clear();
+    for (int next = first; next >= 0; next = ArcDown(nodes_[arcs_[next].to])) {
+      path_.push_back(2 * next);
+      if (arcs_[next].to == sink_) return true;
+    }
+    return false;
+  }
+
+  bool ShipWalk(int source) {
     for (const int number : nodes_[source].own) {
-      const int on = IsTight(number) ? nodes_[arcs_[number].to].to_sink : -1;
-      if (on < 0 || !IsTight(on)) continue;
-      Push(2 * number);
-      Push(2 * on);
+      if (!LeadsDown(number) || !Walk(number)) continue;
+      for (const int residual : path_) Push(residual);
       return true;
     }
     return false;
@@ -112,6 +133,7 @@ class LiftedPaths {
     for (int node = sink_; node != source; node = nodes_[node].before) Push(nodes_[node].last);
     stack_.clear();
     queue_ = {};
+    fresh_.clear();
     for (const int reached : reached_) {
       Node& node = nodes_[reached];
       node.depth += std::max<std::int64_t>(total - node.distance, 0);
@@ -148,7 +170,7 @@ class LiftedPaths {
     end.last = residual;
     end.before = from;
     if (cost == 0) return to;
-    queue_.push({level + cost, to});
+    fresh_.push_back({level + cost, to});
     return -1;
   }
 
@@ -192,11 +214,18 @@ class LiftedPaths {
     return false;
   }
 
+  // Puts the fresh entries into the queue, of which most searches take none; whether there is one.
+  bool TakeIn() {
+    for (const Entry& entry : fresh_) queue_.push(entry);
+    fresh_.clear();
+    return !queue_.empty();
+  }
+
   std::int64_t Search(int source) {
     nodes_[source].distance = 0;
     reached_.push_back(source);
     if (Settle(source, 0)) return 0;
-    while (!queue_.empty()) {
+    while (TakeIn()) {
       const auto [level, number] = queue_.top();
       queue_.pop();
       if (!nodes_[number].is_settled && Settle(number, level)) return level;
@@ -204,14 +233,13 @@ class LiftedPaths {
     return kFar;  // (each source has a way to the sink)
   }
 
-  using Entry = std::pair<std::int64_t, int>;
-
   const std::vector<Arc>& arcs_;
   const std::vector<int>& sources_;
   int sink_;
   std::vector<Node> nodes_;
   std::vector<std::int64_t> flow_;
-  std::vector<int> stack_, reached_;
+  std::vector<int> path_, stack_, reached_;
+  std::vector<Entry> fresh_;
   std::priority_queue<Entry, std::vector<Entry>, std::greater<>> queue_;
 };
 

@@ -2,3 +2,4 @@ pub mod Shipped
 pub mod Orders
 pub mod Starts
 pub mod TightPath
+pub mod NextUnit

@@ -19,12 +19,14 @@ use Rattle.flow_network.specs.Leaving.{IsIn}
 use Rattle.shortest_paths.specs.Finding.{Finding, IsTotal, total_of}
 use Rattle.shortest_paths.specs.Lowering.{lowered}
 use Rattle.shortest_paths.specs.Searching.{distance_at}
-use Rattle.shortest_paths.specs.Matched.{GoesOnce}
 use Rattle.shortest_paths.specs.ToSink.{far, IsSearched, IsTrace}
-use Rattle.shortest_paths.proofs.Lowering.{lift_law}
-use Rattle.shortest_paths.proofs.ToSink.{searched_is_least, unit_over_trace}
+use Rattle.shortest_paths.proofs.Lowering.{lift_law, lowering_law, push_law, steps_tight}
+use Rattle.shortest_paths.proofs.ToSink.{searched_is_least}
 use Rattle.augmenting_paths.specs.Shipping.{times_in, CanShip, HasShipped, IsLifted, AreMembers}
 use Rattle.augmenting_paths.specs.Shipping.{IsShipment, IsCheapest}
+use Rattle.augmenting_paths.specs.NextUnit.{HasFoundNext}
+use Rattle.augmenting_paths.specs.TightPath.{IsTightPath}
+use Rattle.augmenting_paths.proofs.TightPath.{distinct_once, same_tight}
 
 -- a unit over an arc raises no other flow, and its own by at most one
 raise : (flows : List ℕ) (a : ArcNo) (j : ℕ) → get_or (shifted flows a) j 0 ≤ get_or flows j 0 + 1
@@ -100,21 +102,25 @@ pub times_in-push : (w : ℕ) (xs : List ℕ) (s : ℕ) → times_in w (xs ++ s 
 times_in-push w [] s = omega arith
 times_in-push w (x ∷ xs) s = let rest = times_in-push w xs s in omega arith
 
--- the state does not depend on how the depths are computed
-pub same_depths : (arcs : List FlowArc) (sources : List ℕ) (sink count : ℕ) (flows : List ℕ) (h h' : ℕ → ℕ) →
-    ((v : ℕ) → h' v ≡ h v)
-    → HasShipped arcs sources sink count flows h → HasShipped arcs sources sink count flows h'
-same_depths arcs sources sink count flows h h' same t = record {
-  sizes = t.sizes;
+-- no matter how the depths are computed
+same_found : (arcs : List FlowArc) (sources : List ℕ) (sink count : ℕ) (flows : List ℕ) (path : List ArcNo)
+    (h h' : ℕ → ℕ)
+    → ((v : ℕ) → h' v ≡ h v)
+    → HasFoundNext arcs sources sink count flows h path → HasFoundNext arcs sources sink count flows h' path
+same_found arcs sources sink count flows path h h' same t = record {
+  h = t.h;
+  state = t.state;
   reduced = λ k l. (let a = same (arc_at arcs k).from in let b = same (arc_at arcs k).to in
       let old = t.reduced k l in
       ((λ room. (let o = old.0 room in omega arith)), (λ unit. (let o = old.1 unit in omega arith))));
   at_sink = same sink ∙ t.at_sink;
   depth = λ v. (let a = same v in let old = t.depth v in omega arith);
-  few = t.few;
   untouched = λ k c l. same (get_or sources k 0) ∙ t.untouched k c l;
-  unused = t.unused;
-  balance = t.balance;
+  way = record {
+    leads = t.way.leads;
+    once = t.way.once;
+    tight = same_tight arcs h h' same path t.way.tight;
+  };
 }
 
 path_ends : (arcs : List FlowArc) (flows : List ℕ) (a : ArcNo) (path : List ArcNo) (u v : ℕ) →
@@ -199,6 +205,20 @@ module _ (nodes : ℕ) (arcs : List FlowArc) (sources : List ℕ) (sink count : 
       | inr n ↦ (let same = up.others v n in let old = state.depth v in omega arith)
     ]
 
+    -- a path that costs nothing once the source is lifted
+    pub lifted_found : (path : List ArcNo) → IsTightPath arcs flows h' (get_or sources count 0) sink path
+        → HasFoundNext arcs sources sink count flows h' path
+    lifted_found path way = record {
+      h = h;
+      state = state;
+      reduced = lift_keeps;
+      at_sink = up.others sink (λ e. can.not_sink count left (sym e)) ∙ state.at_sink;
+      depth = lifted_depth;
+      untouched = λ k c l. up.others (get_or sources k 0) (λ e. other_source k c l (sym e))
+          ∙ state.untouched k (omega arith) l;
+      way = way;
+    }
+
     module _ (d : ℕ → ℕ) (found : IsSearched arcs flows h' (get_or sources count 0) sink d) where
       -- the sink is no farther than by the source's path of two arcs
       near : d sink + h' (get_or sources count 0) ≤ 2 ^ 40
@@ -246,32 +266,25 @@ module _ (nodes : ℕ) (arcs : List FlowArc) (sources : List ℕ) (sink count : 
         | inr past ↦ (let low = near in omega arith)
       ]
 
-      pub shipped : (path : List ArcNo) → IsTrace arcs flows h' (get_or sources count 0) sink d path
-          → HasShipped arcs sources sink (count + 1) (pushed path flows) (lowered h' d (d sink))
-      shipped path t = record {
-        sizes = length-pushed path flows ∙ state.sizes;
-        reduced = unit_over_trace arcs flows h' d (get_or sources count 0) sink path lift_keeps found.covered
-            t;
+      -- under the lowered depths the path of the search costs nothing
+      searched_found : (path : List ArcNo) → IsTrace arcs flows h' (get_or sources count 0) sink d path
+          → HasFoundNext arcs sources sink count flows (lowered h' d (d sink)) path
+      searched_found path t = record {
+        h = h;
+        state = state;
+        reduced = lowering_law arcs flows h' d (d sink) lift_keeps found.covered;
         at_sink = (let same = up.others sink (λ e. can.not_sink count left (sym e)) in
             let z = state.at_sink in omega arith);
         depth = λ v. (let low = depth_low v in omega arith);
-        few = λ j. (let old = state.few j in let more = raised_once path flows j t.distinct in omega arith);
         untouched = λ k c l. (let old = state.untouched k (omega arith) l in
             let same = up.others (get_or sources k 0) (λ e. other_source k c l (sym e)) in
             let none = unreached k c l in omega arith);
-        unused = λ k j c l m f.
-            (let old = state.unused k j (omega arith) l m f in
-            let lacks = not_left arcs flows (get_or sources k 0) (closed_source k (omega arith) l) path
-            (get_or sources count 0) sink j (other_source k c l) f t.leads in
-            let still = not_raised path flows j lacks in omega arith);
-        balance = λ w.
-            (let moved = push_balance arcs flows path (get_or sources count 0) sink w state.sizes t.distinct
-            t.leads in
-            let old = state.balance w in
-            let more : take (count + 1) sources ≡ take count sources ++ get_or sources count 0 ∷ [] =
-            take_more sources count 0 left in
-            let sum = times_in-push w (take count sources) (get_or sources count 0) in
-            rw more (omega arith));
+        way = record {
+          leads = t.leads;
+          once = t.once;
+          tight = (steps_tight arcs flows h' d (d sink) path (get_or sources count 0) sink lift_keeps t.leads
+              t.steps (omega arith)).0;
+        };
       }
 
     -- the same, of what a search tells
@@ -293,20 +306,6 @@ module _ (nodes : ℕ) (arcs : List FlowArc) (sources : List ℕ) (sink count : 
       trace : IsTrace arcs flows h' (get_or sources count 0) sink (distance_at f.distances) f.path
       trace = path (ap is_some told.1)
 
-      pub unit_path : (0 < length f.path) × IsPath arcs flows f.path (path_start arcs f.path)
-          (path_end arcs f.path)
-      unit_path = by_ends arcs flows f.path (get_or sources count 0) sink
-          (can.not_sink count left) trace.leads
-
-      pub unit_distinct : IsDistinct f.path
-      unit_distinct = trace.distinct
-
-      pub unit_once : GoesOnce f.path
-      unit_once = trace.once
-
-      pub unit_listed : (a : ArcNo) → IsIn a f.path → arc_index a < length arcs
-      unit_listed = path_listed arcs flows f.path (get_or sources count 0) sink trace.leads
-
       total_told : total_of f.total ≡ distance_at f.distances sink
       total_told = ap total_of told.1 ∙ told.2
 
@@ -314,29 +313,52 @@ module _ (nodes : ℕ) (arcs : List FlowArc) (sources : List ℕ) (sink count : 
       total_low limit v = let low = depth_low (distance_at f.distances) found v in let t = total_told in
           omega arith
 
-      pub unit_shipped : (h'' : ℕ → ℕ) →
-          ((v : ℕ) → h'' v ≡ lowered h' (distance_at f.distances) (total_of f.total) v)
-          → HasShipped arcs sources sink (count + 1) (pushed f.path flows) h''
-      unit_shipped h'' same = same_depths arcs sources sink (count + 1) (pushed f.path flows)
+      pub unit_found : (h'' : ℕ → ℕ)
+          → ((v : ℕ) → h'' v ≡ lowered h' (distance_at f.distances) (total_of f.total) v)
+          → HasFoundNext arcs sources sink count flows h'' f.path
+      unit_found h'' same = same_found arcs sources sink count flows f.path
           (lowered h' (distance_at f.distances) (distance_at f.distances sink)) h''
           (λ v. same v ∙ ap (λ n. lowered h' (distance_at f.distances) n v) total_told)
-          (shipped (distance_at f.distances) found f.path trace)
+          (searched_found (distance_at f.distances) found f.path trace)
 
--- A search from the next source, whose depth was lifted, finds the sink near enough, and the unit that goes
--- over its path, with the depths lowered by the distances, keeps the state.
-pub shipping_law : (nodes : ℕ) (arcs : List FlowArc) (sources : List ℕ) (sink count : ℕ) (flows : List ℕ)
-    (h h' d : ℕ → ℕ)
-    → CanShip nodes arcs sources sink → count < length sources → HasShipped arcs sources sink count flows h
-    → IsLifted arcs h h' (get_or sources count 0)
-    → IsSearched arcs flows h' (get_or sources count 0) sink d
-    → (d sink ≤ 2 ^ 40) × ((v : ℕ) → h' v + d sink ≤ (count + 1) * 2 ^ 40)
-    × ((path : List ArcNo) → IsTrace arcs flows h' (get_or sources count 0) sink d path
-    → HasShipped arcs sources sink (count + 1) (pushed path flows) (lowered h' d (d sink)))
-shipping_law nodes arcs sources sink count flows h h' d can left state up found = (
-  (let low = near nodes arcs sources sink count flows h can left state h' up d found in omega arith),
-  depth_low nodes arcs sources sink count flows h can left state h' up d found,
-  shipped nodes arcs sources sink count flows h can left state h' up d found,
-)
+-- the unit over that path keeps the state
+module _ (nodes : ℕ) (arcs : List FlowArc) (sources : List ℕ) (sink count : ℕ) (flows : List ℕ)
+    (h' : ℕ → ℕ) (path : List ArcNo)
+    (can : CanShip nodes arcs sources sink) (left : count < length sources)
+    (f : HasFoundNext arcs sources sink count flows h' path) where
+  pub unit_path : (0 < length path) × IsPath arcs flows path (path_start arcs path) (path_end arcs path)
+  unit_path = by_ends arcs flows path (get_or sources count 0) sink (can.not_sink count left) f.way.leads
+
+  pub unit_distinct : IsDistinct path
+  unit_distinct = distinct_once path f.way.once
+
+  pub unit_listed : (a : ArcNo) → IsIn a path → arc_index a < length arcs
+  unit_listed = path_listed arcs flows path (get_or sources count 0) sink f.way.leads
+
+  pub unit_shipped : HasShipped arcs sources sink (count + 1) (pushed path flows) h'
+  unit_shipped = record {
+    sizes = length-pushed path flows ∙ f.state.sizes;
+    reduced = push_law arcs flows h' path f.way.tight f.reduced;
+    at_sink = f.at_sink;
+    depth = f.depth;
+    few = λ j. (let old = f.state.few j in let more = raised_once path flows j unit_distinct in omega arith);
+    untouched = f.untouched;
+    unused = λ k j c l m e.
+        (let old = f.state.unused k j (omega arith) l m e in
+        let lacks = not_left arcs flows (get_or sources k 0)
+        (closed_source nodes arcs sources sink count flows f.h can left f.state k (omega arith) l) path
+        (get_or sources count 0) sink j
+        (other_source nodes arcs sources sink count flows f.h can left f.state k c l) e f.way.leads in
+        let still = not_raised path flows j lacks in omega arith);
+    balance = λ w.
+        (let moved = push_balance arcs flows path (get_or sources count 0) sink w f.state.sizes unit_distinct
+        f.way.leads in
+        let old = f.state.balance w in
+        let more : take (count + 1) sources ≡ take count sources ++ get_or sources count 0 ∷ [] =
+        take_more sources count 0 left in
+        let sum = times_in-push w (take count sources) (get_or sources count 0) in
+        rw more (omega arith));
+  }
 
 -- nothing flows yet
 none_more : (b : Bool) (f x : ℕ) → f ≡ 0 → x ≡ 0 → cond b f 0 + x ≡ 0

@@ -1,156 +1,133 @@
--- A unit over two arcs at no reduced cost keeps the state, as one over the path of a search does.
-use Rattle.std.proofs.Common.{◌≡◌, ℕ, ◌+◌, ◌<◌, Bool, true, false, cond, eqb, List, [], ◌∷◌, length}
-use Rattle.std.proofs.Common.{get_or, Option, Some, None, refl, sym, ap, ◌∙◌, subst, inl, inr, arith}
+-- A path is made arc by arc, as one goes down.
+use Rattle.std.proofs.Common.{◌≡◌, ℕ, ◌+◌, ◌-◌, ◌<◌, cond, eqb, List, [], ◌∷◌, ◌++◌, length, get_or, Option}
+use Rattle.std.proofs.Common.{Some, None}
 use Rattle.std.proofs.lemmas.Bool.{cases_eq, eq-eqb, ne_eqb}
+use Rattle.std.proofs.Common.{map, refl, sym, ap, subst, inl, inr, ◌⊎◌, arith}
 use Rattle.flow_network.specs.declared.arcs.FlowArc.{FlowArc}
 use Rattle.flow_network.specs.declared.arcs.ArcNo.{ArcNo}
-use Rattle.flow_network.specs.declared.arcs.ArcNo.TheVariants.{Forward}
-use Rattle.flow_network.specs.Flows.{arc_at, arc_index, IsResidual, IsPath, IsDistinct}
-use Rattle.flow_network.specs.Flows.{path_start, path_end, pushed}
+use Rattle.flow_network.specs.declared.arcs.ArcNo.TheVariants.{Forward, Reverse}
+use Rattle.flow_network.specs.Flows.{arc_at, arc_index, tail_of, leaving_of, Lacks, IsDistinct}
 use Rattle.flow_network.specs.Leaving.{IsIn}
-use Rattle.flow_network.proofs.Listed.{in_left}
+use Rattle.flow_network.proofs.Listed.{each_arc, in_at, in_left, in_right}
+use Rattle.flow_network.proofs.Paths.{IsPath-append}
 use Rattle.shortest_paths.specs.Lists.{ArcLists, AreResidualArcs, option_arcs, sink_arcs_at, stack_arcs}
-use Rattle.shortest_paths.specs.Matched.{GoesOnce}
-use Rattle.shortest_paths.specs.Lowering.{lowered}
-use Rattle.shortest_paths.specs.ToSink.{far, IsSearched, IsTrace}
-use Rattle.augmenting_paths.specs.Shipping.{CanShip, HasShipped, HasLiftedNext}
-use Rattle.augmenting_paths.specs.TightPath.{IsTightArc, IsTightPath}
-use Rattle.augmenting_paths.proofs.Shipped.{shipped, same_depths}
+use Rattle.shortest_paths.specs.Lists.{inner_at, matched_at}
+use Rattle.shortest_paths.specs.Lowering.{AreTight}
+use Rattle.shortest_paths.specs.Matched.{GoesOver, GoesOnce}
+use Rattle.augmenting_paths.specs.TightPath.{IsTightPath, LeadsDown, GoesDown}
 
-zero_or : (b : Bool) (x : ℕ) → x ≡ 0 → cond b 0 x ≡ 0
-zero_or true x e = refl
-zero_or false x e = e
+-- what does not go over an arc's number does not have the arc
+lacks_of : (a : ArcNo) (path : List ArcNo) → (GoesOver (arc_index a) path → ⊥) → Lacks a path
+lacks_of a [] n = tt
+lacks_of a (b ∷ path) n = ((λ e. n (inl (sym (ap arc_index e)))), lacks_of a path (λ o. n (inr o)))
 
-zero_where : (u v : ℕ) (x : ℕ) → u ≡ v → cond (eqb u v) 0 x ≡ 0
-zero_where u v x e = rw (eq-eqb u v e) refl
+pub distinct_once : (path : List ArcNo) → GoesOnce path → IsDistinct path
+distinct_once [] once = tt
+distinct_once (a ∷ path) once = (lacks_of a path once.0, distinct_once path once.1)
 
-residual_of_open : (arcs : List FlowArc) (flows : List ℕ) (h : ℕ → ℕ) (k : ℕ) → IsTightArc arcs flows h k
-    → IsResidual arcs flows (Forward k)
-residual_of_open arcs flows h k o =
-    record { listed = o.listed; room = (let room = o.room in omega arith) }
+-- no matter how the depths are computed
+pub same_tight : (arcs : List FlowArc) (h h' : ℕ → ℕ) → ((v : ℕ) → h' v ≡ h v) → (path : List ArcNo)
+    → AreTight arcs h path → AreTight arcs h' path
+same_tight arcs h h' same [] t = tt
+same_tight arcs h h' same (a ∷ path) t = (
+  (let from = same (arc_at arcs (arc_index a)).from in let to = same (arc_at arcs (arc_index a)).to in
+      let old = t.0 in omega arith),
+  same_tight arcs h h' same path t.1,
+)
 
--- the arc to the sink of a node
+-- one arc more
+GoesOver-push : (k : ℕ) (a : ArcNo) (path : List ArcNo) → GoesOver k (path ++ a ∷ [])
+    → GoesOver k path ⊎ (arc_index a ≡ k)
+GoesOver-push k a [] o = elim o [ inl e ↦ inr e | inr n ↦ absurd n ]
+GoesOver-push k a (b ∷ path) o = elim o [
+  | inl e ↦ inl (inl e)
+  | inr more ↦ elim (GoesOver-push k a path more) [ inl old ↦ inl (inr old) | inr e ↦ inr e ]
+]
+
+GoesOnce-push : (a : ArcNo) (path : List ArcNo) → (GoesOver (arc_index a) path → ⊥) → GoesOnce path
+    → GoesOnce (path ++ a ∷ [])
+GoesOnce-push a [] n once = ((λ o. o), tt)
+GoesOnce-push a (b ∷ path) n once = (
+  (λ o. elim (GoesOver-push (arc_index b) a path o) [ inl old ↦ once.0 old | inr e ↦ n (inl (sym e)) ]),
+  GoesOnce-push a path (λ o. n (inr o)) once.1,
+)
+
+AreTight-push : (arcs : List FlowArc) (h : ℕ → ℕ) (path : List ArcNo) (k : ℕ)
+    → AreTight arcs h path → (h (arc_at arcs k).from ≡ (arc_at arcs k).cost + h (arc_at arcs k).to)
+    → AreTight arcs h (path ++ Forward k ∷ [])
+AreTight-push arcs h [] k t e = (e, tt)
+AreTight-push arcs h (a ∷ path) k t e = (t.0, AreTight-push arcs h path k t.1 e)
+
+-- one arc further down
+module _ (arcs : List FlowArc) (flows : List ℕ) (h : ℕ → ℕ) (sink s v : ℕ) (path : List ArcNo) (k : ℕ)
+    (way : IsTightPath arcs flows h s v path) (before : (j : ℕ) → GoesOver j path → (arc_at arcs j).from < v)
+    (on : LeadsDown arcs flows h sink k) (from : (arc_at arcs k).from ≡ v) where
+  goes_on : GoesDown arcs flows h sink s (arc_at arcs k).to (path ++ Forward k ∷ [])
+  goes_on = record {
+    path_to = record {
+      leads = IsPath-append arcs flows path (Forward k ∷ []) s v _ way.leads
+          (record { listed = on.open_arc.listed; room = (let room = on.open_arc.room in omega arith) }, from, refl);
+      once = GoesOnce-push (Forward k) path (λ o. (let low = before k o in absurd (omega arith))) way.once;
+      tight = AreTight-push arcs h path k way.tight on.open_arc.tight;
+    };
+    earlier = λ further j o. (let later : (arc_at arcs k).from < (arc_at arcs k).to =
+        elim on.down [ inl e ↦ absurd (further e) | inr l ↦ l ] in
+        elim (GoesOver-push j (Forward k) path o) [
+          | inl old ↦ (let low = before j old in omega arith)
+          | inr e ↦ subst (λ i. (arc_at arcs i).from < (arc_at arcs k).to) e later
+        ]);
+  }
+
+pub way_begins : (arcs : List FlowArc) (flows : List ℕ) (h : ℕ → ℕ) (sink k : ℕ)
+    → LeadsDown arcs flows h sink k
+    → GoesDown arcs flows h sink (arc_at arcs k).from (arc_at arcs k).to (Forward k ∷ [])
+way_begins arcs flows h sink k on = goes_on arcs flows h sink (arc_at arcs k).from (arc_at arcs k).from [] k
+    (record { leads = refl; once = tt; tight = tt }) (λ j o. absurd o) on refl
+
+pub way_goes_on : (arcs : List FlowArc) (flows : List ℕ) (h : ℕ → ℕ) (sink s v : ℕ) (path : List ArcNo)
+    (k : ℕ) → GoesDown arcs flows h sink s v path → (v ≡ sink → ⊥) → LeadsDown arcs flows h sink k
+    → (arc_at arcs k).from ≡ v → GoesDown arcs flows h sink s (arc_at arcs k).to (path ++ Forward k ∷ [])
+way_goes_on arcs flows h sink s v path k way further on from =
+    goes_on arcs flows h sink s v path k way.path_to (way.earlier further) on from
+
+-- the arc to the sink of a node, and an inner one
 pub sink_arc_on : (arcs : List FlowArc) (flows : List ℕ) (sink : ℕ) (g : ArcLists) (v on : ℕ)
     → AreResidualArcs arcs flows sink g → get_or g.sink_arcs v None ≡ Some on
-    → (on < length arcs) × ((arc_at arcs on).from ≡ v) × ((arc_at arcs on).to ≡ sink)
+    → (on < length arcs) × ((arc_at arcs on).from ≡ v)
 sink_arc_on arcs flows sink g v on lists e =
     let i : IsIn (Forward on) (sink_arcs_at g v) =
     subst (λ (o : Option ℕ). IsIn (Forward on) (option_arcs o)) (sym e) (inl refl) in
-    let own = lists.own v (Forward on) (in_left (Forward on) (sink_arcs_at g v) (stack_arcs g v) i) in
-    (own.0, own.1, lists.sink_arcs_lead v (Forward on) i)
+    lists.own v (Forward on) (in_left (Forward on) (sink_arcs_at g v) (stack_arcs g v) i)
 
-module _ (nodes : ℕ) (arcs : List FlowArc) (sources : List ℕ) (sink count : ℕ) (flows : List ℕ)
-    (h' : ℕ → ℕ) (can : CanShip nodes arcs sources sink) (left : count < length sources)
-    (ready : HasLiftedNext arcs sources sink count flows h') (out on : ℕ)
-    (way : IsTightPath arcs flows h' (get_or sources count 0) sink out on) where
-  abbrev two_arcs : List ArcNo
-  two_arcs = Forward out ∷ (Forward on ∷ [])
+-- an arc of a list of all that leave a node
+pub leaving_arc : (arcs : List FlowArc) (node : ℕ) (listed : List ArcNo) (i : ℕ)
+    → listed ≡ leaving_of arcs node → i < length listed
+    → (arc_index (get_or listed i (Forward 0)) < length arcs)
+    × (tail_of arcs (get_or listed i (Forward 0)) ≡ node)
+leaving_arc arcs node listed i e l =
+    let here : IsIn (get_or listed i (Forward 0)) listed = in_at listed i (Forward 0) l in
+    (each_arc arcs node _).1 (subst (λ (xs : List ArcNo). IsIn (get_or listed i (Forward 0)) xs) e here)
 
-  -- the distances of a search that knows these two arcs alone
-  d : ℕ → ℕ
-  d v = cond (eqb v (get_or sources count 0)) 0 (cond (eqb v (arc_at arcs out).to) 0
-      (cond (eqb v sink) 0 far))
+pub inner_arc : (arcs : List FlowArc) (flows : List ℕ) (sink : ℕ) (g : ArcLists) (v : ℕ)
+    (listed : List ArcNo) (i k : ℕ) → AreResidualArcs arcs flows sink g → listed ≡ inner_at g v
+    → i < length listed → get_or listed i (Forward 0) ≡ Forward k
+    → (k < length arcs) × ((arc_at arcs k).from ≡ v)
+inner_arc arcs flows sink g v listed i k lists e l is =
+    let here : IsIn (Forward k) listed =
+    subst (λ (a : ArcNo). IsIn a listed) is (in_at listed i (Forward 0) l) in
+    lists.own v (Forward k)
+    (in_right (Forward k) (sink_arcs_at g v) (stack_arcs g v)
+    (in_left (Forward k) (inner_at g v) (map Reverse (matched_at g v))
+    (subst (λ (xs : List ArcNo). IsIn (Forward k) xs) e here)))
 
-  at_start : (v : ℕ) → v ≡ get_or sources count 0 → d v ≡ 0
-  unfolding d
-  at_start v e = zero_where v (get_or sources count 0) _ e
-
-  at_middle : (v : ℕ) → v ≡ (arc_at arcs out).to → d v ≡ 0
-  unfolding d
-  at_middle v e = zero_or (eqb v (get_or sources count 0)) _ (zero_where v (arc_at arcs out).to _ e)
-
-  at_sink : (v : ℕ) → v ≡ sink → d v ≡ 0
-  unfolding d
-  at_sink v e = zero_or (eqb v (get_or sources count 0)) _ (zero_or (eqb v (arc_at arcs out).to) _
-      (zero_where v sink far e))
-
-  elsewhere : (v : ℕ) → (v ≡ get_or sources count 0 → ⊥) → (v ≡ (arc_at arcs out).to → ⊥) → (v ≡ sink → ⊥)
-      → d v ≡ far
-  unfolding d
-  elsewhere v a b c = rw (
-    ne_eqb v (get_or sources count 0) a,
-    ne_eqb v (arc_at arcs out).to b,
-    ne_eqb v sink c,
-  ) refl
-
-  apart : out ≡ on → ⊥
-  apart e = can.no_entry count out left way.first.listed
-      (sym way.meets ∙ sym (ap (λ k. (arc_at arcs k).from) e) ∙ way.leaves)
-
-  first : IsResidual arcs flows (Forward out)
-  first = residual_of_open arcs flows h' out way.first
-
-  second : IsResidual arcs flows (Forward on)
-  second = residual_of_open arcs flows h' on way.second
-
-  searched : IsSearched arcs flows h' (get_or sources count 0) sink d
-  searched = record {
-    begun = at_start (get_or sources count 0) refl;
-    traced = λ v near. elim (cases_eq v (get_or sources count 0)) [
-      | inl e ↦ ([], sym e, sym (at_start v e))
-      | inr a ↦ elim (cases_eq v (arc_at arcs out).to) [
-        | inl e ↦ (
-          Forward out ∷ [],
-          (first, way.leaves, sym e),
-          (let zero_there = at_middle v e in let tight = way.first.tight in omega arith),
-        )
-        | inr b ↦ elim (cases_eq v sink) [
-          | inl e ↦ (
-            two_arcs,
-            (first, way.leaves, (second, way.meets, way.arrives ∙ sym e)),
-            (let zero_there = at_sink v e in let one = way.first.tight in let two = way.second.tight in
-                omega arith),
-          )
-          | inr c ↦ absurd (let away = elsewhere v a b c in omega arith)
-        ]
-      ]
-    ];
-    covered = λ a r l. absurd (let zero_there = at_sink sink refl in omega arith);
-  }
-
-  pub two_arcs_once : GoesOnce two_arcs
-  two_arcs_once = (
-    (λ o. elim o [ inl e ↦ apart (sym e) | inr n ↦ n ]),
-    ((λ o. o), tt),
-  )
-
-  pub two_arcs_distinct : IsDistinct two_arcs
-  two_arcs_distinct = (((λ e. apart (ap arc_index e)), tt), (tt, tt))
-
-  pub two_arcs_path : (0 < length two_arcs) × IsPath arcs flows two_arcs (path_start arcs two_arcs)
-      (path_end arcs two_arcs)
-  two_arcs_path = (omega arith, (first, refl, (second, way.meets, refl)))
-
-  pub two_arcs_listed : (a : ArcNo) → IsIn a two_arcs → arc_index a < length arcs
-  two_arcs_listed a i = elim i [
-    | inl e ↦ (let at = ap arc_index e in let l = way.first.listed in omega arith)
-    | inr more ↦ elim more [
-      | inl e ↦ (let at = ap arc_index e in let l = way.second.listed in omega arith)
-      | inr n ↦ absurd n
-    ]
-  ]
-
-  trace : IsTrace arcs flows h' (get_or sources count 0) sink d two_arcs
-  trace = record {
-    leads = (first, way.leaves, (second, way.meets, way.arrives));
-    distinct = two_arcs_distinct;
-    once = two_arcs_once;
-    steps = (
-      (let one = at_middle (arc_at arcs out).to refl in
-          let two = at_start (arc_at arcs out).from way.leaves in
-          let tight = way.first.tight in omega arith),
-      (
-        (let one = at_sink (arc_at arcs on).to way.arrives in
-            let two = at_middle (arc_at arcs on).from way.meets in let tight = way.second.tight in
-            omega arith),
-        tt,
-      ),
-    );
-  }
-
-  pub two_arcs_shipped : HasShipped arcs sources sink (count + 1) (pushed two_arcs flows) h'
-  two_arcs_shipped = same_depths arcs sources sink (count + 1) (pushed two_arcs flows)
-      (lowered h' d (d sink)) h'
-      (λ v. (let none = at_sink sink refl in omega arith))
-      (shipped nodes arcs sources sink count flows ready.h can left ready.state h' ready.up d searched
-      two_arcs trace)
+-- how many nodes are later, where an arc leads down
+pub comes_nearer : (arcs : List FlowArc) (nodes sink v k : ℕ) → v < nodes → (v ≡ sink → ⊥)
+    → (arc_at arcs k).from ≡ v
+    → ((arc_at arcs k).to ≡ sink) ⊎ ((arc_at arcs k).from < (arc_at arcs k).to)
+    → cond (eqb (arc_at arcs k).to sink) 0 (nodes - (arc_at arcs k).to) < cond (eqb v sink) 0 (nodes - v)
+comes_nearer arcs nodes sink v k inside further from (inl e) =
+    rw (ne_eqb v sink further, eq-eqb (arc_at arcs k).to sink e) (omega arith)
+comes_nearer arcs nodes sink v k inside further from (inr l) = elim (cases_eq (arc_at arcs k).to sink) [
+  | inl e ↦ rw (ne_eqb v sink further, eq-eqb (arc_at arcs k).to sink e) (omega arith)
+  | inr n ↦ rw (ne_eqb v sink further, ne_eqb (arc_at arcs k).to sink n) (omega arith)
+]

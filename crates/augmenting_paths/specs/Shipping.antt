@@ -5,9 +5,6 @@ use Rattle.flow_network.specs.declared.arcs.FlowArc.{FlowArc}
 use Rattle.flow_network.specs.Flows.{arc_at, AreArcs, WithinCapacities, NoNegative, inflow, outflow}
 use Rattle.flow_network.specs.Flows.{unit_at}
 use Rattle.flow_network.specs.Laws.{flow_cost}
-use Rattle.shortest_paths.specs.Lists.{ArcLists, source_at}
-use Rattle.shortest_paths.specs.Matched.{AreMatched}
-use Rattle.shortest_paths.specs.Sorted.{AreSorted}
 
 -- how often a node stands in a list
 abbrev pub times_in : ℕ → List ℕ → ℕ
@@ -68,20 +65,6 @@ pub record IsLifted (arcs : List FlowArc) (h h' : ℕ → ℕ) (s : ℕ) : Type 
   pub others : (v : ℕ) → (v ≡ s → ⊥) → h' v ≡ h v
   pub allowed : (k : ℕ) → k < length arcs → (arc_at arcs k).from ≡ s → 0 < (arc_at arcs k).capacity
       → h' s ≤ (arc_at arcs k).cost + h (arc_at arcs k).to
-
--- the next source is lifted
-pub record HasLiftedNext (arcs : List FlowArc) (sources : List ℕ) (sink count : ℕ) (flows : List ℕ)
-    (h' : ℕ → ℕ) : Type 0 where
-  pub h : ℕ → ℕ
-  pub state : HasShipped arcs sources sink count flows h
-  pub up : IsLifted arcs h h' (slice_index sources count)
-
--- the lists of arcs and the lists of a flow, over a network to whose sink units are shipped
-pub record KeepsArcs (nodes : ℕ) (arcs : List FlowArc) (flows : List ℕ) (sink : ℕ)
-    (g : ArcLists) : Type 0 where
-  pub sorted : AreSorted nodes arcs sink g
-  pub matched : AreMatched arcs flows g
-  pub sink_apart : source_at g sink ≡ false
 
 -- just the indices of the list are marked
 abbrev pub AreMarked : List ℕ → List Bool → Type 0

@@ -7,22 +7,24 @@ ghost use Rattle.shortest_paths.specs.Search.{MaySearch};
 ghost use Rattle.shortest_paths.specs.Searching.{distance_at};
 ghost use Rattle.shortest_paths.specs.ToSink.{IsSearched, IsTrace};
 ghost use Rattle.augmenting_paths.specs.Shipping.{CanShip, HasShipped, IsCheapest, AreMembers, IsLifted};
-ghost use Rattle.augmenting_paths.specs.Shipping.{HasLiftedNext, KeepsArcs, AreMarked};
-ghost use Rattle.augmenting_paths.specs.TightPath.{IsTightArc, IsTightPath};
+ghost use Rattle.augmenting_paths.specs.Shipping.{AreMarked};
+ghost use Rattle.augmenting_paths.specs.NextUnit.{MayShipNext, AreKept, HasLiftedNext, HasFoundNext};
 
 use crate::order::shipping_order;
 use crate::requirements::indices;
+use crate::walk::walk_down;
 use flow_network::{ArcNo, FlowArc, Meter, Network};
 use node_ids::Layout;
 use shortest_paths::{Buffers, Found, Potentials, ResidualArcs, leaving};
 use std::alloc::{AllocError, Global};
 
-// What is kept from unit to unit, and how many looks at arcs the searches took.
+// What is kept from unit to unit: the last unit's path, and how many looks at arcs the searches took.
 #[derive(Drop)]
 struct Shipping {
     potentials: Potentials,
     lists: ResidualArcs,
     buffers: Buffers,
+    path: Vec<ArcNo>,
     looks: u64,
 }
 
@@ -30,8 +32,8 @@ struct Shipping {
 /// (Ahuja, Magnanti and Orlin, Network Flows, section 9.7), one augmentation a source. It answers the
 /// potentials that show it: the sink's is 0, and no residual arc has a negative reduced cost. Its searches
 /// are counted (`ship`): together they look at each arc at most twice for each source. Beside them it goes
-/// over a source's own arcs twice, the second time with one look more for each. Only memory can fail, and
-/// then the network may hold part of the flow.
+/// over a source's own arcs twice, and walks down from each that is tight, past each node at most once and
+/// over that node's list of arcs. Only memory can fail, and then the network may hold part of the flow.
 pub fn saturate<L: Layout>(
     alloc: Global,
     network: &mut Network<L>,
@@ -85,6 +87,7 @@ fn ship_all<L: Layout>(
         potentials: Potentials::new(alloc, nodes)?,
         lists: ResidualArcs::new(alloc, network, marks, sink)?,
         buffers: Buffers::new(alloc, nodes)?,
+        path: Vec::new(alloc),
         looks: 0,
     };
     for count in 0..order.len() {
@@ -95,8 +98,7 @@ fn ship_all<L: Layout>(
 }
 
 // Ships the unit of the source that stands at this place of the order along a least path, and lowers the
-// potentials. The source is lifted first, so that an arc of reduced cost 0 leaves it; often it leads to a
-// node from which another one goes on to the sink.
+// potentials.
 fn ship<L: Layout>(
     alloc: Global,
     network: &mut Network<L>,
@@ -105,132 +107,85 @@ fn ship<L: Layout>(
     sink: usize,
     count: usize,
 ) -> Result<Shipping, AllocError>
-    requires limit { length order.now ≤ 4096 }
-    requires count { count < length order.now }
-    requires looks { shipping.looks ≤ count * (2 * length network.old.arcs) }
-    requires size { length shipping.potentials ≡ L.node_count network.old.layout }
-    requires buffers { shipping.buffers ≡ L.node_count network.old.layout }
-    requires can { CanShip (L.node_count network.old.layout) network.old.arcs order.now sink }
+    requires next { MayShipNext L.node_count network.old order.now sink count }
+    requires kept { AreKept L.node_count network.old sink count shipping }
     requires state { HasShipped network.old.arcs order.now sink count network.old.flows
         (slice_index shipping.potentials) }
-    requires lists { KeepsArcs (L.node_count network.old.layout) network.old.arcs network.old.flows sink
-        shipping.lists }
-    ensures looks { IfOk result (λ s. s.looks ≤ (count + 1) * (2 * length network.old.arcs)) }
-    ensures size { IfOk result (λ s. length s.potentials ≡ L.node_count network.old.layout) }
-    ensures buffers { IfOk result (λ s. s.buffers ≡ L.node_count network.old.layout) }
-    ensures state { IfOk result (λ s. HasShipped network.old.arcs order.now sink (count + 1) network.new.flows
+    ensures kept { IfOk result (λ s. AreKept L.node_count network.new sink (count + 1) s) }
+    ensures state { IfOk result (λ s. HasShipped network.new.arcs order.now sink (count + 1) network.new.flows
         (slice_index s.potentials)) }
-    ensures lists { IfOk result (λ s. KeepsArcs (L.node_count network.old.layout) network.old.arcs
-        network.new.flows sink s.lists) }
     ensures arcs { network.new.arcs ≡ network.old.arcs }
     ensures layout { network.new.layout ≡ network.old.layout }
+{
+    let found = find_path(alloc, network, shipping, order, sink, count)?;
+    push(network, found, order, sink, count)
+}
+
+// Finds a path for the unit of the next source, under lowered potentials over which it costs nothing. The
+// source is lifted first, so that an arc of reduced cost 0 leaves it: then a walk mostly comes to the sink.
+fn find_path<L: Layout>(
+    alloc: Global,
+    network: &Network<L>,
+    shipping: Shipping,
+    order: &[usize],
+    sink: usize,
+    count: usize,
+) -> Result<Shipping, AllocError>
+    requires next { MayShipNext L.node_count network.now order.now sink count }
+    requires kept { AreKept L.node_count network.now sink count shipping }
+    requires state { HasShipped network.now.arcs order.now sink count network.now.flows
+        (slice_index shipping.potentials) }
+    ensures kept { IfOk result (λ s. AreKept L.node_count network.now sink (count + 1) s) }
+    ensures found { IfOk result (λ s. HasFoundNext network.now.arcs order.now sink count network.now.flows
+        (slice_index s.potentials) s.path.items) }
 {
     let Shipping {
         mut potentials,
         lists,
         buffers,
+        mut path,
         looks,
     } = shipping;
     network.limits();
     let start = order[count];
     lift(network, &mut potentials, start);
-    let tight = tight_path(network, &potentials, &lists, start, sink);
+    let walked = walk_down(network, &potentials, &lists, start, sink, &mut path)?;
     let lifted = Shipping {
         potentials,
         lists,
         buffers,
+        path,
         looks,
     };
-    match tight {
-        Some((out, on)) => ship_tight(network, lifted, order, sink, count, out, on),
-        None => ship_found(alloc, network, lifted, order, sink, count),
+    if walked {
+        return Ok(lifted);
     }
+    search_path(alloc, network, lifted, order, sink, count)
 }
 
-// Ships the unit of the next source, which is lifted, over an arc of its own and one to the sink.
-fn ship_tight<L: Layout>(
-    network: &mut Network<L>,
-    shipping: Shipping,
-    order: &[usize],
-    sink: usize,
-    count: usize,
-    out: u32,
-    on: u32,
-) -> Result<Shipping, AllocError>
-    requires limit { length order.now ≤ 4096 }
-    requires count { count < length order.now }
-    requires looks { shipping.looks ≤ count * (2 * length network.old.arcs) }
-    requires size { length shipping.potentials ≡ L.node_count network.old.layout }
-    requires buffers { shipping.buffers ≡ L.node_count network.old.layout }
-    requires can { CanShip (L.node_count network.old.layout) network.old.arcs order.now sink }
-    requires lifted { HasLiftedNext network.old.arcs order.now sink count network.old.flows
-        (slice_index shipping.potentials) }
-    requires tight { IsTightPath network.old.arcs network.old.flows (slice_index shipping.potentials)
-        (slice_index order.now count) sink out on }
-    requires lists { KeepsArcs (L.node_count network.old.layout) network.old.arcs network.old.flows sink
-        shipping.lists }
-    ensures looks { IfOk result (λ s. s.looks ≤ (count + 1) * (2 * length network.old.arcs)) }
-    ensures size { IfOk result (λ s. length s.potentials ≡ L.node_count network.old.layout) }
-    ensures buffers { IfOk result (λ s. s.buffers ≡ L.node_count network.old.layout) }
-    ensures state { IfOk result (λ s. HasShipped network.old.arcs order.now sink (count + 1) network.new.flows
-        (slice_index s.potentials)) }
-    ensures lists { IfOk result (λ s. KeepsArcs (L.node_count network.old.layout) network.old.arcs
-        network.new.flows sink s.lists) }
-    ensures arcs { network.new.arcs ≡ network.old.arcs }
-    ensures layout { network.new.layout ≡ network.old.layout }
-{
-    let Shipping {
-        potentials,
-        mut lists,
-        buffers,
-        looks,
-    } = shipping;
-    network.limits();
-    let path = [ArcNo::Forward(out), ArcNo::Forward(on)];
-    network.push(&path);
-    lists.follow(network, &path)?;
-    Ok(Shipping {
-        potentials,
-        lists,
-        buffers,
-        looks,
-    })
-}
-
-// Ships the unit of the next source, which is lifted, along the path that a search finds.
-fn ship_found<L: Layout>(
+// The same by a search, where the source is lifted.
+fn search_path<L: Layout>(
     alloc: Global,
-    network: &mut Network<L>,
+    network: &Network<L>,
     shipping: Shipping,
     order: &[usize],
     sink: usize,
     count: usize,
 ) -> Result<Shipping, AllocError>
-    requires limit { length order.now ≤ 4096 }
-    requires count { count < length order.now }
-    requires looks { shipping.looks ≤ count * (2 * length network.old.arcs) }
-    requires size { length shipping.potentials ≡ L.node_count network.old.layout }
-    requires buffers { shipping.buffers ≡ L.node_count network.old.layout }
-    requires can { CanShip (L.node_count network.old.layout) network.old.arcs order.now sink }
-    requires lifted { HasLiftedNext network.old.arcs order.now sink count network.old.flows
+    requires next { MayShipNext L.node_count network.now order.now sink count }
+    requires kept { AreKept L.node_count network.now sink count shipping }
+    requires lifted { HasLiftedNext network.now.arcs order.now sink count network.now.flows
         (slice_index shipping.potentials) }
-    requires lists { KeepsArcs (L.node_count network.old.layout) network.old.arcs network.old.flows sink
-        shipping.lists }
-    ensures looks { IfOk result (λ s. s.looks ≤ (count + 1) * (2 * length network.old.arcs)) }
-    ensures size { IfOk result (λ s. length s.potentials ≡ L.node_count network.old.layout) }
-    ensures buffers { IfOk result (λ s. s.buffers ≡ L.node_count network.old.layout) }
-    ensures state { IfOk result (λ s. HasShipped network.old.arcs order.now sink (count + 1) network.new.flows
-        (slice_index s.potentials)) }
-    ensures lists { IfOk result (λ s. KeepsArcs (L.node_count network.old.layout) network.old.arcs
-        network.new.flows sink s.lists) }
-    ensures arcs { network.new.arcs ≡ network.old.arcs }
-    ensures layout { network.new.layout ≡ network.old.layout }
+    ensures kept { IfOk result (λ s. AreKept L.node_count network.now sink (count + 1) s) }
+    ensures found { IfOk result (λ s. HasFoundNext network.now.arcs order.now sink count network.now.flows
+        (slice_index s.potentials) s.path.items) }
 {
     let Shipping {
         mut potentials,
-        mut lists,
+        lists,
         buffers,
         mut looks,
+        ..
     } = shipping;
     network.limits();
     let start = order[count];
@@ -247,80 +202,51 @@ fn ship_found<L: Layout>(
         Some(path) => path,
         None => unreachable!(),
     };
-    network.push(&path);
     let buffers = found.lower(&mut potentials);
+    Ok(Shipping {
+        potentials,
+        lists,
+        buffers,
+        path,
+        looks,
+    })
+}
+
+// Pushes the unit of the next source along its path, over which it costs nothing.
+fn push<L: Layout>(
+    network: &mut Network<L>,
+    shipping: Shipping,
+    order: &[usize],
+    sink: usize,
+    count: usize,
+) -> Result<Shipping, AllocError>
+    requires next { MayShipNext L.node_count network.old order.now sink count }
+    requires kept { AreKept L.node_count network.old sink (count + 1) shipping }
+    requires found { HasFoundNext network.old.arcs order.now sink count network.old.flows
+        (slice_index shipping.potentials) shipping.path.items }
+    ensures kept { IfOk result (λ s. AreKept L.node_count network.new sink (count + 1) s) }
+    ensures state { IfOk result (λ s. HasShipped network.new.arcs order.now sink (count + 1) network.new.flows
+        (slice_index s.potentials)) }
+    ensures arcs { network.new.arcs ≡ network.old.arcs }
+    ensures layout { network.new.layout ≡ network.old.layout }
+{
+    let Shipping {
+        potentials,
+        mut lists,
+        buffers,
+        path,
+        looks,
+    } = shipping;
+    network.limits();
+    network.push(&path);
     lists.follow(network, &path)?;
     Ok(Shipping {
         potentials,
         lists,
         buffers,
+        path,
         looks,
     })
-}
-
-// An arc of a node's own and one from there to the sink, both with room and at no reduced cost.
-fn tight_path<L: Layout>(
-    network: &Network<L>,
-    potentials: &Potentials,
-    lists: &ResidualArcs,
-    node: usize,
-    sink: usize,
-) -> Option<(u32, u32)>
-    requires may { MaySearch L.node_count network.now potentials.now lists.now sink }
-    requires node { node < length potentials.now }
-    ensures { IfSome result (λ p. IsTightPath network.now.arcs network.now.flows
-        (slice_index potentials.now) node sink p.0 p.1) }
-{
-    network.limits();
-    let meter = Meter::new(network);
-    for arc in leaving(&meter, node) {
-        if let Some(arcs) = tight_path_by(network, potentials, lists, *arc, sink) {
-            return Some(arcs);
-        }
-    }
-    None
-}
-
-// The same, by one residual arc.
-fn tight_path_by<L: Layout>(
-    network: &Network<L>,
-    potentials: &Potentials,
-    lists: &ResidualArcs,
-    arc: ArcNo,
-    sink: usize,
-) -> Option<(u32, u32)>
-    requires may { MaySearch L.node_count network.now potentials.now lists.now sink }
-    requires listed { arc_index arc < length network.now.arcs }
-    ensures { IfSome result (λ p. IsTightPath network.now.arcs network.now.flows
-        (slice_index potentials.now) (tail_of network.now.arcs arc) sink p.0 p.1) }
-{
-    match arc {
-        ArcNo::Forward(out) => {
-            if !is_open(network, potentials, out as usize) {
-                return None;
-            }
-            let on = lists.sink_arc(network.all_arcs()[out as usize].to as usize)?;
-            if is_open(network, potentials, on as usize) {
-                return Some((out, on));
-            }
-            None
-        }
-        ArcNo::Reverse(_) => None,
-    }
-}
-
-// Whether an arc has room and costs nothing under the potentials.
-fn is_open<L: Layout>(network: &Network<L>, potentials: &Potentials, number: usize) -> bool
-    requires size { length potentials.now ≡ L.node_count network.now.layout }
-    requires listed { number < length network.now.arcs }
-    ensures { IsTrue result
-        → IsTightArc network.now.arcs network.now.flows (slice_index potentials.now) number }
-{
-    network.limits();
-    let arc = network.all_arcs()[number];
-    let depths = potentials.depths();
-    depths[arc.from as usize] == arc.cost + depths[arc.to as usize]
-        && network.all_flows()[number] < arc.capacity as u64
 }
 
 // Lowers the potential of a source, which is 0, by the least of what an arc of its own costs together with

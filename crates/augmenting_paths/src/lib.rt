@@ -10,6 +10,7 @@
 mod augment;
 mod order;
 mod requirements;
+mod walk;
 
 pub use augment::saturate;
 pub use requirements::{MAX_SOURCES, can_ship};

@@ -2,7 +2,6 @@
 use Rattle.std.specs.Prelude.{◌≡◌, ℕ, Bool, true, false, ◌<◌, ◌≤◌, ◌*◌, ◌+◌, List, [], ◌∷◌, length, Option}
 use Rattle.std.specs.Prelude.{Some, None}
 use Rattle.flow_network.specs.Flow.{Flow, Counted}
-use Rattle.flow_network.specs.declared.arcs.FlowArc.{FlowArc}
 use Rattle.flow_network.specs.declared.arcs.ArcNo.{ArcNo}
 use Rattle.shortest_paths.specs.Paths.{IsPriced}
 use Rattle.shortest_paths.specs.declared.search.Search.{Search}

@@ -1,27 +1,35 @@
 //! Nodes that wait for their turn, by distance.
-ghost use Rattle.std.specs.Prelude.{◌≡◌, ℕ, ◌≤◌, List, [], ◌∷◌, All, OnOk, IfSome, IfNone, IsPermutation};
+ghost use Rattle.std.specs.Prelude.{◌≡◌, ℕ, ◌+◌, ◌≤◌, List, [], ◌∷◌, ◌++◌, All, OnOk, IfSome, IfNone};
+ghost use Rattle.std.specs.Prelude.{IsPermutation, vec_len};
+ghost use Rattle.std.specs.BinaryHeap.{KeepsHeap, heap_items, heap_len, heap_capacity};
+ghost use Rattle.shortest_paths.specs.Order.{nearer};
 
 use std::alloc::{AllocError, Global};
 use std::cmp::Reverse;
 use std::collections::BinaryHeap;
 use std::marker::Model;
 
-/// Pairs of a distance and a node, of which the nearest is taken first.
+/// Pairs of a distance and a node, of which the nearest is taken first, and of those the one with the greatest
+/// index: where arcs lead to later nodes, that is the sink itself, or one that is closer to it. Those that were
+/// put since one was taken are not in the heap yet, which has room for them: most searches end before they
+/// take one.
 #[derive(Drop)]
 pub struct Queue {
-    heap: BinaryHeap<Reverse<(u64, usize)>>,
+    heap: BinaryHeap<(Reverse<u64>, usize)>,
+    fresh: Vec<(Reverse<u64>, usize)>,
 }
 
 impl Model for Queue {
-    ghost use Rattle.std.specs.Prelude.{ℕ, List, map};
-    ghost use Rattle.std.specs.BinaryHeap.{IsHeap, heap_items};
-    ghost use Rattle.shortest_paths.specs.Order.{nearer};
+    ghost use Rattle.std.specs.Prelude.{ℕ, List, map, ◌++◌, ◌+◌, ◌≤◌, vec_len};
+    ghost use Rattle.std.specs.BinaryHeap.{IsHeap, heap_items, heap_len, heap_capacity};
+    ghost use Rattle.shortest_paths.specs.Order.{nearer, pair_of};
 
     ghost Value = { List (ℕ × ℕ) };
 
-    ghost view = { λ q. map (λ r. r.0) (heap_items q.heap) };
+    ghost view = { λ q. map pair_of (heap_items q.heap ++ q.fresh.items) };
 
-    ghost invariant = { λ q. IsHeap nearer (heap_items q.heap) };
+    ghost invariant = { λ q. IsHeap nearer (heap_items q.heap)
+        × (heap_len q.heap + vec_len q.fresh ≤ heap_capacity q.heap) };
 }
 
 impl Queue {
@@ -31,6 +39,7 @@ impl Queue {
     {
         Queue {
             heap: BinaryHeap::new(alloc),
+            fresh: Vec::new(alloc),
         }
     }
 
@@ -38,7 +47,8 @@ impl Queue {
     pub fn put(&mut self, distance: u64, node: usize) -> Result<(), AllocError>
         ensures { OnOk result (IsPermutation ((distance, node) ∷ self.old) self.new) }
     {
-        self.heap.push(Reverse((distance, node)))?;
+        self.heap.reserve(self.fresh.len() + 1)?;
+        self.fresh.push((Reverse(distance), node))?;
         Ok(())
     }
 
@@ -49,8 +59,9 @@ impl Queue {
         ensures empty { IfNone result (self.old ≡ []) }
         ensures still_empty { IfNone result (self.new ≡ []) }
     {
-        let Reverse(nearest) = self.heap.pop()?;
-        Some(nearest)
+        take_in(&mut self.heap, &mut self.fresh);
+        let (Reverse(distance), node) = self.heap.pop()?;
+        Some((distance, node))
     }
 
     /// Drops all entries.
@@ -58,5 +69,23 @@ impl Queue {
         ensures { self.new ≡ [] }
     {
         self.heap.clear();
+        self.fresh.clear();
+    }
+}
+
+// Puts all of the fresh entries into the heap, which has room for them.
+fn take_in(heap: &mut BinaryHeap<(Reverse<u64>, usize)>, fresh: &mut Vec<(Reverse<u64>, usize)>)
+    requires { heap_len heap.old + vec_len fresh.old ≤ heap_capacity heap.old }
+    ensures all { IsPermutation (heap_items heap.old ++ fresh.old.items) (heap_items heap.new) }
+    ensures heap_order { KeepsHeap nearer (heap_items heap.old) (heap_items heap.new) }
+    ensures room { heap_len heap.new ≤ heap_capacity heap.new }
+    ensures empty { fresh.new.items ≡ [] }
+    ensures none { vec_len fresh.new ≡ 0 }
+{
+    'fresh: while let Some(entry) = fresh.pop() {
+        match heap.push(entry) {
+            Ok(()) => {}
+            Err(_) => unreachable!(),
+        }
     }
 }

@@ -1,5 +1,5 @@
-use Rattle.std.proofs.Common.{◌≡◌, ℕ, List, length, map, get_or, refl, ap, ◌∙◌, subst, arith}
-use Rattle.augmenting_paths.specs.Shipping.{CanShip, HasShipped}
+use Rattle.std.proofs.Common.{◌≡◌, length, map, get_or, refl, ap, ◌∙◌, subst, arith}
+use Rattle.augmenting_paths.specs.Shipping.{HasShipped}
 use Rattle.augmenting_paths.proofs.Shipped.{cheapest, length-indices}
 use Rattle.augmenting_paths.proofs.augment.saturate.Goals as goal
 

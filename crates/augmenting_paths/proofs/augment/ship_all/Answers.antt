@@ -1,6 +1,5 @@
 use Rattle.std.proofs.Common.{◌≡◌, ℕ, List, Bool, false, length, get_or, refl, ap, ◌∙◌}
 use Rattle.std.proofs.Common.{subst, arith}
-use Rattle.std.specs.List.Sorted.{IsPermutation}
 use Rattle.std.proofs.lemmas.List.{length-replicate}
 use Rattle.std.proofs.lemmas.List.Sorted.{length_permutation}
 use Rattle.augmenting_paths.specs.Shipping.{HasShipped}
@@ -31,52 +30,43 @@ loop-count-init g c =
     record {
       arcs = refl;
       layout = refl;
-      looks = omega arith;
-      size = ap length c.in_ok-new.ensures ∙ length-replicate {A = ℕ} c.size-nodes.result 0 ∙ nodes;
-      buffers = c.in_ok-new-3.ensures ∙ nodes;
+      kept = record {
+        looks = omega arith;
+        size = ap length c.in_ok-new.ensures ∙ length-replicate {A = ℕ} c.size-nodes.result 0 ∙ nodes;
+        buffers = c.in_ok-new-3.ensures ∙ nodes;
+        lists = record {
+          sorted = c.in_ok-new-2.ensures.sorted;
+          matched = c.in_ok-new-2.ensures.matched;
+          sink_apart = ap (λ (m : List Bool). get_or m c.args.sink false) c.in_ok-new-2.ensures.sources
+              ∙ sink_unmarked _ _ _ _ _ c.requires.can c.in_ok-marks.ensures.marks;
+        };
+      };
       state = begin_state _ _ _ _ _ c.limits.ensures.sizes c.requires.no_flow
           (λ v. ap (λ p. get_or p v 0) c.in_ok-new.ensures ∙ zeros c.size-nodes.result v);
-      lists = record {
-        sorted = c.in_ok-new-2.ensures.sorted;
-        matched = c.in_ok-new-2.ensures.matched;
-        sink_apart = ap (λ (m : List Bool). get_or m c.args.sink false) c.in_ok-new-2.ensures.sources
-            ∙ sink_unmarked _ _ _ _ _ c.requires.can c.in_ok-marks.ensures.marks;
-      };
     }
 
-pub ship-requires-clause-limit : goal.ship-requires-clause-limit
-ship-requires-clause-limit g c =
-    let one = length_permutation c.args.sources.now c.in_ok-order.order.items c.in_ok-order.ensures in
+pub ship-requires-clause-next : goal.ship-requires-clause-next
+ship-requires-clause-next g c =
+    let size = length_permutation c.args.sources.now c.in_ok-order.order.items c.in_ok-order.ensures in
     let limit = c.requires.limit in
-    rw c.deref.ensures.value (omega arith)
-
-pub ship-requires-clause-looks : goal.ship-requires-clause-looks
-ship-requires-clause-looks g c = rw c.loop-count.invariant.arcs c.loop-count.invariant.looks
-
-pub ship-requires-clause-can : goal.ship-requires-clause-can
-ship-requires-clause-can g c =
-    rw (c.loop-count.invariant.layout, c.loop-count.invariant.arcs, c.deref.ensures.value)
-    (order_can _ _ _ _ _ c.in_ok-order.ensures c.requires.can)
+    let left = c.loop-count-test.true in
+    let all = c.len-count-end.ensures in
+    record {
+      limit = rw c.deref.ensures.value (omega arith);
+      left = rw c.deref.ensures.value (omega arith);
+      can = rw (c.loop-count.invariant.layout, c.loop-count.invariant.arcs, c.deref.ensures.value)
+          (order_can _ _ _ _ _ c.in_ok-order.ensures c.requires.can);
+    }
 
 pub ship-requires-clause-state : goal.ship-requires-clause-state
-ship-requires-clause-state g c =
-    rw (c.loop-count.invariant.arcs, c.deref.ensures.value) c.loop-count.invariant.state
-
-pub ship-requires-clause-lists : goal.ship-requires-clause-lists
-ship-requires-clause-lists g c =
-    rw (c.loop-count.invariant.layout, c.loop-count.invariant.arcs) c.loop-count.invariant.lists
+ship-requires-clause-state g c = rw c.deref.ensures.value c.loop-count.invariant.state
 
 pub loop-count-preserved : goal.loop-count-preserved
 loop-count-preserved g c = record {
   arcs = c.ship.ensures.arcs ∙ c.loop-count.invariant.arcs;
   layout = c.ship.ensures.layout ∙ c.loop-count.invariant.layout;
-  looks = rw c.loop-count.invariant.arcs at c.in_ok-shipping.ensures.looks;
-  size = c.in_ok-shipping.ensures.size ∙ ap (λ l. g.L.Layout.node_count l) c.loop-count.invariant.layout;
-  buffers = c.in_ok-shipping.ensures.buffers
-      ∙ ap (λ l. g.L.Layout.node_count l) c.loop-count.invariant.layout;
-  state = rw (c.loop-count.invariant.arcs, c.deref.ensures.value) at
-      c.in_ok-shipping.ensures.state;
-  lists = rw (c.loop-count.invariant.layout, c.loop-count.invariant.arcs) at c.in_ok-shipping.ensures.lists;
+  kept = c.in_ok-shipping.ensures.kept;
+  state = rw c.deref.ensures.value at c.in_ok-shipping.ensures.state;
 }
 
 pub returns-clause-shipped : goal.returns-clause-shipped
@@ -87,4 +77,4 @@ returns-clause-shipped g c =
     order_shipped _ _ _ _ _ _ c.in_ok-order.ensures
     (subst (λ n. HasShipped c.args.network.now.arcs c.in_ok-order.order.items c.args.sink n
     c.loop-count.network.flows (λ v. get_or c.loop-count.shipping.potentials v 0))
-    size c.loop-count.invariant.state)
+    size (rw c.loop-count.invariant.arcs at c.loop-count.invariant.state))

@@ -1,4 +1,4 @@
-use Rattle.std.proofs.Common.{◌≡◌, ◌≤◌, length, ap, arith}
+use Rattle.std.proofs.Common.{◌≤◌, length, ap, arith}
 use Rattle.shortest_paths.proofs.AllPaths.{finds_all}
 use Rattle.shortest_paths.proofs.reached.find.Goals as goal
 

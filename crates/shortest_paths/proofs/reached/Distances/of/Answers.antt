@@ -1,4 +1,4 @@
-use Rattle.std.proofs.Common.{◌≡◌, ◌<◌, length, None, get_or, sym, ap, ◌∙◌, arith}
+use Rattle.std.proofs.Common.{length, None, get_or, sym, ap, ◌∙◌, arith}
 use Rattle.shortest_paths.specs.Paths.{option_distance}
 use Rattle.shortest_paths.proofs.AllPaths.{length-paths, distance_found}
 use Rattle.shortest_paths.proofs.reached.Distances.of.Goals as goal

@@ -1,4 +1,4 @@
-use Rattle.std.proofs.Common.{◌≡◌, ◌<◌, length, Some, None, get_or, not, sym, ap, ◌∙◌, arith}
+use Rattle.std.proofs.Common.{length, Some, None, get_or, not, sym, ap, ◌∙◌, arith}
 use Rattle.std.specs.Prelude.{is_some}
 use Rattle.shortest_paths.specs.Paths.{option_distance, option_path}
 use Rattle.shortest_paths.proofs.AllPaths.{length-paths, trace_found, near_where_some}

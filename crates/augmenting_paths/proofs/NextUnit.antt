@@ -1,0 +1,36 @@
+-- What a search and a walk ask is there once the next source is lifted.
+use Rattle.std.proofs.Common.{◌≡◌, ℕ, List, length, sym, ◌∙◌, arith}
+use Rattle.std.specs.Prelude.{slice_index}
+use Rattle.flow_network.specs.Flow.{Flow}
+use Rattle.flow_network.specs.Flows.{IsNetwork}
+use Rattle.shortest_paths.specs.Lists.{ArcLists}
+use Rattle.shortest_paths.specs.Search.{MaySearch}
+use Rattle.shortest_paths.proofs.Kept.{kept_are_residual}
+use Rattle.augmenting_paths.specs.NextUnit.{MayShipNext, KeepsArcs, HasLiftedNext}
+use Rattle.augmenting_paths.proofs.Shipped.{lift_keeps, lifted_depth}
+
+pub may_search : {L : Type 0} (node_count : L → ℕ) (network : Flow L) (order : List ℕ) (sink count : ℕ)
+    (depths : List ℕ) (g : ArcLists)
+    → IsNetwork (node_count network.layout) network.arcs network.flows
+    → MayShipNext node_count network order sink count
+    → length depths ≡ node_count network.layout
+    → KeepsArcs (node_count network.layout) network.arcs network.flows sink g
+    → HasLiftedNext network.arcs order sink count network.flows (slice_index depths)
+    → MaySearch node_count network depths g sink
+may_search node_count network order sink count depths g limits next size lists lifted = record {
+  priced = record {
+    network = limits;
+    size = size;
+    deep = λ v. (let low = lifted_depth _ _ _ _ _ _ _ next.can next.left lifted.state _ lifted.up v in
+        let limit = next.limit in let left = next.left in omega arith);
+    reduced = lift_keeps _ _ _ _ _ _ _ next.can next.left lifted.state _ lifted.up;
+  };
+  sized = (let sized = lists.sorted.sized in record {
+    sources = sized.sources ∙ sym size;
+    sink_arcs = sized.sink_arcs ∙ sym size;
+    inner = sized.inner ∙ sym size;
+    matched = sized.matched ∙ sym size;
+  });
+  lists = kept_are_residual _ _ _ _ _ lists.sorted lists.matched;
+  sink_apart = lists.sink_apart;
+}

@@ -1,0 +1,39 @@
+use Rattle.std.proofs.Common.{◌∙◌, arith}
+use Rattle.std.specs.Prelude.{slice_index}
+use Rattle.augmenting_paths.proofs.NextUnit.{may_search}
+use Rattle.augmenting_paths.proofs.Shipped.{start_in, start_level, own_way, lifted_found}
+use Rattle.augmenting_paths.proofs.augment.find_path.Goals as goal
+
+pub lift-requires-clause-source : goal.lift-requires-clause-source
+lift-requires-clause-source g c =
+    start_in _ _ _ _ _ _ _ c.requires.next.can c.requires.next.left c.requires.state
+
+pub lift-requires-clause-level : goal.lift-requires-clause-level
+lift-requires-clause-level g c =
+    start_level _ _ _ _ _ _ _ c.requires.next.can c.requires.next.left c.requires.state
+
+pub lift-requires-clause-arc : goal.lift-requires-clause-arc
+lift-requires-clause-arc g c =
+    let w = own_way _ _ _ _ _ _ _ c.requires.next.can c.requires.next.left c.requires.state in
+    let low = w.4 in
+    (w.0, w.1, w.2, w.3, omega arith)
+
+pub walk_down-requires-clause-may : goal.walk_down-requires-clause-may
+walk_down-requires-clause-may g c =
+    may_search _ _ _ _ _ _ _ c.limits.ensures c.requires.next (c.lift.ensures.size ∙ c.requires.kept.size)
+    c.requires.kept.lists (record {
+      h = slice_index c.args.shipping.potentials;
+      state = c.requires.state;
+      up = c.lift.ensures.lifted;
+    })
+
+pub walk_down-requires-clause-node : goal.walk_down-requires-clause-node
+walk_down-requires-clause-node g c =
+    let inside = start_in _ _ _ _ _ _ _ c.requires.next.can c.requires.next.left c.requires.state in
+    let size = c.lift.ensures.size ∙ c.requires.kept.size in
+    omega arith
+
+pub returns-then-walked-clause-found : goal.returns-then-walked-clause-found
+returns-then-walked-clause-found g c =
+    lifted_found _ _ _ _ _ _ _ c.requires.next.can c.requires.next.left c.requires.state _
+    c.lift.ensures.lifted _ (c.in_ok-walked.ensures c.if-walked.true)
