@@ -56,9 +56,8 @@ impl<'a> Checker<'a> {
         ensures value { result ≡ claim problem.now plan.now.starts prices.now }
         ensures near { IsWithinReach result.wave.tree }
     {
+        problem.limits();
         let workers = problem.workers();
-        // (bounds the reward)
-        let _reach = problem.tree().reach();
         Checker {
             problem,
             plan,

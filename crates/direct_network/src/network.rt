@@ -3,6 +3,7 @@ ghost use Rattle.std.specs.Prelude.{◌≡◌, ℕ, ◌+◌, ◌*◌, ◌<◌, �
 ghost use Rattle.std.specs.Prelude.{slice_index};
 ghost use Rattle.wave_problem.specs.Wave.{reward as reward_in};
 ghost use Rattle.wave_problem.specs.declared.TheConstants.{MAX_SPLITS};
+ghost use Rattle.network_prices.specs.Building.{IsAdded};
 ghost use Rattle.direct_network.specs.declared.arcs.TheConstants.{MAX_ARCS};
 ghost use Rattle.direct_network.specs.Direct.{arc_of, worker_node, IsDirect, IsSized, IsWanted};
 ghost use Rattle.direct_network.specs.Build.{IsBuilt};
@@ -122,9 +123,7 @@ fn add(
     requires cost { cost ≡ (arc_of problem.now arc).cost }
     requires small { cost < 2 ^ 39 }
     requires room { length network.old.arcs < MAX_ARCS }
-    ensures layout { OnOk result (network.new.layout ≡ network.old.layout) }
-    ensures arcs { OnOk result (network.new.arcs ≡ network.old.arcs ++ arc_of problem.now arc ∷ []) }
-    ensures flows { OnOk result (network.new.flows ≡ network.old.flows ++ 0 ∷ []) }
+    ensures { OnOk result (IsAdded (arc_of problem.now arc) network.old network.new) }
 {
     let capacity = arc.capacity(problem);
     let start = arc.start();

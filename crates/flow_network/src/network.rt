@@ -216,6 +216,16 @@ impl<L: Layout> Network<L> {
         Ok(())
     }
 
+    /// Takes memory for so many arcs more, but for their places in the lists of nodes, at once. That changes
+    /// nothing.
+    pub fn reserve(&mut self, arcs: usize) -> Result<(), AllocError>
+        ensures { self.new ≡ self.old }
+    {
+        self.arcs.reserve(arcs)?;
+        self.flows.reserve(arcs)?;
+        Ok(())
+    }
+
     /// Adds an arc, which carries nothing at first. A refused call leaves the network as it was.
     #[inline(always)]
     pub fn add_arc(
@@ -253,6 +263,7 @@ impl<L: Layout> Network<L> {
     }
 
     /// The same between the nodes of these indices.
+    #[inline(always)]
     pub fn add_between(&mut self, arc: FlowArc) -> Result<ArcNo, NetError>
         requires from { arc.from < L.node_count self.old.layout }
         requires to { arc.to < L.node_count self.old.layout }

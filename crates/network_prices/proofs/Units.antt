@@ -2,7 +2,7 @@
 use Rattle.std.proofs.Common.{◌≡◌, ℕ, zero, suc, ◌+◌, ◌<◌, ◌≤◌, Bool, true, false, cond, eqb, List, [], ◌∷◌}
 use Rattle.std.proofs.Common.{length, get_or, set, refl, sym, ◌∙◌, subst, inl, inr, arith}
 use Rattle.std.specs.Prelude.{◌==◌}
-use Rattle.std.proofs.lemmas.Bool.{ne_eqb}
+use Rattle.std.proofs.lemmas.Bool.{cases_eq, ne_eqb}
 use Rattle.std.proofs.lemmas.List.Sums.{sum_by-cons}
 use Rattle.flow_network.specs.declared.arcs.FlowArc.{FlowArc}
 use Rattle.flow_network.specs.Flows.{arc_at}
@@ -58,7 +58,7 @@ module _ (arcs : List FlowArc) (flows : List ℕ) (sink : ℕ) (first now : List
         (λ i m k e. (let on = can.ordered j i m k in omega arith)) (can.balanced j l off)
         (state.passing (arc_at arcs j).from (can.not_at_sink j l) (can.passes j l off))
 
-    pub to_sink : (arc_at arcs j).to ≡ sink → IsHandedOn arcs flows sink first now (j + 1)
+    to_sink : (arc_at arcs j).to ≡ sink → IsHandedOn arcs flows sink first now (j + 1)
     to_sink at = record {
       size = state.size;
       came = state.came;
@@ -80,7 +80,7 @@ module _ (arcs : List FlowArc) (flows : List ℕ) (sink : ℕ) (first now : List
           omega arith);
     }
 
-    pub moved_on : (new : List ℕ) → ((arc_at arcs j).to ≡ sink → ⊥) →
+    moved_on : (new : List ℕ) → ((arc_at arcs j).to ≡ sink → ⊥) →
         IsMoved now new (arc_at arcs j).from (arc_at arcs j).to (get_or flows j 0)
         → IsHandedOn arcs flows sink first new (j + 1)
     moved_on new off moved = record {
@@ -123,3 +123,13 @@ module _ (arcs : List FlowArc) (flows : List ℕ) (sink : ℕ) (first now : List
           (ne_eqb (arc_at arcs j).from v (λ e. off (p j l e))) in
           omega arith);
     }
+
+    -- whether it leads to the sink or not
+    pub handed_on : (new : List ℕ)
+        → (((arc_at arcs j).to ≡ sink → ⊥)
+        → IsMoved now new (arc_at arcs j).from (arc_at arcs j).to (get_or flows j 0))
+        → ((arc_at arcs j).to ≡ sink → new ≡ now) → IsHandedOn arcs flows sink first new (j + 1)
+    handed_on new on stay = elim (cases_eq (arc_at arcs j).to sink) [
+      | inl at ↦ rw (stay at) (to_sink at)
+      | inr off ↦ moved_on new off (on off)
+    ]

@@ -13,10 +13,21 @@ pub fn decompose_flow(places: &mut [usize], arcs: &[FlowArc], flows: &[u64], sin
     ensures { IsHandedOn arcs.now flows.now sink places.old places.new (length arcs.now) }
 {
     for k in 0..arcs.len() {
-        let arc = arcs[k];
-        if arc.to as usize != sink {
-            move_units(places, arc.from as usize, arc.to as usize, flows[k]);
+        let units = flows[k];
+        if units > 0 {
+            hand_on(places, &arcs[k], units, sink);
         }
+    }
+}
+
+// Hands so many units on over an arc that does not lead to the sink.
+fn hand_on(places: &mut [usize], arc: &FlowArc, units: u64, sink: usize)
+    requires { (arc.now.to ≡ sink → ⊥) → units ≤ standing places.old arc.now.from }
+    ensures on { (arc.now.to ≡ sink → ⊥) → IsMoved places.old places.new arc.now.from arc.now.to units }
+    ensures stay { arc.now.to ≡ sink → places.new ≡ places.old }
+{
+    if arc.to as usize != sink {
+        move_units(places, arc.from as usize, arc.to as usize, units);
     }
 }
 
@@ -26,9 +37,6 @@ fn move_units(places: &mut [usize], from: usize, to: usize, units: u64)
     requires { units ≤ standing places.old from }
     ensures { IsMoved places.old places.new from to units }
 {
-    if units == 0 {
-        return;
-    }
     if units == 1 && is_at(places, from) {
         move_one(places, from, to);
     } else {

@@ -52,7 +52,7 @@ fn pending_nodes<L: Layout>(
     ensures few { IfOk result (λ nodes. length nodes.items ≤ MAX_SPLITS) }
 {
     let layout = network.layout();
-    let mut nodes = Vec::new(alloc);
+    let mut nodes = Vec::with_capacity(alloc, problem.splits())?;
     for i in 0..problem.splits() {
         if problem.is_pending(SplitNo::new(i as u16)) {
             nodes.push(layout.node(i))?;

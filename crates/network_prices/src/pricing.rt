@@ -44,7 +44,7 @@ fn slot_prices<N: WaveNetwork>(
         → IsSlotPrice problem.now (nodes_from problem.now (N.first problem.now) (N.above problem.now))
         (slice_index depths.now) w (slice_index prices.items w)) }
 {
-    let mut prices = Vec::new(alloc);
+    let mut prices = Vec::with_capacity(alloc, problem.workers())?;
     for i in 0..problem.workers() {
         prices.push(slot_price::<N>(problem, depths, WorkerNo::new(i as u16)))?;
     }

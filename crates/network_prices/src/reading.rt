@@ -65,7 +65,7 @@ pub fn read_plan(
 fn first_places(alloc: Global, problem: &Problem) -> Result<Vec<usize>, AllocError>
     ensures { IfOk result (λ places. AreFirst problem.now places.items) }
 {
-    let mut places = Vec::new(alloc);
+    let mut places = Vec::with_capacity(alloc, problem.splits())?;
     for split in 0..problem.splits() {
         places.push(split)?;
     }

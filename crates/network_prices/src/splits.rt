@@ -38,7 +38,7 @@ pub fn split_prices(
         → IsSplitPrice problem.now workers.now plan.now.starts s (slice_index prices.items s)) }
 {
     let reward = problem.reward();
-    let mut prices = Vec::new(alloc);
+    let mut prices = Vec::with_capacity(alloc, problem.splits())?;
     for i in 0..problem.splits() {
         prices.push(split_price(problem, plan, workers, reward, SplitNo::new(i as u16)))?;
     }

@@ -1,6 +1,6 @@
 -- Sets of numbers as tables of bits, in words of 64.
-use Rattle.std.specs.Prelude.{ℕ, ◌+◌, ◌*◌, ◌/◌, ◌%◌, ◌^◌, ◌==◌, Bool, IsTrue, List, replicate, slice_index}
-use Rattle.std.specs.Prelude.{slice_set}
+use Rattle.std.specs.Prelude.{ℕ, ◌+◌, ◌*◌, ◌/◌, ◌%◌, ◌^◌, ◌<◌, ◌==◌, Bool, IsTrue, List, replicate}
+use Rattle.std.specs.Prelude.{slice_index, slice_set}
 use Rattle.std.specs.Int.{bit_at}
 use Rattle.std.specs.Int.RustNames.{bit_or}
 
@@ -11,6 +11,10 @@ has_number words n = bit_at (slice_index words (n / 64)) (n % 64) == 1
 -- n is in the set
 abbrev pub Has : List ℕ → ℕ → Type 0
 Has words n = IsTrue (has_number words n)
+
+-- every member is below n
+abbrev pub AreBelow : ℕ → List ℕ → Type 0
+AreBelow n words = (k : ℕ) → Has words k → k < n
 
 -- the set with n in it too
 abbrev pub with_number : List ℕ → ℕ → List ℕ

@@ -1,7 +1,7 @@
 -- How many arcs there are at most: holders that are passed, workers of racks, racks of centres; and a
 -- centre's slots.
-use Rattle.std.proofs.Common.{◌≡◌, ℕ, zero, suc, ◌+◌, ◌<◌, ◌≤◌, Bool, true, false, cond, eqb, List, [], ◌∷◌}
-use Rattle.std.proofs.Common.{length, get_or, refl, ap, ◌∙◌, inl, inr, arith}
+use Rattle.std.proofs.Common.{◌≡◌, ℕ, zero, suc, ◌+◌, ◌*◌, ◌<◌, ◌≤◌, Bool, true, false, cond, eqb, List, []}
+use Rattle.std.proofs.Common.{◌∷◌, length, get_or, refl, ap, ◌∙◌, inl, inr, arith}
 use Rattle.std.proofs.lemmas.Bool.{cases_lt, cases_eq, lt-ltb, le-ltb, eq-eqb}
 use Rattle.wave_problem.specs.Sums.{sum_below}
 use Rattle.wave_problem.specs.Wave.{Wave}
@@ -9,7 +9,7 @@ use Rattle.wave_problem.proofs.Grouping.{sum_below-add, sum_below-one, sum_below
 use Rattle.network_prices.proofs.Sums.{part_more}
 use Rattle.rack_network.specs.Racks.{node_above, rack_of, centre_of, slots_of, slots_below, slots_within}
 use Rattle.rack_network.specs.Racks.{IsTree}
-use Rattle.rack_network.specs.Build.{passed, in_places, in_place}
+use Rattle.rack_network.specs.Build.{passed, passed_by, in_places, in_place}
 
 pub passed-le : (wave : Wave) (level place : ℕ) (holders : List ℕ)
     → passed wave level place holders ≤ length holders
@@ -47,6 +47,38 @@ passed-more wave level x y (suc i) (h ∷ holders) l m low high =
           (omega arith)
       | inr b ↦ rw (le-ltb (node_above wave level h) x (omega arith)) (omega arith)
     ]
+
+pub passed_by-le : (wave : Wave) (place : ℕ) (holders : List ℕ)
+    → passed_by wave place holders ≤ 4 * length holders
+passed_by-le wave place holders =
+    omega (
+      arith,
+      passed-le wave 0 place holders,
+      passed-le wave 1 place holders,
+      passed-le wave 2 place holders,
+      passed-le wave 3 place holders,
+    )
+
+pub passed_by-more : (wave : Wave) (level x y i : ℕ) (holders : List ℕ) → level < 4 → x ≤ y
+    → i < length holders → x ≤ node_above wave level (get_or holders i 0)
+    → node_above wave level (get_or holders i 0) < y → passed_by wave x holders < passed_by wave y holders
+passed_by-more wave level x y i holders four l m low high =
+    let mono : (level : ℕ) → passed wave level x holders ≤ passed wave level y holders =
+    λ level. passed-mono wave level x y holders l in
+    let more = passed-more wave level x y i holders l m low high in
+    by_level level four more (mono 0) (mono 1) (mono 2) (mono 3)
+  where
+    by_level : (level : ℕ) → level < 4 → passed wave level x holders < passed wave level y holders
+        → passed wave 0 x holders ≤ passed wave 0 y holders
+        → passed wave 1 x holders ≤ passed wave 1 y holders
+        → passed wave 2 x holders ≤ passed wave 2 y holders
+        → passed wave 3 x holders ≤ passed wave 3 y holders
+        → passed_by wave x holders < passed_by wave y holders
+    by_level zero four more a b c d = omega arith
+    by_level (suc zero) four more a b c d = omega arith
+    by_level (suc (suc zero)) four more a b c d = omega arith
+    by_level (suc (suc (suc zero))) four more a b c d = omega arith
+    by_level (suc (suc (suc (suc n)))) four more a b c d = absurd (omega arith)
 
 -- the numbers below n in a place, and in the places before one
 module _ (place_of : ℕ → ℕ) where

@@ -5,6 +5,8 @@ pub mod Heights
 pub mod RackWays
 -- the network is built
 pub mod Rows
-pub mod Nearest
+pub mod Above
 -- it lies in layers
 pub mod Layers
+-- sets of numbers
+pub mod Marked

@@ -172,7 +172,7 @@ module _ (wave : Wave) (tree : IsTree wave) where
         no_bars pairs.1)
 
     pub to_reaches : (limit next : ℕ) (network : Flow RackLayout) → limit ≤ next → Built s 0 limit network
-        → Built s (level_start wave 3) next network
+        → Built s (cluster_node wave) next network
     to_reaches limit next network less built =
         built_pass (IsWanted wave) (arc_of wave) (IsSized wave) s 0 s (cluster_node wave) limit next network
         less
@@ -192,97 +192,84 @@ module _ (wave : Wave) (tree : IsTree wave) where
         ])
         built
 
-    -- where there is one centre, its node takes the cluster's place
-    pub past_top : (limit next : ℕ) (network : Flow RackLayout) → limit ≤ next → wave.tree.centres ≤ 1
-        → Built s 0 limit network → Built s (level_start wave 2) next network
-    past_top limit next network less few built =
-        let none = no_cluster wave.tree.centres few in
-        subst (λ (x : ℕ). Built s x next network)
-        (let here : cluster_node wave ≡ centre_node wave 0 = omega arith in here)
-        (to_reaches limit next network less built)
-
-    module _ (level place : ℕ) (high : level < 4) (from : level_start wave level ≤ place) where
-      -- what lies before a later place of the level lies before this one, or is of the level and not before
+    module _ (place : ℕ) where
+      -- what lies before a later place of the row lies before this one, or leads to a node that is not before
       -- it
-      of_level : (x : ℕ) → x ≤ level_end wave level → (e : RackArc) → IsWanted wave e
+      in_reaches : (x : ℕ) → x ≤ unstarted_node wave → (e : RackArc) → IsWanted wave e
           → IsBefore (arc_of wave e) s x
           → IsBefore (arc_of wave e) s place
-          ⊎ ((h : ℕ) × (e ≡ Reach s level h) × IsReach wave s level h × (place ≤ node_above wave level h)
-          × (node_above wave level h < x))
-      of_level x inside e want before = elim (in_row s x split e before) [
+          ⊎ ((level : ℕ) × (h : ℕ) × (e ≡ Reach s level h) × IsReach wave s level h
+          × (place ≤ node_above wave level h) × (node_above wave level h < x))
+      in_reaches x inside e want before = elim (in_row s x split e before) [
         | inl first ↦ inl (none_left (arc_of wave e) s place first)
         | inr own ↦ elim own [
           | inl pair ↦ absurd (no_pair pair.0 e want pair.1)
           | inr other ↦ elim other [
-            | inr wait ↦ absurd (let column = wait.1 in let end = (level_in wave tree level high).1 in
-                omega arith)
+            | inr wait ↦ absurd (let column = wait.1 in omega arith)
             | inl reach ↦
                 (let is : IsReach wave s reach.0 reach.1 = subst (IsWanted wave) reach.2 want in
-                let at = reach_at s reach.0 reach.1 is in let low = at.0 in let up = at.1 in
                 let column = reach.3 in
                 elim (cases_lt (node_above wave reach.0 reach.1) place) [
                   | inl l ↦ inl (at_reach s reach.0 reach.1 place e reach.2 l)
-                  | inr m ↦ inr (same reach.0 reach.1 reach.2 is (omega arith) column
-                      (one_level wave tree level reach.0 (node_above wave reach.0 reach.1) high
-                      (four_levels wave tree reach.0 is.known) (omega arith) (omega arith) low up))
+                  | inr m ↦ inr (reach.0, reach.1, reach.2, is, omega arith, column)
                 ])
           ]
         ]
       ]
-        where
-          same : (m h : ℕ) → e ≡ Reach s m h → IsReach wave s m h → place ≤ node_above wave m h
-              → node_above wave m h < x → m ≡ level
-              → (h : ℕ) × (e ≡ Reach s level h) × IsReach wave s level h × (place ≤ node_above wave level h)
-              × (node_above wave level h < x)
-          same m h is reach past column q = (
-            h,
-            is ∙ ap (λ (z : ℕ). Reach s z h) q,
-            subst (λ (z : ℕ). IsReach wave s z h) q reach,
-            subst (λ (z : ℕ). place ≤ node_above wave z h) q past,
-            subst (λ (z : ℕ). node_above wave z h < x) q column,
-          )
 
-      pub reach_step : (h limit next : ℕ) (old new : Flow RackLayout) → limit < next → IsReach wave s level h
-          → place ≤ node_above wave level h
-          → ((g : ℕ) → IsReach wave s level g → place ≤ node_above wave level g
-          → node_above wave level h ≤ node_above wave level g)
+      pub reach_step : (level h limit next : ℕ) (old new : Flow RackLayout) → limit < next
+          → IsReach wave s level h → place ≤ node_above wave level h
+          → ((m g : ℕ) → IsReach wave s m g → place ≤ node_above wave m g
+          → node_above wave level h ≤ node_above wave m g)
           → Built s place limit old → IsAdded (arc_of wave (Reach s level h)) old new
           → Built s (node_above wave level h + 1) next new
-      reach_step h limit next old new less reach past least built added =
+      reach_step level h limit next old new less reach past least built added =
           built_take (IsWanted wave) (arc_of wave) (IsSized wave) s place s (node_above wave level h + 1)
           limit next (Reach s level h)
           old new less reach (inr (refl, past)) (inr (refl, omega arith))
-          (λ e want before. elim (of_level (node_above wave level h + 1)
-          (let up = (reach_at s level h reach).1 in omega arith) e want before) [
+          (λ e want before. elim (in_reaches (node_above wave level h + 1)
+          (let up = (reach_in s level h reach).1 in omega arith) e want before) [
             | inl b ↦ inl b
             | inr own ↦
-                (let column = own.4 in
-                let far = least own.0 own.2 own.3 in
-                let node : node_above wave level own.0 ≡ node_above wave level h = omega arith in
-                inr (ap (arc_of wave) own.1 ∙ same_arc own.0 h node))
+                (let column = own.5 in
+                let far = least own.0 own.1 own.3 own.4 in
+                let node : node_above wave own.0 own.1 ≡ node_above wave level h = omega arith in
+                inr (ap (arc_of wave) own.2 ∙ same_arc own.0 own.1 own.3 node))
           ])
           built added
         where
-          same_arc : (g h : ℕ) → node_above wave level g ≡ node_above wave level h
-              → arc_of wave (Reach s level g) ≡ arc_of wave (Reach s level h)
-          same_arc g h node = ap (λ (x : ℕ). record {
-            from = s;
-            to = x;
-            capacity = 1;
-            cost =
-                (split_at wave s).bytes * (2 * level);
-          }) node
+          -- (no node is of two levels)
+          same_arc : (m g : ℕ) → IsReach wave s m g → node_above wave m g ≡ node_above wave level h
+              → arc_of wave (Reach s m g) ≡ arc_of wave (Reach s level h)
+          same_arc m g is node =
+              let own = reach_at s level h reach in let low = own.0 in let high = own.1 in
+              let at = reach_at s m g is in let from = at.0 in let to = at.1 in
+              let same : m ≡ level = one_level wave tree level m (node_above wave level h)
+              (four_levels wave tree level reach.known) (four_levels wave tree m is.known) low high
+              (omega arith) (omega arith) in
+              ap (λ (x : ℕ). record {
+                from = s;
+                to = x;
+                capacity = 1;
+                cost = (split_at wave s).bytes * (2 * m);
+              }) node
+              ∙ ap (λ (z : ℕ). record {
+                from = s;
+                to = node_above wave level h;
+                capacity = 1;
+                cost = (split_at wave s).bytes * (2 * z);
+              }) same
 
       pub reach_end : (limit next : ℕ) (network : Flow RackLayout) → limit ≤ next
-          → place ≤ level_end wave level
-          → ((g : ℕ) → IsReach wave s level g → node_above wave level g < place)
-          → Built s place limit network → Built s (level_end wave level) next network
+          → place ≤ unstarted_node wave
+          → ((level g : ℕ) → IsReach wave s level g → node_above wave level g < place)
+          → Built s place limit network → Built s (unstarted_node wave) next network
       reach_end limit next network less inside none built =
-          built_pass (IsWanted wave) (arc_of wave) (IsSized wave) s place s (level_end wave level) limit next
+          built_pass (IsWanted wave) (arc_of wave) (IsSized wave) s place s (unstarted_node wave) limit next
           network less (inr (refl, inside))
-          (λ e want before. elim (of_level (level_end wave level) (omega arith) e want before) [
+          (λ e want before. elim (in_reaches (unstarted_node wave) (omega arith) e want before) [
             | inl b ↦ b
-            | inr own ↦ absurd (let past = own.3 in let before_place = none own.0 own.2 in omega arith)
+            | inr own ↦ absurd (let past = own.4 in let before_place = none own.0 own.1 own.3 in omega arith)
           ])
           built
 

@@ -2,4 +2,5 @@
 pub mod Layout
 pub mod Places
 pub mod Racks
+pub mod Marks
 pub mod Build

@@ -149,9 +149,12 @@ fn slots_below(problem: &Problem, rack: RackNo) -> u64
     let mut slots = 0;
     for i in 0..problem.workers() {
         let worker = WorkerNo::new(i as u16);
-        if tree.rack_of(worker) == rack && problem.is_live(worker) {
-            slots += u64::from(problem.free(worker));
-        }
+        let is_counted = (tree.rack_of(worker) == rack) & problem.is_live(worker);
+        slots += if is_counted {
+            u64::from(problem.free(worker))
+        } else {
+            0
+        };
     }
     slots
 }

@@ -11,6 +11,8 @@
 mod arcs;
 mod laws;
 mod layout;
+mod level_starts;
+mod marks;
 mod network;
 mod places;
 mod wave_network;

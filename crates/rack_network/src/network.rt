@@ -1,26 +1,26 @@
 //! Builds the rack network of a problem.
-ghost use Rattle.std.specs.Prelude.{◌≡◌, ℕ, ◌+◌, ◌-◌, ◌*◌, ◌<◌, ◌≤◌, ◌^◌, ◌∷◌, ◌++◌, ◌↔◌, List, [], true, length};
-ghost use Rattle.std.specs.Prelude.{All, IfOk, IfSome, IsTrue, OnOk, Some, slice_index};
-ghost use Rattle.wave_problem.specs.Wave.{reward as reward_in, split_at, worker_at, Wave, IsUsable};
+ghost use Rattle.std.specs.Prelude.{◌≡◌, ℕ, ◌+◌, ◌*◌, ◌<◌, ◌≤◌, ◌^◌, ◌∷◌, ◌++◌, ◌↔◌, ◌⊎◌, [], true, length};
+ghost use Rattle.std.specs.Prelude.{All, IfOk, IsTrue, OnOk, slice_index};
+ghost use Rattle.node_ids.specs.Sets.{Has};
+ghost use Rattle.rack_tree.specs.declared.TheConstants.{MAX_CENTRES, MAX_RACKS, MAX_WORKERS};
+ghost use Rattle.wave_problem.specs.Wave.{reward as reward_in, split_at, IsUsable};
 ghost use Rattle.wave_problem.specs.declared.TheConstants.{MAX_HOLDERS, MAX_SPLITS};
+ghost use Rattle.network_prices.specs.Building.{IsAdded};
 ghost use Rattle.rack_network.specs.declared.arcs.TheConstants.{LEVELS, MAX_ARCS};
-ghost use Rattle.rack_network.specs.Racks.{arc_of, centre_node, centre_of, cluster_node, level_count};
-ghost use Rattle.rack_network.specs.Racks.{node_above, rack_node, rack_of, worker_node, unstarted_node};
+ghost use Rattle.rack_network.specs.Racks.{arc_of, centre_node, centre_of, cluster_node, node_above};
+ghost use Rattle.rack_network.specs.Racks.{rack_node, rack_of, worker_node, unstarted_node};
 ghost use Rattle.rack_network.specs.Racks.{HasBars, IsRackNetwork, IsSized, IsTree, IsWanted};
-ghost use Rattle.rack_network.specs.Build.{branch_arcs, feed_arcs, in_places, level_end, level_start};
-ghost use Rattle.rack_network.specs.Build.{split_arcs, trunk_arcs, ArePlaces, IsBuilt, IsLeastFrom};
-ghost use Rattle.rack_network.specs.Build.{IsNextNode, IsPlaceOf};
-ghost use Rattle.rack_network.specs.Build.{IsReachable};
+ghost use Rattle.rack_network.specs.Build.{branch_arcs, feed_arcs, in_places, split_arcs, trunk_arcs};
+ghost use Rattle.rack_network.specs.Build.{AreAbove, AreStarts, IsAbove, IsBuilt};
 
-use crate::places::{first_centre, first_rack, first_worker, place_above};
-use crate::{LEVELS, RackArc, RackLayout, RackNode};
+use crate::level_starts::LevelStarts;
+use crate::marks::Marks;
+use crate::{RackArc, RackLayout, RackNode};
 use flow_network::{FlowArc, NetError, Network};
-use node_ids::{CentreNo, RackNo, SplitNo, WorkerNo};
+use network_prices::pending_count;
+use node_ids::{CentreNo, Layout, RackNo, SplitNo, WorkerNo};
 use std::alloc::{AllocError, Global};
-use wave_problem::{MAX_HOLDERS, Problem, SplitCosts};
-
-// A place past all nodes.
-const NO_PLACE: usize = 4096;
+use wave_problem::{Problem, SplitCosts};
 
 /// The rack network of a problem, without flow, row by row: of each split the arcs to `Cluster`, to data
 /// centres, to racks, to workers and to `Unstarted`, then those of `Cluster`, of the centres, of the racks
@@ -40,6 +40,7 @@ pub fn build(alloc: Global, problem: &Problem) -> Result<Network<RackLayout>, Al
     };
     let mut network = Network::new(alloc, layout)?;
     know_tree(problem);
+    make_room_for_all(&mut network, problem)?;
     add_splits(&mut network, problem)?;
     add_trunks(&mut network, problem)?;
     add_centres(&mut network, problem)?;
@@ -56,6 +57,72 @@ fn know_tree(problem: &Problem)
     problem.limits();
 }
 
+// Takes the memory for about as many arcs as there will be, and for about as many at each node above splits.
+fn make_room_for_all(network: &mut Network<RackLayout>, problem: &Problem) -> Result<(), AllocError>
+    requires layout { IsSized problem.now network.old.layout }
+    ensures { network.new ≡ network.old }
+{
+    let levels = LevelStarts::of(problem);
+    let (workers, racks) = (problem.workers(), problem.tree().racks());
+    let pending = pending_count(problem) as usize;
+    let replicas = pending_replicas(problem);
+    network.reserve(2 * (replicas + pending + workers) + levels.workers + 1)?;
+    let of_rack = 2 * replicas / racks.max(1) + workers;
+    let of_worker = 2 * replicas / workers.max(1) + 2;
+    let cluster = problem.splits();
+    let first_worker = cluster + levels.workers;
+    let unstarted = first_worker + workers;
+    make_room_from(network, problem, cluster, levels.racks, pending + racks)?;
+    make_room_from(network, problem, cluster + levels.racks, racks, of_rack)?;
+    make_room_from(network, problem, first_worker, workers, of_worker)?;
+    make_room_from(network, problem, unstarted, 1, pending + 1)?;
+    make_room_from(network, problem, unstarted + 1, 1, workers + 1)
+}
+
+// How many replicas the pending splits have together.
+fn pending_replicas(problem: &Problem) -> usize
+    ensures { result ≤ MAX_SPLITS * MAX_HOLDERS }
+{
+    let mut replicas = 0;
+    for i in 0..problem.splits() {
+        let split = SplitNo::new(i as u16);
+        if problem.is_pending(split) {
+            replicas += problem.holders(split).len();
+        }
+    }
+    replicas
+}
+
+// Takes the memory for so many arcs at each of so many nodes from a place on.
+fn make_room_from(
+    network: &mut Network<RackLayout>,
+    problem: &Problem,
+    first: usize,
+    nodes: usize,
+    arcs: usize,
+) -> Result<(), AllocError>
+    requires layout { IsSized problem.now network.old.layout }
+    requires nodes { first + nodes ≤ unstarted_node problem.now + 2 }
+    ensures { network.new ≡ network.old }
+{
+    know_sizes(problem);
+    for i in 0..nodes {
+        let node = network.layout().node(first + i);
+        network.make_room(node, arcs)?;
+    }
+    Ok(())
+}
+
+// That there are few of each.
+fn know_sizes(problem: &Problem)
+    ensures splits { length problem.now.splits ≤ MAX_SPLITS }
+    ensures centres { problem.now.tree.centres ≤ MAX_CENTRES }
+    ensures racks { length problem.now.tree.centre_of ≤ MAX_RACKS }
+    ensures workers { length problem.now.workers ≤ MAX_WORKERS }
+{
+    problem.limits();
+}
+
 // Adds the rows of the splits.
 fn add_splits(network: &mut Network<RackLayout>, problem: &Problem) -> Result<(), AllocError>
     requires tree { IsTree problem.now }
@@ -64,10 +131,11 @@ fn add_splits(network: &mut Network<RackLayout>, problem: &Problem) -> Result<()
         network.new) }
 {
     let reward = problem.reward();
+    let levels = LevelStarts::of(problem);
     for i in 0..problem.splits() {
         let split = SplitNo::new(i as u16);
         if problem.is_pending(split) {
-            add_split(network, problem, split, reward)?;
+            add_split(network, problem, split, &levels, reward)?;
         }
     }
     Ok(())
@@ -78,62 +146,48 @@ fn add_split(
     network: &mut Network<RackLayout>,
     problem: &Problem,
     split: SplitNo,
+    levels: &LevelStarts,
     reward: u64,
 ) -> Result<(), AllocError>
     requires split { split < length problem.now.splits }
     requires few { split < MAX_SPLITS }
     requires pending { (split_at problem.now split).pending ≡ true }
+    requires levels { AreStarts problem.now levels.now }
     requires reward { reward ≡ reward_in problem.now }
     requires small { reward < 2 ^ 39 }
     requires tree { IsTree problem.now }
     requires built { IsBuilt problem.now split 0 (257 * split) network.old }
     ensures built { OnOk result (IsBuilt problem.now (split + 1) 0 (257 * split + 257) network.new) }
 {
-    make_room(network, problem, split)?;
-    add_ways(network, problem, split)?;
-    add(network, problem, RackArc::Wait(split), reward)?;
+    let barred = has_bars(problem, split);
+    make_room(network, problem, split, barred)?;
+    if barred {
+        add_pairs(network, problem, split)?;
+    } else {
+        add_reaches(network, problem, split, levels)?;
+    }
+    add_wait(network, problem, split, levels, reward)?;
     Ok(())
 }
 
-// Takes the memory for the arcs of a split's row at once; several data centres may want a few more.
+// Takes the memory for the list of a split's arcs at once; several data centres may want a few more.
 fn make_room(
     network: &mut Network<RackLayout>,
     problem: &Problem,
     split: SplitNo,
+    barred: bool,
 ) -> Result<(), AllocError>
     requires split { split < length problem.now.splits }
     requires layout { IsSized problem.now network.old.layout }
     ensures { network.new ≡ network.old }
 {
-    let bars = problem.bars(split);
-    let arcs = if bars.is_empty() {
-        2 * problem.holders(split).len() + 2
-    } else {
+    let arcs = if barred {
         problem.workers()
+    } else {
+        2 * problem.holders(split).len() + 2
     };
     network.make_room(RackNode::Split(split), arcs)?;
     Ok(())
-}
-
-// Adds all of them but the one to `Unstarted`.
-fn add_ways(
-    network: &mut Network<RackLayout>,
-    problem: &Problem,
-    split: SplitNo,
-) -> Result<(), AllocError>
-    requires split { split < length problem.now.splits }
-    requires few { split < MAX_SPLITS }
-    requires pending { (split_at problem.now split).pending ≡ true }
-    requires tree { IsTree problem.now }
-    requires built { IsBuilt problem.now split 0 (257 * split) network.old }
-    ensures built { OnOk result (IsBuilt problem.now split (unstarted_node problem.now) (257 * split + 256)
-        network.new) }
-{
-    if has_bars(problem, split) {
-        add_pairs(network, problem, split)
-    } else {
-        add_reaches(network, problem, split)
-    }
 }
 
 // Whether a pair of the split is barred.
@@ -187,113 +241,116 @@ fn add_pairs(
     Ok(())
 }
 
-// Adds the arcs from a pending split without barred pairs to the nodes above its live holders.
+// Adds the arcs from a pending split without barred pairs to the nodes above its live holders, each once, by
+// rising node.
 fn add_reaches(
     network: &mut Network<RackLayout>,
     problem: &Problem,
     split: SplitNo,
+    levels: &LevelStarts,
 ) -> Result<(), AllocError>
     requires split { split < length problem.now.splits }
     requires few { split < MAX_SPLITS }
     requires pending { (split_at problem.now split).pending ≡ true }
     requires no_bars { HasBars problem.now split → ⊥ }
     requires tree { IsTree problem.now }
+    requires levels { AreStarts problem.now levels.now }
     requires built { IsBuilt problem.now split 0 (257 * split) network.old }
     ensures built { OnOk result (IsBuilt problem.now split (unstarted_node problem.now) (257 * split + 256)
         network.new) }
 {
-    add_top(network, problem, split)?;
-    add_level(network, problem, split, 2, first_centre(problem))?;
-    add_level(network, problem, split, 1, first_rack(problem))?;
-    add_level(network, problem, split, 0, first_worker(problem))
-}
-
-// Adds that to `Cluster`, where there are several data centres.
-fn add_top(
-    network: &mut Network<RackLayout>,
-    problem: &Problem,
-    split: SplitNo,
-) -> Result<(), AllocError>
-    requires split { split < length problem.now.splits }
-    requires few { split < MAX_SPLITS }
-    requires pending { (split_at problem.now split).pending ≡ true }
-    requires no_bars { HasBars problem.now split → ⊥ }
-    requires tree { IsTree problem.now }
-    requires built { IsBuilt problem.now split 0 (257 * split) network.old }
-    ensures built { OnOk result (IsBuilt problem.now split (level_start problem.now 2) (257 * split + 8)
-        network.new) }
-{
-    if problem.tree().centres() > 1 {
-        add_level(network, problem, split, 3, problem.splits())
-    } else {
-        Ok(())
-    }
-}
-
-// Adds those to the nodes of one level, the first of which is told, each once, by rising node.
-#[inline(always)]
-fn add_level(
-    network: &mut Network<RackLayout>,
-    problem: &Problem,
-    split: SplitNo,
-    level: u8,
-    first: usize,
-) -> Result<(), AllocError>
-    requires split { split < length problem.now.splits }
-    requires few { split < MAX_SPLITS }
-    requires level { level < level_count problem.now }
-    requires first { first ≡ level_start problem.now level }
-    requires pending { (split_at problem.now split).pending ≡ true }
-    requires no_bars { HasBars problem.now split → ⊥ }
-    requires tree { IsTree problem.now }
-    requires built { IsBuilt problem.now split (level_start problem.now level) (257 * split + 8 * (3 - level))
-        network.old }
-    ensures built { OnOk result (IsBuilt problem.now split (level_end problem.now level)
-        (257 * split + 8 * (3 - level) + 8) network.new) }
-{
+    know_sizes(problem);
     let holders = problem.holders(split);
-    let places = places_of(problem, holders, level, first);
-    let cost = problem.bytes(split) * (2 * u64::from(level));
-    let mut place = first;
-    while let Some(node) = next_node(&places, place) {
-        add_reach(network, problem, split, level, node, cost)?;
-        place = node + 1;
+    let marks = marks_above(problem, holders, levels);
+    let bytes = problem.bytes(split);
+    let mut number = 0;
+    while let Some(next) = marks.next(number) {
+        let level = levels.level_of(next);
+        let cost = bytes * (2 * u64::from(level));
+        add_reach(network, problem, split, level, next, cost)?;
+        number = next + 1;
     }
     Ok(())
 }
 
-// Adds the arc to the node at this place, which stands so many levels above a holder.
+// Adds the arc to the node with this number, which stands so many levels above a holder.
 #[inline(always)]
 fn add_reach(
     network: &mut Network<RackLayout>,
     problem: &Problem,
     split: SplitNo,
     level: u8,
-    node: usize,
+    number: usize,
     cost: u64,
 ) -> Result<(), AllocError>
     requires split { split < length problem.now.splits }
-    requires node { node < unstarted_node problem.now }
+    requires node { cluster_node problem.now + number < unstarted_node problem.now }
     requires layout { IsSized problem.now network.old.layout }
     requires cost { cost ≡ (split_at problem.now split).bytes * (2 * level) }
     requires small { cost < 2 ^ 39 }
     requires room { length network.old.arcs < MAX_ARCS }
-    ensures layout { OnOk result (network.new.layout ≡ network.old.layout) }
-    ensures arcs { OnOk result ((h : ℕ) → node ≡ node_above problem.now level h
-        → network.new.arcs ≡ network.old.arcs ++ arc_of problem.now (RackArc.Reach split level h) ∷ []) }
-    ensures flows { OnOk result (network.new.flows ≡ network.old.flows ++ 0 ∷ []) }
+    ensures { OnOk result ((h : ℕ) → cluster_node problem.now + number ≡ node_above problem.now level h
+        → IsAdded (arc_of problem.now (RackArc.Reach split level h)) network.old network.new) }
 {
-    // (there are few of each)
-    let _splits = problem.splits();
-    let tree = problem.tree();
-    let _centres = tree.centres();
-    let _racks = tree.racks();
-    let arc = FlowArc {
-        from: split.index() as u16,
-        to: node as u16,
-        capacity: 1,
-        cost,
-    };
+    know_sizes(problem);
+    let node = problem.splits() + number;
+    append(
+        network,
+        problem,
+        FlowArc {
+            from: split.index() as u16,
+            to: node as u16,
+            capacity: 1,
+            cost,
+        },
+    )
+}
+
+// Adds the arc from a pending split to `Unstarted`.
+fn add_wait(
+    network: &mut Network<RackLayout>,
+    problem: &Problem,
+    split: SplitNo,
+    levels: &LevelStarts,
+    reward: u64,
+) -> Result<(), AllocError>
+    requires split { split < length problem.now.splits }
+    requires layout { IsSized problem.now network.old.layout }
+    requires levels { AreStarts problem.now levels.now }
+    requires reward { reward ≡ reward_in problem.now }
+    requires small { reward < 2 ^ 39 }
+    requires room { length network.old.arcs < MAX_ARCS }
+    ensures { OnOk result (IsAdded (arc_of problem.now (RackArc.Wait split)) network.old network.new) }
+{
+    know_sizes(problem);
+    let node = problem.splits() + levels.workers + problem.workers();
+    append(
+        network,
+        problem,
+        FlowArc {
+            from: split.index() as u16,
+            to: node as u16,
+            capacity: 1,
+            cost: reward,
+        },
+    )
+}
+
+// Adds an arc to a network with room for it.
+#[inline(always)]
+fn append(
+    network: &mut Network<RackLayout>,
+    problem: &Problem,
+    arc: FlowArc,
+) -> Result<(), AllocError>
+    requires layout { IsSized problem.now network.old.layout }
+    requires from { arc.from < unstarted_node problem.now + 1 }
+    requires to { arc.to < unstarted_node problem.now + 1 }
+    requires capacity { arc.capacity ≤ 4096 }
+    requires cost { arc.cost < 2 ^ 39 }
+    requires room { length network.old.arcs < MAX_ARCS }
+    ensures { OnOk result (IsAdded arc network.old network.new) }
+{
     match network.add_between(arc) {
         Ok(_) => Ok(()),
         Err(NetError::Memory) => Err(AllocError),
@@ -301,83 +358,40 @@ fn add_reach(
     }
 }
 
-// The places of the nodes of a level above the holders, the first of which is told; past all nodes where a
-// holder is not reached.
-#[inline(always)]
-fn places_of(
-    problem: &Problem,
-    holders: &[WorkerNo],
-    level: u8,
-    first: usize,
-) -> [usize; MAX_HOLDERS]
+// The numbers of the nodes above the holders that live, and of the holders' own where they have a free slot.
+fn marks_above(problem: &Problem, holders: &[WorkerNo], levels: &LevelStarts) -> Marks
     requires known { All (λ h. h < length problem.now.workers) holders.now }
-    requires few { length holders.now ≤ MAX_HOLDERS }
-    requires level { level < LEVELS }
-    requires first { first ≡ level_start problem.now level }
-    ensures { ArePlaces problem.now holders.now level result }
+    requires tree { IsTree problem.now }
+    requires levels { AreStarts problem.now levels.now }
+    ensures { AreAbove problem.now holders.now (length holders.now) result }
 {
-    let mut places = [NO_PLACE; MAX_HOLDERS];
+    let mut marks = Marks::new();
     for i in 0..holders.len() {
-        places[i] = place_of(problem, level, first, holders[i]);
+        mark_above(&mut marks, problem, holders[i], levels);
     }
-    places
+    marks
 }
 
-// The same of one holder.
+// The same of one holder more.
 #[inline(always)]
-fn place_of(problem: &Problem, level: u8, first: usize, holder: WorkerNo) -> usize
-    requires level { level < LEVELS }
-    requires first { first ≡ level_start problem.now level }
+fn mark_above(marks: &mut Marks, problem: &Problem, holder: WorkerNo, levels: &LevelStarts)
     requires holder { holder < length problem.now.workers }
-    ensures { IsPlaceOf problem.now level holder result }
+    requires tree { IsTree problem.now }
+    requires levels { AreStarts problem.now levels.now }
+    ensures { (n : ℕ) → Has marks.new n ↔ (IsAbove problem.now holder n ⊎ Has marks.old n) }
 {
-    if is_reached(problem, level, holder) {
-        place_above(problem, level, first, holder)
-    } else {
-        NO_PLACE
-    }
-}
-
-// The first of the nodes at these places, from one on.
-#[inline(always)]
-fn next_node(places: &[usize; MAX_HOLDERS], place: usize) -> Option<usize>
-    ensures { (wave : Wave) (holders : List ℕ) (level : ℕ) → length holders ≤ MAX_HOLDERS
-        → ArePlaces wave holders level places.now → IsNextNode wave holders level place result }
-{
-    let node = least_from(places, place);
-    if node < NO_PLACE { Some(node) } else { None }
-}
-
-// The least of the places from one on; past all nodes where there is none. It goes over all of them, so that
-// the processor has no turn to guess.
-#[inline(never)]
-fn least_from(places: &[usize; MAX_HOLDERS], place: usize) -> usize
-    ensures { IsLeastFrom places.now place MAX_HOLDERS result }
-{
-    let mut least = NO_PLACE;
-    for i in 0..MAX_HOLDERS {
-        if is_nearer(place, places[i], least) {
-            least = places[i];
-        }
-    }
-    least
-}
-
-// Whether a node is no earlier than the place, and earlier than the first one so far.
-#[inline(always)]
-fn is_nearer(place: usize, node: usize, least: usize) -> bool
-    ensures { IsTrue result ↔ ((place ≤ node) × (node < least)) }
-{
-    place <= node && node < least
-}
-
-// Whether a holder lives and, where its own node is meant, has a free slot.
-#[inline(always)]
-fn is_reached(problem: &Problem, level: u8, holder: WorkerNo) -> bool
-    requires { holder < length problem.now.workers }
-    ensures { IsTrue result ↔ IsReachable problem.now level holder }
-{
-    problem.is_live(holder) && (level > 0 || problem.free(holder) > 0)
+    know_sizes(problem);
+    let tree = problem.tree();
+    let live = problem.is_live(holder);
+    let rack = tree.rack_of(holder);
+    let centre = levels.centres + tree.centre_of(rack).index();
+    marks.put_if(live & (levels.centres > 0), 0);
+    marks.put_if(live, centre);
+    marks.put_if(live, levels.racks + rack.index());
+    marks.put_if(
+        live & (problem.free(holder) > 0),
+        levels.workers + holder.index(),
+    );
 }
 
 // Adds the row of `Cluster`, where there are several data centres.
@@ -402,8 +416,7 @@ fn add_trunk_row(network: &mut Network<RackLayout>, problem: &Problem) -> Result
     ensures built { OnOk result (IsBuilt problem.now (centre_node problem.now 0) 0 (trunk_arcs problem.now)
         network.new) }
 {
-    // (there are few of each)
-    let _splits = problem.splits();
+    know_sizes(problem);
     for i in 0..problem.tree().centres() {
         add(network, problem, RackArc::Trunk(CentreNo::new(i as u8)), 0)?;
     }
@@ -440,10 +453,8 @@ fn add_branches(
         + in_places (centre_of problem.now) (length problem.now.tree.centre_of) (centre + 1))
         network.new) }
 {
-    // (there are few of each)
-    let _splits = problem.splits();
+    know_sizes(problem);
     let tree = problem.tree();
-    let _centres = tree.centres();
     for i in 0..tree.racks() {
         let rack = RackNo::new(i as u16);
         if tree.centre_of(rack) == centre {
@@ -481,10 +492,7 @@ fn add_feeds(
         (branch_arcs problem.now + in_places (rack_of problem.now) (length problem.now.workers) (rack + 1))
         network.new) }
 {
-    // (there are few of each)
-    let _splits = problem.splits();
-    let _centres = problem.tree().centres();
-    let _racks = problem.tree().racks();
+    know_sizes(problem);
     for i in 0..problem.workers() {
         let worker = WorkerNo::new(i as u16);
         if takes_from(problem, rack, worker) {
@@ -509,10 +517,7 @@ fn add_slots(network: &mut Network<RackLayout>, problem: &Problem) -> Result<(),
     ensures built { OnOk result (IsBuilt problem.now (worker_node problem.now (length problem.now.workers)) 0
         (feed_arcs problem.now + length problem.now.workers) network.new) }
 {
-    // (there are few of each)
-    let _splits = problem.splits();
-    let _centres = problem.tree().centres();
-    let _racks = problem.tree().racks();
+    know_sizes(problem);
     for i in 0..problem.workers() {
         add(network, problem, RackArc::Slot(WorkerNo::new(i as u16)), 0)?;
     }
@@ -532,9 +537,7 @@ fn add(
     requires cost { cost ≡ (arc_of problem.now arc).cost }
     requires small { cost < 2 ^ 39 }
     requires room { length network.old.arcs < MAX_ARCS }
-    ensures layout { OnOk result (network.new.layout ≡ network.old.layout) }
-    ensures arcs { OnOk result (network.new.arcs ≡ network.old.arcs ++ arc_of problem.now arc ∷ []) }
-    ensures flows { OnOk result (network.new.flows ≡ network.old.flows ++ 0 ∷ []) }
+    ensures { OnOk result (IsAdded (arc_of problem.now arc) network.old network.new) }
 {
     let capacity = arc.capacity(problem);
     let start = arc.start(problem);

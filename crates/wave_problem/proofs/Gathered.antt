@@ -11,8 +11,11 @@ use Rattle.std.proofs.lemmas.Bool.Decides.{same_from_decides}
 use Rattle.std.proofs.lemmas.List.Folds.{list_any-append}
 use Rattle.node_ids.specs.Sets.{Has, has_number}
 use Rattle.rack_tree.specs.Tree.{Tree, centre_at, distance}
+use Rattle.rack_tree.specs.declared.TheConstants.{MAX_CENTRES, MAX_RACKS}
 use Rattle.rack_tree.proofs.Distances.{distance_by, steps_by}
+use Rattle.wave_problem.specs.SplitCosts.{Shows}
 use Rattle.wave_problem.specs.Sums.{least}
+use Rattle.wave_problem.specs.declared.split_costs.LiveHolders.{LiveHolders}
 
 or_false : (a b : Bool) → (a || (b || false)) ≡ (a || b)
 or_false true b = refl
@@ -124,3 +127,14 @@ steps_shown tree w rack centre live one racks centres r c here near by =
     let close : list_any (λ h. slice_index tree.rack_of h == slice_index tree.rack_of w) live ≡ racks =
     ap (λ (z : ℕ). list_any (λ h. slice_index tree.rack_of h == z) live) r ∙ sym near in
     rw (far, close, ← here) refl
+
+-- so the tables tell the least distance from a worker by what they show of it, of its rack and of its centre
+pub least_shown : (tree : Tree) (w rack centre : ℕ) (live : List ℕ) (tables : LiveHolders)
+    (one racks centres : Bool) → 0 < length live → Shows tree live tables →
+    slice_index tree.rack_of w ≡ rack → centre_at tree w ≡ centre → rack < MAX_RACKS → centre < MAX_CENTRES →
+    has_number tables.workers w ≡ one → get_or tables.racks rack false ≡ racks →
+    get_or tables.centres centre false ≡ centres →
+    Some (steps_by one racks centres) ≡ least (map (λ h. distance tree h w) live)
+least_shown tree w rack centre live tables one racks centres some shown here there r c own near by =
+    sym (least_near tree w live some ∙ ap Some (steps_shown tree w rack centre live one racks centres here there
+    (sym own ∙ shown.workers w) (sym near ∙ shown.racks rack r) (sym by ∙ shown.centres centre c)))

@@ -5,7 +5,7 @@ ghost use Rattle.rack_tree.specs.declared.TheConstants.{MAX_CENTRES, MAX_DISTANC
 ghost use Rattle.wave_problem.specs.declared.TheConstants.{MAX_BYTES};
 ghost use Rattle.wave_problem.specs.SplitCosts.{Shows};
 ghost use Rattle.wave_problem.specs.Sums.{least};
-ghost use Rattle.wave_problem.specs.Wave.{cost, live_among, IsAdmissible, IsOpen};
+ghost use Rattle.wave_problem.specs.Wave.{cost, least_distance, live_among, IsAdmissible, IsOpen};
 
 use crate::problem::Problem;
 use node_ids::{CentreNo, RackNo, SplitNo, WorkerNo, WorkerSet};
@@ -125,18 +125,25 @@ impl<'a> SplitCosts<'a> {
         self.is_open
     }
 
+    // The least number of steps from the worker to a live holder.
+    fn least_distance(&self, worker: WorkerNo) -> Option<u8>
+        requires { worker < length self.now.wave.workers }
+        ensures least { result ≡ least_distance self.now.wave self.now.split worker }
+        ensures most { IfSome result (λ steps. steps ≤ MAX_DISTANCE) }
+    {
+        let tree = self.problem.tree();
+        let rack = tree.rack_of(worker);
+        self.holders
+            .least_distance(worker, rack, tree.centre_of(rack))
+    }
+
     /// As `Problem::cost`.
     pub fn cost(&self, worker: WorkerNo) -> Option<u64>
         requires { worker < length self.now.wave.workers }
         ensures cost { result ≡ cost self.now.wave self.now.split worker }
         ensures most { IfSome result (λ c. c ≤ MAX_DISTANCE * MAX_BYTES) }
     {
-        let tree = self.problem.tree();
-        let rack = tree.rack_of(worker);
-        match self
-            .holders
-            .least_distance(worker, rack, tree.centre_of(rack))
-        {
+        match self.least_distance(worker) {
             Some(steps) => Some(self.bytes * u64::from(steps)),
             None => None,
         }

@@ -25,11 +25,7 @@ loop-i-preserved c =
           (subst (λ z. IsAdmissible z s c.new-worker.result) c.new-costs.ensures.wave
           (subst (λ z. IsAdmissible c.new-costs.result.wave z c.new-worker.result) c.new-costs.ensures.split
           (c.admissible.ensures.0 w.if-admissible.true)))
-          c.loop-i.invariant (
-            w.in_ok-add.ensures.layout,
-            w.in_ok-add.ensures.arcs,
-            w.in_ok-add.ensures.flows,
-          ))
+          c.loop-i.invariant w.in_ok-add.ensures)
       | else-admissible w ↦ rw w.network-is
           (pair_skip c.args.problem.now s c.loop-i.i c.new-worker.result limit next c.loop-i.network
           (omega arith) (omega arith) c.requires.split (omega arith)

@@ -15,7 +15,7 @@ returns-in_ok-add c = record {
       (257 * c.args.split + 257) c.add_pairs.new.network c.add.new.network
       (omega arith) c.requires.split (sym c.is_pending.ensures ∙ c.if-is_pending.true)
       c.in_ok-add_pairs.ensures.built
-      (c.in_ok-add.ensures.layout, c.in_ok-add.ensures.arcs, c.in_ok-add.ensures.flows);
+      c.in_ok-add.ensures;
 }
 
 pub returns-else-is_pending : goal.returns-else-is_pending

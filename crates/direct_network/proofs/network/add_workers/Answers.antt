@@ -7,4 +7,4 @@ loop-i-preserved c =
     slot_step c.args.problem.now c.loop-i.i c.new.result (257 * length c.args.problem.now.splits + c.loop-i.i)
     (257 * length c.args.problem.now.splits + (c.loop-i.i + 1)) c.loop-i.network c.add.new.network
     (omega arith) (omega arith) (omega arith) c.loop-i.invariant
-    (c.in_ok-add.ensures.layout, c.in_ok-add.ensures.arcs, c.in_ok-add.ensures.flows)
+    c.in_ok-add.ensures

@@ -15,11 +15,11 @@ returns-clause-arcs c =
     let limit : ℕ = 257 * length c.args.problem.now.splits + length c.args.problem.now.workers in
     is_direct c.args.problem.now limit (limit + 1) c.add_workers.new.network c.add.new.network
     (omega arith) c.in_ok-add_workers.ensures
-    (c.in_ok-add.ensures.layout, c.in_ok-add.ensures.arcs, c.in_ok-add.ensures.flows)
+    c.in_ok-add.ensures
 
 pub returns-clause-empty : goal.returns-clause-empty
 returns-clause-empty c =
     let limit : ℕ = 257 * length c.args.problem.now.splits + length c.args.problem.now.workers in
     is_empty c.args.problem.now limit (limit + 1) c.add_workers.new.network c.add.new.network
     (omega arith) c.in_ok-add_workers.ensures
-    (c.in_ok-add.ensures.layout, c.in_ok-add.ensures.arcs, c.in_ok-add.ensures.flows)
+    c.in_ok-add.ensures

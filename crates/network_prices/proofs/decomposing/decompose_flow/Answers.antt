@@ -1,25 +1,31 @@
-use Rattle.network_prices.proofs.Units.{enough_stand, to_sink, moved_on}
+use Rattle.std.proofs.Common.{refl, arith}
+use Rattle.flow_network.specs.Flows.{arc_at}
+use Rattle.network_prices.proofs.Units.{enough_stand, handed_on, none_moved}
 use Rattle.network_prices.proofs.decomposing.decompose_flow.Goals as goal
-use Rattle.network_prices.proofs.decomposing.decompose_flow.Goals.{then-arc-sink, else-arc-sink}
+use Rattle.network_prices.proofs.decomposing.decompose_flow.Goals.{then-units-gt0, else-units-gt0}
 
-pub move_units-requires : goal.move_units-requires
-move_units-requires c =
+pub hand_on-requires : goal.hand_on-requires
+hand_on-requires c =
     enough_stand c.args.arcs.now c.args.flows.now c.args.sink c.args.places.now c.loop-k.places c.requires
-    c.loop-k.k c.loop-k-test.true c.loop-k.invariant.1 c.if-arc-sink.true
+    c.loop-k.k c.loop-k-test.true c.loop-k.invariant.1
 
 pub loop-k-preserved : goal.loop-k-preserved
-loop-k-preserved c = elim c.if-arc-sink.branch [
-  | then-arc-sink w ↦ (
+loop-k-preserved c = elim c.if-units-gt0.branch [
+  | then-units-gt0 w ↦ (
     c.requires,
     rw w.places-is
-        (moved_on c.args.arcs.now c.args.flows.now c.args.sink c.args.places.now c.loop-k.places c.requires
-        c.loop-k.k c.loop-k-test.true c.loop-k.invariant.1 w.move_units.new.places w.if-arc-sink.true
-        w.move_units.ensures),
+        (handed_on c.args.arcs.now c.args.flows.now c.args.sink c.args.places.now c.loop-k.places c.requires
+        c.loop-k.k c.loop-k-test.true c.loop-k.invariant.1 w.hand_on.new.places w.hand_on.ensures.on
+        w.hand_on.ensures.stay),
   )
-  | else-arc-sink w ↦ (
+  | else-units-gt0 w ↦ (
     c.requires,
     rw w.places-is
-        (to_sink c.args.arcs.now c.args.flows.now c.args.sink c.args.places.now c.loop-k.places c.requires
-        c.loop-k.k c.loop-k-test.true c.loop-k.invariant.1 w.if-arc-sink.false),
+        (let none = w.if-units-gt0.false in
+        handed_on c.args.arcs.now c.args.flows.now c.args.sink c.args.places.now c.loop-k.places c.requires
+        c.loop-k.k c.loop-k-test.true c.loop-k.invariant.1 c.loop-k.places
+        (λ off. none_moved c.loop-k.places (arc_at c.args.arcs.now c.loop-k.k).from
+        (arc_at c.args.arcs.now c.loop-k.k).to _ (omega arith))
+        (λ at. refl)),
   )
 ]

@@ -13,11 +13,10 @@ add-requires-clause-room c =
     let wave = c.args.problem.now in
     let racks : ℕ = length wave.tree.centre_of in
     let limit = c.loop-i.invariant.frame.arc_limit in
-    let splits = c.splits-splits.ensures.most in
-    let centres = c.centres-centres.ensures.most in
-    let count_centres = c.centres-centres.ensures.count in
-    let centre_tree = ap (λ (t : Tree). t.centres) c.tree-tree.ensures.tree in
-    let some = c.racks-i-end.ensures.most in
+    let few = c.know_sizes.ensures in
+    let splits = few.splits in
+    let centres = few.centres in
+    let some = few.racks in
     let count = c.racks-i-end.ensures.count in
     let tree = ap (λ (t : Tree). length t.centre_of) c.tree-tree.ensures.tree in
     let up = place-mono (centre_of wave) c.args.centre c.loop-i.i racks (omega arith) in
@@ -53,7 +52,7 @@ loop-i-preserved c =
           let one = place_more (centre_of wave) d c.loop-i.i (ap (centre_of wave) (sym same) ∙ here) in
           branch_step wave c.requires.tree d c.loop-i.i rack now then c.loop-i.network w.add.new.network
           c.requires.centre same (omega arith) (omega arith) here c.loop-i.invariant
-          (w.in_ok-add.ensures.layout, w.in_ok-add.ensures.arcs, w.in_ok-add.ensures.flows))
+          w.in_ok-add.ensures)
       | else-eq w ↦ rw w.network-is
           (let more = place-le (centre_of wave) d c.loop-i.i in
           branch_skip wave c.requires.tree d c.loop-i.i rack now then c.loop-i.network c.requires.centre same

@@ -1,6 +1,5 @@
 use Rattle.std.proofs.Common.{ℕ, ◌≡◌, ◌+◌, suc, length, sym, ap, ◌∙◌, subst, arith}
 use Rattle.std.proofs.lemmas.Bool.{false≢true}
-use Rattle.rack_tree.specs.Tree.{Tree}
 use Rattle.rack_network.specs.Racks.{rack_node, worker_node, rack_of}
 use Rattle.rack_network.specs.Build.{branch_arcs, in_place, in_places, IsBuilt}
 use Rattle.rack_network.proofs.Counts.{place_more, place-le, place-mono, places_more, places-le}
@@ -12,13 +11,10 @@ pub add-requires-clause-room : goal.add-requires-clause-room
 add-requires-clause-room c =
     let wave = c.args.problem.now in
     let limit = c.loop-i.invariant.frame.arc_limit in
-    let splits = c.splits-splits.ensures.most in
-    let centres = c.centres-centres.ensures.most in
-    let count_centres = c.centres-centres.ensures.count in
-    let centre_tree = ap (λ (t : Tree). t.centres) c.tree.ensures.tree in
-    let racks = c.racks-racks.ensures.most in
-    let count_racks = c.racks-racks.ensures.count in
-    let tree = ap (λ (t : Tree). length t.centre_of) c.tree-2.ensures.tree in
+    let few = c.know_sizes.ensures in
+    let splits = few.splits in
+    let centres = few.centres in
+    let racks = few.racks in
     let workers = c.workers-i-end.ensures.most in
     let count = c.workers-i-end.ensures.count in
     let up = place-mono (rack_of wave) c.args.rack c.loop-i.i (length wave.workers) (omega arith) in
@@ -51,11 +47,7 @@ loop-i-preserved c =
           let one = place_more (rack_of wave) r c.loop-i.i (ap (rack_of wave) (sym same) ∙ takes.1) in
           feed_step wave c.requires.tree r c.loop-i.i worker now then
           c.loop-i.network w.add.new.network c.requires.rack same (omega arith) (omega arith) takes.0 takes.1
-          c.loop-i.invariant (
-            w.in_ok-add.ensures.layout,
-            w.in_ok-add.ensures.arcs,
-            w.in_ok-add.ensures.flows,
-          ))
+          c.loop-i.invariant w.in_ok-add.ensures)
       | else-takes_from w ↦ rw w.network-is
           (let more = place-le (rack_of wave) r c.loop-i.i in
           feed_skip wave c.requires.tree r c.loop-i.i worker now then

@@ -9,4 +9,4 @@ loop-i-preserved c =
     slot_step wave c.requires.tree c.loop-i.i c.new.result (feed_arcs wave + c.loop-i.i)
     (feed_arcs wave + (c.loop-i.i + 1))
     c.loop-i.network c.add.new.network (omega arith) (omega arith) (omega arith) c.loop-i.invariant
-    (c.in_ok-add.ensures.layout, c.in_ok-add.ensures.arcs, c.in_ok-add.ensures.flows)
+    c.in_ok-add.ensures

@@ -19,7 +19,7 @@ loop-i-preserved c =
     trunk_step wave c.requires.tree c.requires.several c.loop-i.i c.new.result (split_arcs wave + c.loop-i.i)
     (split_arcs wave + (c.loop-i.i + 1)) c.loop-i.network c.add.new.network (omega arith) (omega arith)
     (omega arith)
-    c.loop-i.invariant (c.in_ok-add.ensures.layout, c.in_ok-add.ensures.arcs, c.in_ok-add.ensures.flows)
+    c.loop-i.invariant c.in_ok-add.ensures
 
 pub returns : goal.returns
 returns c =

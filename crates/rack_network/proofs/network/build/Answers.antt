@@ -9,7 +9,8 @@ pub add_splits-requires-clause-built : goal.add_splits-requires-clause-built
 add_splits-requires-clause-built c =
     let centres = ap (λ (t : Tree). t.centres) c.tree.ensures.tree in
     let racks = ap (λ (t : Tree). length t.centre_of) c.tree-2.ensures.tree in
-    none_yet c.args.problem.now c.know_tree.ensures c.in_ok-network.network
+    rw c.make_room_for_all.ensures
+    (none_yet c.args.problem.now c.know_tree.ensures c.in_ok-network.network
     (subst (IsSized c.args.problem.now) (sym c.in_ok-network.ensures.layout)
     (record {
       splits = c.splits.ensures.count;
@@ -17,7 +18,7 @@ add_splits-requires-clause-built c =
       racks = c.racks.ensures.count ∙ racks;
       workers = c.workers.ensures.count;
     }))
-    c.in_ok-network.ensures.arcs c.in_ok-network.ensures.flows
+    c.in_ok-network.ensures.arcs c.in_ok-network.ensures.flows)
 
 pub returns-clause-arcs : goal.returns-clause-arcs
 returns-clause-arcs c =
@@ -26,7 +27,7 @@ returns-clause-arcs c =
     record {
       rows = are_rows wave c.know_tree.ensures limit (limit + 1) c.add_slots.new.network c.add.new.network
           (omega arith) c.in_ok-add_slots.ensures.built
-          (c.in_ok-add.ensures.layout, c.in_ok-add.ensures.arcs, c.in_ok-add.ensures.flows);
+          c.in_ok-add.ensures;
       tree = c.know_tree.ensures;
     }
 
@@ -36,4 +37,4 @@ returns-clause-empty c =
     let limit : ℕ = feed_arcs wave + length wave.workers in
     are_empty wave c.know_tree.ensures limit (limit + 1) c.add_slots.new.network c.add.new.network
     (omega arith) c.in_ok-add_slots.ensures.built
-    (c.in_ok-add.ensures.layout, c.in_ok-add.ensures.arcs, c.in_ok-add.ensures.flows)
+    c.in_ok-add.ensures
