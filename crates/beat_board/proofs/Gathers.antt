@@ -21,42 +21,37 @@ use Rattle.beat_board.specs.Steps.{gathers}
 use Rattle.beat_board.proofs.Keeps.{Gathered, gathered}
 
 -- what one seat more brings is what the others lack
+one_more : {A B : Type 0} (f : A → ℕ) (g : B → ℕ) (old new : List A) (a : A) (x : B) (ys zs : List B)
+    → new ≡ old ++ a ∷ [] → f a ≡ g x → zs ≡ ys ++ x ∷ []
+    → sum_by f new + sum_by g ys ≡ sum_by f old + sum_by g zs
+one_more f g old new a x ys zs e one at =
+    omega (
+      arith,
+      one,
+      ap (sum_by f) e,
+      sum_by-append f old (a ∷ []),
+      ap (sum_by g) at,
+      sum_by-append g ys (x ∷ []),
+    )
+
 pub more_beats : (k : ℕ) (old new : View) (w n : ℕ) (told : List ℕ) (x : SeatValue) (ys zs : List SeatValue)
     → new ≡ gathers old (seated w n told) → w ≡ x.worker → n ≡ x.beats → zs ≡ ys ++ x ∷ []
     → beats_of k new.tallies + beats_by k ys ≡ beats_of k old.tallies + beats_by k zs
 more_beats k old new w n told x ys zs e is_w is_n at =
-    let f = λ (t : Tally). cond (t.worker == k) t.beats 0 in
-    let g = λ (s : SeatValue). cond (s.worker == k) s.beats 0 in
-    let one : f (tally w n told) ≡ g x = λ i. cond (is_w i == k) (is_n i) 0 in
-    let here = ap (λ (v : View). beats_of k v.tallies) e in
-    let there = ap (beats_by k) at in
-    omega (
-      arith,
-      one,
-      here,
-      sum_by-append f old.tallies (tally w n told ∷ []),
-      there,
-      sum_by-append g ys (x ∷ []),
-    )
+    one_more (λ (t : Tally). cond (t.worker == k) t.beats 0)
+    (λ (s : SeatValue). cond (s.worker == k) s.beats 0)
+    old.tallies new.tallies (tally w n told) x ys zs (ap (λ (v : View). v.tallies) e)
+    (λ i. cond (is_w i == k) (is_n i) 0) at
 
 pub more_told : (k : ℕ) (h : ℕ → ℕ) (old new : View) (w n : ℕ) (told : List ℕ) (x : SeatValue)
     (ys zs : List SeatValue)
     → new ≡ gathers old (seated w n told) → w ≡ x.worker → told ≡ x.told → zs ≡ ys ++ x ∷ []
     → told_of k h new.tallies + told_by k h ys ≡ told_of k h old.tallies + told_by k h zs
 more_told k h old new w n told x ys zs e is_w is at =
-    let f = λ (t : Tally). cond (t.worker == k) (sum_by h t.told) 0 in
-    let g = λ (s : SeatValue). cond (s.worker == k) (sum_by h s.told) 0 in
-    let one : f (tally w n told) ≡ g x = λ i. cond (is_w i == k) (sum_by h (is i)) 0 in
-    let here = ap (λ (v : View). told_of k h v.tallies) e in
-    let there = ap (told_by k h) at in
-    omega (
-      arith,
-      one,
-      here,
-      sum_by-append f old.tallies (tally w n told ∷ []),
-      there,
-      sum_by-append g ys (x ∷ []),
-    )
+    one_more (λ (t : Tally). cond (t.worker == k) (sum_by h t.told) 0)
+    (λ (s : SeatValue). cond (s.worker == k) (sum_by h s.told) 0)
+    old.tallies new.tallies (tally w n told) x ys zs (ap (λ (v : View). v.tallies) e)
+    (λ i. cond (is_w i == k) (sum_by h (is i)) 0) at
 
 pub remade : (v : View) (ts : List Tally) (n m made : ℕ) → v ≡ making ts [] n m → m ≡ made
     → v ≡ making v.tallies [] v.next made

@@ -252,15 +252,15 @@ pub three_true : (a b c d e f : ℕ) → (nat_lt a b && nat_le c d && nat_le e f
     (a < b) × (c ≤ d) × (e ≤ f)
 three_true a b c d e f all = (grind (arith, nat_tests), grind (arith, nat_tests), grind (arith, nat_tests))
 
-pub room_of : (es : List Entry) (cs : List (List ℕ)) (ss : List Start) (room : Limits) (strange full : Bool)
-    (hand : HandValue) (c s : ℕ) →
+pub room_of : {es : List Entry} {cs : List (List ℕ)} {ss : List Start} {room : Limits} {strange full : Bool}
+    {hand : HandValue} (c s : ℕ) →
     record { calls = calls_of es cs ss; room = room; strange = strange; full = full } ≡ hand →
     AreKept es cs ss room →
     has_room hand c s ≡ true → (length es < room.events) × (length cs + c ≤ room.sweeps)
     × (length ss + s ≤ room.attempts)
-room_of es cs ss room strange full hand c s view kept_lists has =
+room_of {es = es} {cs = cs} {ss = ss} {room = room} {strange = strange} {full = full} c s view lists has =
     three_true (length es) room.events (length cs + c) room.sweeps (length ss + s) room.attempts
-    (sym (has_room-is es cs ss room strange full c s kept_lists.counts_are kept_lists.starts_are)
+    (sym (has_room-is es cs ss room strange full c s lists.counts_are lists.starts_are)
     ∙ ap (λ (v : HandValue). has_room v c s) view ∙ has)
 
 pub first_false : (a b c d e f : ℕ) → b ≤ a → false ≡ (nat_lt a b && nat_le c d && nat_le e f)

@@ -17,7 +17,7 @@ ghost use Rattle.hand_ledger.specs.Marks.{Marks};
 ghost use Rattle.hand_ledger.specs.declared.marks.TheConstants.{PLACES};
 ghost use Rattle.hand_ledger.specs.Settling.{AreTrue, LastStands};
 
-use crate::logs::{Log, event_at};
+use crate::logs::{Log, are_same, event_at};
 use crate::making::Hands;
 use crate::marks::{Found, mark_all};
 use master_state::{Event, Limits, Start, Why};
@@ -140,10 +140,10 @@ impl<L: Ledger> Hand<L> {
         let Some(entry) = self.entries.last() else {
             return true;
         };
-        let Some(event) = event_at(history, entry.place) else {
-            return false;
-        };
-        event == entry.event
+        match event_at(history, entry.place) {
+            Some(event) => are_same(event, &entry.event),
+            None => false,
+        }
     }
 
     /// Whether it has room for a call more, with so many counts and starts.
@@ -175,20 +175,23 @@ impl<L: Ledger> Hand<L> {
         &mut self,
         hands: &mut Hands<L>,
         place: u32,
-        event: Event,
+        event: &Event,
         counts: &[[u64; 256]],
         starts: &[Start],
     )
         requires place { IsPlace place }
-        requires counts { length counts.now ≡ counts_in event }
-        requires starts { length starts.now ≡ starts_in event }
-        requires room { has_room self.old (counts_in event) (starts_in event) ≡ true }
-        ensures value { self.new ≡ with_call self.old (kept place event counts.now starts.now) }
+        requires counts { length counts.now ≡ counts_in event.now }
+        requires starts { length starts.now ≡ starts_in event.now }
+        requires room { has_room self.old (counts_in event.now) (starts_in event.now) ≡ true }
+        ensures value { self.new ≡ with_call self.old (kept place event.now counts.now starts.now) }
         ensures total { hands.new.total ≡ hands.old.total + 1 }
         ensures made { hands.new.made ≡ hands.old.made }
     {
         hands.book.add(&mut self.share, 1);
-        self.entries.push_reserved(Entry { place, event });
+        self.entries.push_reserved(Entry {
+            place,
+            event: *event,
+        });
         add_all(&mut self.counts, counts);
         add_all(&mut self.starts, starts);
     }

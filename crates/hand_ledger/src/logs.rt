@@ -1,4 +1,5 @@
 ghost use Rattle.std.specs.Prelude.{◌≡◌, ◌<◌, ◌≤◌, ◌^◌, ◌↔◌, ◌∷◌, [], IsTrue, take, drop};
+ghost use Rattle.std.specs.Option.{option_copied};
 ghost use Rattle.hand_ledger.specs.Hands.{kept, counts_in, starts_in};
 ghost use Rattle.hand_ledger.specs.Settling.{call_at, event_at, counts_at, starts_at};
 
@@ -39,8 +40,8 @@ impl<'a> Log<'a> {
     }
 
     // The event at a place.
-    pub(crate) fn event_at(&self, place: u32) -> Option<Event>
-        ensures { result ≡ event_at self.now.history place }
+    pub(crate) fn event_at(&self, place: u32) -> Option<&'a Event>
+        ensures { option_copied result ≡ event_at self.now.history place }
     {
         event_at(self.history, place)
     }
@@ -54,13 +55,13 @@ impl<'a> Log<'a> {
         let Some(event) = self.event_at(entry.place) else {
             return false;
         };
-        if event != entry.event {
+        if !are_same(event, &entry.event) {
             return false;
         }
-        if self.counts_at(event) != counts {
+        if self.counts_at(*event) != counts {
             return false;
         }
-        self.starts_at(event) == starts
+        self.starts_at(*event) == starts
     }
 
     // The counts of a sweep.
@@ -87,13 +88,20 @@ impl<'a> Log<'a> {
 }
 
 // The event at a place. Places count from 1.
-pub(crate) fn event_at(history: &[Event], place: u32) -> Option<Event>
-    ensures { result ≡ event_at history.now place }
+pub(crate) fn event_at(history: &[Event], place: u32) -> Option<&Event>
+    ensures { option_copied result ≡ event_at history.now place }
 {
     if place == 0 {
         return None;
     }
-    history.get(place as usize - 1).copied()
+    history.get(place as usize - 1)
+}
+
+// Whether two events are one and the same.
+pub(crate) fn are_same(event: &Event, other: &Event) -> bool
+    ensures { IsTrue result ↔ (event.now ≡ other.now) }
+{
+    *event == *other
 }
 
 // How many counts stand for an event.

@@ -1,4 +1,5 @@
-ghost use Rattle.std.specs.Prelude.{◌≡◌, IfOk, IsTrue, true};
+ghost use Rattle.std.specs.Prelude.{◌≡◌, IfOk, IsErr, IsErrOf, IsTrue, true};
+ghost use Rattle.shuffle_reduce.specs.Merged.{HaveWord};
 ghost use Rattle.shuffle_reduce.specs.Indexed.{IsIndexOf};
 ghost use Rattle.master_state.specs.States.{Setup};
 ghost use Rattle.master_state.specs.Tests.{all_parts_done};
@@ -24,7 +25,8 @@ pub(crate) fn settled<L: Ledger>(closed: Closed<L>, hands: Vec<Hand<L>>) -> Resu
 
 // What has become of a job.
 pub(crate) fn record_of(alloc: Global, given: &Given, master: Master) -> Result<Record, RunError>
-    ensures { IfOk result (IsRecordOf given.now) }
+    ensures ok { IfOk result (IsRecordOf given.now) }
+    ensures memory { IsErrOf result RunError.Memory → HaveWord given.now.cluster.texts }
 {
     let index = if is_done(given, &master) {
         let Ok(index) = index_of(alloc, &master) else {
@@ -68,10 +70,12 @@ pub fn are_parts_done(master: &Master) -> bool
     master.glance().open_parts == 0
 }
 
-/// The index of the documents of a master all of whose parts are done, so that each has one result.
+/// The index of the documents of a master all of whose parts are done, so that each has one result. Where no
+/// text has a word it never wants memory.
 pub fn index_of(alloc: Global, master: &Master) -> Result<Index, AllocError>
     requires { all_parts_done master.now.state ≡ true }
-    ensures { IfOk result (IsIndexOf master.now.setup.cluster.texts) }
+    ensures index { IfOk result (IsIndexOf master.now.setup.cluster.texts) }
+    ensures memory { IsErr result → HaveWord master.now.setup.cluster.texts }
 {
     master.is_kept();
     let parts = master.cluster().parts();

@@ -137,27 +137,22 @@ forks port v items views h at =
     let half = deeper_sum h.depth v.depths in
     let power : 2 ^ more ≡ 2 ^ h.depth * 2 = pow-add 2 h.depth 1 in
     let deep = deeper_within h.depth v.depths old.within in
+    let forked : (s : View → ℕ) → s left ≡ s v → s right ≡ 0 →
+    sum_by s (set views port left ++ right ∷ []) ≡ sum_by s views =
+    λ s same none. omega (
+      arith,
+      same,
+      none,
+      sum_by-set s views port v left at,
+      sum_by-append s (set views port left) (right ∷ []),
+    ) in
     record {
       sent = h.sent;
       got = h.got;
       depth = more;
       line = h.line;
-      puts = λ f.
-          let s = λ (u : View). sum_by f u.puts in
-          omega (
-            arith,
-            h.puts f,
-            sum_by-set s views port v left at,
-            sum_by-append s (set views port left) (right ∷ []),
-          );
-      takes = λ f.
-          let s = λ (u : View). sum_by f u.takes in
-          omega (
-            arith,
-            h.takes f,
-            sum_by-set s views port v left at,
-            sum_by-append s (set views port left) (right ∷ []),
-          );
+      puts = λ f. omega (arith, h.puts f, forked (λ (u : View). sum_by f u.puts) refl refl);
+      takes = λ f. omega (arith, h.takes f, forked (λ (u : View). sum_by f u.takes) refl refl);
       whole =
           let changed = sum_by-set (weight more) views port v left at in
           let added = sum_by-append (weight more) (set views port left) (right ∷ []) in
@@ -209,35 +204,29 @@ merges port v other w items views h at apart there =
     (λ (t : (other ≡ port) × (u ≡ w)). absurd (apart t.0))
     (λ (t : (other ≢ port) × (get_elem? views other ≡ some w)). t.1)
     (at_set views port other u w there) in
+    let merged : (s : View → ℕ) → s u ≡ s v + s w → s spent ≡ 0 →
+    sum_by s (set views' other spent) ≡ sum_by s views =
+    λ s both none. omega (
+      arith,
+      both,
+      none,
+      sum_by-set s views port v u at,
+      sum_by-set s views' other w spent there,
+    ) in
     record {
       sent = h.sent;
       got = h.got;
       depth = h.depth;
       line = h.line;
       puts = λ f.
-          let s = λ (x : View). sum_by f x.puts in
-          let taken = sum_by-set s views port v u at in
-          omega (
-            arith,
-            h.puts f,
-            taken,
-            sum_by-set s views' other w spent there,
-            sum_by-append f v.puts w.puts,
-          );
+          let all = sum_by-append f v.puts w.puts in
+          omega (arith, h.puts f, merged (λ (x : View). sum_by f x.puts) all refl);
       takes = λ f.
-          let s = λ (x : View). sum_by f x.takes in
-          let taken = sum_by-set s views port v u at in
-          omega (
-            arith,
-            h.takes f,
-            taken,
-            sum_by-set s views' other w spent there,
-            sum_by-append f v.takes w.takes,
-          );
+          let all = sum_by-append f v.takes w.takes in
+          omega (arith, h.takes f, merged (λ (x : View). sum_by f x.takes) all refl);
       whole =
-          let taken = sum_by-set (weight h.depth) views port v u at in
-          let given = sum_by-set (weight h.depth) views' other w spent there in
-          omega (arith, h.whole, taken, given, sum_by-append (λ d. 2 ^ (h.depth - d)) v.depths w.depths);
+          let parts = sum_by-append (λ d. 2 ^ (h.depth - d)) v.depths w.depths in
+          omega (arith, h.whole, merged (weight h.depth) parts refl);
       each = each_set (Fits h.sent h.got h.depth) views' other spent
           (λ j x _ e. each_set (Fits h.sent h.got h.depth) views port u (λ i y _ a. h.each i y a)
           (joined h.sent h.got h.depth v w (h.each port v at) (h.each other w was)) j x e)

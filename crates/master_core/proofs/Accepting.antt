@@ -1,51 +1,56 @@
 -- A master after a call that it accepted.
-use Rattle.std.proofs.Common.{◌≡◌, ℕ, ◌+◌, ◌-◌, ◌^◌, ◌<◌, [], ◌∷◌, ◌++◌, length, Bool, true, false, not}
+use Rattle.std.proofs.Common.{◌≡◌, ℕ, ◌+◌, ◌-◌, ◌^◌, ◌<◌, List, [], ◌∷◌, ◌++◌, length, Bool, true, false, not}
 use Rattle.std.proofs.Common.{Option, None, refl, sym, ap, ◌∙◌, arith, subst}
 use Rattle.std.specs.Prelude.{vec_len, vec_capacity}
-use Rattle.std.proofs.lemmas.List.{length-append, length-map}
+use Rattle.std.specs.declared.alloc.Global.{Global}
+use Rattle.std.specs.declared.vec.Vec.{Vec}
+use Rattle.std.proofs.lemmas.List.{append-nil, length-append, length-map}
+use Rattle.shuffle_reduce.specs.Merged.{PartView}
 use Rattle.worker_table.specs.declared.Worker.{Worker}
+use Rattle.worker_table.specs.Workers.{Workers}
 use Rattle.master_state.specs.declared.answers.Why.{Why}
 use Rattle.master_state.specs.declared.events.Event.{Event}
+use Rattle.master_state.specs.declared.states.PartState.{PartState}
 use Rattle.master_state.specs.States.{Setup, State}
-use Rattle.master_state.specs.Refusals.{Call, IsKnown, first_true, is_full, reasons, refusal}
+use Rattle.master_state.specs.Refusals.{Call, IsKnown, PartDone, first_true, is_full, reasons, refusal}
 use Rattle.master_state.specs.Changes.{changed, counted}
-use Rattle.master_state.specs.Jobs.{Job, IsAccepted, event_of, added_by}
+use Rattle.master_state.specs.Jobs.{Job, IsAccepted, IsKept, event_of, added_by}
 use Rattle.master_state.proofs.Reasons.{NoneApplies, none_applies, room_left}
 use Rattle.master_state.proofs.Keeping.{calls_keep}
+use Rattle.master_tables.specs.declared.entries.SplitEntry.{SplitEntry}
 use Rattle.master_core.specs.declared.master.Master.TheInside.{Inside}
 use Rattle.master_core.specs.Inside.{setup_of, state_of, job_of, IsMaster, HasRoom}
 use Rattle.master_tables.specs.Kept.{AreOfSplits}
 
--- what is asked of a master's job holds of its tables
-pub worker_in_table : (m : Inside) (j : Job) (w : ℕ) → IsMaster m → job_of m ≡ j →
-    w < length j.setup.cluster.slots → w < length m.workers.each
-worker_in_table m j w was is known =
-    let here : w < length m.cluster.slots =
-    subst (λ (i : Job). w < length i.setup.cluster.slots) (sym is) known in
-    let same = length-map m.workers.each (λ (worker : Worker). worker.slots) in
-    omega (arith, here, same, ap length was.kept.tidy.slots)
+module _ {m : Inside} {j : Job} (was : IsMaster m) (is : job_of m ≡ j) where
+  -- what is asked of a master's job holds of its tables
+  pub worker_in_table : (w : ℕ) → w < length j.setup.cluster.slots → w < length m.workers.each
+  worker_in_table w known =
+      let here : w < length m.cluster.slots =
+      subst (λ (i : Job). w < length i.setup.cluster.slots) (sym is) known in
+      let same = length-map m.workers.each (λ (worker : Worker). worker.slots) in
+      omega (arith, here, same, ap length was.kept.tidy.slots)
 
-pub split_in_map : (m : Inside) (j : Job) (split : ℕ) → IsMaster m → job_of m ≡ j →
-    split < length j.setup.cluster.splits → split < length m.holders
-split_in_map m j split was is known =
-    let here : split < length m.cluster.splits =
-    subst (λ (i : Job). split < length i.setup.cluster.splits) (sym is) known in
-    omega (arith, here, was.kept.tidy.holders)
+  pub split_in_map : (split : ℕ) → split < length j.setup.cluster.splits → split < length m.holders
+  split_in_map split known =
+      let here : split < length m.cluster.splits =
+      subst (λ (i : Job). split < length i.setup.cluster.splits) (sym is) known in
+      omega (arith, here, was.kept.tidy.holders)
 
--- where a call is not refused, none of its tests is true of what the master keeps
-pub tests_of : (m : Inside) (j : Job) (call : Call) (why : Option Why) → job_of m ≡ j →
-    why ≡ refusal j.setup j.state call → why ≡ None → NoneApplies (reasons (setup_of m) (state_of m) call)
-tests_of m j call why is answer none =
-    none_applies (reasons (setup_of m) (state_of m) call)
-    (ap (λ (i : Job). refusal i.setup i.state call) is ∙ sym answer ∙ none)
+  -- where a call is not refused, none of its tests is true of what the master keeps
+  pub tests_of : (call : Call) {why : Option Why} → why ≡ refusal j.setup j.state call → why ≡ None →
+      NoneApplies (reasons (setup_of m) (state_of m) call)
+  tests_of call answer none =
+      none_applies (reasons (setup_of m) (state_of m) call)
+      (ap (λ (i : Job). refusal i.setup i.state call) is ∙ sym answer ∙ none)
 
 -- a history that is not full has room for an event
 pub record HasPlace (m : Inside) : Type 0 where
   pub room : vec_len m.history < vec_capacity m.history
   pub few : vec_len m.history < 2 ^ 32 - 1
 
-pub has_place : (m : Inside) → IsMaster m → is_full (setup_of m) (state_of m) ≡ false → HasPlace m
-has_place m was free =
+pub has_place : {m : Inside} → IsMaster m → is_full (setup_of m) (state_of m) ≡ false → HasPlace m
+has_place {m = m} was free =
     let left = room_left (setup_of m) (state_of m) free in
     record {
       room = omega (arith, left, was.room.events);
@@ -107,6 +112,12 @@ room_after old new was same =
       );
     }
 
+-- a master with other tables and another history, whose other lists are the same
+abbrev pub with_tables : Inside → Workers → List (List ℕ) → Vec SplitEntry Global → Vec PartState Global →
+    Vec Event Global → Inside
+with_tables m workers holders splits parts history =
+    record m { workers = workers; holders = holders; splits = splits; parts = parts; history = history }
+
 -- the tables after a change make a state of one event more
 pub leads_to : (old new : Inside) (made : State) (event : Event) →
     new.history.items ≡ old.history.items ++ event ∷ [] →
@@ -116,34 +127,56 @@ leads_to old new made event history change =
     (ap length history ∙ length-append old.history.items (event ∷ []))
     ∙ sym (ap counted change)
 
+-- the results of a master after a call
+abbrev pub results_after : List PartView → Call → List PartView
+results_after results (PartDone a result) = results ++ result ∷ []
+results_after results call = results
+
+results_are : (results : List PartView) (call : Call) → results_after results call ≡ results ++ added_by call
+results_are results (PartDone a result) = refl
+results_are results call = sym (append-nil results)
+
 -- what a master answers of a call that it accepted, and keeps after it
 pub record Follows (new : Inside) (j : Job) (call : Call) (place : ℕ) : Type 0 where
   pub accepted : IsAccepted j call place (job_of new)
   pub master : IsMaster new
 
--- so it is where no reason applies, the event is recorded and the change made, in lists that keep their rooms
-pub follows : (old new : Inside) (j : Job) (call : Call) (place : ℕ) → IsMaster old → job_of old ≡ j →
-    IsKnown j.setup call → refusal j.setup j.state call ≡ None → rooms_of new ≡ rooms_of old →
-    new.history.items ≡ old.history.items ++ event_of (state_of old) call ∷ [] →
-    place ≡ length old.history.items + 1 →
-    changed (state_of old) call ≡ record (state_of new) { events = length old.history.items } →
-    new.results.items ≡ old.results.items ++ added_by call → AreOfSplits (setup_of old) new.splits.items →
-    Follows new j call place
-follows old new j call place was is known allowed rooms history place_is change results made =
-    let setup = ap (λ (of : Rooms). of.setup) rooms in
-    let accepted : IsAccepted (job_of old) call place (job_of new) = record {
-      change = record {
-        known = subst (λ (i : Job). IsKnown i.setup call) (sym is) known;
-        allowed = ap (λ (i : Job). refusal i.setup i.state call) is ∙ allowed;
-        leads = leads_to old new (changed (state_of old) call) (event_of (state_of old) call) history change;
-      };
-      next = record { place_is = place_is; setup = setup; history = history; results = results };
-    } in
-    record {
-      accepted = subst (λ (i : Job). IsAccepted i call place (job_of new)) is accepted;
-      master = record {
-        kept = calls_keep (job_of old) (job_of new) call place was.kept accepted;
-        room = room_after old new was.room rooms;
-        made = subst (λ (s : Setup). AreOfSplits s new.splits.items) (sym setup) made;
-      };
-    }
+-- so it is where what is kept is kept, in lists that keep their rooms
+pub still_master : {old new : Inside} → IsMaster old → rooms_of new ≡ rooms_of old → IsKept (job_of new) →
+    AreOfSplits (setup_of old) new.splits.items → IsMaster new
+still_master {old = old} {new = new} was rooms kept made = record {
+  kept = kept;
+  room = room_after old new was.room rooms;
+  made = subst (λ (s : Setup). AreOfSplits s new.splits.items) (sym (ap (λ (of : Rooms). of.setup) rooms))
+      made;
+}
+
+-- and so where no reason applies, the event is recorded and the change made
+module _ {old new : Inside} {j : Job} {call : Call} {place : ℕ} (was : IsMaster old)
+    (is : job_of old ≡ j) where
+  pub follows : IsKnown j.setup call → refusal j.setup j.state call ≡ None → rooms_of new ≡ rooms_of old →
+      new.history.items ≡ old.history.items ++ event_of (state_of old) call ∷ [] →
+      place ≡ length old.history.items + 1 →
+      changed (state_of old) call ≡ record (state_of new) { events = length old.history.items } →
+      new.results.items ≡ results_after old.results.items call → AreOfSplits (setup_of old) new.splits.items →
+      Follows new j call place
+  follows known allowed rooms history place_is change results made =
+      let accepted : IsAccepted (job_of old) call place (job_of new) = record {
+        change = record {
+          known = subst (λ (i : Job). IsKnown i.setup call) (sym is) known;
+          allowed = ap (λ (i : Job). refusal i.setup i.state call) is ∙ allowed;
+          leads = leads_to old new (changed (state_of old) call) (event_of (state_of old) call) history
+              change;
+        };
+        next = record {
+          place_is = place_is;
+          setup = ap (λ (of : Rooms). of.setup) rooms;
+          history = history;
+          results = results ∙ results_are old.results.items call;
+        };
+      } in
+      record {
+        accepted = subst (λ (i : Job). IsAccepted i call place (job_of new)) is accepted;
+        master = still_master was rooms
+            (calls_keep (job_of old) (job_of new) call place was.kept accepted) made;
+      }

@@ -1,12 +1,11 @@
 -- A master after a wave that it committed.
-use Rattle.std.proofs.Common.{◌≡◌, ℕ, ◌+◌, List, [], ◌∷◌, ◌++◌, length, map, false, Bool, Option, sym, ap, ◌∙◌}
-use Rattle.std.proofs.Common.{subst}
+use Rattle.std.proofs.Common.{◌≡◌, ℕ, ◌+◌, List, [], ◌∷◌, ◌++◌, length, map, false, Bool, Option, sym, ap}
+use Rattle.std.proofs.Common.{◌∙◌, subst}
 use Rattle.std.specs.Prelude.{fold}
 use Rattle.std.proofs.lemmas.List.{append-nil}
 use Rattle.wave_problem.specs.Assignment.{IsBest, pairs_of, total}
 use Rattle.master_state.specs.declared.answers.Wave.{Wave}
 use Rattle.master_state.specs.declared.events.Event.TheVariants as events
-use Rattle.master_state.specs.States.{Setup}
 use Rattle.master_state.specs.Refusals.{has_no_room}
 use Rattle.master_state.specs.Changes.{split_started}
 use Rattle.master_state.specs.Steps.{problem_of}
@@ -19,7 +18,7 @@ use Rattle.master_tables.specs.Entries.{shown_as}
 use Rattle.master_core.specs.Inside.{setup_of, state_of, job_of, IsMaster}
 use Rattle.master_tables.specs.Kept.{AreOfSplits}
 use Rattle.master_tables.specs.Starting.{MayStart}
-use Rattle.master_core.proofs.Accepting.{Rooms, leads_to, room_after, rooms_of}
+use Rattle.master_core.proofs.Accepting.{Rooms, leads_to, rooms_of, still_master}
 use Rattle.master_tables.proofs.Starts.{may_start_of}
 
 -- what is asked of a plan, of what the master keeps
@@ -29,56 +28,53 @@ best_in j pairs = IsBest (problem_of j.setup j.state) pairs
 abbrev no_room_in : Job → ℕ → Bool
 no_room_in j count = has_no_room j.setup j.state count
 
+-- what a master answers of a plan that it committed, and keeps after it
+pub record Commits (new : Inside) (j : Job) (plan : List (Option ℕ)) (wave : Wave) : Type 0 where
+  pub committed : IsCommitted j plan wave (job_of new)
+  pub master : IsMaster new
+
 -- the pairs of a plan that is best may start
-pub best_may_start : (m : Inside) (j : Job) (pairs : List (ℕ × ℕ)) (count : ℕ) → IsMaster m →
-    job_of m ≡ j → best_in j pairs → count ≡ length pairs → no_room_in j count ≡ false →
+pub best_may_start : {m : Inside} {j : Job} {pairs : List (ℕ × ℕ)} {count : ℕ} → IsMaster m → job_of m ≡ j →
+    best_in j pairs → count ≡ length pairs → no_room_in j count ≡ false →
     MayStart m.workers (map shown_as m.splits.items) pairs
-best_may_start m j pairs count was is best many free =
+best_may_start {m = m} {j = j} {pairs = pairs} was is best many free =
     let here = subst (λ (i : Job). best_in i pairs) (sym is) best in
     may_start_of (setup_of m) (state_of m) pairs
     (are_starts (setup_of m) (state_of m) pairs was.kept.tidy here.assignment
     (attempts_left (setup_of m) (state_of m) (length pairs)
     (ap (λ (i : Job). no_room_in i (length pairs)) is ∙ ap (no_room_in j) (sym many) ∙ free)).1)
 
--- what a master answers of a plan that it committed, and keeps after it
-pub record Commits (new : Inside) (j : Job) (plan : List (Option ℕ)) (wave : Wave) : Type 0 where
-  pub committed : IsCommitted j plan wave (job_of new)
-  pub master : IsMaster new
-
-pub commits : (old new : Inside) (j : Job) (plan : List (Option ℕ)) (wave : Wave) → IsMaster old →
-    job_of old ≡ j → best_in j (pairs_of plan) → no_room_in j wave.count ≡ false →
-    wave.first ≡ length old.starts.items + 1 → wave.count ≡ length (pairs_of plan) →
-    wave.cost ≡ total (problem_of j.setup j.state) (pairs_of plan) → rooms_of new ≡ rooms_of old →
-    new.history.items ≡ old.history.items ++ events.Wave wave.first wave.count wave.cost ∷ [] →
-    wave.place ≡ length old.history.items + 1 →
-    fold (λ now pair. split_started now pair.0 pair.1) (state_of old) (pairs_of plan)
-    ≡ record (state_of new) { events = length old.history.items } →
-    new.results.items ≡ old.results.items → AreOfSplits (setup_of old) new.splits.items →
-    Commits new j plan wave
-commits old new j plan wave was is best free first count cost rooms history place change results made =
-    let setup = ap (λ (of : Rooms). of.setup) rooms in
-    let committed : IsCommitted (job_of old) plan wave (job_of new) = record {
-      change = record {
-        best = subst (λ (i : Job). best_in i (pairs_of plan)) (sym is) best;
-        room = ap (λ (i : Job). no_room_in i (length (pairs_of plan))) is ∙ ap (no_room_in j) (sym count)
-            ∙ free;
-        first_is = first;
-        count_is = count;
-        cost_is = cost ∙ ap (λ (i : Job). total (problem_of i.setup i.state) (pairs_of plan)) (sym is);
-        leads = leads_to old new _ _ history change;
-      };
-      next = record {
-        place_is = place;
-        setup = setup;
-        history = history;
-        results = results ∙ sym (append-nil old.results.items);
-      };
-    } in
-    record {
-      committed = subst (λ (i : Job). IsCommitted i plan wave (job_of new)) is committed;
-      master = record {
-        kept = waves_keep (job_of old) (job_of new) plan wave was.kept committed;
-        room = room_after old new was.room rooms;
-        made = subst (λ (s : Setup). AreOfSplits s new.splits.items) (sym setup) made;
-      };
-    }
+module _ {old new : Inside} {j : Job} {plan : List (Option ℕ)} {wave : Wave} (was : IsMaster old)
+    (is : job_of old ≡ j) where
+  pub commits : best_in j (pairs_of plan) → no_room_in j wave.count ≡ false →
+      wave.first ≡ length old.starts.items + 1 → wave.count ≡ length (pairs_of plan) →
+      wave.cost ≡ total (problem_of j.setup j.state) (pairs_of plan) → rooms_of new ≡ rooms_of old →
+      new.history.items ≡ old.history.items ++ events.Wave wave.first wave.count wave.cost ∷ [] →
+      wave.place ≡ length old.history.items + 1 →
+      fold (λ now pair. split_started now pair.0 pair.1) (state_of old) (pairs_of plan)
+      ≡ record (state_of new) { events = length old.history.items } →
+      new.results.items ≡ old.results.items → AreOfSplits (setup_of old) new.splits.items →
+      Commits new j plan wave
+  commits best free first count cost rooms history place change results made =
+      let committed : IsCommitted (job_of old) plan wave (job_of new) = record {
+        change = record {
+          best = subst (λ (i : Job). best_in i (pairs_of plan)) (sym is) best;
+          room = ap (λ (i : Job). no_room_in i (length (pairs_of plan))) is ∙ ap (no_room_in j) (sym count)
+              ∙ free;
+          first_is = first;
+          count_is = count;
+          cost_is = cost ∙ ap (λ (i : Job). total (problem_of i.setup i.state) (pairs_of plan)) (sym is);
+          leads = leads_to old new _ _ history change;
+        };
+        next = record {
+          place_is = place;
+          setup = ap (λ (of : Rooms). of.setup) rooms;
+          history = history;
+          results = results ∙ sym (append-nil old.results.items);
+        };
+      } in
+      record {
+        committed = subst (λ (i : Job). IsCommitted i plan wave (job_of new)) is committed;
+        master = still_master was rooms
+            (waves_keep (job_of old) (job_of new) plan wave was.kept committed) made;
+      }

@@ -15,7 +15,7 @@ use Rattle.word_map.proofs.TextLemmas.{Decides-same_text}
 use Rattle.shuffle_reduce.specs.Merged.{PartView}
 use Rattle.worker_table.specs.declared.Worker.{Worker}
 use Rattle.worker_table.specs.Workers.{Workers, taken_slots, with_slot_given}
-use Rattle.master_state.specs.declared.answers.Why.TheVariants.{WrongInput, HistoryFull}
+use Rattle.master_state.specs.declared.answers.Why.TheVariants.{OldAttempt, WrongInput, HistoryFull}
 use Rattle.master_state.specs.declared.states.Attempt.{Attempt}
 use Rattle.master_state.specs.declared.states.Work.{Work}
 use Rattle.master_state.specs.declared.states.Work.TheVariants as works
@@ -23,7 +23,7 @@ use Rattle.master_state.specs.declared.states.SplitState.{SplitState}
 use Rattle.master_state.specs.declared.states.SplitState.TheVariants as states
 use Rattle.master_state.specs.States.{Setup, State, start_of, worker_of}
 use Rattle.master_state.specs.Refusals.{MapDone, PartDone, first_true, is_full, is_wrong_map}
-use Rattle.master_state.specs.Refusals.{is_wrong_part, no_part_runs, no_split_runs, refusal, split_text}
+use Rattle.master_state.specs.Refusals.{is_wrong_part, refusal, split_text}
 use Rattle.master_state.specs.Tests.{attempts_of, is_numbered, split_at}
 use Rattle.master_state.specs.Changes.{done_by, part_done_by, with_map_done, with_part_done}
 use Rattle.master_state.specs.Tidy.{IsTidy, IsToldAs}
@@ -34,13 +34,14 @@ use Rattle.master_state.proofs.Running.{TakesSlot, split_takes_slots}
 use Rattle.master_state.proofs.Slots.{taken_given}
 use Rattle.master_tables.specs.declared.entries.SplitEntry.{SplitEntry}
 use Rattle.master_tables.specs.declared.entries.SplitEntry.TheVariants.{Done}
+use Rattle.master_core.specs.declared.attempts.Found.TheVariants.{Split, Part}
 use Rattle.master_core.specs.declared.master.Master.TheInside.{Inside}
+use Rattle.master_core.specs.Attempts.{IsFound}
 use Rattle.master_tables.specs.Entries.{shown_as}
-use Rattle.master_core.specs.Inside.{setup_of, state_of, job_of, IsMaster}
+use Rattle.master_core.specs.Inside.{job_of, IsMaster}
 use Rattle.master_tables.specs.Kept.{AreOfSplits, IsOfSplit}
 use Rattle.master_tables.specs.Places.{RunsPart, RunsSplit}
 use Rattle.master_tables.specs.Slots.{AreTaken, with_slots_given}
-use Rattle.master_core.proofs.Accepting.{is_false}
 use Rattle.master_core.proofs.Found.{tidy_at}
 use Rattle.master_tables.proofs.Showing.{shown-updated}
 
@@ -65,30 +66,27 @@ found_is s a w work (one ∷ attempts) start told any = elim (cases_Bool (is_num
 ]
 
 -- the first attempt that is done makes its split done
-done_to : (setup : Setup) (s : State) (a split w : ℕ) → IsTidy setup s → RunsSplit s a split w →
-    done_by a (split_at s split) ≡ states.Done (numbered a w)
-done_to setup s a split w tidy run =
-    ap (λ (found : Option Attempt). option_map_or states.Done found (split_at s split))
-    (found_is s a w (works.Split split) (attempts_of (split_at s split)) run.start (tidy.told split) run.runs)
+module _ {setup : Setup} {s : State} {a split w : ℕ} (tidy : IsTidy setup s)
+    (run : RunsSplit s a split w) where
+  pub done_is : with_map_done s a ≡ record s {
+    workers = with_slots_given s.workers (attempts_of (split_at s split));
+    splits = updated (λ _. states.Done (numbered a w)) s.splits split;
+  }
+  done_is =
+      let done_to : done_by a (split_at s split) ≡ states.Done (numbered a w) =
+      ap (λ (found : Option Attempt). option_map_or states.Done found (split_at s split))
+      (found_is s a w (works.Split split) (attempts_of (split_at s split)) run.start (tidy.told split)
+      run.runs) in
+      let places = done_at setup s a split w tidy run.start
+      ∙ updated-agree (done_by a) (λ _. states.Done (numbered a w)) s.splits split states.Pending done_to in
+      rw (split_running_is setup s a split tidy run.runs, places) refl
 
-pub done_is : (setup : Setup) (s : State) (a split w : ℕ) → IsTidy setup s → RunsSplit s a split w →
-    with_map_done s a ≡ record s {
-      workers = with_slots_given s.workers (attempts_of (split_at s split));
-      splits = updated (λ _. states.Done (numbered a w)) s.splits split;
-    }
-done_is setup s a split w tidy run =
-    let here = split_running_is setup s a split tidy run.runs in
-    let places = done_at setup s a split w tidy run.start
-    ∙ updated-agree (done_by a) (λ _. states.Done (numbered a w)) s.splits split states.Pending
-    (done_to setup s a split w tidy run) in
-    rw (here, places) refl
-
-pub part_done_is : (setup : Setup) (s : State) (a r w : ℕ) → IsTidy setup s → RunsPart s a r w →
+pub part_done_is : {setup : Setup} {s : State} {a r w : ℕ} → IsTidy setup s → RunsPart s a r w →
     with_part_done s a ≡ record s {
       workers = with_slot_given s.workers w;
       parts = updated (part_done_by a) s.parts r;
     }
-part_done_is setup s a r w tidy run =
+part_done_is {setup = setup} {s = s} {a = a} {r = r} {w = w} tidy run =
     let on : worker_of s a ≡ w = ap worker_in run.start in
     rw (on, part_done_at setup s a r w tidy run.start) refl
 
@@ -162,39 +160,30 @@ made_done setup one made entries k of were split attempt result found = elim (ca
 ]
 
 -- why a result is refused that is of an attempt that runs, by what its tests say
-pub map_refusal : (m : Inside) (j : Job) (a split w : ℕ) (result : MapView) (wrong full test : Bool) →
-    IsMaster m → job_of m ≡ j → RunsSplit j.state a split w → true ≡ not (no_split_runs j.state a) →
-    ((setup : Setup) → setup.cluster ≡ m.cluster → test ≡ is_wrong_map setup split result) → test ≡ wrong →
-    is_full j.setup j.state ≡ full →
-    refusal j.setup j.state (MapDone a result) ≡ first_true ((wrong, WrongInput) ∷ (full, HistoryFull) ∷ [])
-map_refusal m j a split w result wrong full test was is run runs told tested filled =
-    rw (
-      is_false _ runs,
-      split_running_is j.setup j.state a split (tidy_at m j was is) run.runs,
-      sym (told j.setup (ap (λ (i : Job). i.setup.cluster) (sym is))) ∙ tested,
-      filled,
-    ) refl
+three_reasons : (old wrong full p q : Bool) → old ≡ false → wrong ≡ p → full ≡ q →
+    first_true ((old, OldAttempt) ∷ (wrong, WrongInput) ∷ (full, HistoryFull) ∷ [])
+    ≡ first_true ((p, WrongInput) ∷ (q, HistoryFull) ∷ [])
+three_reasons old wrong full p q ran is filled = rw (ran, is, filled) refl
 
-pub part_refusal : (m : Inside) (j : Job) (a r w : ℕ) (result : PartView) (wrong full test : Bool) →
-    IsMaster m → job_of m ≡ j → RunsPart j.state a r w → true ≡ not (no_part_runs j.state a) →
-    ((setup : Setup) → setup.cluster ≡ m.cluster → test ≡ is_wrong_part setup r result) → test ≡ wrong →
-    is_full j.setup j.state ≡ full →
-    refusal j.setup j.state (PartDone a result) ≡ first_true ((wrong, WrongInput) ∷ (full, HistoryFull) ∷ [])
-part_refusal m j a r w result wrong full test was is run runs told tested filled =
-    rw (
-      is_false _ runs,
-      part_running_is j.setup j.state a r (tidy_at m j was is) run.runs,
-      sym (told j.setup (ap (λ (i : Job). i.setup.cluster) (sym is))) ∙ tested,
-      filled,
-    ) refl
+module _ {m : Inside} {j : Job} {a k w : ℕ} {test wrong full : Bool} (was : IsMaster m)
+    (is : job_of m ≡ j) where
+  pub map_refusal : (result : MapView) → IsFound j.state a (Split (record { split = k; worker = w })) →
+      ((setup : Setup) → setup.cluster ≡ m.cluster → test ≡ is_wrong_map setup k result) → test ≡ wrong →
+      is_full j.setup j.state ≡ full →
+      refusal j.setup j.state (MapDone a result) ≡ first_true ((wrong, WrongInput) ∷ (full, HistoryFull) ∷ [])
+  map_refusal result found told tested filled =
+      three_reasons _ _ _ _ _ found.1
+      (ap (λ n. is_wrong_map j.setup n result)
+      (split_running_is j.setup j.state a k (tidy_at was is) found.0.runs)
+      ∙ sym (told j.setup (ap (λ (i : Job). i.setup.cluster) (sym is))) ∙ tested) filled
 
--- a split that is done, in a master's tables
-pub done_made : (m : Inside) (workers : Workers) (entries : List SplitEntry) (a split w : ℕ)
-    (entry : SplitEntry) (result : MapView) → IsMaster m → RunsSplit (state_of m) a split w →
-    shown_as entry ≡ split_at (state_of m) split →
-    workers ≡ with_slots_given m.workers (attempts_of (shown_as entry)) →
-    entries ≡ updated (λ _. Done (numbered a w) result) m.splits.items split →
-    with_map_done (state_of m) a ≡ record (state_of m) { workers = workers; splits = map shown_as entries }
-done_made m workers entries a split w entry result was run at given made =
-    done_is (setup_of m) (state_of m) a split w was.kept.tidy run
-    ∙ rw (given, at, made, shown-done_at (numbered a w) result m.splits.items split) refl
+  pub part_refusal : (result : PartView) → IsFound j.state a (Part (record { part = k; worker = w })) →
+      ((setup : Setup) → setup.cluster ≡ m.cluster → test ≡ is_wrong_part setup k result) → test ≡ wrong →
+      is_full j.setup j.state ≡ full →
+      refusal j.setup j.state (PartDone a result)
+      ≡ first_true ((wrong, WrongInput) ∷ (full, HistoryFull) ∷ [])
+  part_refusal result found told tested filled =
+      three_reasons _ _ _ _ _ found.2
+      (ap (λ n. is_wrong_part j.setup n result)
+      (part_running_is j.setup j.state a k (tidy_at was is) found.0.runs)
+      ∙ sym (told j.setup (ap (λ (i : Job). i.setup.cluster) (sym is))) ∙ tested) filled

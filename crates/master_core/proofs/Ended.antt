@@ -1,30 +1,43 @@
 -- The end of an attempt that a split or a part runs.
-use Rattle.std.proofs.Common.{◌≡◌, ℕ, ◌<◌, List, true, Option, Some, refl}
-use Rattle.std.proofs.Common.{ap, ◌∙◌, sym, subst, length, All}
+use Rattle.std.proofs.Common.{◌≡◌, ℕ, ◌<◌, List, true, false, Option, None, Some, refl}
+use Rattle.std.proofs.Common.{ap, ◌∙◌, sym, subst, arith, length, All}
 use Rattle.std.specs.Option.{option_map_or}
 use Rattle.std.specs.List.{list_any}
 use Rattle.std.proofs.lemmas.Bool.{eqb-true}
 use Rattle.std.proofs.lemmas.List.Folds.{Any-from_list_any}
 use Rattle.node_ids.specs.Updates.{updated}
-use Rattle.worker_table.specs.Workers.{with_slot_given, with_bar, taken_slots}
+use Rattle.shuffle_reduce.specs.Merged.{PartView}
+use Rattle.worker_table.specs.Workers.{with_slot_given, taken_slots}
 use Rattle.master_state.specs.declared.states.Attempt.{Attempt}
 use Rattle.master_state.specs.declared.states.Start.{Start}
 use Rattle.master_state.specs.declared.states.Work.{Work}
 use Rattle.master_state.specs.declared.states.Work.TheVariants as works
 use Rattle.master_state.specs.States.{Setup, State, start_of, worker_of}
 use Rattle.master_state.specs.Tests.{is_numbered, attempts_of, part_attempts, split_at, part_at}
-use Rattle.master_state.specs.Changes.{without_attempts, part_without, without_attempt, with_map_failed}
+use Rattle.master_state.specs.Refusals.{Call, IsKnown, is_full, no_part_runs, no_split_runs, refusal}
+use Rattle.master_state.specs.Changes.{changed, without_attempts, part_without}
 use Rattle.master_state.specs.Tidy.{IsTidy, IsToldAs}
-use Rattle.master_state.proofs.Places.{split_running_is, without_at, part_without_at}
+use Rattle.master_state.specs.Jobs.{Job}
+use Rattle.master_state.proofs.Places.{split_inside, split_running_is, start_on, without_at, part_without_at}
+use Rattle.master_state.proofs.Problems.{length-each}
 use Rattle.master_state.proofs.Running.{TakesSlot, split_takes_slots, part_takes_slot}
+use Rattle.master_tables.specs.Entries.{entry_without}
+use Rattle.master_tables.specs.Kept.{AreOfSplits}
 use Rattle.master_tables.specs.Places.{RunsSplit, RunsPart}
+use Rattle.master_tables.proofs.Showing.{made_updated, end_makes_none}
+use Rattle.master_core.specs.declared.attempts.End.{End}
+use Rattle.master_core.specs.declared.attempts.End.TheVariants.{Failed, Withdrawn}
+use Rattle.master_core.specs.declared.master.Master.TheInside.{Inside}
+use Rattle.master_core.specs.Attempts.{freed_by, part_end, split_end}
+use Rattle.master_core.specs.Inside.{setup_of, state_of, job_of, IsMaster}
+use Rattle.master_core.proofs.Accepting.{results_after}
 
 abbrev on_worker : Option Start → ℕ
 on_worker start = option_map_or (λ one. one.worker) start 0
 
 -- the attempt takes a slot of the worker on which it runs
 takes : (s : State) (a w : ℕ) (work : Work) (attempts : List Attempt) →
-    start_of s a ≡ Some (record { work = work; worker = w }) → All (IsToldAs s work) attempts →
+    start_of s a ≡ Some (start_on work w) → All (IsToldAs s work) attempts →
     All (TakesSlot s.workers) attempts → list_any (is_numbered a) attempts ≡ true →
     TakesSlot s.workers (record { number = a; worker = w })
 takes s a w work attempts start told all any =
@@ -32,7 +45,7 @@ takes s a w work attempts start told all any =
     let number : found.1.number ≡ a = eqb-true found.1.number a found.4 in
     let here : TakesSlot s.workers found.1 =
     subst (TakesSlot s.workers) found.3 (all found.0 found.1 found.2) in
-    let begun : start_of s found.1.number ≡ Some (record { work = work; worker = found.1.worker }) =
+    let begun : start_of s found.1.number ≡ Some (start_on work found.1.worker) =
     subst (IsToldAs s work) found.3 (told found.0 found.1 found.2) in
     let worker : found.1.worker ≡ w =
     sym (ap on_worker begun) ∙ ap (λ (n : ℕ). on_worker (start_of s n)) number ∙ ap on_worker start in
@@ -41,46 +54,99 @@ takes s a w work attempts start told all any =
       taken = subst (λ (v : ℕ). 0 < taken_slots s.workers v) worker here.taken;
     }
 
-pub split_takes : (setup : Setup) (s : State) (a split w : ℕ) → IsTidy setup s → RunsSplit s a split w →
-    TakesSlot s.workers (record { number = a; worker = w })
-split_takes setup s a split w tidy run =
-    takes s a w (works.Split split) (attempts_of (split_at s split)) run.start (tidy.told split)
-    (split_takes_slots setup s split tidy) run.runs
-
-pub part_takes : (setup : Setup) (s : State) (a r w : ℕ) → IsTidy setup s → RunsPart s a r w →
-    TakesSlot s.workers (record { number = a; worker = w })
-part_takes setup s a r w tidy run =
-    takes s a w (works.Part r) (part_attempts (part_at s r)) run.start (tidy.told_parts r)
-    (part_takes_slot setup s r tidy) run.runs
-
 -- the end of an attempt as its place and its worker show it
-pub ended_is : (setup : Setup) (s : State) (a split w : ℕ) → IsTidy setup s → RunsSplit s a split w →
-    without_attempt s a ≡ record s {
-      workers = with_slot_given s.workers w;
-      splits = updated (without_attempts (is_numbered a)) s.splits split;
-    }
-ended_is setup s a split w tidy run =
-    let places = without_at setup s a split w tidy run.start in
-    let on : worker_of s a ≡ w = ap on_worker run.start in
-    rw (on, places.0, places.1) refl
+module _ {setup : Setup} {s : State} {a split w : ℕ} (tidy : IsTidy setup s)
+    (run : RunsSplit s a split w) where
+  pub split_ended : (end : End) → changed s (split_end end a) ≡ record s {
+    workers = freed_by end s.workers split w;
+    splits = updated (without_attempts (is_numbered a)) s.splits split;
+  }
+  split_ended Failed =
+      let places = without_at setup s a split w tidy run.start in
+      let on : worker_of s a ≡ w = ap on_worker run.start in
+      rw (on, split_running_is setup s a split tidy run.runs, places.0, places.1) refl
+  split_ended Withdrawn =
+      let places = without_at setup s a split w tidy run.start in
+      let on : worker_of s a ≡ w = ap on_worker run.start in
+      rw (on, places.0, places.1) refl
 
-pub failed_is : (setup : Setup) (s : State) (a split w : ℕ) → IsTidy setup s → RunsSplit s a split w →
-    with_map_failed s a ≡ record s {
-      workers = with_bar (with_slot_given s.workers w) split w;
-      splits = updated (without_attempts (is_numbered a)) s.splits split;
-    }
-failed_is setup s a split w tidy run =
-    let places = without_at setup s a split w tidy run.start in
-    let on : worker_of s a ≡ w = ap on_worker run.start in
-    let here = split_running_is setup s a split tidy run.runs in
-    rw (on, here, places.0, places.1) refl
-
-pub part_ended_is : (setup : Setup) (s : State) (a r w : ℕ) → IsTidy setup s → RunsPart s a r w →
-    without_attempt s a ≡ record s {
+pub part_ended : {setup : Setup} {s : State} {a r w : ℕ} → IsTidy setup s → RunsPart s a r w → (end : End) →
+    changed s (part_end end a) ≡ record s {
       workers = with_slot_given s.workers w;
       parts = updated (part_without (is_numbered a)) s.parts r;
     }
-part_ended_is setup s a r w tidy run =
+part_ended {setup = setup} {s = s} {a = a} {r = r} {w = w} tidy run end =
     let places = part_without_at setup s a r w tidy run.start in
     let on : worker_of s a ≡ w = ap on_worker run.start in
-    rw (on, places.0, places.1) refl
+    let is : changed s (part_end Withdrawn a) ≡ record s {
+      workers = with_slot_given s.workers w;
+      parts = updated (part_without (is_numbered a)) s.parts r;
+    } = rw (on, places.0, places.1) refl in
+    elim end as (λ e. changed s (part_end e a) ≡ record s {
+      workers = with_slot_given s.workers w;
+      parts = updated (part_without (is_numbered a)) s.parts r;
+    }) [ Failed ↦ is | Withdrawn ↦ is ]
+
+-- such a call asks for nothing and adds no result
+pub record IsPlain (setup : Setup) (s : State) (call : Call) : Type 0 where
+  pub known : IsKnown setup call
+  pub allowed : refusal setup s call ≡ None
+  pub results : (results : List PartView) → results ≡ results_after results call
+
+module _ (setup : Setup) (s : State) (a : ℕ) where
+  pub split_plain : (end : End) → no_split_runs s a ≡ false → is_full setup s ≡ false →
+      IsPlain setup s (split_end end a)
+  split_plain Failed ran room = record { known = tt; allowed = rw (ran, room) refl; results = λ _. refl }
+  split_plain Withdrawn ran room = record { known = tt; allowed = rw (ran, room) refl; results = λ _. refl }
+
+  pub part_plain : (end : End) → no_split_runs s a ≡ true → no_part_runs s a ≡ false →
+      is_full setup s ≡ false → IsPlain setup s (part_end end a)
+  part_plain Failed none ran room = record { known = tt; allowed = rw (ran, room) refl; results = λ _. refl }
+  part_plain Withdrawn none ran room =
+      record { known = tt; allowed = rw (none, ran, room) refl; results = λ _. refl }
+
+module _ {m : Inside} {j : Job} {a k w : ℕ} (was : IsMaster m) (is : job_of m ≡ j) where
+  -- what runs in a master's job runs in what it keeps
+  pub split_runs_in : RunsSplit j.state a k w → RunsSplit (state_of m) a k w
+  split_runs_in run = subst (λ (i : Job). RunsSplit i.state a k w) (sym is) run
+
+  pub part_runs_in : RunsPart j.state a k w → RunsPart (state_of m) a k w
+  part_runs_in run = subst (λ (i : Job). RunsPart i.state a k w) (sym is) run
+
+  -- and takes a slot of its worker there
+  pub split_slot : RunsSplit j.state a k w → TakesSlot m.workers (record { number = a; worker = w })
+  split_slot run =
+      let here = split_runs_in run in
+      takes (state_of m) a w (works.Split k) (attempts_of (split_at (state_of m) k)) here.start
+      (was.kept.tidy.told k) (split_takes_slots (setup_of m) (state_of m) k was.kept.tidy) here.runs
+
+  pub part_slot : RunsPart j.state a k w → TakesSlot m.workers (record { number = a; worker = w })
+  part_slot run =
+      let here = part_runs_in run in
+      takes (state_of m) a w (works.Part k) (part_attempts (part_at (state_of m) k)) here.start
+      (was.kept.tidy.told_parts k) (part_takes_slot (setup_of m) (state_of m) k was.kept.tidy) here.runs
+
+  -- the split is one of at most 1,024, and the worker one of at most 256
+  pub few_found : RunsSplit j.state a k w → (k < 1024) × (w < 256)
+  few_found run =
+      let here = split_runs_in run in (
+        omega (
+          arith,
+          split_inside (state_of m) a k here.runs,
+          was.kept.tidy.splits,
+          was.kept.whole.few_splits,
+        ),
+        omega (
+          arith,
+          (split_slot run).known,
+          length-each (setup_of m) (state_of m) was.kept.whole was.kept.tidy,
+          was.kept.whole.tree.workers,
+        ),
+      )
+
+-- the end of an attempt drops no result
+pub made_ended : {m : Inside} (a split : ℕ) → IsMaster m →
+    AreOfSplits (setup_of m) (updated (entry_without (is_numbered a)) m.splits.items split)
+made_ended {m = m} a split was =
+    made_updated (setup_of m) (entry_without (is_numbered a)) m.splits.items split
+    (end_makes_none (is_numbered a)) was.made

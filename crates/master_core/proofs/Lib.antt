@@ -1,14 +1,12 @@
 pub mod Whole
 pub mod Ended
 pub mod Found
-pub mod Failing
 pub mod Opening
 pub mod Accepting
 pub mod Completing
 pub mod ResultRoom
 pub mod Handed
 pub mod Burying
-pub mod Backing
 pub mod Committing
 pub mod Present
 pub mod Replying

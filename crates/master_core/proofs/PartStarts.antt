@@ -56,9 +56,9 @@ pub record IsNextIn (m : Inside) (r w : ℕ) : Type 0 where
   pub worker : w < length m.workers.each
   pub free : 0 < free_slots m.workers w
 
-pub next_in : (m : Inside) (j : Job) (r w : ℕ) → IsMaster m → job_of m ≡ j →
+pub next_in : {m : Inside} {j : Job} {r w : ℕ} → IsMaster m → job_of m ≡ j →
     is_not_reducible j.state ≡ false → r ≡ next_part j.state → w ≡ next_worker j.state → IsNextIn m r w
-next_in m j r w was is may_start at on =
+next_in {m = m} {r = r} {w = w} was is may_start at on =
     let ready : is_not_reducible (state_of m) ≡ false =
     ap (λ (i : Job). is_not_reducible i.state) is ∙ may_start in
     let part_is : r ≡ next_part (state_of m) = at ∙ ap (λ (i : Job). next_part i.state) (sym is) in
@@ -75,18 +75,18 @@ next_in m j r w was is may_start at on =
     }
 
 -- the tables after the start make the state after the call
-pub reduce_started_is : (s : State) (workers : Workers) (parts : List PartState) (starts : List Start)
-    (r n w : ℕ) → n ≡ next_attempt s → r ≡ next_part s → w ≡ next_worker s →
+pub reduce_started_is : (s : State) {workers : Workers} {parts : List PartState} {starts : List Start}
+    {r n w : ℕ} → n ≡ next_attempt s → r ≡ next_part s → w ≡ next_worker s →
     workers ≡ with_slot_taken s.workers w →
     parts ≡ updated (λ _. part.Running (record { number = n; worker = w })) s.parts r →
     starts ≡ s.starts ++ record { work = works.Part r; worker = w } ∷ [] →
     with_reduce_started s ≡ record s { workers = workers; parts = parts; starts = starts }
-reduce_started_is s workers parts starts r n w number at on taken ran told =
+reduce_started_is s number at on taken ran told =
     rw (taken, ran, told, number, at, on) refl
 
 -- there is an entry for each text
-pub entry_of_each : (m : Inside) → IsMaster m → length m.splits.items ≡ length m.cluster.texts
-entry_of_each m was = omega (
+pub entry_of_each : {m : Inside} → IsMaster m → length m.splits.items ≡ length m.cluster.texts
+entry_of_each {m = m} was = omega (
   arith,
   was.kept.tidy.splits,
   length-map m.splits.items shown_as,

@@ -133,9 +133,9 @@ not_done a (part.Running attempt) run = refl
 not_done a part.Done run = absurd (false≢true run)
 
 -- so there is room for the result of a part that runs
-pub result_room : (m : Inside) (a r w : ℕ) → IsMaster m → RunsPart (state_of m) a r w →
+pub result_room : {m : Inside} {a r w : ℕ} → IsMaster m → RunsPart (state_of m) a r w →
     vec_len m.results < vec_capacity m.results
-result_room m a r w was run =
+result_room {m = m} {a = a} {r = r} was run =
     omega (
       arith,
       few_results (setup_of m) (state_of m) m.results.items r was.kept.results

@@ -1,3 +1,4 @@
+pub mod Attempts
 pub mod Clusters
 pub mod Inside
 pub mod Starts

@@ -6,9 +6,11 @@
 //! tables of `master_tables`.
 #![tactic(auto)]
 
+mod attempts;
 pub mod cluster;
 mod holders;
 mod inputs;
+mod lists;
 pub mod master;
 mod reducing;
 

@@ -1,63 +1,29 @@
-ghost use Rattle.std.specs.Prelude.{
-  ◌≡◌,
-  ◌≢◌,
-  ◌<◌,
-  ◌≤◌,
-  ◌↔◌,
-  [],
-  length,
-  not,
-  is_some,
-  Err,
-  IfOk,
-  IfSome,
-  IsTrue,
-  OnOk,
-  Some,
-  slice_get,
-  vec_capacity,
-};
+ghost use Rattle.std.specs.Prelude.{◌≡◌, ◌≢◌, ◌<◌, ◌≤◌, ◌↔◌, [], length, not, false, is_some, Err, IfErr};
+ghost use Rattle.std.specs.Prelude.{IfOk, IfSome, IsTrue, OnErr, OnOk, Some, slice_get};
 ghost use Rattle.wave_problem.specs.Assignment.{IsBest, pairs_of};
 ghost use Rattle.price_certificate.specs.declared.Condition.{Condition};
 ghost use Rattle.price_certificate.specs.Certificate.{IsFirstFailure};
 ghost use Rattle.certificate_checker.specs.Verdict.{IsCertified};
+ghost use Rattle.flow_network.specs.declared.kinds.NetworkKind.{NetworkKind};
+ghost use Rattle.wave_planner.specs.Planned.{IsMadeOver};
 ghost use Rattle.shuffle_reduce.specs.Gather.{values_of};
 ghost use Rattle.block_map.specs.Copies.{AreCopies, holdings};
 ghost use Rattle.master_state.specs.States.{AreAllowed, opening, start_of};
 ghost use Rattle.master_state.specs.Tests.{next_part, next_worker};
 ghost use Rattle.master_state.specs.Steps.{problem_of};
-ghost use Rattle.master_state.specs.Refusals.{
-  Call,
-  IsKnown,
-  IsPair,
-  has_no_room,
-  has_no_sweep,
-  is_full,
-  is_not_backable,
-  is_not_reducible,
-  no_part_runs,
-  no_split_runs,
-  refusal,
-};
-ghost use Rattle.master_state.specs.Jobs.{
-  Answers,
-  AnswersBackup,
-  AnswersCommit,
-  AnswersReduce,
-  AnswersSweep,
-  AnswersWith,
-  AreResults,
-  IsGlance,
-  IsKept,
-  IsReady,
-  present,
-};
-ghost use Rattle.master_tables.specs.Places.{RunsPart, RunsSplit};
-ghost use Rattle.master_core.specs.Starts.{HasSizesOf};
+ghost use Rattle.master_state.specs.Refusals.{Call, IsKnown, IsPair, has_no_room, has_no_sweep, is_full};
+ghost use Rattle.master_state.specs.Refusals.{is_not_backable, is_not_reducible, refusal};
+ghost use Rattle.master_state.specs.Jobs.{Answers, AnswersBackup, AnswersCommit, AnswersReduce};
+ghost use Rattle.master_state.specs.Jobs.{AnswersSweep, AnswersWith, AreResults, IsCommitted, IsGlance};
+ghost use Rattle.master_state.specs.Jobs.{IsKept, IsReady, LacksRoomForBest, lacks_room, present};
+ghost use Rattle.master_core.specs.Attempts.{IsFound, part_end, split_end};
+ghost use Rattle.master_core.specs.Starts.{HasSizesOf, HasTotals};
 
+use crate::attempts::{End, Found, free_slot};
 use crate::cluster::Cluster;
 use crate::holders::first_holders;
 use crate::inputs::{is_wrong_map, is_wrong_part};
+use crate::lists::empty_lists;
 use crate::reducing::{NextPart, runs_of};
 use block_map::{BlockMap, CopyOrder};
 use certificate_checker::{Certified, certify};
@@ -84,7 +50,7 @@ use shuffle_reduce::PartResult;
 use std::alloc::{AllocError, Global};
 use std::marker::Model;
 use std::sync::Arc;
-use wave_planner::Planned;
+use wave_planner::{PlanError, Planned, plan};
 use wave_problem::{Plan, Problem};
 use word_map::{MapResult, SplitText};
 use worker_table::WorkerTable;
@@ -102,38 +68,6 @@ pub struct Master {
     starts: Vec<Start>,
     sweeps: Vec<[u64; 256]>,
     history: Vec<Event>,
-}
-
-// The lists that a master fills, as its history grows.
-#[derive(Drop)]
-struct Lists {
-    results: Vec<PartResult>,
-    starts: Vec<Start>,
-    sweeps: Vec<[u64; 256]>,
-    history: Vec<Event>,
-}
-
-// Empty lists, with room for a result of each part and for all that the limits allow.
-fn empty_lists(alloc: Global, parts: usize, limits: Limits) -> Result<Lists, AllocError>
-    ensures results { IfOk result (λ lists. lists.results.items ≡ []) }
-    ensures starts { IfOk result (λ lists. lists.starts.items ≡ []) }
-    ensures sweeps { IfOk result (λ lists. lists.sweeps.items ≡ []) }
-    ensures history { IfOk result (λ lists. lists.history.items ≡ []) }
-    ensures parts { IfOk result (λ lists. vec_capacity lists.results ≡ parts) }
-    ensures attempts { IfOk result (λ lists. vec_capacity lists.starts ≡ limits.attempts) }
-    ensures counts { IfOk result (λ lists. vec_capacity lists.sweeps ≡ limits.sweeps) }
-    ensures events { IfOk result (λ lists. vec_capacity lists.history ≡ limits.events) }
-{
-    let results = Vec::with_capacity(alloc, parts)?;
-    let starts = Vec::with_capacity(alloc, limits.attempts as usize)?;
-    let sweeps = Vec::with_capacity(alloc, limits.sweeps as usize)?;
-    let history = Vec::with_capacity(alloc, limits.events as usize)?;
-    Ok(Lists {
-        results,
-        starts,
-        sweeps,
-        history,
-    })
 }
 
 impl Model for Master {
@@ -340,21 +274,71 @@ impl Master {
         requires { HasSizesOf self.old.setup plan.now prices.now }
         ensures { AnswersCommit self.old plan.now.starts prices.now result self.new }
     {
+        self.is_kept();
         if self.has_no_room(plan.count()) {
             return Err(CommitError::HistoryFull);
         }
         let certified = self.certified(alloc, plan, prices)?;
+        Ok(self.start_plan(plan, certified))
+    }
+
+    /// Plans the best wave of the present state, over the network with racks, and starts it: `problem`,
+    /// `plan` and `commit` in one call, so that what was certified is not certified once more, and is never
+    /// stale. It is tested in the order Memory, HistoryFull.
+    pub fn start_best(&mut self, alloc: Global) -> Result<(Planned, Wave), CommitError>
+        ensures over { IfOk result (λ p. IsMadeOver NetworkKind.Racks
+            (problem_of self.old.setup self.old.state) p.0.plan.starts p.0.prices) }
+        ensures committed { IfOk result (λ p. IsCommitted self.old p.0.plan.starts p.1 self.new) }
+        ensures full { result ≡ Err CommitError.HistoryFull → LacksRoomForBest self.old }
+        ensures fresh { (c : Condition) → result ≢ Err (CommitError.Stale c) }
+        ensures err { OnErr result (self.new ≡ self.old) }
+    {
+        let planned = self.best_plan(alloc)?;
+        if self.has_no_room(planned.plan().count()) {
+            return Err(CommitError::HistoryFull);
+        }
+        let wave = self.start_plan(planned.plan(), planned.certified());
+        Ok((planned, wave))
+    }
+
+    // A best plan of the present state, with the prices that show it.
+    fn best_plan(&self, alloc: Global) -> Result<Planned, CommitError>
+        ensures over { IfOk result (λ planned. IsMadeOver NetworkKind.Racks
+            (problem_of self.now.setup self.now.state) planned.plan.starts planned.prices) }
+        ensures best { IfOk result (λ planned.
+            IsBest (problem_of self.now.setup self.now.state) (pairs_of planned.plan.starts)) }
+        ensures counted { IfOk result (λ planned.
+            HasTotals self.now planned.plan.starts planned.certified) }
+        ensures sizes { IfOk result (λ planned. HasSizesOf self.now.setup planned.plan planned.prices) }
+        ensures memory { IfErr result (λ e. e ≡ CommitError.Memory) }
+    {
+        let Ok(problem) = self.problem(alloc) else {
+            return Err(CommitError::Memory);
+        };
+        match plan(alloc, &problem) {
+            Ok(planned) => Ok(planned),
+            Err(PlanError::Memory) => Err(CommitError::Memory),
+        }
+    }
+
+    // Starts the splits of a plan that is best in the present state, for which there is room.
+    fn start_plan(&mut self, plan: &Plan, certified: Certified) -> Wave
+        requires best { IsBest (problem_of self.old.setup self.old.state) (pairs_of plan.now.starts) }
+        requires counted { HasTotals self.old plan.now.starts certified }
+        requires room { lacks_room self.old plan.now.starts ≡ false }
+        ensures { IsCommitted self.old plan.now.starts result self.new }
+    {
         let first = AttemptNo::new(self.starts.len() as u32 + 1);
         let count = certified.count as u32;
         let cost = certified.cost;
         start_each(&mut self.workers, &mut self.splits, &mut self.starts, plan);
         let place = record_event(&mut self.history, Event::Wave { first, count, cost });
-        Ok(Wave {
+        Wave {
             place,
             first,
             count,
             cost,
-        })
+        }
     }
 
     // Whether the history has no place left, or there are fewer attempts left than these.
@@ -377,6 +361,7 @@ impl Master {
             IsCertified (present self.now plan.now.starts prices.now) certified) }
         ensures best { OnOk result
             (IsBest (problem_of self.now.setup self.now.state) (pairs_of plan.now.starts)) }
+        ensures counted { IfOk result (λ certified. HasTotals self.now plan.now.starts certified) }
         ensures stale { (c : Condition) → result ≡ Err (CommitError.Stale c)
             → IsFirstFailure (present self.now plan.now.starts prices.now) c }
         ensures room { result ≢ Err CommitError.HistoryFull }
@@ -561,77 +546,78 @@ impl Master {
     pub fn map_failed(&mut self, attempt: AttemptNo) -> Answer
         ensures { Answers self.old (Call.MapFailed attempt) result self.new }
     {
-        let Some(found) = self.running_split(attempt) else {
-            return Answer::Ignored(Why::OldAttempt);
-        };
-        if self.has_no_place() {
-            return Answer::Ignored(Why::HistoryFull);
+        match self.find(attempt) {
+            Found::Split(found) => self.end_split(found, attempt, End::Failed),
+            Found::Part(_) | Found::Nowhere => Answer::Ignored(Why::OldAttempt),
         }
-        end_attempt(&mut self.splits, found.split, attempt);
-        self.workers.give_slot(found.worker);
-        self.workers.bar(found.split, found.worker);
-        Answer::Accepted(record_event(&mut self.history, Event::MapFailed(attempt)))
-    }
-
-    /// Ends an attempt of a split or a part. Nothing is barred.
-    pub fn withdraw(&mut self, attempt: AttemptNo) -> Answer
-        ensures { Answers self.old (Call.Withdraw attempt) result self.new }
-    {
-        if let Some(found) = self.running_split(attempt) {
-            return self.withdraw_split(attempt, found);
-        }
-        if let Some(found) = self.running_part(attempt) {
-            return self.withdraw_part(attempt, found);
-        }
-        Answer::Ignored(Why::OldAttempt)
-    }
-
-    fn withdraw_split(&mut self, attempt: AttemptNo, found: RunningSplit) -> Answer
-        requires { RunsSplit self.old.state attempt found.split found.worker }
-        ensures { Answers self.old (Call.Withdraw attempt) result self.new }
-    {
-        if self.has_no_place() {
-            return Answer::Ignored(Why::HistoryFull);
-        }
-        end_attempt(&mut self.splits, found.split, attempt);
-        self.workers.give_slot(found.worker);
-        Answer::Accepted(record_event(&mut self.history, Event::Withdraw(attempt)))
-    }
-
-    fn withdraw_part(&mut self, attempt: AttemptNo, found: RunningPart) -> Answer
-        requires { RunsPart self.old.state attempt found.part found.worker }
-        ensures { Answers self.old (Call.Withdraw attempt) result self.new }
-    {
-        if self.has_no_place() {
-            return Answer::Ignored(Why::HistoryFull);
-        }
-        end_part_attempt(&mut self.parts, found.part, attempt);
-        self.workers.give_slot(found.worker);
-        Answer::Accepted(record_event(&mut self.history, Event::Withdraw(attempt)))
     }
 
     /// Ends a reduce attempt that failed. Nothing is barred.
     pub fn part_failed(&mut self, attempt: AttemptNo) -> Answer
         ensures { Answers self.old (Call.PartFailed attempt) result self.new }
     {
-        let Some(found) = self.running_part(attempt) else {
-            return Answer::Ignored(Why::OldAttempt);
-        };
+        match self.find(attempt) {
+            Found::Part(found) => self.end_part(found, attempt, End::Failed),
+            Found::Split(_) | Found::Nowhere => Answer::Ignored(Why::OldAttempt),
+        }
+    }
+
+    /// Ends an attempt of a split or a part. Nothing is barred.
+    pub fn withdraw(&mut self, attempt: AttemptNo) -> Answer
+        ensures { Answers self.old (Call.Withdraw attempt) result self.new }
+    {
+        match self.find(attempt) {
+            Found::Split(found) => self.end_split(found, attempt, End::Withdrawn),
+            Found::Part(found) => self.end_part(found, attempt, End::Withdrawn),
+            Found::Nowhere => Answer::Ignored(Why::OldAttempt),
+        }
+    }
+
+    // Ends the attempt that a split runs.
+    fn end_split(&mut self, found: RunningSplit, attempt: AttemptNo, end: End) -> Answer
+        requires { IsFound self.old.state attempt (Found.Split found) }
+        ensures { Answers self.old (split_end end attempt) result self.new }
+    {
+        if self.has_no_place() {
+            return Answer::Ignored(Why::HistoryFull);
+        }
+        end_attempt(&mut self.splits, found.split, attempt);
+        free_slot(&mut self.workers, found, end);
+        Answer::Accepted(record_event(&mut self.history, end.of_split(attempt)))
+    }
+
+    // Ends the attempt that a part runs.
+    fn end_part(&mut self, found: RunningPart, attempt: AttemptNo, end: End) -> Answer
+        requires { IsFound self.old.state attempt (Found.Part found) }
+        ensures { Answers self.old (part_end end attempt) result self.new }
+    {
         if self.has_no_place() {
             return Answer::Ignored(Why::HistoryFull);
         }
         end_part_attempt(&mut self.parts, found.part, attempt);
         self.workers.give_slot(found.worker);
-        Answer::Accepted(record_event(&mut self.history, Event::PartFailed(attempt)))
+        Answer::Accepted(record_event(&mut self.history, end.of_part(attempt)))
     }
 
     /// Makes the split done by the first of its attempts that is, and keeps what it made.
     pub fn map_done(&mut self, attempt: AttemptNo, made: MapResult) -> AnswerWith<MapResult>
         ensures { AnswersWith self.old (Call.MapDone attempt made) made result self.new }
     {
-        let Some(found) = self.running_split(attempt) else {
-            return AnswerWith::Ignored(Why::OldAttempt, made);
-        };
+        match self.find(attempt) {
+            Found::Split(found) => self.finish_split(found, attempt, made),
+            Found::Part(_) | Found::Nowhere => AnswerWith::Ignored(Why::OldAttempt, made),
+        }
+    }
+
+    fn finish_split(
+        &mut self,
+        found: RunningSplit,
+        attempt: AttemptNo,
+        made: MapResult,
+    ) -> AnswerWith<MapResult>
+        requires { IsFound self.old.state attempt (Found.Split found) }
+        ensures { AnswersWith self.old (Call.MapDone attempt made) made result self.new }
+    {
         if is_wrong_map(&self.cluster, found.split, &made) {
             return AnswerWith::Ignored(Why::WrongInput, made);
         }
@@ -651,9 +637,21 @@ impl Master {
     pub fn part_done(&mut self, attempt: AttemptNo, made: PartResult) -> AnswerWith<PartResult>
         ensures { AnswersWith self.old (Call.PartDone attempt made) made result self.new }
     {
-        let Some(found) = self.running_part(attempt) else {
-            return AnswerWith::Ignored(Why::OldAttempt, made);
-        };
+        match self.find(attempt) {
+            Found::Part(found) => self.finish_part(found, attempt, made),
+            Found::Split(_) | Found::Nowhere => AnswerWith::Ignored(Why::OldAttempt, made),
+        }
+    }
+
+    fn finish_part(
+        &mut self,
+        found: RunningPart,
+        attempt: AttemptNo,
+        made: PartResult,
+    ) -> AnswerWith<PartResult>
+        requires { IsFound self.old.state attempt (Found.Part found) }
+        ensures { AnswersWith self.old (Call.PartDone attempt made) made result self.new }
+    {
         if is_wrong_part(&self.cluster, found.part, &made) {
             return AnswerWith::Ignored(Why::WrongInput, made);
         }
@@ -735,39 +733,33 @@ impl Master {
             || !has_free_slot(&self.workers, worker)
     }
 
-    // The split that runs the attempt, if one does.
-    fn running_split(&self, attempt: AttemptNo) -> Option<RunningSplit>
-        ensures found { is_some result ≡ not (no_split_runs self.now.state attempt) }
-        ensures place { IfSome result (λ run. RunsSplit self.now.state attempt run.split run.worker) }
+    // Where the attempt runs.
+    fn find(&self, attempt: AttemptNo) -> Found
+        ensures { IsFound self.now.state attempt result }
     {
-        let splits = &self.splits;
-        let start = self.start(attempt)?;
-        let split = split_of(start.work)?;
-        if runs(&splits[split.index()], attempt) {
-            Some(RunningSplit {
-                split,
-                worker: start.worker,
-            })
-        } else {
-            None
-        }
-    }
-
-    // The part that runs the attempt, if one does.
-    fn running_part(&self, attempt: AttemptNo) -> Option<RunningPart>
-        ensures found { is_some result ≡ not (no_part_runs self.now.state attempt) }
-        ensures place { IfSome result (λ run. RunsPart self.now.state attempt run.part run.worker) }
-    {
-        let parts = &self.parts;
-        let start = self.start(attempt)?;
-        let part = part_of(start.work)?;
-        if part_runs(parts[part.index()], attempt) {
-            Some(RunningPart {
-                part,
-                worker: start.worker,
-            })
-        } else {
-            None
+        let (splits, parts) = (&self.splits, &self.parts);
+        let Some(start) = self.start(attempt) else {
+            return Found::Nowhere;
+        };
+        let worker = start.worker;
+        match split_of(start.work) {
+            Some(split) => {
+                if runs(&splits[split.index()], attempt) {
+                    Found::Split(RunningSplit { split, worker })
+                } else {
+                    Found::Nowhere
+                }
+            }
+            None => match part_of(start.work) {
+                Some(part) => {
+                    if part_runs(parts[part.index()], attempt) {
+                        Found::Part(RunningPart { part, worker })
+                    } else {
+                        Found::Nowhere
+                    }
+                }
+                None => Found::Nowhere,
+            },
         }
     }
 

@@ -4,7 +4,7 @@ use Rattle.std.specs.Prelude.{◌∷◌, ◌++◌, length, All, count_by, Option
 use Rattle.std.specs.declared.result.Result.{Result}
 use Rattle.node_ids.specs.Sets.{has_number}
 use Rattle.wave_problem.specs.Wave.{IsAdmissible}
-use Rattle.wave_problem.specs.Assignment.{pairs_of}
+use Rattle.wave_problem.specs.Assignment.{IsBest, pairs_of}
 use Rattle.price_certificate.specs.Certificate.{Claim, Certifies, IsFirstFailure, claim}
 use Rattle.price_certificate.specs.PriceList.{PriceList}
 use Rattle.shuffle_reduce.specs.Merged.{PartView, AreSameTexts}
@@ -131,6 +131,12 @@ pub record IsCommitted (old : Job) (plan : List (Option ℕ)) (wave : Wave) (new
 -- no place for the event is left, or fewer attempts than the plan starts
 abbrev pub lacks_room : Job → List (Option ℕ) → Bool
 lacks_room job plan = has_no_room job.setup job.state (length (pairs_of plan))
+
+-- a best plan of the present state starts more than there is room for
+pub record LacksRoomForBest (job : Job) : Type 0 where
+  pub plan : List (Option ℕ)
+  pub best : IsBest (problem_of job.setup job.state) (pairs_of plan)
+  pub full : lacks_room job plan ≡ true
 
 -- a plan and prices as a claim on the present state
 abbrev pub present : Job → List (Option ℕ) → PriceList → Claim

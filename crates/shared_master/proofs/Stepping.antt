@@ -1,5 +1,5 @@
 -- What a step under the lock says of the hand, of the book and to the caller.
-use Rattle.std.proofs.Common.{◌≡◌, ℕ, zero, suc, ◌+◌, ◌<◌, ◌≤◌, ◌-◌, get_or, Bool, true, false, ◌++◌, None}
+use Rattle.std.proofs.Common.{◌≡◌, ℕ, zero, suc, ◌+◌, ◌<◌, ◌≤◌, ◌-◌, get_or, true, ◌++◌, None}
 use Rattle.std.proofs.Common.{List, [], ◌∷◌, length, Some, All, refl, sym, ap, subst, ◌∙◌, arith, inl, inr}
 use Rattle.std.specs.Prelude.{slice_get}
 use Rattle.std.proofs.lemmas.Option.{slice_get_read, slice_get_within}
@@ -12,7 +12,6 @@ use Rattle.master_state.specs.declared.answers.BackupAnswer.TheVariants as backu
 use Rattle.master_state.specs.declared.answers.ReduceAnswer.{ReduceAnswer}
 use Rattle.master_state.specs.declared.answers.ReduceAnswer.TheVariants as reduced
 use Rattle.master_state.specs.declared.answers.Reply.{Reply}
-use Rattle.master_state.specs.declared.answers.Why.{Why}
 use Rattle.master_state.specs.declared.events.Event.{Event}
 use Rattle.master_state.specs.declared.events.Event.TheVariants as events
 use Rattle.master_state.specs.declared.states.Start.{Start}
@@ -22,16 +21,18 @@ use Rattle.master_state.specs.Tests.{next_part, next_worker}
 use Rattle.master_state.specs.Tidy.{IsStartOf}
 use Rattle.master_state.specs.Jobs.{Job, Answers, AnswersBackup, AnswersReduce, AnswersWith}
 use Rattle.master_state.specs.Jobs.{IsAccepted, IsKept, IsReply, event_of}
-use Rattle.master_state.specs.Refusals.{Call, Backup, ReduceStart}
+use Rattle.master_state.specs.Refusals.{Call, Add, Backup, ReduceStart}
 use Rattle.master_state.proofs.Lists.{All-right}
 use Rattle.hand_ledger.specs.Hands.{HandValue, Kept, counts_in, has_room, kept, last_place, starts_in}
 use Rattle.hand_ledger.specs.Hands.{with_call}
 use Rattle.hand_ledger.specs.Settling.{LastStands, event_at}
+use Rattle.shared_master.specs.declared.calls.PlainCall.{PlainCall}
+use Rattle.shared_master.specs.declared.calls.PlainCall.TheVariants as plain
 use Rattle.shared_master.specs.declared.sizes.Sizes.{Sizes}
 use Rattle.shared_master.specs.Steps.{answered, HasCounts, IsAt, IsBarrier, IsBehind, IsHandedBack, IsKeptAs}
 use Rattle.shared_master.specs.Steps.{IsKeptBackup, IsKeptReduce, IsLast, IsNextOf, IsOwn, IsReplyOf}
 use Rattle.shared_master.specs.Steps.{IsReduceStep, IsStep, NamesNext, Replies, plain_backup, plain_reduce}
-use Rattle.shared_master.specs.Steps.{plain_with}
+use Rattle.shared_master.specs.Steps.{call_of, plain_event, plain_with}
 
 -- the call was accepted, or the master is unchanged
 abbrev pub Takes : Job → Call → Answer → Job → Type 0
@@ -223,6 +224,14 @@ kept_as sizes old hand call counts given new after step = record {
   next = next_of sizes old hand call counts given new
       (behind_takes sizes old hand call (length counts) given new step.answer);
 }
+
+pub kept_plain : (sizes : Sizes) (old : Job) (hand : HandValue) (call : PlainCall) (given : Answer)
+    (new : Job) (after : HandValue) → IsStep sizes old hand (call_of call) [] given new after →
+    IsKeptAs hand (plain_event call) [] given after
+kept_plain sizes old hand (plain.Add split w) given new after step =
+    kept_as sizes old hand (Add split w) [] given new after step
+kept_plain sizes old hand call given new after step =
+    kept_as sizes old hand (call_of call) [] given new after step
 
 pub kept_backup : (sizes : Sizes) (old : Job) (hand : HandValue) (split w : ℕ) (given : BackupAnswer)
     (new : Job) (after : HandValue) →

@@ -46,6 +46,16 @@ call_of (plain.MapFailed a) = MapFailed a
 call_of (plain.Withdraw a) = Withdraw a
 call_of (plain.PartFailed a) = PartFailed a
 
+-- and the event by which it stands in a history
+abbrev pub plain_event : PlainCall → Event
+plain_event (plain.Add split w) = events.Add split w
+plain_event (plain.Lose split w) = events.Lose split w
+plain_event (plain.Join w set) = events.Join w set
+plain_event (plain.Die w) = events.Die w
+plain_event (plain.MapFailed a) = events.MapFailed a
+plain_event (plain.Withdraw a) = events.Withdraw a
+plain_event (plain.PartFailed a) = events.PartFailed a
+
 -- the place or the reason in an answer that has more
 abbrev pub plain_with : {R : Type 0} → AnswerWith R → Answer
 plain_with (handed.Accepted place) = Accepted place

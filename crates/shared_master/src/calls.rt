@@ -21,18 +21,18 @@ pub(crate) enum PlainCall {
 
 impl PlainCall {
     // Asks the master.
-    pub(crate) fn ask(self, master: &mut Master) -> Answer
-        requires { IsKnown master.old.setup (call_of self) }
-        ensures { Answers master.old (call_of self) result master.new }
+    pub(crate) fn ask(&self, master: &mut Master) -> Answer
+        requires { IsKnown master.old.setup (call_of self.now) }
+        ensures { Answers master.old (call_of self.now) result master.new }
     {
         match self {
-            PlainCall::Add(split, worker) => master.add(split, worker),
-            PlainCall::Lose(split, worker) => master.lose(split, worker),
-            PlainCall::Join(worker, set) => master.join(worker, &set),
-            PlainCall::Die(worker) => master.die(worker),
-            PlainCall::MapFailed(attempt) => master.map_failed(attempt),
-            PlainCall::Withdraw(attempt) => master.withdraw(attempt),
-            PlainCall::PartFailed(attempt) => master.part_failed(attempt),
+            PlainCall::Add(split, worker) => master.add(*split, *worker),
+            PlainCall::Lose(split, worker) => master.lose(*split, *worker),
+            PlainCall::Join(worker, set) => master.join(*worker, set),
+            PlainCall::Die(worker) => master.die(*worker),
+            PlainCall::MapFailed(attempt) => master.map_failed(*attempt),
+            PlainCall::Withdraw(attempt) => master.withdraw(*attempt),
+            PlainCall::PartFailed(attempt) => master.part_failed(*attempt),
         }
     }
 }

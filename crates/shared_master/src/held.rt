@@ -148,9 +148,9 @@ impl<L: Ledger> Held<L> {
     }
 
     // A call that hands in numbers alone.
-    pub(crate) fn step(&mut self, sizes: Sizes, hand: &mut Hand<L>, call: PlainCall) -> Answer
-        requires { IsKnownTo sizes (call_of call) }
-        ensures step { IsStep sizes self.old.job hand.old (call_of call) [] result self.new.job hand.new }
+    pub(crate) fn step(&mut self, sizes: Sizes, hand: &mut Hand<L>, call: &PlainCall) -> Answer
+        requires { IsKnownTo sizes (call_of call.now) }
+        ensures step { IsStep sizes self.old.job hand.old (call_of call.now) [] result self.new.job hand.new }
         ensures made { self.new.made ≡ self.old.made }
     {
         if let Some(why) = self.why_not(sizes, hand, 0) {
@@ -338,7 +338,7 @@ fn enter<L: Ledger>(
         Answer::Accepted(place) => {
             // (how long the history is)
             let _events = master.events();
-            let event = master.history()[place as usize - 1];
+            let event = &master.history()[place as usize - 1];
             hand.keep(hands, place, event, counts, &[]);
         }
         Answer::Ignored(why) => ignore(hand, counts.len(), why),

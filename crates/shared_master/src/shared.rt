@@ -12,6 +12,8 @@ ghost use Rattle.shared_master.specs.Steps.{
   IsKeptReduce,
   IsKeptSweep,
   IsKnownTo,
+  call_of,
+  plain_event,
   plain_with,
   Replies,
 };
@@ -97,6 +99,14 @@ impl<L: Ledger> SharedMaster<L> {
         self.lock.lock(rt).are_few(hands);
     }
 
+    // A call under the lock that hands in numbers alone.
+    fn plain<R: Wait>(&self, rt: &R, hand: &mut Hand<L>, call: &PlainCall) -> Answer
+        requires { IsKnownTo self.now (call_of call.now) }
+        ensures { IsKeptAs hand.old (plain_event call.now) [] result hand.new }
+    {
+        self.lock.lock(rt).step(self.sizes, hand, call)
+    }
+
     /// `Master::add` under the lock.
     pub fn add<R: Wait>(
         &self,
@@ -109,9 +119,7 @@ impl<L: Ledger> SharedMaster<L> {
         requires worker { worker < self.now.workers }
         ensures { IsKeptAs hand.old (Event.Add split worker) [] result hand.new }
     {
-        self.lock
-            .lock(rt)
-            .step(self.sizes, hand, PlainCall::Add(split, worker))
+        self.plain(rt, hand, &PlainCall::Add(split, worker))
     }
 
     /// `Master::lose` under the lock.
@@ -126,9 +134,7 @@ impl<L: Ledger> SharedMaster<L> {
         requires worker { worker < self.now.workers }
         ensures { IsKeptAs hand.old (Event.Lose split worker) [] result hand.new }
     {
-        self.lock
-            .lock(rt)
-            .step(self.sizes, hand, PlainCall::Lose(split, worker))
+        self.plain(rt, hand, &PlainCall::Lose(split, worker))
     }
 
     /// `Master::join` under the lock.
@@ -142,9 +148,7 @@ impl<L: Ledger> SharedMaster<L> {
         requires { IsKnownTo self.now (Call.Join worker set.now) }
         ensures { IsKeptAs hand.old (Event.Join worker set.now) [] result hand.new }
     {
-        self.lock
-            .lock(rt)
-            .step(self.sizes, hand, PlainCall::Join(worker, *set))
+        self.plain(rt, hand, &PlainCall::Join(worker, *set))
     }
 
     /// `Master::die` under the lock.
@@ -152,36 +156,28 @@ impl<L: Ledger> SharedMaster<L> {
         requires { worker < self.now.workers }
         ensures { IsKeptAs hand.old (Event.Die worker) [] result hand.new }
     {
-        self.lock
-            .lock(rt)
-            .step(self.sizes, hand, PlainCall::Die(worker))
+        self.plain(rt, hand, &PlainCall::Die(worker))
     }
 
     /// `Master::map_failed` under the lock.
     pub fn map_failed<R: Wait>(&self, rt: &R, hand: &mut Hand<L>, attempt: AttemptNo) -> Answer
         ensures { IsKeptAs hand.old (Event.MapFailed attempt) [] result hand.new }
     {
-        self.lock
-            .lock(rt)
-            .step(self.sizes, hand, PlainCall::MapFailed(attempt))
+        self.plain(rt, hand, &PlainCall::MapFailed(attempt))
     }
 
     /// `Master::withdraw` under the lock.
     pub fn withdraw<R: Wait>(&self, rt: &R, hand: &mut Hand<L>, attempt: AttemptNo) -> Answer
         ensures { IsKeptAs hand.old (Event.Withdraw attempt) [] result hand.new }
     {
-        self.lock
-            .lock(rt)
-            .step(self.sizes, hand, PlainCall::Withdraw(attempt))
+        self.plain(rt, hand, &PlainCall::Withdraw(attempt))
     }
 
     /// `Master::part_failed` under the lock.
     pub fn part_failed<R: Wait>(&self, rt: &R, hand: &mut Hand<L>, attempt: AttemptNo) -> Answer
         ensures { IsKeptAs hand.old (Event.PartFailed attempt) [] result hand.new }
     {
-        self.lock
-            .lock(rt)
-            .step(self.sizes, hand, PlainCall::PartFailed(attempt))
+        self.plain(rt, hand, &PlainCall::PartFailed(attempt))
     }
 
     /// `Master::map_done` under the lock.

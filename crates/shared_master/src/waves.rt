@@ -172,7 +172,7 @@ impl<L: Ledger> Held<L> {
         hand.keep(
             &mut self.hands,
             place,
-            Event::Wave { first, count, cost },
+            &Event::Wave { first, count, cost },
             &[],
             &starts,
         );

@@ -12,7 +12,7 @@ use Rattle.word_map.specs.Texts.{Pair, SplitDocuments, IsPairOf}
 use Rattle.word_map.specs.Entries.{EntryView, AreEntries, pairs_of_index}
 use Rattle.word_map.proofs.PairLemmas.{any_from_member, member_from_any}
 use Rattle.word_map.proofs.EntryLemmas.{pairs_of_entries_rise}
-use Rattle.shuffle_reduce.specs.Merged.{PartView, IsPairOfTexts, IsPartOf, AreSameTexts}
+use Rattle.shuffle_reduce.specs.Merged.{PartView, IsPairOfTexts, IsPartOf, AreSameTexts, HaveWord}
 use Rattle.shuffle_reduce.specs.Gather.{GathersResults}
 use Rattle.shuffle_reduce.specs.Indexed.{HasMissing, IsIndexOf, IsIndexOfDocuments, AreDocumentsOf}
 
@@ -38,6 +38,15 @@ same_pairs : (xs ys : List SplitDocuments) (pair : Pair) →
 same_pairs xs ys pair same any =
     let m = member_from_any (λ text. IsPairOf text.documents pair) xs any in
     any_from_member (λ text. IsPairOf text.documents pair) ys m.0 (same m.0 m.1) m.2
+
+-- a word of a result's texts is one of the texts that it covers
+pub word_of_covered : (texts : List SplitDocuments) (results : List PartView) →
+    All (λ (part : PartView). AreSameTexts part.texts texts) results →
+    Any (λ (part : PartView). HaveWord part.texts) results → HaveWord texts
+word_of_covered texts results covers any =
+    let m = member_from_any (λ (r : PartView). HaveWord r.texts) results any in
+    let covered = All-contains (λ (r : PartView). AreSameTexts r.texts texts) results m.0 covers m.1 in
+    (m.2.0, same_pairs m.0.texts texts m.2.0 (λ text. (covered text).0) m.2.1)
 
 -- the pairs of all parts are those of the texts
 pub pairs_of_all_parts : (texts : List SplitDocuments) (results : List PartView)

@@ -1,4 +1,5 @@
--- The values behind shared pointers, and the pairs that runs or results have together.
+-- The texts of runs, and the pairs that runs or results have together.
+pub use Rattle.word_map.specs.Texts.{values_of}
 use Rattle.std.specs.Prelude.{◌≡◌, ◌↔◌, ℕ, List, map, All, Any, Contains}
 use Rattle.std.specs.Arc.{arc_value}
 use Rattle.std.specs.declared.alloc.Global.{Global}
@@ -40,7 +41,3 @@ pub record GathersResults (results : List PartView) (pairs : List Pair) : Type 0
   pub members : (pair : Pair) → Contains pairs pair ↔ IsPairOfResults results pair
   pub results_are : All (λ (result : PartView). IsPartOf result.texts result.part result.parts result.pairs)
       results
-
--- the texts themselves
-abbrev pub values_of : List (Arc SplitDocuments Global) → List SplitDocuments
-values_of texts = map (λ (text : Arc SplitDocuments Global). arc_value text) texts

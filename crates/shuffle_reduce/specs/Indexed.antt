@@ -7,20 +7,20 @@ use Rattle.word_map.specs.Texts.{SplitDocuments, Pair, IsPairOf}
 use Rattle.word_map.specs.Runs.{AreRisingPairs}
 use Rattle.shuffle_reduce.specs.Merged.{PartView, AreSameTexts, IsPairOfTexts}
 
--- the words in byte order, each once, each word's documents by number, and each pair of the texts and no
--- other
-pub record IsIndexOf (texts : List SplitDocuments) (entries : List EntryView) : Type 0 where
+-- the words in byte order, each once, each word's documents by number, and just these pairs
+pub record IsIndexOfPairs (IsMeant : Pair → Type 0) (entries : List EntryView) : Type 0 where
   pub words : AllPairs WordIsBelow entries
   pub rising : AreRisingPairs (pairs_of_index entries)
   pub some : All (λ entry. 0 < length entry.documents) entries
-  pub exact : (pair : Pair) → Contains (pairs_of_index entries) pair ↔ IsPairOfTexts texts pair
+  pub exact : (pair : Pair) → Contains (pairs_of_index entries) pair ↔ IsMeant pair
+
+-- the index of the words of the texts
+abbrev pub IsIndexOf : List SplitDocuments → List EntryView → Type 0
+IsIndexOf texts entries = IsIndexOfPairs (IsPairOfTexts texts) entries
 
 -- the same of documents that are not divided into texts
-pub record IsIndexOfDocuments (documents : List Document) (entries : List EntryView) : Type 0 where
-  pub words : AllPairs WordIsBelow entries
-  pub rising : AreRisingPairs (pairs_of_index entries)
-  pub some : All (λ entry. 0 < length entry.documents) entries
-  pub exact : (pair : Pair) → Contains (pairs_of_index entries) pair ↔ IsPairOf documents pair
+abbrev pub IsIndexOfDocuments : List Document → List EntryView → Type 0
+IsIndexOfDocuments documents entries = IsIndexOfPairs (IsPairOf documents) entries
 
 -- the documents of the texts are these and no others
 abbrev pub AreDocumentsOf : List SplitDocuments → List Document → Type 0

@@ -9,6 +9,10 @@ use Rattle.word_map.specs.Runs.{AreRisingPairs}
 abbrev pub IsPairOfTexts : List SplitDocuments → Pair → Type 0
 IsPairOfTexts texts pair = Any (λ text. IsPairOf text.documents pair) texts
 
+-- one of the texts has a word
+abbrev pub HaveWord : List SplitDocuments → Type 0
+HaveWord texts = (pair : Pair) × IsPairOfTexts texts pair
+
 -- the pairs of the texts whose word belongs to the part, rising
 pub record IsPartOf (texts : List SplitDocuments) (part parts : ℕ) (pairs : List Pair) : Type 0 where
   pub rising : AreRisingPairs pairs

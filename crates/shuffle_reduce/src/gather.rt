@@ -1,5 +1,6 @@
-ghost use Rattle.std.specs.Prelude.{◌≡◌, IfOk};
+ghost use Rattle.std.specs.Prelude.{◌≡◌, Any, IfOk, IsErr};
 ghost use Rattle.word_map.specs.Entries.{pairs_of_index};
+ghost use Rattle.shuffle_reduce.specs.Merged.{HaveWord, PartView};
 ghost use Rattle.shuffle_reduce.specs.Gather.{GathersRuns, GathersResults, texts_of_runs, values_of};
 
 use crate::part::PartResult;
@@ -34,7 +35,8 @@ pub(crate) fn gathered_results(
     alloc: Global,
     results: &[PartResult],
 ) -> Result<WordTable<'_>, AllocError>
-    ensures { IfOk result (λ table. GathersResults results.now (pairs_of_index table)) }
+    ensures gathers { IfOk result (λ table. GathersResults results.now (pairs_of_index table)) }
+    ensures memory { IsErr result → Any (λ (part : PartView). HaveWord part.texts) results.now }
 {
     let mut table = WordTable::new(alloc);
     for part in results {

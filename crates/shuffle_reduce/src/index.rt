@@ -1,6 +1,6 @@
 ghost use Rattle.std.specs.Prelude.{◌≡◌, ◌↔◌, ◌<◌, ◌≤◌, All, IfOk, IsErrOf, IsTrue, List};
 ghost use Rattle.word_map.specs.declared.text.Document.{Document};
-ghost use Rattle.shuffle_reduce.specs.Merged.{AreSameTexts, PartView};
+ghost use Rattle.shuffle_reduce.specs.Merged.{AreSameTexts, HaveWord, PartView};
 ghost use Rattle.shuffle_reduce.specs.Gather.{values_of};
 ghost use Rattle.shuffle_reduce.specs.Indexed.{IsIndexOf, IsIndexOfDocuments, AreDocumentsOf, AreReady};
 ghost use Rattle.shuffle_reduce.specs.Indexed.{HasDouble, HasMissing};
@@ -48,7 +48,7 @@ pub enum FinishError {
     /// Two results are of one part.
     #[error("a part stands twice")]
     DoublePart,
-    /// There is no memory.
+    /// There is no memory. A text without words takes none.
     #[error("no memory")]
     Memory,
 }
@@ -79,6 +79,7 @@ pub fn finish(
     ensures double { IsErrOf result FinishError.DoublePart ↔ HasDouble results.now }
     ensures missing { IsErrOf result FinishError.MissingPart
         ↔ ((HasDouble results.now → ⊥) × HasMissing results.now parts) }
+    ensures memory { IsErrOf result FinishError.Memory → HaveWord (values_of texts.now) }
     ensures index { IfOk result (λ index. IsIndexOf (values_of texts.now) index) }
     ensures documents { IfOk result (λ index. (documents : List Document)
         → AreDocumentsOf (values_of texts.now) documents → IsIndexOfDocuments documents index) }

@@ -1,5 +1,5 @@
 -- Room for one more part, one more entry in its part, and what the entries of a part are.
-use Rattle.std.proofs.Common.{◌≡◌, ◌≢◌, ℕ, ◌+◌, ◌<◌, Bool, true, false, cond, List, [], ◌∷◌, ◌++◌, length}
+use Rattle.std.proofs.Common.{◌≡◌, ◌≢◌, ℕ, ◌<◌, Bool, true, false, cond, List, [], ◌∷◌, ◌++◌, length}
 use Rattle.std.proofs.Common.{get_or, set, map, ⊎_elim, sym, ap, ◌∙◌, subst, arith, append_assoc}
 use Rattle.std.proofs.Common.{Vec, eqb, eq-eqb}
 use Rattle.std.specs.Prelude.{◌↔◌, ◌==◌, Any, Contains}

@@ -1,6 +1,6 @@
 -- The pairs of entries: which they are, and that they rise.
-use Rattle.std.proofs.Common.{◌≡◌, ℕ, suc, List, [], ◌∷◌, ◌++◌, map, get_or, sym, refl, ap, ◌∙◌, subst, arith}
-use Rattle.std.proofs.Common.{⊎_elim}
+use Rattle.std.proofs.Common.{◌≡◌, ℕ, suc, ◌<◌, List, [], ◌∷◌, ◌++◌, length, map, get_or, sym, refl, ap, ◌∙◌}
+use Rattle.std.proofs.Common.{⊎_elim, subst, arith}
 use Rattle.std.specs.Prelude.{Contains, Any, All, AllPairs}
 use Rattle.std.specs.List.{AllByRecursion}
 use Rattle.std.specs.List.Sorted.{IsStrictlySortedBy}
@@ -16,7 +16,7 @@ use Rattle.std.proofs.lemmas.List.Elements.{Contains-append_cases}
 use Rattle.word_map.specs.Texts.{Pair}
 use Rattle.word_map.specs.Runs.{AreRisingPairs, pair_cmp}
 use Rattle.word_map.specs.Entries.{EntryView, pair_of, pairs_of_entry, pairs_of_index, WordIsBelow}
-use Rattle.word_map.specs.Entries.{DocumentsRise}
+use Rattle.word_map.specs.Entries.{DocumentsRise, HavePair}
 use Rattle.word_map.proofs.PairLemmas.{any_from_member, member_from_any, any_map, any_from_map}
 use Rattle.word_map.proofs.RunLemmas.{same_pair}
 
@@ -66,6 +66,15 @@ pair_in_entries (e ∷ es) p any =
     (λ rest. Contains-append_right (pairs_of_entry e) (pairs_of_index es) p
     (pair_in_entries es p (any_from_member (HasPair p) es m.0 rest m.2)))
     (Contains-append_cases (e ∷ []) es m.0 m.1)
+
+-- entries of which one has a document have a pair
+pub have_pair : (es : List EntryView) (e : EntryView) → Contains es e → 0 < length e.documents → HavePair es
+have_pair es e there some =
+    let p : Pair = pair_of e.word (get_or e.documents 0 0) in (
+      p,
+      pair_in_entries es p (any_from_member (HasPair p) es e there
+          (refl, Contains-get_or e.documents 0 0 some)),
+    )
 
 -- rising lists, each element of the first below each of the second, rise together
 sorted_append : {K : Type 0} (R : K → K → Ordering) (xs ys : List K) → IsStrictlySortedBy R xs →

@@ -25,9 +25,9 @@ use Rattle.std.proofs.lemmas.Map.Lookups.{exact_bytes}
 use Rattle.std.proofs.lemmas.Slice.Eq.{bytes_eq-Decides}
 use Rattle.word_map.specs.Texts.{Pair}
 use Rattle.word_map.specs.Entries.{EntryView, AreEntries, DocumentsRise, WordIsBelow, pairs_of_entry}
-use Rattle.word_map.specs.Entries.{pairs_of_index}
+use Rattle.word_map.specs.Entries.{HavePair, pairs_of_index}
 use Rattle.word_map.specs.Table.{documents_of, IsTable, views}
-use Rattle.word_map.proofs.EntryLemmas.{own_from_pair, pair_of_own}
+use Rattle.word_map.proofs.EntryLemmas.{first_is_there, have_pair, own_from_pair, pair_of_own}
 use Rattle.word_map.proofs.TableLemmas.{found}
 
 -- words in order, no two of them one, rise
@@ -68,6 +68,16 @@ entries_have_some m is k d low =
     let documents : documents_of m e.0 ≡ e.1.items = ap
     (λ o. option_map_or (λ (v : SmallVec ℕ). v.items) o []) at in
     subst (λ ds. 0 < length ds) documents (is.some e.0 (subst IsSome (sym at) refl))
+
+-- so a table with a word has a pair
+pub table_has_pair : {S : Type 0} (m : HashMap (List ℕ) (SmallVec ℕ) S) → IsTable m →
+    (length m.entries ≡ 0 → ⊥) → HavePair (views m.entries)
+table_has_pair m is some = by m.entries (entries_have_some m is) some
+  where
+    by : (es : List (List ℕ × SmallVec ℕ)) → All (λ (e : List ℕ × SmallVec ℕ). 0 < length e.1.items) es →
+        (length es ≡ 0 → ⊥) → HavePair (views es)
+    by [] each some = absurd (some refl)
+    by (e ∷ es) each some = have_pair (views (e ∷ es)) _ (first_is_there _ (views es)) (each 0 e (omega arith))
 
 pub made_none : {S : Type 0} (m : HashMap (List ℕ) (SmallVec ℕ) S) → IsTable m →
     AreMade m.entries m.entries []

@@ -166,3 +166,8 @@ pairs_of_reordered xs ys moved pair =
       pairs_of_permutation (views ys) (views xs)
           (IsPermutation-sym (views xs) (views ys) shown) pair,
     )
+
+-- a table without words shows no entries
+pub no_entries : (entries : List (List ℕ × SmallVec ℕ)) → length entries ≡ 0 → views entries ≡ []
+no_entries [] none = refl
+no_entries (e ∷ entries) none = absurd (omega arith)

@@ -1,5 +1,5 @@
 -- Words with their documents.
-use Rattle.std.specs.Prelude.{◌≡◌, ℕ, ◌<◌, List, length, map, All, AllPairs}
+use Rattle.std.specs.Prelude.{◌≡◌, ℕ, ◌<◌, List, length, map, All, AllPairs, Contains}
 use Rattle.std.specs.List.{flat_map}
 use Rattle.std.specs.List.Sorted.{IsStrictlySortedBy}
 use Rattle.std.specs.Cmp.Lexicographic.{slice_cmp}
@@ -23,6 +23,10 @@ pairs_of_entry entry = map (pair_of entry.word) entry.documents
 -- the pairs of the entries, one entry after another
 abbrev pub pairs_of_index : List EntryView → List Pair
 pairs_of_index entries = flat_map pairs_of_entry entries
+
+-- the entries have a pair
+abbrev pub HavePair : List EntryView → Type 0
+HavePair entries = (pair : Pair) × Contains (pairs_of_index entries) pair
 
 -- the entry's word comes before the other's, in byte order
 abbrev pub WordIsBelow : EntryView → EntryView → Type 0

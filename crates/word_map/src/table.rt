@@ -1,10 +1,10 @@
 ghost use Rattle.std.specs.Prelude.{◌≡◌, ◌↔◌, ◌⊎◌, ◌<◌, ℕ, List, length, [], OnOk, IfOk, Contains};
-ghost use Rattle.std.specs.Prelude.{IsSorted};
+ghost use Rattle.std.specs.Prelude.{IsErr, IsSorted};
 ghost use Rattle.std.specs.Cmp.Lexicographic.{slice_cmp};
 ghost use Rattle.std.specs.Ordering.{nat_cmp};
 ghost use Rattle.std.specs.HashMap.{keys};
 ghost use Rattle.word_map.specs.Texts.{Pair};
-ghost use Rattle.word_map.specs.Entries.{AreEntries, DocumentsRise, pairs_of_entry, pairs_of_index};
+ghost use Rattle.word_map.specs.Entries.{AreEntries, DocumentsRise, HavePair, pairs_of_entry, pairs_of_index};
 ghost use Rattle.word_map.specs.Table.{AddsPairs, Has, IsTable, views};
 
 use crate::distinct::sort_distinct;
@@ -117,7 +117,8 @@ impl<'a> WordTable<'a> {
     /// Adds the documents of each entry to those of its word.
     pub fn add(&mut self, alloc: Global, entries: &'a [Entry]) -> Result<(), AllocError>
         requires { AreEntries entries.now }
-        ensures { OnOk result (AddsPairs self.old self.new (Contains (pairs_of_index entries.now))) }
+        ensures added { OnOk result (AddsPairs self.old self.new (Contains (pairs_of_index entries.now))) }
+        ensures memory { IsErr result → HavePair entries.now }
     {
         for entry in entries {
             self.add_entry(alloc, entry)?;
@@ -130,8 +131,12 @@ impl<'a> WordTable<'a> {
         ensures entries { IfOk result (λ entries. AreEntries entries.items) }
         ensures same { IfOk result (λ entries. (pair : Pair)
             → Contains (pairs_of_index entries.items) pair ↔ Contains (pairs_of_index self.entry) pair) }
+        ensures memory { IsErr result → HavePair self.entry }
     {
         let WordTable { mut table } = self;
+        if table.is_empty() {
+            return Ok(Vec::new(alloc));
+        }
         table.sort_unstable_keys()?;
         Ok(sorted_entries(alloc, table)?)
     }

@@ -1,9 +1,13 @@
+use Rattle.std.proofs.Common.{refl, ap, ◌∙◌, Err}
 use Rattle.job_run.proofs.waves.wave.Goals as goal
 
-pub returns-clause-full : goal.returns-clause-full
-returns-clause-full c full = record {
-  legal = c.is_kept.ensures.legal;
-  plan = c.in_ok-planned.planned.plan.starts;
-  best = c.in_ok-planned.ensures.best;
-  full = c.start_planned.ensures.full.0 full;
-}
+pub returns-in-Err-HistoryFull-clause-full : goal.returns-in-Err-HistoryFull-clause-full
+returns-in-Err-HistoryFull-clause-full c = λ _.
+    let lacks = c.start_best.ensures.full
+    (c.in-Err-HistoryFull.is ∙ ap Err c.in-Err-HistoryFull.field-0-is) in
+    record {
+      legal = c.is_kept.ensures.legal;
+      plan = lacks.plan;
+      best = lacks.best;
+      full = lacks.full;
+    }

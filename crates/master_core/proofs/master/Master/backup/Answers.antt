@@ -1,51 +1,47 @@
 use Rattle.std.proofs.Common.{ℕ, [], ◌∷◌, ◌++◌, refl, sym, ap, ◌∙◌}
-use Rattle.std.proofs.lemmas.List.{append-nil}
 use Rattle.master_state.specs.declared.events.Event.TheVariants as events
 use Rattle.master_state.specs.declared.states.Attempt.{Attempt}
 use Rattle.master_state.specs.States.{next_attempt}
 use Rattle.master_state.specs.Refusals.{Backup}
 use Rattle.master_state.specs.Jobs.{Job}
-use Rattle.master_core.specs.declared.master.Master.TheInside.{Inside}
 use Rattle.master_tables.specs.Entries.{entry_with}
 use Rattle.master_core.specs.Inside.{setup_of}
 use Rattle.master_core.proofs.Accepting.{Follows, follows}
-use Rattle.master_core.proofs.Backing.{backup_made}
-use Rattle.master_tables.proofs.Showing.{made_updated, start_makes_none}
+use Rattle.master_tables.proofs.Showing.{made_updated, shown-started, start_makes_none}
 use Rattle.master_core.proofs.master.Master.backup.Goals as goal
 
-abbrev new_of : goal.After-record_event-place → Inside
-new_of c = record c.self.inside {
-  workers = c.take_slot.new.self;
-  splits = c.run_attempt.new.entries;
-  starts = c.record_start-number.new.starts;
-  history = c.record_event-place.new.history;
-}
-
-follows_here : (c : goal.After-record_event-place) →
-    Follows (new_of c) c.args.self.now (Backup c.args.split c.args.worker) c.record_event-place.result
-follows_here c =
+after : (c : goal.After-record_event-place) →
+    Follows (record c.self.inside {
+      workers = c.take_slot.new.self;
+      splits = c.run_attempt.new.entries;
+      starts = c.record_start-number.new.starts;
+      history = c.record_event-place.new.history;
+    }) c.args.self.now (Backup c.args.split c.args.worker) c.record_event-place.result
+after c =
     let old = c.self.inside in
     let split = c.args.split in
-    let w = c.args.worker in
-    let one : Attempt = record { number = c.record_start-number.result; worker = w } in
-    follows old (new_of c) c.args.self.now (Backup split w) c.record_event-place.result c.self.invariant
-    c.self.view_is c.requires (sym c.why_not_backup.ensures ∙ c.in_default.is)
+    let one : Attempt = record { number = c.record_start-number.result; worker = c.args.worker } in
+    follows c.self.invariant c.self.view_is c.requires (sym c.why_not_backup.ensures ∙ c.in_default.is)
     (rw (c.record_event-place.ensures.capacity, c.record_start-number.ensures.capacity) refl)
     (c.record_event-place.ensures.items
-    ∙ ap (λ (n : ℕ). old.history.items ++ events.Backup n split w ∷ []) c.record_start-number.ensures.number)
+    ∙ ap (λ (n : ℕ). old.history.items ++ events.Backup n split one.worker ∷ [])
+    c.record_start-number.ensures.number)
     c.record_event-place.ensures.place
-    (backup_made old split w c.record_start-number.result (new_of c).workers (new_of c).splits.items
-    (new_of c).starts.items c.record_start-number.ensures.number c.take_slot.ensures c.run_attempt.ensures
-    c.record_start-number.ensures.items)
-    (sym (append-nil old.results.items))
+    (rw (
+      c.take_slot.ensures,
+      c.record_start-number.ensures.items,
+      c.run_attempt.ensures,
+      shown-started one old.splits.items split,
+      c.record_start-number.ensures.number,
+    ) refl) refl
     (rw c.run_attempt.ensures (made_updated (setup_of old) (entry_with one) old.splits.items split
     (start_makes_none one) c.self.invariant.made))
 
 pub invariant_of-self : goal.invariant_of-self
-invariant_of-self c = (follows_here c).master
+invariant_of-self c = (after c).master
 
 pub returns : goal.returns
 returns c = (
   c.record_start-number.ensures.number ∙ ap (λ (i : Job). next_attempt i.state) c.self.view_is,
-  (follows_here c).accepted,
+  (after c).accepted,
 )

@@ -1,10 +1,8 @@
 use Rattle.std.proofs.Common.{◌≡◌, ◌+◌, length, refl, sym, ap, ◌∙◌, arith, subst}
-use Rattle.std.proofs.lemmas.List.{append-nil}
 use Rattle.master_state.specs.declared.answers.Why.TheVariants.{NotReady, HistoryFull}
 use Rattle.master_state.specs.declared.answers.Reply.{Reply}
 use Rattle.master_state.specs.Refusals.{ReduceStart}
 use Rattle.master_state.specs.Jobs.{Job, IsReply}
-use Rattle.master_core.specs.declared.master.Master.TheInside.{Inside}
 use Rattle.master_core.specs.Inside.{job_of, state_of}
 use Rattle.master_core.proofs.Accepting.{Follows, follows, is_false, no_reason}
 use Rattle.master_core.proofs.PartStarts.{IsNextIn, entry_of_each, next_in, reduce_started_is}
@@ -13,15 +11,15 @@ use Rattle.master_core.proofs.master.Master.reduce_start.Goals as goal
 
 next : (c : In-Some) → IsNextIn c.self.inside c.in-Some.next.part c.in-Some.next.worker
 next c =
-    next_in c.self.inside c.args.self.now c.in-Some.next.part c.in-Some.next.worker c.self.invariant
-    c.self.view_is (is_false _ c.in-Some.ensures.ready) c.in-Some.ensures.part c.in-Some.ensures.worker
+    next_in c.self.invariant c.self.view_is (is_false _ c.in-Some.ensures.ready) c.in-Some.ensures.part
+    c.in-Some.ensures.worker
 
 pub runs_of-requires-clause-part : goal.runs_of-requires-clause-part
 runs_of-requires-clause-part c = (next (goal.at.runs_of-requires-clause-part c).In-Some).known
 
 pub runs_of-requires-clause-splits : goal.runs_of-requires-clause-splits
 runs_of-requires-clause-splits c =
-    ap length c.deref.ensures.value ∙ entry_of_each c.self.inside c.self.invariant
+    ap length c.deref.ensures.value ∙ entry_of_each c.self.invariant
 
 pub start_part-requires-clause-worker : goal.start_part-requires-clause-worker
 start_part-requires-clause-worker c = (next (goal.at.start_part-requires-clause-worker c).In-Some).worker
@@ -32,37 +30,29 @@ start_part-requires-clause-free c = (next (goal.at.start_part-requires-clause-fr
 pub start_part-requires-clause-part : goal.start_part-requires-clause-part
 start_part-requires-clause-part c = (next (goal.at.start_part-requires-clause-part c).In-Some).part
 
-abbrev new_of : goal.After-record_event-place → Inside
-new_of c = record c.self.inside {
-  workers = c.start_part.new.workers;
-  parts = c.start_part.new.parts;
-  starts = c.start_part.new.starts;
-  history = c.record_event-place.new.history;
-}
-
 number_is : (c : goal.After-record_event-place) → c.new-attempt.result ≡ length c.self.inside.starts.items + 1
 number_is c = omega (arith, c.new-attempt.ensures, c.len.ensures)
 
-follows_here : (c : goal.After-record_event-place) →
-    Follows (new_of c) c.args.self.now ReduceStart c.record_event-place.result
-follows_here c =
-    let old = c.self.inside in
-    let r = c.in-Some.next.part in
-    let w = c.in-Some.next.worker in
+after : (c : goal.After-record_event-place) →
+    Follows (record c.self.inside {
+      workers = c.start_part.new.workers;
+      parts = c.start_part.new.parts;
+      starts = c.start_part.new.starts;
+      history = c.record_event-place.new.history;
+    }) c.args.self.now ReduceStart c.record_event-place.result
+after c =
     let next = next (goal.at.returns c).In-Some in
-    follows old (new_of c) c.args.self.now ReduceStart c.record_event-place.result c.self.invariant
-    c.self.view_is tt (no_reason _ _ NotReady HistoryFull (is_false _ c.in-Some.ensures.ready)
-    (sym c.has_no_room.ensures ∙ c.if-has_no_room.false))
+    follows c.self.invariant c.self.view_is tt (no_reason _ _ NotReady HistoryFull
+    (is_false _ c.in-Some.ensures.ready) (sym c.has_no_room.ensures ∙ c.if-has_no_room.false))
     (rw (c.record_event-place.ensures.capacity, c.start_part.ensures.capacity) refl)
     (c.record_event-place.ensures.items ∙ rw (number_is c, next.part_is, next.worker_is) refl)
     c.record_event-place.ensures.place
-    (reduce_started_is (state_of old) (new_of c).workers (new_of c).parts.items (new_of c).starts.items r
-    c.new-attempt.result w (number_is c) next.part_is next.worker_is c.start_part.ensures.taken
-    c.start_part.ensures.running c.start_part.ensures.told)
-    (sym (append-nil old.results.items)) c.self.invariant.made
+    (reduce_started_is (state_of c.self.inside) (number_is c) next.part_is next.worker_is
+    c.start_part.ensures.taken c.start_part.ensures.running c.start_part.ensures.told) refl
+    c.self.invariant.made
 
 pub invariant_of-self : goal.invariant_of-self
-invariant_of-self c = (follows_here c).master
+invariant_of-self c = (after c).master
 
 pub returns : goal.returns
 returns c =
@@ -79,4 +69,4 @@ returns c =
       of_part = c.in-Ok.ensures.of_part;
       texts = c.in-Ok.ensures.texts;
     } in
-    (subst (λ (i : Job). IsReply i reply) c.self.view_is replied, (follows_here c).accepted)
+    (subst (λ (i : Job). IsReply i reply) c.self.view_is replied, (after c).accepted)

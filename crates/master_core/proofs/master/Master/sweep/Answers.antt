@@ -1,33 +1,28 @@
 use Rattle.std.proofs.Common.{ℕ, [], ◌∷◌, ◌++◌, refl, ap, sym, ◌∙◌}
-use Rattle.std.proofs.lemmas.List.{append-nil}
 use Rattle.worker_table.specs.Workers.{Workers, is_silent, swept}
 use Rattle.master_state.specs.declared.events.Event.TheVariants as events
 use Rattle.master_state.specs.Refusals.{Sweep}
 use Rattle.master_state.specs.Jobs.{Job}
 use Rattle.master_state.proofs.Sweeping.{heard_state}
-use Rattle.master_core.specs.declared.master.Master.TheInside.{Inside}
 use Rattle.master_core.specs.Inside.{setup_of, state_of}
 use Rattle.master_core.proofs.Accepting.{Follows, follows}
 use Rattle.master_core.proofs.Burying.{one_reason, swept_is}
 use Rattle.master_core.proofs.master.Master.sweep.Goals as goal
 
-abbrev new_of : goal.After-record_event → Inside
-new_of c = record c.self.inside {
-  workers = c.bury_all.new.workers;
-  holders = c.bury_all.new.holders;
-  splits = c.bury_all.new.splits;
-  parts = c.bury_all.new.parts;
-  sweeps = c.record_counts-place.new.sweeps;
-  history = c.record_event.new.history;
-}
-
-follows_here : (c : goal.After-record_event) →
-    Follows (new_of c) c.args.self.now (Sweep c.args.counts.now) c.record_event.result
-follows_here c =
+after : (c : goal.After-record_event) →
+    Follows (record c.self.inside {
+      workers = c.bury_all.new.workers;
+      holders = c.bury_all.new.holders;
+      splits = c.bury_all.new.splits;
+      parts = c.bury_all.new.parts;
+      sweeps = c.record_counts-place.new.sweeps;
+      history = c.record_event.new.history;
+    }) c.args.self.now (Sweep c.args.counts.now) c.record_event.result
+after c =
     let old = c.self.inside in
     let counts = c.args.counts.now in
-    follows old (new_of c) c.args.self.now (Sweep counts) c.record_event.result c.self.invariant
-    c.self.view_is tt (one_reason _ (sym c.has_no_sweep.ensures ∙ c.if-has_no_sweep.false))
+    follows c.self.invariant c.self.view_is tt
+    (one_reason _ (sym c.has_no_sweep.ensures ∙ c.if-has_no_sweep.false))
     (rw (c.record_event.ensures.capacity, c.record_counts-place.ensures.capacity) refl)
     (c.record_event.ensures.items
     ∙ ap (λ (n : ℕ). old.history.items ++ events.Sweep n ∷ []) c.record_counts-place.ensures.place)
@@ -35,15 +30,15 @@ follows_here c =
     (swept_is (state_of old) counts c.sweep-dead.result c.sweep-dead.new.self _ c.sweep-dead.ensures.heard
     c.sweep-dead.ensures.silent
     (c.bury_all.ensures.died (heard_state (state_of old) counts) (sym c.sweep-dead.ensures.heard) refl refl
-    refl) ∙ rw c.record_counts-place.ensures.items refl)
-    (sym (append-nil old.results.items)) (c.bury_all.ensures.made (setup_of old) c.self.invariant.made)
+    refl) ∙ rw c.record_counts-place.ensures.items refl) refl
+    (c.bury_all.ensures.made (setup_of old) c.self.invariant.made)
 
 pub invariant_of-self : goal.invariant_of-self
-invariant_of-self c = (follows_here c).master
+invariant_of-self c = (after c).master
 
 pub returns : goal.returns
 returns c = record {
-  answer = (follows_here c).accepted;
+  answer = (after c).accepted;
   dead_are = λ w.
       c.sweep-dead.ensures.silent w ∙ ap (λ (t : Workers). is_silent t w) c.sweep-dead.ensures.heard
       ∙ ap (λ (i : Job). is_silent (swept i.state.workers c.args.counts.now) w) c.self.view_is;

@@ -2,5 +2,5 @@ use Rattle.master_core.proofs.Accepting.{split_in_map}
 use Rattle.master_core.proofs.master.Master.why_not_lose.Goals as goal
 
 pub holds-requires : goal.holds-requires
-holds-requires c = split_in_map c.self.inside c.args.self.now c.args.split c.self.invariant c.self.view_is
+holds-requires c = split_in_map c.self.invariant c.self.view_is c.args.split
     c.requires

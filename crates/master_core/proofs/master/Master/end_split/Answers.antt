@@ -1,0 +1,46 @@
+use Rattle.std.proofs.Common.{◌∙◌, refl, sym, ap, [], ◌∷◌, ◌++◌}
+use Rattle.master_state.specs.declared.events.Event.{Event}
+use Rattle.master_state.specs.Tests.{is_numbered}
+use Rattle.master_tables.proofs.Showing.{shown-ended}
+use Rattle.master_core.specs.Attempts.{split_end}
+use Rattle.master_core.specs.Inside.{state_of}
+use Rattle.master_core.proofs.Accepting.{Follows, follows, with_tables}
+use Rattle.master_core.proofs.Ended.{few_found, made_ended, split_ended, split_plain, split_runs_in}
+use Rattle.master_core.proofs.Ended.{split_slot}
+use Rattle.master_core.proofs.master.Master.end_split.Goals as goal
+
+pub free_slot-requires-clause-taken : goal.free_slot-requires-clause-taken
+free_slot-requires-clause-taken c = (split_slot c.self.invariant c.self.view_is c.requires.0).taken
+
+pub free_slot-requires-clause-few : goal.free_slot-requires-clause-few
+free_slot-requires-clause-few c = few_found c.self.invariant c.self.view_is c.requires.0
+
+after : (c : goal.After-record_event) →
+    Follows (with_tables c.self.inside c.free_slot.new.workers c.self.inside.holders
+    c.end_attempt.new.entries c.self.inside.parts c.record_event.new.history) c.args.self.now (split_end
+    c.args.end c.args.attempt) c.record_event.result
+after c =
+    let old = c.self.inside in
+    let j = c.args.self.now in
+    let plain = split_plain j.setup j.state c.args.attempt c.args.end c.requires.1
+    (sym c.has_no_place.ensures ∙ c.if-has_no_place.false) in
+    follows c.self.invariant c.self.view_is plain.known plain.allowed
+    (rw c.record_event.ensures.capacity refl)
+    (c.record_event.ensures.items
+    ∙ ap (λ (e : Event). old.history.items ++ e ∷ []) (c.of_split.ensures (state_of old)))
+    c.record_event.ensures.place
+    (split_ended c.self.invariant.kept.tidy (split_runs_in c.self.invariant c.self.view_is c.requires.0)
+    c.args.end
+    ∙ rw (
+      c.free_slot.ensures,
+      c.end_attempt.ensures,
+      shown-ended (is_numbered c.args.attempt) old.splits.items c.args.found.split,
+    ) refl)
+    (plain.results old.results.items)
+    (rw c.end_attempt.ensures (made_ended c.args.attempt c.args.found.split c.self.invariant))
+
+pub invariant_of-self : goal.invariant_of-self
+invariant_of-self c = (after c).master
+
+pub returns : goal.returns
+returns c = (after c).accepted

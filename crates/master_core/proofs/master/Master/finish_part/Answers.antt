@@ -1,0 +1,59 @@
+use Rattle.std.proofs.Common.{◌∙◌, refl, sym}
+use Rattle.master_state.specs.Refusals.{PartDone}
+use Rattle.master_core.proofs.Accepting.{Follows, follows}
+use Rattle.master_core.proofs.Completing.{part_done_is, part_refusal}
+use Rattle.master_core.proofs.Ended.{part_runs_in, part_slot}
+use Rattle.master_core.proofs.ResultRoom.{result_room}
+use Rattle.master_core.proofs.master.Master.finish_part.Goals as goal
+
+pub returns-then-is_wrong_part : goal.returns-then-is_wrong_part
+returns-then-is_wrong_part c = (
+  refl,
+  record {
+    refused = part_refusal c.self.invariant c.self.view_is c.args.made c.requires c.is_wrong_part.ensures
+        c.if-is_wrong_part.true refl;
+    same = refl;
+  },
+)
+
+pub returns-then-has_no_place : goal.returns-then-has_no_place
+returns-then-has_no_place c = (
+  refl,
+  record {
+    refused = part_refusal c.self.invariant c.self.view_is c.args.made c.requires c.is_wrong_part.ensures
+        c.if-is_wrong_part.false (sym c.has_no_place.ensures ∙ c.if-has_no_place.true);
+    same = refl;
+  },
+)
+
+pub give_slot-requires : goal.give_slot-requires
+give_slot-requires c =
+    let takes = part_slot c.self.invariant c.self.view_is c.requires.0 in
+    record { known = takes.known; taken = takes.taken }
+
+pub record_result-requires : goal.record_result-requires
+record_result-requires c =
+    result_room c.self.invariant (part_runs_in c.self.invariant c.self.view_is c.requires.0)
+
+after : (c : goal.After-record_event) →
+    Follows (record c.self.inside {
+      workers = c.give_slot.new.self;
+      parts = c.finish_part.new.parts;
+      results = c.record_result.new.results;
+      history = c.record_event.new.history;
+    }) c.args.self.now (PartDone c.args.attempt c.args.made) c.record_event.result
+after c =
+    follows c.self.invariant c.self.view_is tt
+    (part_refusal c.self.invariant c.self.view_is c.args.made c.requires c.is_wrong_part.ensures
+    c.if-is_wrong_part.false (sym c.has_no_place.ensures ∙ c.if-has_no_place.false))
+    (rw (c.record_event.ensures.capacity, c.record_result.ensures.capacity) refl)
+    c.record_event.ensures.items c.record_event.ensures.place
+    (part_done_is c.self.invariant.kept.tidy (part_runs_in c.self.invariant c.self.view_is c.requires.0)
+    ∙ rw (c.give_slot.ensures, c.finish_part.ensures) refl)
+    c.record_result.ensures.items c.self.invariant.made
+
+pub invariant_of-self : goal.invariant_of-self
+invariant_of-self c = (after c).master
+
+pub returns : goal.returns
+returns c = (after c).accepted

@@ -1,0 +1,77 @@
+use Rattle.std.proofs.Common.{◌≡◌, ◌∙◌, refl, sym}
+use Rattle.master_state.specs.Refusals.{MapDone}
+use Rattle.master_state.specs.Tests.{split_at}
+use Rattle.master_tables.specs.Entries.{shown_as}
+use Rattle.master_core.specs.Inside.{setup_of, state_of}
+use Rattle.master_core.proofs.Accepting.{Follows, follows, with_tables}
+use Rattle.master_core.proofs.Found.{entry_at, text_known}
+use Rattle.master_core.proofs.Completing.{done_is, made_done, map_refusal, numbered, of_split, shown-done_at}
+use Rattle.master_core.proofs.Completing.{split_taken}
+use Rattle.master_core.proofs.Ended.{split_runs_in}
+use Rattle.master_core.proofs.master.Master.finish_split.Goals.{After-index-2}
+use Rattle.master_core.proofs.master.Master.finish_split.Goals as goal
+
+pub is_wrong_map-requires : goal.is_wrong_map-requires
+is_wrong_map-requires c = text_known c.self.invariant c.self.view_is c.args.attempt _ _ c.requires.0.start
+
+pub returns-then-is_wrong_map : goal.returns-then-is_wrong_map
+returns-then-is_wrong_map c = (
+  refl,
+  record {
+    refused = map_refusal c.self.invariant c.self.view_is c.args.made c.requires c.is_wrong_map.ensures
+        c.if-is_wrong_map.true refl;
+    same = refl;
+  },
+)
+
+pub returns-then-has_no_place : goal.returns-then-has_no_place
+returns-then-has_no_place c = (
+  refl,
+  record {
+    refused = map_refusal c.self.invariant c.self.view_is c.args.made c.requires c.is_wrong_map.ensures
+        c.if-is_wrong_map.false (sym c.has_no_place.ensures ∙ c.if-has_no_place.true);
+    same = refl;
+  },
+)
+
+shows : (c : After-index-2) →
+    shown_as c.index-2.result.now ≡ split_at (state_of c.self.inside) c.args.found.split
+shows c =
+    entry_at c.self.invariant c.self.view_is c.args.attempt _ _ c.requires.0.start c.index.ensures.value
+    c.index-2.ensures
+
+pub give_slots-requires : goal.give_slots-requires
+give_slots-requires c =
+    rw (shows (goal.at.give_slots-requires c).After-index-2)
+    (split_taken (setup_of c.self.inside) (state_of c.self.inside) c.args.found.split
+    c.self.invariant.kept.tidy)
+
+after : (c : goal.After-record_event) →
+    Follows (with_tables c.self.inside c.give_slots.new.workers c.self.inside.holders
+    c.finish_split.new.entries c.self.inside.parts c.record_event.new.history) c.args.self.now (MapDone
+    c.args.attempt c.args.made) c.record_event.result
+after c =
+    let old = c.self.inside in
+    let split = c.args.found.split in
+    let one = numbered c.args.attempt c.args.found.worker in
+    let right = of_split (setup_of old) split c.args.made
+    (sym (c.is_wrong_map.ensures (setup_of old) refl) ∙ c.if-is_wrong_map.false) in
+    follows c.self.invariant c.self.view_is tt
+    (map_refusal c.self.invariant c.self.view_is c.args.made c.requires c.is_wrong_map.ensures
+    c.if-is_wrong_map.false (sym c.has_no_place.ensures ∙ c.if-has_no_place.false))
+    (rw c.record_event.ensures.capacity refl) c.record_event.ensures.items c.record_event.ensures.place
+    (done_is c.self.invariant.kept.tidy (split_runs_in c.self.invariant c.self.view_is c.requires.0)
+    ∙ rw (
+      c.give_slots.ensures,
+      shows (goal.at.returns c).After-index-2,
+      c.finish_split.ensures,
+      shown-done_at one c.args.made old.splits.items split,
+    ) refl) refl
+    (rw c.finish_split.ensures (made_done (setup_of old) one c.args.made old.splits.items split right
+    c.self.invariant.made))
+
+pub invariant_of-self : goal.invariant_of-self
+invariant_of-self c = (after c).master
+
+pub returns : goal.returns
+returns c = (after c).accepted

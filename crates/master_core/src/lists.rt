@@ -1,0 +1,38 @@
+//! The lists that grow with a master's history.
+ghost use Rattle.std.specs.Prelude.{◌≡◌, [], IfOk, vec_capacity};
+
+use master_state::{Event, Limits, Start};
+use shuffle_reduce::PartResult;
+use std::alloc::{AllocError, Global};
+
+// The lists that a master fills, as its history grows.
+#[derive(Drop)]
+pub(crate) struct Lists {
+    pub(crate) results: Vec<PartResult>,
+    pub(crate) starts: Vec<Start>,
+    pub(crate) sweeps: Vec<[u64; 256]>,
+    pub(crate) history: Vec<Event>,
+}
+
+// Empty lists, with room for a result of each part and for all that the limits allow.
+pub(crate) fn empty_lists(alloc: Global, parts: usize, limits: Limits) -> Result<Lists, AllocError>
+    ensures results { IfOk result (λ lists. lists.results.items ≡ []) }
+    ensures starts { IfOk result (λ lists. lists.starts.items ≡ []) }
+    ensures sweeps { IfOk result (λ lists. lists.sweeps.items ≡ []) }
+    ensures history { IfOk result (λ lists. lists.history.items ≡ []) }
+    ensures parts { IfOk result (λ lists. vec_capacity lists.results ≡ parts) }
+    ensures attempts { IfOk result (λ lists. vec_capacity lists.starts ≡ limits.attempts) }
+    ensures counts { IfOk result (λ lists. vec_capacity lists.sweeps ≡ limits.sweeps) }
+    ensures events { IfOk result (λ lists. vec_capacity lists.history ≡ limits.events) }
+{
+    let results = Vec::with_capacity(alloc, parts)?;
+    let starts = Vec::with_capacity(alloc, limits.attempts as usize)?;
+    let sweeps = Vec::with_capacity(alloc, limits.sweeps as usize)?;
+    let history = Vec::with_capacity(alloc, limits.events as usize)?;
+    Ok(Lists {
+        results,
+        starts,
+        sweeps,
+        history,
+    })
+}
