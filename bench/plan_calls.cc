@@ -4,7 +4,6 @@
 // of LEMON's NetworkSimplex, CostScaling and CapacityScaling.
 // usage: plan_calls direct|racks [CALLS] < TEXT
 #include <algorithm>
-#include <chrono>
 #include <cstdint>
 #include <cstdio>
 #include <cstdlib>
@@ -18,51 +17,12 @@
 
 #include "lemon_cost.h"
 #include "problem_network.h"
+#include "problem_rows.h"
 
 namespace {
 
-using Clock = std::chrono::steady_clock;
-
 // How often CapacityScaling is called: it takes up to forty times as long as the others, and never the least.
 constexpr int kCallsOfCapacity = 3;
-
-// The problem as the arrays that mrjob.h wants.
-struct Rows {
-  explicit Rows(const Problem& problem) : centres(problem.centres) {
-    centre_of.assign(problem.centre_of.begin(), problem.centre_of.end());
-    for (const Worker& worker : problem.workers) {
-      workers.push_back({static_cast<std::uint16_t>(worker.rack), static_cast<std::uint8_t>(worker.slots),
-                         static_cast<std::uint8_t>(worker.live)});
-    }
-    for (const Split& split : problem.splits) {
-      for (const int worker : split.barred) {
-        barred.push_back({static_cast<std::uint16_t>(splits.size()), static_cast<std::uint16_t>(worker)});
-      }
-      splits.push_back({static_cast<std::uint64_t>(split.bytes), static_cast<std::uint32_t>(holders.size()),
-                        static_cast<std::uint16_t>(split.holders.size()), split.pending});
-      holders.insert(holders.end(), split.holders.begin(), split.holders.end());
-    }
-  }
-
-  mrjob_wave Wave() const {
-    return {centres,       centre_of.data(), centre_of.size(), workers.data(), workers.size(), splits.data(),
-            splits.size(), holders.data(),   holders.size(),   barred.data(),  barred.size()};
-  }
-
-  std::size_t centres;
-  std::vector<std::uint16_t> centre_of, holders;
-  std::vector<mrjob_worker> workers;
-  std::vector<mrjob_split> splits;
-  std::vector<mrjob_pair> barred;
-};
-
-// Keeps the least time of the calls so far.
-template <typename Call>
-void Time(double& least, Call call) {
-  const Clock::time_point start = Clock::now();
-  call();
-  least = std::min(least, std::chrono::duration<double, std::micro>(Clock::now() - start).count());
-}
 
 // What a network costs where so many splits start at this byte-distance.
 std::int64_t CostOf(const Problem& problem, const mrjob_total& total) {
