@@ -49,6 +49,20 @@ def kit():
     return Path(subprocess.run(["rt", "doc"], check=True, capture_output=True, text=True).stdout.strip()).parent
 
 
+def rattle_words(command, crate, crates):
+    """The kit's command on a crate over its libraries, as they are built, for the crate's folder or a copy of it."""
+    folder = kit()
+    words = [f"{folder}/bin/rattle", command, "--crate-name", crate.name]
+    words.append("src/main.rt" if crate.is_program() else "src/lib.rt")
+    for name in ["std", *crate.libraries]:
+        rlib = crates[name].rlib if name in crates else f"{folder}/rlibs/{name}.rlib"
+        words += ["--extern", f"{name}={rlib}"]
+    for place in [f"{folder}/rlibs", *(it.rlib.parent for it in crate.below(crates))]:
+        words += ["-L", f"dependency={place}"]
+    words += ["--antt-project", f"{folder}/rattle/logic/antt-project.json", "--logic-built", f"{folder}/logic_built"]
+    return [*words, "--links", f"{crate.name}="]
+
+
 def places(memory):
     """How many checks that each take so many KiB fit side by side: one a processor, as far as memory holds them."""
     free = int(re.search(r"MemAvailable:\s+(\d+)", Path("/proc/meminfo").read_text())[1])

@@ -26,9 +26,8 @@ from dataclasses import dataclass
 from pathlib import Path
 
 sys.dont_write_bytecode = True
-from crates import PARTS, ROOT, kit, places, read_crates
+from crates import PARTS, ROOT, places, rattle_words, read_crates
 
-KIT = kit()
 # The memory on which a check is planned, in KiB.
 CHECK_MEMORY = 3_000_000
 
@@ -44,19 +43,6 @@ OPEN_ANSWER = re.compile(r"(?:\./)?proofs/(\S+)/Answers\.antt:\d+:\d+: error: `(
 OPEN_BELOW = re.compile(r"(?:\./)?proofs/(\S+)/Answers\.antt:\S+: error: \d+ \w+ that depends? on `([^`]+)`, .*: (.*)")
 # What antt says where an answer names what is no longer there.
 NAMES = re.compile(r"is not in scope|has no field|has no `|is no name|was not admitted")
-
-
-def check_words(crate, crates):
-    """The command that checks a copy of the crate over its built libraries, in the folder of the copy."""
-    words = [f"{KIT}/bin/rattle", "check", "--crate-name", crate.name]
-    words.append("src/main.rt" if crate.is_program() else "src/lib.rt")
-    for name in ["std", *crate.libraries]:
-        rlib = crates[name].rlib if name in crates else f"{KIT}/rlibs/{name}.rlib"
-        words += ["--extern", f"{name}={rlib}"]
-    for place in [f"{KIT}/rlibs", *(it.rlib.parent for it in crate.below(crates))]:
-        words += ["-L", f"dependency={place}"]
-    words += ["--antt-project", f"{KIT}/rattle/logic/antt-project.json", "--logic-built", f"{KIT}/logic_built"]
-    return [*words, "--jobs", "1", "--links", f"{crate.name}="]
 
 
 @dataclass(frozen=True)
@@ -188,7 +174,7 @@ class Trial:
     """The edits of a crate, tried on a copy of it in a room of its own, over what the earlier checks there proved."""
 
     def __init__(self, crate, crates, room):
-        self.crate, self.words, self.room = crate, check_words(crate, crates), Path(room)
+        self.crate, self.words, self.room = crate, [*rattle_words("check", crate, crates), "--jobs", "1"], Path(room)
         self.checks = self.seconds = 0
         kept = crate.folder / "out/incremental"
         if kept.is_dir():

@@ -1,7 +1,8 @@
 #!/usr/bin/env bash
 # The gate. `rt ci` proves every crate from nothing, tries the must-fail edits and runs the tests. Then, side by side,
-# edits.py tries the edits over the libraries that it left, and the scripts try the programs that it built; at last jobs
-# on a Dask cluster, where Dask is installed. The last line sums up what all of them counted.
+# edits.py tries the edits over the libraries that it left, the C library is built over them and tried, and the scripts
+# try the programs that it built; at last jobs on a Dask cluster, where Dask is installed. The last line sums up what
+# all of them counted.
 set -uo pipefail
 cd "$(dirname "$0")/.." || exit 1
 room=$(mktemp -d)
@@ -62,6 +63,7 @@ else
     start scripts/refused_calls.sh "${programs[@]}"
     start scripts/differential.py "${programs[@]}"
     start scripts/contrib.py "${programs[0]}"
+    start scripts/c_library.sh "${programs[0]}"
     start scripts/soak.py --short bin/mrjob
     start scripts/hdfs.py "${programs[@]}"
 fi

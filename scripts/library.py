@@ -2,7 +2,7 @@
 """Proves the crates that the C library stands on, and leaves the library in lib/, for include/mrjob.h.
 
     library.py             proves them side by side first, with a line for each, as build.py does
-    library.py --proved    where `rt ci` or `rt check` has proved them
+    library.py --proved    over the libraries that `rt ci` or `rt check` left, so that the last crate alone is proved
 
 lib/libmrjob.a has the two functions' object and the one by which it calls malloc, realloc and free; lib/libmrjob.so
 has the same, and shows no names but mrjob_*. Either wants the C library alone. lib/pkgconfig/mrjob.pc serves here and
@@ -17,7 +17,7 @@ from pathlib import Path
 
 sys.dont_write_bytecode = True
 from build import prove, stop_at_faults
-from crates import ROOT, kit, read_crates
+from crates import ROOT, kit, rattle_words, read_crates
 
 LIB = ROOT / "lib"
 LOG = LIB / "build.log"
@@ -36,6 +36,11 @@ Cflags: -I${includedir}
 
 def run(*words, **how):
     subprocess.run([str(it) for it in words], check=True, **how)
+
+
+def is_done(words, crate, log):
+    """Whether a command in the crate's folder ends well."""
+    return subprocess.run([str(it) for it in words], cwd=crate.folder, stdout=log, stderr=log).returncode == 0
 
 
 def version():
@@ -62,13 +67,18 @@ def main(words):
     crates = read_crates()
     crate = crates["mrjob_c"]
     LIB.mkdir(exist_ok=True)
+    archive = crate.folder / "out/libmrjob_c.a"
     with open(LOG, "w") as log:
-        proved = words == ["--proved"] or prove(crate, crates, log)
-        made = proved and subprocess.run(["rt", "lib"], cwd=crate.folder, stdout=log, stderr=log).returncode == 0
+        if words == ["--proved"]:
+            archive.parent.mkdir(exist_ok=True)
+            how = ["--crate-type", "staticlib", "--toolchain", kit() / "toolchain", "--backend", "llvm", "-o", archive]
+            made = is_done([*rattle_words("build", crate, crates), *how], crate, log)
+        else:
+            made = prove(crate, crates, log) and is_done(["rt", "lib"], crate, log)
     if not made:
         stop_at_faults(LOG)
     with tempfile.TemporaryDirectory() as room:
-        for archive in (crate.folder / "out/libmrjob_c.a", kit() / "c/liblibc_c.a"):
+        for archive in (archive, kit() / "c/liblibc_c.a"):
             run(kit() / "toolchain/bin/llvm-ar", "x", archive, cwd=room)
         link(sorted(Path(room).glob("*.o")), Path(room))
     (LIB / "pkgconfig").mkdir(exist_ok=True)
