@@ -6,13 +6,14 @@ use Rattle.std.proofs.Common.{map, refl, sym, ap, subst, inl, inr, ◌⊎◌, ar
 use Rattle.flow_network.specs.declared.arcs.FlowArc.{FlowArc}
 use Rattle.flow_network.specs.declared.arcs.ArcNo.{ArcNo}
 use Rattle.flow_network.specs.declared.arcs.ArcNo.TheVariants.{Forward, Reverse}
-use Rattle.flow_network.specs.Flows.{arc_at, arc_index, tail_of, leaving_of, Lacks, IsDistinct}
+use Rattle.flow_network.specs.Flows.{arc_at, arc_index, tail_of, head_of, leaving_of, Lacks, IsDistinct}
+use Rattle.flow_network.specs.Flows.{IsPath, IsResidual}
 use Rattle.flow_network.specs.Leaving.{IsIn}
 use Rattle.flow_network.proofs.Listed.{each_arc, in_at, in_left, in_right}
 use Rattle.flow_network.proofs.Paths.{IsPath-append}
 use Rattle.shortest_paths.specs.Lists.{ArcLists, AreResidualArcs, option_arcs, sink_arcs_at, stack_arcs}
 use Rattle.shortest_paths.specs.Lists.{inner_at, matched_at}
-use Rattle.shortest_paths.specs.Lowering.{AreTight}
+use Rattle.shortest_paths.specs.Lowering.{IsTight, AreTight}
 use Rattle.shortest_paths.specs.Matched.{GoesOver, GoesOnce}
 use Rattle.augmenting_paths.specs.TightPath.{IsTightPath, LeadsDown, GoesDown}
 
@@ -36,7 +37,7 @@ same_tight arcs h h' same (a ∷ path) t = (
 )
 
 -- one arc more
-GoesOver-push : (k : ℕ) (a : ArcNo) (path : List ArcNo) → GoesOver k (path ++ a ∷ [])
+pub GoesOver-push : (k : ℕ) (a : ArcNo) (path : List ArcNo) → GoesOver k (path ++ a ∷ [])
     → GoesOver k path ⊎ (arc_index a ≡ k)
 GoesOver-push k a [] o = elim o [ inl e ↦ inr e | inr n ↦ absurd n ]
 GoesOver-push k a (b ∷ path) o = elim o [
@@ -52,11 +53,57 @@ GoesOnce-push a (b ∷ path) n once = (
   GoesOnce-push a path (λ o. n (inr o)) once.1,
 )
 
-AreTight-push : (arcs : List FlowArc) (h : ℕ → ℕ) (path : List ArcNo) (k : ℕ)
-    → AreTight arcs h path → (h (arc_at arcs k).from ≡ (arc_at arcs k).cost + h (arc_at arcs k).to)
-    → AreTight arcs h (path ++ Forward k ∷ [])
-AreTight-push arcs h [] k t e = (e, tt)
-AreTight-push arcs h (a ∷ path) k t e = (t.0, AreTight-push arcs h path k t.1 e)
+AreTight-push : (arcs : List FlowArc) (h : ℕ → ℕ) (path : List ArcNo) (a : ArcNo)
+    → AreTight arcs h path → IsTight arcs h a → AreTight arcs h (path ++ a ∷ [])
+AreTight-push arcs h [] a t e = (e, tt)
+AreTight-push arcs h (b ∷ path) a t e = (t.0, AreTight-push arcs h path a t.1 e)
+
+pub tight_push : (arcs : List FlowArc) (flows : List ℕ) (h : ℕ → ℕ) (s v : ℕ) (path : List ArcNo) (a : ArcNo)
+    → IsTightPath arcs flows h s v path → IsResidual arcs flows a → IsTight arcs h a → tail_of arcs a ≡ v
+    → (GoesOver (arc_index a) path → ⊥) → IsTightPath arcs flows h s (head_of arcs a) (path ++ a ∷ [])
+tight_push arcs flows h s v path a way residual tight from n = record {
+  leads = IsPath-append arcs flows path (a ∷ []) s v _ way.leads (residual, from, refl);
+  once = GoesOnce-push a path n way.once;
+  tight = AreTight-push arcs h path a way.tight tight;
+}
+
+-- one arc less
+pub GoesOver-before : (k : ℕ) (a : ArcNo) (path : List ArcNo) → GoesOver k path → GoesOver k (path ++ a ∷ [])
+GoesOver-before k a [] o = absurd o
+GoesOver-before k a (b ∷ path) (inl e) = inl e
+GoesOver-before k a (b ∷ path) (inr o) = inr (GoesOver-before k a path o)
+
+pub GoesOver-last : (a : ArcNo) (path : List ArcNo) → GoesOver (arc_index a) (path ++ a ∷ [])
+GoesOver-last a [] = inl refl
+GoesOver-last a (b ∷ path) = inr (GoesOver-last a path)
+
+GoesOnce-pop : (a : ArcNo) (path : List ArcNo) → GoesOnce (path ++ a ∷ []) → GoesOnce path
+GoesOnce-pop a [] once = tt
+GoesOnce-pop a (b ∷ path) once =
+    ((λ o. once.0 (GoesOver-before (arc_index b) a path o)), GoesOnce-pop a path once.1)
+
+AreTight-pop : (arcs : List FlowArc) (h : ℕ → ℕ) (path : List ArcNo) (a : ArcNo)
+    → AreTight arcs h (path ++ a ∷ []) → AreTight arcs h path
+AreTight-pop arcs h [] a t = tt
+AreTight-pop arcs h (b ∷ path) a t = (t.0, AreTight-pop arcs h path a t.1)
+
+IsPath-pop : (arcs : List FlowArc) (flows : List ℕ) (path : List ArcNo) (a : ArcNo) (u v : ℕ)
+    → IsPath arcs flows (path ++ a ∷ []) u v → IsPath arcs flows path u (tail_of arcs a)
+IsPath-pop arcs flows [] a u v p = sym p.1
+IsPath-pop arcs flows (b ∷ path) a u v p = (p.0, p.1, IsPath-pop arcs flows path a _ v p.2)
+
+pub last_residual : (arcs : List FlowArc) (flows : List ℕ) (path : List ArcNo) (a : ArcNo) (u v : ℕ)
+    → IsPath arcs flows (path ++ a ∷ []) u v → IsResidual arcs flows a
+last_residual arcs flows [] a u v p = p.0
+last_residual arcs flows (b ∷ path) a u v p = last_residual arcs flows path a _ v p.2
+
+pub tight_pop : (arcs : List FlowArc) (flows : List ℕ) (h : ℕ → ℕ) (s v : ℕ) (path : List ArcNo) (a : ArcNo)
+    → IsTightPath arcs flows h s v (path ++ a ∷ []) → IsTightPath arcs flows h s (tail_of arcs a) path
+tight_pop arcs flows h s v path a way = record {
+  leads = IsPath-pop arcs flows path a s v way.leads;
+  once = GoesOnce-pop a path way.once;
+  tight = AreTight-pop arcs h path a way.tight;
+}
 
 -- one arc further down
 module _ (arcs : List FlowArc) (flows : List ℕ) (h : ℕ → ℕ) (sink s v : ℕ) (path : List ArcNo) (k : ℕ)
@@ -64,12 +111,9 @@ module _ (arcs : List FlowArc) (flows : List ℕ) (h : ℕ → ℕ) (sink s v : 
     (on : LeadsDown arcs flows h sink k) (from : (arc_at arcs k).from ≡ v) where
   goes_on : GoesDown arcs flows h sink s (arc_at arcs k).to (path ++ Forward k ∷ [])
   goes_on = record {
-    path_to = record {
-      leads = IsPath-append arcs flows path (Forward k ∷ []) s v _ way.leads
-          (record { listed = on.open_arc.listed; room = (let room = on.open_arc.room in omega arith) }, from, refl);
-      once = GoesOnce-push (Forward k) path (λ o. (let low = before k o in absurd (omega arith))) way.once;
-      tight = AreTight-push arcs h path k way.tight on.open_arc.tight;
-    };
+    path_to = tight_push arcs flows h s v path (Forward k) way
+        (record { listed = on.open_arc.listed; room = (let room = on.open_arc.room in omega arith) })
+        on.open_arc.tight from (λ o. (let low = before k o in absurd (omega arith)));
     earlier = λ further j o. (let later : (arc_at arcs k).from < (arc_at arcs k).to =
         elim on.down [ inl e ↦ absurd (further e) | inr l ↦ l ] in
         elim (GoesOver-push j (Forward k) path o) [

@@ -10,6 +10,7 @@ use Rattle.shortest_paths.specs.Sorted.{AreSorted}
 use Rattle.augmenting_paths.specs.declared.augment.Shipping.{Shipping}
 use Rattle.augmenting_paths.specs.Shipping.{CanShip, HasShipped, IsLifted}
 use Rattle.augmenting_paths.specs.TightPath.{IsTightPath}
+use Rattle.augmenting_paths.specs.DepthFirst.{HasNodes}
 
 -- so many sources of the order have shipped, and one has not
 pub record MayShipNext {L : Type 0} (node_count : L → ℕ) (network : Flow L) (order : List ℕ)
@@ -31,6 +32,7 @@ pub record AreKept {L : Type 0} (node_count : L → ℕ) (network : Flow L) (sin
   pub looks : s.looks ≤ count * (2 * length network.arcs)
   pub size : length s.potentials ≡ node_count network.layout
   pub buffers : s.buffers ≡ node_count network.layout
+  pub trail : HasNodes (node_count network.layout) s.trail
   pub lists : KeepsArcs (node_count network.layout) network.arcs network.flows sink s.lists
 
 -- the next source is lifted

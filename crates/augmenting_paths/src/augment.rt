@@ -8,10 +8,13 @@ ghost use Rattle.shortest_paths.specs.Searching.{distance_at};
 ghost use Rattle.shortest_paths.specs.ToSink.{IsSearched, IsTrace};
 ghost use Rattle.augmenting_paths.specs.Shipping.{CanShip, HasShipped, IsCheapest, AreMembers, IsLifted};
 ghost use Rattle.augmenting_paths.specs.Shipping.{AreMarked};
+ghost use Rattle.augmenting_paths.specs.TightPath.{IsTightPath};
+ghost use Rattle.augmenting_paths.specs.DepthFirst.{HasNodes};
 ghost use Rattle.augmenting_paths.specs.NextUnit.{MayShipNext, AreKept, HasLiftedNext, HasFoundNext};
 
 use crate::order::shipping_order;
 use crate::requirements::indices;
+use crate::trail::Trail;
 use crate::walk::walk_down;
 use flow_network::{ArcNo, FlowArc, Meter, Network};
 use node_ids::Layout;
@@ -24,6 +27,7 @@ struct Shipping {
     potentials: Potentials,
     lists: ResidualArcs,
     buffers: Buffers,
+    trail: Trail,
     path: Vec<ArcNo>,
     looks: u64,
 }
@@ -87,6 +91,7 @@ fn ship_all<L: Layout>(
         potentials: Potentials::new(alloc, nodes)?,
         lists: ResidualArcs::new(alloc, network, marks, sink)?,
         buffers: Buffers::new(alloc, nodes)?,
+        trail: Trail::new(alloc, nodes)?,
         path: Vec::new(alloc),
         looks: 0,
     };
@@ -122,7 +127,8 @@ fn ship<L: Layout>(
 }
 
 // Finds a path for the unit of the next source, under lowered potentials over which it costs nothing. The
-// source is lifted first, so that an arc of reduced cost 0 leaves it: then a walk mostly comes to the sink.
+// source is lifted first, so that an arc of reduced cost 0 leaves it: then a path is mostly found over such
+// arcs alone, and no potential is lowered.
 fn find_path<L: Layout>(
     alloc: Global,
     network: &Network<L>,
@@ -143,24 +149,57 @@ fn find_path<L: Layout>(
         mut potentials,
         lists,
         buffers,
+        mut trail,
         mut path,
         looks,
     } = shipping;
     network.limits();
     let start = order[count];
     lift(network, &mut potentials, start);
-    let walked = walk_down(network, &potentials, &lists, start, sink, &mut path)?;
+    let is_found = tight_path(
+        network,
+        &potentials,
+        &lists,
+        &mut trail,
+        start,
+        sink,
+        &mut path,
+    )?;
     let lifted = Shipping {
         potentials,
         lists,
         buffers,
+        trail,
         path,
         looks,
     };
-    if walked {
+    if is_found {
         return Ok(lifted);
     }
     search_path(alloc, network, lifted, order, sink, count)
+}
+
+// Whether a walk comes from a node to the sink, or else a search over tight arcs, and then its path.
+fn tight_path<L: Layout>(
+    network: &Network<L>,
+    potentials: &Potentials,
+    lists: &ResidualArcs,
+    trail: &mut Trail,
+    start: usize,
+    sink: usize,
+    path: &mut Vec<ArcNo>,
+) -> Result<bool, AllocError>
+    requires may { MaySearch L.node_count network.now potentials.now lists.now sink }
+    requires nodes { HasNodes (length potentials.now) trail.old }
+    requires start { start < length potentials.now }
+    ensures nodes { HasNodes (length potentials.now) trail.new }
+    ensures tight { IfOk result (λ b. IsTrue b → IsTightPath network.now.arcs network.now.flows
+        (slice_index potentials.now) start sink path.new.items) }
+{
+    if walk_down(network, potentials, lists, start, sink, path)? {
+        return Ok(true);
+    }
+    trail.search(network, potentials, lists, start, sink, path)
 }
 
 // The same by a search, where the source is lifted.
@@ -184,6 +223,7 @@ fn search_path<L: Layout>(
         mut potentials,
         lists,
         buffers,
+        mut trail,
         mut looks,
         ..
     } = shipping;
@@ -203,10 +243,12 @@ fn search_path<L: Layout>(
         None => unreachable!(),
     };
     let buffers = found.lower(&mut potentials);
+    trail.open_all(count + 2);
     Ok(Shipping {
         potentials,
         lists,
         buffers,
+        trail,
         path,
         looks,
     })
@@ -234,6 +276,7 @@ fn push<L: Layout>(
         potentials,
         mut lists,
         buffers,
+        trail,
         path,
         looks,
     } = shipping;
@@ -244,6 +287,7 @@ fn push<L: Layout>(
         potentials,
         lists,
         buffers,
+        trail,
         path,
         looks,
     })

@@ -10,6 +10,7 @@
 mod augment;
 mod order;
 mod requirements;
+mod trail;
 mod walk;
 
 pub use augment::saturate;

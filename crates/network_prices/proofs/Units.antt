@@ -1,14 +1,18 @@
 -- Each arc hands on the units that it carries.
-use Rattle.std.proofs.Common.{◌≡◌, ℕ, zero, suc, ◌+◌, ◌<◌, ◌≤◌, Bool, true, false, cond, eqb, List, [], ◌∷◌}
-use Rattle.std.proofs.Common.{length, get_or, set, refl, sym, ◌∙◌, subst, inl, inr, arith}
-use Rattle.std.specs.Prelude.{◌==◌}
-use Rattle.std.proofs.lemmas.Bool.{cases_eq, ne_eqb}
+use Rattle.std.proofs.Common.{◌≡◌, ℕ, zero, suc, ◌+◌, ◌-◌, ◌<◌, ◌≤◌, Bool, true, false, cond, eqb, List, [], ◌∷◌}
+use Rattle.std.proofs.Common.{length, get_or, set, refl, sym, ap, ◌∙◌, subst, inl, inr, arith, get_or-set_same, get_or-set_other}
+use Rattle.std.specs.Prelude.{◌==◌, drop}
+use Rattle.std.proofs.lemmas.Bool.{cases_eq, eq-eqb, ne_eqb}
+use Rattle.std.proofs.lemmas.List.{drop_more, drop-set-lt, length-set}
 use Rattle.std.proofs.lemmas.List.Sums.{sum_by-cons}
 use Rattle.flow_network.specs.declared.arcs.FlowArc.{FlowArc}
 use Rattle.flow_network.specs.Flows.{arc_at}
 use Rattle.flow_network.proofs.HandOn.{enough_wait, inflow-more, outflow-more}
 use Rattle.network_prices.specs.Ways.{CameFrom}
-use Rattle.network_prices.specs.HandOn.{standing, IsMoved, CanHandOn, IsHandedOn}
+use Rattle.network_prices.specs.HandOn.{standing, HaveLeft, IsMoved, IsMoving, CanHandOn, IsHandedOn}
+
+none : (b : Bool) (f : ℕ) → b ≡ false → cond b f 0 ≡ 0
+none b f e = rw e refl
 
 -- one unit moves
 pub standing-set : (places : List ℕ) (i v x : ℕ) → i < length places
@@ -23,6 +27,38 @@ standing-set (p ∷ places) (suc i) v x l =
     let b = sum_by-cons (λ (place : ℕ). cond (place == x) 1 0) p (set places i v) in
     let rest = standing-set places i v x (omega arith) in omega arith
 
+-- those past the first places, none of which is at the node, are all
+pub standing_past : (places : List ℕ) (i v : ℕ) → HaveLeft places v i
+    → standing (drop i places) v ≡ standing places v
+standing_past places zero v left = refl
+standing_past [] (suc i) v left = refl
+standing_past (p ∷ places) (suc i) v left =
+    let rest : standing (drop (suc i) (p ∷ places)) v ≡ standing places v =
+    standing_past places i v (λ s l. left (suc s) (omega arith)) in
+    let more = sum_by-cons (λ (place : ℕ). cond (place == v) 1 0) p places in
+    let off : eqb p v ≡ false = ne_eqb p v (left zero (omega arith)) in
+    let here : cond (eqb p v) 1 0 ≡ 0 = none (eqb p v) 1 off in omega (arith, rest, more, here)
+
+-- one place more
+pub left_past : (places : List ℕ) (i v : ℕ) → HaveLeft places v i → (get_or places i 0 ≡ v → ⊥)
+    → HaveLeft places v (i + 1)
+left_past places i v left other s l e = elim (cases_eq s i) [
+  | inl here ↦ other (ap (λ j. get_or places j 0) (sym here) ∙ e)
+  | inr n ↦ left s (omega arith) e
+]
+
+pub left_set : (places : List ℕ) (i u v : ℕ) → HaveLeft places u i → i < length places → (u ≡ v → ⊥)
+    → HaveLeft (set places i v) u (i + 1)
+left_set places i u v left l apart s m e = elim (cases_eq s i) [
+  | inl here ↦ apart (sym (sym (get_or-set_same places i v 0 l) ∙ ap (λ j. get_or (set places i v) j 0) (sym here)
+      ∙ e))
+  | inr n ↦ left s (omega arith) (sym (get_or-set_other places i s v 0 n) ∙ e)
+]
+
+either : (b : Bool) (f : ℕ) → f ≡ 0 → cond b f 0 ≡ 0
+either true f e = e
+either false f e = refl
+
 -- no unit moves
 pub none_moved : (places : List ℕ) (u v units : ℕ) → units ≡ 0 → IsMoved places places u v units
 none_moved places u v units e = record {
@@ -30,13 +66,79 @@ none_moved places u v units e = record {
   each = λ s l. inl refl;
   counts = λ x. (let a = either (eqb u x) units e in let b = either (eqb v x) units e in omega arith);
 }
-  where
-    either : (b : Bool) (f : ℕ) → f ≡ 0 → cond b f 0 ≡ 0
-    either true f e = e
-    either false f e = refl
 
-none : (b : Bool) (f : ℕ) → b ≡ false → cond b f 0 ≡ 0
-none b f e = rw e refl
+-- nor has any, past the first places
+pub none_moving : (places : List ℕ) (u v units first : ℕ) → units ≤ standing places u → HaveLeft places u first
+    → IsMoving places places u v units units first
+none_moving places u v units first enough left = record {
+  size = refl;
+  few_left = omega arith;
+  each = λ s l. inl refl;
+  rest = λ s l. refl;
+  counts = λ x.
+      (let a = either (u == x) (units - units) (omega arith) in
+      let b = either (v == x) (units - units) (omega arith) in omega arith);
+  enough = (let past = standing_past places first u left in omega arith);
+}
+
+all : (b : Bool) (f : ℕ) → b ≡ true → cond b f 0 ≡ f
+all b f e = rw e refl
+
+one_more : (b : Bool) (f g : ℕ) → g ≡ f + 1 → cond b g 0 ≡ cond b f 0 + cond b 1 0
+one_more true f g e = e
+one_more false f g e = refl
+
+-- one place more is looked at: its unit is at another node, or moves
+module _ (old now : List ℕ) (u v units left i : ℕ) (moving : IsMoving old now u v units left i)
+    (l : i < length now) where
+  rest_is : standing (drop i now) u ≡ cond (eqb (get_or now i 0) u) 1 0 + standing (drop (i + 1) now) u
+  rest_is = ap (λ (places : List ℕ). standing places u) (drop_more now i 0 l)
+      ∙ sum_by-cons (λ (place : ℕ). cond (place == u) 1 0) (get_or now i 0) (drop (i + 1) now)
+
+  pub moving_past : (get_or now i 0 ≡ u → ⊥) → IsMoving old now u v units left (i + 1)
+  moving_past other = record {
+    size = moving.size;
+    few_left = moving.few_left;
+    each = moving.each;
+    rest = λ s m. moving.rest s (omega arith);
+    counts = moving.counts;
+    enough = (let more = rest_is in let enough = moving.enough in
+        let here : cond (eqb (get_or now i 0) u) 1 0 ≡ 0 =
+        none (eqb (get_or now i 0) u) 1 (ne_eqb (get_or now i 0) u other) in
+        omega (arith, more, enough, here));
+  }
+
+  pub moving_one : get_or now i 0 ≡ u → (left ≡ 0 → ⊥)
+      → IsMoving old (set now i v) u v units (left - 1) (i + 1)
+  moving_one at some = record {
+    size = length-set now i v ∙ moving.size;
+    few_left = (let few = moving.few_left in omega arith);
+    each = λ s m. elim (cases_eq s i) [
+      | inl here ↦ inr (
+        (let few = moving.few_left in omega arith),
+        ap (λ j. get_or old j 0) here ∙ sym (moving.rest i (omega arith)) ∙ at,
+        ap (λ j. get_or (set now i v) j 0) here ∙ get_or-set_same now i v 0 l,
+      )
+      | inr n ↦ elim (moving.each s m) [
+        | inl same ↦ inl (get_or-set_other now i s v 0 n ∙ same)
+        | inr on ↦ inr ((let few = on.0 in omega arith), on.1, get_or-set_other now i s v 0 n ∙ on.2)
+      ]
+    ];
+    rest = λ s m. get_or-set_other now i s v 0 (λ e. absurd (omega arith)) ∙ moving.rest s (omega arith);
+    counts = λ x.
+        (let few = moving.few_left in let old_counts = moving.counts x in
+        let set_counts : standing (set now i v) x + cond (eqb u x) 1 0 ≡ standing now x + cond (eqb v x) 1 0 =
+        subst (λ w. standing (set now i v) x + cond (eqb w x) 1 0 ≡ standing now x + cond (eqb v x) 1 0) at
+        (standing-set now i v x l) in
+        let a = one_more (eqb u x) (units - left) (units - (left - 1)) (omega arith) in
+        let b = one_more (eqb v x) (units - left) (units - (left - 1)) (omega arith) in
+        omega (arith, old_counts, set_counts, a, b));
+    enough = (let more = rest_is in let enough = moving.enough in
+        let here : cond (eqb (get_or now i 0) u) 1 0 ≡ 1 =
+        all (eqb (get_or now i 0) u) 1 (eq-eqb (get_or now i 0) u at) in
+        let same : standing (drop (i + 1) (set now i v)) u ≡ standing (drop (i + 1) now) u = ap (λ (places : List ℕ). standing places u) (drop-set-lt (i + 1) now i v (omega arith)) in
+        omega (arith, more, enough, here, same));
+  }
 
 module _ (arcs : List FlowArc) (flows : List ℕ) (sink : ℕ) (first now : List ℕ)
     (can : CanHandOn arcs flows sink first) where

@@ -18,8 +18,8 @@ lift-requires-clause-arc g c =
     let low = w.4 in
     (w.0, w.1, w.2, w.3, omega arith)
 
-pub walk_down-requires-clause-may : goal.walk_down-requires-clause-may
-walk_down-requires-clause-may g c =
+pub tight_path-requires-clause-may : goal.tight_path-requires-clause-may
+tight_path-requires-clause-may g c =
     may_search _ _ _ _ _ _ _ c.limits.ensures c.requires.next (c.lift.ensures.size ∙ c.requires.kept.size)
     c.requires.kept.lists (record {
       h = slice_index c.args.shipping.potentials;
@@ -27,13 +27,13 @@ walk_down-requires-clause-may g c =
       up = c.lift.ensures.lifted;
     })
 
-pub walk_down-requires-clause-node : goal.walk_down-requires-clause-node
-walk_down-requires-clause-node g c =
+pub tight_path-requires-clause-start : goal.tight_path-requires-clause-start
+tight_path-requires-clause-start g c =
     let inside = start_in _ _ _ _ _ _ _ c.requires.next.can c.requires.next.left c.requires.state in
     let size = c.lift.ensures.size ∙ c.requires.kept.size in
     omega arith
 
-pub returns-then-walked-clause-found : goal.returns-then-walked-clause-found
-returns-then-walked-clause-found g c =
+pub returns-then-is_found-clause-found : goal.returns-then-is_found-clause-found
+returns-then-is_found-clause-found g c =
     lifted_found _ _ _ _ _ _ _ c.requires.next.can c.requires.next.left c.requires.state _
-    c.lift.ensures.lifted _ (c.in_ok-walked.ensures c.if-walked.true)
+    c.lift.ensures.lifted _ (c.in_ok-is_found.ensures.tight c.if-is_found.true)

@@ -45,6 +45,7 @@ returns-clause-kept g c =
       looks = old.looks;
       size = old.size;
       buffers = old.buffers;
+      trail = old.trail;
       lists = record {
         sorted = subst (λ (w : ArcLists). AreSorted (g.L.Layout.node_count c.args.network.now.layout)
             c.args.network.now.arcs c.args.sink w) (sym lists)

@@ -1,4 +1,4 @@
-use Rattle.std.proofs.Common.{◌≡◌, arith}
+use Rattle.std.proofs.Common.{◌≡◌, ◌∙◌, arith}
 use Rattle.std.specs.Prelude.{slice_index}
 use Rattle.augmenting_paths.proofs.NextUnit.{may_search}
 use Rattle.augmenting_paths.proofs.Shipped.{start_in, sink_in, not_none, total_low, unit_found}
@@ -33,6 +33,15 @@ lower-buffers-requires-clause-low g c =
     total_low _ _ _ _ _ _ _ c.requires.next.can c.requires.next.left c.requires.lifted.state _
     c.requires.lifted.up c.in_ok-found.found c.in_ok-found.ensures.total c.in_ok-found.ensures.searched
     c.in_ok-found.ensures.path c.requires.next.limit
+
+pub returns-clause-kept : goal.returns-clause-kept
+returns-clause-kept g c = record {
+  looks = (let old = c.requires.kept.looks in let new = c.find.ensures.looks in omega arith);
+  size = c.lower-buffers.ensures.size ∙ c.requires.kept.size;
+  buffers = c.lower-buffers.ensures.nodes ∙ c.in_ok-found.ensures.size ∙ c.requires.kept.size;
+  trail = c.open_all.ensures _ c.requires.kept.trail;
+  lists = c.requires.kept.lists;
+}
 
 pub returns-clause-found : goal.returns-clause-found
 returns-clause-found g c =

@@ -34,6 +34,7 @@ loop-count-init g c =
         looks = omega arith;
         size = ap length c.in_ok-new.ensures ∙ length-replicate {A = ℕ} c.size-nodes.result 0 ∙ nodes;
         buffers = c.in_ok-new-3.ensures ∙ nodes;
+        trail = rw nodes at c.in_ok-new-4.ensures;
         lists = record {
           sorted = c.in_ok-new-2.ensures.sorted;
           matched = c.in_ok-new-2.ensures.matched;

@@ -1,0 +1,105 @@
+-- A trail grows at its end, or loses its last arc.
+use Rattle.std.proofs.Common.{◌≡◌, ℕ, zero, suc, ◌<◌, List, [], ◌∷◌, ◌++◌, length, map, get_or, set, refl, sym, ap, ◌∙◌, subst}
+use Rattle.std.proofs.Common.{inl, inr, arith, get_or-set_same, get_or-set_other}
+use Rattle.std.proofs.lemmas.Bool.{cases_eq}
+use Rattle.std.specs.Prelude.{slice_index}
+use Rattle.flow_network.specs.declared.arcs.FlowArc.{FlowArc}
+use Rattle.flow_network.specs.declared.arcs.ArcNo.{ArcNo}
+use Rattle.flow_network.specs.declared.arcs.ArcNo.TheVariants.{Forward, Reverse}
+use Rattle.flow_network.specs.Flows.{arc_at, arc_index, tail_of, head_of, leaving_of}
+use Rattle.flow_network.specs.Leaving.{IsIn}
+use Rattle.flow_network.proofs.Listed.{each_arc, in_left, in_right}
+use Rattle.shortest_paths.specs.Lists.{ArcLists, AreResidualArcs, sink_arcs_at, stack_arcs, inner_at, matched_at}
+use Rattle.shortest_paths.specs.Matched.{GoesOver}
+use Rattle.augmenting_paths.specs.DepthFirst.{IsOf, GoesOn, IsTrail}
+use Rattle.augmenting_paths.proofs.TightPath.{tight_push, tight_pop, GoesOver-push, GoesOver-before, GoesOver-last}
+
+-- both ends of an arc are closed
+abbrev AreClosed : List FlowArc → List ℕ → ℕ → ℕ → Type 0
+AreClosed arcs closed time k =
+    (slice_index closed (arc_at arcs k).from ≡ time) × (slice_index closed (arc_at arcs k).to ≡ time)
+
+tail_closed : (arcs : List FlowArc) (closed : List ℕ) (time : ℕ) (a : ArcNo)
+    → AreClosed arcs closed time (arc_index a) → slice_index closed (tail_of arcs a) ≡ time
+tail_closed arcs closed time (Forward k) e = e.0
+tail_closed arcs closed time (Reverse k) e = e.1
+
+head_closed : (arcs : List FlowArc) (closed : List ℕ) (time : ℕ) (a : ArcNo)
+    → AreClosed arcs closed time (arc_index a) → slice_index closed (head_of arcs a) ≡ time
+head_closed arcs closed time (Forward k) e = e.1
+head_closed arcs closed time (Reverse k) e = e.0
+
+ends_closed : (arcs : List FlowArc) (closed : List ℕ) (time : ℕ) (a : ArcNo)
+    → slice_index closed (tail_of arcs a) ≡ time → slice_index closed (head_of arcs a) ≡ time
+    → AreClosed arcs closed time (arc_index a)
+ends_closed arcs closed time (Forward k) t h = (t, h)
+ends_closed arcs closed time (Reverse k) t h = (h, t)
+
+-- one node more is closed
+stays_closed : (closed : List ℕ) (time v w : ℕ) → v < length closed → slice_index closed w ≡ time
+    → slice_index (set closed v time) w ≡ time
+stays_closed closed time v w l c = elim (cases_eq w v) [
+  | inl e ↦ ap (λ i. get_or (set closed v time) i 0) e ∙ get_or-set_same closed v time 0 l
+  | inr n ↦ get_or-set_other closed v w time 0 n ∙ c
+]
+
+pub trail_begins : (arcs : List FlowArc) (flows : List ℕ) (h : ℕ → ℕ) (closed : List ℕ) (time s : ℕ)
+    → s < length closed → IsTrail arcs flows h (set closed s time) time s s []
+trail_begins arcs flows h closed time s l = record {
+  way = record { leads = refl; once = tt; tight = tt };
+  here = get_or-set_same closed s time 0 l;
+  ends = λ k o. absurd o;
+}
+
+pub trail_goes_on : (arcs : List FlowArc) (flows : List ℕ) (h : ℕ → ℕ) (closed : List ℕ) (time s v : ℕ)
+    (path : List ArcNo) (a : ArcNo) → IsTrail arcs flows h closed time s v path
+    → GoesOn arcs flows h closed time v a → head_of arcs a < length closed
+    → IsTrail arcs flows h (set closed (head_of arcs a) time) time s (head_of arcs a) (path ++ a ∷ [])
+trail_goes_on arcs flows h closed time s v path a trail on l =
+    let stays : (w : ℕ) → slice_index closed w ≡ time → slice_index (set closed (head_of arcs a) time) w ≡ time =
+    λ w. stays_closed closed time (head_of arcs a) w l in
+    let here : slice_index (set closed (head_of arcs a) time) (head_of arcs a) ≡ time =
+    get_or-set_same closed (head_of arcs a) time 0 l in
+    let tail : slice_index closed (tail_of arcs a) ≡ time = ap (λ w. get_or closed w 0) on.from ∙ trail.here in
+    record {
+      way = tight_push arcs flows h s v path a trail.way on.open_arc.residual on.open_arc.tight on.from
+          (λ o. on.open_arc.fresh (head_closed arcs closed time a (trail.ends (arc_index a) o)));
+      here = here;
+      ends = λ k o. elim (GoesOver-push k a path o) [
+        | inl old ↦ (stays _ (trail.ends k old).0, stays _ (trail.ends k old).1)
+        | inr e ↦ subst (λ j. AreClosed arcs (set closed (head_of arcs a) time) time j) e
+            (ends_closed arcs _ time a (stays _ tail) here)
+      ];
+    }
+
+pub trail_goes_back : (arcs : List FlowArc) (flows : List ℕ) (h : ℕ → ℕ) (closed : List ℕ) (time s v : ℕ)
+    (path : List ArcNo) (a : ArcNo) → IsTrail arcs flows h closed time s v (path ++ a ∷ [])
+    → IsTrail arcs flows h closed time s (tail_of arcs a) path
+trail_goes_back arcs flows h closed time s v path a trail = record {
+  way = tight_pop arcs flows h s v path a trail.way;
+  here = tail_closed arcs closed time a (trail.ends (arc_index a) (GoesOver-last a path));
+  ends = λ k o. trail.ends k (GoesOver-before k a path o);
+}
+
+-- the arcs of the lists leave their nodes
+pub own_of : (arcs : List FlowArc) (v : ℕ) (a : ArcNo) → IsIn a (leaving_of arcs v) → IsOf arcs v a
+own_of arcs v a i = let o = (each_arc arcs v a).1 i in record { listed = o.0; from = o.1 }
+
+module _ (arcs : List FlowArc) (flows : List ℕ) (sink : ℕ) (g : ArcLists) (v : ℕ)
+    (lists : AreResidualArcs arcs flows sink g) where
+  pub inner_of : (a : ArcNo) → IsIn a (inner_at g v) → IsOf arcs v a
+  inner_of a i = let o = lists.own v a (in_right a (sink_arcs_at g v) (stack_arcs g v)
+      (in_left a (inner_at g v) (map Reverse (matched_at g v)) i)) in record { listed = o.0; from = o.1 }
+
+  in_reverse : (ks : List ℕ) (i : ℕ) → i < length ks → IsIn (Reverse (get_or ks i 0)) (map Reverse ks)
+  in_reverse [] i l = absurd (omega arith)
+  in_reverse (k ∷ ks) zero l = inl refl
+  in_reverse (k ∷ ks) (suc i) l = inr (in_reverse ks i (omega arith))
+
+  pub matched_of : (i : ℕ) → i < length (matched_at g v)
+      → IsOf arcs v (Reverse (slice_index (matched_at g v) i))
+  matched_of i l =
+      let o = lists.own v (Reverse (slice_index (matched_at g v) i))
+      (in_right _ (sink_arcs_at g v) (stack_arcs g v)
+      (in_right _ (inner_at g v) (map Reverse (matched_at g v)) (in_reverse (matched_at g v) i l))) in
+      record { listed = o.0; from = o.1 }

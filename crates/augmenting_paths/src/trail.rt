@@ -1,0 +1,245 @@
+//! A path over which a unit costs nothing more, by a search that goes depth first over tight arcs.
+ghost use Rattle.std.specs.Prelude.{◌≡◌, ℕ, ◌+◌, ◌<◌, ◌≤◌, length, slice_index, slice_set, IfOk, IfSome, IsTrue};
+ghost use Rattle.flow_network.specs.Flows.{arc_index, tail_of};
+ghost use Rattle.flow_network.specs.Leaving.{IsIn};
+ghost use Rattle.shortest_paths.specs.Search.{MaySearch};
+ghost use Rattle.augmenting_paths.specs.TightPath.{IsTightPath};
+ghost use Rattle.augmenting_paths.specs.DepthFirst.{HasNodes, IsOf, IsOpenArc, GoesOn};
+
+use flow_network::{ArcNo, FlowArc, Meter, Network};
+use node_ids::Layout;
+use shortest_paths::{Potentials, ResidualArcs, leaving};
+use std::alloc::{AllocError, Global};
+
+/// The nodes as such searches leave them. Those that are closed lie on the path of one, or none came from
+/// them to the sink: that stays so until the potentials change, but for that of a source that is lifted, so
+/// the next ones pass them by. A node is closed by the number of its time, and all are open in another one.
+#[derive(Drop)]
+pub struct Trail {
+    closed: Vec<usize>,
+    // how many of a node's arcs are still to be looked at, or any number that is greater
+    left: Vec<usize>,
+    time: usize,
+}
+
+impl Trail {
+    /// So many nodes, none of them closed.
+    pub fn new(alloc: Global, nodes: usize) -> Result<Trail, AllocError>
+        ensures { IfOk result (λ t. HasNodes nodes t) }
+    {
+        Ok(Trail {
+            closed: vec![in alloc; 0; nodes]?,
+            left: vec![in alloc; 0; nodes]?,
+            time: 1,
+        })
+    }
+
+    /// Opens all nodes: a time begins, whose number is not 0 and that of no other.
+    pub fn open_all(&mut self, time: usize)
+        ensures { (nodes : ℕ) → HasNodes nodes self.old → HasNodes nodes self.new }
+    {
+        self.time = time;
+    }
+
+    /// Whether a search from a node comes to the sink, and then its path, whose nodes are open again. It
+    /// enters each node at most once, and looks at each of its arcs at most once.
+    pub fn search<L: Layout>(
+        &mut self,
+        network: &Network<L>,
+        potentials: &Potentials,
+        lists: &ResidualArcs,
+        start: usize,
+        sink: usize,
+        path: &mut Vec<ArcNo>,
+    ) -> Result<bool, AllocError>
+        requires may { MaySearch L.node_count network.now potentials.now lists.now sink }
+        requires nodes { HasNodes (length potentials.now) self.old }
+        requires start { start < length potentials.now }
+        ensures nodes { HasNodes (length potentials.now) self.new }
+        ensures tight { IfOk result (λ b. IsTrue b → IsTightPath network.now.arcs network.now.flows
+            (slice_index potentials.now) start sink path.new.items) }
+    {
+        network.limits();
+        path.clear();
+        self.enter(start);
+        let mut top = start;
+        // (each node is entered once, and left once)
+        for _turn in 0..2 * self.closed.len() {
+            if top == sink {
+                self.closed[start] = 0;
+                open_ends(&mut self.closed, network, path);
+                return Ok(true);
+            }
+            match self.next(network, potentials, lists, top) {
+                Some(arc) => {
+                    path.push(arc)?;
+                    top = network.view(arc).to;
+                    self.enter(top);
+                }
+                None => {
+                    let Some(arc) = path.pop() else {
+                        return Ok(false);
+                    };
+                    top = tail(network.all_arcs(), arc);
+                }
+            }
+        }
+        Ok(false)
+    }
+
+    // Closes a node, with all its arcs still to be looked at.
+    fn enter(&mut self, node: usize)
+        requires closed { node < length self.old.closed.items }
+        requires left { node < length self.old.left.items }
+        ensures closed { self.new.closed.items ≡ slice_set self.old.closed.items node self.old.time }
+        ensures left { length self.new.left.items ≡ length self.old.left.items }
+        ensures time { self.new.time ≡ self.old.time }
+    {
+        self.closed[node] = self.time;
+        self.left[node] = usize::MAX;
+    }
+
+    // The next of a node's arcs that goes on, from the last to the first: a source's own, or else that to the
+    // sink, the inner ones, and then those back to matched sources.
+    fn next<L: Layout>(
+        &mut self,
+        network: &Network<L>,
+        potentials: &Potentials,
+        lists: &ResidualArcs,
+        node: usize,
+    ) -> Option<ArcNo>
+        requires may { (sink : ℕ) × MaySearch L.node_count network.now potentials.now lists.now sink }
+        requires nodes { HasNodes (length potentials.now) self.old }
+        requires node { node < length potentials.now }
+        ensures left { self.new ≡ record self.old { left = self.new.left } }
+        ensures size { length self.new.left.items ≡ length self.old.left.items }
+        ensures goes_on { IfSome result (λ a. GoesOn network.now.arcs network.now.flows
+            (slice_index potentials.now) self.old.closed.items self.old.time node a) }
+    {
+        if lists.is_source(node) {
+            let meter = Meter::new(network);
+            return self.next_of(network, potentials, leaving(&meter, node), &[], node);
+        }
+        if let Some(k) = lists.sink_arc(node)
+            && self.is_open(network, potentials, ArcNo::Forward(k))
+        {
+            return Some(ArcNo::Forward(k));
+        }
+        self.next_of(network, potentials, lists.inner(node), lists.matched(node), node)
+    }
+
+    // The next of these arcs of a node, or of those back over the arcs with these numbers.
+    fn next_of<L: Layout>(
+        &mut self,
+        network: &Network<L>,
+        potentials: &Potentials,
+        inner: &[ArcNo],
+        matched: &[u32],
+        node: usize,
+    ) -> Option<ArcNo>
+        requires size { length potentials.now ≡ L.node_count network.now.layout }
+        requires nodes { HasNodes (length potentials.now) self.old }
+        requires node { node < length potentials.now }
+        requires inner { (a : ArcNo) → IsIn a inner.now → IsOf network.now.arcs node a }
+        requires matched { (i : ℕ) → i < length matched.now
+            → IsOf network.now.arcs node (ArcNo.Reverse (slice_index matched.now i)) }
+        ensures left { self.new ≡ record self.old { left = self.new.left } }
+        ensures size { length self.new.left.items ≡ length self.old.left.items }
+        ensures goes_on { IfSome result (λ a. GoesOn network.now.arcs network.now.flows
+            (slice_index potentials.now) self.old.closed.items self.old.time node a) }
+    {
+        let most = self.left[node].min(matched.len().saturating_add(inner.len()));
+        let Some((arc, left)) = self.find(network, potentials, inner, matched, node, most) else {
+            self.left[node] = 0;
+            return None;
+        };
+        self.left[node] = left;
+        Some(arc)
+    }
+
+    // The last of these arcs that goes on, of so many of the matched ones and then the others; and how many
+    // come before it.
+    fn find<L: Layout>(
+        &self,
+        network: &Network<L>,
+        potentials: &Potentials,
+        inner: &[ArcNo],
+        matched: &[u32],
+        node: usize,
+        most: usize,
+    ) -> Option<(ArcNo, usize)>
+        requires size { length potentials.now ≡ L.node_count network.now.layout }
+        requires nodes { HasNodes (length potentials.now) self.now }
+        requires inner { (a : ArcNo) → IsIn a inner.now → IsOf network.now.arcs node a }
+        requires matched { (i : ℕ) → i < length matched.now
+            → IsOf network.now.arcs node (ArcNo.Reverse (slice_index matched.now i)) }
+        requires most { most ≤ length matched.now + length inner.now }
+        ensures { IfSome result (λ pair. GoesOn network.now.arcs network.now.flows
+            (slice_index potentials.now) self.now.closed.items self.now.time node pair.0) }
+    {
+        let mut left = most;
+        while left > 0 {
+            left -= 1;
+            let arc = if left < matched.len() {
+                ArcNo::Reverse(matched[left])
+            } else {
+                inner[left - matched.len()]
+            };
+            if self.is_open(network, potentials, arc) {
+                return Some((arc, left));
+            }
+        }
+        None
+    }
+
+    // Whether an arc has room, costs nothing under the potentials, and does not lead to a closed node.
+    #[inline(always)]
+    fn is_open<L: Layout>(&self, network: &Network<L>, potentials: &Potentials, arc: ArcNo) -> bool
+        requires size { length potentials.now ≡ L.node_count network.now.layout }
+        requires nodes { length self.now.closed.items ≡ length potentials.now }
+        requires listed { arc_index arc < length network.now.arcs }
+        ensures { IsTrue result → IsOpenArc network.now.arcs network.now.flows (slice_index potentials.now)
+            self.now.closed.items self.now.time arc }
+    {
+        network.limits();
+        let arcs = network.all_arcs();
+        let depths = potentials.depths();
+        match arc {
+            ArcNo::Forward(k) => {
+                let seen = arcs[k as usize];
+                self.closed[seen.to as usize] != self.time
+                    && depths[seen.from as usize] == seen.cost + depths[seen.to as usize]
+                    && network.all_flows()[k as usize] < seen.capacity as u64
+            }
+            ArcNo::Reverse(k) => {
+                let seen = arcs[k as usize];
+                self.closed[seen.from as usize] != self.time
+                    && depths[seen.from as usize] == seen.cost + depths[seen.to as usize]
+                    && network.all_flows()[k as usize] > 0
+            }
+        }
+    }
+}
+
+// Opens the nodes to which the arcs of a path lead.
+fn open_ends<L: Layout>(closed: &mut [usize], network: &Network<L>, path: &[ArcNo])
+    requires size { length closed.old ≡ L.node_count network.now.layout }
+    requires path { (a : ArcNo) → IsIn a path.now → arc_index a < length network.now.arcs }
+    ensures { length closed.new ≡ length closed.old }
+{
+    network.limits();
+    for arc in path {
+        closed[network.view(*arc).to] = 0;
+    }
+}
+
+// The node that a residual arc leaves.
+fn tail(arcs: &[FlowArc], arc: ArcNo) -> usize
+    requires { arc_index arc < length arcs.now }
+    ensures { result ≡ tail_of arcs.now arc }
+{
+    match arc {
+        ArcNo::Forward(k) => arcs[k as usize].from as usize,
+        ArcNo::Reverse(k) => arcs[k as usize].to as usize,
+    }
+}
