@@ -1,6 +1,6 @@
 -- A trail grows at its end, or loses its last arc.
-use Rattle.std.proofs.Common.{◌≡◌, ℕ, zero, suc, ◌<◌, List, [], ◌∷◌, ◌++◌, length, map, get_or, set, refl, sym, ap, ◌∙◌, subst}
-use Rattle.std.proofs.Common.{inl, inr, arith, get_or-set_same, get_or-set_other}
+use Rattle.std.proofs.Common.{◌≡◌, ℕ, zero, suc, ◌<◌, List, [], ◌∷◌, ◌++◌, length, map, get_or, set, refl}
+use Rattle.std.proofs.Common.{sym, ap, ◌∙◌, subst, inl, inr, arith, get_or-set_same, get_or-set_other}
 use Rattle.std.proofs.lemmas.Bool.{cases_eq}
 use Rattle.std.specs.Prelude.{slice_index}
 use Rattle.flow_network.specs.declared.arcs.FlowArc.{FlowArc}
@@ -9,10 +9,12 @@ use Rattle.flow_network.specs.declared.arcs.ArcNo.TheVariants.{Forward, Reverse}
 use Rattle.flow_network.specs.Flows.{arc_at, arc_index, tail_of, head_of, leaving_of}
 use Rattle.flow_network.specs.Leaving.{IsIn}
 use Rattle.flow_network.proofs.Listed.{each_arc, in_left, in_right}
-use Rattle.shortest_paths.specs.Lists.{ArcLists, AreResidualArcs, sink_arcs_at, stack_arcs, inner_at, matched_at}
+use Rattle.shortest_paths.specs.Lists.{ArcLists, AreResidualArcs, sink_arcs_at, stack_arcs}
+use Rattle.shortest_paths.specs.Lists.{inner_at, matched_at}
 use Rattle.shortest_paths.specs.Matched.{GoesOver}
 use Rattle.augmenting_paths.specs.DepthFirst.{IsOf, GoesOn, IsTrail}
-use Rattle.augmenting_paths.proofs.TightPath.{tight_push, tight_pop, GoesOver-push, GoesOver-before, GoesOver-last}
+use Rattle.augmenting_paths.proofs.TightPath.{tight_push, tight_pop, GoesOver-push, GoesOver-before}
+use Rattle.augmenting_paths.proofs.TightPath.{GoesOver-last}
 
 -- both ends of an arc are closed
 abbrev AreClosed : List FlowArc → List ℕ → ℕ → ℕ → Type 0
@@ -56,11 +58,12 @@ pub trail_goes_on : (arcs : List FlowArc) (flows : List ℕ) (h : ℕ → ℕ) (
     → GoesOn arcs flows h closed time v a → head_of arcs a < length closed
     → IsTrail arcs flows h (set closed (head_of arcs a) time) time s (head_of arcs a) (path ++ a ∷ [])
 trail_goes_on arcs flows h closed time s v path a trail on l =
-    let stays : (w : ℕ) → slice_index closed w ≡ time → slice_index (set closed (head_of arcs a) time) w ≡ time =
-    λ w. stays_closed closed time (head_of arcs a) w l in
+    let stays : (w : ℕ) → slice_index closed w ≡ time
+    → slice_index (set closed (head_of arcs a) time) w ≡ time = λ w. stays_closed closed time (head_of arcs a) w l in
     let here : slice_index (set closed (head_of arcs a) time) (head_of arcs a) ≡ time =
     get_or-set_same closed (head_of arcs a) time 0 l in
-    let tail : slice_index closed (tail_of arcs a) ≡ time = ap (λ w. get_or closed w 0) on.from ∙ trail.here in
+    let tail : slice_index closed (tail_of arcs a) ≡ time =
+    ap (λ w. get_or closed w 0) on.from ∙ trail.here in
     record {
       way = tight_push arcs flows h s v path a trail.way on.open_arc.residual on.open_arc.tight on.from
           (λ o. on.open_arc.fresh (head_closed arcs closed time a (trail.ends (arc_index a) o)));

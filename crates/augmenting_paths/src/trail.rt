@@ -1,5 +1,6 @@
 //! A path over which a unit costs nothing more, by a search that goes depth first over tight arcs.
-ghost use Rattle.std.specs.Prelude.{◌≡◌, ℕ, ◌+◌, ◌<◌, ◌≤◌, length, slice_index, slice_set, IfOk, IfSome, IsTrue};
+ghost use Rattle.std.specs.Prelude.{◌≡◌, ℕ, ◌+◌, ◌<◌, ◌≤◌, length, slice_index, slice_set, IfOk, IfSome};
+ghost use Rattle.std.specs.Prelude.{IsTrue};
 ghost use Rattle.flow_network.specs.Flows.{arc_index, tail_of};
 ghost use Rattle.flow_network.specs.Leaving.{IsIn};
 ghost use Rattle.shortest_paths.specs.Search.{MaySearch};
@@ -125,7 +126,13 @@ impl Trail {
         {
             return Some(ArcNo::Forward(k));
         }
-        self.next_of(network, potentials, lists.inner(node), lists.matched(node), node)
+        self.next_of(
+            network,
+            potentials,
+            lists.inner(node),
+            lists.matched(node),
+            node,
+        )
     }
 
     // The next of these arcs of a node, or of those back over the arcs with these numbers.

@@ -1,6 +1,7 @@
 -- Each arc hands on the units that it carries.
-use Rattle.std.proofs.Common.{◌≡◌, ℕ, zero, suc, ◌+◌, ◌-◌, ◌<◌, ◌≤◌, Bool, true, false, cond, eqb, List, [], ◌∷◌}
-use Rattle.std.proofs.Common.{length, get_or, set, refl, sym, ap, ◌∙◌, subst, inl, inr, arith, get_or-set_same, get_or-set_other}
+use Rattle.std.proofs.Common.{◌≡◌, ℕ, zero, suc, ◌+◌, ◌-◌, ◌<◌, ◌≤◌, Bool, true, false, cond, eqb, List, []}
+use Rattle.std.proofs.Common.{◌∷◌, length, get_or, set, refl, sym, ap, ◌∙◌, subst, inl, inr, arith}
+use Rattle.std.proofs.Common.{get_or-set_same, get_or-set_other}
 use Rattle.std.specs.Prelude.{◌==◌, drop}
 use Rattle.std.proofs.lemmas.Bool.{cases_eq, eq-eqb, ne_eqb}
 use Rattle.std.proofs.lemmas.List.{drop_more, drop-set-lt, length-set}
@@ -50,8 +51,7 @@ left_past places i v left other s l e = elim (cases_eq s i) [
 pub left_set : (places : List ℕ) (i u v : ℕ) → HaveLeft places u i → i < length places → (u ≡ v → ⊥)
     → HaveLeft (set places i v) u (i + 1)
 left_set places i u v left l apart s m e = elim (cases_eq s i) [
-  | inl here ↦ apart (sym (sym (get_or-set_same places i v 0 l) ∙ ap (λ j. get_or (set places i v) j 0) (sym here)
-      ∙ e))
+  | inl here ↦ apart (sym e ∙ ap (λ j. get_or (set places i v) j 0) here ∙ get_or-set_same places i v 0 l)
   | inr n ↦ left s (omega arith) (sym (get_or-set_other places i s v 0 n) ∙ e)
 ]
 
@@ -68,8 +68,8 @@ none_moved places u v units e = record {
 }
 
 -- nor has any, past the first places
-pub none_moving : (places : List ℕ) (u v units first : ℕ) → units ≤ standing places u → HaveLeft places u first
-    → IsMoving places places u v units units first
+pub none_moving : (places : List ℕ) (u v units first : ℕ) → units ≤ standing places u
+    → HaveLeft places u first → IsMoving places places u v units units first
 none_moving places u v units first enough left = record {
   size = refl;
   few_left = omega arith;
@@ -136,7 +136,8 @@ module _ (old now : List ℕ) (u v units left i : ℕ) (moving : IsMoving old no
     enough = (let more = rest_is in let enough = moving.enough in
         let here : cond (eqb (get_or now i 0) u) 1 0 ≡ 1 =
         all (eqb (get_or now i 0) u) 1 (eq-eqb (get_or now i 0) u at) in
-        let same : standing (drop (i + 1) (set now i v)) u ≡ standing (drop (i + 1) now) u = ap (λ (places : List ℕ). standing places u) (drop-set-lt (i + 1) now i v (omega arith)) in
+        let same : standing (drop (i + 1) (set now i v)) u ≡ standing (drop (i + 1) now) u =
+        ap (λ (places : List ℕ). standing places u) (drop-set-lt (i + 1) now i v (omega arith)) in
         omega (arith, more, enough, here, same));
   }
 

@@ -81,13 +81,7 @@ fn move_one(places: &mut [usize], from: usize, to: usize)
 }
 
 // The same, of the units of the first places, from one on that they have not left; up to where they have.
-fn move_first_units(
-    places: &mut [usize],
-    from: usize,
-    to: usize,
-    units: u64,
-    first: usize,
-) -> usize
+fn move_first_units(places: &mut [usize], from: usize, to: usize, units: u64, first: usize) -> usize
     requires units { units ≤ standing places.old from }
     requires apart { from ≡ to → ⊥ }
     requires left { HaveLeft places.old from first }

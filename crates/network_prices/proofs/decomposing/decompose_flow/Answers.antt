@@ -11,7 +11,8 @@ hand_on-left-requires-clause-units c =
 
 pub hand_on-left-requires-clause-apart : goal.hand_on-left-requires-clause-apart
 hand_on-left-requires-clause-apart c = λ e.
-    (let on = c.requires.ordered c.loop-k.k c.loop-k.k (omega arith) c.loop-k-test.true in absurd (omega arith))
+    (let on = c.requires.ordered c.loop-k.k c.loop-k.k (omega arith) c.loop-k-test.true in
+    absurd (omega arith))
 
 pub loop-k-preserved : goal.loop-k-preserved
 loop-k-preserved c = elim c.if-units-gt0.branch [
@@ -19,8 +20,8 @@ loop-k-preserved c = elim c.if-units-gt0.branch [
     can = c.requires;
     handed = rw w.places-is
         (handed_on c.args.arcs.now c.args.flows.now c.args.sink c.args.places.now c.loop-k.places c.requires
-        c.loop-k.k c.loop-k-test.true c.loop-k.invariant.handed w.hand_on-left.new.places w.hand_on-left.ensures.on
-        w.hand_on-left.ensures.stay);
+        c.loop-k.k c.loop-k-test.true c.loop-k.invariant.handed w.hand_on-left.new.places
+        w.hand_on-left.ensures.on w.hand_on-left.ensures.stay);
     left = rw (w.places-is, w.left-is) w.hand_on-left.ensures.left;
   }
   | else-units-gt0 w ↦ record {

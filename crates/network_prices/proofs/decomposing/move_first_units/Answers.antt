@@ -5,7 +5,8 @@ use Rattle.network_prices.proofs.decomposing.move_first_units.Goals.{then-places
 
 pub loop-i-init : goal.loop-i-init
 loop-i-init c = (
-  none_moving c.args.places.now c.args.from c.args.to c.args.units c.args.first c.requires.units c.requires.left,
+  none_moving c.args.places.now c.args.from c.args.to c.args.units c.args.first c.requires.units
+      c.requires.left,
   c.requires.left,
 )
 

@@ -13,8 +13,8 @@ use Rattle.augmenting_paths.proofs.trail.Trail.next.Goals as goal
 
 pub next_of-requires-clause-inner : goal.next_of-requires-clause-inner
 next_of-requires-clause-inner g c = λ a i. own_of _ _ a (subst (λ (xs : List ArcNo). IsIn a xs)
-    (c.leaving.ensures ∙ ap (λ (f : Flow g.row.L.Denot). leaving_of f.arcs c.args.node) c.new-meter.ensures.network)
-    i)
+    (c.leaving.ensures
+    ∙ ap (λ (f : Flow g.row.L.Denot). leaving_of f.arcs c.args.node) c.new-meter.ensures.network) i)
 
 pub is_open-requires-clause-listed : goal.is_open-requires-clause-listed
 is_open-requires-clause-listed g c =

@@ -34,9 +34,16 @@ loop-turn-preserved g c =
               left = w.enter-in-Some.ensures.left ∙ c.next.ensures.size ∙ old.nodes.left;
             });
             inside = rw (w.top-is, w.view-top.ensures.to) (omega arith);
-            trail = rw (w.self-is, w.path-is, w.top-is, w.enter-in-Some.ensures.closed,
-                w.enter-in-Some.ensures.time, w.view-top.ensures.to, w.in_ok-push-in-Some.ensures.items,
-                c.next.ensures.left)
+            trail = rw (
+              w.self-is,
+              w.path-is,
+              w.top-is,
+              w.enter-in-Some.ensures.closed,
+              w.enter-in-Some.ensures.time,
+              w.view-top.ensures.to,
+              w.in_ok-push-in-Some.ensures.items,
+              c.next.ensures.left,
+            )
                 (trail_goes_on _ _ _ _ _ _ _ _ _ old.trail on
                 (let all = old.nodes.closed in omega arith));
           }
@@ -50,7 +57,13 @@ loop-turn-preserved g c =
               left = c.next.ensures.size ∙ old.nodes.left;
             });
             inside = rw (w.top-is, w.tail-top.ensures, w.all_arcs.ensures) (omega arith);
-            trail = rw (w.self-is, w.path-is, w.top-is, w.tail-top.ensures, w.all_arcs.ensures,
-                c.next.ensures.left) (trail_goes_back _ _ _ _ _ _ _ w.pop.new.self.items _ trail);
+            trail = rw (
+              w.self-is,
+              w.path-is,
+              w.top-is,
+              w.tail-top.ensures,
+              w.all_arcs.ensures,
+              c.next.ensures.left,
+            ) (trail_goes_back _ _ _ _ _ _ _ w.pop.new.self.items _ trail);
           }
     ]
