@@ -59,7 +59,8 @@ pub trail_goes_on : (arcs : List FlowArc) (flows : List ℕ) (h : ℕ → ℕ) (
     → IsTrail arcs flows h (set closed (head_of arcs a) time) time s (head_of arcs a) (path ++ a ∷ [])
 trail_goes_on arcs flows h closed time s v path a trail on l =
     let stays : (w : ℕ) → slice_index closed w ≡ time
-    → slice_index (set closed (head_of arcs a) time) w ≡ time = λ w. stays_closed closed time (head_of arcs a) w l in
+    → slice_index (set closed (head_of arcs a) time) w ≡ time =
+    λ w. stays_closed closed time (head_of arcs a) w l in
     let here : slice_index (set closed (head_of arcs a) time) (head_of arcs a) ≡ time =
     get_or-set_same closed (head_of arcs a) time 0 l in
     let tail : slice_index closed (tail_of arcs a) ≡ time =
