@@ -1,7 +1,7 @@
 // Minimum cost flow as the planner finds it (crates/augmenting_paths, crates/shortest_paths), without its limits and
 // without its proofs: what it costs past them. Sources are lifted and shipped dearest first, down a path of tight arcs
-// where a walk finds one, else along the path of a search that goes depth first over tight arcs, and back to those
-// sources alone whose unit comes in.
+// where a walk finds one, else over tight arcs depth first, past nodes that are known to lead nowhere, else along the
+// path of a search for distances. Each goes back to those sources alone whose unit comes in.
 #ifndef BENCH_LIFTED_PATHS_H_
 #define BENCH_LIFTED_PATHS_H_
 
@@ -41,7 +41,9 @@ class LiftedPaths {
   std::int64_t Run() {
     for (const int source : InOrder()) {
       Lift(source);
-      if (!ShipWalk(source)) ShipFound(source);
+      if (ShipWalk(source) || ShipTight(source)) continue;
+      ShipFound(source);
+      ++time_;
     }
     std::int64_t cost = 0;
     for (std::size_t number = 0; number < arcs_.size(); ++number) cost += flow_[number] * arcs_[number].cost;
@@ -56,7 +58,7 @@ class LiftedPaths {
   // A residual arc is twice an arc's number, and one more where it leads back. `own`, `matched` have arcs' numbers.
   struct Node {
     bool is_source = false, is_settled = false;
-    int to_sink = -1, last = -1, before = -1;
+    int to_sink = -1, last = -1, before = -1, closed = 0;
     std::size_t inner_left = 0, matched_left = 0;
     std::int64_t depth = 0, distance = kFar;
     std::vector<int> own, inner, matched;
@@ -126,6 +128,63 @@ class LiftedPaths {
       return true;
     }
     return false;
+  }
+
+  // Whether a residual arc has room, costs nothing and leads to a node that is not closed.
+  bool IsOpen(int residual) const {
+    const Arc& arc = arcs_[residual / 2];
+    const bool is_back = residual % 2 == 1;
+    return nodes_[is_back ? arc.from : arc.to].closed != time_ &&
+           nodes_[arc.from].depth == arc.cost + nodes_[arc.to].depth &&
+           (is_back ? flow_[residual / 2] > 0 : flow_[residual / 2] < arc.capacity);
+  }
+
+  void Close(int number) {
+    Node& node = nodes_[number];
+    node.closed = time_;
+    node.inner_left = node.is_source ? node.own.size() : node.inner.size();
+    node.matched_left = node.is_source ? 0 : node.matched.size();
+  }
+
+  // The next residual arc of a node that goes on, or -1.
+  int NextOpen(Node& node) {
+    if (node.to_sink >= 0 && IsOpen(2 * node.to_sink)) return 2 * node.to_sink;
+    while (node.inner_left > 0) {
+      --node.inner_left;
+      const int residual = node.is_source ? 2 * node.own[node.inner_left] : node.inner[node.inner_left];
+      if (IsOpen(residual)) return residual;
+    }
+    while (node.matched_left > 0) {
+      const int residual = 2 * node.matched[--node.matched_left] + 1;
+      if (IsOpen(residual)) return residual;
+    }
+    return -1;
+  }
+
+  // Ships the unit depth first over tight arcs, if they come to the sink. The nodes that do not stay closed.
+  bool ShipTight(int source) {
+    path_.clear();
+    Close(source);
+    for (int top = source; top != sink_;) {
+      const int residual = NextOpen(nodes_[top]);
+      if (residual >= 0) {
+        path_.push_back(residual);
+        const Arc& arc = arcs_[residual / 2];
+        top = residual % 2 == 1 ? arc.from : arc.to;
+        Close(top);
+      } else if (path_.empty()) {
+        return false;
+      } else {
+        const Arc& arc = arcs_[path_.back() / 2];
+        top = path_.back() % 2 == 1 ? arc.to : arc.from;
+        path_.pop_back();
+      }
+    }
+    for (const int residual : path_) {
+      nodes_[arcs_[residual / 2].from].closed = nodes_[arcs_[residual / 2].to].closed = 0;
+      Push(residual);
+    }
+    return true;
   }
 
   void ShipFound(int source) {
@@ -235,7 +294,7 @@ class LiftedPaths {
 
   const std::vector<Arc>& arcs_;
   const std::vector<int>& sources_;
-  int sink_;
+  int sink_, time_ = 1;
   std::vector<Node> nodes_;
   std::vector<std::int64_t> flow_;
   std::vector<int> path_, stack_, reached_;
