@@ -1,0 +1,371 @@
+//! The calls of a master but for its waves: each is an event of the history, or is ignored.
+ghost use Rattle.std.specs.Prelude.{◌≡◌, ◌<◌, length, Some};
+ghost use Rattle.master_state.specs.Refusals.{Call, IsKnown, IsPair, is_not_backable, refusal};
+ghost use Rattle.master_state.specs.Jobs.{Answers, AnswersBackup, AnswersReduce, AnswersSweep, AnswersWith};
+ghost use Rattle.master_core.specs.Attempts.{IsFound, part_end, split_end};
+
+use crate::attempts::{End, Found, free_slot};
+use crate::inputs::{is_wrong_map, is_wrong_part};
+use crate::master::Master;
+use crate::reducing::{NextPart, runs_of};
+use master_state::{
+    Answer, AnswerWith, Attempt, BackupAnswer, Event, ReduceAnswer, Reply, Swept, Why, Work,
+};
+use master_tables::backups::{has_free_slot, is_any_live, run_attempt, takes_backup};
+use master_tables::completions::{finish_part, finish_split, give_slots};
+use master_tables::deaths::{bury, bury_all};
+use master_tables::entries::is_any_pending;
+use master_tables::holders::{add_holder, drop_holder};
+use master_tables::log::{record_counts, record_event, record_result, record_start};
+use master_tables::parts::start_part;
+use master_tables::running::{RunningPart, RunningSplit, end_attempt, end_part_attempt, runs};
+use node_ids::{AttemptNo, SplitNo, SplitSet, WorkerNo, WorkerSet};
+use shuffle_reduce::PartResult;
+use std::alloc::Global;
+use word_map::MapResult;
+
+impl Master {
+    /// Starts the lowest pending part on the lowest live worker with a free slot, and answers with all that
+    /// the worker needs. Memory is taken for the list of runs alone, and before anything changes.
+    pub fn reduce_start(&mut self, alloc: Global) -> ReduceAnswer
+        ensures { AnswersReduce self.old result self.new }
+    {
+        let Some(next) = self.next_reduce() else {
+            return ReduceAnswer::Ignored(Why::NotReady);
+        };
+        let NextPart { part, worker } = next;
+        if self.has_no_room(1) {
+            return ReduceAnswer::Ignored(Why::HistoryFull);
+        }
+        let Ok(runs) = runs_of(alloc, &self.cluster, &self.splits, part) else {
+            return ReduceAnswer::Ignored(Why::Memory);
+        };
+        let attempt = AttemptNo::new(self.starts.len() as u32 + 1);
+        let started = Attempt {
+            number: attempt,
+            worker,
+        };
+        start_part(
+            &mut self.workers,
+            &mut self.parts,
+            &mut self.starts,
+            part,
+            started,
+        );
+        let place = record_event(&mut self.history, Event::ReduceStart(attempt, part, worker));
+        let reply = Reply {
+            attempt,
+            part,
+            worker,
+            runs,
+        };
+        ReduceAnswer::Accepted(place, reply)
+    }
+
+    /// Makes a live worker the last holder of a split.
+    pub fn add(&mut self, split: SplitNo, worker: WorkerNo) -> Answer
+        requires split { split < length self.old.setup.cluster.splits }
+        requires worker { worker < length self.old.setup.cluster.slots }
+        ensures { Answers self.old (Call.Add split worker) result self.new }
+    {
+        if let Some(why) = self.why_not_add(split, worker) {
+            return Answer::Ignored(why);
+        }
+        add_holder(&mut self.holders, split, worker);
+        Answer::Accepted(record_event(&mut self.history, Event::Add(split, worker)))
+    }
+
+    fn why_not_add(&self, split: SplitNo, worker: WorkerNo) -> Option<Why>
+        requires split { split < length self.now.setup.cluster.splits }
+        requires worker { worker < length self.now.setup.cluster.slots }
+        ensures { result ≡ refusal self.now.setup self.now.state (Call.Add split worker) }
+    {
+        if !self.workers.live(worker) {
+            Some(Why::DeadWorker)
+        } else if self.holders.holds(split, worker) {
+            Some(Why::AlreadyHolds)
+        } else if self.holders.is_full(split) {
+            Some(Why::EightHolders)
+        } else if self.has_no_place() {
+            Some(Why::HistoryFull)
+        } else {
+            None
+        }
+    }
+
+    /// Takes a replica of a split away from a worker. Attempts go on.
+    pub fn lose(&mut self, split: SplitNo, worker: WorkerNo) -> Answer
+        requires split { split < length self.old.setup.cluster.splits }
+        requires worker { worker < length self.old.setup.cluster.slots }
+        ensures { Answers self.old (Call.Lose split worker) result self.new }
+    {
+        if let Some(why) = self.why_not_lose(split, worker) {
+            return Answer::Ignored(why);
+        }
+        drop_holder(&mut self.holders, split, worker);
+        Answer::Accepted(record_event(&mut self.history, Event::Lose(split, worker)))
+    }
+
+    fn why_not_lose(&self, split: SplitNo, worker: WorkerNo) -> Option<Why>
+        requires { split < length self.now.setup.cluster.splits }
+        ensures { result ≡ refusal self.now.setup self.now.state (Call.Lose split worker) }
+    {
+        if !self.holders.holds(split, worker) {
+            Some(Why::NotHolder)
+        } else if self.has_no_place() {
+            Some(Why::HistoryFull)
+        } else {
+            None
+        }
+    }
+
+    /// Makes a dead worker live again, as a holder of each split of the set.
+    pub fn join(&mut self, worker: WorkerNo, set: &SplitSet) -> Answer
+        requires { IsKnown self.old.setup (Call.Join worker set.now) }
+        ensures { Answers self.old (Call.Join worker set.now) result self.new }
+    {
+        if let Some(why) = self.why_not_join(worker, set) {
+            return Answer::Ignored(why);
+        }
+        self.workers.join(worker);
+        self.holders.add_to_all(worker, set);
+        Answer::Accepted(record_event(&mut self.history, Event::Join(worker, *set)))
+    }
+
+    fn why_not_join(&self, worker: WorkerNo, set: &SplitSet) -> Option<Why>
+        requires { worker < length self.now.setup.cluster.slots }
+        ensures { result ≡ refusal self.now.setup self.now.state (Call.Join worker set.now) }
+    {
+        if self.workers.live(worker) {
+            Some(Why::LiveWorker)
+        } else if self.holders.is_any_full(set) {
+            Some(Why::EightHolders)
+        } else if self.has_no_place() {
+            Some(Why::HistoryFull)
+        } else {
+            None
+        }
+    }
+
+    /// Marks a live worker dead.
+    pub fn die(&mut self, worker: WorkerNo) -> Answer
+        requires { worker < length self.old.setup.cluster.slots }
+        ensures { Answers self.old (Call.Die worker) result self.new }
+    {
+        if let Some(why) = self.why_not_die(worker) {
+            return Answer::Ignored(why);
+        }
+        bury(
+            &mut self.workers,
+            &mut self.holders,
+            &mut self.splits,
+            &mut self.parts,
+            worker,
+        );
+        Answer::Accepted(record_event(&mut self.history, Event::Die(worker)))
+    }
+
+    fn why_not_die(&self, worker: WorkerNo) -> Option<Why>
+        requires { worker < length self.now.setup.cluster.slots }
+        ensures { result ≡ refusal self.now.setup self.now.state (Call.Die worker) }
+    {
+        if !self.workers.live(worker) {
+            Some(Why::DeadWorker)
+        } else if self.has_no_place() {
+            Some(Why::HistoryFull)
+        } else {
+            None
+        }
+    }
+
+    /// Ends a map attempt that failed, and bars its pair.
+    pub fn map_failed(&mut self, attempt: AttemptNo) -> Answer
+        ensures { Answers self.old (Call.MapFailed attempt) result self.new }
+    {
+        match self.find(attempt) {
+            Found::Split(found) => self.end_split(found, attempt, End::Failed),
+            Found::Part(_) | Found::Nowhere => Answer::Ignored(Why::OldAttempt),
+        }
+    }
+
+    /// Ends a reduce attempt that failed. Nothing is barred.
+    pub fn part_failed(&mut self, attempt: AttemptNo) -> Answer
+        ensures { Answers self.old (Call.PartFailed attempt) result self.new }
+    {
+        match self.find(attempt) {
+            Found::Part(found) => self.end_part(found, attempt, End::Failed),
+            Found::Split(_) | Found::Nowhere => Answer::Ignored(Why::OldAttempt),
+        }
+    }
+
+    /// Ends an attempt of a split or a part. Nothing is barred.
+    pub fn withdraw(&mut self, attempt: AttemptNo) -> Answer
+        ensures { Answers self.old (Call.Withdraw attempt) result self.new }
+    {
+        match self.find(attempt) {
+            Found::Split(found) => self.end_split(found, attempt, End::Withdrawn),
+            Found::Part(found) => self.end_part(found, attempt, End::Withdrawn),
+            Found::Nowhere => Answer::Ignored(Why::OldAttempt),
+        }
+    }
+
+    // Ends the attempt that a split runs.
+    fn end_split(&mut self, found: RunningSplit, attempt: AttemptNo, end: End) -> Answer
+        requires { IsFound self.old.state attempt (Found.Split found) }
+        ensures { Answers self.old (split_end end attempt) result self.new }
+    {
+        if self.has_no_place() {
+            return Answer::Ignored(Why::HistoryFull);
+        }
+        end_attempt(&mut self.splits, found.split, attempt);
+        free_slot(&mut self.workers, found, end);
+        Answer::Accepted(record_event(&mut self.history, end.of_split(attempt)))
+    }
+
+    // Ends the attempt that a part runs.
+    fn end_part(&mut self, found: RunningPart, attempt: AttemptNo, end: End) -> Answer
+        requires { IsFound self.old.state attempt (Found.Part found) }
+        ensures { Answers self.old (part_end end attempt) result self.new }
+    {
+        if self.has_no_place() {
+            return Answer::Ignored(Why::HistoryFull);
+        }
+        end_part_attempt(&mut self.parts, found.part, attempt);
+        self.workers.give_slot(found.worker);
+        Answer::Accepted(record_event(&mut self.history, end.of_part(attempt)))
+    }
+
+    /// Makes the split done by the first of its attempts that is, and keeps what it made.
+    pub fn map_done(&mut self, attempt: AttemptNo, made: MapResult) -> AnswerWith<MapResult>
+        ensures { AnswersWith self.old (Call.MapDone attempt made) made result self.new }
+    {
+        match self.find(attempt) {
+            Found::Split(found) => self.finish_split(found, attempt, made),
+            Found::Part(_) | Found::Nowhere => AnswerWith::Ignored(Why::OldAttempt, made),
+        }
+    }
+
+    fn finish_split(
+        &mut self,
+        found: RunningSplit,
+        attempt: AttemptNo,
+        made: MapResult,
+    ) -> AnswerWith<MapResult>
+        requires { IsFound self.old.state attempt (Found.Split found) }
+        ensures { AnswersWith self.old (Call.MapDone attempt made) made result self.new }
+    {
+        if is_wrong_map(&self.cluster, found.split, &made) {
+            return AnswerWith::Ignored(Why::WrongInput, made);
+        }
+        if self.has_no_place() {
+            return AnswerWith::Ignored(Why::HistoryFull, made);
+        }
+        let winner = Attempt {
+            number: attempt,
+            worker: found.worker,
+        };
+        give_slots(&mut self.workers, &self.splits[found.split.index()]);
+        finish_split(&mut self.splits, found.split, winner, made);
+        AnswerWith::Accepted(record_event(&mut self.history, Event::MapDone(attempt)))
+    }
+
+    /// Makes a part done, and keeps its result after those before it.
+    pub fn part_done(&mut self, attempt: AttemptNo, made: PartResult) -> AnswerWith<PartResult>
+        ensures { AnswersWith self.old (Call.PartDone attempt made) made result self.new }
+    {
+        match self.find(attempt) {
+            Found::Part(found) => self.finish_part(found, attempt, made),
+            Found::Split(_) | Found::Nowhere => AnswerWith::Ignored(Why::OldAttempt, made),
+        }
+    }
+
+    fn finish_part(
+        &mut self,
+        found: RunningPart,
+        attempt: AttemptNo,
+        made: PartResult,
+    ) -> AnswerWith<PartResult>
+        requires { IsFound self.old.state attempt (Found.Part found) }
+        ensures { AnswersWith self.old (Call.PartDone attempt made) made result self.new }
+    {
+        if is_wrong_part(&self.cluster, found.part, &made) {
+            return AnswerWith::Ignored(Why::WrongInput, made);
+        }
+        if self.has_no_place() {
+            return AnswerWith::Ignored(Why::HistoryFull, made);
+        }
+        finish_part(&mut self.parts, found.part, attempt);
+        self.workers.give_slot(found.worker);
+        record_result(&mut self.results, made);
+        AnswerWith::Accepted(record_event(&mut self.history, Event::PartDone(attempt)))
+    }
+
+    /// Lets each live worker hear the count of its beats, and marks those dead who have been silent too long.
+    pub fn sweep(&mut self, counts: &[u64; 256]) -> Swept
+        ensures { AnswersSweep self.old counts.now result.answer result.dead self.new }
+    {
+        if self.has_no_sweep() {
+            return Swept {
+                answer: Answer::Ignored(Why::HistoryFull),
+                dead: WorkerSet::new(),
+            };
+        }
+        let dead = self.workers.sweep(counts);
+        bury_all(
+            &mut self.workers,
+            &mut self.holders,
+            &mut self.splits,
+            &mut self.parts,
+            &dead,
+        );
+        let place = record_counts(&mut self.sweeps, counts);
+        Swept {
+            answer: Answer::Accepted(record_event(&mut self.history, Event::Sweep(place))),
+            dead,
+        }
+    }
+
+    /// Starts a second attempt of a split that runs one, on another worker.
+    pub fn backup(&mut self, split: SplitNo, worker: WorkerNo) -> BackupAnswer
+        requires { IsPair self.old.setup split worker }
+        ensures { AnswersBackup self.old split worker result self.new }
+    {
+        if let Some(why) = self.why_not_backup(split, worker) {
+            return BackupAnswer::Ignored(why);
+        }
+        let number = record_start(&mut self.starts, Work::Split(split), worker);
+        run_attempt(&mut self.splits, split, Attempt { number, worker });
+        self.workers.take_slot(worker);
+        let place = record_event(&mut self.history, Event::Backup(number, split, worker));
+        BackupAnswer::Accepted(place, number)
+    }
+
+    fn why_not_backup(&self, split: SplitNo, worker: WorkerNo) -> Option<Why>
+        requires { IsPair self.now.setup split worker }
+        ensures { result ≡ refusal self.now.setup self.now.state (Call.Backup split worker) }
+    {
+        if !self.workers.live(worker) {
+            Some(Why::DeadWorker)
+        } else if !takes_backup(&self.splits[split.index()], worker) {
+            Some(Why::NoBackup)
+        } else if self.is_not_backable(split, worker) {
+            Some(Why::NotReady)
+        } else if self.workers.barred(split, worker) {
+            Some(Why::Barred)
+        } else if self.has_no_room(1) {
+            Some(Why::HistoryFull)
+        } else {
+            None
+        }
+    }
+
+    // Whether a split is pending, this one has no live holder, or the worker no free slot.
+    fn is_not_backable(&self, split: SplitNo, worker: WorkerNo) -> bool
+        requires { IsPair self.now.setup split worker }
+        ensures { result ≡ is_not_backable self.now.state split worker }
+    {
+        is_any_pending(&self.splits)
+            || !is_any_live(&self.workers, self.holders.holders(split))
+            || !has_free_slot(&self.workers, worker)
+    }
+}

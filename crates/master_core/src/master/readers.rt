@@ -1,0 +1,143 @@
+//! What is read of a master.
+ghost use Rattle.std.specs.Prelude.{◌≡◌, ◌<◌, ◌≤◌, ◌↔◌, length, IfOk, IsTrue, Some, slice_get};
+ghost use Rattle.shuffle_reduce.specs.Gather.{values_of};
+ghost use Rattle.block_map.specs.Copies.{AreCopies, holdings};
+ghost use Rattle.master_state.specs.States.{start_of};
+ghost use Rattle.master_state.specs.Jobs.{AreResults, IsGlance, IsReady};
+
+use crate::cluster::Cluster;
+use crate::master::Master;
+use block_map::CopyOrder;
+use master_state::{Event, Glance, Limits, PartState, SplitState, Start};
+use master_tables::counts::{open_parts, open_splits, running_maps, running_parts};
+use master_tables::entries::shown;
+use master_tables::lines::{may_any_start, worker_line_table};
+use node_ids::{AttemptNo, PartNo, SplitNo};
+use shuffle_reduce::PartResult;
+use std::alloc::{AllocError, Global};
+use std::sync::Arc;
+use word_map::SplitText;
+
+impl Master {
+    /// The cluster that the master was given.
+    pub fn cluster(&self) -> &Cluster
+        ensures { result.now ≡ self.now.setup.cluster }
+    {
+        &self.cluster
+    }
+
+    /// The rooms that the master was given.
+    pub fn limits(&self) -> Limits
+        ensures { result ≡ self.now.setup.limits }
+    {
+        self.limits
+    }
+
+    /// Every accepted event, the first one first.
+    pub fn history(&self) -> &[Event]
+        ensures { result.now ≡ self.now.history }
+    {
+        &self.history
+    }
+
+    /// How many events were accepted.
+    pub fn events(&self) -> u32
+        ensures count { result ≡ length self.now.history }
+        ensures state { result ≡ self.now.state.events }
+        ensures most { result ≤ 65536 }
+    {
+        self.history.len() as u32
+    }
+
+    /// The start of every attempt, the first one first.
+    pub fn starts(&self) -> &[Start]
+        ensures { result.now ≡ self.now.state.starts }
+    {
+        &self.starts
+    }
+
+    /// The counts of every sweep, the first one first.
+    pub fn sweeps(&self) -> &[[u64; 256]]
+        ensures { result.now ≡ self.now.state.sweeps }
+    {
+        &self.sweeps
+    }
+
+    /// What an attempt was started for, and where, if it was.
+    pub fn start(&self, attempt: AttemptNo) -> Option<Start>
+        ensures { result ≡ start_of self.now.state attempt }
+    {
+        if attempt.index() == 0 {
+            return None;
+        }
+        self.starts.get(attempt.index() - 1).copied()
+    }
+
+    /// What has become of a split.
+    pub fn state(&self, split: SplitNo) -> SplitState
+        requires { split < length self.now.setup.cluster.splits }
+        ensures { slice_get self.now.state.splits split ≡ Some result }
+    {
+        shown(&self.splits[split.index()])
+    }
+
+    /// What has become of a part.
+    pub fn part_state(&self, part: PartNo) -> PartState
+        requires { part < self.now.setup.cluster.parts }
+        ensures { slice_get self.now.state.parts part ≡ Some result }
+    {
+        self.parts[part.index()]
+    }
+
+    /// The results of the parts that are done, in the order in which they were accepted.
+    pub fn results(&self) -> &[PartResult]
+        ensures value { result.now ≡ self.now.results }
+        ensures exact { AreResults self.now.setup self.now.state self.now.results }
+    {
+        &self.results
+    }
+
+    /// What may start now, and what is still to be done.
+    pub fn glance(&self) -> Glance
+        ensures { IsGlance self.now result }
+    {
+        Glance {
+            ready: self.is_ready(),
+            reducible: self.next_reduce().is_some(),
+            running: running_maps(&self.splits) + running_parts(&self.parts),
+            open_splits: open_splits(&self.splits),
+            open_parts: open_parts(&self.parts),
+        }
+    }
+
+    // Whether a split may start on a worker.
+    fn is_ready(&self) -> bool
+        ensures { IsTrue result ↔ IsReady self.now }
+    {
+        let workers = self.workers.workers();
+        let lines = worker_line_table(workers);
+        may_any_start(
+            &lines[..workers.len()],
+            self.workers.bars(),
+            self.cluster.splits(),
+            &self.splits,
+            &self.holders,
+        )
+    }
+
+    /// The copies that bring each split nearer to so many replicas, by rising split.
+    pub fn copy_orders(&self, alloc: Global, target: usize) -> Result<Vec<CopyOrder>, AllocError>
+        ensures { IfOk result (λ orders. AreCopies (holdings self.now.state.workers
+            self.now.setup.cluster.tree self.now.state.holders target) orders.items) }
+    {
+        self.holders
+            .copy_orders(alloc, &self.workers, self.cluster.tree(), target)
+    }
+
+    /// The text of each split.
+    pub fn texts(&self) -> &[Arc<SplitText>]
+        ensures { values_of result.now ≡ self.now.setup.cluster.texts }
+    {
+        self.cluster.texts()
+    }
+}

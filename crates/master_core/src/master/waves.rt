@@ -1,0 +1,152 @@
+//! The waves of a master: what is to be planned, and what starts.
+ghost use Rattle.std.specs.Prelude.{◌≡◌, ◌≢◌, ◌<◌, length, not, false, Err, IfErr, IfOk, OnErr, OnOk};
+ghost use Rattle.wave_problem.specs.Assignment.{IsBest, pairs_of};
+ghost use Rattle.price_certificate.specs.declared.Condition.{Condition};
+ghost use Rattle.price_certificate.specs.Certificate.{IsFirstFailure};
+ghost use Rattle.certificate_checker.specs.Verdict.{IsCertified};
+ghost use Rattle.flow_network.specs.declared.kinds.NetworkKind.{NetworkKind};
+ghost use Rattle.wave_planner.specs.Planned.{IsMadeOver};
+ghost use Rattle.master_state.specs.Steps.{problem_of};
+ghost use Rattle.master_state.specs.Jobs.{AnswersCommit, IsCommitted, LacksRoomForBest, lacks_room, present};
+ghost use Rattle.master_core.specs.Starts.{HasSizesOf, HasTotals};
+
+use crate::master::Master;
+use certificate_checker::{Certified, certify};
+use master_state::{CommitError, Event, Wave};
+use master_tables::lines::{all_split_lines, worker_lines};
+use master_tables::log::record_event;
+use master_tables::starting::start_each;
+use node_ids::AttemptNo;
+use price_certificate::Prices;
+use std::alloc::{AllocError, Global};
+use wave_planner::{PlanError, Planned, plan};
+use wave_problem::{Plan, Problem};
+
+impl Master {
+    /// The problem of the present state, from which the next wave is planned.
+    pub fn problem(&self, alloc: Global) -> Result<Problem, AllocError>
+        ensures present { IfOk result (λ problem. problem ≡ problem_of self.now.setup self.now.state) }
+        ensures splits { IfOk result (λ problem.
+            length problem.splits ≡ length self.now.setup.cluster.splits) }
+        ensures workers { IfOk result (λ problem.
+            length problem.workers ≡ length self.now.setup.cluster.slots) }
+    {
+        let workers = worker_lines(alloc, self.workers.workers())?;
+        let splits = all_split_lines(alloc, self.cluster.splits(), &self.splits, &self.holders)?;
+        let tree = self.cluster.tree().copy(alloc)?;
+        let barred = self.workers.bars().copy(alloc)?;
+        Problem::within_limits(alloc, tree, workers, &splits, barred)
+    }
+
+    /// Starts the splits of a plan, if its prices certify it in the present state. It is tested in the
+    /// order HistoryFull, Memory, Stale.
+    pub fn commit(&mut self, alloc: Global, planned: &Planned) -> Result<Wave, CommitError>
+        requires { HasSizesOf self.old.setup planned.now.plan planned.now.prices }
+        ensures { AnswersCommit self.old planned.now.plan.starts planned.now.prices result self.new }
+    {
+        self.commit_plan(alloc, planned.plan(), planned.prices())
+    }
+
+    // As `commit`, of a plan with prices.
+    fn commit_plan(
+        &mut self,
+        alloc: Global,
+        plan: &Plan,
+        prices: &Prices,
+    ) -> Result<Wave, CommitError>
+        requires { HasSizesOf self.old.setup plan.now prices.now }
+        ensures { AnswersCommit self.old plan.now.starts prices.now result self.new }
+    {
+        self.is_kept();
+        if self.has_no_room(plan.count()) {
+            return Err(CommitError::HistoryFull);
+        }
+        let certified = self.certified(alloc, plan, prices)?;
+        Ok(self.start_plan(plan, certified))
+    }
+
+    /// Plans the best wave of the present state, over the network with racks, and starts it: `problem`,
+    /// `plan` and `commit` in one call, so that what was certified is not certified once more, and is never
+    /// stale. It is tested in the order Memory, HistoryFull.
+    pub fn start_best(&mut self, alloc: Global) -> Result<(Planned, Wave), CommitError>
+        ensures over { IfOk result (λ p. IsMadeOver NetworkKind.Racks
+            (problem_of self.old.setup self.old.state) p.0.plan.starts p.0.prices) }
+        ensures committed { IfOk result (λ p. IsCommitted self.old p.0.plan.starts p.1 self.new) }
+        ensures full { result ≡ Err CommitError.HistoryFull → LacksRoomForBest self.old }
+        ensures fresh { (c : Condition) → result ≢ Err (CommitError.Stale c) }
+        ensures err { OnErr result (self.new ≡ self.old) }
+    {
+        let planned = self.best_plan(alloc)?;
+        if self.has_no_room(planned.plan().count()) {
+            return Err(CommitError::HistoryFull);
+        }
+        let wave = self.start_plan(planned.plan(), planned.certified());
+        Ok((planned, wave))
+    }
+
+    // A best plan of the present state, with the prices that show it.
+    fn best_plan(&self, alloc: Global) -> Result<Planned, CommitError>
+        ensures over { IfOk result (λ planned. IsMadeOver NetworkKind.Racks
+            (problem_of self.now.setup self.now.state) planned.plan.starts planned.prices) }
+        ensures best { IfOk result (λ planned.
+            IsBest (problem_of self.now.setup self.now.state) (pairs_of planned.plan.starts)) }
+        ensures counted { IfOk result (λ planned.
+            HasTotals self.now planned.plan.starts planned.certified) }
+        ensures sizes { IfOk result (λ planned. HasSizesOf self.now.setup planned.plan planned.prices) }
+        ensures memory { IfErr result (λ e. e ≡ CommitError.Memory) }
+    {
+        let Ok(problem) = self.problem(alloc) else {
+            return Err(CommitError::Memory);
+        };
+        match plan(alloc, &problem) {
+            Ok(planned) => Ok(planned),
+            Err(PlanError::Memory) => Err(CommitError::Memory),
+        }
+    }
+
+    // Starts the splits of a plan that is best in the present state, for which there is room.
+    fn start_plan(&mut self, plan: &Plan, certified: Certified) -> Wave
+        requires best { IsBest (problem_of self.old.setup self.old.state) (pairs_of plan.now.starts) }
+        requires counted { HasTotals self.old plan.now.starts certified }
+        requires room { lacks_room self.old plan.now.starts ≡ false }
+        ensures { IsCommitted self.old plan.now.starts result self.new }
+    {
+        let first = AttemptNo::new(self.starts.len() as u32 + 1);
+        let count = certified.count as u32;
+        let cost = certified.cost;
+        start_each(&mut self.workers, &mut self.splits, &mut self.starts, plan);
+        let place = record_event(&mut self.history, Event::Wave { first, count, cost });
+        Wave {
+            place,
+            first,
+            count,
+            cost,
+        }
+    }
+
+    // What the prices say of the plan in the present state.
+    fn certified(
+        &self,
+        alloc: Global,
+        plan: &Plan,
+        prices: &Prices,
+    ) -> Result<Certified, CommitError>
+        requires { HasSizesOf self.now.setup plan.now prices.now }
+        ensures certified { IfOk result (λ certified.
+            IsCertified (present self.now plan.now.starts prices.now) certified) }
+        ensures best { OnOk result
+            (IsBest (problem_of self.now.setup self.now.state) (pairs_of plan.now.starts)) }
+        ensures counted { IfOk result (λ certified. HasTotals self.now plan.now.starts certified) }
+        ensures stale { (c : Condition) → result ≡ Err (CommitError.Stale c)
+            → IsFirstFailure (present self.now plan.now.starts prices.now) c }
+        ensures room { result ≢ Err CommitError.HistoryFull }
+    {
+        let Ok(problem) = self.problem(alloc) else {
+            return Err(CommitError::Memory);
+        };
+        match certify(&problem, plan, prices) {
+            Ok(certified) => Ok(certified),
+            Err(condition) => Err(CommitError::Stale(condition)),
+        }
+    }
+}
