@@ -10,7 +10,8 @@ use shortest_paths::{Potentials, ResidualArcs, leaving};
 use std::alloc::AllocError;
 
 /// Whether a walk from a node comes to the sink, and then its path. It goes over one of the node's own arcs,
-/// and on by `arc_down`; where it comes no further, it begins anew with the next of the node's own arcs.
+/// and on by `arc_down`; where it comes no further, it begins anew with the next of the node's own arcs. The
+/// last of them is tried before the others: it leads to the latest node, that of splits which wait.
 pub fn walk_down<L: Layout>(
     network: &Network<L>,
     potentials: &Potentials,
@@ -26,8 +27,10 @@ pub fn walk_down<L: Layout>(
 {
     network.limits();
     let meter = Meter::new(network);
-    for arc in leaving(&meter, node) {
-        if walk_over(network, potentials, lists, *arc, sink, path)? {
+    let arcs = leaving(&meter, node);
+    for i in 0..arcs.len() {
+        let place = if i == 0 { arcs.len() - 1 } else { i - 1 };
+        if walk_over(network, potentials, lists, arcs[place], sink, path)? {
             return Ok(true);
         }
     }

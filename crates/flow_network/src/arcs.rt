@@ -18,3 +18,9 @@ pub enum ArcNo {
     Forward(u32),
     Reverse(u32),
 }
+
+impl Default for ArcNo {
+    fn default() -> ArcNo {
+        ArcNo::Forward(0)
+    }
+}

@@ -1,5 +1,6 @@
-ghost use Rattle.std.specs.Prelude.{◌≡◌, ℕ, ◌+◌, ◌-◌, ◌≤◌, ◌++◌, ◌^◌, Err, OnOk, length, string_bytes};
+ghost use Rattle.std.specs.Prelude.{◌≡◌, ◌≢◌, ℕ, ◌+◌, ◌-◌, ◌≤◌, ◌++◌, ◌^◌, Err, OnOk, length, string_bytes};
 ghost use Rattle.wave_problem.specs.Assignment.{pairs_of};
+ghost use Rattle.price_certificate.specs.declared.Condition.{Condition};
 ghost use Rattle.report_lines.specs.Lines.{accepted_line, wave_line};
 ghost use Rattle.script_text.specs.declared.script.Command.TheVariants as command;
 ghost use Rattle.job_run.specs.Reports.{LacksRoom, started_lines};
@@ -28,9 +29,20 @@ pub(crate) fn wave(
     master.is_kept();
     match master.start_best(alloc) {
         Ok((planned, wave)) => Ok(tell_wave(lines, names, wave, planned.plan())?),
-        Err(CommitError::HistoryFull) => Err(PlayError::HistoryFull),
-        Err(CommitError::Memory) => Err(PlayError::Memory),
-        Err(CommitError::Stale(_)) => unreachable!(),
+        Err(error) => Err(error_of(error)),
+    }
+}
+
+// Why a wave did not start. What is planned and started in one call is never stale.
+fn error_of(error: CommitError) -> PlayError
+    requires { (c : Condition) → error ≢ CommitError.Stale c }
+    ensures full { error ≡ CommitError.HistoryFull → result ≡ PlayError.HistoryFull }
+    ensures only { result ≡ PlayError.HistoryFull → error ≡ CommitError.HistoryFull }
+{
+    match error {
+        CommitError::HistoryFull => PlayError::HistoryFull,
+        CommitError::Memory => PlayError::Memory,
+        CommitError::Stale(_) => unreachable!(),
     }
 }
 

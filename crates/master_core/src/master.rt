@@ -1,8 +1,8 @@
-ghost use Rattle.std.specs.Prelude.{◌≡◌, ◌<◌, ◌≤◌, [], not, is_some, IfOk, IfSome, Some};
+ghost use Rattle.std.specs.Prelude.{◌≡◌, ◌<◌, ◌≤◌, [], not, is_some, IfOk, IfSome};
 ghost use Rattle.master_state.specs.States.{AreAllowed, opening};
 ghost use Rattle.master_state.specs.Tests.{next_part, next_worker};
 ghost use Rattle.master_state.specs.Refusals.{has_no_room, has_no_sweep, is_full, is_not_reducible};
-ghost use Rattle.master_state.specs.Jobs.{IsKept, present};
+ghost use Rattle.master_state.specs.Jobs.{IsKept};
 ghost use Rattle.master_core.specs.Attempts.{IsFound};
 
 mod calls;

@@ -1,5 +1,5 @@
 //! The calls of a master but for its waves: each is an event of the history, or is ignored.
-ghost use Rattle.std.specs.Prelude.{◌≡◌, ◌<◌, length, Some};
+ghost use Rattle.std.specs.Prelude.{◌≡◌, ◌<◌, length};
 ghost use Rattle.master_state.specs.Refusals.{Call, IsKnown, IsPair, is_not_backable, refusal};
 ghost use Rattle.master_state.specs.Jobs.{Answers, AnswersBackup, AnswersReduce, AnswersSweep, AnswersWith};
 ghost use Rattle.master_core.specs.Attempts.{IsFound, part_end, split_end};

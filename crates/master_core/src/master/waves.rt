@@ -1,5 +1,6 @@
 //! The waves of a master: what is to be planned, and what starts.
-ghost use Rattle.std.specs.Prelude.{◌≡◌, ◌≢◌, ◌<◌, length, not, false, Err, IfErr, IfOk, OnErr, OnOk};
+ghost use Rattle.std.specs.Prelude.{◌≡◌, ◌≢◌, ◌<◌, ◌≤◌, length, false, true, Err, IfErr};
+ghost use Rattle.std.specs.Prelude.{IfOk, OnErr, OnOk};
 ghost use Rattle.wave_problem.specs.Assignment.{IsBest, pairs_of};
 ghost use Rattle.price_certificate.specs.declared.Condition.{Condition};
 ghost use Rattle.price_certificate.specs.Certificate.{IsFirstFailure};
@@ -77,10 +78,7 @@ impl Master {
         ensures err { OnErr result (self.new ≡ self.old) }
     {
         let planned = self.best_plan(alloc)?;
-        if self.has_no_room(planned.plan().count()) {
-            return Err(CommitError::HistoryFull);
-        }
-        let wave = self.start_plan(planned.plan(), planned.certified());
+        let wave = self.start_in_room(planned.plan(), planned.certified())?;
         Ok((planned, wave))
     }
 
@@ -102,6 +100,24 @@ impl Master {
             Ok(planned) => Ok(planned),
             Err(PlanError::Memory) => Err(CommitError::Memory),
         }
+    }
+
+    // Starts the splits of a plan that is best in the present state, if there is room for them.
+    fn start_in_room(&mut self, plan: &Plan, certified: Certified) -> Result<Wave, CommitError>
+        requires few { length plan.now.starts ≤ 1024 }
+        requires best { IsBest (problem_of self.old.setup self.old.state) (pairs_of plan.now.starts) }
+        requires counted { HasTotals self.old plan.now.starts certified }
+        ensures committed { IfOk result (λ wave. IsCommitted self.old plan.now.starts wave self.new) }
+        ensures full { lacks_room self.old plan.now.starts ≡ true → result ≡ Err CommitError.HistoryFull }
+        ensures why { IfErr result (λ e. (e ≡ CommitError.HistoryFull)
+            × (lacks_room self.old plan.now.starts ≡ true)) }
+        ensures err { OnErr result (self.new ≡ self.old) }
+    {
+        let count = plan.count();
+        if self.has_no_room(count) {
+            return Err(CommitError::HistoryFull);
+        }
+        Ok(self.start_plan(plan, certified))
     }
 
     // Starts the splits of a plan that is best in the present state, for which there is room.
