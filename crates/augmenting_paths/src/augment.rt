@@ -37,7 +37,9 @@ struct Shipping {
 /// potentials that show it: the sink's is 0, and no residual arc has a negative reduced cost. Its searches
 /// are counted (`ship`): together they look at each arc at most twice for each source. Beside them it goes
 /// over a source's own arcs twice, and walks down from each that is tight, past each node at most once and
-/// over that node's list of arcs. Only memory can fail, and then the network may hold part of the flow.
+/// over that node's list of arcs; then it goes depth first over tight arcs, into each node at most once and
+/// over each of its arcs at most once. Only memory can fail, and then the network may hold part of the
+/// flow.
 pub fn saturate<L: Layout>(
     alloc: Global,
     network: &mut Network<L>,

@@ -12,8 +12,8 @@ use crate::rules::is_free;
 use line_shapes::{Keyword, Kind, Place, is_within};
 use text_lines::is_name;
 
-/// Whether each word after the keyword is all that its place asks of it. It is told by one pass over the words, and
-/// most lines are so; of another line it is told elsewhere which fault it has, if it has one.
+/// Whether each word after the keyword is all that its place asks of it. It is told by one pass over the
+/// words, and most lines are so; of another line it is told elsewhere which fault it has, if it has one.
 #[inline(always)]
 pub fn are_fit(rows: &Rows<'_>, keyword: Keyword, words: &[&str]) -> bool
     ensures { IsTrue result → AreFit rows.now (stated keyword words.now) }

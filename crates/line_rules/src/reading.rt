@@ -98,8 +98,8 @@ fn take_lines<'t>(
     }
 }
 
-// Takes a line that has its line feed, given without it, where it is told whether it is known to be printable. Its
-// words are put into `words`, in place of those there.
+// Takes a line that has its line feed, given without it, where it is told whether it is known to be
+// printable. Its words are put into `words`, in place of those there.
 fn take_line<'t>(
     words: &mut Vec<&'t str>,
     printable: bool,

@@ -10,7 +10,8 @@ use line_shapes::{KeyedLine, Keyword};
 use std::alloc::{AllocError, Global};
 use std::marker::Model;
 
-/// The lines that were entered, in their order. A word by which no line was entered is found by one hash of it.
+/// The lines that were entered, in their order. A word by which no line was entered is found by one hash of
+/// it.
 #[derive(Drop)]
 pub struct Rows<'t> {
     lines: LineList<'t>,
@@ -181,8 +182,8 @@ fn put_key<'t>(
     Ok(())
 }
 
-// Puts a word that is a key alone into the first table, by one hash of it. Where it stands there by another keyword,
-// that stays, and the key has no place there.
+// Puts a word that is a key alone into the first table, by one hash of it. Where it stands there by another
+// keyword, that stays, and the key has no place there.
 fn put_first<'t>(
     firsts: &mut IndexMap<&'t str, Keyword>,
     keyword: Keyword,
@@ -198,7 +199,8 @@ fn put_first<'t>(
     Ok(of == keyword)
 }
 
-// Before the first key is put into the second table: makes room there for as many as the first still has room for.
+// Before the first key is put into the second table: makes room there for as many as the first still has
+// room for.
 fn make_room<'t>(
     firsts: &IndexMap<&'t str, Keyword>,
     others: &mut IndexSet<(Keyword, &'t str, &'t str)>,

@@ -35,8 +35,8 @@ fn first_words<'t>(count: usize, text: &'t str, words: &mut Vec<&'t str>) -> Res
     Ok(())
 }
 
-/// Puts the words after a keyword into a list, in place of what it has: those of what follows the space after the
-/// keyword. A text that may follow them is one word, whatever spaces it has.
+/// Puts the words after a keyword into a list, in place of what it has: those of what follows the space
+/// after the keyword. A text that may follow them is one word, whatever spaces it has.
 pub fn cut_words<'t>(
     keyword: Keyword,
     rest: Option<&'t str>,

@@ -119,8 +119,9 @@ fn first_space(line: &[u8]) -> Option<usize>
     None
 }
 
-/// Puts the words of a line behind those of a list. Between two spaces side by side stands an empty word, as it does
-/// before a space that stands first and after one that stands last; an empty line is one empty word.
+/// Puts the words of a line behind those of a list. Between two spaces side by side stands an empty word,
+/// as it does before a space that stands first and after one that stands last; an empty line is one empty
+/// word.
 pub fn add_words<'t>(line: &'t str, words: &mut Vec<&'t str>) -> Result<(), AllocError>
     ensures { OnOk result (map (λ w. w.now) words.new.items
         ≡ map (λ w. w.now) words.old.items ++ words_of line.entry.now) }
