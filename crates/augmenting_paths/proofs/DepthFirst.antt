@@ -1,6 +1,6 @@
 -- A trail grows at its end, or loses its last arc.
 use Rattle.std.proofs.Common.{◌≡◌, ℕ, zero, suc, ◌<◌, List, [], ◌∷◌, ◌++◌, length, map, get_or, set, refl}
-use Rattle.std.proofs.Common.{sym, ap, ◌∙◌, subst, inl, inr, arith, get_or-set_same, get_or-set_other}
+use Rattle.std.proofs.Common.{ap, ◌∙◌, subst, inl, inr, arith, get_or-set_same, get_or-set_other}
 use Rattle.std.proofs.lemmas.Bool.{cases_eq}
 use Rattle.std.specs.Prelude.{slice_index}
 use Rattle.flow_network.specs.declared.arcs.FlowArc.{FlowArc}
@@ -11,7 +11,6 @@ use Rattle.flow_network.specs.Leaving.{IsIn}
 use Rattle.flow_network.proofs.Listed.{each_arc, in_left, in_right}
 use Rattle.shortest_paths.specs.Lists.{ArcLists, AreResidualArcs, sink_arcs_at, stack_arcs}
 use Rattle.shortest_paths.specs.Lists.{inner_at, matched_at}
-use Rattle.shortest_paths.specs.Matched.{GoesOver}
 use Rattle.augmenting_paths.specs.DepthFirst.{IsOf, GoesOn, IsTrail}
 use Rattle.augmenting_paths.proofs.TightPath.{tight_push, tight_pop, GoesOver-push, GoesOver-before}
 use Rattle.augmenting_paths.proofs.TightPath.{GoesOver-last}

@@ -3,21 +3,20 @@ use Rattle.std.proofs.Common.{◌≡◌, ℕ, List, length, sym, ◌∙◌, arit
 use Rattle.std.specs.Prelude.{slice_index}
 use Rattle.flow_network.specs.Flow.{Flow}
 use Rattle.flow_network.specs.Flows.{IsNetwork}
-use Rattle.shortest_paths.specs.Lists.{ArcLists}
+use Rattle.shortest_paths.specs.declared.query.Query.{Query}
 use Rattle.shortest_paths.specs.Search.{MaySearch}
 use Rattle.shortest_paths.proofs.Kept.{kept_are_residual}
 use Rattle.augmenting_paths.specs.NextUnit.{MayShipNext, KeepsArcs, HasLiftedNext}
-use Rattle.augmenting_paths.proofs.Shipped.{lift_keeps, lifted_depth}
+use Rattle.augmenting_paths.proofs.Shipped.{lift_keeps, lifted_depth, start_in}
 
-pub may_search : {L : Type 0} (node_count : L → ℕ) (network : Flow L) (order : List ℕ) (sink count : ℕ)
-    (depths : List ℕ) (g : ArcLists)
+pub may_search : {L : Type 0} (node_count : L → ℕ) (network : Flow L) (order : List ℕ) (count : ℕ) (q : Query)
     → IsNetwork (node_count network.layout) network.arcs network.flows
-    → MayShipNext node_count network order sink count
-    → length depths ≡ node_count network.layout
-    → KeepsArcs (node_count network.layout) network.arcs network.flows sink g
-    → HasLiftedNext network.arcs order sink count network.flows (slice_index depths)
-    → MaySearch node_count network depths g sink
-may_search node_count network order sink count depths g limits next size lists lifted = record {
+    → MayShipNext node_count network order q.sink count
+    → length q.potentials.now ≡ node_count network.layout
+    → KeepsArcs (node_count network.layout) network.arcs network.flows q.sink q.lists.now
+    → HasLiftedNext network.arcs order q.sink count network.flows (slice_index q.potentials.now)
+    → q.start ≡ slice_index order count → MaySearch node_count network q
+may_search node_count network order count q limits next size lists lifted start = record {
   priced = record {
     network = limits;
     size = size;
@@ -33,4 +32,5 @@ may_search node_count network order sink count depths g limits next size lists l
   });
   lists = kept_are_residual _ _ _ _ _ lists.sorted lists.matched;
   sink_apart = lists.sink_apart;
+  start_in = (let inside = start_in _ _ _ _ _ _ _ next.can next.left lifted.state in omega arith);
 }

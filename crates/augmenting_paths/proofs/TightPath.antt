@@ -1,15 +1,15 @@
 -- A path is made arc by arc, as one goes down.
-use Rattle.std.proofs.Common.{◌≡◌, ℕ, ◌+◌, ◌-◌, ◌<◌, cond, eqb, List, [], ◌∷◌, ◌++◌, length, get_or, Option}
+use Rattle.std.proofs.Common.{◌≡◌, ℕ, ◌-◌, ◌<◌, cond, eqb, List, [], ◌∷◌, ◌++◌, length, get_or, Option}
 use Rattle.std.proofs.Common.{Some, None}
 use Rattle.std.proofs.lemmas.Bool.{cases_eq, eq-eqb, ne_eqb}
 use Rattle.std.proofs.Common.{map, refl, sym, ap, subst, inl, inr, ◌⊎◌, arith}
 use Rattle.flow_network.specs.declared.arcs.FlowArc.{FlowArc}
 use Rattle.flow_network.specs.declared.arcs.ArcNo.{ArcNo}
 use Rattle.flow_network.specs.declared.arcs.ArcNo.TheVariants.{Forward, Reverse}
-use Rattle.flow_network.specs.Flows.{arc_at, arc_index, tail_of, head_of, leaving_of, Lacks, IsDistinct}
+use Rattle.flow_network.specs.Flows.{arc_at, arc_index, tail_of, head_of, Lacks, IsDistinct}
 use Rattle.flow_network.specs.Flows.{IsPath, IsResidual}
 use Rattle.flow_network.specs.Leaving.{IsIn}
-use Rattle.flow_network.proofs.Listed.{each_arc, in_at, in_left, in_right}
+use Rattle.flow_network.proofs.Listed.{in_at, in_left, in_right}
 use Rattle.flow_network.proofs.Paths.{IsPath-append}
 use Rattle.shortest_paths.specs.Lists.{ArcLists, AreResidualArcs, option_arcs, sink_arcs_at, stack_arcs}
 use Rattle.shortest_paths.specs.Lists.{inner_at, matched_at}
@@ -142,15 +142,6 @@ sink_arc_on arcs flows sink g v on lists e =
     let i : IsIn (Forward on) (sink_arcs_at g v) =
     subst (λ (o : Option ℕ). IsIn (Forward on) (option_arcs o)) (sym e) (inl refl) in
     lists.own v (Forward on) (in_left (Forward on) (sink_arcs_at g v) (stack_arcs g v) i)
-
--- an arc of a list of all that leave a node
-pub leaving_arc : (arcs : List FlowArc) (node : ℕ) (listed : List ArcNo) (i : ℕ)
-    → listed ≡ leaving_of arcs node → i < length listed
-    → (arc_index (get_or listed i (Forward 0)) < length arcs)
-    × (tail_of arcs (get_or listed i (Forward 0)) ≡ node)
-leaving_arc arcs node listed i e l =
-    let here : IsIn (get_or listed i (Forward 0)) listed = in_at listed i (Forward 0) l in
-    (each_arc arcs node _).1 (subst (λ (xs : List ArcNo). IsIn (get_or listed i (Forward 0)) xs) e here)
 
 pub inner_arc : (arcs : List FlowArc) (flows : List ℕ) (sink : ℕ) (g : ArcLists) (v : ℕ)
     (listed : List ArcNo) (i k : ℕ) → AreResidualArcs arcs flows sink g → listed ≡ inner_at g v

@@ -1,8 +1,10 @@
 -- Paths over which a unit costs nothing more, and how one is found by going down.
-use Rattle.std.specs.Prelude.{◌≡◌, ℕ, ◌+◌, ◌<◌, List, length, slice_index, ◌⊎◌}
+use Rattle.std.specs.Prelude.{◌≡◌, ℕ, ◌+◌, ◌<◌, Bool, IsTrue, List, length, slice_index, ◌⊎◌}
 use Rattle.flow_network.specs.declared.arcs.FlowArc.{FlowArc}
 use Rattle.flow_network.specs.declared.arcs.ArcNo.{ArcNo}
+use Rattle.flow_network.specs.Flow.{Flow}
 use Rattle.flow_network.specs.Flows.{arc_at, IsPath}
+use Rattle.shortest_paths.specs.declared.query.Query.{Query}
 use Rattle.shortest_paths.specs.Lowering.{AreTight}
 use Rattle.shortest_paths.specs.Matched.{GoesOver, GoesOnce}
 
@@ -12,6 +14,11 @@ pub record IsTightPath (arcs : List FlowArc) (flows : List ℕ) (h : ℕ → ℕ
   pub leads : IsPath arcs flows path s v
   pub once : GoesOnce path
   pub tight : AreTight arcs h path
+
+-- where such a path was found from a query's start to its sink, it is this one
+abbrev pub FindsTight : {L : Type 0} → Flow L → Query → List ArcNo → Bool → Type 0
+FindsTight network q path found = IsTrue found
+    → IsTightPath network.arcs network.flows (slice_index q.potentials.now) q.start q.sink path
 
 -- an arc with room that costs nothing
 pub record IsTightArc (arcs : List FlowArc) (flows : List ℕ) (h : ℕ → ℕ) (k : ℕ) : Type 0 where

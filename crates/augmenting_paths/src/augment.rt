@@ -1,6 +1,6 @@
 //! One unit after the other along least paths.
 ghost use Rattle.std.specs.Prelude.{◌≡◌, ℕ, ◌+◌, ◌*◌, ◌<◌, ◌≤◌, ◌^◌, List, length, map, slice_index, true};
-ghost use Rattle.std.specs.Prelude.{false, IfOk, IfSome, IsSome, IsTrue};
+ghost use Rattle.std.specs.Prelude.{false, IfOk, IfSome, IsSome};
 ghost use Rattle.flow_network.specs.Flows.{arc_at, arc_index, tail_of, AreArcs};
 ghost use Rattle.shortest_paths.specs.Finding.{IsTotal};
 ghost use Rattle.shortest_paths.specs.Search.{MaySearch};
@@ -8,7 +8,7 @@ ghost use Rattle.shortest_paths.specs.Searching.{distance_at};
 ghost use Rattle.shortest_paths.specs.ToSink.{IsSearched, IsTrace};
 ghost use Rattle.augmenting_paths.specs.Shipping.{CanShip, HasShipped, IsCheapest, AreMembers, IsLifted};
 ghost use Rattle.augmenting_paths.specs.Shipping.{AreMarked};
-ghost use Rattle.augmenting_paths.specs.TightPath.{IsTightPath};
+ghost use Rattle.augmenting_paths.specs.TightPath.{FindsTight};
 ghost use Rattle.augmenting_paths.specs.DepthFirst.{HasNodes};
 ghost use Rattle.augmenting_paths.specs.NextUnit.{MayShipNext, AreKept, HasLiftedNext, HasFoundNext};
 
@@ -18,7 +18,7 @@ use crate::trail::Trail;
 use crate::walk::walk_down;
 use flow_network::{ArcNo, FlowArc, Meter, Network};
 use node_ids::Layout;
-use shortest_paths::{Buffers, Found, Potentials, ResidualArcs, leaving};
+use shortest_paths::{Buffers, Found, Potentials, Query, ResidualArcs, leaving};
 use std::alloc::{AllocError, Global};
 
 // What is kept from unit to unit: the last unit's path, and how many looks at arcs the searches took.
@@ -158,15 +158,13 @@ fn find_path<L: Layout>(
     network.limits();
     let start = order[count];
     lift(network, &mut potentials, start);
-    let is_found = tight_path(
-        network,
-        &potentials,
-        &lists,
-        &mut trail,
+    let query = Query {
+        potentials: &potentials,
+        lists: &lists,
         start,
         sink,
-        &mut path,
-    )?;
+    };
+    let is_found = tight_path(network, &query, &mut trail, &mut path)?;
     let lifted = Shipping {
         potentials,
         lists,
@@ -184,24 +182,19 @@ fn find_path<L: Layout>(
 // Whether a walk comes from a node to the sink, or else a search over tight arcs, and then its path.
 fn tight_path<L: Layout>(
     network: &Network<L>,
-    potentials: &Potentials,
-    lists: &ResidualArcs,
+    query: &Query,
     trail: &mut Trail,
-    start: usize,
-    sink: usize,
     path: &mut Vec<ArcNo>,
 ) -> Result<bool, AllocError>
-    requires may { MaySearch L.node_count network.now potentials.now lists.now sink }
-    requires nodes { HasNodes (length potentials.now) trail.old }
-    requires start { start < length potentials.now }
-    ensures nodes { HasNodes (length potentials.now) trail.new }
-    ensures tight { IfOk result (λ b. IsTrue b → IsTightPath network.now.arcs network.now.flows
-        (slice_index potentials.now) start sink path.new.items) }
+    requires may { MaySearch L.node_count network.now query.now }
+    requires nodes { HasNodes (length query.now.potentials.now) trail.old }
+    ensures nodes { HasNodes (length query.now.potentials.now) trail.new }
+    ensures tight { IfOk result (FindsTight network.now query.now path.new.items) }
 {
-    if walk_down(network, potentials, lists, start, sink, path)? {
+    if walk_down(network, query, path)? {
         return Ok(true);
     }
-    trail.search(network, potentials, lists, start, sink, path)
+    trail.search(network, query, path)
 }
 
 // The same by a search, where the source is lifted.
@@ -230,16 +223,13 @@ fn search_path<L: Layout>(
         ..
     } = shipping;
     network.limits();
-    let start = order[count];
-    let found = find(
-        buffers,
-        network,
-        &potentials,
-        &lists,
-        start,
+    let query = Query {
+        potentials: &potentials,
+        lists: &lists,
+        start: order[count],
         sink,
-        &mut looks,
-    )?;
+    };
+    let found = find(buffers, network, &query, &mut looks)?;
     let path = match found.path(alloc)? {
         Some(path) => path,
         None => unreachable!(),
@@ -353,28 +343,24 @@ fn lesser_depth(arcs: &[FlowArc], depths: &[u64], arc: ArcNo, least: u64) -> u64
 fn find<L: Layout>(
     buffers: Buffers,
     network: &Network<L>,
-    potentials: &Potentials,
-    lists: &ResidualArcs,
-    start: usize,
-    sink: usize,
+    query: &Query,
     looks: &mut u64,
 ) -> Result<Found, AllocError>
     requires looks { looks.old + 2 * length network.now.arcs < 2 ^ 64 }
-    requires may { MaySearch L.node_count network.now potentials.now lists.now sink }
-    requires nodes { buffers ≡ length potentials.now }
-    requires start { start < length potentials.now }
-    requires sink { sink < length potentials.now }
-    ensures size { IfOk result (λ f. length f.distances ≡ length potentials.now) }
-    ensures total { IfOk result (λ f. IsTotal f.total (distance_at f.distances sink)) }
+    requires may { MaySearch L.node_count network.now query.now }
+    requires nodes { buffers ≡ length query.now.potentials.now }
+    requires sink { query.now.sink < length query.now.potentials.now }
+    ensures size { IfOk result (λ f. length f.distances ≡ length query.now.potentials.now) }
+    ensures total { IfOk result (λ f. IsTotal f.total (distance_at f.distances query.now.sink)) }
     ensures searched { IfOk result (λ f. IsSearched network.now.arcs network.now.flows
-        (slice_index potentials.now) start sink (distance_at f.distances)) }
-    ensures path { IfOk result (λ f. IsSome f.total
-        → IsTrace network.now.arcs network.now.flows
-        (slice_index potentials.now) start sink (distance_at f.distances) f.path) }
+        (slice_index query.now.potentials.now) query.now.start query.now.sink (distance_at f.distances)) }
+    ensures path { IfOk result (λ f. IsSome f.total → IsTrace network.now.arcs network.now.flows
+        (slice_index query.now.potentials.now) query.now.start query.now.sink
+        (distance_at f.distances) f.path) }
     ensures looks { looks.new ≤ looks.old + 2 * length network.now.arcs }
 {
     let mut meter = Meter::new(network);
-    let found = buffers.search(&mut meter, potentials, lists, start, sink);
+    let found = buffers.search(&mut meter, query);
     *looks += meter.count();
     found
 }

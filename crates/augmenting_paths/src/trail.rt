@@ -4,12 +4,12 @@ ghost use Rattle.std.specs.Prelude.{IsTrue};
 ghost use Rattle.flow_network.specs.Flows.{arc_index, tail_of};
 ghost use Rattle.flow_network.specs.Leaving.{IsIn};
 ghost use Rattle.shortest_paths.specs.Search.{MaySearch};
-ghost use Rattle.augmenting_paths.specs.TightPath.{IsTightPath};
+ghost use Rattle.augmenting_paths.specs.TightPath.{FindsTight};
 ghost use Rattle.augmenting_paths.specs.DepthFirst.{HasNodes, IsOf, IsOpenArc, GoesOn};
 
 use flow_network::{ArcNo, FlowArc, Meter, Network};
 use node_ids::Layout;
-use shortest_paths::{Potentials, ResidualArcs, leaving};
+use shortest_paths::{Potentials, Query, leaving};
 use std::alloc::{AllocError, Global};
 
 /// The nodes as such searches leave them. Those that are closed lie on the path of one, or none came from
@@ -47,31 +47,26 @@ impl Trail {
     pub fn search<L: Layout>(
         &mut self,
         network: &Network<L>,
-        potentials: &Potentials,
-        lists: &ResidualArcs,
-        start: usize,
-        sink: usize,
+        query: &Query,
         path: &mut Vec<ArcNo>,
     ) -> Result<bool, AllocError>
-        requires may { MaySearch L.node_count network.now potentials.now lists.now sink }
-        requires nodes { HasNodes (length potentials.now) self.old }
-        requires start { start < length potentials.now }
-        ensures nodes { HasNodes (length potentials.now) self.new }
-        ensures tight { IfOk result (λ b. IsTrue b → IsTightPath network.now.arcs network.now.flows
-            (slice_index potentials.now) start sink path.new.items) }
+        requires may { MaySearch L.node_count network.now query.now }
+        requires nodes { HasNodes (length query.now.potentials.now) self.old }
+        ensures nodes { HasNodes (length query.now.potentials.now) self.new }
+        ensures tight { IfOk result (FindsTight network.now query.now path.new.items) }
     {
         network.limits();
         path.clear();
-        self.enter(start);
-        let mut top = start;
+        self.enter(query.start);
+        let mut top = query.start;
         // (each node is entered once, and left once)
         for _turn in 0..2 * self.closed.len() {
-            if top == sink {
-                self.closed[start] = 0;
+            if top == query.sink {
+                self.closed[query.start] = 0;
                 open_ends(&mut self.closed, network, path);
                 return Ok(true);
             }
-            match self.next(network, potentials, lists, top) {
+            match self.next(network, query, top) {
                 Some(arc) => {
                     path.push(arc)?;
                     top = network.view(arc).to;
@@ -102,35 +97,29 @@ impl Trail {
 
     // The next of a node's arcs that goes on, from the last to the first: a source's own, or else that to the
     // sink, the inner ones, and then those back to matched sources.
-    fn next<L: Layout>(
-        &mut self,
-        network: &Network<L>,
-        potentials: &Potentials,
-        lists: &ResidualArcs,
-        node: usize,
-    ) -> Option<ArcNo>
-        requires may { (sink : ℕ) × MaySearch L.node_count network.now potentials.now lists.now sink }
-        requires nodes { HasNodes (length potentials.now) self.old }
-        requires node { node < length potentials.now }
+    fn next<L: Layout>(&mut self, network: &Network<L>, query: &Query, node: usize) -> Option<ArcNo>
+        requires may { MaySearch L.node_count network.now query.now }
+        requires nodes { HasNodes (length query.now.potentials.now) self.old }
+        requires node { node < length query.now.potentials.now }
         ensures left { self.new ≡ record self.old { left = self.new.left } }
         ensures size { length self.new.left.items ≡ length self.old.left.items }
         ensures goes_on { IfSome result (λ a. GoesOn network.now.arcs network.now.flows
-            (slice_index potentials.now) self.old.closed.items self.old.time node a) }
+            (slice_index query.now.potentials.now) self.old.closed.items self.old.time node a) }
     {
-        if lists.is_source(node) {
+        if query.lists.is_source(node) {
             let meter = Meter::new(network);
-            return self.next_of(network, potentials, leaving(&meter, node), &[], node);
+            return self.next_of(network, query.potentials, leaving(&meter, node), &[], node);
         }
-        if let Some(k) = lists.sink_arc(node)
-            && self.is_open(network, potentials, ArcNo::Forward(k))
+        if let Some(k) = query.lists.sink_arc(node)
+            && self.is_open(network, query.potentials, ArcNo::Forward(k))
         {
             return Some(ArcNo::Forward(k));
         }
         self.next_of(
             network,
-            potentials,
-            lists.inner(node),
-            lists.matched(node),
+            query.potentials,
+            query.lists.inner(node),
+            query.lists.matched(node),
             node,
         )
     }

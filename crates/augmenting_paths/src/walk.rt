@@ -1,12 +1,13 @@
 //! A path over which a unit costs nothing more, by a walk down from its source.
 ghost use Rattle.std.specs.Prelude.{◌≡◌, ℕ, ◌<◌, length, slice_index, IfOk, IfSome, IsTrue};
-ghost use Rattle.flow_network.specs.Flows.{arc_at, arc_index, tail_of};
+ghost use Rattle.flow_network.specs.Flows.{arc_at};
 ghost use Rattle.shortest_paths.specs.Search.{MaySearch};
-ghost use Rattle.augmenting_paths.specs.TightPath.{IsTightArc, IsTightPath, LeadsDown};
+ghost use Rattle.augmenting_paths.specs.DepthFirst.{IsOf};
+ghost use Rattle.augmenting_paths.specs.TightPath.{FindsTight, IsTightArc, LeadsDown};
 
 use flow_network::{ArcNo, Meter, Network};
 use node_ids::Layout;
-use shortest_paths::{Potentials, ResidualArcs, leaving};
+use shortest_paths::{Potentials, Query, leaving};
 use std::alloc::AllocError;
 
 /// Whether a walk from a node comes to the sink, and then its path. It goes over one of the node's own arcs,
@@ -14,23 +15,18 @@ use std::alloc::AllocError;
 /// last of them is tried before the others: it leads to the latest node, that of splits which wait.
 pub fn walk_down<L: Layout>(
     network: &Network<L>,
-    potentials: &Potentials,
-    lists: &ResidualArcs,
-    node: usize,
-    sink: usize,
+    query: &Query,
     path: &mut Vec<ArcNo>,
 ) -> Result<bool, AllocError>
-    requires may { MaySearch L.node_count network.now potentials.now lists.now sink }
-    requires node { node < length potentials.now }
-    ensures { IfOk result (λ b. IsTrue b → IsTightPath network.now.arcs network.now.flows
-        (slice_index potentials.now) node sink path.new.items) }
+    requires { MaySearch L.node_count network.now query.now }
+    ensures { IfOk result (FindsTight network.now query.now path.new.items) }
 {
     network.limits();
     let meter = Meter::new(network);
-    let arcs = leaving(&meter, node);
+    let arcs = leaving(&meter, query.start);
     for i in 0..arcs.len() {
         let place = if i == 0 { arcs.len() - 1 } else { i - 1 };
-        if walk_over(network, potentials, lists, arcs[place], sink, path)? {
+        if walk_over(network, query, arcs[place], path)? {
             return Ok(true);
         }
     }
@@ -40,29 +36,26 @@ pub fn walk_down<L: Layout>(
 // The same, over this residual arc first.
 fn walk_over<L: Layout>(
     network: &Network<L>,
-    potentials: &Potentials,
-    lists: &ResidualArcs,
+    query: &Query,
     first: ArcNo,
-    sink: usize,
     path: &mut Vec<ArcNo>,
 ) -> Result<bool, AllocError>
-    requires may { MaySearch L.node_count network.now potentials.now lists.now sink }
-    requires listed { arc_index first < length network.now.arcs }
-    ensures { IfOk result (λ b. IsTrue b → IsTightPath network.now.arcs network.now.flows
-        (slice_index potentials.now) (tail_of network.now.arcs first) sink path.new.items) }
+    requires may { MaySearch L.node_count network.now query.now }
+    requires own { IsOf network.now.arcs query.now.start first }
+    ensures { IfOk result (FindsTight network.now query.now path.new.items) }
 {
     network.limits();
     let ArcNo::Forward(own) = first else {
         return Ok(false);
     };
-    if !leads_down(network, potentials, own, sink) {
+    if !leads_down(network, query, own) {
         return Ok(false);
     }
     path.clear();
     path.push(first)?;
     let mut node = network.all_arcs()[own as usize].to as usize;
-    while node != sink {
-        let Some(on) = arc_down(network, potentials, lists, node, sink) else {
+    while node != query.sink {
+        let Some(on) = arc_down(network, query, node) else {
             return Ok(false);
         };
         path.push(ArcNo::Forward(on))?;
@@ -72,27 +65,21 @@ fn walk_over<L: Layout>(
 }
 
 // The arc of a node to the sink where it leads down, else the first of its inner arcs that does.
-fn arc_down<L: Layout>(
-    network: &Network<L>,
-    potentials: &Potentials,
-    lists: &ResidualArcs,
-    node: usize,
-    sink: usize,
-) -> Option<u32>
-    requires may { MaySearch L.node_count network.now potentials.now lists.now sink }
-    requires node { node < length potentials.now }
+fn arc_down<L: Layout>(network: &Network<L>, query: &Query, node: usize) -> Option<u32>
+    requires may { MaySearch L.node_count network.now query.now }
+    requires node { node < length query.now.potentials.now }
     ensures down { IfSome result (λ k. LeadsDown network.now.arcs network.now.flows
-        (slice_index potentials.now) sink k) }
+        (slice_index query.now.potentials.now) query.now.sink k) }
     ensures from { IfSome result (λ k. (arc_at network.now.arcs k).from ≡ node) }
 {
-    if let Some(on) = lists.sink_arc(node)
-        && leads_down(network, potentials, on, sink)
+    if let Some(on) = query.lists.sink_arc(node)
+        && leads_down(network, query, on)
     {
         return Some(on);
     }
-    for arc in lists.inner(node) {
+    for arc in query.lists.inner(node) {
         if let ArcNo::Forward(on) = *arc
-            && leads_down(network, potentials, on, sink)
+            && leads_down(network, query, on)
         {
             return Some(on);
         }
@@ -101,19 +88,15 @@ fn arc_down<L: Layout>(
 }
 
 // Whether an arc has room, costs nothing under the potentials, and leads to the sink or to a later node.
-fn leads_down<L: Layout>(
-    network: &Network<L>,
-    potentials: &Potentials,
-    number: u32,
-    sink: usize,
-) -> bool
-    requires size { length potentials.now ≡ L.node_count network.now.layout }
+fn leads_down<L: Layout>(network: &Network<L>, query: &Query, number: u32) -> bool
+    requires size { length query.now.potentials.now ≡ L.node_count network.now.layout }
     requires listed { number < length network.now.arcs }
-    ensures { IsTrue result → LeadsDown network.now.arcs network.now.flows (slice_index potentials.now)
-        sink number }
+    ensures { IsTrue result → LeadsDown network.now.arcs network.now.flows
+        (slice_index query.now.potentials.now) query.now.sink number }
 {
     let arc = network.all_arcs()[number as usize];
-    is_open(network, potentials, number as usize) && (arc.to as usize == sink || arc.from < arc.to)
+    is_open(network, query.potentials, number as usize)
+        && (arc.to as usize == query.sink || arc.from < arc.to)
 }
 
 // Whether an arc has room and costs nothing under the potentials.

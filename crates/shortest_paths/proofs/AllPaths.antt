@@ -1,17 +1,14 @@
 -- The least paths to all nodes, which a search to no sink leaves.
-use Rattle.std.proofs.Common.{◌≡◌, ℕ, zero, suc, ◌+◌, ◌^◌, ◌<◌, ◌≤◌, cond, leb, List, [], ◌∷◌, length, get_or}
+use Rattle.std.proofs.Common.{◌≡◌, ℕ, zero, suc, ◌+◌, ◌<◌, ◌≤◌, cond, leb, List, [], ◌∷◌, length, get_or}
 use Rattle.std.proofs.Common.{Bool, true, false, Option, Some, None, refl, sym, ap, ◌∙◌, subst, inl, inr}
 use Rattle.std.proofs.Common.{arith}
 use Rattle.std.proofs.lemmas.Bool.{cases_Bool, cases_lt, leb-true, leb-false, false≢true}
 use Rattle.std.specs.Prelude.{slice_index, is_some}
 use Rattle.flow_network.specs.declared.arcs.ArcNo.{ArcNo}
-use Rattle.flow_network.specs.Flows.{IsNetwork, IsResidual, IsPath, IsDistinct, NoNegative, tail_of, head_of}
+use Rattle.flow_network.specs.Flows.{IsResidual, IsPath, IsDistinct, tail_of, head_of}
 use Rattle.flow_network.specs.Flows.{path_cost}
 use Rattle.shortest_paths.specs.declared.arrival.Arrival.{Arrival}
-use Rattle.flow_network.specs.Flow.{Counted}
-use Rattle.shortest_paths.specs.declared.search.Search.{Search}
-use Rattle.shortest_paths.specs.Lists.{ArcLists}
-use Rattle.shortest_paths.specs.Search.{tables, problem, EndsSearch}
+use Rattle.shortest_paths.specs.Search.{EndsSearch}
 use Rattle.shortest_paths.specs.Finding.{reached_at, found_at, paths_from, paths_of, AreTracedBack}
 use Rattle.shortest_paths.specs.Paths.{IsPriced, AreLeastPaths, option_distance, option_path}
 use Rattle.shortest_paths.specs.Searching.{Problem, Tables, distance_at, arrival_at, trace_to, rc}
@@ -20,8 +17,7 @@ use Rattle.shortest_paths.specs.ToSink.{far}
 use Rattle.shortest_paths.proofs.Costs.{residual_cost, reduced_bound}
 use Rattle.shortest_paths.proofs.Lowering.{steps_cost}
 use Rattle.shortest_paths.proofs.Sums.{ones_le}
-use Rattle.std.proofs.lemmas.List.{get_or_past}
-use Rattle.shortest_paths.proofs.Members.{first_in}
+use Rattle.shortest_paths.proofs.Searching.{entered_inside}
 use Rattle.shortest_paths.proofs.SearchEnds.{path_back, all_covered, leads_back}
 
 pub get_or-paths : (arrivals : List Arrival) (distances : List ℕ) (i v : ℕ)
@@ -160,45 +156,28 @@ module _ (n : ℕ) (p : Problem) (level count : ℕ) (t : Tables)
       }
 
 -- a search to a sink that is no node comes to an end where nothing is left
-ends_all : {L : Type 0} (m : Counted L) (depths : List ℕ) (g : ArcLists) (start sink count : ℕ) (s : Search)
-    (found : Option ℕ) → length depths ≤ sink → EndsSearch found m depths g start sink count s
-    → EndsSearch None m depths g start sink count s
-ends_all m depths g start sink count s None past e = e
-ends_all m depths g start sink count s (Some total) past e = absurd
-    (let here = (e.1.waiting.next sink (first_in sink [])).1 in
-    let top = e.1.reached.level_in in
-    let size = e.1.reached.size in
-    let away = get_or_past s.distances.items sink far (omega arith) in
-    omega arith)
+ends_all : (p : Problem) (count : ℕ) (t : Tables) (found : Option ℕ) → length p.depths ≤ p.sink
+    → EndsSearch found p count t → EndsSearch None p count t
+ends_all p count t None past e = e
+ends_all p count t (Some total) past e = absurd
+    (let inside = entered_inside p (length p.depths) total count p.sink [] e.0 t e.1 in omega arith)
 
 -- what it leaves for its callers
-pub record FindsAll {L : Type 0} (m : Counted L) (depths : List ℕ) (start : ℕ) (s : Search) : Type 0 where
-  pub least : AreLeastPaths m.network.arcs m.network.flows (slice_index depths) start
-      (paths_of s.distances.items s.arrivals.items)
-  pub back : AreTracedBack s.distances.items s.arrivals.items
-  pub size : length (paths_of s.distances.items s.arrivals.items) ≡ length depths
+pub record FindsAll (p : Problem) (t : Tables) : Type 0 where
+  pub least : AreLeastPaths p.arcs p.flows (slice_index p.depths) p.start (paths_of t.distances t.arrivals)
+  pub back : AreTracedBack t.distances t.arrivals
+  pub size : length (paths_of t.distances t.arrivals) ≡ length p.depths
 
-pub finds_all : {L : Type 0} (m : Counted L) (n : ℕ) (depths : List ℕ) (g : ArcLists) (start sink count : ℕ)
-    (s : Search) (found : Option ℕ) → length depths ≤ sink
-    → IsNetwork n m.network.arcs m.network.flows → length depths ≡ n
-    → ((v : ℕ) → slice_index depths v ≤ 2 ^ 52)
-    → NoNegative m.network.arcs m.network.flows (slice_index depths)
-    → EndsSearch found m depths g start sink count s → FindsAll m depths start s
-finds_all m n depths g start sink count s found past network size deep reduced ends =
-    let priced : IsPriced n m.network.arcs m.network.flows depths = record {
-      network = network;
-      size = size;
-      deep = deep;
-      reduced = reduced;
-    } in
-    let e = ends_all m depths g start sink count s found past ends in
-    let r = e.1.0 in
+pub finds_all : (n : ℕ) (p : Problem) (count : ℕ) (t : Tables) (found : Option ℕ) → length p.depths ≤ p.sink
+    → IsPriced n p.arcs p.flows p.depths → EndsSearch found p count t → FindsAll p t
+finds_all n p count t found past priced ends =
+    let e = ends_all p count t found past ends in
+    let r = e.1 in
     record {
-      least = all_least n (problem m depths g start sink) e.0 count (tables s) r e.1.1.0 e.1.1.1 priced;
+      least = all_least n p e.0 count t r e.2 e.3 priced;
       back = record {
         size = r.reached.arrivals_size ∙ sym r.reached.size;
-        back = λ v near. leads_back (problem m depths g start sink) (length depths) e.0 (tables s) r.reached
-            _ v near refl;
+        back = λ v near. leads_back p (length p.depths) e.0 t r.reached _ v near refl;
       };
-      size = length-paths s.arrivals.items s.distances.items 0 ∙ r.reached.size;
+      size = length-paths t.arrivals t.distances 0 ∙ r.reached.size;
     }

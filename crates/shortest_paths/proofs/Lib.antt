@@ -16,6 +16,7 @@ pub mod Sums
 pub mod Cursors
 pub mod Settled
 pub mod Searching
+pub mod Looking
 pub mod SearchEnds
 pub mod Finds
 -- its paths to all nodes

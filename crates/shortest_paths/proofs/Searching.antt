@@ -1,19 +1,19 @@
 -- The other moves of a search: a node is taken from the queue, an arc is looked at; and each move by what
 -- the code reads.
-use Rattle.std.proofs.Common.{◌≡◌, ℕ, zero, suc, ◌+◌, ◌-◌, ◌*◌, ◌^◌, ◌<◌, ◌≤◌, true, false, List, [], ◌∷◌}
+use Rattle.std.proofs.Common.{◌≡◌, ℕ, zero, suc, ◌+◌, ◌-◌, ◌*◌, ◌<◌, ◌≤◌, true, false, List, [], ◌∷◌}
 use Rattle.std.proofs.Common.{◌++◌, length, map, get_or, set, take, All, Contains, IsPermutation, Option}
 use Rattle.std.proofs.Common.{Some, None, refl, sym, ap, ◌∙◌, subst, inl, inr, ◌⊎◌, arith, length-append}
 use Rattle.std.proofs.lemmas.Bool.{cases_lt, cases_Bool, false≢true}
-use Rattle.std.proofs.lemmas.List.{get_or_past, get_or_default, take_more}
+use Rattle.std.proofs.lemmas.List.{get_or_past, take_more}
 use Rattle.std.proofs.lemmas.List.Elements.{Contains-append_right, Contains-push, All-contains}
 use Rattle.std.proofs.lemmas.List.Sorted.{Contains-permutation, IsPermutation-sym}
 use Rattle.std.specs.Option.{option_to_list}
-use Rattle.std.specs.Prelude.{slice_index, slice_get, is_some, IfSome, pos, ◌+ℤ◌, ◌-ℤ◌}
+use Rattle.std.specs.Prelude.{slice_index, slice_get}
 use Rattle.flow_network.specs.declared.arcs.FlowArc.{FlowArc}
 use Rattle.flow_network.specs.declared.arcs.ArcNo.{ArcNo}
 use Rattle.flow_network.specs.declared.arcs.ArcNo.TheVariants.{Forward, Reverse}
-use Rattle.flow_network.specs.Flows.{AreArcs, NoNegative, tail_of, head_of, arc_index, cost_of, IsResidual}
-use Rattle.flow_network.specs.Flows.{reduced_cost}
+use Rattle.flow_network.specs.Flows.{AreArcs, NoNegative, tail_of, head_of, arc_index, IsResidual}
+use Rattle.flow_network.specs.Flow.{Counted}
 use Rattle.flow_network.specs.Leaving.{IsIn}
 use Rattle.flow_network.proofs.Listed.{in_left, in_right, in_split, in_at, few_looks}
 use Rattle.shortest_paths.specs.declared.arrival.Arrival.{Arrival}
@@ -21,18 +21,17 @@ use Rattle.shortest_paths.specs.Lists.{ArcLists, AreResidualArcs, source_at, inn
 use Rattle.shortest_paths.specs.Lists.{option_arcs}
 use Rattle.shortest_paths.specs.Lists.{sink_arcs_at, stack_arcs}
 use Rattle.shortest_paths.specs.Searching.{is_settled}
-use Rattle.shortest_paths.specs.Searching.{Problem, Tables, distance_at, no_arrival, arrival_at, rc}
+use Rattle.shortest_paths.specs.Searching.{Problem, Tables, distance_at, arrival_at, rc}
 use Rattle.shortest_paths.specs.Searching.{AreReached}
 use Rattle.shortest_paths.specs.Searching.{ListsReached, AreCovered, IsSearching}
-use Rattle.shortest_paths.specs.Paths.{IsPriced}
-use Rattle.shortest_paths.specs.Search.{option_list, Comes}
+use Rattle.shortest_paths.specs.declared.query.Query.{Query}
+use Rattle.shortest_paths.specs.declared.search.Search.{Search}
+use Rattle.shortest_paths.specs.Search.{problem, tables, AreCursors, IsNextArc, Searches}
 use Rattle.shortest_paths.specs.ToSink.{far}
-use Rattle.shortest_paths.proofs.Costs.{tail_in, residual_cost, reduced_is, cost_fits}
 use Rattle.shortest_paths.proofs.Members.{nothing_in, in_front, first_in}
 use Rattle.shortest_paths.proofs.Arriving.{not_settled, falls, kept, set_to, reached_by, waits_near}
 use Rattle.shortest_paths.proofs.Arriving.{waits_far}
 use Rattle.shortest_paths.proofs.Arriving.{covers}
-use Rattle.shortest_paths.proofs.Sums.{ones_le}
 use Rattle.shortest_paths.proofs.Cursors.{map_at, inner_moves, matched_moves, popped}
 use Rattle.shortest_paths.proofs.Settled.{opened}
 
@@ -293,102 +292,6 @@ module _ (p : Problem) (nodes level count : ℕ) (entering : List ℕ) (a : ArcN
           sink_left = s.sink_left;
         }
 
--- what is seen of a residual arc gives its reduced cost
-pub seen_cost : (arcs : List FlowArc) (flows : List ℕ) (h : ℕ → ℕ) (a : ArcNo) (node to r : ℕ)
-    → NoNegative arcs flows h → IsResidual arcs flows a
-    → tail_of arcs a ≡ node → to ≡ head_of arcs a → pos r ≡ (cost_of arcs a +ℤ pos (h to)) -ℤ pos (h node)
-    → r ≡ reduced_cost arcs h a
-seen_cost arcs flows h a node to r none residual leaves at e =
-    reduced_is arcs h a r (residual_cost arcs flows h a none residual) (rw (at, ← leaves) at e)
-
-pub reads_distance : (distances : List ℕ) (v : ℕ) → v < length distances
-    → get_or distances v 0 ≡ distance_at distances v
-reads_distance [] v l = absurd (omega arith)
-reads_distance (d ∷ ds) zero l = refl
-reads_distance (d ∷ ds) (suc v) l = reads_distance ds v (omega arith)
-
-abbrev arrives : ArcNo → ℕ → ℕ → Arrival
-arrives a node n = record { arc = a; before = node; arcs = n }
-
--- a look, by what the code reads
-module _ (n : ℕ) (p : Problem) (level count : ℕ) (entering : List ℕ) (a : ArcNo) (rest : List ArcNo)
-    (t : Tables)
-    (s : IsSearching p (length p.depths) level count entering (a ∷ rest) t)
-    (priced : IsPriced n p.arcs p.flows p.depths)
-    (residual : IsResidual p.arcs p.flows a) (node to cost x : ℕ) (leaves : tail_of p.arcs a ≡ node)
-    (at : to ≡ head_of p.arcs a)
-    (seen : pos cost ≡ (cost_of p.arcs a +ℤ pos (slice_index p.depths to)) -ℤ pos (slice_index p.depths node))
-    (read : x ≡ get_or t.distances to x) where
-  are : AreArcs (length p.depths) p.arcs
-  are = subst (λ m. AreArcs m p.arcs) (sym priced.size) priced.network.arcs_in
-
-  is : cost ≡ rc p a
-  is = seen_cost p.arcs p.flows (slice_index p.depths) a node to cost priced.reduced residual leaves at seen
-
-  inside : head_of p.arcs a < length p.depths
-  inside = (cost_fits (length p.depths) p.arcs (slice_index p.depths) a are residual.listed
-      (residual_cost p.arcs p.flows (slice_index p.depths) a priced.reduced residual)).3
-
-  knows : x ≡ distance_at t.distances (head_of p.arcs a)
-  knows = let size = s.reached.size in let l = inside in read ∙ get_or_default t.distances to x far
-      (omega arith) ∙ ap (distance_at t.distances) at
-
-  pub seen_known : x ≤ level + cost → IsSearching p (length p.depths) level (count + 1) entering rest t
-  seen_known l = let k = knows in let c = is in no_shorter p (length p.depths) level count entering a rest t s
-      (omega arith)
-
-  module _ (b : Arrival) (read_arrival : b ≡ get_or t.arrivals node b) (shorter : level + cost < x) where
-    arrival_is : arrives a node (b.arcs + 1)
-        ≡ arrives a (tail_of p.arcs a) ((arrival_at t.arrivals (tail_of p.arcs a)).arcs + 1)
-    arrival_is =
-        let size = s.reached.arrivals_size in
-        let at_node = tail_in (length p.depths) p.arcs a are residual.listed in
-        let same : b ≡ arrival_at t.arrivals (tail_of p.arcs a) = read_arrival
-        ∙ get_or_default t.arrivals node b no_arrival (omega arith)
-        ∙ ap (arrival_at t.arrivals) (sym leaves) in
-        ap (λ m. arrives a m (b.arcs + 1)) (sym leaves)
-        ∙ ap (λ (q : Arrival). arrives a (tail_of p.arcs a) (q.arcs + 1)) same
-
-    short : level + rc p a < distance_at t.distances (head_of p.arcs a)
-    short = let k = knows in let c = is in omega arith
-
-    pub seen_near : (reached : List ℕ) → ListsReached (set t.distances to (level + cost)) reached → cost ≡ 0
-        → IsSearching p (length p.depths) level (count + 1) (to ∷ entering) rest (record t {
-          distances = set t.distances to (level + cost);
-          arrivals = set t.arrivals to (record { arc = a; before = node; arcs = b.arcs + 1 });
-          reached = reached;
-        })
-    seen_near reached listed zero_cost =
-        let tight : rc p a ≡ 0 = (let c = is in omega arith) in
-        rw (arrival_is, at, is)
-        (near_way p (length p.depths) level count entering a rest t s are priced.reduced residual short inside
-        reached (rw (at, is) at listed) tight)
-
-    pub seen_far : (queue : List (ℕ × ℕ)) (reached : List ℕ)
-        → ListsReached (set t.distances to (level + cost)) reached → (cost ≡ 0 → ⊥)
-        → IsPermutation ((level + cost, to) ∷ t.queue) queue
-        → IsSearching p (length p.depths) level (count + 1) entering rest (record t {
-          distances = set t.distances to (level + cost);
-          arrivals = set t.arrivals to (record { arc = a; before = node; arcs = b.arcs + 1 });
-          queue = queue;
-          reached = reached;
-        })
-    seen_far queue reached listed some more =
-        let pair : (level + cost, to) ≡ (level + rc p a, head_of p.arcs a) = ap (λ m. (level + m, to)) is
-        ∙ ap (λ v. (level + rc p a, v)) at in
-        let costs : 0 < rc p a = elim (cases_lt 0 (rc p a)) [
-          | inl l ↦ l
-          | inr z ↦ absurd
-              (some (let c = is in omega arith))
-        ] in
-        let fits : level + rc p a < far = (let near = short in
-        let most = s.reached.within (head_of p.arcs a) in omega arith) in
-        let more' : IsPermutation ((level + rc p a, head_of p.arcs a) ∷ t.queue) queue = subst
-        (λ (q : ℕ × ℕ). IsPermutation (q ∷ t.queue) queue) pair more in
-        rw (arrival_is, at, is)
-        (far_way p (length p.depths) level count entering a rest t s are priced.reduced residual short inside
-        queue reached (rw (at, is) at listed) costs fits more')
-
 -- looks are few at each moment
 pub few_so_far : (p : Problem) (nodes level count : ℕ) (entering : List ℕ) (rest : List ArcNo) (t : Tables)
     → IsSearching p nodes level count entering rest t
@@ -396,42 +299,34 @@ pub few_so_far : (p : Problem) (nodes level count : ℕ) (entering : List ℕ) (
 few_so_far p nodes level count entering rest t s = let old = s.looks in
     let few = few_looks p.arcs t.settled in omega arith
 
--- what the code asks before a look
-pub may_look : (n : ℕ) (p : Problem) (level count : ℕ) (entering : List ℕ) (a : ArcNo) (rest : List ArcNo)
-    (t : Tables)
-    → IsSearching p (length p.depths) level count entering (a ∷ rest) t → IsPriced n p.arcs p.flows p.depths
-    → (count + 1 < 2 ^ 64) × (level ≤ 2 ^ 60) × ((arrival_at t.arrivals (tail_of p.arcs a)).arcs ≤ 4096)
-    × (arc_index a < length p.arcs)
-may_look n p level count entering a rest t s priced =
-    let q = s.covered.of_rest a (inl refl) in
-    let here = q.2 in
-    let top = s.reached.level_in in
-    let b = s.reached.bounded (tail_of p.arcs a) (omega arith) in
-    let arcs = b.0 in
-    let far = b.1 in
-    let ones = ones_le t.settled 0 in
-    let marks = s.reached.settled_size in
-    let size = priced.size in
-    let limit = priced.network.node_limit in
-    let arc_limit = priced.network.arc_limit in
-    let deep = priced.deep (tail_of p.arcs a) in
-    let few = few_so_far p (length p.depths) level count entering (a ∷ rest) t s in
-    (omega arith, omega arith, omega arith, q.0)
+-- a node that is entered has a place in the tables
+pub entered_inside : (p : Problem) (nodes level count : ℕ) (v : ℕ) (entering : List ℕ) (rest : List ArcNo)
+    (t : Tables) → IsSearching p nodes level count (v ∷ entering) rest t → v < nodes
+entered_inside p nodes level count v entering rest t s =
+    let at = (s.waiting.next v (first_in v entering)).1 in
+    let low = s.reached.level_in in
+    let size = s.reached.size in
+    elim (cases_lt v (length t.distances)) [
+      | inl l ↦ omega arith
+      | inr past ↦ absurd (let away = get_or_past t.distances v far past in omega arith)
+    ]
 
 -- a node that is no source was opened, and its arc to the sink comes first
-pub opened_with : (p : Problem) (nodes level count : ℕ) (v : ℕ) (rest : List ArcNo) (t t' : Tables)
-    (o : Option ℕ) → IsSearching p nodes level count (v ∷ []) rest t
-    → AreResidualArcs p.arcs p.flows p.sink p.lists → v < nodes → (v ≡ p.sink → ⊥)
-    → source_at p.lists v ≡ false
-    → t' ≡ record t {
-      settled = set t.settled v true;
-      left = set t.left v (length (inner_at p.lists v));
-      left_matched = set t.left_matched v (length (matched_at p.lists v));
-      stack = t.stack ++ v ∷ [];
+pub opened_with : {L : Type 0} (node_count : L → ℕ) (m : Counted L) (q : Query) (level : ℕ) (v : ℕ)
+    (rest : List ArcNo) (s s' : Search) (o : Option ℕ) → Searches node_count m q level (v ∷ []) rest s
+    → (v ≡ q.sink → ⊥) → source_at q.lists.now v ≡ false
+    → tables s' ≡ record (tables s) {
+      settled = set s.settled.items v true;
+      left = set s.left.items v (length (inner_at q.lists.now v));
+      left_matched = set s.left_matched.items v (length (matched_at q.lists.now v));
+      stack = s.stack.items ++ v ∷ [];
     }
-    → o ≡ get_or p.lists.sink_arcs v None → IsSearching p nodes level count [] (option_arcs o ++ rest) t'
-opened_with p nodes level count v rest t t' o s lists inside not_sink no_source e f =
-    rw (e, f) (opened p nodes level count v rest t s lists inside not_sink no_source)
+    → o ≡ get_or q.lists.now.sink_arcs v None → Searches node_count m q level [] (option_arcs o ++ rest) s'
+opened_with node_count m q level v rest s s' o state not_sink no_source e f = record {
+  may = state.may;
+  now = rw (e, f) (opened (problem m.network q) (length q.potentials.now) level m.count v rest (tables s)
+      state.now state.may.lists (entered_inside _ _ _ _ _ _ _ _ state.now) not_sink no_source);
+}
 
 pub sink_arc_own : (p : Problem) (v k : ℕ) → AreResidualArcs p.arcs p.flows p.sink p.lists
     → Some k ≡ get_or p.lists.sink_arcs v None
@@ -442,15 +337,6 @@ sink_arc_own p v k lists e =
       (lists.own v (Forward k) (in_left (Forward k) (sink_arcs_at p.lists v) (stack_arcs p.lists v) i)).1,
       lists.sink_arcs_lead v (Forward k) i,
     )
-
--- the sink is entered next where a look at an arc to it found something to enter
-pub comes_of : (p : Problem) (nodes level count : ℕ) (rest : List ArcNo) (t : Tables) (found : Option ℕ)
-    → IfSome found (λ v. v ≡ p.sink)
-    → IsSearching p nodes level count (option_list found) rest t
-    → Comes (is_some found) p nodes level count rest t
-comes_of p nodes level count rest t None lead s = s
-comes_of p nodes level count rest t (Some v) lead s =
-    (rest, subst (λ w. IsSearching p nodes level count (w ∷ []) rest t) lead s)
 
 -- a source's arcs end at no source
 pub source_leads_on : (arcs : List FlowArc) (flows : List ℕ) (sink : ℕ) (g : ArcLists) (v : ℕ) (a : ArcNo)
@@ -472,63 +358,47 @@ stack_inside p nodes level count entering rest t u s on =
       | inr past ↦ absurd (false≢true (sym (get_or_past t.settled u false past) ∙ m))
     ]
 
--- a cursor of the node on top moves, as the code reads and writes it
-pub inner_turns : (p : Problem) (nodes level count : ℕ) (t : Tables) (stack : List ℕ) (u left : ℕ) (a : ArcNo)
-    → IsSearching p nodes level count [] [] t
-    → AreResidualArcs p.arcs p.flows p.sink p.lists → t.stack ≡ stack ++ u ∷ [] → left ≡ get_or t.left u left
-    → 0 < left
-    → a ≡ get_or (inner_at p.lists u) (left - 1) (Forward 0)
-    → IsSearching p nodes level count [] (a ∷ []) (record t { left = set t.left u (left - 1) })
-    × (tail_of p.arcs a ≡ u)
-inner_turns p nodes level count t stack u left a s lists e read some at =
+-- a node on top of the stack has a place in the tables, and cursors within its lists
+pub top_inside : (p : Problem) (nodes level count : ℕ) (t : Tables) (stack : List ℕ) (u : ℕ)
+    → IsSearching p nodes level count [] [] t → t.stack ≡ stack ++ u ∷ []
+    → (u < nodes) × AreCursors p.lists t u
+top_inside p nodes level count t stack u s e =
     let on : Contains t.stack u = rw e (Contains-push stack u) in
-    let few = (s.covered.cursors u on).0 in
-    let same = at in
-    let inside = stack_inside p nodes level count [] [] t u s on in
-    let size = s.left_size in
-    let is = read ∙ get_or_default t.left u left 0 (omega arith) in
-    let moved = inner_moves p nodes level count [] [] t s lists u on inside (left - 1) (omega arith) in
+    (stack_inside p nodes level count [] [] t u s on, s.covered.cursors u on)
+
+-- its next arc is taken from a list of its own
+pub turns : {L : Type 0} (node_count : L → ℕ) (m : Counted L) (q : Query) (level : ℕ) (s s' : Search)
+    (stack : List ℕ) (u : ℕ) (a : ArcNo) → Searches node_count m q level [] [] s
+    → s.stack.items ≡ stack ++ u ∷ [] → IsNextArc q.lists.now u (tables s) (Some a) (tables s')
+    → Searches node_count m q level [] (a ∷ []) s' × (tail_of m.network.arcs a ≡ u)
+turns node_count m q level s s' stack u a state e (inl inner) =
+    let p = problem m.network q in
+    let lists = state.may.lists in
+    let here = top_inside _ _ _ _ _ _ _ state.now e in
+    let few = here.1.0 in
+    let left = inner.1 in
+    let moved = inner_moves p (length q.potentials.now) level m.count [] [] (tables s) state.now lists u
+    (rw e (Contains-push stack u)) here.0 inner.0 left in
     let own = in_right _ (sink_arcs_at p.lists u) (stack_arcs p.lists u)
     (in_left _ (inner_at p.lists u) (map Reverse (matched_at p.lists u))
-    (in_at (inner_at p.lists u) (left - 1) (Forward 0) (omega arith))) in (
-      subst (λ b. IsSearching p nodes level count [] (b ∷ []) (record t { left = set t.left u (left - 1) }))
-          (sym same) moved,
-      ap (tail_of p.arcs) same ∙ (lists.own u (get_or (inner_at p.lists u) (left - 1) (Forward 0)) own).1,
+    (in_at (inner_at p.lists u) inner.0 (Forward 0) (omega arith))) in (
+      record { may = state.may; now = rw (inner.3, inner.2) moved },
+      rw inner.2 (lists.own u (get_or (inner_at p.lists u) inner.0 (Forward 0)) own).1,
     )
-
-pub matched_turns : (p : Problem) (nodes level count : ℕ) (t : Tables) (stack : List ℕ) (u left k : ℕ)
-    → IsSearching p nodes level count [] [] t
-    → AreResidualArcs p.arcs p.flows p.sink p.lists → t.stack ≡ stack ++ u ∷ []
-    → left ≡ get_or t.left_matched u left → 0 < left
-    → k ≡ get_or (matched_at p.lists u) (left - 1) 0
-    → IsSearching p nodes level count [] (Reverse k ∷ [])
-    (record t { left_matched = set t.left_matched u (left - 1) }) × (tail_of p.arcs (Reverse k) ≡ u)
-matched_turns p nodes level count t stack u left k s lists e read some at =
-    let on : Contains t.stack u = rw e (Contains-push stack u) in
-    let few = (s.covered.cursors u on).1 in
-    let inside = stack_inside p nodes level count [] [] t u s on in
-    let size = s.left_matched_size in
-    let is = read ∙ get_or_default t.left_matched u left 0 (omega arith) in
-    let moved = matched_moves p nodes level count [] [] t s lists u on inside (left - 1) (omega arith) in
+turns node_count m q level s s' stack u a state e (inr matched) =
+    let p = problem m.network q in
+    let lists = state.may.lists in
+    let here = top_inside _ _ _ _ _ _ _ state.now e in
+    let few = here.1.1 in
+    let left = matched.1 in
+    let moved = matched_moves p (length q.potentials.now) level m.count [] [] (tables s) state.now lists u
+    (rw e (Contains-push stack u)) here.0 matched.0 left in
     let own = in_right _ (sink_arcs_at p.lists u) (stack_arcs p.lists u)
     (in_right _ (inner_at p.lists u) (map Reverse (matched_at p.lists u))
-    (map_at (matched_at p.lists u) (left - 1) (omega arith))) in (
-      subst (λ n. IsSearching p nodes level count [] (Reverse n ∷ [])
-          (record t { left_matched = set t.left_matched u (left - 1) })) (sym at) moved,
-      ap (λ n. tail_of p.arcs (Reverse n)) at ∙ (lists.own u
-          (Reverse (get_or (matched_at p.lists u) (left - 1) 0)) own).1,
+    (map_at (matched_at p.lists u) matched.0 (omega arith))) in (
+      record { may = state.may; now = rw (matched.3, matched.2) moved },
+      rw matched.2 (lists.own u (Reverse (get_or (matched_at p.lists u) matched.0 0)) own).1,
     )
-
-pub top_inside : (p : Problem) (nodes level count : ℕ) (t : Tables) (stack : List ℕ) (u : ℕ)
-    → IsSearching p nodes level count [] [] t → t.stack ≡ stack ++ u ∷ [] → u < nodes
-top_inside p nodes level count t stack u s e = stack_inside p nodes level count [] [] t u s
-    (rw e (Contains-push stack u))
-
-pub top_cursors : (p : Problem) (nodes level count : ℕ) (t : Tables) (stack : List ℕ) (u : ℕ)
-    → IsSearching p nodes level count [] [] t → t.stack ≡ stack ++ u ∷ []
-    → (get_or t.left u 0 ≤ length (inner_at p.lists u))
-    × (get_or t.left_matched u 0 ≤ length (matched_at p.lists u))
-top_cursors p nodes level count t stack u s e = s.covered.cursors u (rw e (Contains-push stack u))
 
 last_same : (xs ys : List ℕ) (a b : ℕ) → xs ++ a ∷ [] ≡ ys ++ b ∷ [] → a ≡ b
 last_same [] [] a b e = (let q : a ∷ [] ≡ b ∷ [] = e in cc)

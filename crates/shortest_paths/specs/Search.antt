@@ -1,11 +1,13 @@
 -- The tables of a search as its contracts see them.
-use Rattle.std.specs.Prelude.{◌≡◌, ℕ, Bool, true, false, ◌<◌, ◌≤◌, ◌*◌, ◌+◌, List, [], ◌∷◌, length, Option}
-use Rattle.std.specs.Prelude.{Some, None}
+use Rattle.std.specs.Prelude.{◌≡◌, ℕ, Bool, true, false, ◌<◌, ◌≤◌, ◌*◌, ◌+◌, ◌⊎◌, List, [], ◌∷◌, length}
+use Rattle.std.specs.Prelude.{slice_index, slice_index_or, slice_set, Option, Some, None}
 use Rattle.flow_network.specs.Flow.{Flow, Counted}
 use Rattle.flow_network.specs.declared.arcs.ArcNo.{ArcNo}
+use Rattle.flow_network.specs.declared.arcs.ArcNo.TheVariants.{Forward, Reverse}
 use Rattle.shortest_paths.specs.Paths.{IsPriced}
+use Rattle.shortest_paths.specs.declared.query.Query.{Query}
 use Rattle.shortest_paths.specs.declared.search.Search.{Search}
-use Rattle.shortest_paths.specs.Lists.{ArcLists, source_at, AreSized, AreResidualArcs}
+use Rattle.shortest_paths.specs.Lists.{ArcLists, source_at, inner_at, matched_at, AreSized, AreResidualArcs}
 use Rattle.shortest_paths.specs.Searching.{Problem, Tables, IsSearching}
 
 abbrev pub tables : Search → Tables
@@ -20,15 +22,15 @@ tables s = record {
   queue = s.queue;
 }
 
-abbrev pub problem : {L : Type 0} → Counted L → List ℕ → ArcLists → ℕ → ℕ → Problem
-problem m depths g start sink = record {
-  arcs = m.network.arcs;
-  flows = m.network.flows;
-  depths =
-      depths;
-  lists = g;
-  start = start;
-  sink = sink;
+-- what is searched, over the network as it is
+abbrev pub problem : {L : Type 0} → Flow L → Query → Problem
+problem network q = record {
+  arcs = network.arcs;
+  flows = network.flows;
+  depths = q.potentials.now;
+  lists = q.lists.now;
+  start = q.start;
+  sink = q.sink;
 }
 
 abbrev pub option_list : Option ℕ → List ℕ
@@ -36,59 +38,46 @@ option_list None = []
 option_list (Some v) = v ∷ []
 
 -- what a search asks of the network, of its potentials and of the lists
-pub record MaySearch {L : Type 0} (node_count : L → ℕ) (network : Flow L) (depths : List ℕ) (g : ArcLists)
-    (sink : ℕ) : Type 0 where
-  pub priced : IsPriced (node_count network.layout) network.arcs network.flows depths
-  pub sized : AreSized (length depths) g
-  pub lists : AreResidualArcs network.arcs network.flows sink g
-  pub sink_apart : source_at g sink ≡ false
+pub record MaySearch {L : Type 0} (node_count : L → ℕ) (network : Flow L) (q : Query) : Type 0 where
+  pub priced : IsPriced (node_count network.layout) network.arcs network.flows q.potentials.now
+  pub sized : AreSized (length q.potentials.now) q.lists.now
+  pub lists : AreResidualArcs network.arcs network.flows q.sink q.lists.now
+  pub sink_apart : source_at q.lists.now q.sink ≡ false
+  pub start_in : q.start < length q.potentials.now
+
+-- a search stands here, and may go on
+pub record Searches {L : Type 0} (node_count : L → ℕ) (m : Counted L) (q : Query) (level : ℕ)
+    (entering : List ℕ) (rest : List ArcNo) (s : Search) : Type 0 where
+  pub may : MaySearch node_count m.network q
+  pub now : IsSearching (problem m.network q) (length q.potentials.now) level m.count entering rest (tables s)
 
 -- where a move comes to: the sink is entered next, or the search goes on
-abbrev pub Comes : Bool → Problem → ℕ → ℕ → ℕ → List ArcNo → Tables → Type 0
-Comes true p nodes level count rest t = (others : List ArcNo) × IsSearching p nodes level count
-    (p.sink ∷ []) others t
-Comes false p nodes level count rest t = IsSearching p nodes level count [] rest t
-
--- a search between two nodes of a network that is looked at, of potentials and of lists
-abbrev pub Searches : {L : Type 0} → Counted L → List ℕ → ArcLists → ℕ → ℕ → ℕ → ℕ → List ℕ → List ArcNo
-    → Search → Type 0
-Searches m depths g start sink level count entering rest s =
-    IsSearching (problem m depths g start sink) (length depths) level count entering rest (tables s)
-
-abbrev pub ComesTo : {L : Type 0} → Bool → Counted L → List ℕ → ArcLists → ℕ → ℕ → ℕ → ℕ → List ArcNo
-    → Search → Type 0
-ComesTo found m depths g start sink level count rest s =
-    Comes found (problem m depths g start sink) (length depths) level count rest (tables s)
-
--- a search from some node stands here, and whatever the node, it moves on
-abbrev pub IsAt : {L : Type 0} → Counted L → List ℕ → ArcLists → ℕ → ℕ → List ℕ → List ArcNo → Search → Type 0
-IsAt m depths g sink level entering rest s = (start : ℕ)
-    × Searches m depths g start sink level m.count entering rest s
-
-abbrev pub Moves : {L : Type 0} → Bool → Counted L → Counted L → List ℕ → ArcLists → ℕ → ℕ → List ℕ
-    → List ArcNo → Search → Search → Type 0
-Moves found m m' depths g sink level entering rest s s' = (start : ℕ)
-    → Searches m depths g start sink level m.count entering rest s
-    → ComesTo found m depths g start sink level m'.count [] s'
-
--- no node is entered, and none is on the stack
-abbrev pub IsBetween : {L : Type 0} → Counted L → List ℕ → ArcLists → ℕ → ℕ → Search → Type 0
-IsBetween m depths g sink count s = (s.stack.items ≡ []) × ((start : ℕ) × ((level : ℕ)
-    × Searches m depths g start sink level count [] [] s))
+abbrev pub ComesTo : {L : Type 0} → Bool → (L → ℕ) → Counted L → Query → ℕ → List ArcNo → Search → Type 0
+ComesTo true node_count m q level rest s =
+    (others : List ArcNo) × Searches node_count m q level (q.sink ∷ []) others s
+ComesTo false node_count m q level rest s = Searches node_count m q level [] rest s
 
 -- the sink is entered next, at its distance, or no node is left
-abbrev pub EndsSearch : {L : Type 0} → Option ℕ → Counted L → List ℕ → ArcLists → ℕ → ℕ → ℕ → Search
-    → Type 0
-EndsSearch (Some total) m depths g start sink count s = (others : List ArcNo)
-    × Searches m depths g start sink total count (sink ∷ []) others s
-EndsSearch None m depths g start sink count s = (level : ℕ)
-    × (Searches m depths g start sink level count [] [] s
-    × ((s.stack.items ≡ []) × (s.queue ≡ [])))
+abbrev pub EndsSearch : Option ℕ → Problem → ℕ → Tables → Type 0
+EndsSearch (Some total) p count t =
+    (others : List ArcNo) × IsSearching p (length p.depths) total count (p.sink ∷ []) others t
+EndsSearch None p count t =
+    (level : ℕ) × IsSearching p (length p.depths) level count [] [] t × (t.stack ≡ []) × (t.queue ≡ [])
 
--- some search stands here
-abbrev pub IsSearchingAt : {L : Type 0} → Counted L → List ℕ → ArcLists → ℕ → ℕ → List ℕ → Tables → Type 0
-IsSearchingAt m depths g sink level entering t = (start : ℕ) × ((rest : List ArcNo)
-    × IsSearching (problem m depths g start sink) (length depths) level m.count entering rest t)
+-- the cursors of a node are within its lists
+abbrev pub AreCursors : ArcLists → Tables → ℕ → Type 0
+AreCursors g t v = (slice_index t.left v ≤ length (inner_at g v))
+    × (slice_index t.left_matched v ≤ length (matched_at g v))
+
+-- the arc before the cursor of the inner arcs, or else before that of the matched ones, which is moved
+abbrev pub IsNextArc : ArcLists → ℕ → Tables → Option ArcNo → Tables → Type 0
+IsNextArc g v t (Some a) t' =
+    ((left : ℕ) × (slice_index t.left v ≡ left + 1) × (a ≡ slice_index_or (inner_at g v) left (Forward 0))
+    × (t' ≡ record t { left = slice_set t.left v left }))
+    ⊎ ((left : ℕ) × (slice_index t.left_matched v ≡ left + 1)
+    × (a ≡ Reverse (slice_index (matched_at g v) left))
+    × (t' ≡ record t { left_matched = slice_set t.left_matched v left }))
+IsNextArc g v t None t' = (slice_index t.left v ≡ 0) × (slice_index t.left_matched v ≡ 0) × (t' ≡ t)
 
 -- Each look pays for the entry and the node that it may bring: so the search ends.
 abbrev pub Spends : {L : Type 0} → ℕ → Counted L → Search → Counted L → Search → Type 0

@@ -8,7 +8,7 @@ ghost use Rattle.shortest_paths.specs.Searching.{distance_at};
 ghost use Rattle.shortest_paths.specs.ToSink.{IsSearched, IsLeastCost, IsTrace};
 
 use crate::search::Search;
-use crate::{Potentials, ResidualArcs};
+use crate::{Potentials, Query};
 use flow_network::{ArcNo, Meter};
 use node_ids::Layout;
 use std::alloc::{AllocError, Global};
@@ -68,36 +68,31 @@ impl Buffers {
     /// Searches for a least path from the start to the sink, looking at each arc at most once in each
     /// direction (Dijkstra's search over reduced costs, of which those that are 0 are followed depth first).
     /// Only memory can fail.
-    pub fn search<L: Layout>(
-        self,
-        meter: &mut Meter<L>,
-        potentials: &Potentials,
-        lists: &ResidualArcs,
-        start: usize,
-        sink: usize,
-    ) -> Result<Found, AllocError>
-        requires may { MaySearch L.node_count meter.old.network potentials.now lists.now sink }
+    pub fn search<L: Layout>(self, meter: &mut Meter<L>, query: &Query) -> Result<Found, AllocError>
+        requires may { MaySearch L.node_count meter.old.network query.now }
         requires count { meter.old.count ≡ 0 }
-        requires nodes { self ≡ length potentials.now }
-        requires start { start < length potentials.now }
-        requires sink { sink < length potentials.now }
-        ensures size { IfOk result (λ f. length f.distances ≡ length potentials.now) }
-        ensures total { IfOk result (λ f. IsTotal f.total (distance_at f.distances sink)) }
+        requires nodes { self ≡ length query.now.potentials.now }
+        requires sink { query.now.sink < length query.now.potentials.now }
+        ensures size { IfOk result (λ f. length f.distances ≡ length query.now.potentials.now) }
+        ensures total { IfOk result (λ f. IsTotal f.total (distance_at f.distances query.now.sink)) }
         ensures searched { IfOk result (λ f. IsSearched meter.old.network.arcs meter.old.network.flows
-            (slice_index potentials.now) start sink (distance_at f.distances)) }
+            (slice_index query.now.potentials.now) query.now.start query.now.sink
+            (distance_at f.distances)) }
         ensures least { IfOk result (λ f. IfSome f.total (λ total. IsLeastCost meter.old.network.arcs
-            meter.old.network.flows (slice_index potentials.now) start sink total)) }
+            meter.old.network.flows (slice_index query.now.potentials.now) query.now.start query.now.sink
+            total)) }
         ensures path { IfOk result (λ f. IsSome f.total
             → IsTrace meter.old.network.arcs meter.old.network.flows
-            (slice_index potentials.now) start sink (distance_at f.distances) f.path) }
+            (slice_index query.now.potentials.now) query.now.start query.now.sink
+            (distance_at f.distances) f.path) }
         ensures network { meter.new.network ≡ meter.old.network }
         ensures steps { meter.new.count ≤ 2 * length meter.old.network.arcs }
     {
         let Buffers { mut search } = self;
-        let total = search.run(meter, potentials, lists, start, sink)?;
+        let total = search.run(meter, query)?;
         Ok(Found {
             search,
-            sink,
+            sink: query.sink,
             total,
         })
     }

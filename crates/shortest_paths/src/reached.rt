@@ -4,9 +4,9 @@ ghost use Rattle.std.specs.Prelude.{IfOk, MatchOption};
 ghost use Rattle.flow_network.specs.Flows.{NoNegative};
 ghost use Rattle.shortest_paths.specs.Paths.{option_distance, option_path, AreLeastPaths};
 
-use crate::Potentials;
 use crate::residual_arcs::ResidualArcs;
 use crate::search::Search;
+use crate::{Potentials, Query};
 use flow_network::{ArcNo, Meter};
 use node_ids::Layout;
 use std::alloc::{AllocError, Global};
@@ -52,7 +52,13 @@ pub fn find<L: Layout>(
     let nodes = potentials.depths().len();
     let arcs = ResidualArcs::all(alloc, meter)?;
     let mut search = Search::new(alloc, nodes)?;
-    search.run(meter, potentials, &arcs, start, nodes)?;
+    let query = Query {
+        potentials,
+        lists: &arcs,
+        start,
+        sink: nodes,
+    };
+    search.run(meter, &query)?;
     Ok(Distances { search })
 }
 

@@ -1,22 +1,21 @@
 //! The search for a least path to one sink.
 ghost use Rattle.std.specs.Prelude.{◌≡◌, ℕ, ◌+◌, ◌*◌, ◌<◌, ◌≤◌, ◌^◌, List, [], ◌∷◌, ◌++◌, true, false};
-ghost use Rattle.std.specs.Prelude.{length, slice_index, slice_set, Option, Some, None, OnOk, IfOk, IfSome};
-ghost use Rattle.flow_network.specs.Flows.{tail_of, head_of, arc_index};
-ghost use Rattle.shortest_paths.specs.Lists.{ArcLists, AreSized, source_at, inner_at, matched_at};
+ghost use Rattle.std.specs.Prelude.{length, slice_index, slice_set, Option, OnOk, IfOk, IfSome};
+ghost use Rattle.flow_network.specs.declared.arcs.ArcNo.{ArcNo};
+ghost use Rattle.flow_network.specs.Flows.{tail_of, head_of};
+ghost use Rattle.shortest_paths.specs.Lists.{AreSized, source_at, inner_at, matched_at};
 ghost use Rattle.shortest_paths.specs.Finding.{reached_at};
 ghost use Rattle.shortest_paths.specs.Lowering.{lowered};
 ghost use Rattle.shortest_paths.specs.ToSink.{far};
-ghost use Rattle.shortest_paths.specs.Paths.{IsPriced};
 ghost use Rattle.shortest_paths.specs.Searching.{ListsReached, IsAtRest, IsLeft, LeadsBack, distance_at};
 ghost use Rattle.shortest_paths.specs.Searching.{arrival_at, trace_to};
-ghost use Rattle.flow_network.specs.declared.arcs.ArcNo.{ArcNo};
-ghost use Rattle.shortest_paths.specs.Search.{tables, option_list, MaySearch, Searches, ComesTo, EndsSearch};
-ghost use Rattle.shortest_paths.specs.Search.{IsAt, IsBetween, IsSearchingAt, Moves, Spends, Falls};
+ghost use Rattle.shortest_paths.specs.Search.{tables, problem, option_list, MaySearch, Searches, ComesTo};
+ghost use Rattle.shortest_paths.specs.Search.{EndsSearch, AreCursors, IsNextArc, Spends, Falls};
 
 use crate::arrival::Arrival;
 use crate::queue::Queue;
 use crate::reduced_costs::{leaving, reduced};
-use crate::{Potentials, ResidualArcs};
+use crate::{Potentials, Query, ResidualArcs};
 use flow_network::{ArcNo, Meter};
 use node_ids::Layout;
 use std::alloc::{AllocError, Global};
@@ -81,26 +80,20 @@ impl Search {
     fn look<L: Layout>(
         &mut self,
         meter: &mut Meter<L>,
-        potentials: &Potentials,
+        query: &Query,
         node: usize,
         level: u64,
         arc: ArcNo,
     ) -> Result<Option<usize>, AllocError>
-        requires priced { IsPriced (L.node_count meter.old.network.layout) meter.old.network.arcs
-            meter.old.network.flows potentials.now }
-        requires count { meter.old.count + 1 < 2 ^ 64 }
-        requires listed { arc_index arc < length meter.old.network.arcs }
         requires leaves { tail_of meter.old.network.arcs arc ≡ node }
-        requires level { level ≤ 2 ^ 60 }
-        requires few { (arrival_at self.old.arrivals.items node).arcs ≤ 4096 }
-        requires distances { length self.old.distances.items ≡ length potentials.now }
-        requires arrivals { length self.old.arrivals.items ≡ length potentials.now }
-        ensures searching { IfOk result (λ found. (g : ArcLists) (start sink : ℕ) (rest : List ArcNo)
-            → Searches meter.old potentials.now g start sink level meter.old.count [] (arc ∷ rest) self.old
-            → Searches meter.old potentials.now g start sink level meter.new.count (option_list found) rest
-            self.new) }
+        requires state { (rest : List ArcNo)
+            × Searches L.node_count meter.old query.now level [] (arc ∷ rest) self.old }
+        ensures goes { IfOk result (λ found. (rest : List ArcNo)
+            → Searches L.node_count meter.old query.now level [] (arc ∷ rest) self.old
+            → Searches L.node_count meter.new query.now level (option_list found) rest self.new) }
         ensures head { IfOk result (λ found. IfSome found (λ v. v ≡ head_of meter.old.network.arcs arc)) }
         ensures counted { meter.new ≡ record meter.old { count = meter.old.count + 1 } }
+        ensures steps { meter.new.count ≤ 2 * length meter.old.network.arcs }
         ensures stack { OnOk result (self.new.stack.items ≡ self.old.stack.items) }
         ensures queue { OnOk result (length self.new.queue ≤ length self.old.queue + 1) }
     {
@@ -108,7 +101,7 @@ impl Search {
         if look.residual == 0 {
             return Ok(None);
         }
-        let cost = reduced(potentials, node, look);
+        let cost = reduced(query.potentials, node, look);
         let distance = level + cost;
         if distance >= self.distances[look.to] {
             return Ok(None);
@@ -154,34 +147,28 @@ impl Search {
     fn visit<L: Layout>(
         &mut self,
         meter: &mut Meter<L>,
-        potentials: &Potentials,
-        lists: &ResidualArcs,
+        query: &Query,
         node: usize,
         level: u64,
-        sink: usize,
     ) -> Result<bool, AllocError>
-        requires may { MaySearch L.node_count meter.old.network potentials.now lists.now sink }
-        requires node { node < length potentials.now }
-        requires no_source { source_at lists.now node ≡ false }
-        requires state { IsSearchingAt meter.old potentials.now lists.now sink level (node ∷ [])
-            (tables self.old) }
-        ensures goes { IfOk result (λ found. (start : ℕ) (rest : List ArcNo)
-            → Searches meter.old potentials.now lists.now start sink level meter.old.count
-            (node ∷ []) rest self.old
-            → ComesTo found meter.old potentials.now lists.now start sink level meter.new.count rest
-            self.new) }
+        requires no_source { source_at query.now.lists.now node ≡ false }
+        requires state { (rest : List ArcNo)
+            × Searches L.node_count meter.old query.now level (node ∷ []) rest self.old }
+        ensures goes { IfOk result (λ found. (rest : List ArcNo)
+            → Searches L.node_count meter.old query.now level (node ∷ []) rest self.old
+            → ComesTo found L.node_count meter.new query.now level rest self.new) }
         ensures network { meter.new.network ≡ meter.old.network }
         ensures steps { meter.new.count ≤ 2 * length meter.old.network.arcs }
         ensures spends { OnOk result (Spends 1 meter.old self.old meter.new self.new) }
         ensures counted { meter.old.count ≤ meter.new.count }
     {
-        if node == sink {
+        if node == query.sink {
             return Ok(true);
         }
-        self.open(lists, node)?;
-        match lists.sink_arc(node) {
+        self.open(query.lists, node)?;
+        match query.lists.sink_arc(node) {
             Some(k) => {
-                let found = self.look(meter, potentials, node, level, ArcNo::Forward(k))?;
+                let found = self.look(meter, query, node, level, ArcNo::Forward(k))?;
                 Ok(found.is_some())
             }
             None => Ok(false),
@@ -193,33 +180,27 @@ impl Search {
     fn pass<L: Layout>(
         &mut self,
         meter: &mut Meter<L>,
-        potentials: &Potentials,
-        lists: &ResidualArcs,
+        query: &Query,
         node: usize,
         level: u64,
-        sink: usize,
         arc: ArcNo,
     ) -> Result<bool, AllocError>
-        requires may { MaySearch L.node_count meter.old.network potentials.now lists.now sink }
         requires leaves { tail_of meter.old.network.arcs arc ≡ node }
-        requires no_source { source_at lists.now (head_of meter.old.network.arcs arc) ≡ false }
-        requires state { (start : ℕ)
-            × ((rest : List ArcNo) × Searches meter.old potentials.now lists.now start sink level
-            meter.old.count [] (arc ∷ rest) self.old) }
-        ensures goes { IfOk result (λ found. (start : ℕ) (rest : List ArcNo)
-            → Searches meter.old potentials.now lists.now start sink level meter.old.count []
-            (arc ∷ rest) self.old
-            → ComesTo found meter.old potentials.now lists.now start sink level meter.new.count rest
-            self.new) }
+        requires no_source { source_at query.now.lists.now (head_of meter.old.network.arcs arc) ≡ false }
+        requires state { (rest : List ArcNo)
+            × Searches L.node_count meter.old query.now level [] (arc ∷ rest) self.old }
+        ensures goes { IfOk result (λ found. (rest : List ArcNo)
+            → Searches L.node_count meter.old query.now level [] (arc ∷ rest) self.old
+            → ComesTo found L.node_count meter.new query.now level rest self.new) }
         ensures network { meter.new.network ≡ meter.old.network }
         ensures steps { meter.new.count ≤ 2 * length meter.old.network.arcs }
         ensures spends { OnOk result (Spends 0 meter.old self.old meter.new self.new) }
         ensures counted { meter.old.count ≤ meter.new.count }
         ensures looked { OnOk result (meter.old.count < meter.new.count) }
     {
-        match self.look(meter, potentials, node, level, arc)? {
+        match self.look(meter, query, node, level, arc)? {
             Some(to) => {
-                let found = self.visit(meter, potentials, lists, to, level, sink)?;
+                let found = self.visit(meter, query, to, level)?;
                 Ok(found)
             }
             None => Ok(false),
@@ -231,19 +212,14 @@ impl Search {
     fn scan<L: Layout>(
         &mut self,
         meter: &mut Meter<L>,
-        potentials: &Potentials,
-        lists: &ResidualArcs,
+        query: &Query,
         node: usize,
         level: u64,
-        sink: usize,
     ) -> Result<bool, AllocError>
-        requires may { MaySearch L.node_count meter.old.network potentials.now lists.now sink }
-        requires node { node < length potentials.now }
-        requires source { source_at lists.now node ≡ true }
-        requires not_sink { node ≡ sink → ⊥ }
-        requires state { IsAt meter.old potentials.now lists.now sink level (node ∷ []) [] self.old }
-        ensures goes { IfOk result (λ found. Moves found meter.old meter.new potentials.now lists.now sink
-            level (node ∷ []) [] self.old self.new) }
+        requires source { source_at query.now.lists.now node ≡ true }
+        requires state { Searches L.node_count meter.old query.now level (node ∷ []) [] self.old }
+        ensures goes { IfOk result (λ found.
+            ComesTo found L.node_count meter.new query.now level [] self.new) }
         ensures network { meter.new.network ≡ meter.old.network }
         ensures steps { meter.new.count ≤ 2 * length meter.old.network.arcs }
         ensures counted { meter.old.count ≤ meter.new.count }
@@ -255,7 +231,7 @@ impl Search {
         let arcs = leaving(meter, node);
         for i in 0..arcs.len() {
             let arc = arcs[arcs.len() - 1 - i];
-            if self.pass(meter, potentials, lists, node, level, sink, arc)? {
+            if self.pass(meter, query, node, level, arc)? {
                 return Ok(true);
             }
         }
@@ -267,26 +243,22 @@ impl Search {
     fn enter<L: Layout>(
         &mut self,
         meter: &mut Meter<L>,
-        potentials: &Potentials,
-        lists: &ResidualArcs,
+        query: &Query,
         node: usize,
         level: u64,
-        sink: usize,
     ) -> Result<bool, AllocError>
-        requires may { MaySearch L.node_count meter.old.network potentials.now lists.now sink }
-        requires node { node < length potentials.now }
-        requires state { IsAt meter.old potentials.now lists.now sink level (node ∷ []) [] self.old }
-        ensures goes { IfOk result (λ found. Moves found meter.old meter.new potentials.now lists.now sink
-            level (node ∷ []) [] self.old self.new) }
+        requires state { Searches L.node_count meter.old query.now level (node ∷ []) [] self.old }
+        ensures goes { IfOk result (λ found.
+            ComesTo found L.node_count meter.new query.now level [] self.new) }
         ensures network { meter.new.network ≡ meter.old.network }
         ensures steps { meter.new.count ≤ 2 * length meter.old.network.arcs }
         ensures spends { OnOk result (Spends 1 meter.old self.old meter.new self.new) }
     {
-        if lists.is_source(node) {
-            let found = self.scan(meter, potentials, lists, node, level, sink)?;
+        if query.lists.is_source(node) {
+            let found = self.scan(meter, query, node, level)?;
             return Ok(found);
         }
-        let found = self.visit(meter, potentials, lists, node, level, sink)?;
+        let found = self.visit(meter, query, node, level)?;
         Ok(found)
     }
 
@@ -295,86 +267,47 @@ impl Search {
     fn step<L: Layout>(
         &mut self,
         meter: &mut Meter<L>,
-        potentials: &Potentials,
-        lists: &ResidualArcs,
+        query: &Query,
         node: usize,
         level: u64,
-        sink: usize,
         arc: ArcNo,
     ) -> Result<bool, AllocError>
-        requires may { MaySearch L.node_count meter.old.network potentials.now lists.now sink }
         requires leaves { tail_of meter.old.network.arcs arc ≡ node }
-        requires state { IsAt meter.old potentials.now lists.now sink level [] (arc ∷ []) self.old }
-        ensures goes { IfOk result (λ found. Moves found meter.old meter.new potentials.now lists.now sink
-            level [] (arc ∷ []) self.old self.new) }
+        requires state { Searches L.node_count meter.old query.now level [] (arc ∷ []) self.old }
+        ensures goes { IfOk result (λ found.
+            ComesTo found L.node_count meter.new query.now level [] self.new) }
         ensures network { meter.new.network ≡ meter.old.network }
         ensures steps { meter.new.count ≤ 2 * length meter.old.network.arcs }
         ensures falls { OnOk result (Falls meter.old self.old meter.new self.new) }
     {
-        match self.look(meter, potentials, node, level, arc)? {
+        match self.look(meter, query, node, level, arc)? {
             Some(to) => {
-                let found = self.enter(meter, potentials, lists, to, level, sink)?;
+                let found = self.enter(meter, query, to, level)?;
                 Ok(found)
             }
             None => Ok(false),
         }
     }
 
-    // Looks at the next inner arc of the node on top of the stack; whether the sink is entered next.
-    fn turn_inner<L: Layout>(
-        &mut self,
-        meter: &mut Meter<L>,
-        potentials: &Potentials,
-        lists: &ResidualArcs,
-        node: usize,
-        level: u64,
-        sink: usize,
-    ) -> Result<bool, AllocError>
-        requires may { MaySearch L.node_count meter.old.network potentials.now lists.now sink }
-        requires top { (stack : List ℕ) × (self.old.stack.items ≡ stack ++ node ∷ []) }
-        requires left { 0 < slice_index self.old.left.items node }
-        requires few { slice_index self.old.left.items node ≤ length (inner_at lists.now node) }
-        requires state { IsAt meter.old potentials.now lists.now sink level [] [] self.old }
-        ensures goes { IfOk result (λ found. Moves found meter.old meter.new potentials.now lists.now sink
-            level [] [] self.old self.new) }
-        ensures network { meter.new.network ≡ meter.old.network }
-        ensures steps { meter.new.count ≤ 2 * length meter.old.network.arcs }
-        ensures falls { OnOk result (Falls meter.old self.old meter.new self.new) }
+    // The next arc of a node on the stack that was not looked at, of which its cursor is set past.
+    fn next_arc(&mut self, lists: &ResidualArcs, node: usize) -> Option<ArcNo>
+        requires sized { AreSized (length self.old.left.items) lists.now }
+        requires node { node < length self.old.left.items }
+        requires left_matched { length self.old.left_matched.items ≡ length self.old.left.items }
+        requires cursors { AreCursors lists.now (tables self.old) node }
+        ensures { IsNextArc lists.now node (tables self.old) result (tables self.new) }
     {
         let left = self.left[node];
-        let arc = lists.inner(node)[left - 1];
-        self.left[node] = left - 1;
-        let found = self.step(meter, potentials, lists, node, level, sink, arc)?;
-        Ok(found)
-    }
-
-    // Looks back over the arc of the next matched source of the node on top of the stack; whether the sink is
-    // entered next.
-    fn turn_matched<L: Layout>(
-        &mut self,
-        meter: &mut Meter<L>,
-        potentials: &Potentials,
-        lists: &ResidualArcs,
-        node: usize,
-        level: u64,
-        sink: usize,
-    ) -> Result<bool, AllocError>
-        requires may { MaySearch L.node_count meter.old.network potentials.now lists.now sink }
-        requires top { (stack : List ℕ) × (self.old.stack.items ≡ stack ++ node ∷ []) }
-        requires left { 0 < slice_index self.old.left_matched.items node }
-        requires few { slice_index self.old.left_matched.items node ≤ length (matched_at lists.now node) }
-        requires state { IsAt meter.old potentials.now lists.now sink level [] [] self.old }
-        ensures goes { IfOk result (λ found. Moves found meter.old meter.new potentials.now lists.now sink
-            level [] [] self.old self.new) }
-        ensures network { meter.new.network ≡ meter.old.network }
-        ensures steps { meter.new.count ≤ 2 * length meter.old.network.arcs }
-        ensures falls { OnOk result (Falls meter.old self.old meter.new self.new) }
-    {
+        if left > 0 {
+            self.left[node] = left - 1;
+            return Some(lists.inner(node)[left - 1]);
+        }
         let left = self.left_matched[node];
-        let arc = ArcNo::Reverse(lists.matched(node)[left - 1]);
-        self.left_matched[node] = left - 1;
-        let found = self.step(meter, potentials, lists, node, level, sink, arc)?;
-        Ok(found)
+        if left > 0 {
+            self.left_matched[node] = left - 1;
+            return Some(ArcNo::Reverse(lists.matched(node)[left - 1]));
+        }
+        None
     }
 
     // One turn of the node on top of the stack: its next arc is looked at, or it leaves the stack; whether
@@ -382,29 +315,20 @@ impl Search {
     fn turn<L: Layout>(
         &mut self,
         meter: &mut Meter<L>,
-        potentials: &Potentials,
-        lists: &ResidualArcs,
+        query: &Query,
         node: usize,
         level: u64,
-        sink: usize,
     ) -> Result<bool, AllocError>
-        requires may { MaySearch L.node_count meter.old.network potentials.now lists.now sink }
         requires top { (stack : List ℕ) × (self.old.stack.items ≡ stack ++ node ∷ []) }
-        requires node { node < length self.old.left.items }
-        requires node_matched { node < length self.old.left_matched.items }
-        requires state { IsAt meter.old potentials.now lists.now sink level [] [] self.old }
-        ensures goes { IfOk result (λ found. Moves found meter.old meter.new potentials.now lists.now sink
-            level [] [] self.old self.new) }
+        requires state { Searches L.node_count meter.old query.now level [] [] self.old }
+        ensures goes { IfOk result (λ found.
+            ComesTo found L.node_count meter.new query.now level [] self.new) }
         ensures network { meter.new.network ≡ meter.old.network }
         ensures steps { meter.new.count ≤ 2 * length meter.old.network.arcs }
         ensures falls { OnOk result (Falls meter.old self.old meter.new self.new) }
     {
-        if self.left[node] > 0 {
-            let found = self.turn_inner(meter, potentials, lists, node, level, sink)?;
-            return Ok(found);
-        }
-        if self.left_matched[node] > 0 {
-            let found = self.turn_matched(meter, potentials, lists, node, level, sink)?;
+        if let Some(arc) = self.next_arc(query.lists, node) {
+            let found = self.step(meter, query, node, level, arc)?;
             return Ok(found);
         }
         self.stack.pop();
@@ -416,15 +340,12 @@ impl Search {
     fn follow<L: Layout>(
         &mut self,
         meter: &mut Meter<L>,
-        potentials: &Potentials,
-        lists: &ResidualArcs,
+        query: &Query,
         level: u64,
-        sink: usize,
     ) -> Result<bool, AllocError>
-        requires may { MaySearch L.node_count meter.old.network potentials.now lists.now sink }
-        requires state { IsAt meter.old potentials.now lists.now sink level [] [] self.old }
-        ensures goes { IfOk result (λ found. Moves found meter.old meter.new potentials.now lists.now sink
-            level [] [] self.old self.new) }
+        requires state { Searches L.node_count meter.old query.now level [] [] self.old }
+        ensures goes { IfOk result (λ found.
+            ComesTo found L.node_count meter.new query.now level [] self.new) }
         ensures network { meter.new.network ≡ meter.old.network }
         ensures steps { meter.new.count ≤ 2 * length meter.old.network.arcs }
         ensures spends { OnOk result (Spends 0 meter.old self.old meter.new self.new) }
@@ -432,7 +353,7 @@ impl Search {
     {
         'turns: while let Some(top) = self.stack.last() {
             let node = *top;
-            if self.turn(meter, potentials, lists, node, level, sink)? {
+            if self.turn(meter, query, node, level)? {
                 return Ok(true);
             }
         }
@@ -444,26 +365,22 @@ impl Search {
     fn settle<L: Layout>(
         &mut self,
         meter: &mut Meter<L>,
-        potentials: &Potentials,
-        lists: &ResidualArcs,
+        query: &Query,
         node: usize,
         level: u64,
-        sink: usize,
     ) -> Result<bool, AllocError>
-        requires may { MaySearch L.node_count meter.old.network potentials.now lists.now sink }
-        requires node { node < length potentials.now }
-        requires state { IsAt meter.old potentials.now lists.now sink level (node ∷ []) [] self.old }
-        ensures goes { IfOk result (λ found. Moves found meter.old meter.new potentials.now lists.now sink
-            level (node ∷ []) [] self.old self.new) }
+        requires state { Searches L.node_count meter.old query.now level (node ∷ []) [] self.old }
+        ensures goes { IfOk result (λ found.
+            ComesTo found L.node_count meter.new query.now level [] self.new) }
         ensures network { meter.new.network ≡ meter.old.network }
         ensures steps { meter.new.count ≤ 2 * length meter.old.network.arcs }
         ensures spends { OnOk result (Spends 1 meter.old self.old meter.new self.new) }
         ensures empty { IfOk result (λ found. found ≡ false → self.new.stack.items ≡ []) }
     {
-        if self.enter(meter, potentials, lists, node, level, sink)? {
+        if self.enter(meter, query, node, level)? {
             return Ok(true);
         }
-        let found = self.follow(meter, potentials, lists, level, sink)?;
+        let found = self.follow(meter, query, level)?;
         Ok(found)
     }
 
@@ -471,15 +388,12 @@ impl Search {
     fn empty_queue<L: Layout>(
         &mut self,
         meter: &mut Meter<L>,
-        potentials: &Potentials,
-        lists: &ResidualArcs,
-        sink: usize,
+        query: &Query,
     ) -> Result<Option<u64>, AllocError>
-        requires may { MaySearch L.node_count meter.old.network potentials.now lists.now sink }
-        requires state { IsBetween meter.old potentials.now lists.now sink meter.old.count self.old }
-        ensures ends { IfOk result (λ found. (start level : ℕ)
-            → Searches meter.old potentials.now lists.now start sink level meter.old.count [] [] self.old
-            → EndsSearch found meter.old potentials.now lists.now start sink meter.new.count self.new) }
+        requires empty { self.old.stack.items ≡ [] }
+        requires state { (level : ℕ) × Searches L.node_count meter.old query.now level [] [] self.old }
+        ensures ends { IfOk result (λ found.
+            EndsSearch found (problem meter.new.network query.now) meter.new.count (tables self.new)) }
         ensures network { meter.new.network ≡ meter.old.network }
         ensures steps { meter.new.count ≤ 2 * length meter.old.network.arcs }
     {
@@ -487,7 +401,7 @@ impl Search {
             if self.settled[node] {
                 continue;
             }
-            if self.settle(meter, potentials, lists, node, level, sink)? {
+            if self.settle(meter, query, node, level)? {
                 return Ok(Some(level));
             }
         }
@@ -498,30 +412,26 @@ impl Search {
     pub fn run<L: Layout>(
         &mut self,
         meter: &mut Meter<L>,
-        potentials: &Potentials,
-        lists: &ResidualArcs,
-        start: usize,
-        sink: usize,
+        query: &Query,
     ) -> Result<Option<u64>, AllocError>
-        requires may { MaySearch L.node_count meter.old.network potentials.now lists.now sink }
+        requires may { MaySearch L.node_count meter.old.network query.now }
         requires count { meter.old.count ≡ 0 }
-        requires start { start < length potentials.now }
-        requires rest { IsAtRest (length potentials.now) (tables self.old) }
+        requires rest { IsAtRest (length query.now.potentials.now) (tables self.old) }
         ensures ends { IfOk result (λ found.
-            EndsSearch found meter.old potentials.now lists.now start sink meter.new.count self.new) }
+            EndsSearch found (problem meter.old.network query.now) meter.new.count (tables self.new)) }
         ensures network { meter.new.network ≡ meter.old.network }
         ensures steps { meter.new.count ≤ 2 * length meter.old.network.arcs }
     {
         let arrival = Arrival {
             arc: ArcNo::Forward(0),
-            before: start,
+            before: query.start,
             arcs: 0,
         };
-        self.reach(start, 0, arrival)?;
-        if self.settle(meter, potentials, lists, start, 0, sink)? {
+        self.reach(query.start, 0, arrival)?;
+        if self.settle(meter, query, query.start, 0)? {
             return Ok(Some(0));
         }
-        let found = self.empty_queue(meter, potentials, lists, sink)?;
+        let found = self.empty_queue(meter, query)?;
         Ok(found)
     }
 

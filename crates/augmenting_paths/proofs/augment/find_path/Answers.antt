@@ -1,4 +1,4 @@
-use Rattle.std.proofs.Common.{◌∙◌, arith}
+use Rattle.std.proofs.Common.{◌∙◌, refl, arith}
 use Rattle.std.specs.Prelude.{slice_index}
 use Rattle.augmenting_paths.proofs.NextUnit.{may_search}
 use Rattle.augmenting_paths.proofs.Shipped.{start_in, start_level, own_way, lifted_found}
@@ -20,18 +20,12 @@ lift-requires-clause-arc g c =
 
 pub tight_path-requires-clause-may : goal.tight_path-requires-clause-may
 tight_path-requires-clause-may g c =
-    may_search _ _ _ _ _ _ _ c.limits.ensures c.requires.next (c.lift.ensures.size ∙ c.requires.kept.size)
+    may_search _ _ _ _ _ c.limits.ensures c.requires.next (c.lift.ensures.size ∙ c.requires.kept.size)
     c.requires.kept.lists (record {
       h = slice_index c.args.shipping.potentials;
       state = c.requires.state;
       up = c.lift.ensures.lifted;
-    })
-
-pub tight_path-requires-clause-start : goal.tight_path-requires-clause-start
-tight_path-requires-clause-start g c =
-    let inside = start_in _ _ _ _ _ _ _ c.requires.next.can c.requires.next.left c.requires.state in
-    let size = c.lift.ensures.size ∙ c.requires.kept.size in
-    omega arith
+    }) refl
 
 pub returns-then-is_found-clause-found : goal.returns-then-is_found-clause-found
 returns-then-is_found-clause-found g c =

@@ -1,19 +1,13 @@
-use Rattle.std.proofs.Common.{◌≡◌, ◌∙◌, arith}
+use Rattle.std.proofs.Common.{◌≡◌, ◌∙◌, refl, arith}
 use Rattle.std.specs.Prelude.{slice_index}
 use Rattle.augmenting_paths.proofs.NextUnit.{may_search}
-use Rattle.augmenting_paths.proofs.Shipped.{start_in, sink_in, not_none, total_low, unit_found}
+use Rattle.augmenting_paths.proofs.Shipped.{sink_in, not_none, total_low, unit_found}
 use Rattle.augmenting_paths.proofs.augment.search_path.Goals as goal
 
 pub find-requires-clause-may : goal.find-requires-clause-may
 find-requires-clause-may g c =
-    may_search _ _ _ _ _ _ _ c.limits.ensures c.requires.next c.requires.kept.size c.requires.kept.lists
-    c.requires.lifted
-
-pub find-requires-clause-start : goal.find-requires-clause-start
-find-requires-clause-start g c =
-    let inside = start_in _ _ _ _ _ _ _ c.requires.next.can c.requires.next.left c.requires.lifted.state in
-    let size = c.requires.kept.size in
-    omega arith
+    may_search _ _ _ _ _ c.limits.ensures c.requires.next c.requires.kept.size c.requires.kept.lists
+    c.requires.lifted refl
 
 pub find-requires-clause-sink : goal.find-requires-clause-sink
 find-requires-clause-sink g c =

@@ -1,31 +1,23 @@
-use Rattle.std.proofs.Common.{◌<◌, ℕ, length, ap, ◌∙◌, subst, arith}
-use Rattle.std.specs.Prelude.{slice_index}
+use Rattle.std.proofs.Common.{◌<◌, List, get_or, length, ap, ◌∙◌, subst, arith}
 use Rattle.flow_network.specs.Flow.{Flow}
+use Rattle.flow_network.specs.declared.arcs.ArcNo.{ArcNo}
+use Rattle.flow_network.specs.declared.arcs.ArcNo.TheVariants.{Forward}
 use Rattle.flow_network.specs.Flows.{leaving_of}
-use Rattle.augmenting_paths.specs.TightPath.{IsTightPath}
-use Rattle.augmenting_paths.proofs.TightPath.{leaving_arc}
+use Rattle.flow_network.specs.Leaving.{IsIn}
+use Rattle.flow_network.proofs.Listed.{in_at}
+use Rattle.augmenting_paths.proofs.DepthFirst.{own_of}
 use Rattle.augmenting_paths.proofs.walk.walk_down.Goals as goal
 use Rattle.augmenting_paths.proofs.walk.walk_down.Goals.{then-i-eq0, else-i-eq0}
 
-pub walk_over-requires-clause-listed : goal.walk_over-requires-clause-listed
-walk_over-requires-clause-listed g c =
+pub walk_over-requires-clause-own : goal.walk_over-requires-clause-own
+walk_over-requires-clause-own g c =
     let some = c.loop-i-test.true in
     let inside : c.if-i-eq0.place < length c.leaving-arcs.result.now = elim c.if-i-eq0.branch [
       | then-i-eq0 w ↦ (let is = w.place-is in omega arith)
       | else-i-eq0 w ↦ (let is = w.place-is in omega arith)
     ] in
-    (leaving_arc _ _ c.leaving-arcs.result.now c.if-i-eq0.place (c.leaving-arcs.ensures
-    ∙ ap (λ (f : Flow g.row.L.Denot). leaving_of f.arcs c.args.node) c.new-meter.ensures.network) inside).0
-
-pub returns-then-branch : goal.returns-then-branch
-returns-then-branch g c =
-    let some = c.loop-i-test.true in
-    let inside : c.if-i-eq0.place < length c.leaving-arcs.result.now = elim c.if-i-eq0.branch [
-      | then-i-eq0 w ↦ (let is = w.place-is in omega arith)
-      | else-i-eq0 w ↦ (let is = w.place-is in omega arith)
-    ] in
-    λ _. subst (λ (s : ℕ). IsTightPath c.args.network.now.arcs c.args.network.now.flows
-    (slice_index c.args.potentials.now) s c.args.sink c.walk_over.new.path.items)
-    (leaving_arc _ _ c.leaving-arcs.result.now c.if-i-eq0.place (c.leaving-arcs.ensures
-    ∙ ap (λ (f : Flow g.row.L.Denot). leaving_of f.arcs c.args.node) c.new-meter.ensures.network) inside).1
-    (c.in_ok-walk_over.ensures c.if-branch.true)
+    own_of _ _ _ (subst (λ (xs : List ArcNo).
+    IsIn (get_or c.leaving-arcs.result.now c.if-i-eq0.place (Forward 0)) xs)
+    (c.leaving-arcs.ensures
+    ∙ ap (λ (f : Flow g.row.L.Denot). leaving_of f.arcs c.args.query.now.start) c.new-meter.ensures.network)
+    (in_at c.leaving-arcs.result.now c.if-i-eq0.place (Forward 0) inside))

@@ -3,13 +3,13 @@ use Rattle.std.proofs.Common.{subst, arith}
 use Rattle.std.specs.Prelude.{slice_index}
 use Rattle.flow_network.specs.declared.arcs.ArcNo.{ArcNo}
 use Rattle.flow_network.specs.declared.arcs.ArcNo.TheVariants.{Forward}
-use Rattle.flow_network.specs.Flows.{tail_of}
-use Rattle.augmenting_paths.specs.TightPath.{IsTightPath}
+use Rattle.flow_network.specs.Flows.{arc_at}
+use Rattle.augmenting_paths.specs.TightPath.{GoesDown, IsTightPath}
 use Rattle.augmenting_paths.proofs.TightPath.{way_begins, way_goes_on, comes_nearer}
 use Rattle.augmenting_paths.proofs.walk.walk_over.Goals as goal
 
 pub leads_down-requires-clause-listed : goal.leads_down-requires-clause-listed
-leads_down-requires-clause-listed g c = rw c.in-Forward.is at c.requires.listed
+leads_down-requires-clause-listed g c = rw c.in-Forward.is at c.requires.own.listed
 
 pub loop-node-init : goal.loop-node-init
 loop-node-init g c =
@@ -22,7 +22,10 @@ loop-node-init g c =
     pushed ∙ ap (λ (xs : List ArcNo). xs ++ Forward c.in-Forward.own ∷ []) c.clear.ensures.items in
     record {
       inside = rw c.all_arcs.ensures (omega arith);
-      down = rw (c.all_arcs.ensures, path, c.in-Forward.is) (way_begins _ _ _ _ _ on);
+      down = rw (c.all_arcs.ensures, path) (subst (λ (s : ℕ). GoesDown c.args.network.now.arcs
+          c.args.network.now.flows (slice_index c.args.query.now.potentials.now) c.args.query.now.sink s
+          (arc_at c.args.network.now.arcs c.in-Forward.own).to (Forward c.in-Forward.own ∷ []))
+          (rw c.in-Forward.is at c.requires.own.from) (way_begins _ _ _ _ _ on));
     }
 
 pub loop-node-preserved : goal.loop-node-preserved
@@ -38,10 +41,10 @@ loop-node-preserved g c =
 
 pub loop-node-smaller : goal.loop-node-smaller
 loop-node-smaller g c = rw c.all_arcs-in-loop-node.ensures
-    (comes_nearer c.args.network.now.arcs _ c.args.sink c.loop-node.node c.in-Some.on
+    (comes_nearer c.args.network.now.arcs _ c.args.query.now.sink c.loop-node.node c.in-Some.on
     c.loop-node.invariant.inside c.loop-node-test.true c.in-Some.ensures.from c.in-Some.ensures.down.down)
 
 pub returns : goal.returns
 returns g c = λ _. subst (λ (v : ℕ). IsTightPath c.args.network.now.arcs c.args.network.now.flows
-    (slice_index c.args.potentials.now) (tail_of c.args.network.now.arcs c.args.first) v
-    c.loop-node.path.items) c.loop-node-test.false c.loop-node.invariant.down.path_to
+    (slice_index c.args.query.now.potentials.now) c.args.query.now.start v c.loop-node.path.items)
+    c.loop-node-test.false c.loop-node.invariant.down.path_to

@@ -6,22 +6,31 @@ pub invariant_of-result : goal.invariant_of-result
 invariant_of-result g c =
     let size = ap length c.depths-nodes.ensures.depths in
     let past : length c.args.potentials.now ≤ length c.depths-nodes.result.now = omega arith in
-    (finds_all c.args.meter.now _ c.args.potentials.now _ c.args.start (length c.depths-nodes.result.now) _
-    c.run.new.self _ past c.limits.ensures c.requires.nodes c.depths-nodes.ensures.most c.requires.reduced
-    c.in_ok-run.ensures.ends).back
+    (finds_all _ _ _ _ _ past (record {
+      network = c.limits.ensures;
+      size = c.requires.nodes;
+      deep = c.depths-nodes.ensures.most;
+      reduced = c.requires.reduced;
+    }) c.in_ok-run.ensures.ends).back
 
 pub returns-clause-size : goal.returns-clause-size
 returns-clause-size g c =
     let size = ap length c.depths-nodes.ensures.depths in
     let past : length c.args.potentials.now ≤ length c.depths-nodes.result.now = omega arith in
-    (finds_all c.args.meter.now _ c.args.potentials.now _ c.args.start (length c.depths-nodes.result.now) _
-    c.run.new.self _ past c.limits.ensures c.requires.nodes c.depths-nodes.ensures.most c.requires.reduced
-    c.in_ok-run.ensures.ends).size
+    (finds_all _ _ _ _ _ past (record {
+      network = c.limits.ensures;
+      size = c.requires.nodes;
+      deep = c.depths-nodes.ensures.most;
+      reduced = c.requires.reduced;
+    }) c.in_ok-run.ensures.ends).size
 
 pub returns-clause-least : goal.returns-clause-least
 returns-clause-least g c =
     let size = ap length c.depths-nodes.ensures.depths in
     let past : length c.args.potentials.now ≤ length c.depths-nodes.result.now = omega arith in
-    (finds_all c.args.meter.now _ c.args.potentials.now _ c.args.start (length c.depths-nodes.result.now) _
-    c.run.new.self _ past c.limits.ensures c.requires.nodes c.depths-nodes.ensures.most c.requires.reduced
-    c.in_ok-run.ensures.ends).least
+    (finds_all _ _ _ _ _ past (record {
+      network = c.limits.ensures;
+      size = c.requires.nodes;
+      deep = c.depths-nodes.ensures.most;
+      reduced = c.requires.reduced;
+    }) c.in_ok-run.ensures.ends).least

@@ -1,12 +1,8 @@
-use Rattle.std.proofs.Common.{ℕ, List, ap, ◌∙◌, sym, subst, arith}
-use Rattle.std.specs.Prelude.{slice_index}
+use Rattle.std.proofs.Common.{List, ap, ◌∙◌, sym, subst}
 use Rattle.flow_network.specs.Flow.{Flow}
 use Rattle.flow_network.specs.declared.arcs.ArcNo.{ArcNo}
-use Rattle.flow_network.specs.declared.arcs.ArcNo.TheVariants.{Reverse}
 use Rattle.flow_network.specs.Flows.{leaving_of}
 use Rattle.flow_network.specs.Leaving.{IsIn}
-use Rattle.shortest_paths.specs.Lists.{matched_at}
-use Rattle.augmenting_paths.specs.DepthFirst.{IsOf}
 use Rattle.augmenting_paths.proofs.TightPath.{sink_arc_on}
 use Rattle.augmenting_paths.proofs.DepthFirst.{own_of, inner_of, matched_of}
 use Rattle.augmenting_paths.proofs.trail.Trail.next.Goals as goal
@@ -18,18 +14,18 @@ next_of-requires-clause-inner g c = λ a i. own_of _ _ a (subst (λ (xs : List A
 
 pub is_open-requires-clause-listed : goal.is_open-requires-clause-listed
 is_open-requires-clause-listed g c =
-    (sink_arc_on _ _ _ _ _ _ c.requires.may.1.lists (sym c.sink_arc.ensures ∙ c.in-Some.is)).0
+    (sink_arc_on _ _ _ _ _ _ c.requires.may.lists (sym c.sink_arc.ensures ∙ c.in-Some.is)).0
 
 pub returns-clause-goes_on : goal.returns-clause-goes_on
 returns-clause-goes_on g c = record {
   open_arc = c.is_open.ensures c.if-is_open.true;
-  from = (sink_arc_on _ _ _ _ _ _ c.requires.may.1.lists (sym c.sink_arc.ensures ∙ c.in-Some.is)).1;
+  from = (sink_arc_on _ _ _ _ _ _ c.requires.may.lists (sym c.sink_arc.ensures ∙ c.in-Some.is)).1;
 }
 
 pub next_of-requires-2-clause-inner : goal.next_of-requires-2-clause-inner
-next_of-requires-2-clause-inner g c = λ a i. inner_of _ _ _ _ _ c.requires.may.1.lists a
+next_of-requires-2-clause-inner g c = λ a i. inner_of _ _ _ _ _ c.requires.may.lists a
     (subst (λ (xs : List ArcNo). IsIn a xs) c.inner.ensures i)
 
 pub next_of-requires-2-clause-matched : goal.next_of-requires-2-clause-matched
 next_of-requires-2-clause-matched g c = rw c.matched.ensures
-    (matched_of _ _ _ _ _ c.requires.may.1.lists)
+    (matched_of _ _ _ _ _ c.requires.may.lists)

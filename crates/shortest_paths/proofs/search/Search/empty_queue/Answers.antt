@@ -3,33 +3,31 @@ use Rattle.std.proofs.lemmas.List.{get_or_default}
 use Rattle.std.proofs.lemmas.List.Sorted.{length_permutation}
 use Rattle.flow_network.specs.Flow.{Flow}
 use Rattle.shortest_paths.specs.Search.{tables, problem}
-use Rattle.shortest_paths.specs.Searching.{Problem, IsSearching}
+use Rattle.shortest_paths.specs.Searching.{IsSearching}
 use Rattle.shortest_paths.proofs.Searching.{entry_inside, passed, advanced, few_so_far}
 use Rattle.shortest_paths.proofs.search.Search.empty_queue.Goals as goal
 
 pub index-requires : goal.index-requires
 index-requires g c =
-    let s = c.nodes.invariant.goes c.requires.state.1.0 c.requires.state.1.1.0 c.requires.state.1.1.1 in
-    let inside = entry_inside _ _ _ _ _ s.1 _ _ _ c.in-Some.ensures.taken in
-    let size = s.1.reached.settled_size in
+    let s = c.nodes.invariant.state.1 in
+    let inside = entry_inside _ _ _ _ _ s.now _ _ _ c.in-Some.ensures.taken in
+    let size = s.now.reached.settled_size in
     omega arith
 
-pub settle-requires-clause-node : goal.settle-requires-clause-node
-settle-requires-clause-node g c =
-    let s = c.nodes.invariant.goes c.requires.state.1.0 c.requires.state.1.1.0 c.requires.state.1.1.1 in
-    entry_inside _ _ _ _ _ s.1 _ _ _ c.in-Some.ensures.taken
-
-pub settle-requires-clause-state : goal.settle-requires-clause-state
-settle-requires-clause-state g c =
-    let s = c.nodes.invariant.goes c.requires.state.1.0 c.requires.state.1.1.0 c.requires.state.1.1.1 in
-    let inside = entry_inside _ _ _ _ _ s.1 _ _ _ c.in-Some.ensures.taken in
-    let size = s.1.reached.settled_size in
+pub settle-requires : goal.settle-requires
+settle-requires g c =
+    let s = c.nodes.invariant.state.1 in
+    let inside = entry_inside _ _ _ _ _ s.now _ _ _ c.in-Some.ensures.taken in
+    let size = s.now.reached.settled_size in
     let mark = c.index.ensures ∙ get_or_default c.nodes.self.settled.items c.in-Some.node c.index.result.now
-    false (omega arith) in (
-      c.requires.state.1.0,
-      rw c.nodes.invariant.network (advanced _ _ _ _ _ s.1 _ _ _ c.in-Some.ensures.taken
-          (sym mark ∙ c.if-index.false) c.in-Some.ensures.nearest c.nodes.invariant.empty),
-    )
+    false (omega arith) in
+    record {
+      state = record {
+        may = s.may;
+        now = advanced _ _ _ _ _ s.now _ _ _ c.in-Some.ensures.taken (sym mark ∙ c.if-index.false)
+            c.in-Some.ensures.nearest c.nodes.invariant.empty;
+      };
+    }
 
 pub nodes-smaller-then-index : goal.nodes-smaller-then-index
 nodes-smaller-then-index g c =
@@ -42,33 +40,26 @@ nodes-smaller-then-index g c =
 
 pub nodes-preserved-then-index : goal.nodes-preserved-then-index
 nodes-preserved-then-index g c =
-    let s = c.nodes.invariant.goes c.requires.state.1.0 c.requires.state.1.1.0 c.requires.state.1.1.1 in
-    let inside = entry_inside _ _ _ _ _ s.1 _ _ _ c.in-Some.ensures.taken in
-    let size = s.1.reached.settled_size in
+    let s = c.nodes.invariant.state.1 in
+    let inside = entry_inside _ _ _ _ _ s.now _ _ _ c.in-Some.ensures.taken in
+    let size = s.now.reached.settled_size in
     let mark = c.index.ensures ∙ get_or_default c.nodes.self.settled.items c.in-Some.node c.index.result.now
     false (omega arith) in
     record {
       network = c.nodes.invariant.network;
       empty = c.nodes.invariant.empty;
-      goes = λ start level t. (let now = c.nodes.invariant.goes start level t in
-          (now.0, passed _ _ _ _ _ now.1 _ _ _ c.in-Some.ensures.taken (sym mark ∙ c.if-index.true)));
+      state = (
+        c.nodes.invariant.state.0,
+        record {
+          may = s.may;
+          now = passed _ _ _ _ _ s.now _ _ _ c.in-Some.ensures.taken (sym mark ∙ c.if-index.true);
+        },
+      );
     }
-
-pub returns-then-branch-clause-ends : goal.returns-then-branch-clause-ends
-returns-then-branch-clause-ends g c = λ start level t.
-    let now = c.nodes.invariant.goes start level t in
-    let inside = entry_inside _ _ _ _ _ now.1 _ _ _ c.in-Some.ensures.taken in
-    let size = now.1.reached.settled_size in
-    let mark = c.index.ensures ∙ get_or_default c.nodes.self.settled.items c.in-Some.node c.index.result.now
-    false (omega arith) in
-    let goes = rw (c.nodes.invariant.network, c.if-branch.true) at c.in_ok-settle.ensures.goes in
-    goes start (advanced _ _ _ _ _ now.1 _ _ _ c.in-Some.ensures.taken
-    (sym mark ∙ c.if-index.false) c.in-Some.ensures.nearest c.nodes.invariant.empty)
 
 pub nodes-smaller : goal.nodes-smaller
 nodes-smaller g c =
-    let s = c.nodes.invariant.goes c.requires.state.1.0 c.requires.state.1.1.0 c.requires.state.1.1.1 in
-    let few = few_so_far _ _ _ _ _ _ _ s.1 in
+    let few = few_so_far _ _ _ _ _ _ _ c.nodes.invariant.state.1.now in
     let size = length_permutation _ _ c.in-Some.ensures.taken in
     let network = ap (λ (f : Flow g.row.L.Denot). length f.arcs) c.nodes.invariant.network in
     let most = c.settle.ensures.steps in
@@ -80,40 +71,32 @@ nodes-smaller g c =
     less
 
 pub nodes-preserved : goal.nodes-preserved
-nodes-preserved g c =
-    let s = c.nodes.invariant.goes c.requires.state.1.0 c.requires.state.1.1.0 c.requires.state.1.1.1 in
-    let inside = entry_inside _ _ _ _ _ s.1 _ _ _ c.in-Some.ensures.taken in
-    let size = s.1.reached.settled_size in
-    let mark = c.index.ensures ∙ get_or_default c.nodes.self.settled.items c.in-Some.node c.index.result.now
-    false (omega arith) in
-    let goes = rw (c.nodes.invariant.network, c.if-branch.false) at c.in_ok-settle.ensures.goes in
-    record {
-      network = c.settle.ensures.network ∙ c.nodes.invariant.network;
-      empty = c.in_ok-settle.ensures.empty c.if-branch.false;
-      goes = λ start level t. (let now = c.nodes.invariant.goes start level t in (
-        c.in-Some.level,
-        goes start (advanced _ _ _ _ _ now.1 _ _ _ c.in-Some.ensures.taken
-            (sym mark ∙ c.if-index.false) c.in-Some.ensures.nearest c.nodes.invariant.empty),
-      ));
-    }
+nodes-preserved g c = record {
+  network = c.settle.ensures.network ∙ c.nodes.invariant.network;
+  empty = c.in_ok-settle.ensures.empty c.if-branch.false;
+  state = (c.in-Some.level, rw c.if-branch.false at c.in_ok-settle.ensures.goes);
+}
+
+pub returns-then-branch-clause-ends : goal.returns-then-branch-clause-ends
+returns-then-branch-clause-ends g c =
+    let goes = rw c.if-branch.true at c.in_ok-settle.ensures.goes in
+    (goes.0, goes.1.now)
 
 pub returns-clause-ends : goal.returns-clause-ends
-returns-clause-ends g c = λ start level t.
-    let now = c.nodes.invariant.goes start level t in
+returns-clause-ends g c =
+    let s = c.nodes.invariant.state.1.now in
     let before = c.in_default.ensures.empty in
-    let after = c.in_default.ensures.still_empty in
-    let p : Problem = problem c.args.meter.now c.args.potentials.now c.args.lists.now start c.args.sink in (
-      now.0,
-      (
-        subst (λ (q : List (ℕ × ℕ)). IsSearching p (length c.args.potentials.now) now.0 c.nodes.meter.count []
-            []
-            (record (tables c.nodes.self) { queue = q })) (before ∙ sym after) now.1,
-        (c.nodes.invariant.empty, after),
-      ),
+    let after = c.in_default.ensures.still_empty in (
+      c.nodes.invariant.state.0,
+      subst (λ (q : List (ℕ × ℕ)). IsSearching (problem c.nodes.meter.network c.args.query.now)
+          (length c.args.query.now.potentials.now) c.nodes.invariant.state.0 c.nodes.meter.count [] []
+          (record (tables c.nodes.self) { queue = q })) (before ∙ sym after) s,
+      c.nodes.invariant.empty,
+      after,
     )
 
 pub returns-clause-steps : goal.returns-clause-steps
 returns-clause-steps g c =
-    let s = c.nodes.invariant.goes c.requires.state.1.0 c.requires.state.1.1.0 c.requires.state.1.1.1 in
-    let few = few_so_far _ _ _ _ _ _ _ s.1 in
+    let few = few_so_far _ _ _ _ _ _ _ c.nodes.invariant.state.1.now in
+    let network = ap (λ (f : Flow g.row.L.Denot). length f.arcs) c.nodes.invariant.network in
     omega arith

@@ -6,9 +6,7 @@ abbrev pub invariant-nodes : goal.invariant-nodes
 invariant-nodes g l = record {
   network : l.meter.network ≡ l.fn.meter.network;
   empty : l.self.stack.items ≡ [];
-  goes : (start level : ℕ)
-      → Searches l.fn.meter l.potentials l.lists start l.sink level l.fn.meter.count [] [] l.fn.self
-      → (now : ℕ) × Searches l.fn.meter l.potentials l.lists start l.sink now l.meter.count [] [] l.self;
+  state : (level : ℕ) × Searches g.L.Layout.node_count l.meter l.query level [] [] l.self;
 }
 
 abbrev pub decreases-nodes : goal.decreases-nodes

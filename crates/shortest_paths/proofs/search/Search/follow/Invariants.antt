@@ -1,15 +1,11 @@
-use Rattle.std.proofs.Common.{◌≡◌, ℕ, ◌+◌, ◌-◌, ◌*◌, [], length}
-use Rattle.shortest_paths.specs.Searching.{IsSearching}
-use Rattle.shortest_paths.specs.Search.{tables, problem, Spends}
+use Rattle.std.proofs.Common.{◌≡◌, ◌+◌, ◌-◌, ◌*◌, [], length}
+use Rattle.shortest_paths.specs.Search.{Searches, Spends}
 use Rattle.shortest_paths.proofs.search.Search.follow.Given as goal
 
 abbrev pub invariant-turns : goal.invariant-turns
 invariant-turns g l = record {
   network : l.meter.network ≡ l.fn.meter.network;
-  goes : (start : ℕ) → IsSearching (problem l.fn.meter l.potentials l.lists start l.sink)
-      (length l.potentials) l.level l.fn.meter.count [] [] (tables l.fn.self)
-      → IsSearching (problem l.fn.meter l.potentials l.lists start l.sink) (length l.potentials) l.level
-      l.meter.count [] [] (tables l.self);
+  state : Searches g.L.Layout.node_count l.meter l.query l.level [] [] l.self;
   spends : Spends 0 l.fn.meter l.fn.self l.meter l.self;
 }
 

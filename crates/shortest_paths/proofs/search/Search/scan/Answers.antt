@@ -1,24 +1,34 @@
-use Rattle.std.proofs.Common.{◌≡◌, ℕ, ◌+◌, ◌-◌, ◌<◌, ◌≤◌, List, [], length, get_or, take, ap, ◌∙◌, subst}
+use Rattle.std.proofs.Common.{◌≡◌, ℕ, ◌+◌, ◌-◌, ◌<◌, ◌≤◌, List, [], length, get_or, take, ap, ◌∙◌, sym, subst}
 use Rattle.std.proofs.Common.{arith, refl}
 use Rattle.std.proofs.Math.Seq.{take-length}
+use Rattle.std.proofs.lemmas.Bool.{false≢true}
 use Rattle.flow_network.specs.declared.arcs.ArcNo.{ArcNo}
 use Rattle.flow_network.specs.declared.arcs.ArcNo.TheVariants.{Forward}
+use Rattle.flow_network.specs.Flow.{Flow}
 use Rattle.flow_network.specs.Flows.{leaving_of}
 use Rattle.flow_network.specs.Leaving.{IsIn}
 use Rattle.flow_network.proofs.Listed.{each_arc, in_at}
+use Rattle.shortest_paths.specs.Lists.{source_at}
 use Rattle.shortest_paths.proofs.Settled.{scanned}
-use Rattle.shortest_paths.proofs.Searching.{few_so_far, next_from_the_end, source_leads_on}
+use Rattle.shortest_paths.proofs.Searching.{entered_inside, few_so_far, source_leads_on}
+use Rattle.shortest_paths.proofs.Looking.{next_arc_of}
 use Rattle.shortest_paths.proofs.search.Search.scan.Goals as goal
 
 pub loop-i-init : goal.loop-i-init
 loop-i-init g c =
+    let s = c.requires.state in
     let xs : List ArcNo = leaving_of c.args.meter.now.network.arcs c.args.node in
     let none : length xs - 0 ≡ length xs = omega arith in
     let all : take (length xs - 0) xs ≡ xs = ap (λ n. take n xs) none ∙ take-length xs in
+    let apart : c.args.node ≡ c.args.query.now.sink → ⊥ = λ e. false≢true (sym s.may.sink_apart
+    ∙ ap (source_at c.args.query.now.lists.now) (sym e) ∙ c.requires.source) in
     record {
       network = refl;
-      goes = λ start s.
-          rw all (scanned _ _ _ _ _ _ _ s c.requires.may.lists c.requires.node c.requires.not_sink refl);
+      state = record {
+        may = s.may;
+        now = rw all (scanned _ _ _ _ _ _ _ s.now s.may.lists (entered_inside _ _ _ _ _ _ _ _ s.now) apart
+            refl);
+      };
       counted = omega arith;
       spends = omega arith;
     }
@@ -41,19 +51,15 @@ pass-requires-clause-no_source g c =
     let held = subst (λ ys. IsIn (get_or xs k (Forward 0)) ys) c.leaving-arcs.ensures here in
     let own = (each_arc _ _ _).1 held in
     rw c.loop-i.invariant.network
-    (source_leads_on _ _ _ _ _ _ c.requires.may.lists c.requires.source own.0 own.1)
+    (source_leads_on _ _ _ _ _ _ c.requires.state.may.lists c.requires.source own.0 own.1)
 
 pub pass-requires-clause-state : goal.pass-requires-clause-state
 pass-requires-clause-state g c =
     let same = c.leaving-arcs.ensures in
     let xs : List ArcNo = leaving_of c.args.meter.now.network.arcs c.args.node in
-    let inside : c.loop-i.i < length xs = subst (λ ys. c.loop-i.i < length ys) same c.loop-i-test.true in
-    let now = c.loop-i.invariant.goes c.requires.state.0 c.requires.state.1 in (
-      c.requires.state.0,
-      (
-        take (length xs - (c.loop-i.i + 1)) xs,
-        rw (c.loop-i.invariant.network, same) (next_from_the_end _ _ _ _ _ xs c.loop-i.i _ inside now),
-      ),
+    let inside : c.loop-i.i < length xs = subst (λ ys. c.loop-i.i < length ys) same c.loop-i-test.true in (
+      take (length xs - (c.loop-i.i + 1)) xs,
+      rw same (next_arc_of _ _ _ _ xs c.loop-i.i _ inside c.loop-i.invariant.state),
     )
 
 pub loop-i-preserved : goal.loop-i-preserved
@@ -61,34 +67,36 @@ loop-i-preserved g c =
     let same = c.leaving-arcs.ensures in
     let xs : List ArcNo = leaving_of c.args.meter.now.network.arcs c.args.node in
     let inside : c.loop-i.i < length xs = subst (λ ys. c.loop-i.i < length ys) same c.loop-i-test.true in
-    let goes = rw (c.loop-i.invariant.network, c.if-branch.false, same) at c.in_ok-pass.ensures.goes in
+    let goes = rw (c.if-branch.false, same) at c.in_ok-pass.ensures.goes in
     let more = c.in_ok-pass.ensures.spends in
     record {
       network = c.pass.ensures.network ∙ c.loop-i.invariant.network;
-      goes = λ start s. goes start (take (length xs - (c.loop-i.i + 1)) xs)
-          (next_from_the_end _ _ _ _ _ xs c.loop-i.i _ inside (c.loop-i.invariant.goes start s));
+      state = goes (take (length xs - (c.loop-i.i + 1)) xs)
+          (next_arc_of _ _ _ _ xs c.loop-i.i _ inside c.loop-i.invariant.state);
       counted = (let old = c.loop-i.invariant.counted in let more = c.pass.ensures.counted in omega arith);
       spends = (let old = c.loop-i.invariant.spends in omega arith);
     }
 
 pub returns-then-branch-clause-goes : goal.returns-then-branch-clause-goes
-returns-then-branch-clause-goes g c = λ start s.
+returns-then-branch-clause-goes g c =
     let same = c.leaving-arcs.ensures in
     let xs : List ArcNo = leaving_of c.args.meter.now.network.arcs c.args.node in
     let inside : c.loop-i.i < length xs = subst (λ ys. c.loop-i.i < length ys) same c.loop-i-test.true in
-    let goes = rw (c.loop-i.invariant.network, c.if-branch.true, same) at c.in_ok-pass.ensures.goes in
-    goes start (take (length xs - (c.loop-i.i + 1)) xs)
-    (next_from_the_end _ _ _ _ _ xs c.loop-i.i _ inside (c.loop-i.invariant.goes start s))
+    let goes = rw (c.if-branch.true, same) at c.in_ok-pass.ensures.goes in
+    goes (take (length xs - (c.loop-i.i + 1)) xs)
+    (next_arc_of _ _ _ _ xs c.loop-i.i _ inside c.loop-i.invariant.state)
 
 pub returns-clause-goes : goal.returns-clause-goes
-returns-clause-goes g c = λ start s.
+returns-clause-goes g c =
     let xs : List ArcNo = leaving_of c.args.meter.now.network.arcs c.args.node in
     let past : length xs ≤ c.loop-i.i = subst (λ ys. length ys ≤ c.loop-i.i) c.leaving-arcs.ensures
     c.loop-i-test.false in
     let none : length xs - c.loop-i.i ≡ 0 = omega arith in
     let over : take (length xs - c.loop-i.i) xs ≡ [] = ap (λ n. take n xs) none in
-    rw over at (c.loop-i.invariant.goes start s)
+    rw over at c.loop-i.invariant.state
 
 pub returns-clause-steps : goal.returns-clause-steps
-returns-clause-steps g c = let few = few_so_far _ _ _ _ _ _ _
-    (c.loop-i.invariant.goes c.requires.state.0 c.requires.state.1) in omega arith
+returns-clause-steps g c =
+    let few = few_so_far _ _ _ _ _ _ _ c.loop-i.invariant.state.now in
+    let same = ap (λ (f : Flow g.row.L.Denot). length f.arcs) c.loop-i.invariant.network in
+    omega arith

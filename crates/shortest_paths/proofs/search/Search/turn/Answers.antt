@@ -1,35 +1,42 @@
-use Rattle.std.proofs.Common.{◌∙◌, arith}
-use Rattle.std.proofs.lemmas.List.{get_or_default}
-use Rattle.shortest_paths.proofs.Searching.{top_cursors, popped_by, few_so_far}
+use Rattle.std.proofs.Common.{[], length, ap, ◌∙◌, sym, subst, arith}
+use Rattle.shortest_paths.specs.Searching.{IsSearching, Tables}
+use Rattle.shortest_paths.specs.Search.{problem}
+use Rattle.shortest_paths.proofs.Searching.{few_so_far, popped_by, top_inside, turns}
 use Rattle.shortest_paths.proofs.search.Search.turn.Goals as goal
 
-pub turn_inner-requires-clause-left : goal.turn_inner-requires-clause-left
-turn_inner-requires-clause-left g c =
-    let is = c.index.ensures ∙ get_or_default c.args.self.now.left.items c.args.node c.index.result.now 0
-    c.requires.node in
+pub next_arc-requires-clause-node : goal.next_arc-requires-clause-node
+next_arc-requires-clause-node g c =
+    let here = top_inside _ _ _ _ _ _ _ c.requires.state.now c.requires.top.1 in
+    let inside = here.0 in
+    let size = c.requires.state.now.left_size in
     omega arith
 
-pub turn_inner-requires-clause-few : goal.turn_inner-requires-clause-few
-turn_inner-requires-clause-few g c = (top_cursors _ _ _ _ _ _ _ c.requires.state.1 c.requires.top.1).0
+pub next_arc-requires-clause-cursors : goal.next_arc-requires-clause-cursors
+next_arc-requires-clause-cursors g c = (top_inside _ _ _ _ _ _ _ c.requires.state.now c.requires.top.1).1
 
-pub turn_matched-requires-clause-left : goal.turn_matched-requires-clause-left
-turn_matched-requires-clause-left g c =
-    let is = c.index-2.ensures ∙ get_or_default c.args.self.now.left_matched.items c.args.node
-    c.index-2.result.now 0 c.requires.node_matched in
-    omega arith
+pub step-requires-clause-leaves : goal.step-requires-clause-leaves
+step-requires-clause-leaves g c = (turns _ _ _ _ _ c.next_arc.new.self
+    c.requires.top.0 _ _ c.requires.state c.requires.top.1
+    (rw c.in-Some.is at c.next_arc.ensures)).1
 
-pub turn_matched-requires-clause-few : goal.turn_matched-requires-clause-few
-turn_matched-requires-clause-few g c = (top_cursors _ _ _ _ _ _ _ c.requires.state.1 c.requires.top.1).1
-
-pub returns-clause-steps : goal.returns-clause-steps
-returns-clause-steps g c = let few = few_so_far _ _ _ _ _ _ _ c.requires.state.1 in omega arith
+pub step-requires-clause-state : goal.step-requires-clause-state
+step-requires-clause-state g c = (turns _ _ _ _ _ c.next_arc.new.self
+    c.requires.top.0 _ _ c.requires.state c.requires.top.1
+    (rw c.in-Some.is at c.next_arc.ensures)).0
 
 pub returns-clause-goes : goal.returns-clause-goes
-returns-clause-goes g c = λ start s.
-    let p = c.pop.ensures in
-    let one = c.index.ensures ∙ get_or_default c.args.self.now.left.items c.args.node c.index.result.now 0
-    c.requires.node in
-    let two = c.index-2.ensures ∙ get_or_default c.args.self.now.left_matched.items c.args.node
-    c.index-2.result.now 0 c.requires.node_matched in
-    popped_by _ _ _ _ _ c.requires.top.0 c.pop.new.self.items c.args.node c.pop.result c.requires.top.1
-    p.items (omega arith) (omega arith) s
+returns-clause-goes g c =
+    let s = c.requires.state in
+    let none = rw c.in_default.is at c.next_arc.ensures in
+    let stack = ap (λ (t : Tables). t.stack) none.2 in
+    record {
+      may = s.may;
+      now = subst (λ (t : Tables). IsSearching (problem c.args.meter.now.network c.args.query.now)
+          (length c.args.query.now.potentials.now) c.args.level c.args.meter.now.count [] []
+          (record t { stack = c.pop.new.self.items })) (sym none.2)
+          (popped_by _ _ _ _ _ c.requires.top.0 c.pop.new.self.items c.args.node c.pop.result
+          c.requires.top.1 (sym stack ∙ c.pop.ensures.items) none.0 none.1 s.now);
+    }
+
+pub returns-clause-steps : goal.returns-clause-steps
+returns-clause-steps g c = let few = few_so_far _ _ _ _ _ _ _ c.requires.state.now in omega arith
