@@ -1,6 +1,6 @@
 -- The cursors of the nodes on the stack move, and a node leaves it.
-use Rattle.std.proofs.Common.{◌≡◌, ℕ, zero, suc, ◌+◌, ◌<◌, true, List, [], ◌∷◌, ◌++◌, length, map, take}
-use Rattle.std.proofs.Common.{get_or, set, Contains, refl, sym, ap, ◌∙◌, subst, inl, inr, ◌⊎◌, arith}
+use Rattle.std.proofs.Common.{◌≡◌, ℕ, zero, suc, ◌+◌, ◌<◌, ◌≤◌, true, List, [], ◌∷◌, ◌++◌, length, map, take}
+use Rattle.std.proofs.Common.{get_or, set, Contains, refl, ◌∙◌, subst, inl, inr, ◌⊎◌, arith}
 use Rattle.std.proofs.Common.{get_or-set_same, get_or-set_other, length-set}
 use Rattle.std.proofs.lemmas.Bool.{cases_eq}
 use Rattle.std.proofs.lemmas.List.{take_more}
@@ -65,114 +65,92 @@ module _ (p : Problem) (nodes level count : ℕ) (entering : List ℕ) (rest : L
     (s : IsSearching p nodes level count entering rest t)
     (lists : AreResidualArcs p.arcs p.flows p.sink p.lists) (u : ℕ) (on : Contains t.stack u)
     (inside : u < nodes) where
-  moved_rest : (a : ArcNo) → IsIn a (sink_arcs_at p.lists u ++ stack_arcs p.lists u) → (b : ArcNo)
-      → IsIn b (a ∷ rest)
-      → (arc_index b < length p.arcs) × (is_settled t.settled (tail_of p.arcs b) ≡ true)
-      × (distance_at t.distances (tail_of p.arcs b) ≡ level)
-  moved_rest a i b (inr old) = s.covered.of_rest b old
-  moved_rest a i b (inl q) =
-      let own = lists.own u a i in let here = s.covered.on_stack u on in
-      rw (q, own.1) (own.0, here.0, here.1)
+  module _ (a : ArcNo) (own : IsIn a (sink_arcs_at p.lists u ++ stack_arcs p.lists u))
+      (left left_matched : List ℕ) (size : length left ≡ nodes) (size_matched : length left_matched ≡ nodes)
+      (other : (w : ℕ) → (w ≡ u → ⊥) → (get_or left w 0 ≡ get_or t.left w 0)
+          × (get_or left_matched w 0 ≡ get_or t.left_matched w 0))
+      (one_less : get_or left u 0 + get_or left_matched u 0 + 1 ≡ get_or t.left u 0 + get_or t.left_matched u 0)
+      (within : (get_or left u 0 ≤ get_or t.left u 0) × (get_or left_matched u 0 ≤ get_or t.left_matched u 0))
+      (before : (b : ArcNo) → IsIn b (first_arcs p.lists u (get_or t.left u 0) (get_or t.left_matched u 0))
+          → IsIn b (first_arcs p.lists u (get_or left u 0) (get_or left_matched u 0)) ⊎ (b ≡ a)) where
+    moved_rest : (b : ArcNo) → IsIn b (a ∷ rest)
+        → (arc_index b < length p.arcs) × (is_settled t.settled (tail_of p.arcs b) ≡ true)
+        × (distance_at t.distances (tail_of p.arcs b) ≡ level)
+    moved_rest b (inr old) = s.covered.of_rest b old
+    moved_rest b (inl q) =
+        let o = lists.own u a own in let here = s.covered.on_stack u on in
+        rw (q, o.1) (o.0, here.0, here.1)
+
+    moves : IsSearching p nodes level count entering (a ∷ rest)
+        (record t { left = left; left_matched = left_matched })
+    moves =
+        let c = s.covered in
+        let less = less_at t.settled u (λ w. get_or t.left w 0 + get_or t.left_matched w 0)
+        (λ w. get_or left w 0 + get_or left_matched w 0) (c.on_stack u on).0 (omega arith)
+        (λ w n. (let one = (other w n).0 in let two = (other w n).1 in omega arith)) in
+        let old = s.looks in
+        record {
+          left_size = size;
+          left_matched_size = size_matched;
+          reached = s.reached;
+          listed = s.listed;
+          waiting = s.waiting;
+          covered = record {
+            on_stack = c.on_stack;
+            cursors = λ w o. elim (cases_eq w u) [
+              | inl q ↦ rw q (let one = (c.cursors u on).0 in let two = (c.cursors u on).1 in
+                  let low = within.0 in let low_matched = within.1 in (omega arith, omega arith))
+              | inr n ↦ rw ((other w n).0, (other w n).1) (c.cursors w o)
+            ];
+            of_rest = moved_rest;
+            covered = λ b r m. elim (c.covered b r m) [
+              | inl done ↦ inl done
+              | inr more ↦ elim more [
+                | inl held ↦ inr (inl (inr held))
+                | inr cursor ↦ elim (cases_eq (tail_of p.arcs b) u) [
+                  | inr n ↦ inr (inr (cursor.0, rw ((other (tail_of p.arcs b) n).0,
+                      (other (tail_of p.arcs b) n).1) cursor.1))
+                  | inl q ↦ elim (before b (rw q at cursor.1)) [
+                    | inl held ↦ inr (inr (rw q on, rw q held))
+                    | inr same ↦ inr (inl (inl same))
+                  ]
+                ]
+              ]
+            ];
+          };
+          looks = omega arith;
+          sink_left = s.sink_left;
+        }
 
   pub inner_moves : (k : ℕ) → get_or t.left u 0 ≡ k + 1
       → IsSearching p nodes level count entering (get_or (inner_at p.lists u) k (Forward 0) ∷ rest)
       (record t { left = set t.left u k })
   inner_moves k e =
-      let a : ArcNo = get_or (inner_at p.lists u) k (Forward 0) in
-      let c = s.covered in
-      let few = (c.cursors u on).0 in
+      let few = (s.covered.cursors u on).0 in
       let size = s.left_size in
       let now : get_or (set t.left u k) u 0 ≡ k = get_or-set_same t.left u k 0 (omega arith) in
-      let other : (w : ℕ) → (w ≡ u → ⊥) → get_or (set t.left u k) w 0 ≡ get_or t.left w 0 = λ w n.
-      get_or-set_other t.left u w k 0 n in
-      let less = less_at t.settled u (λ w. get_or t.left w 0 + get_or t.left_matched w 0)
-      (λ w. get_or (set t.left u k) w 0 + get_or t.left_matched w 0)
-      (c.on_stack u on).0 (omega arith) (λ w n. ap (λ m. m + get_or t.left_matched w 0) (sym (other w n))) in
-      let old = s.looks in
-      record {
-        left_size = length-set t.left u k ∙ size;
-        left_matched_size = s.left_matched_size;
-        reached = s.reached;
-        listed = s.listed;
-        waiting = s.waiting;
-        covered = record {
-          on_stack = c.on_stack;
-          cursors = λ w o. elim (cases_eq w u) [
-            | inl q ↦ rw (q, now) (omega arith, (c.cursors u on).1)
-            | inr n ↦ rw (other w n) (c.cursors w o)
-          ];
-          of_rest = moved_rest a (in_right a (sink_arcs_at p.lists u) (stack_arcs p.lists u)
-              (in_left a (inner_at p.lists u) (map Reverse (matched_at p.lists u))
-              (in_at (inner_at p.lists u) k (Forward 0) (omega arith))));
-          covered = λ b r m. elim (c.covered b r m) [
-            | inl done ↦ inl done
-            | inr more ↦ elim more [
-              | inl held ↦ inr (inl (inr held))
-              | inr cursor ↦ elim (cases_eq (tail_of p.arcs b) u) [
-                | inr n ↦ inr (inr (cursor.0, rw (other (tail_of p.arcs b) n) cursor.1))
-                | inl q ↦ elim (first_inner p.lists u k (get_or t.left_matched u 0) b (omega arith)
-                    (rw (q, e) at cursor.1)) [
-                      | inl before ↦ inr (inr (rw q on, rw (q, now) before))
-                      | inr same ↦ inr (inl (inl same))
-                    ]
-              ]
-            ]
-          ];
-        };
-        looks = omega arith;
-        sink_left = s.sink_left;
-      }
+      moves (get_or (inner_at p.lists u) k (Forward 0))
+      (in_right _ (sink_arcs_at p.lists u) (stack_arcs p.lists u)
+      (in_left _ (inner_at p.lists u) (map Reverse (matched_at p.lists u))
+      (in_at (inner_at p.lists u) k (Forward 0) (omega arith))))
+      (set t.left u k) t.left_matched (length-set t.left u k ∙ size) s.left_matched_size
+      (λ w n. (get_or-set_other t.left u w k 0 n, refl)) (omega arith) (omega arith, omega arith)
+      (λ b i. rw now (first_inner p.lists u k (get_or t.left_matched u 0) b (omega arith) (rw e at i)))
 
   pub matched_moves : (k : ℕ) → get_or t.left_matched u 0 ≡ k + 1
       → IsSearching p nodes level count entering (Reverse (get_or (matched_at p.lists u) k 0) ∷ rest)
       (record t { left_matched = set t.left_matched u k })
   matched_moves k e =
-      let a : ArcNo = Reverse (get_or (matched_at p.lists u) k 0) in
-      let c = s.covered in
-      let few = (c.cursors u on).1 in
+      let few = (s.covered.cursors u on).1 in
       let size = s.left_matched_size in
-      let now : get_or (set t.left_matched u k) u 0 ≡ k = get_or-set_same t.left_matched u k 0
-      (omega arith) in
-      let other : (w : ℕ) → (w ≡ u → ⊥)
-      → get_or (set t.left_matched u k) w 0 ≡ get_or t.left_matched w 0 = λ w n.
-      get_or-set_other t.left_matched u w k 0 n in
-      let less = less_at t.settled u (λ w. get_or t.left w 0 + get_or t.left_matched w 0)
-      (λ w. get_or t.left w 0 + get_or (set t.left_matched u k) w 0)
-      (c.on_stack u on).0 (omega arith) (λ w n. ap (λ m. get_or t.left w 0 + m) (sym (other w n))) in
-      let old = s.looks in
-      record {
-        left_size = s.left_size;
-        left_matched_size = length-set t.left_matched u k ∙ size;
-        reached = s.reached;
-        listed = s.listed;
-        waiting = s.waiting;
-        covered = record {
-          on_stack = c.on_stack;
-          cursors = λ w o. elim (cases_eq w u) [
-            | inl q ↦ rw (q, now) ((c.cursors u on).0, omega arith)
-            | inr n ↦ rw (other w n) (c.cursors w o)
-          ];
-          of_rest = moved_rest a (in_right a (sink_arcs_at p.lists u) (stack_arcs p.lists u)
-              (in_right a (inner_at p.lists u) (map Reverse (matched_at p.lists u))
-              (map_at (matched_at p.lists u) k (omega arith))));
-          covered = λ b r m. elim (c.covered b r m) [
-            | inl done ↦ inl done
-            | inr more ↦ elim more [
-              | inl held ↦ inr (inl (inr held))
-              | inr cursor ↦ elim (cases_eq (tail_of p.arcs b) u) [
-                | inr n ↦ inr (inr (cursor.0, rw (other (tail_of p.arcs b) n) cursor.1))
-                | inl q ↦ elim (first_matched p.lists u (get_or t.left u 0) k b (omega arith)
-                    (rw (q, e) at cursor.1)) [
-                      | inl before ↦ inr (inr (rw q on, rw (q, now) before))
-                      | inr same ↦ inr (inl (inl same))
-                    ]
-              ]
-            ]
-          ];
-        };
-        looks = omega arith;
-        sink_left = s.sink_left;
-      }
+      let now : get_or (set t.left_matched u k) u 0 ≡ k = get_or-set_same t.left_matched u k 0 (omega arith) in
+      moves (Reverse (get_or (matched_at p.lists u) k 0))
+      (in_right _ (sink_arcs_at p.lists u) (stack_arcs p.lists u)
+      (in_right _ (inner_at p.lists u) (map Reverse (matched_at p.lists u))
+      (map_at (matched_at p.lists u) k (omega arith))))
+      t.left (set t.left_matched u k) s.left_size (length-set t.left_matched u k ∙ size)
+      (λ w n. (refl, get_or-set_other t.left_matched u w k 0 n)) (omega arith) (omega arith, omega arith)
+      (λ b i. rw now (first_matched p.lists u (get_or t.left u 0) k b (omega arith) (rw e at i)))
 
 -- a node whose arcs were all looked at leaves the stack
 pub popped : (p : Problem) (nodes level count : ℕ) (entering : List ℕ) (rest : List ArcNo) (t : Tables)

@@ -137,8 +137,8 @@ impl ResidualArcs {
     {
         network.limits();
         for arc in path {
-            let k = number(*arc);
-            self.follow_arc(*arc, network.all_arcs()[k], network.all_flows()[k])?;
+            let (ends, flow) = carried(network, *arc);
+            self.follow_arc(*arc, ends, flow)?;
         }
         Ok(())
     }
@@ -215,7 +215,18 @@ fn put_all(list: &mut Leaving, arcs: &[ArcNo]) -> Result<(), AllocError>
     Ok(())
 }
 
-// The number of the arc that a residual arc goes over.
+// The arc that a residual arc goes over, and how many units it carries.
+fn carried<L: Layout>(network: &Network<L>, arc: ArcNo) -> (FlowArc, u64)
+    requires { arc_index arc < length network.now.arcs }
+    ensures arc { result.0 ≡ arc_at network.now.arcs (arc_index arc) }
+    ensures units { result.1 ≡ slice_index network.now.flows (arc_index arc) }
+{
+    network.limits();
+    let k = number(arc);
+    (network.all_arcs()[k], network.all_flows()[k])
+}
+
+// Its number.
 fn number(arc: ArcNo) -> usize
     ensures { result ≡ arc_index arc }
 {
