@@ -134,7 +134,7 @@ fn ship<L: Layout>(
 fn find_path<L: Layout>(
     alloc: Global,
     network: &Network<L>,
-    shipping: Shipping,
+    mut shipping: Shipping,
     order: &[usize],
     sink: usize,
     count: usize,
@@ -147,36 +147,19 @@ fn find_path<L: Layout>(
     ensures found { IfOk result (λ s. HasFoundNext network.now.arcs order.now sink count network.now.flows
         (slice_index s.potentials) s.path.items) }
 {
-    let Shipping {
-        mut potentials,
-        lists,
-        buffers,
-        mut trail,
-        mut path,
-        looks,
-    } = shipping;
     network.limits();
     let start = order[count];
-    lift(network, &mut potentials, start);
+    lift(network, &mut shipping.potentials, start);
     let query = Query {
-        potentials: &potentials,
-        lists: &lists,
+        potentials: &shipping.potentials,
+        lists: &shipping.lists,
         start,
         sink,
     };
-    let is_found = tight_path(network, &query, &mut trail, &mut path)?;
-    let lifted = Shipping {
-        potentials,
-        lists,
-        buffers,
-        trail,
-        path,
-        looks,
-    };
-    if is_found {
-        return Ok(lifted);
+    if tight_path(network, &query, &mut shipping.trail, &mut shipping.path)? {
+        return Ok(shipping);
     }
-    search_path(alloc, network, lifted, order, sink, count)
+    search_path(alloc, network, shipping, order, sink, count)
 }
 
 // Whether a walk comes from a node to the sink, or else a search over tight arcs, and then its path.
@@ -249,7 +232,7 @@ fn search_path<L: Layout>(
 // Pushes the unit of the next source along its path, over which it costs nothing.
 fn push<L: Layout>(
     network: &mut Network<L>,
-    shipping: Shipping,
+    mut shipping: Shipping,
     order: &[usize],
     sink: usize,
     count: usize,
@@ -264,25 +247,10 @@ fn push<L: Layout>(
     ensures arcs { network.new.arcs ≡ network.old.arcs }
     ensures layout { network.new.layout ≡ network.old.layout }
 {
-    let Shipping {
-        potentials,
-        mut lists,
-        buffers,
-        trail,
-        path,
-        looks,
-    } = shipping;
     network.limits();
-    network.push(&path);
-    lists.follow(network, &path)?;
-    Ok(Shipping {
-        potentials,
-        lists,
-        buffers,
-        trail,
-        path,
-        looks,
-    })
+    network.push(&shipping.path);
+    shipping.lists.follow(network, &shipping.path)?;
+    Ok(shipping)
 }
 
 // Lowers the potential of a source, which is 0, by the least of what an arc of its own costs together with

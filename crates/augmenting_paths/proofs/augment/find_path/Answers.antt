@@ -27,7 +27,7 @@ tight_path-requires-clause-may g c =
       up = c.lift.ensures.lifted;
     }) refl
 
-pub returns-then-is_found-clause-found : goal.returns-then-is_found-clause-found
-returns-then-is_found-clause-found g c =
+pub returns-then-branch-clause-found : goal.returns-then-branch-clause-found
+returns-then-branch-clause-found g c =
     lifted_found _ _ _ _ _ _ _ c.requires.next.can c.requires.next.left c.requires.state _
-    c.lift.ensures.lifted _ (c.in_ok-is_found.ensures.tight c.if-is_found.true)
+    c.lift.ensures.lifted _ (c.in_ok-tight_path.ensures.tight c.if-branch.true)
