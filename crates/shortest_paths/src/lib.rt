@@ -26,7 +26,6 @@ pub use least::{distances, distances_by};
 pub use potentials::Potentials;
 pub use pricing::has_no_negative;
 pub use query::Query;
-pub use queue::Queue;
 pub use reached::Distances;
 pub use reduced_costs::leaving;
 pub use residual_arcs::ResidualArcs;
