@@ -160,7 +160,7 @@ ends_all : (p : Problem) (count : ℕ) (t : Tables) (found : Option ℕ) → len
     → EndsSearch found p count t → EndsSearch None p count t
 ends_all p count t None past e = e
 ends_all p count t (Some total) past e = absurd
-    (let inside = entered_inside p (length p.depths) total count p.sink [] e.0 t e.1 in omega arith)
+    (let inside = entered_inside e.1 in omega arith)
 
 -- what it leaves for its callers
 pub record FindsAll (p : Problem) (t : Tables) : Type 0 where
@@ -168,9 +168,9 @@ pub record FindsAll (p : Problem) (t : Tables) : Type 0 where
   pub back : AreTracedBack t.distances t.arrivals
   pub size : length (paths_of t.distances t.arrivals) ≡ length p.depths
 
-pub finds_all : (n : ℕ) (p : Problem) (count : ℕ) (t : Tables) (found : Option ℕ) → length p.depths ≤ p.sink
+pub finds_all : {n : ℕ} {p : Problem} (count : ℕ) {t : Tables} (found : Option ℕ) → length p.depths ≤ p.sink
     → IsPriced n p.arcs p.flows p.depths → EndsSearch found p count t → FindsAll p t
-finds_all n p count t found past priced ends =
+finds_all {n = n} {p = p} count {t = t} found past priced ends =
     let e = ends_all p count t found past ends in
     let r = e.1 in
     record {

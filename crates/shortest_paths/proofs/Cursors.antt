@@ -68,11 +68,12 @@ module _ (p : Problem) (nodes level count : ℕ) (entering : List ℕ) (rest : L
   module _ (a : ArcNo) (own : IsIn a (sink_arcs_at p.lists u ++ stack_arcs p.lists u))
       (left left_matched : List ℕ) (size : length left ≡ nodes) (size_matched : length left_matched ≡ nodes)
       (other : (w : ℕ) → (w ≡ u → ⊥) → (get_or left w 0 ≡ get_or t.left w 0)
-          × (get_or left_matched w 0 ≡ get_or t.left_matched w 0))
-      (one_less : get_or left u 0 + get_or left_matched u 0 + 1 ≡ get_or t.left u 0 + get_or t.left_matched u 0)
+      × (get_or left_matched w 0 ≡ get_or t.left_matched w 0))
+      (one_less : get_or left u 0 + get_or left_matched u 0 + 1
+      ≡ get_or t.left u 0 + get_or t.left_matched u 0)
       (within : (get_or left u 0 ≤ get_or t.left u 0) × (get_or left_matched u 0 ≤ get_or t.left_matched u 0))
       (before : (b : ArcNo) → IsIn b (first_arcs p.lists u (get_or t.left u 0) (get_or t.left_matched u 0))
-          → IsIn b (first_arcs p.lists u (get_or left u 0) (get_or left_matched u 0)) ⊎ (b ≡ a)) where
+      → IsIn b (first_arcs p.lists u (get_or left u 0) (get_or left_matched u 0)) ⊎ (b ≡ a)) where
     moved_rest : (b : ArcNo) → IsIn b (a ∷ rest)
         → (arc_index b < length p.arcs) × (is_settled t.settled (tail_of p.arcs b) ≡ true)
         × (distance_at t.distances (tail_of p.arcs b) ≡ level)
@@ -108,8 +109,13 @@ module _ (p : Problem) (nodes level count : ℕ) (entering : List ℕ) (rest : L
               | inr more ↦ elim more [
                 | inl held ↦ inr (inl (inr held))
                 | inr cursor ↦ elim (cases_eq (tail_of p.arcs b) u) [
-                  | inr n ↦ inr (inr (cursor.0, rw ((other (tail_of p.arcs b) n).0,
-                      (other (tail_of p.arcs b) n).1) cursor.1))
+                  | inr n ↦ inr (inr (
+                    cursor.0,
+                    rw (
+                      (other (tail_of p.arcs b) n).0,
+                      (other (tail_of p.arcs b) n).1,
+                    ) cursor.1,
+                  ))
                   | inl q ↦ elim (before b (rw q at cursor.1)) [
                     | inl held ↦ inr (inr (rw q on, rw q held))
                     | inr same ↦ inr (inl (inl same))
@@ -143,7 +149,8 @@ module _ (p : Problem) (nodes level count : ℕ) (entering : List ℕ) (rest : L
   matched_moves k e =
       let few = (s.covered.cursors u on).1 in
       let size = s.left_matched_size in
-      let now : get_or (set t.left_matched u k) u 0 ≡ k = get_or-set_same t.left_matched u k 0 (omega arith) in
+      let now : get_or (set t.left_matched u k) u 0 ≡ k = get_or-set_same t.left_matched u k 0
+      (omega arith) in
       moves (Reverse (get_or (matched_at p.lists u) k 0))
       (in_right _ (sink_arcs_at p.lists u) (stack_arcs p.lists u)
       (in_right _ (inner_at p.lists u) (map Reverse (matched_at p.lists u))

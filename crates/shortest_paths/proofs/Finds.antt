@@ -19,9 +19,9 @@ pub record Finds (p : Problem) (t : Tables) (found : Option ℕ) : Type 0 where
   pub size : length t.distances ≡ length p.depths
   pub kept : IsFinished t p.sink found
 
-pub finds : (p : Problem) (count : ℕ) (t : Tables) (found : Option ℕ) → p.sink < length p.depths
+pub finds : {p : Problem} (count : ℕ) {t : Tables} {found : Option ℕ} → p.sink < length p.depths
     → EndsSearch found p count t → Finds p t found
-finds p count t (Some total) inside e =
+finds {p = p} count {t = t} {found = (Some total)} inside e =
     let r = e.1 in
     let end = ends_at_sink p (length p.depths) total count e.0 t r in
     let here = end.1 in
@@ -43,7 +43,7 @@ finds p count t (Some total) inside e =
         back = λ _. leads_back p (length p.depths) total t r.reached _ p.sink near refl;
       };
     }
-finds p count t None inside e =
+finds {p = p} count {t = t} {found = None} inside e =
     let r = e.1 in
     let end = ends_with_none p (length p.depths) e.0 count t r e.2 e.3 in
     let size = r.reached.size in

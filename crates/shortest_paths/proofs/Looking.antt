@@ -1,6 +1,7 @@
 -- A look at an arc of a search, by what the code reads, and what it asks.
 use Rattle.std.proofs.Common.{◌≡◌, ℕ, zero, suc, ◌+◌, ◌*◌, ◌^◌, ◌<◌, ◌≤◌, ℤ, List, [], ◌∷◌, length, get_or}
-use Rattle.std.proofs.Common.{◌-◌, take, set, IsPermutation, Option, Some, None, refl, sym, ap, ◌∙◌, subst, inl, inr, arith}
+use Rattle.std.proofs.Common.{◌-◌, take, set, IsPermutation, Option, Some, None, refl, sym, ap, ◌∙◌, subst}
+use Rattle.std.proofs.Common.{inl, inr, arith}
 use Rattle.std.proofs.lemmas.Bool.{cases_lt}
 use Rattle.std.proofs.lemmas.List.{get_or_default}
 use Rattle.std.specs.Prelude.{slice_index, is_some, IfSome, pos, neg_ℤ, ◌+ℤ◌, ◌-ℤ◌, ◌≤ℤ◌}
@@ -31,12 +32,12 @@ pub record IsOpen (p : Problem) (a : ArcNo) (node to : ℕ) (cost : ℤ) : Type 
   pub high : cost ≤ℤ pos (2 ^ 39)
   pub reduced : pos (slice_index p.depths node) ≤ℤ (cost +ℤ pos (slice_index p.depths to))
 
-pub is_open : {L : Type 0} (node_count : L → ℕ) (m : Counted L) (q : Query) (level : ℕ) (a : ArcNo)
-    (rest : List ArcNo) (s : Search) (node to room : ℕ) (cost : ℤ)
+pub is_open : {L : Type 0} {node_count : L → ℕ} {m : Counted L} {q : Query} {level : ℕ} {a : ArcNo}
+    {rest : List ArcNo} {s : Search} {node to room : ℕ} {cost : ℤ}
     → Searches node_count m q level [] (a ∷ rest) s → tail_of m.network.arcs a ≡ node
     → to ≡ head_of m.network.arcs a → room ≡ residual_of m.network.arcs m.network.flows a
     → cost ≡ cost_of m.network.arcs a → (room ≡ 0 → ⊥) → IsOpen (problem m.network q) a node to cost
-is_open node_count m q level a rest s node to room cost state leaves at is seen some =
+is_open {m = m} {q = q} {a = a} {room = room} state leaves at is seen some =
     let p = problem m.network q in
     let priced = state.may.priced in
     let r : IsResidual p.arcs p.flows a = record {
@@ -75,11 +76,11 @@ abbrev arrives : ArcNo → ℕ → ℕ → Arrival
 arrives a node n = record { arc = a; before = node; arcs = n }
 
 -- a look, by what the code reads
-module _ (n : ℕ) (p : Problem) (level count : ℕ) (entering : List ℕ) (a : ArcNo) (rest : List ArcNo)
-    (t : Tables)
+module _ {n : ℕ} {p : Problem} {level count : ℕ} {entering : List ℕ} {a : ArcNo} {rest : List ArcNo}
+    {t : Tables}
     (s : IsSearching p (length p.depths) level count entering (a ∷ rest) t)
     (priced : IsPriced n p.arcs p.flows p.depths)
-    (residual : IsResidual p.arcs p.flows a) (node to cost x : ℕ) (leaves : tail_of p.arcs a ≡ node)
+    (residual : IsResidual p.arcs p.flows a) {node to cost x : ℕ} (leaves : tail_of p.arcs a ≡ node)
     (at : to ≡ head_of p.arcs a)
     (seen : pos cost ≡ (cost_of p.arcs a +ℤ pos (slice_index p.depths to)) -ℤ pos (slice_index p.depths node))
     (read : x ≡ get_or t.distances to x) where
@@ -98,7 +99,7 @@ module _ (n : ℕ) (p : Problem) (level count : ℕ) (entering : List ℕ) (a : 
       (omega arith) ∙ ap (distance_at t.distances) at
 
   pub seen_known : x ≤ level + cost → IsSearching p (length p.depths) level (count + 1) entering rest t
-  seen_known l = let k = knows in let c = is in no_shorter p (length p.depths) level count entering a rest t s
+  seen_known l = let k = knows in let c = is in no_shorter s
       (omega arith)
 
   module _ (b : Arrival) (read_arrival : b ≡ get_or t.arrivals node b) (shorter : level + cost < x) where
@@ -125,7 +126,7 @@ module _ (n : ℕ) (p : Problem) (level count : ℕ) (entering : List ℕ) (a : 
     seen_near reached listed zero_cost =
         let tight : rc p a ≡ 0 = (let c = is in omega arith) in
         rw (arrival_is, at, is)
-        (near_way p (length p.depths) level count entering a rest t s are priced.reduced residual short inside
+        (near_way s are priced.reduced residual short inside
         reached (rw (at, is) at listed) tight)
 
     pub seen_far : (queue : List (ℕ × ℕ)) (reached : List ℕ)
@@ -150,16 +151,16 @@ module _ (n : ℕ) (p : Problem) (level count : ℕ) (entering : List ℕ) (a : 
         let more' : IsPermutation ((level + rc p a, head_of p.arcs a) ∷ t.queue) queue = subst
         (λ (q : ℕ × ℕ). IsPermutation (q ∷ t.queue) queue) pair more in
         rw (arrival_is, at, is)
-        (far_way p (length p.depths) level count entering a rest t s are priced.reduced residual short inside
+        (far_way s are priced.reduced residual short inside
         queue reached (rw (at, is) at listed) costs fits more')
 
 -- what the code asks before a look
-pub may_look : (n : ℕ) (p : Problem) (level count : ℕ) (entering : List ℕ) (a : ArcNo) (rest : List ArcNo)
-    (t : Tables)
+pub may_look : {n : ℕ} {p : Problem} {level count : ℕ} {entering : List ℕ} {a : ArcNo} {rest : List ArcNo}
+    {t : Tables}
     → IsSearching p (length p.depths) level count entering (a ∷ rest) t → IsPriced n p.arcs p.flows p.depths
     → (count + 1 < 2 ^ 64) × (level ≤ 2 ^ 60) × ((arrival_at t.arrivals (tail_of p.arcs a)).arcs ≤ 4096)
     × (arc_index a < length p.arcs)
-may_look n p level count entering a rest t s priced =
+may_look {p = p} {a = a} {t = t} s priced =
     let q = s.covered.of_rest a (inl refl) in
     let here = q.2 in
     let top = s.reached.level_in in
@@ -172,16 +173,16 @@ may_look n p level count entering a rest t s priced =
     let limit = priced.network.node_limit in
     let arc_limit = priced.network.arc_limit in
     let deep = priced.deep (tail_of p.arcs a) in
-    let few = few_so_far p (length p.depths) level count entering (a ∷ rest) t s in
+    let few = few_so_far s in
     (omega arith, omega arith, omega arith, q.0)
 
 -- and what it reads of the node's own arrival
-pub few_arcs : (n : ℕ) (p : Problem) (level count : ℕ) (entering : List ℕ) (a : ArcNo) (rest : List ArcNo)
-    (t : Tables) (node : ℕ) (b : Arrival)
+pub few_arcs : {n : ℕ} {p : Problem} {level count : ℕ} {entering : List ℕ} {a : ArcNo} {rest : List ArcNo}
+    {t : Tables} {node : ℕ} {b : Arrival}
     → IsSearching p (length p.depths) level count entering (a ∷ rest) t → IsPriced n p.arcs p.flows p.depths
     → tail_of p.arcs a ≡ node → b ≡ get_or t.arrivals node b → b.arcs ≤ 4096
-few_arcs n p level count entering a rest t node b s priced leaves read =
-    let asks = may_look n p level count entering a rest t s priced in
+few_arcs {p = p} {a = a} {t = t} {node = node} {b = b} s priced leaves read =
+    let asks = may_look s priced in
     let few = asks.2 in
     let are = subst (λ m. AreArcs m p.arcs) (sym priced.size) priced.network.arcs_in in
     let inside = tail_in (length p.depths) p.arcs a are asks.3 in
@@ -191,31 +192,31 @@ few_arcs n p level count entering a rest t node b s priced leaves read =
     rw same few
 
 -- and after it looks are few
-pub look_counts : {L : Type 0} (node_count : L → ℕ) (m m' : Counted L) (q : Query) (level : ℕ)
-    (entering : List ℕ) (a : ArcNo) (rest : List ArcNo) (s : Search)
+pub look_counts : {L : Type 0} {node_count : L → ℕ} {m m' : Counted L} {q : Query} {level : ℕ}
+    {entering : List ℕ} {a : ArcNo} {rest : List ArcNo} {s : Search}
     → Searches node_count m q level entering (a ∷ rest) s → m' ≡ record m { count = m.count + 1 }
     → m'.count ≤ 2 * length m.network.arcs
-look_counts {L = L} node_count m m' q level entering a rest s state e =
-    let few = few_so_far _ _ _ _ _ _ _ state.now in
+look_counts {L = L} state e =
+    let few = few_so_far state.now in
     let n = ap (λ (c : Counted L). c.count) e in
     omega arith
 
 -- of a list of arcs that is looked over from its end the next one
-pub next_arc_of : {L : Type 0} (node_count : L → ℕ) (m : Counted L) (q : Query) (level : ℕ) (xs : List ArcNo)
-    (i : ℕ) (s : Search) → i < length xs
+pub next_arc_of : {L : Type 0} {node_count : L → ℕ} {m : Counted L} {q : Query} {level : ℕ} (xs : List ArcNo)
+    (i : ℕ) {s : Search} → i < length xs
     → Searches node_count m q level [] (take (length xs - i) xs) s
     → Searches node_count m q level []
     (get_or xs (length xs - 1 - i) (Forward 0) ∷ take (length xs - (i + 1)) xs) s
-next_arc_of node_count m q level xs i s l state = record {
+next_arc_of xs i l state = record {
   may = state.may;
-  now = next_from_the_end _ _ _ _ _ xs i _ l state.now;
+  now = next_from_the_end xs i l state.now;
 }
 
 -- the sink is entered next where a look at an arc to it found something to enter
-pub comes_of : {L : Type 0} (node_count : L → ℕ) (m : Counted L) (q : Query) (level : ℕ) (rest : List ArcNo)
-    (s : Search) (found : Option ℕ) → IfSome found (λ v. v ≡ q.sink)
+pub comes_of : {L : Type 0} {node_count : L → ℕ} {m : Counted L} {q : Query} {level : ℕ} {rest : List ArcNo}
+    {s : Search} (found : Option ℕ) → IfSome found (λ v. v ≡ q.sink)
     → Searches node_count m q level (option_list found) rest s
     → ComesTo (is_some found) node_count m q level rest s
-comes_of node_count m q level rest s None lead state = state
-comes_of node_count m q level rest s (Some v) lead state =
+comes_of None lead state = state
+comes_of {node_count = node_count} {m = m} {q = q} {level = level} {rest = rest} {s = s} (Some v) lead state =
     (rest, subst (λ w. Searches node_count m q level (w ∷ []) rest s) lead state)

@@ -36,8 +36,8 @@ use Rattle.shortest_paths.proofs.Cursors.{map_at, inner_moves, matched_moves, po
 use Rattle.shortest_paths.proofs.Settled.{opened}
 
 -- the nearest entry is taken from the queue, while nothing else is left
-module _ (p : Problem) (nodes level count : ℕ) (t : Tables) (s : IsSearching p nodes level count [] [] t)
-    (queue : List (ℕ × ℕ)) (c v : ℕ)
+module _ {p : Problem} {nodes level count : ℕ} {t : Tables} (s : IsSearching p nodes level count [] [] t)
+    {queue : List (ℕ × ℕ)} {c v : ℕ}
     (taken : IsPermutation t.queue ((c, v) ∷ queue)) where
   from_queue : (q : ℕ × ℕ) → Contains t.queue q → ((c, v) ≡ q) ⊎ Contains queue q
   from_queue q h = in_front (c, v) q queue (Contains-permutation t.queue ((c, v) ∷ queue) q taken h)
@@ -154,8 +154,8 @@ module _ (p : Problem) (nodes level count : ℕ) (t : Tables) (s : IsSearching p
       }
 
 -- an arc of rest is looked at: it has no room, or brings nothing, or its end is reached
-module _ (p : Problem) (nodes level count : ℕ) (entering : List ℕ) (a : ArcNo) (rest : List ArcNo)
-    (t : Tables)
+module _ {p : Problem} {nodes level count : ℕ} {entering : List ℕ} {a : ArcNo} {rest : List ArcNo}
+    {t : Tables}
     (s : IsSearching p nodes level count entering (a ∷ rest) t) where
   pub no_way : (IsResidual p.arcs p.flows a → ⊥) → IsSearching p nodes level (count + 1) entering rest t
   no_way full = record {
@@ -293,16 +293,16 @@ module _ (p : Problem) (nodes level count : ℕ) (entering : List ℕ) (a : ArcN
         }
 
 -- looks are few at each moment
-pub few_so_far : (p : Problem) (nodes level count : ℕ) (entering : List ℕ) (rest : List ArcNo) (t : Tables)
+pub few_so_far : {p : Problem} {nodes level count : ℕ} {entering : List ℕ} {rest : List ArcNo} {t : Tables}
     → IsSearching p nodes level count entering rest t
     → count + length rest ≤ 2 * length p.arcs
-few_so_far p nodes level count entering rest t s = let old = s.looks in
+few_so_far {p = p} {t = t} s = let old = s.looks in
     let few = few_looks p.arcs t.settled in omega arith
 
 -- a node that is entered has a place in the tables
-pub entered_inside : (p : Problem) (nodes level count : ℕ) (v : ℕ) (entering : List ℕ) (rest : List ArcNo)
-    (t : Tables) → IsSearching p nodes level count (v ∷ entering) rest t → v < nodes
-entered_inside p nodes level count v entering rest t s =
+pub entered_inside : {p : Problem} {nodes level count : ℕ} {v : ℕ} {entering : List ℕ} {rest : List ArcNo}
+    {t : Tables} → IsSearching p nodes level count (v ∷ entering) rest t → v < nodes
+entered_inside {v = v} {entering = entering} {t = t} s =
     let at = (s.waiting.next v (first_in v entering)).1 in
     let low = s.reached.level_in in
     let size = s.reached.size in
@@ -312,8 +312,8 @@ entered_inside p nodes level count v entering rest t s =
     ]
 
 -- a node that is no source was opened, and its arc to the sink comes first
-pub opened_with : {L : Type 0} (node_count : L → ℕ) (m : Counted L) (q : Query) (level : ℕ) (v : ℕ)
-    (rest : List ArcNo) (s s' : Search) (o : Option ℕ) → Searches node_count m q level (v ∷ []) rest s
+pub opened_with : {L : Type 0} {node_count : L → ℕ} {m : Counted L} {q : Query} {level : ℕ} {v : ℕ}
+    {rest : List ArcNo} {s s' : Search} {o : Option ℕ} → Searches node_count m q level (v ∷ []) rest s
     → (v ≡ q.sink → ⊥) → source_at q.lists.now v ≡ false
     → tables s' ≡ record (tables s) {
       settled = set s.settled.items v true;
@@ -322,16 +322,17 @@ pub opened_with : {L : Type 0} (node_count : L → ℕ) (m : Counted L) (q : Que
       stack = s.stack.items ++ v ∷ [];
     }
     → o ≡ get_or q.lists.now.sink_arcs v None → Searches node_count m q level [] (option_arcs o ++ rest) s'
-opened_with node_count m q level v rest s s' o state not_sink no_source e f = record {
-  may = state.may;
-  now = rw (e, f) (opened (problem m.network q) (length q.potentials.now) level m.count v rest (tables s)
-      state.now state.may.lists (entered_inside _ _ _ _ _ _ _ _ state.now) not_sink no_source);
-}
+opened_with {m = m} {q = q} {level = level} {v = v} {rest = rest} {s = s} state not_sink no_source e f =
+    record {
+      may = state.may;
+      now = rw (e, f) (opened (problem m.network q) (length q.potentials.now) level m.count v rest (tables s)
+          state.now state.may.lists (entered_inside state.now) not_sink no_source);
+    }
 
-pub sink_arc_own : (p : Problem) (v k : ℕ) → AreResidualArcs p.arcs p.flows p.sink p.lists
+pub sink_arc_own : (p : Problem) {v k : ℕ} → AreResidualArcs p.arcs p.flows p.sink p.lists
     → Some k ≡ get_or p.lists.sink_arcs v None
     → (tail_of p.arcs (Forward k) ≡ v) × (head_of p.arcs (Forward k) ≡ p.sink)
-sink_arc_own p v k lists e =
+sink_arc_own p {v = v} {k = k} lists e =
     let i : IsIn (Forward k) (sink_arcs_at p.lists v) = subst (λ o. IsIn (Forward k) (option_arcs o)) e
     (inl refl) in (
       (lists.own v (Forward k) (in_left (Forward k) (sink_arcs_at p.lists v) (stack_arcs p.lists v) i)).1,
@@ -339,18 +340,18 @@ sink_arc_own p v k lists e =
     )
 
 -- a source's arcs end at no source
-pub source_leads_on : (arcs : List FlowArc) (flows : List ℕ) (sink : ℕ) (g : ArcLists) (v : ℕ) (a : ArcNo)
+pub source_leads_on : {arcs : List FlowArc} {flows : List ℕ} {sink : ℕ} {g : ArcLists} {v : ℕ} (a : ArcNo)
     → AreResidualArcs arcs flows sink g → source_at g v ≡ true
     → arc_index a < length arcs → tail_of arcs a ≡ v → source_at g (head_of arcs a) ≡ false
-source_leads_on arcs flows sink g v (Forward k) lists source l e = lists.no_entry k l
-source_leads_on arcs flows sink g v (Reverse k) lists source l e = absurd
+source_leads_on (Forward k) lists source l e = lists.no_entry k l
+source_leads_on {g = g} (Reverse k) lists source l e = absurd
     (false≢true (sym (lists.no_entry k l) ∙ ap (source_at g) e ∙ source))
 
 -- a node on the stack has a place in the tables
-pub stack_inside : (p : Problem) (nodes level count : ℕ) (entering : List ℕ) (rest : List ArcNo) (t : Tables)
-    (u : ℕ) → IsSearching p nodes level count entering rest t
+pub stack_inside : {p : Problem} {nodes level count : ℕ} {entering : List ℕ} {rest : List ArcNo} {t : Tables}
+    {u : ℕ} → IsSearching p nodes level count entering rest t
     → Contains t.stack u → u < nodes
-stack_inside p nodes level count entering rest t u s on =
+stack_inside {t = t} {u = u} s on =
     let m = (s.covered.on_stack u on).0 in
     let size = s.reached.settled_size in
     elim (cases_lt u (length t.settled)) [
@@ -359,22 +360,22 @@ stack_inside p nodes level count entering rest t u s on =
     ]
 
 -- a node on top of the stack has a place in the tables, and cursors within its lists
-pub top_inside : (p : Problem) (nodes level count : ℕ) (t : Tables) (stack : List ℕ) (u : ℕ)
+pub top_inside : {p : Problem} {nodes level count : ℕ} {t : Tables} (stack : List ℕ) {u : ℕ}
     → IsSearching p nodes level count [] [] t → t.stack ≡ stack ++ u ∷ []
     → (u < nodes) × AreCursors p.lists t u
-top_inside p nodes level count t stack u s e =
+top_inside {t = t} stack {u = u} s e =
     let on : Contains t.stack u = rw e (Contains-push stack u) in
-    (stack_inside p nodes level count [] [] t u s on, s.covered.cursors u on)
+    (stack_inside s on, s.covered.cursors u on)
 
 -- its next arc is taken from a list of its own
-pub turns : {L : Type 0} (node_count : L → ℕ) (m : Counted L) (q : Query) (level : ℕ) (s s' : Search)
-    (stack : List ℕ) (u : ℕ) (a : ArcNo) → Searches node_count m q level [] [] s
+pub turns : {L : Type 0} {node_count : L → ℕ} {m : Counted L} {q : Query} {level : ℕ} {s : Search}
+    (s' : Search) (stack : List ℕ) {u : ℕ} {a : ArcNo} → Searches node_count m q level [] [] s
     → s.stack.items ≡ stack ++ u ∷ [] → IsNextArc q.lists.now u (tables s) (Some a) (tables s')
     → Searches node_count m q level [] (a ∷ []) s' × (tail_of m.network.arcs a ≡ u)
-turns node_count m q level s s' stack u a state e (inl inner) =
+turns {m = m} {q = q} {level = level} {s = s} s' stack {u = u} state e (inl inner) =
     let p = problem m.network q in
     let lists = state.may.lists in
-    let here = top_inside _ _ _ _ _ _ _ state.now e in
+    let here = top_inside _ state.now e in
     let few = here.1.0 in
     let left = inner.1 in
     let moved = inner_moves p (length q.potentials.now) level m.count [] [] (tables s) state.now lists u
@@ -385,10 +386,10 @@ turns node_count m q level s s' stack u a state e (inl inner) =
       record { may = state.may; now = rw (inner.3, inner.2) moved },
       rw inner.2 (lists.own u (get_or (inner_at p.lists u) inner.0 (Forward 0)) own).1,
     )
-turns node_count m q level s s' stack u a state e (inr matched) =
+turns {m = m} {q = q} {level = level} {s = s} s' stack {u = u} state e (inr matched) =
     let p = problem m.network q in
     let lists = state.may.lists in
-    let here = top_inside _ _ _ _ _ _ _ state.now e in
+    let here = top_inside _ state.now e in
     let few = here.1.1 in
     let left = matched.1 in
     let moved = matched_moves p (length q.potentials.now) level m.count [] [] (tables s) state.now lists u
@@ -410,19 +411,20 @@ last_same (x ∷ xs) (y ∷ ys) a b e = last_same xs ys a b (let q : x ∷ (xs +
     ≡ y ∷ (ys ++ b ∷ []) = e in cc)
 
 -- what a pop leaves
-pub popped_by : (p : Problem) (nodes level count : ℕ) (t : Tables) (front stack : List ℕ) (u : ℕ)
+pub popped_by : {p : Problem} {nodes level count : ℕ} {t : Tables} (front stack : List ℕ) (u : ℕ)
     (o : Option ℕ) → t.stack ≡ front ++ u ∷ [] → t.stack ≡ stack ++ option_to_list o
     → get_or t.left u 0 ≡ 0 → get_or t.left_matched u 0 ≡ 0 → IsSearching p nodes level count [] [] t
     → IsSearching p nodes level count [] [] (record t { stack = stack })
-popped_by p nodes level count t front stack u None e f none none_matched s =
+popped_by {p = p} {nodes = nodes} {level = level} {count = count} {t = t} front stack u None e f none
+    none_matched s =
     subst (λ (xs : List ℕ). IsSearching p nodes level count [] [] (record t { stack = xs })) (f ∙ nil stack) s
   where
     nil : (xs : List ℕ) → xs ++ [] ≡ xs
     nil [] = refl
     nil (x ∷ xs) = ap (λ ys. x ∷ ys) (nil xs)
-popped_by p nodes level count t front stack u (Some v) e f none none_matched s =
+popped_by {t = t} front stack u (Some v) e f none none_matched s =
     let same : u ≡ v = last_same front stack u v (sym e ∙ f) in
-    popped p nodes level count [] [] t stack v f (rw (← same) none) (rw (← same) none_matched) s
+    popped _ _ _ _ [] [] t stack v f (rw (← same) none) (rw (← same) none_matched) s
 
 top_at : (xs : List ℕ) (v n : ℕ) → suc n ≡ length xs → Some v ≡ slice_get xs n
     → (front : List ℕ) × (xs ≡ front ++ v ∷ [])
@@ -440,10 +442,10 @@ top_of [] v e = absurd (let q : Some v ≡ None = e in cc)
 top_of (x ∷ xs) v e = top_at (x ∷ xs) v (length (x ∷ xs) - 1) (omega arith) e
 
 -- of the arcs that are still to be looked at, the last is taken
-pub from_the_end : (p : Problem) (nodes level count : ℕ) (entering : List ℕ) (a : ArcNo) (rest : List ArcNo)
-    (t : Tables) → IsSearching p nodes level count entering (rest ++ a ∷ []) t
+pub from_the_end : {p : Problem} {nodes level count : ℕ} {entering : List ℕ} (a : ArcNo) (rest : List ArcNo)
+    {t : Tables} → IsSearching p nodes level count entering (rest ++ a ∷ []) t
     → IsSearching p nodes level count entering (a ∷ rest) t
-from_the_end p nodes level count entering a rest t s =
+from_the_end a rest s =
     let size = length-append rest (a ∷ []) in
     let old = s.looks in
     record {
@@ -476,16 +478,17 @@ from_the_end p nodes level count entering a rest t s =
     ]
 
 -- a list of arcs is looked over from its end
-pub next_from_the_end : (p : Problem) (nodes level count : ℕ) (entering : List ℕ) (xs : List ArcNo) (i : ℕ)
-    (t : Tables) → i < length xs
+pub next_from_the_end : {p : Problem} {nodes level count : ℕ} {entering : List ℕ} (xs : List ArcNo) (i : ℕ)
+    {t : Tables} → i < length xs
     → IsSearching p nodes level count entering (take (length xs - i) xs) t
     → IsSearching p nodes level count entering
     (get_or xs (length xs - 1 - i) (Forward 0) ∷ take (length xs - (i + 1)) xs) t
-next_from_the_end p nodes level count entering xs i t l s =
+next_from_the_end {p = p} {nodes = nodes} {level = level} {count = count} {entering = entering} xs i {t = t} l
+    s =
     let k : ℕ = length xs - (i + 1) in
     let size : length xs - i ≡ k + 1 = omega arith in
     let place : length xs - 1 - i ≡ k = omega arith in
     let parts : take (length xs - i) xs ≡ take k xs ++ get_or xs k (Forward 0) ∷ [] =
     ap (λ n. take n xs) size ∙ take_more xs k (Forward 0) (omega arith) in
-    rw place (from_the_end p nodes level count entering (get_or xs k (Forward 0)) (take k xs) t
+    rw place (from_the_end (get_or xs k (Forward 0)) (take k xs)
     (subst (λ ys. IsSearching p nodes level count entering ys t) parts s))

@@ -6,7 +6,7 @@ pub invariant_of-result : goal.invariant_of-result
 invariant_of-result g c =
     let size = ap length c.depths-nodes.ensures.depths in
     let past : length c.args.potentials.now ≤ length c.depths-nodes.result.now = omega arith in
-    (finds_all _ _ _ _ _ past (record {
+    (finds_all _ _ past (record {
       network = c.limits.ensures;
       size = c.requires.nodes;
       deep = c.depths-nodes.ensures.most;
@@ -17,7 +17,7 @@ pub returns-clause-size : goal.returns-clause-size
 returns-clause-size g c =
     let size = ap length c.depths-nodes.ensures.depths in
     let past : length c.args.potentials.now ≤ length c.depths-nodes.result.now = omega arith in
-    (finds_all _ _ _ _ _ past (record {
+    (finds_all _ _ past (record {
       network = c.limits.ensures;
       size = c.requires.nodes;
       deep = c.depths-nodes.ensures.most;
@@ -28,7 +28,7 @@ pub returns-clause-least : goal.returns-clause-least
 returns-clause-least g c =
     let size = ap length c.depths-nodes.ensures.depths in
     let past : length c.args.potentials.now ≤ length c.depths-nodes.result.now = omega arith in
-    (finds_all _ _ _ _ _ past (record {
+    (finds_all _ _ past (record {
       network = c.limits.ensures;
       size = c.requires.nodes;
       deep = c.depths-nodes.ensures.most;

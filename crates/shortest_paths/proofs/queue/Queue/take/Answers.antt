@@ -24,7 +24,8 @@ pub returns-clause-nearest : goal.returns-clause-nearest
 returns-clause-nearest c =
     rw (← c.self.view_is) (All-permutation (λ (q : ℕ × ℕ). c.in_ok-distance.field-0-0.0 ≤ q.0) _ _
     (IsPermutation-map pair_of _ _ (IsPermutation-sym _ _ c.take_in.ensures.all))
-    (nearest_of _ _ (c.in_ok-distance.ensures.heap_order (c.take_in.ensures.heap_order c.self.invariant.0)).1))
+    (nearest_of _ _
+    (c.in_ok-distance.ensures.heap_order (c.take_in.ensures.heap_order c.self.invariant.0)).1))
 
 pub returns-in_err-distance-clause-empty : goal.returns-in_err-distance-clause-empty
 returns-in_err-distance-clause-empty c =

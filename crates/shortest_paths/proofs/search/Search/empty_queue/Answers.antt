@@ -10,21 +10,21 @@ use Rattle.shortest_paths.proofs.search.Search.empty_queue.Goals as goal
 pub index-requires : goal.index-requires
 index-requires g c =
     let s = c.nodes.invariant.state.1 in
-    let inside = entry_inside _ _ _ _ _ s.now _ _ _ c.in-Some.ensures.taken in
+    let inside = entry_inside s.now c.in-Some.ensures.taken in
     let size = s.now.reached.settled_size in
     omega arith
 
 pub settle-requires : goal.settle-requires
 settle-requires g c =
     let s = c.nodes.invariant.state.1 in
-    let inside = entry_inside _ _ _ _ _ s.now _ _ _ c.in-Some.ensures.taken in
+    let inside = entry_inside s.now c.in-Some.ensures.taken in
     let size = s.now.reached.settled_size in
     let mark = c.index.ensures ∙ get_or_default c.nodes.self.settled.items c.in-Some.node c.index.result.now
     false (omega arith) in
     record {
       state = record {
         may = s.may;
-        now = advanced _ _ _ _ _ s.now _ _ _ c.in-Some.ensures.taken (sym mark ∙ c.if-index.false)
+        now = advanced s.now c.in-Some.ensures.taken (sym mark ∙ c.if-index.false)
             c.in-Some.ensures.nearest c.nodes.invariant.empty;
       };
     }
@@ -41,7 +41,7 @@ nodes-smaller-then-index g c =
 pub nodes-preserved-then-index : goal.nodes-preserved-then-index
 nodes-preserved-then-index g c =
     let s = c.nodes.invariant.state.1 in
-    let inside = entry_inside _ _ _ _ _ s.now _ _ _ c.in-Some.ensures.taken in
+    let inside = entry_inside s.now c.in-Some.ensures.taken in
     let size = s.now.reached.settled_size in
     let mark = c.index.ensures ∙ get_or_default c.nodes.self.settled.items c.in-Some.node c.index.result.now
     false (omega arith) in
@@ -52,14 +52,14 @@ nodes-preserved-then-index g c =
         c.nodes.invariant.state.0,
         record {
           may = s.may;
-          now = passed _ _ _ _ _ s.now _ _ _ c.in-Some.ensures.taken (sym mark ∙ c.if-index.true);
+          now = passed s.now c.in-Some.ensures.taken (sym mark ∙ c.if-index.true);
         },
       );
     }
 
 pub nodes-smaller : goal.nodes-smaller
 nodes-smaller g c =
-    let few = few_so_far _ _ _ _ _ _ _ c.nodes.invariant.state.1.now in
+    let few = few_so_far c.nodes.invariant.state.1.now in
     let size = length_permutation _ _ c.in-Some.ensures.taken in
     let network = ap (λ (f : Flow g.row.L.Denot). length f.arcs) c.nodes.invariant.network in
     let most = c.settle.ensures.steps in
@@ -97,6 +97,6 @@ returns-clause-ends g c =
 
 pub returns-clause-steps : goal.returns-clause-steps
 returns-clause-steps g c =
-    let few = few_so_far _ _ _ _ _ _ _ c.nodes.invariant.state.1.now in
+    let few = few_so_far c.nodes.invariant.state.1.now in
     let network = ap (λ (f : Flow g.row.L.Denot). length f.arcs) c.nodes.invariant.network in
     omega arith

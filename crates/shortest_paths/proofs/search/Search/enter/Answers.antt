@@ -4,6 +4,6 @@ use Rattle.shortest_paths.proofs.search.Search.enter.Goals as goal
 
 pub is_source-requires : goal.is_source-requires
 is_source-requires g c =
-    let inside = entered_inside _ _ _ _ _ _ _ _ c.requires.state.now in
+    let inside = entered_inside c.requires.state.now in
     let size = c.requires.state.may.sized.sources in
     omega arith

@@ -10,77 +10,77 @@ use Rattle.shortest_paths.proofs.search.Search.look.Goals as goal
 
 pub look-look-requires-clause-count : goal.look-look-requires-clause-count
 look-look-requires-clause-count g c =
-    (may_look _ _ _ _ _ _ _ _ c.requires.state.1.now c.requires.state.1.may.priced).0
+    (may_look c.requires.state.1.now c.requires.state.1.may.priced).0
 
 pub returns-then-look-eq0-clause-goes : goal.returns-then-look-eq0-clause-goes
 returns-then-look-eq0-clause-goes g c = λ rest s.
     rw c.look-look.ensures.counted (record {
       may = s.may;
-      now = no_way _ _ _ _ _ _ _ _ s.now (λ r. absurd (let room = r.room in
+      now = no_way s.now (λ r. absurd (let room = r.room in
           let is = c.look-look.ensures.residual in let none = c.if-look-eq0.true in omega arith));
     })
 
 pub returns-then-look-eq0-clause-steps : goal.returns-then-look-eq0-clause-steps
 returns-then-look-eq0-clause-steps g c =
-    look_counts _ _ _ _ _ _ _ _ _ c.requires.state.1 c.look-look.ensures.counted
+    look_counts c.requires.state.1 c.look-look.ensures.counted
 
 pub returns-then-distance-index-clause-steps : goal.returns-then-distance-index-clause-steps
 returns-then-distance-index-clause-steps g c =
-    look_counts _ _ _ _ _ _ _ _ _ c.requires.state.1 c.look-look.ensures.counted
+    look_counts c.requires.state.1 c.look-look.ensures.counted
 
 pub returns-in_err-reach-clause-steps : goal.returns-in_err-reach-clause-steps
 returns-in_err-reach-clause-steps g c =
-    look_counts _ _ _ _ _ _ _ _ _ c.requires.state.1 c.look-look.ensures.counted
+    look_counts c.requires.state.1 c.look-look.ensures.counted
 
 pub returns-then-cost-eq0-clause-steps : goal.returns-then-cost-eq0-clause-steps
 returns-then-cost-eq0-clause-steps g c =
-    look_counts _ _ _ _ _ _ _ _ _ c.requires.state.1 c.look-look.ensures.counted
+    look_counts c.requires.state.1 c.look-look.ensures.counted
 
 pub returns-in_err-put-clause-steps : goal.returns-in_err-put-clause-steps
 returns-in_err-put-clause-steps g c =
-    look_counts _ _ _ _ _ _ _ _ _ c.requires.state.1 c.look-look.ensures.counted
+    look_counts c.requires.state.1 c.look-look.ensures.counted
 
 pub returns-clause-steps : goal.returns-clause-steps
-returns-clause-steps g c = look_counts _ _ _ _ _ _ _ _ _ c.requires.state.1 c.look-look.ensures.counted
+returns-clause-steps g c = look_counts c.requires.state.1 c.look-look.ensures.counted
 
 pub reduced-cost-requires-clause-to : goal.reduced-cost-requires-clause-to
 reduced-cost-requires-clause-to g c =
-    let o = is_open _ _ _ _ _ _ _ _ _ _ _ c.requires.state.1 c.requires.leaves c.look-look.ensures.to
+    let o = is_open c.requires.state.1 c.requires.leaves c.look-look.ensures.to
     c.look-look.ensures.residual c.look-look.ensures.cost c.if-look-eq0.false in
     o.inside
 
 pub reduced-cost-requires-clause-low : goal.reduced-cost-requires-clause-low
 reduced-cost-requires-clause-low g c =
-    let o = is_open _ _ _ _ _ _ _ _ _ _ _ c.requires.state.1 c.requires.leaves c.look-look.ensures.to
+    let o = is_open c.requires.state.1 c.requires.leaves c.look-look.ensures.to
     c.look-look.ensures.residual c.look-look.ensures.cost c.if-look-eq0.false in
     o.low
 
 pub reduced-cost-requires-clause-high : goal.reduced-cost-requires-clause-high
 reduced-cost-requires-clause-high g c =
-    let o = is_open _ _ _ _ _ _ _ _ _ _ _ c.requires.state.1 c.requires.leaves c.look-look.ensures.to
+    let o = is_open c.requires.state.1 c.requires.leaves c.look-look.ensures.to
     c.look-look.ensures.residual c.look-look.ensures.cost c.if-look-eq0.false in
     o.high
 
 pub reduced-cost-requires-clause-reduced : goal.reduced-cost-requires-clause-reduced
 reduced-cost-requires-clause-reduced g c =
-    let o = is_open _ _ _ _ _ _ _ _ _ _ _ c.requires.state.1 c.requires.leaves c.look-look.ensures.to
+    let o = is_open c.requires.state.1 c.requires.leaves c.look-look.ensures.to
     c.look-look.ensures.residual c.look-look.ensures.cost c.if-look-eq0.false in
     o.reduced
 
 pub overflow_add-distance : goal.overflow_add-distance
 overflow_add-distance g c =
-    let o = is_open _ _ _ _ _ _ _ _ _ _ _ c.requires.state.1 c.requires.leaves c.look-look.ensures.to
+    let o = is_open c.requires.state.1 c.requires.leaves c.look-look.ensures.to
     c.look-look.ensures.residual c.look-look.ensures.cost c.if-look-eq0.false in
     let low = o.low in
     let high = o.high in
-    let level = (may_look _ _ _ _ _ _ _ _ c.requires.state.1.now c.requires.state.1.may.priced).1 in
+    let level = (may_look c.requires.state.1.now c.requires.state.1.may.priced).1 in
     let deep = c.requires.state.1.may.priced.deep c.look-look.result.to in
     let is = c.reduced-cost.ensures in
     omega (arith, ints)
 
 pub index-requires : goal.index-requires
 index-requires g c =
-    let o = is_open _ _ _ _ _ _ _ _ _ _ _ c.requires.state.1 c.requires.leaves c.look-look.ensures.to
+    let o = is_open c.requires.state.1 c.requires.leaves c.look-look.ensures.to
     c.look-look.ensures.residual c.look-look.ensures.cost c.if-look-eq0.false in
     let inside = o.inside in
     let size = c.requires.state.1.now.reached.size in
@@ -88,13 +88,13 @@ index-requires g c =
 
 pub overflow_add-arcs : goal.overflow_add-arcs
 overflow_add-arcs g c =
-    let few = few_arcs _ _ _ _ _ _ _ _ _ _ c.requires.state.1.now c.requires.state.1.may.priced
+    let few = few_arcs c.requires.state.1.now c.requires.state.1.may.priced
     c.requires.leaves c.index-2.ensures in
     omega arith
 
 pub reach-requires-clause-distances : goal.reach-requires-clause-distances
 reach-requires-clause-distances g c =
-    let o = is_open _ _ _ _ _ _ _ _ _ _ _ c.requires.state.1 c.requires.leaves c.look-look.ensures.to
+    let o = is_open c.requires.state.1 c.requires.leaves c.look-look.ensures.to
     c.look-look.ensures.residual c.look-look.ensures.cost c.if-look-eq0.false in
     let inside = o.inside in
     let size = c.requires.state.1.now.reached.size in
@@ -102,7 +102,7 @@ reach-requires-clause-distances g c =
 
 pub reach-requires-clause-arrivals : goal.reach-requires-clause-arrivals
 reach-requires-clause-arrivals g c =
-    let o = is_open _ _ _ _ _ _ _ _ _ _ _ c.requires.state.1 c.requires.leaves c.look-look.ensures.to
+    let o = is_open c.requires.state.1 c.requires.leaves c.look-look.ensures.to
     c.look-look.ensures.residual c.look-look.ensures.cost c.if-look-eq0.false in
     let inside = o.inside in
     let size = c.requires.state.1.now.reached.arrivals_size in
@@ -110,37 +110,36 @@ reach-requires-clause-arrivals g c =
 
 pub returns-then-distance-index-clause-goes : goal.returns-then-distance-index-clause-goes
 returns-then-distance-index-clause-goes g c = λ rest s.
-    let o = is_open _ _ _ _ _ _ _ _ _ _ _ s c.requires.leaves c.look-look.ensures.to
+    let o = is_open s c.requires.leaves c.look-look.ensures.to
     c.look-look.ensures.residual c.look-look.ensures.cost c.if-look-eq0.false in
     rw c.look-look.ensures.counted (record {
       may = s.may;
-      now = seen_known _ _ _ _ _ _ _ _ s.now s.may.priced o.residual _ _ _ _ c.requires.leaves
-          c.look-look.ensures.to (rw c.look-look.ensures.cost at c.reduced-cost.ensures) c.index.ensures
-          c.if-distance-index.true;
+      now = seen_known s.now s.may.priced o.residual c.requires.leaves c.look-look.ensures.to
+          (rw c.look-look.ensures.cost at c.reduced-cost.ensures) c.index.ensures c.if-distance-index.true;
     })
 
 pub returns-then-cost-eq0-clause-goes : goal.returns-then-cost-eq0-clause-goes
 returns-then-cost-eq0-clause-goes g c = λ rest s.
-    let o = is_open _ _ _ _ _ _ _ _ _ _ _ s c.requires.leaves c.look-look.ensures.to
+    let o = is_open s c.requires.leaves c.look-look.ensures.to
     c.look-look.ensures.residual c.look-look.ensures.cost c.if-look-eq0.false in
     rw c.look-look.ensures.counted (record {
       may = s.may;
-      now = rw c.in_ok-reach.ensures.tables (seen_near _ _ _ _ _ _ _ _ s.now s.may.priced o.residual _ _ _ _
-          c.requires.leaves c.look-look.ensures.to (rw c.look-look.ensures.cost at c.reduced-cost.ensures)
-          c.index.ensures c.index-2.result.now c.index-2.ensures c.if-distance-index.false
-          c.reach.new.self.reached.items (c.in_ok-reach.ensures.listed s.now.listed) c.if-cost-eq0.true);
+      now = rw c.in_ok-reach.ensures.tables (seen_near s.now s.may.priced o.residual c.requires.leaves
+          c.look-look.ensures.to (rw c.look-look.ensures.cost at c.reduced-cost.ensures) c.index.ensures
+          c.index-2.result.now c.index-2.ensures c.if-distance-index.false c.reach.new.self.reached.items
+          (c.in_ok-reach.ensures.listed s.now.listed) c.if-cost-eq0.true);
     })
 
 pub returns-clause-goes : goal.returns-clause-goes
 returns-clause-goes g c = λ rest s.
-    let o = is_open _ _ _ _ _ _ _ _ _ _ _ s c.requires.leaves c.look-look.ensures.to
+    let o = is_open s c.requires.leaves c.look-look.ensures.to
     c.look-look.ensures.residual c.look-look.ensures.cost c.if-look-eq0.false in
     let e = c.in_ok-reach.ensures.tables in
     let more = rw (ap (λ (t : Tables). t.queue) e) at c.in_ok-put.ensures in
-    let after = seen_far _ _ _ _ _ _ _ _ s.now s.may.priced o.residual _ _ _ _ c.requires.leaves
-    c.look-look.ensures.to (rw c.look-look.ensures.cost at c.reduced-cost.ensures) c.index.ensures
-    c.index-2.result.now c.index-2.ensures c.if-distance-index.false c.put.new.self
-    c.reach.new.self.reached.items (c.in_ok-reach.ensures.listed s.now.listed) c.if-cost-eq0.false more in
+    let after = seen_far s.now s.may.priced o.residual c.requires.leaves c.look-look.ensures.to
+    (rw c.look-look.ensures.cost at c.reduced-cost.ensures) c.index.ensures c.index-2.result.now
+    c.index-2.ensures c.if-distance-index.false c.put.new.self c.reach.new.self.reached.items
+    (c.in_ok-reach.ensures.listed s.now.listed) c.if-cost-eq0.false more in
     rw c.look-look.ensures.counted (record {
       may = s.may;
       now = subst (λ (t : Tables). IsSearching (problem c.args.meter.now.network c.args.query.now)

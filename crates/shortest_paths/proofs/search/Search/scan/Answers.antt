@@ -26,7 +26,7 @@ loop-i-init g c =
       network = refl;
       state = record {
         may = s.may;
-        now = rw all (scanned _ _ _ _ _ _ _ s.now s.may.lists (entered_inside _ _ _ _ _ _ _ _ s.now) apart
+        now = rw all (scanned _ _ _ _ _ _ _ s.now s.may.lists (entered_inside s.now) apart
             refl);
       };
       counted = omega arith;
@@ -51,7 +51,7 @@ pass-requires-clause-no_source g c =
     let held = subst (λ ys. IsIn (get_or xs k (Forward 0)) ys) c.leaving-arcs.ensures here in
     let own = (each_arc _ _ _).1 held in
     rw c.loop-i.invariant.network
-    (source_leads_on _ _ _ _ _ _ c.requires.state.may.lists c.requires.source own.0 own.1)
+    (source_leads_on _ c.requires.state.may.lists c.requires.source own.0 own.1)
 
 pub pass-requires-clause-state : goal.pass-requires-clause-state
 pass-requires-clause-state g c =
@@ -59,7 +59,7 @@ pass-requires-clause-state g c =
     let xs : List ArcNo = leaving_of c.args.meter.now.network.arcs c.args.node in
     let inside : c.loop-i.i < length xs = subst (λ ys. c.loop-i.i < length ys) same c.loop-i-test.true in (
       take (length xs - (c.loop-i.i + 1)) xs,
-      rw same (next_arc_of _ _ _ _ xs c.loop-i.i _ inside c.loop-i.invariant.state),
+      rw same (next_arc_of xs c.loop-i.i inside c.loop-i.invariant.state),
     )
 
 pub loop-i-preserved : goal.loop-i-preserved
@@ -72,7 +72,7 @@ loop-i-preserved g c =
     record {
       network = c.pass.ensures.network ∙ c.loop-i.invariant.network;
       state = goes (take (length xs - (c.loop-i.i + 1)) xs)
-          (next_arc_of _ _ _ _ xs c.loop-i.i _ inside c.loop-i.invariant.state);
+          (next_arc_of xs c.loop-i.i inside c.loop-i.invariant.state);
       counted = (let old = c.loop-i.invariant.counted in let more = c.pass.ensures.counted in omega arith);
       spends = (let old = c.loop-i.invariant.spends in omega arith);
     }
@@ -84,7 +84,7 @@ returns-then-branch-clause-goes g c =
     let inside : c.loop-i.i < length xs = subst (λ ys. c.loop-i.i < length ys) same c.loop-i-test.true in
     let goes = rw (c.if-branch.true, same) at c.in_ok-pass.ensures.goes in
     goes (take (length xs - (c.loop-i.i + 1)) xs)
-    (next_arc_of _ _ _ _ xs c.loop-i.i _ inside c.loop-i.invariant.state)
+    (next_arc_of xs c.loop-i.i inside c.loop-i.invariant.state)
 
 pub returns-clause-goes : goal.returns-clause-goes
 returns-clause-goes g c =
@@ -97,6 +97,6 @@ returns-clause-goes g c =
 
 pub returns-clause-steps : goal.returns-clause-steps
 returns-clause-steps g c =
-    let few = few_so_far _ _ _ _ _ _ _ c.loop-i.invariant.state.now in
+    let few = few_so_far c.loop-i.invariant.state.now in
     let same = ap (λ (f : Flow g.row.L.Denot). length f.arcs) c.loop-i.invariant.network in
     omega arith

@@ -6,22 +6,20 @@ use Rattle.shortest_paths.proofs.search.Search.turn.Goals as goal
 
 pub next_arc-requires-clause-node : goal.next_arc-requires-clause-node
 next_arc-requires-clause-node g c =
-    let here = top_inside _ _ _ _ _ _ _ c.requires.state.now c.requires.top.1 in
+    let here = top_inside _ c.requires.state.now c.requires.top.1 in
     let inside = here.0 in
     let size = c.requires.state.now.left_size in
     omega arith
 
 pub next_arc-requires-clause-cursors : goal.next_arc-requires-clause-cursors
-next_arc-requires-clause-cursors g c = (top_inside _ _ _ _ _ _ _ c.requires.state.now c.requires.top.1).1
+next_arc-requires-clause-cursors g c = (top_inside _ c.requires.state.now c.requires.top.1).1
 
 pub step-requires-clause-leaves : goal.step-requires-clause-leaves
-step-requires-clause-leaves g c = (turns _ _ _ _ _ c.next_arc.new.self
-    c.requires.top.0 _ _ c.requires.state c.requires.top.1
+step-requires-clause-leaves g c = (turns c.next_arc.new.self _ c.requires.state c.requires.top.1
     (rw c.in-Some.is at c.next_arc.ensures)).1
 
 pub step-requires-clause-state : goal.step-requires-clause-state
-step-requires-clause-state g c = (turns _ _ _ _ _ c.next_arc.new.self
-    c.requires.top.0 _ _ c.requires.state c.requires.top.1
+step-requires-clause-state g c = (turns c.next_arc.new.self _ c.requires.state c.requires.top.1
     (rw c.in-Some.is at c.next_arc.ensures)).0
 
 pub returns-clause-goes : goal.returns-clause-goes
@@ -34,9 +32,9 @@ returns-clause-goes g c =
       now = subst (λ (t : Tables). IsSearching (problem c.args.meter.now.network c.args.query.now)
           (length c.args.query.now.potentials.now) c.args.level c.args.meter.now.count [] []
           (record t { stack = c.pop.new.self.items })) (sym none.2)
-          (popped_by _ _ _ _ _ c.requires.top.0 c.pop.new.self.items c.args.node c.pop.result
+          (popped_by c.requires.top.0 c.pop.new.self.items c.args.node c.pop.result
           c.requires.top.1 (sym stack ∙ c.pop.ensures.items) none.0 none.1 s.now);
     }
 
 pub returns-clause-steps : goal.returns-clause-steps
-returns-clause-steps g c = let few = few_so_far _ _ _ _ _ _ _ c.requires.state.now in omega arith
+returns-clause-steps g c = let few = few_so_far c.requires.state.now in omega arith
