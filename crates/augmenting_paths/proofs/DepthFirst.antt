@@ -52,11 +52,11 @@ trail_begins arcs flows h closed time s l = record {
   ends = λ k o. absurd o;
 }
 
-pub trail_goes_on : (arcs : List FlowArc) (flows : List ℕ) (h : ℕ → ℕ) (closed : List ℕ) (time s v : ℕ)
-    (path : List ArcNo) (a : ArcNo) → IsTrail arcs flows h closed time s v path
+pub trail_goes_on : {arcs : List FlowArc} {flows : List ℕ} {h : ℕ → ℕ} {closed : List ℕ} {time s v : ℕ}
+    {path : List ArcNo} {a : ArcNo} → IsTrail arcs flows h closed time s v path
     → GoesOn arcs flows h closed time v a → head_of arcs a < length closed
     → IsTrail arcs flows h (set closed (head_of arcs a) time) time s (head_of arcs a) (path ++ a ∷ [])
-trail_goes_on arcs flows h closed time s v path a trail on l =
+trail_goes_on {arcs} {flows} {h} {closed} {time} {s} {v} {path} {a} trail on l =
     let stays : (w : ℕ) → slice_index closed w ≡ time
     → slice_index (set closed (head_of arcs a) time) w ≡ time =
     λ w. stays_closed closed time (head_of arcs a) w l in
@@ -75,20 +75,20 @@ trail_goes_on arcs flows h closed time s v path a trail on l =
       ];
     }
 
-pub trail_goes_back : (arcs : List FlowArc) (flows : List ℕ) (h : ℕ → ℕ) (closed : List ℕ) (time s v : ℕ)
+pub trail_goes_back : {arcs : List FlowArc} {flows : List ℕ} {h : ℕ → ℕ} {closed : List ℕ} {time s v : ℕ}
     (path : List ArcNo) (a : ArcNo) → IsTrail arcs flows h closed time s v (path ++ a ∷ [])
     → IsTrail arcs flows h closed time s (tail_of arcs a) path
-trail_goes_back arcs flows h closed time s v path a trail = record {
+trail_goes_back {arcs} {flows} {h} {closed} {time} {s} {v} path a trail = record {
   way = tight_pop arcs flows h s v path a trail.way;
   here = tail_closed arcs closed time a (trail.ends (arc_index a) (GoesOver-last a path));
   ends = λ k o. trail.ends k (GoesOver-before k a path o);
 }
 
 -- the arcs of the lists leave their nodes
-pub own_of : (arcs : List FlowArc) (v : ℕ) (a : ArcNo) → IsIn a (leaving_of arcs v) → IsOf arcs v a
-own_of arcs v a i = let o = (each_arc arcs v a).1 i in record { listed = o.0; from = o.1 }
+pub own_of : {arcs : List FlowArc} {v : ℕ} (a : ArcNo) → IsIn a (leaving_of arcs v) → IsOf arcs v a
+own_of {arcs = arcs} {v = v} a i = let o = (each_arc arcs v a).1 i in record { listed = o.0; from = o.1 }
 
-module _ (arcs : List FlowArc) (flows : List ℕ) (sink : ℕ) (g : ArcLists) (v : ℕ)
+module _ {arcs : List FlowArc} {flows : List ℕ} {sink : ℕ} {g : ArcLists} (v : ℕ)
     (lists : AreResidualArcs arcs flows sink g) where
   pub inner_of : (a : ArcNo) → IsIn a (inner_at g v) → IsOf arcs v a
   inner_of a i = let o = lists.own v a (in_right a (sink_arcs_at g v) (stack_arcs g v)

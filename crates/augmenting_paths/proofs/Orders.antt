@@ -35,7 +35,7 @@ place xs ys p k l =
     (k, l, get_or_default ys k (get_or ys k 0) 0 l) in
     (c.0, c.1, get_or_default xs c.0 0 (get_or ys k 0) c.1 ∙ c.2)
 
-module _ (nodes : ℕ) (arcs : List FlowArc) (xs ys : List ℕ) (sink : ℕ) (p : IsPermutation xs ys)
+module _ {nodes : ℕ} {arcs : List FlowArc} {xs ys : List ℕ} {sink : ℕ} (p : IsPermutation xs ys)
     (can : CanShip nodes arcs xs sink) where
   apart : IsDistinct nat_eq ys
   apart = IsDistinct-IsPermutation nat_eq nat_eq_equiv.symm xs ys p
@@ -78,10 +78,10 @@ module _ (nodes : ℕ) (arcs : List FlowArc) (xs ys : List ℕ) (sink : ℕ) (p 
   }
 
 -- what was shipped in one order was shipped in the other
-pub order_shipped : (arcs : List FlowArc) (xs ys : List ℕ) (sink : ℕ) (flows : List ℕ) (h : ℕ → ℕ)
+pub order_shipped : {arcs : List FlowArc} {xs ys : List ℕ} {sink : ℕ} {flows : List ℕ} {h : ℕ → ℕ}
     → IsPermutation xs ys → HasShipped arcs ys sink (length ys) flows h
     → HasShipped arcs xs sink (length xs) flows h
-order_shipped arcs xs ys sink flows h p t =
+order_shipped {xs = xs} {ys = ys} {sink = sink} p t =
     let size = length_permutation xs ys p in
     record {
       sizes = t.sizes;
@@ -109,7 +109,7 @@ pub order_law : (nodes : ℕ) (arcs : List FlowArc) (sources order : List ℕ) (
     × (HasShipped arcs order sink (length order) flows h
     → HasShipped arcs sources sink (length sources) flows h)
 order_law nodes arcs sources order sink flows h p can =
-    (order_can nodes arcs sources order sink p can, order_shipped arcs sources order sink flows h p)
+    (order_can p can, order_shipped p)
 
 -- the nodes of sorted keys, the first part of them turned
 pub order_made : (keys sorted : List (ℕ × ℕ)) (sources order first last : List ℕ) (m : ℕ)
@@ -157,7 +157,7 @@ marks_more xs marks s l m v = (
 )
 
 -- neither the sink nor the end of an arc is marked
-module _ (nodes : ℕ) (arcs : List FlowArc) (sources : List ℕ) (sink : ℕ) (marks : List Bool)
+module _ {nodes : ℕ} {arcs : List FlowArc} {sources : List ℕ} {sink : ℕ} (marks : List Bool)
     (can : CanShip nodes arcs sources sink) (m : AreMarked sources marks) where
   unmarked : (v : ℕ) → ((k : ℕ) → k < length sources → get_or sources k 0 ≡ v → ⊥)
       → get_or marks v false ≡ false
@@ -172,9 +172,9 @@ module _ (nodes : ℕ) (arcs : List FlowArc) (sources : List ℕ) (sink : ℕ) (
   pub ends_unmarked : (j : ℕ) → j < length arcs → get_or marks (arc_at arcs j).to false ≡ false
   ends_unmarked j l = unmarked (arc_at arcs j).to (λ k i e. can.no_entry k j i l (sym e))
 
-pub sources_in : (nodes : ℕ) (arcs : List FlowArc) (sources : List ℕ) (sink : ℕ) →
+pub sources_in : {nodes : ℕ} {arcs : List FlowArc} {sources : List ℕ} {sink : ℕ} →
     CanShip nodes arcs sources sink
     → (k : ℕ) → k < length sources → get_or sources k 0 < nodes
-sources_in nodes arcs sources sink can k l =
+sources_in can k l =
     let w = can.paths k l in let inside = (can.arcs_in w.out w.out_in).from_in in let e = w.leaves in
     omega arith

@@ -150,7 +150,7 @@ path_listed arcs flows [] u v p a i = absurd i
 path_listed arcs flows (b ∷ path) u v p a (inl e) = subst (λ c. arc_index c < length arcs) (sym e) p.0.listed
 path_listed arcs flows (b ∷ path) u v p a (inr i) = path_listed arcs flows path (head_of arcs b) v p.2 a i
 
-module _ (nodes : ℕ) (arcs : List FlowArc) (sources : List ℕ) (sink count : ℕ) (flows : List ℕ) (h : ℕ → ℕ)
+module _ {nodes : ℕ} {arcs : List FlowArc} {sources : List ℕ} {sink count : ℕ} {flows : List ℕ} {h : ℕ → ℕ}
     (can : CanShip nodes arcs sources sink) (left : count < length sources)
     (state : HasShipped arcs sources sink count flows h) where
   -- nothing enters a source that has not shipped
@@ -322,8 +322,8 @@ module _ (nodes : ℕ) (arcs : List FlowArc) (sources : List ℕ) (sink count : 
           (searched_found (distance_at f.distances) found f.path trace)
 
 -- the unit over that path keeps the state
-module _ (nodes : ℕ) (arcs : List FlowArc) (sources : List ℕ) (sink count : ℕ) (flows : List ℕ)
-    (h' : ℕ → ℕ) (path : List ArcNo)
+module _ {nodes : ℕ} {arcs : List FlowArc} {sources : List ℕ} {sink count : ℕ} {flows : List ℕ}
+    {h' : ℕ → ℕ} {path : List ArcNo}
     (can : CanShip nodes arcs sources sink) (left : count < length sources)
     (f : HasFoundNext arcs sources sink count flows h' path) where
   pub unit_path : (0 < length path) × IsPath arcs flows path (path_start arcs path) (path_end arcs path)
@@ -346,9 +346,9 @@ module _ (nodes : ℕ) (arcs : List FlowArc) (sources : List ℕ) (sink count : 
     unused = λ k j c l m e.
         (let old = f.state.unused k j (omega arith) l m e in
         let lacks = not_left arcs flows (get_or sources k 0)
-        (closed_source nodes arcs sources sink count flows f.h can left f.state k (omega arith) l) path
+        (closed_source can left f.state k (omega arith) l) path
         (get_or sources count 0) sink j
-        (other_source nodes arcs sources sink count flows f.h can left f.state k c l) e f.way.leads in
+        (other_source can left f.state k c l) e f.way.leads in
         let still = not_raised path flows j lacks in omega arith);
     balance = λ w.
         (let moved = push_balance arcs flows path (get_or sources count 0) sink w f.state.sizes unit_distinct
@@ -379,10 +379,10 @@ outflow_zero (a ∷ arcs) [] w z = refl
 outflow_zero (a ∷ arcs) (f ∷ flows) w z = let rest = outflow_zero arcs flows w (λ k. z (suc k)) in
     let first : f ≡ 0 = z 0 in none_more (eqb a.from w) f _ first rest
 
-pub begin_state : (arcs : List FlowArc) (sources : List ℕ) (sink : ℕ) (flows : List ℕ) (h : ℕ → ℕ) →
+pub begin_state : (arcs : List FlowArc) {sources : List ℕ} {sink : ℕ} (flows : List ℕ) (h : ℕ → ℕ) →
     length flows ≡ length arcs
     → ((k : ℕ) → get_or flows k 0 ≡ 0) → ((v : ℕ) → h v ≡ 0) → HasShipped arcs sources sink 0 flows h
-begin_state arcs sources sink flows h size none zero_depth = record {
+begin_state arcs {sources = sources} {sink = sink} flows h size none zero_depth = record {
   sizes = size;
   reduced = λ k l. (
     (λ room. (let a = zero_depth (arc_at arcs k).from in omega arith)),

@@ -26,9 +26,9 @@ can_ship_from nodes arcs sources sink are starts paths = record {
   no_entry = λ k j l m e. (starts k l).no_entry (j, m, e);
 }
 
-pub starts_of : (nodes : ℕ) (arcs : List FlowArc) (sources : List ℕ) (sink : ℕ) →
+pub starts_of : {nodes : ℕ} {arcs : List FlowArc} {sources : List ℕ} {sink : ℕ} →
     CanShip nodes arcs sources sink → AreSources arcs sources sink
-starts_of nodes arcs sources sink can = λ k l. record {
+starts_of can = λ k l. record {
   not_sink = can.not_sink k l;
   no_entry = λ e. can.no_entry k e.0 l e.1 e.2;
   first = λ j m e. (let same = can.distinct j k (omega arith) l e in absurd (omega arith));

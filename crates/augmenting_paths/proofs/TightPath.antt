@@ -122,32 +122,33 @@ module _ (arcs : List FlowArc) (flows : List ℕ) (h : ℕ → ℕ) (sink s v : 
         ]);
   }
 
-pub way_begins : (arcs : List FlowArc) (flows : List ℕ) (h : ℕ → ℕ) (sink k : ℕ)
+pub way_begins : {arcs : List FlowArc} {flows : List ℕ} {h : ℕ → ℕ} {sink k : ℕ}
     → LeadsDown arcs flows h sink k
     → GoesDown arcs flows h sink (arc_at arcs k).from (arc_at arcs k).to (Forward k ∷ [])
-way_begins arcs flows h sink k on = goes_on arcs flows h sink (arc_at arcs k).from (arc_at arcs k).from [] k
+way_begins {arcs} {flows} {h} {sink} {k} on =
+    goes_on arcs flows h sink (arc_at arcs k).from (arc_at arcs k).from [] k
     (record { leads = refl; once = tt; tight = tt }) (λ j o. absurd o) on refl
 
-pub way_goes_on : (arcs : List FlowArc) (flows : List ℕ) (h : ℕ → ℕ) (sink s v : ℕ) (path : List ArcNo)
-    (k : ℕ) → GoesDown arcs flows h sink s v path → (v ≡ sink → ⊥) → LeadsDown arcs flows h sink k
+pub way_goes_on : {arcs : List FlowArc} {flows : List ℕ} {h : ℕ → ℕ} {sink s v : ℕ} {path : List ArcNo}
+    {k : ℕ} → GoesDown arcs flows h sink s v path → (v ≡ sink → ⊥) → LeadsDown arcs flows h sink k
     → (arc_at arcs k).from ≡ v → GoesDown arcs flows h sink s (arc_at arcs k).to (path ++ Forward k ∷ [])
-way_goes_on arcs flows h sink s v path k way further on from =
+way_goes_on {arcs} {flows} {h} {sink} {s} {v} {path} {k} way further on from =
     goes_on arcs flows h sink s v path k way.path_to (way.earlier further) on from
 
 -- the arc to the sink of a node, and an inner one
-pub sink_arc_on : (arcs : List FlowArc) (flows : List ℕ) (sink : ℕ) (g : ArcLists) (v on : ℕ)
+pub sink_arc_on : {arcs : List FlowArc} {flows : List ℕ} {sink : ℕ} {g : ArcLists} {v on : ℕ}
     → AreResidualArcs arcs flows sink g → get_or g.sink_arcs v None ≡ Some on
     → (on < length arcs) × ((arc_at arcs on).from ≡ v)
-sink_arc_on arcs flows sink g v on lists e =
+sink_arc_on {g = g} {v = v} {on = on} lists e =
     let i : IsIn (Forward on) (sink_arcs_at g v) =
     subst (λ (o : Option ℕ). IsIn (Forward on) (option_arcs o)) (sym e) (inl refl) in
     lists.own v (Forward on) (in_left (Forward on) (sink_arcs_at g v) (stack_arcs g v) i)
 
-pub inner_arc : (arcs : List FlowArc) (flows : List ℕ) (sink : ℕ) (g : ArcLists) (v : ℕ)
-    (listed : List ArcNo) (i k : ℕ) → AreResidualArcs arcs flows sink g → listed ≡ inner_at g v
+pub inner_arc : {arcs : List FlowArc} {flows : List ℕ} {sink : ℕ} {g : ArcLists} {v : ℕ}
+    {listed : List ArcNo} {i k : ℕ} → AreResidualArcs arcs flows sink g → listed ≡ inner_at g v
     → i < length listed → get_or listed i (Forward 0) ≡ Forward k
     → (k < length arcs) × ((arc_at arcs k).from ≡ v)
-inner_arc arcs flows sink g v listed i k lists e l is =
+inner_arc {g = g} {v = v} {listed = listed} {i = i} {k = k} lists e l is =
     let here : IsIn (Forward k) listed =
     subst (λ (a : ArcNo). IsIn a listed) is (in_at listed i (Forward 0) l) in
     lists.own v (Forward k)

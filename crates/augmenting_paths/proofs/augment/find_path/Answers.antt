@@ -6,21 +6,21 @@ use Rattle.augmenting_paths.proofs.augment.find_path.Goals as goal
 
 pub lift-requires-clause-source : goal.lift-requires-clause-source
 lift-requires-clause-source g c =
-    start_in _ _ _ _ _ _ _ c.requires.next.can c.requires.next.left c.requires.state
+    start_in c.requires.next.can c.requires.next.left c.requires.state
 
 pub lift-requires-clause-level : goal.lift-requires-clause-level
 lift-requires-clause-level g c =
-    start_level _ _ _ _ _ _ _ c.requires.next.can c.requires.next.left c.requires.state
+    start_level c.requires.next.can c.requires.next.left c.requires.state
 
 pub lift-requires-clause-arc : goal.lift-requires-clause-arc
 lift-requires-clause-arc g c =
-    let w = own_way _ _ _ _ _ _ _ c.requires.next.can c.requires.next.left c.requires.state in
+    let w = own_way c.requires.next.can c.requires.next.left c.requires.state in
     let low = w.4 in
     (w.0, w.1, w.2, w.3, omega arith)
 
 pub tight_path-requires-clause-may : goal.tight_path-requires-clause-may
 tight_path-requires-clause-may g c =
-    may_search _ _ _ _ _ c.limits.ensures c.requires.next (c.lift.ensures.size ∙ c.requires.kept.size)
+    may_search c.limits.ensures c.requires.next (c.lift.ensures.size ∙ c.requires.kept.size)
     c.requires.kept.lists (record {
       h = slice_index c.args.shipping.potentials;
       state = c.requires.state;
@@ -29,5 +29,5 @@ tight_path-requires-clause-may g c =
 
 pub returns-then-branch-clause-found : goal.returns-then-branch-clause-found
 returns-then-branch-clause-found g c =
-    lifted_found _ _ _ _ _ _ _ c.requires.next.can c.requires.next.left c.requires.state _
+    lifted_found c.requires.next.can c.requires.next.left c.requires.state _
     c.lift.ensures.lifted _ (c.in_ok-tight_path.ensures.tight c.if-branch.true)

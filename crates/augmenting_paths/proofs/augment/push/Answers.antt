@@ -12,21 +12,21 @@ use Rattle.augmenting_paths.proofs.augment.push.Goals as goal
 pub push-requires-clause-some_arc : goal.push-requires-clause-some_arc
 push-requires-clause-some_arc g c =
     rw c.deref.ensures.value
-    (unit_path _ _ _ _ _ _ _ _ c.requires.next.can c.requires.next.left c.requires.found).0
+    (unit_path c.requires.next.can c.requires.next.left c.requires.found).0
 
 pub push-requires-clause-distinct : goal.push-requires-clause-distinct
 push-requires-clause-distinct g c =
     rw c.deref.ensures.value
-    (unit_distinct _ _ _ _ _ _ _ _ c.requires.next.can c.requires.next.left c.requires.found)
+    (unit_distinct c.requires.next.can c.requires.next.left c.requires.found)
 
 pub push-requires-clause-path : goal.push-requires-clause-path
 push-requires-clause-path g c =
     rw c.deref.ensures.value
-    (unit_path _ _ _ _ _ _ _ _ c.requires.next.can c.requires.next.left c.requires.found).1
+    (unit_path c.requires.next.can c.requires.next.left c.requires.found).1
 
 pub follow-requires-clause-path : goal.follow-requires-clause-path
 follow-requires-clause-path g c = λ a i.
-    let inside = unit_listed _ _ _ _ _ _ _ _ c.requires.next.can c.requires.next.left c.requires.found a
+    let inside = unit_listed c.requires.next.can c.requires.next.left c.requires.found a
     (subst (λ (xs : List ArcNo). IsIn a xs) c.deref-2.ensures.value i) in
     let size = ap (λ (f : Flow g.row.L.Denot). length f.arcs) c.push.ensures.pushed in
     omega arith
@@ -58,4 +58,4 @@ returns-clause-kept g c =
 pub returns-clause-state : goal.returns-clause-state
 returns-clause-state g c =
     rw (c.push.ensures.pushed, c.deref.ensures.value)
-    (unit_shipped _ _ _ _ _ _ _ _ c.requires.next.can c.requires.next.left c.requires.found)
+    (unit_shipped c.requires.next.can c.requires.next.left c.requires.found)

@@ -6,25 +6,25 @@ use Rattle.augmenting_paths.proofs.augment.search_path.Goals as goal
 
 pub find-requires-clause-may : goal.find-requires-clause-may
 find-requires-clause-may g c =
-    may_search _ _ _ _ _ c.limits.ensures c.requires.next c.requires.kept.size c.requires.kept.lists
+    may_search c.limits.ensures c.requires.next c.requires.kept.size c.requires.kept.lists
     c.requires.lifted refl
 
 pub find-requires-clause-sink : goal.find-requires-clause-sink
 find-requires-clause-sink g c =
-    let inside = sink_in _ _ _ _ _ _ _ c.requires.next.can c.requires.next.left c.requires.lifted.state in
+    let inside = sink_in c.requires.next.can c.requires.next.left c.requires.lifted.state in
     let size = c.requires.kept.size in
     omega arith
 
 pub unreachable-requires : goal.unreachable-requires
 unreachable-requires g c =
     let none = rw c.in-None.is at c.in_ok-path.ensures in
-    not_none _ _ _ _ _ _ _ c.requires.next.can c.requires.next.left c.requires.lifted.state _
+    not_none c.requires.next.can c.requires.next.left c.requires.lifted.state _
     c.requires.lifted.up c.in_ok-found.found c.in_ok-found.ensures.total c.in_ok-found.ensures.searched
     c.in_ok-found.ensures.path none
 
 pub lower-buffers-requires-clause-low : goal.lower-buffers-requires-clause-low
 lower-buffers-requires-clause-low g c =
-    total_low _ _ _ _ _ _ _ c.requires.next.can c.requires.next.left c.requires.lifted.state _
+    total_low c.requires.next.can c.requires.next.left c.requires.lifted.state _
     c.requires.lifted.up c.in_ok-found.found c.in_ok-found.ensures.total c.in_ok-found.ensures.searched
     c.in_ok-found.ensures.path c.requires.next.limit
 
@@ -40,7 +40,7 @@ returns-clause-kept g c = record {
 pub returns-clause-found : goal.returns-clause-found
 returns-clause-found g c =
     let some : c.in-Some.path.items ≡ c.in_ok-found.found.path = rw c.in-Some.is at c.in_ok-path.ensures in
-    rw some (unit_found _ _ _ _ _ _ _ c.requires.next.can c.requires.next.left c.requires.lifted.state _
+    rw some (unit_found c.requires.next.can c.requires.next.left c.requires.lifted.state _
     c.requires.lifted.up c.in_ok-found.found c.in_ok-found.ensures.total c.in_ok-found.ensures.searched
     c.in_ok-found.ensures.path (slice_index c.lower-buffers.new.potentials)
     c.lower-buffers.ensures.lowered)

@@ -8,20 +8,20 @@ use Rattle.augmenting_paths.proofs.Orders.{order_can, order_shipped, sink_unmark
 use Rattle.augmenting_paths.proofs.augment.ship_all.Goals as goal
 
 pub shipping_order-requires : goal.shipping_order-requires
-shipping_order-requires g c = sources_in _ _ _ _ c.requires.can
+shipping_order-requires g c = sources_in c.requires.can
 
 pub marked-requires : goal.marked-requires
 marked-requires g c =
     let nodes : c.size-nodes.result ≡ g.L.Layout.node_count c.args.network.now.layout =
     c.size-nodes.ensures ∙ ap (λ l. g.L.Layout.node_count l) c.layout.ensures in
-    rw nodes (sources_in _ _ _ _ c.requires.can)
+    rw nodes (sources_in c.requires.can)
 
 pub new-requires-2-clause-size : goal.new-requires-2-clause-size
 new-requires-2-clause-size g c =
     c.in_ok-marks.ensures.size ∙ c.size-nodes.ensures ∙ ap (λ l. g.L.Layout.node_count l) c.layout.ensures
 
 pub new-requires-2-clause-no_entry : goal.new-requires-2-clause-no_entry
-new-requires-2-clause-no_entry g c = ends_unmarked _ _ _ _ _ c.requires.can c.in_ok-marks.ensures.marks
+new-requires-2-clause-no_entry g c = ends_unmarked _ c.requires.can c.in_ok-marks.ensures.marks
 
 pub loop-count-init : goal.loop-count-init
 loop-count-init g c =
@@ -39,10 +39,10 @@ loop-count-init g c =
           sorted = c.in_ok-new-2.ensures.sorted;
           matched = c.in_ok-new-2.ensures.matched;
           sink_apart = ap (λ (m : List Bool). get_or m c.args.sink false) c.in_ok-new-2.ensures.sources
-              ∙ sink_unmarked _ _ _ _ _ c.requires.can c.in_ok-marks.ensures.marks;
+              ∙ sink_unmarked _ c.requires.can c.in_ok-marks.ensures.marks;
         };
       };
-      state = begin_state _ _ _ _ _ c.limits.ensures.sizes c.requires.no_flow
+      state = begin_state _ _ _ c.limits.ensures.sizes c.requires.no_flow
           (λ v. ap (λ p. get_or p v 0) c.in_ok-new.ensures ∙ zeros c.size-nodes.result v);
     }
 
@@ -56,7 +56,7 @@ ship-requires-clause-next g c =
       limit = rw c.deref.ensures.value (omega arith);
       left = rw c.deref.ensures.value (omega arith);
       can = rw (c.loop-count.invariant.layout, c.loop-count.invariant.arcs, c.deref.ensures.value)
-          (order_can _ _ _ _ _ c.in_ok-order.ensures c.requires.can);
+          (order_can c.in_ok-order.ensures c.requires.can);
     }
 
 pub ship-requires-clause-state : goal.ship-requires-clause-state
@@ -75,7 +75,7 @@ returns-clause-shipped g c =
     let size : c.loop-count.count ≡ length c.in_ok-order.order.items =
     (let past = c.loop-count-test.false in let most = c.loop-count.auto.count-end in
     let all = c.len-count-end.ensures in omega arith) in
-    order_shipped _ _ _ _ _ _ c.in_ok-order.ensures
+    order_shipped c.in_ok-order.ensures
     (subst (λ n. HasShipped c.args.network.now.arcs c.in_ok-order.order.items c.args.sink n
     c.loop-count.network.flows (λ v. get_or c.loop-count.shipping.potentials v 0))
     size (rw c.loop-count.invariant.arcs at c.loop-count.invariant.state))

@@ -12,5 +12,5 @@ returns g c =
       c.all_arcs-arcs.ensures,
     ) at c.are_starts_with_paths-may_ship.ensures in (
       (λ t. let both = all.0 t in can_ship_from _ _ _ _ c.limits.ensures.arcs_in both.0 both.1),
-      (λ can. all.1 (starts_of _ _ _ _ can, can.paths)),
+      (λ can. all.1 (starts_of can, can.paths)),
     )

@@ -16,7 +16,7 @@ walk_over-requires-clause-own g c =
       | then-i-eq0 w ↦ (let is = w.place-is in omega arith)
       | else-i-eq0 w ↦ (let is = w.place-is in omega arith)
     ] in
-    own_of _ _ _ (subst (λ (xs : List ArcNo).
+    own_of _ (subst (λ (xs : List ArcNo).
     IsIn (get_or c.leaving-arcs.result.now c.if-i-eq0.place (Forward 0)) xs)
     (c.leaving-arcs.ensures
     ∙ ap (λ (f : Flow g.row.L.Denot). leaving_of f.arcs c.args.query.now.start) c.new-meter.ensures.network)

@@ -25,7 +25,7 @@ loop-node-init g c =
       down = rw (c.all_arcs.ensures, path) (subst (λ (s : ℕ). GoesDown c.args.network.now.arcs
           c.args.network.now.flows (slice_index c.args.query.now.potentials.now) c.args.query.now.sink s
           (arc_at c.args.network.now.arcs c.in-Forward.own).to (Forward c.in-Forward.own ∷ []))
-          (rw c.in-Forward.is at c.requires.own.from) (way_begins _ _ _ _ _ on));
+          (rw c.in-Forward.is at c.requires.own.from) (way_begins on));
     }
 
 pub loop-node-preserved : goal.loop-node-preserved
@@ -35,7 +35,7 @@ loop-node-preserved g c =
     record {
       inside = rw c.all_arcs-in-loop-node.ensures (omega arith);
       down = rw (c.all_arcs-in-loop-node.ensures, c.in_ok-push-2.ensures.items)
-          (way_goes_on _ _ _ _ _ _ _ _ c.loop-node.invariant.down c.loop-node-test.true
+          (way_goes_on c.loop-node.invariant.down c.loop-node-test.true
           c.in-Some.ensures.down c.in-Some.ensures.from);
     }
 

@@ -8,24 +8,24 @@ use Rattle.augmenting_paths.proofs.DepthFirst.{own_of, inner_of, matched_of}
 use Rattle.augmenting_paths.proofs.trail.Trail.next.Goals as goal
 
 pub next_of-requires-clause-inner : goal.next_of-requires-clause-inner
-next_of-requires-clause-inner g c = λ a i. own_of _ _ a (subst (λ (xs : List ArcNo). IsIn a xs)
+next_of-requires-clause-inner g c = λ a i. own_of a (subst (λ (xs : List ArcNo). IsIn a xs)
     (c.leaving.ensures
     ∙ ap (λ (f : Flow g.row.L.Denot). leaving_of f.arcs c.args.node) c.new-meter.ensures.network) i)
 
 pub is_open-requires-clause-listed : goal.is_open-requires-clause-listed
 is_open-requires-clause-listed g c =
-    (sink_arc_on _ _ _ _ _ _ c.requires.may.lists (sym c.sink_arc.ensures ∙ c.in-Some.is)).0
+    (sink_arc_on c.requires.may.lists (sym c.sink_arc.ensures ∙ c.in-Some.is)).0
 
 pub returns-clause-goes_on : goal.returns-clause-goes_on
 returns-clause-goes_on g c = record {
   open_arc = c.is_open.ensures c.if-is_open.true;
-  from = (sink_arc_on _ _ _ _ _ _ c.requires.may.lists (sym c.sink_arc.ensures ∙ c.in-Some.is)).1;
+  from = (sink_arc_on c.requires.may.lists (sym c.sink_arc.ensures ∙ c.in-Some.is)).1;
 }
 
 pub next_of-requires-2-clause-inner : goal.next_of-requires-2-clause-inner
-next_of-requires-2-clause-inner g c = λ a i. inner_of _ _ _ _ _ c.requires.may.lists a
+next_of-requires-2-clause-inner g c = λ a i. inner_of _ c.requires.may.lists a
     (subst (λ (xs : List ArcNo). IsIn a xs) c.inner.ensures i)
 
 pub next_of-requires-2-clause-matched : goal.next_of-requires-2-clause-matched
 next_of-requires-2-clause-matched g c = rw c.matched.ensures
-    (matched_of _ _ _ _ _ c.requires.may.lists)
+    (matched_of _ c.requires.may.lists)

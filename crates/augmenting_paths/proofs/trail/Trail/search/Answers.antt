@@ -44,7 +44,7 @@ loop-turn-preserved g c =
               w.in_ok-push-in-Some.ensures.items,
               c.next.ensures.left,
             )
-                (trail_goes_on _ _ _ _ _ _ _ _ _ old.trail on
+                (trail_goes_on old.trail on
                 (let all = old.nodes.closed in omega arith));
           }
       | in-None+in-Some-pop w ↦
@@ -64,6 +64,6 @@ loop-turn-preserved g c =
               w.tail-top.ensures,
               w.all_arcs.ensures,
               c.next.ensures.left,
-            ) (trail_goes_back _ _ _ _ _ _ _ w.pop.new.self.items _ trail);
+            ) (trail_goes_back w.pop.new.self.items _ trail);
           }
     ]
