@@ -255,8 +255,7 @@ impl Search {
         ensures spends { OnOk result (Spends 1 meter.old self.old meter.new self.new) }
     {
         if query.lists.is_source(node) {
-            let found = self.scan(meter, query, node, level)?;
-            return Ok(found);
+            return self.scan(meter, query, node, level);
         }
         let found = self.visit(meter, query, node, level)?;
         Ok(found)
@@ -281,10 +280,7 @@ impl Search {
         ensures falls { OnOk result (Falls meter.old self.old meter.new self.new) }
     {
         match self.look(meter, query, node, level, arc)? {
-            Some(to) => {
-                let found = self.enter(meter, query, to, level)?;
-                Ok(found)
-            }
+            Some(to) => self.enter(meter, query, to, level),
             None => Ok(false),
         }
     }
@@ -328,8 +324,7 @@ impl Search {
         ensures falls { OnOk result (Falls meter.old self.old meter.new self.new) }
     {
         if let Some(arc) = self.next_arc(query.lists, node) {
-            let found = self.step(meter, query, node, level, arc)?;
-            return Ok(found);
+            return self.step(meter, query, node, level, arc);
         }
         self.stack.pop();
         Ok(false)
@@ -380,8 +375,7 @@ impl Search {
         if self.enter(meter, query, node, level)? {
             return Ok(true);
         }
-        let found = self.follow(meter, query, level)?;
-        Ok(found)
+        self.follow(meter, query, level)
     }
 
     // Settles the nodes that wait in the queue, nearest first; the sink's distance, if it is entered next.
