@@ -1,13 +1,13 @@
 -- Where a text is cut at its first space.
-use Rattle.std.proofs.Common.{ℕ, List, [], ◌∷◌, ◌≡◌, ◌<◌, ◌∙◌, Bor, Option, Some, None, ap, ap₂, cond}
-use Rattle.std.proofs.Common.{length, sym, suc}
+use Rattle.std.proofs.Common.{ℕ, List, [], ◌∷◌, ◌≡◌, ◌<◌, ◌∙◌, Bor, Option, Some, None, ap, ap₂, cond, length}
+use Rattle.std.proofs.Common.{sym, suc}
 use Rattle.std.specs.List.{after_first, before_first}
 use Rattle.std.specs.Prelude.{MatchOption}
 use Rattle.std.proofs.lemmas.Bool.{lt-ltb}
 use Rattle.text_lines.specs.Texts.{IsCutAtSpace, Line, Word, words_of}
 use Rattle.line_shapes.specs.Lines.{first_words, is_space, pieces, pieces_after}
 use Rattle.line_shapes.specs.declared.place.Place.{Place}
-use Rattle.line_shapes.specs.declared.place.Place.TheVariants.{New, Used, Number, Text}
+use Rattle.line_shapes.specs.declared.place.Place.TheVariants.{Text}
 use borrow.Author.Tests.{le-ltb}
 
 abbrev AreWords : Line → Word → Option (Bor (List ℕ)) → Type 0
@@ -29,13 +29,6 @@ cut_front line word (Some rest) h n =
 pub cut_pieces : (line : Line) (word : Word) (r : Option (Bor (List ℕ))) → AreWords line word r
     → IsCutAtSpace line word r → (more : Option Place) (n : ℕ)
     → pieces more (suc n) line ≡ word ∷ pieces_after more n r
-cut_pieces line word None words cut None n = words
-cut_pieces line word None words cut (Some New) n = words
-cut_pieces line word None words cut (Some (Used kind)) n = words
-cut_pieces line word None words cut (Some (Number least most)) n = words
-cut_pieces line word None words cut (Some Text) n = cut_front line word None cut n
-cut_pieces line word (Some rest) words cut None n = words.0
-cut_pieces line word (Some rest) words cut (Some New) n = words.0
-cut_pieces line word (Some rest) words cut (Some (Used kind)) n = words.0
-cut_pieces line word (Some rest) words cut (Some (Number least most)) n = words.0
-cut_pieces line word (Some rest) words cut (Some Text) n = cut_front line word (Some rest) cut n
+cut_pieces line word r words cut (Some Text) n = cut_front line word r cut n
+cut_pieces line word None words cut more n = words
+cut_pieces line word (Some rest) words cut more n = words.0

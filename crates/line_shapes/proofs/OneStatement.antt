@@ -12,14 +12,13 @@ use Rattle.line_shapes.specs.Keywords.{spelling_of}
 use Rattle.line_shapes.specs.Lines.{Says, Statement, first_words, has_space, is_space, pieces, words_in}
 use Rattle.line_shapes.specs.Places.{more_of, places_of}
 use Rattle.line_shapes.specs.declared.keyword.Keyword.{Keyword}
-use Rattle.line_shapes.specs.declared.keyword.Keyword.TheVariants.{Problem, Script, Job, Centre, Rack}
-use Rattle.line_shapes.specs.declared.keyword.Keyword.TheVariants.{Worker, Split, Barred, Dead, Busy, Parts}
-use Rattle.line_shapes.specs.declared.keyword.Keyword.TheVariants.{Target, Silence, Doc, Plan, Start, Price}
-use Rattle.line_shapes.specs.declared.keyword.Keyword.TheVariants.{Begin, Wave, Done, Fail, Withdraw, Die}
-use Rattle.line_shapes.specs.declared.keyword.Keyword.TheVariants.{Join, Add, Lose, Sweep, Reduce, Copies}
-use Rattle.line_shapes.specs.declared.keyword.Keyword.TheVariants.{Backup, End}
+use Rattle.line_shapes.specs.declared.keyword.Keyword.TheVariants.{Problem, Script, Job, Centre, Rack, Worker}
+use Rattle.line_shapes.specs.declared.keyword.Keyword.TheVariants.{Split, Barred, Dead, Busy, Parts, Target}
+use Rattle.line_shapes.specs.declared.keyword.Keyword.TheVariants.{Silence, Doc, Plan, Start, Price, Begin}
+use Rattle.line_shapes.specs.declared.keyword.Keyword.TheVariants.{Wave, Done, Fail, Withdraw, Die, Join, Add}
+use Rattle.line_shapes.specs.declared.keyword.Keyword.TheVariants.{Lose, Sweep, Reduce, Copies, Backup, End}
 use Rattle.line_shapes.specs.declared.place.Place.{Place}
-use Rattle.line_shapes.specs.declared.place.Place.TheVariants.{New, Used, Number, Text}
+use Rattle.line_shapes.specs.declared.place.Place.TheVariants.{Text}
 use borrow.Author.Tests.{ltb-true}
 
 -- ---- the keyword that is spelled so
@@ -60,36 +59,7 @@ keyword_told w =
 
 told_back : (k : Keyword) → keyword_told (spelling_of k) ≡ k
 told_back Problem = refl
-told_back Script = refl
-told_back Job = refl
-told_back Centre = refl
-told_back Rack = refl
-told_back Worker = refl
-told_back Split = refl
-told_back Barred = refl
-told_back Dead = refl
-told_back Busy = refl
-told_back Parts = refl
-told_back Target = refl
-told_back Silence = refl
-told_back Doc = refl
-told_back Plan = refl
-told_back Start = refl
-told_back Price = refl
-told_back Begin = refl
-told_back Wave = refl
-told_back Done = refl
-told_back Fail = refl
-told_back Withdraw = refl
-told_back Die = refl
-told_back Join = refl
-told_back Add = refl
-told_back Lose = refl
-told_back Sweep = refl
-told_back Reduce = refl
-told_back Copies = refl
-told_back Backup = refl
-told_back End = refl
+told_back k = refl
 
 -- ---- the words of a line
 
@@ -122,12 +92,9 @@ front_cut false w v ws = refl
 -- the first word of a line is the same however the others are cut
 front_pieces : (more : Option Place) (n : ℕ) (line : Line) → first_word (pieces more (suc n) line)
     ≡ front_of line
-front_pieces None n line = front_words line
-front_pieces (Some New) n line = front_words line
-front_pieces (Some (Used kind)) n line = front_words line
-front_pieces (Some (Number least most)) n line = front_words line
 front_pieces (Some Text) n line =
     front_cut (has_space line) (before_first is_space line) line (first_words n (after_first is_space line))
+front_pieces more n line = front_words line
 
 spelled_first : (line : Line) (k : Keyword) (ws : List Word) → words_in k line ≡ spelling_of k ∷ ws
     → spelling_of k ≡ front_of line

@@ -19,22 +19,17 @@ HasShape (Some Text) w = Unit {0}
 
 -- a name stands in a name's place
 abbrev pub IsNamedIn : Option Place → Word → Type 0
-IsNamedIn None w = Unit {0}
 IsNamedIn (Some New) w = IsName w
 IsNamedIn (Some (Used kind)) w = IsName w
-IsNamedIn (Some (Number least most)) w = Unit {0}
-IsNamedIn (Some Text) w = Unit {0}
+IsNamedIn place w = Unit {0}
 
 abbrev pub IsNumberWithin : ℕ → ℕ → Word → Type 0
 IsNumberWithin least most w = IsNumber w × (least ≤ number_of w) × (number_of w ≤ most)
 
 -- a number is within its range
 abbrev pub IsWithinIn : Option Place → Word → Type 0
-IsWithinIn None w = Unit {0}
-IsWithinIn (Some New) w = Unit {0}
-IsWithinIn (Some (Used kind)) w = Unit {0}
 IsWithinIn (Some (Number least most)) w = IsNumberWithin least most w
-IsWithinIn (Some Text) w = Unit {0}
+IsWithinIn place w = Unit {0}
 
 abbrev pub MeetsDemand : Demand → Option Place → Word → Type 0
 MeetsDemand Shape place w = HasShape place w

@@ -31,11 +31,8 @@ first_words (suc n) text =
 
 -- the words between the spaces; where a text may follow the first n of them, it is one word
 abbrev pub pieces : Option Place → ℕ → List ℕ → List Word
-pieces None n text = words_of text
-pieces (Some New) n text = words_of text
-pieces (Some (Used kind)) n text = words_of text
-pieces (Some (Number least most)) n text = words_of text
 pieces (Some Text) n text = first_words n text
+pieces more n text = words_of text
 
 -- the words of a line of this keyword, which is one itself
 abbrev pub words_in : Keyword → Line → List Word
@@ -71,11 +68,9 @@ IsInRange s = Meet Range s.keyword s.words
 
 -- names that may follow any number of times stand once each; numbers may stand again
 abbrev pub Differ : Option Place → List Word → Type 0
-Differ None ws = Unit {0}
 Differ (Some New) ws = AllPairs (λ a b. a ≢ b) ws
 Differ (Some (Used kind)) ws = AllPairs (λ a b. a ≢ b) ws
-Differ (Some (Number least most)) ws = Unit {0}
-Differ (Some Text) ws = Unit {0}
+Differ more ws = Unit {0}
 
 -- the words after the places
 abbrev pub tail_words : Statement → List Word

@@ -42,37 +42,12 @@ places_of keyword.End = []
 
 -- and what may follow those places, any number of times
 abbrev pub more_of : Keyword → Option Place
-more_of keyword.Problem = None
-more_of keyword.Script = None
-more_of keyword.Job = None
-more_of keyword.Centre = None
 more_of keyword.Rack = Some (Used kind.Centre)
-more_of keyword.Worker = None
 more_of keyword.Split = Some (Used kind.Worker)
-more_of keyword.Barred = None
-more_of keyword.Dead = None
-more_of keyword.Busy = None
-more_of keyword.Parts = None
-more_of keyword.Target = None
-more_of keyword.Silence = None
 more_of keyword.Doc = Some Text
-more_of keyword.Plan = None
-more_of keyword.Start = None
-more_of keyword.Price = None
-more_of keyword.Begin = None
-more_of keyword.Wave = None
-more_of keyword.Done = None
-more_of keyword.Fail = None
-more_of keyword.Withdraw = None
-more_of keyword.Die = None
 more_of keyword.Join = Some (Used kind.Split)
-more_of keyword.Add = None
-more_of keyword.Lose = None
 more_of keyword.Sweep = Some (Number 0 1099511627776)
-more_of keyword.Reduce = None
-more_of keyword.Copies = None
-more_of keyword.Backup = None
-more_of keyword.End = None
+more_of k = None
 
 abbrev pub or_more : Option Place → Option Place → Option Place
 or_more (Some place) more = Some place

@@ -47,8 +47,7 @@ fn has_shape(place: Option<Place>, word: &str) -> bool
 {
     match place {
         None => false,
-        Some(Place::New) => !word.is_empty(),
-        Some(Place::Used(_)) => !word.is_empty(),
+        Some(Place::New | Place::Used(_)) => !word.is_empty(),
         Some(Place::Number(_, _)) => Number::of(word).is_some(),
         Some(Place::Text) => true,
     }
@@ -59,11 +58,8 @@ fn is_named_in(place: Option<Place>, word: &str) -> bool
     ensures { IsTrue result ↔ IsNamedIn place word.now }
 {
     match place {
-        None => true,
-        Some(Place::New) => is_name(word),
-        Some(Place::Used(_)) => is_name(word),
-        Some(Place::Number(_, _)) => true,
-        Some(Place::Text) => true,
+        None | Some(Place::Number(_, _) | Place::Text) => true,
+        Some(Place::New | Place::Used(_)) => is_name(word),
     }
 }
 
@@ -73,11 +69,8 @@ fn is_within_in(place: Option<Place>, word: &str) -> bool
     ensures { IsTrue result ↔ IsWithinIn place word.now }
 {
     match place {
-        None => true,
-        Some(Place::New) => true,
-        Some(Place::Used(_)) => true,
+        None | Some(Place::New | Place::Used(_) | Place::Text) => true,
         Some(Place::Number(least, most)) => is_within(word, least, most),
-        Some(Place::Text) => true,
     }
 }
 
