@@ -1,28 +1,21 @@
 -- The first byte that passes a test stands at the position of the test.
-use Rattle.std.proofs.Common.{ℕ, List, ◌≡◌, Option, Some, None, Bool, true, false, arith, length}
-use Rattle.std.proofs.Common.{◌<◌, get_or, inl, inr, refl}
+use Rattle.std.proofs.Common.{ℕ, List, ◌≡◌, Option, Some, None, Bool, true, false, arith, length, ◌<◌, get_or}
+use Rattle.std.proofs.Common.{refl}
 use Rattle.std.specs.List.{position, position_or_len}
-use Rattle.std.proofs.lemmas.Bool.{cases_Bool, le-ltb, lt-ltb}
+use Rattle.std.proofs.lemmas.Bool.{false_from_ne_true, le-ltb, lt-ltb}
 use Rattle.std.proofs.lemmas.List.Sums.{position_or_len_is}
 use Rattle.memchr.specs.Find.{IsFirstByte}
-
-fails : (b : Bool) → (b ≡ true → ⊥) → b ≡ false
-fails b h =
-    elim (cases_Bool b) [
-      | inl passes ↦ absurd (h passes)
-      | inr at_false ↦ at_false
-    ]
 
 pub position-first : (p : ℕ → Bool) (xs : List ℕ) (r : Option ℕ) → IsFirstByte p xs r → r ≡ position p xs
 position-first p xs None h =
     let at : position_or_len p xs ≡ length xs =
-    position_or_len_is p xs (length xs) 0 (omega arith) (λ k lt. fails _ (h k (omega arith) lt))
+    position_or_len_is p xs (length xs) 0 (omega arith) (λ k lt. false_from_ne_true _ (h k (omega arith) lt))
     (λ lt. absurd (omega (arith, lt))) in
     rw (at, le-ltb (length xs) (length xs) (omega arith)) refl
 position-first p xs (Some k) h =
     let at : position_or_len p xs ≡ k =
-    position_or_len_is p xs k 0 (omega (arith, h.0.high)) (λ j lt. fails _ (h.0.before j (omega arith) lt))
-    (λ _. h.1) in
+    position_or_len_is p xs k 0 (omega (arith, h.0.high))
+    (λ j lt. false_from_ne_true _ (h.0.before j (omega arith) lt)) (λ _. h.1) in
     rw (at, lt-ltb k (length xs) h.0.high) refl
 
 -- the first place that passes, told by all before it

@@ -5,6 +5,7 @@ use Rattle.std.specs.Prelude.{◌↔◌, ◌||◌, if◌then◌else◌, Contains
 use Rattle.std.specs.Bool.{Decides}
 use Rattle.std.specs.List.{list_any, position, prefix_len, slice_index_or}
 use Rattle.std.specs.Option.{IsSome, is_some}
+use Rattle.std.proofs.lemmas.Bool.{false_from_ne_true, false≢true}
 use Rattle.std.proofs.lemmas.Map.Views.{Contains-from_any}
 use Rattle.std.proofs.lemmas.List.{length-map, map-append}
 
@@ -19,10 +20,6 @@ module _ {X Y : Type 0} (f : X → Y) where
 
   pub position-map : (p : Y → Bool) (xs : List X) → position p (map f xs) ≡ position (λ x. p (f x)) xs
   position-map p xs = rw (prefix_len-map (λ y. not (p y)) xs, length-map) refl
-
-not_true : (b : Bool) → (b ≡ true → ⊥) → b ≡ false
-not_true true h = absurd (h refl)
-not_true false h = refl
 
 module _ {Y : Type 0} (same : Y → Y → Bool) (decides : (a b : Y) → Decides (same a b) (a ≡ b)) where
   in_any : (y : Y) (ys : List Y) (k : ℕ) → k < length ys → slice_index_or ys k y ≡ y
@@ -55,14 +52,11 @@ module _ {Y : Type 0} (same : Y → Y → Bool) (decides : (a b : Y) → Decides
         → (Contains ys (f key) → ⊥) → map f new ≡ ys ++ f key ∷ []
     declared key keys new ys shown is lacks =
         let none : list_any (λ k. same (f key) (f k)) keys ≡ false =
-        not_true _ (λ h. lacks ((found_key _ (f key) keys ys shown refl).0 h)) in
+        false_from_ne_true _ (λ h. lacks ((found_key _ (f key) keys ys shown refl).0 h)) in
         ap (map f) (is ∙ ap (λ b. if b then keys else keys ++ key ∷ []) none) ∙ map-append f keys (key ∷ [])
         ∙ ap (λ l. l ++ f key ∷ []) shown
 
-no_some : false ≡ true → ⊥
-no_some e = cc
-
 pub some_by_test : {X : Type 0} (o : Option X) (b : Bool) (P : Type 0) → is_some o ≡ b → (IsTrue b ↔ P)
     → IsSome o ↔ P
-some_by_test None b P e h = (λ none. absurd (no_some none), λ p. let bad : false ≡ true = e ∙ h.1 p in cc)
+some_by_test None b P e h = (λ none. absurd (false≢true none), λ p. e ∙ h.1 p)
 some_by_test (Some x) b P e h = (λ some. h.0 (sym e), λ p. refl)

@@ -1,6 +1,6 @@
 -- Where a list is cut first, and the rest of its parts.
-use Rattle.std.proofs.Common.{ℕ, List, [], ◌∷◌, ◌≡◌, ◌+◌, ◌≤◌, ◌<◌, ◌∙◌, length, take, drop, Bool, true, false}
-use Rattle.std.proofs.Common.{not, ◌-◌, Some, None, ap, refl, arith, cond, length-drop, suc, take_all}
+use Rattle.std.proofs.Common.{ℕ, List, [], ◌∷◌, ◌≡◌, ◌+◌, ◌≤◌, ◌<◌, ◌∙◌, length, take, drop, Bool, true}
+use Rattle.std.proofs.Common.{false, not, ◌-◌, Some, None, ap, refl, arith, cond, length-drop, suc, take_all}
 use Rattle.std.specs.List.{position, slice_split, position_or_len}
 use Rattle.std.specs.Prelude.{nat_lt}
 use Rattle.std.proofs.lemmas.List.Splits.{slice_split_first}

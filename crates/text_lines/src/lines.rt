@@ -1,5 +1,5 @@
-ghost use Rattle.std.specs.Prelude.{◌≡◌, ◌∷◌, ◌++◌, [], ◌<◌, ◌↔◌, ◌==◌, IsTrue, MatchOption, OnOk, length, map};
-ghost use Rattle.std.specs.Prelude.{position, All};
+ghost use Rattle.std.specs.Prelude.{◌≡◌, ◌∷◌, ◌++◌, [], ◌<◌, ◌↔◌, ◌==◌, IsTrue, MatchOption, OnOk, length};
+ghost use Rattle.std.specs.Prelude.{map, position, All};
 ghost use Rattle.text_lines.specs.Texts.{IsCutAtSpace, IsOfLine, IsPrintable, lines_of, words_of};
 
 use memchr::memchr;

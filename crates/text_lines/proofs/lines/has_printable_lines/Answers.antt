@@ -14,9 +14,12 @@ ArePrintable lines = All (All IsPrintable) lines
 
 onto_printable : (b : ℕ) (lines : List Line) → IsPrintable b → ArePrintable lines
     → ArePrintable (onto_first b lines)
-onto_printable b [] one all = All-cons (All IsPrintable) (b ∷ []) [] (All-cons IsPrintable b [] one (All-nil IsPrintable)) (All-nil (All IsPrintable))
+onto_printable b [] one all =
+    All-cons (All IsPrintable) (b ∷ []) [] (All-cons IsPrintable b [] one (All-nil IsPrintable)) all
 onto_printable b (line ∷ lines) one all =
-    All-cons (All IsPrintable) (b ∷ line) lines (All-cons IsPrintable b line one (All-head (All IsPrintable) line lines all)) (All-tail (All IsPrintable) line lines all)
+    All-cons (All IsPrintable) (b ∷ line) lines
+    (All-cons IsPrintable b line one (All-head (All IsPrintable) line lines all))
+    (All-tail (All IsPrintable) line lines all)
 
 no_feed : (b : ℕ) → is_feed b ≡ false → IsOfLine b → IsPrintable b
 no_feed b other (inl feed) = absurd (true≢false (sym (rw feed refl) ∙ other))

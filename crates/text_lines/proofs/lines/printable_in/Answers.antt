@@ -15,4 +15,5 @@ ascii line h i = elim (cases_lt i (length line)) [
 
 pub from_utf8_unchecked-requires : goal.from_utf8_unchecked-requires
 from_utf8_unchecked-requires c =
-    IsUtf8-from_ascii c.args.line.now (ascii c.args.line.now (c.has_printable.ensures.0 c.if-has_printable.true))
+    IsUtf8-from_ascii c.args.line.now
+    (ascii c.args.line.now (c.has_printable.ensures.0 c.if-has_printable.true))

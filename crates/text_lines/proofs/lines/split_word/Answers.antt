@@ -1,5 +1,5 @@
-use Rattle.std.proofs.Common.{rules, ◌==◌, ◌<◌, ◌∙◌, ◌∷◌, List, ℕ, Some, ap₂, arith, eqb-true, get_or, sym, take, true, ap, ◌-◌, ◌≡◌}
-use Rattle.std.proofs.Common.{◌+◌, drop, refl}
+use Rattle.std.proofs.Common.{rules, ◌==◌, ◌<◌, ◌∙◌, ◌∷◌, List, ℕ, Some, ap₂, arith, eqb-true, get_or, sym}
+use Rattle.std.proofs.Common.{take, true, ap, ◌-◌, ◌≡◌, ◌+◌, drop, refl}
 use Rattle.std.specs.List.{position}
 use Rattle.std.proofs.lemmas.List.Quantifiers.{position-Some}
 use Rattle.std.proofs.lemmas.Str.{IsCharBoundary-after_ascii, IsCharBoundary-before_ascii}
