@@ -8,7 +8,7 @@ use Rattle.line_shapes.specs.declared.demand.Demand.TheVariants.{Shape, Name, Ra
 use Rattle.line_shapes.specs.declared.keyword.Keyword.{Keyword}
 use Rattle.line_shapes.specs.declared.line.KeyedLine.{KeyedLine}
 use Rattle.line_shapes.specs.declared.place.Place.{Place}
-use Rattle.line_shapes.specs.declared.place.Place.TheVariants.{New, Used, Number, Text}
+use Rattle.line_shapes.specs.declared.place.Place.TheVariants.{New, Used, Text}
 use Rattle.line_shapes.specs.Demands.{Meet}
 use Rattle.line_shapes.specs.Keywords.{spelling_of}
 use Rattle.line_shapes.specs.Places.{more_of, places_of}

@@ -7,7 +7,8 @@ use Rattle.line_shapes.proofs.apart.have_marks.Invariants.{mark}
 use Rattle.line_shapes.proofs.apart.have_marks.Goals as goal
 
 -- what was seen is seen still
-seen_still : (seen : List Bool) (m j : ℕ) → get_or seen j false ≡ true → get_or (set seen m true) j false ≡ true
+seen_still : (seen : List Bool) (m j : ℕ) → get_or seen j false ≡ true
+    → get_or (set seen m true) j false ≡ true
 seen_still [] m j is = absurd (true≢false (sym is))
 seen_still (x ∷ seen) zero zero is = refl
 seen_still (x ∷ seen) zero (suc j) is = is

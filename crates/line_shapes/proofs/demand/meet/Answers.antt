@@ -1,13 +1,12 @@
-use Rattle.std.proofs.Common.{[], get_or, subst}
+use Rattle.std.proofs.Common.{get_or, subst}
 use Rattle.line_shapes.specs.Demands.{MeetsDemand}
 use Rattle.line_shapes.specs.Places.{place_at}
-use Rattle.line_shapes.proofs.Each.{each_more}
+use Rattle.line_shapes.proofs.Each.{each_more, nothing}
 use Rattle.line_shapes.proofs.demand.meet.Goals as goal
 
 pub loop-i-preserved : goal.loop-i-preserved
 loop-i-preserved c =
-    let word = (get_or c.args.words.now c.loop-i.i (record { ref_ptr = (0, 0); now = [] })).now in
+    let word = (get_or c.args.words.now c.loop-i.i nothing).now in
     each_more (λ k w. MeetsDemand c.args.demand (place_at c.args.keyword k) w.now) c.args.words.now c.loop-i.i
-    (record { ref_ptr = (0, 0); now = [] })
-    c.loop-i-test.true c.loop-i.invariant
+    nothing c.loop-i-test.true c.loop-i.invariant
     (subst (λ p. MeetsDemand c.args.demand p word) c.place.ensures (c.meets.ensures.0 c.if-not-meets.false))
