@@ -10,9 +10,8 @@ use Rattle.text_reading.specs.Running.{HasOneAnswer, WroteItsAnswer, outcome}
 -- different ends of an answer are different ends of the command
 pub outcome-injective : {End : Type 0} (a b : Result End TextFault) → outcome a ≡ outcome b → a ≡ b
 outcome-injective (Ok a) (Ok b) same = cc
-outcome-injective (Ok a) (Err b) same = cc
-outcome-injective (Err a) (Ok b) same = cc
 outcome-injective (Err a) (Err b) same = cc
+outcome-injective a b same = cc
 
 pub wrote_its_answer : {End : Type 0} (Answers : List ℕ → Result End TextFault → List ℕ → Type 0)
     (SameEnd : Result End TextFault → Result End TextFault → Type 0) (Alike : List ℕ → List ℕ → Type 0)

@@ -23,19 +23,13 @@ keeps_itself (Some xs) = refl
 
 abbrev IsText : ToolError → Type 0
 IsText (Text fault) = Unit {0}
-IsText Memory = ⊥
-IsText Read = ⊥
-IsText Write = ⊥
-IsText HistoryFull = ⊥
+IsText e = ⊥
 
 -- the error of an answer's end is a fault of the text
 end_is_text : {End : Type 0} (end : Result End TextFault) (e : ToolError) → outcome end ≡ Err e → IsText e
 end_is_text (Ok end) e is = absurd cc
 end_is_text (Err fault) (Text f) is = tt
-end_is_text (Err fault) Memory is = cc
-end_is_text (Err fault) Read is = cc
-end_is_text (Err fault) Write is = cc
-end_is_text (Err fault) HistoryFull is = cc
+end_is_text (Err fault) e is = cc
 
 is_error : {End : Type 0} (e : ToolError) (result : Result End ToolError) → IsErrAnd result (λ x. x ≡ e)
     → result ≡ Err e
