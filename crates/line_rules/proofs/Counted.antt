@@ -4,60 +4,28 @@ use Rattle.std.proofs.lemmas.List.Elements.{filter-append}
 use Rattle.text_lines.specs.Texts.{Word}
 use Rattle.line_shapes.specs.Lines.{Statement}
 use Rattle.line_shapes.specs.declared.keyword.Keyword.{Keyword}
-use Rattle.line_shapes.specs.declared.keyword.Keyword.TheVariants.{Problem, Script, Job, Centre, Rack}
-use Rattle.line_shapes.specs.declared.keyword.Keyword.TheVariants.{Worker, Split, Barred, Dead, Busy, Parts}
-use Rattle.line_shapes.specs.declared.keyword.Keyword.TheVariants.{Target, Silence, Doc, Plan, Start, Price}
-use Rattle.line_shapes.specs.declared.keyword.Keyword.TheVariants.{Begin, Wave, Done, Fail, Withdraw, Die}
-use Rattle.line_shapes.specs.declared.keyword.Keyword.TheVariants.{Join, Add, Lose, Sweep, Reduce, Copies}
-use Rattle.line_shapes.specs.declared.keyword.Keyword.TheVariants.{Backup, End}
+use Rattle.line_shapes.specs.declared.keyword.Keyword.TheVariants.{Problem, Centre, Rack, Worker, Split, Doc}
 use Rattle.line_rules.specs.Counts.{AreCounts, count_in, one_if}
 use Rattle.line_rules.specs.Entering.{entered_of, most_of, most_workers}
 use Rattle.line_rules.specs.Faults.{IsFewer, counted_of}
 use Rattle.line_rules.specs.Known.{Known, is_of, rows_of}
 use Rattle.line_rules.specs.declared.counts.Counts.{Counts}
 use Rattle.line_rules.specs.declared.purpose.Purpose.{Purpose}
-use Rattle.line_rules.specs.declared.purpose.Purpose.TheVariants.{Checking, Planning, Playing, Running}
+use Rattle.line_rules.specs.declared.purpose.Purpose.TheVariants.{Checking}
 
 few_workers : (purpose : Purpose) → most_workers purpose ≤ 256
 few_workers Checking = omega arith
-few_workers Planning = omega arith
-few_workers Playing = omega arith
-few_workers Running = omega arith
+few_workers purpose = omega arith
 
 -- where there is room for one line more, the count of its keyword is small
 pub small_before : (k : Known) (c : Counts) (word : Keyword) → AreCounts c k.rows
     → IsFewer (most_of k.purpose word) (counted_of k word) → count_in c word < 65536
-small_before k c Problem rowed room = omega arith
-small_before k c Script rowed room = omega arith
-small_before k c Job rowed room = omega arith
 small_before k c Centre rowed room = omega (arith, rowed.centres, room)
 small_before k c Rack rowed room = omega (arith, rowed.racks, room)
 small_before k c Worker rowed room = omega (arith, rowed.workers, room, few_workers k.purpose)
 small_before k c Split rowed room = omega (arith, rowed.splits, room)
-small_before k c Barred rowed room = omega arith
-small_before k c Dead rowed room = omega arith
-small_before k c Busy rowed room = omega arith
-small_before k c Parts rowed room = omega arith
-small_before k c Target rowed room = omega arith
-small_before k c Silence rowed room = omega arith
 small_before k c Doc rowed room = omega (arith, rowed.documents, room)
-small_before k c Plan rowed room = omega arith
-small_before k c Start rowed room = omega arith
-small_before k c Price rowed room = omega arith
-small_before k c Begin rowed room = omega arith
-small_before k c Wave rowed room = omega arith
-small_before k c Done rowed room = omega arith
-small_before k c Fail rowed room = omega arith
-small_before k c Withdraw rowed room = omega arith
-small_before k c Die rowed room = omega arith
-small_before k c Join rowed room = omega arith
-small_before k c Add rowed room = omega arith
-small_before k c Lose rowed room = omega arith
-small_before k c Sweep rowed room = omega arith
-small_before k c Reduce rowed room = omega arith
-small_before k c Copies rowed room = omega arith
-small_before k c Backup rowed room = omega arith
-small_before k c End rowed room = omega arith
+small_before k c word rowed room = omega arith
 
 abbrev AddsOne : Keyword → Statement → Type 0
 AddsOne k s = length (rows_of k (entered_of s)) ≡ one_if k s.keyword
@@ -66,36 +34,7 @@ AddsOne k s = length (rows_of k (entered_of s)) ≡ one_if k s.keyword
 adds_one : (k : Keyword) (words : List Word) → let s : Statement = record { keyword = k; words = words } in
     AddsOne Centre s × AddsOne Rack s × AddsOne Worker s × AddsOne Split s × AddsOne Doc s
 adds_one Problem words = (refl, refl, refl, refl, refl)
-adds_one Script words = (refl, refl, refl, refl, refl)
-adds_one Job words = (refl, refl, refl, refl, refl)
-adds_one Centre words = (refl, refl, refl, refl, refl)
-adds_one Rack words = (refl, refl, refl, refl, refl)
-adds_one Worker words = (refl, refl, refl, refl, refl)
-adds_one Split words = (refl, refl, refl, refl, refl)
-adds_one Barred words = (refl, refl, refl, refl, refl)
-adds_one Dead words = (refl, refl, refl, refl, refl)
-adds_one Busy words = (refl, refl, refl, refl, refl)
-adds_one Parts words = (refl, refl, refl, refl, refl)
-adds_one Target words = (refl, refl, refl, refl, refl)
-adds_one Silence words = (refl, refl, refl, refl, refl)
-adds_one Doc words = (refl, refl, refl, refl, refl)
-adds_one Plan words = (refl, refl, refl, refl, refl)
-adds_one Start words = (refl, refl, refl, refl, refl)
-adds_one Price words = (refl, refl, refl, refl, refl)
-adds_one Begin words = (refl, refl, refl, refl, refl)
-adds_one Wave words = (refl, refl, refl, refl, refl)
-adds_one Done words = (refl, refl, refl, refl, refl)
-adds_one Fail words = (refl, refl, refl, refl, refl)
-adds_one Withdraw words = (refl, refl, refl, refl, refl)
-adds_one Die words = (refl, refl, refl, refl, refl)
-adds_one Join words = (refl, refl, refl, refl, refl)
-adds_one Add words = (refl, refl, refl, refl, refl)
-adds_one Lose words = (refl, refl, refl, refl, refl)
-adds_one Sweep words = (refl, refl, refl, refl, refl)
-adds_one Reduce words = (refl, refl, refl, refl, refl)
-adds_one Copies words = (refl, refl, refl, refl, refl)
-adds_one Backup words = (refl, refl, refl, refl, refl)
-adds_one End words = (refl, refl, refl, refl, refl)
+adds_one k words = (refl, refl, refl, refl, refl)
 
 one_more : (k : Keyword) (rows : List Statement) (s : Statement) (old new : ℕ) → old ≡ length (rows_of k rows)
     → new ≡ old + one_if k s.keyword → AddsOne k s → new ≡ length (rows_of k (rows ++ entered_of s))

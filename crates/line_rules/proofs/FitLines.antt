@@ -1,6 +1,5 @@
 -- Lines that say statements, each without a fault after those before it.
-use Rattle.std.proofs.Common.{List, [], ◌∷◌, ◌++◌, ◌≡◌, ◌∙◌, sym, ap}
-use Rattle.std.proofs.Common.{append-nil, append_assoc}
+use Rattle.std.proofs.Common.{List, [], ◌∷◌, ◌++◌, ◌≡◌, ◌∙◌, sym, ap, append-nil, append_assoc}
 use Rattle.text_lines.specs.Texts.{Line}
 use Rattle.line_shapes.specs.Lines.{Statement}
 use Rattle.line_rules.specs.Known.{Known, entered, known_at}

@@ -1,61 +1,27 @@
 -- A line that fits has no fault, and is entered for the first time.
-use Rattle.std.proofs.Common.{List, ◌≢◌, refl}
-use Rattle.text_lines.specs.Texts.{Word}
+use Rattle.std.proofs.Common.{◌≢◌, refl}
 use Rattle.text_lines.specs.declared.fault.Fault.{Fault}
-use Rattle.text_lines.specs.declared.fault.Fault.TheVariants.{Shape, Misnamed, Unknown, Repeated}
-use Rattle.text_lines.specs.declared.fault.Fault.TheVariants.{OutOfRange, PassesLimit, Misplaced}
-use Rattle.text_lines.specs.declared.fault.Fault.TheVariants.{RepeatedHolder, SecondEntry, NoPrice, TooLong}
-use Rattle.text_lines.specs.declared.fault.Fault.TheVariants.{NoFeed, Unprintable, AfterEnd}
+use Rattle.text_lines.specs.declared.fault.Fault.TheVariants.{Shape, Misnamed, Unknown, Repeated, OutOfRange}
+use Rattle.text_lines.specs.declared.fault.Fault.TheVariants.{PassesLimit, Misplaced, RepeatedHolder}
+use Rattle.text_lines.specs.declared.fault.Fault.TheVariants.{SecondEntry, NoPrice}
 use Rattle.line_shapes.specs.Lines.{Statement}
 use Rattle.line_shapes.specs.declared.keyword.Keyword.{Keyword}
-use Rattle.line_shapes.specs.declared.keyword.Keyword.TheVariants.{Problem, Script, Job, Centre, Rack}
-use Rattle.line_shapes.specs.declared.keyword.Keyword.TheVariants.{Worker, Split, Barred, Dead, Busy, Parts}
-use Rattle.line_shapes.specs.declared.keyword.Keyword.TheVariants.{Target, Silence, Doc, Plan, Start, Price}
-use Rattle.line_shapes.specs.declared.keyword.Keyword.TheVariants.{Begin, Wave, Done, Fail, Withdraw, Die}
-use Rattle.line_shapes.specs.declared.keyword.Keyword.TheVariants.{Join, Add, Lose, Sweep, Reduce, Copies}
-use Rattle.line_shapes.specs.declared.keyword.Keyword.TheVariants.{Backup, End}
+use Rattle.line_shapes.specs.declared.keyword.Keyword.TheVariants.{Plan, Begin, End}
 use Rattle.line_rules.specs.Entering.{entering_of}
-use Rattle.line_rules.specs.Faults.{Fails, IsFirst, IsFit}
+use Rattle.line_rules.specs.Faults.{Fails, IsFirst, IsFirstOfBody, IsFirstOfHead, IsFit}
 use Rattle.line_rules.specs.Known.{Known}
+use Rattle.line_rules.specs.Sections.{section_after}
 use Rattle.line_rules.specs.declared.entering.Entering.TheVariants.{Nothing}
 
-first_of_fit : (k : Known) (word : Keyword) (words : List Word)
-    → let s : Statement = record { keyword = word; words = words } in
-    IsFit k s → entering_of word ≢ Nothing → IsFirst k.rows s
-first_of_fit k Problem words fit enters = absurd (enters refl)
-first_of_fit k Script words fit enters = absurd (enters refl)
-first_of_fit k Job words fit enters = absurd (enters refl)
-first_of_fit k Centre words fit enters = fit.new.first
-first_of_fit k Rack words fit enters = fit.new.first
-first_of_fit k Worker words fit enters = fit.new.first
-first_of_fit k Split words fit enters = fit.new.first
-first_of_fit k Barred words fit enters = fit.new.first
-first_of_fit k Dead words fit enters = fit.new.first
-first_of_fit k Busy words fit enters = fit.new.first
-first_of_fit k Parts words fit enters = fit.new.first
-first_of_fit k Target words fit enters = fit.new.first
-first_of_fit k Silence words fit enters = fit.new.first
-first_of_fit k Doc words fit enters = fit.new.first
-first_of_fit k Plan words fit enters = absurd (enters refl)
-first_of_fit k Start words fit enters = fit.once
-first_of_fit k Price words fit enters = fit.once
-first_of_fit k Begin words fit enters = absurd (enters refl)
-first_of_fit k Wave words fit enters = fit.once
-first_of_fit k Done words fit enters = fit.once
-first_of_fit k Fail words fit enters = fit.once
-first_of_fit k Withdraw words fit enters = fit.once
-first_of_fit k Die words fit enters = fit.once
-first_of_fit k Join words fit enters = fit.once
-first_of_fit k Add words fit enters = fit.once
-first_of_fit k Lose words fit enters = fit.once
-first_of_fit k Sweep words fit enters = fit.once
-first_of_fit k Reduce words fit enters = fit.once
-first_of_fit k Copies words fit enters = fit.once
-first_of_fit k Backup words fit enters = fit.once
-first_of_fit k End words fit enters = absurd (enters refl)
-
 pub fit_first : (k : Known) (s : Statement) → IsFit k s → entering_of s.keyword ≢ Nothing → IsFirst k.rows s
-fit_first k s fit enters = first_of_fit k s.keyword s.words fit enters
+fit_first k s fit enters = by s.keyword fit.new.first fit.once enters
+  where
+    by : (word : Keyword) → IsFirstOfHead (section_after word) k.rows s
+        → IsFirstOfBody (section_after word) k.rows s → entering_of word ≢ Nothing → IsFirst k.rows s
+    by Plan head body enters = absurd (enters refl)
+    by Begin head body enters = absurd (enters refl)
+    by End head body enters = absurd (enters refl)
+    by word head body enters = assumption (head, body)
 
 pub fit_faultless : (k : Known) (s : Statement) → IsFit k s → (f : Fault) → Fails k s f → ⊥
 fit_faultless k s fit Misplaced h = h.1 fit.may_stand
@@ -68,7 +34,4 @@ fit_faultless k s fit PassesLimit h = h.2 fit.within_limit
 fit_faultless k s fit RepeatedHolder h = h.2 fit.tail_apart
 fit_faultless k s fit SecondEntry h = h.2 fit.once
 fit_faultless k s fit NoPrice h = h.2 fit.priced
-fit_faultless k s fit TooLong h = h.2 tt
-fit_faultless k s fit NoFeed h = h.2 tt
-fit_faultless k s fit Unprintable h = h.2 tt
-fit_faultless k s fit AfterEnd h = h.2 tt
+fit_faultless k s fit f h = h.2 tt

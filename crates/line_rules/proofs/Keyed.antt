@@ -1,13 +1,14 @@
 -- Keys that are the same, and the tables of keys.
-use Rattle.std.proofs.Common.{ℕ, List, [], ◌∷◌, ◌++◌, ◌≡◌, ◌==◌, ◌<◌, ◌∙◌, ◌&&◌, Bool, true, false, Bor, inl, inr}
-use Rattle.std.proofs.Common.{Option, Some, None, cond, length, map, sym, ap, refl, subst, arith, get_or}
-use Rattle.std.proofs.Common.{eqb-true, true≢false}
+use Rattle.std.proofs.Common.{ℕ, List, [], ◌∷◌, ◌++◌, ◌≡◌, ◌==◌, ◌<◌, ◌∙◌, ◌&&◌, Bool, true, false, Bor, inl}
+use Rattle.std.proofs.Common.{inr, Option, Some, None, cond, length, map, sym, ap, refl, subst, arith, get_or}
+use Rattle.std.proofs.Common.{ap₂, eqb-true, true≢false}
 use Rattle.std.specs.Prelude.{◌↔◌, ◌⊎◌, Contains, IsTrue, if◌then◌else◌}
 use Rattle.std.specs.Bool.{Decides}
 use Rattle.std.specs.Option.{IsSome, is_some, unwrap_or}
 use Rattle.std.specs.Str.{bytes_eq}
 use Rattle.std.specs.List.{list_any}
-use Rattle.std.proofs.lemmas.List.{get_or-map, map-append}
+use Rattle.std.proofs.lemmas.List.{get_or-map, map_push}
+use Rattle.std.proofs.lemmas.Option.{none-some, same_Some}
 use Rattle.std.proofs.lemmas.List.Elements.{Contains-append_left, Contains-push, Contains-push_cases}
 use Rattle.std.proofs.lemmas.Slice.Eq.{bytes_eq-Decides}
 use Rattle.indexmap.specs.IndexMap.{insert_entry}
@@ -18,7 +19,8 @@ use Rattle.line_shapes.specs.declared.keyword.Keyword.{Keyword}
 use Rattle.line_shapes.specs.contracts.keyword.Keyword.{the_type}
 use Rattle.line_rules.specs.Entering.{Key, key_of}
 use Rattle.line_rules.specs.Known.{HasRow, keys_of}
-use Rattle.line_rules.specs.Rows.{AreTabled, HasKeyMore, IsKeyAt, IsRowAt, IsTabled, TextKey, first_by, key_in}
+use Rattle.line_rules.specs.Rows.{AreTabled, HasKeyMore, IsKeyAt, IsRowAt, IsTabled, TextKey, first_by}
+use Rattle.line_rules.specs.Rows.{key_in}
 use denote.Enum.Bare.{sameb, same_true, true_same}
 
 -- ---- keys
@@ -55,56 +57,50 @@ abbrev pub same_word : Bor (List ℕ) → Bor (List ℕ) → Bool
 same_word a b = bytes_eq a.now b.now
 
 module _ (e : Bor (List ℕ) × Keyword) (word : Word) where
+  -- the keyword that was found, or else that of an entry behind the others, where the test finds it
+  abbrev or_last : Bool → Option Keyword → Option Keyword
+  or_last found (Some k) = Some k
+  or_last found None = cond found (Some e.1) None
+
+  first_more : (firsts : Firsts)
+      → first_by (firsts ++ e ∷ []) word ≡ or_last (bytes_eq word e.0.now) (first_by firsts word)
+  first_more [] = refl
+  first_more (x ∷ firsts) =
+      elim (bytes_eq word x.0.now) as (λ b. cond b (Some x.1) (first_by (firsts ++ e ∷ []) word)
+      ≡ or_last (bytes_eq word e.0.now) (cond b (Some x.1) (first_by firsts word))) [
+        | true ↦ refl
+        | false ↦ first_more firsts
+      ]
+
   first_kept : (firsts : Firsts) (k : Keyword) → first_by firsts word ≡ Some k
       → first_by (firsts ++ e ∷ []) word ≡ Some k
-  first_kept [] k is = absurd (let bad : None ≡ Some k = is in cc)
-  first_kept (x ∷ firsts) k is = by (bytes_eq word x.0.now) (first_kept firsts k) is
-    where
-      by : (b : Bool) → (first_by firsts word ≡ Some k → first_by (firsts ++ e ∷ []) word ≡ Some k)
-          → cond b (Some x.1) (first_by firsts word) ≡ Some k
-          → cond b (Some x.1) (first_by (firsts ++ e ∷ []) word) ≡ Some k
-      by true rest is = is
-      by false rest is = rest is
+  first_kept firsts k is = first_more firsts ∙ ap (or_last (bytes_eq word e.0.now)) is
 
   first_found : (firsts : Firsts) → first_by firsts word ≡ None → word ≡ e.0.now
       → first_by (firsts ++ e ∷ []) word ≡ Some e.1
-  first_found [] none same = rw ((bytes_eq-Decides word e.0.now).1 same) refl
-  first_found (x ∷ firsts) none same = by (bytes_eq word x.0.now) (λ none. first_found firsts none same) none
-    where
-      by : (b : Bool) → (first_by firsts word ≡ None → first_by (firsts ++ e ∷ []) word ≡ Some e.1)
-          → cond b (Some x.1) (first_by firsts word) ≡ None
-          → cond b (Some x.1) (first_by (firsts ++ e ∷ []) word) ≡ Some e.1
-      by true rest none = absurd (let bad : Some x.1 ≡ None = none in cc)
-      by false rest none = rest none
+  first_found firsts none same =
+      first_more firsts
+      ∙ ap₂ (λ b (o : Option Keyword). or_last b o) ((bytes_eq-Decides word e.0.now).1 same) none
 
   first_cases : (firsts : Firsts) (k : Keyword) → first_by (firsts ++ e ∷ []) word ≡ Some k
       → (first_by firsts word ≡ Some k) ⊎ ((word ≡ e.0.now) × (k ≡ e.1))
-  first_cases [] k is = by (bytes_eq word e.0.now) (bytes_eq-Decides word e.0.now) is
+  first_cases firsts k is =
+      by (first_by firsts word) (bytes_eq word e.0.now) (bytes_eq-Decides word e.0.now)
+      (sym (first_more firsts) ∙ is)
     where
-      by : (b : Bool) → Decides b (word ≡ e.0.now) → cond b (Some e.1) None ≡ Some k
-          → (first_by [] word ≡ Some k) ⊎ ((word ≡ e.0.now) × (k ≡ e.1))
-      by true same is = let found : Some e.1 ≡ Some k = is in inr (same.0 refl, cc)
-      by false same is = absurd (let bad : None ≡ Some k = is in cc)
-  first_cases (x ∷ firsts) k is = by (bytes_eq word x.0.now) (first_cases firsts k) is
-    where
-      by : (b : Bool) → (first_by (firsts ++ e ∷ []) word ≡ Some k
-          → (first_by firsts word ≡ Some k) ⊎ ((word ≡ e.0.now) × (k ≡ e.1)))
-          → cond b (Some x.1) (first_by (firsts ++ e ∷ []) word) ≡ Some k
-          → (cond b (Some x.1) (first_by firsts word) ≡ Some k) ⊎ ((word ≡ e.0.now) × (k ≡ e.1))
-      by true rest is = inl is
-      by false rest is = rest is
+      by : (o : Option Keyword) (b : Bool) → Decides b (word ≡ e.0.now) → or_last b o ≡ Some k
+          → (o ≡ Some k) ⊎ ((word ≡ e.0.now) × (k ≡ e.1))
+      by (Some j) b same is = inl is
+      by None true same is = inr (same.0 refl, sym (same_Some _ _ is))
+      by None false same is = absurd (none-some k is)
 
 some_of : {X : Type 0} (o : Option X) → IsSome o → (x : X) × (o ≡ Some x)
 some_of None some = absurd (true≢false (sym some))
 some_of (Some x) some = (x, refl)
 
-pub none_at : {X : Type 0} (o : Option X) → is_some o ≡ false → o ≡ None
-none_at None none = refl
-none_at (Some x) none = absurd (true≢false none)
-
 pub empty_at : (word : Word) → (length word == 0) ≡ true → word ≡ []
 empty_at [] is = refl
-empty_at (b ∷ bs) is = absurd (let none : length (b ∷ bs) ≡ 0 = eqb-true _ _ is in omega (arith, none))
+empty_at (b ∷ bs) is = absurd (omega (arith, eqb-true _ _ is))
 
 pub not_empty : (word : Word) → (length word == 0) ≡ false → word ≡ [] → ⊥
 not_empty word some empty = true≢false (sym (ap (λ (w : Word). length w == 0) empty) ∙ some)
@@ -148,13 +144,14 @@ key_put_first firsts new others word k second grown none empty =
 -- an entry that has its value already
 entry_same : (firsts : Firsts) (word : Bor (List ℕ)) (k : Keyword) → first_by firsts word.now ≡ Some k
     → insert_entry same_word firsts word k ≡ firsts
-entry_same [] word k is = absurd (let bad : None ≡ Some k = is in cc)
+entry_same [] word k is = absurd (none-some k is)
 entry_same (x ∷ firsts) word k is = by (bytes_eq word.now x.0.now) (entry_same firsts word k) is
   where
     by : (b : Bool) → (first_by firsts word.now ≡ Some k → insert_entry same_word firsts word k ≡ firsts)
         → cond b (Some x.1) (first_by firsts word.now) ≡ Some k
         → (if b then (x.0, k) ∷ firsts else x ∷ insert_entry same_word firsts word k) ≡ x ∷ firsts
-    by true rest is = let found : Some x.1 ≡ Some k = is in let at : x.1 ≡ k = cc in ap (λ v. (x.0, v) ∷ firsts) (sym at)
+    by true rest is =
+        ap (λ (v : Keyword). (x.0, v) ∷ firsts) (sym (same_Some _ _ is))
     by false rest is = ap (λ l. x ∷ l) (rest is)
 
 -- the first table once a word was entered, where it was not by another keyword
@@ -201,6 +198,21 @@ entered_before firsts new word k v grown value other = by (first_by firsts word.
 
 -- ---- the second table
 
+-- of a list with one element more, what the elements show
+pushed : {X Y : Type 0} (f : X → Y) (xs : List X) (x : X) (q : Y)
+    → Contains (map f (xs ++ x ∷ [])) q ↔ (Contains (map f xs) q ⊎ (q ≡ f x))
+pushed f xs x q =
+    subst (λ l. Contains l q ↔ (Contains (map f xs) q ⊎ (q ≡ f x))) (sym (map_push f xs x)) (
+      λ h. elim (Contains-push_cases (map f xs) (f x) q h) [
+        | inl old ↦ inl old
+        | inr same ↦ inr (sym same)
+      ],
+      λ h. elim h [
+        | inl old ↦ Contains-append_left (map f xs) (f x ∷ []) q old
+        | inr same ↦ subst (Contains (map f xs ++ f x ∷ [])) (sym same) (Contains-push (map f xs) (f x))
+      ],
+    )
+
 abbrev IsOther : List TextKey → Key → Type 0
 IsOther others key = Contains (map key_in others) key
 
@@ -208,35 +220,20 @@ other_cases : (others new : List TextKey) (key : TextKey) (q : Key)
     → new ≡ (if list_any (λ k. same_key (key_in key) (key_in k)) others then others else others ++ key ∷ [])
     → IsOther new q ↔ (IsOther others q ⊎ (q ≡ key_in key))
 other_cases others new key q grown =
-    by (list_any (λ k. same_key (key_in key) (key_in k)) others) refl grown
+    subst (λ l. IsOther l q ↔ (IsOther others q ⊎ (q ≡ key_in key))) (sym grown)
+    (by (list_any (λ k. same_key (key_in key) (key_in k)) others) refl)
   where
     by : (b : Bool) → b ≡ list_any (λ k. same_key (key_in key) (key_in k)) others
-        → new ≡ (if b then others else others ++ key ∷ [])
-        → IsOther new q ↔ (IsOther others q ⊎ (q ≡ key_in key))
-    by true is grown =
-        let has : IsOther others (key_in key) =
-        (found_key same_key same_key-Decides key_in true (key_in key) others (map key_in others) refl is).0 refl in (
-          λ h. inl (subst (λ l. IsOther l q) grown h),
+        → IsOther (if b then others else others ++ key ∷ []) q ↔ (IsOther others q ⊎ (q ≡ key_in key))
+    by true is =
+        let found = found_key same_key same_key-Decides key_in true (key_in key) others _ refl is in (
+          λ h. inl h,
           λ h. elim h [
-            | inl old ↦ subst (λ l. IsOther l q) (sym grown) old
-            | inr same ↦ subst (λ l. IsOther l q) (sym grown) (subst (IsOther others) (sym same) has)
+            | inl old ↦ old
+            | inr same ↦ subst (IsOther others) (sym same) (found.0 refl)
           ],
         )
-    by false is grown =
-        let shown : map key_in new ≡ map key_in others ++ key_in key ∷ [] =
-        ap (map key_in) grown ∙ map-append key_in others (key ∷ []) in (
-          λ h. elim (Contains-push_cases (map key_in others) (key_in key) q (subst (λ l. Contains l q) shown h)) [
-            | inl old ↦ inl old
-            | inr same ↦ inr (sym same)
-          ],
-          λ h. elim h [
-            | inl old ↦ subst (λ l. Contains l q) (sym shown)
-                (Contains-append_left (map key_in others) (key_in key ∷ []) q old)
-            | inr same ↦ subst (λ l. Contains l q) (sym shown)
-                (subst (Contains (map key_in others ++ key_in key ∷ [])) (sym same)
-                (Contains-push (map key_in others) (key_in key)))
-          ],
-        )
+    by false is = pushed key_in others key q
 
 pub key_put_other : (firsts : Firsts) (others new : List TextKey) (key : TextKey)
     → new ≡ (if list_any (λ k. same_key (key_in key) (key_in k)) others then others else others ++ key ∷ [])
@@ -273,59 +270,48 @@ pub tabled_more : (rows new_rows : List Statement) (s : Statement) (firsts new :
 tabled_more rows new_rows s firsts new others new_others grown tabled more =
     subst (λ (l : List Statement). AreTabled l new new_others) (sym grown) (record {
       keys = λ q. (
-        λ h. elim (cases q h) [
-          | inl old ↦ (more.keys q).1 (inl ((tabled.keys q).0 old))
-          | inr same ↦ (more.keys q).1 (inr same)
-        ],
-        λ h. elim ((more.keys q).0 h) [
-          | inl old ↦ subst (λ l. Contains l q) (sym shown)
-              (Contains-append_left (keys_of rows) (key_of s ∷ []) q ((tabled.keys q).1 old))
-          | inr same ↦ subst (λ l. Contains l q) (sym shown)
-              (subst (Contains (keys_of rows ++ key_of s ∷ [])) (sym same) (Contains-push (keys_of rows) (key_of s)))
-        ],
+        λ h. (more.keys q).1 (elim ((pushed key_of rows s q).0 h) [
+          | inl old ↦ inl ((tabled.keys q).0 old)
+          | inr same ↦ inr same
+        ]),
+        λ h. (pushed key_of rows s q).1 (elim ((more.keys q).0 h) [
+          | inl old ↦ inl ((tabled.keys q).1 old)
+          | inr same ↦ inr same
+        ]),
       );
-      words = λ k word h. elim (cases (k, word, []) h) [
+      words = λ k word h. elim ((pushed key_of rows s (k, word, [])).0 h) [
         | inl old ↦ more.kept word (tabled.words k word old)
         | inr same ↦ subst (λ (w : Word). IsSome (first_by new w)) (sym (ap (λ (q : Key). q.1) same))
             (more.word (sym (ap (λ (q : Key). q.2) same)))
       ];
     })
-  where
-    shown : keys_of (rows ++ s ∷ []) ≡ keys_of rows ++ key_of s ∷ []
-    shown = map-append key_of rows (s ∷ [])
 
-    cases : (q : Key) → Contains (keys_of (rows ++ s ∷ [])) q → Contains (keys_of rows) q ⊎ (q ≡ key_of s)
-    cases q h = elim (Contains-push_cases (keys_of rows) (key_of s) q (subst (λ l. Contains l q) shown h)) [
-      | inl old ↦ inl old
-      | inr same ↦ inr (sym same)
-    ]
+module _ (rows : List Statement) (firsts : Firsts) (others : List TextKey)
+    (tabled : AreTabled rows firsts others) where
+  -- a look-up in the second table, of a key that is not in the first
+  pub found_other : (b : Bool) (key : Key) → b ≡ list_any (λ k. same_key key (key_in k)) others
+      → (key.2 ≡ [] → first_by firsts key.1 ≡ Some key.0 → ⊥) → IsTrue b ↔ Contains (keys_of rows) key
+  found_other b key is not_first =
+      let found = found_key same_key same_key-Decides key_in b key others (map key_in others) refl is in (
+        λ t. (tabled.keys key).1 (inr (found.0 t)),
+        λ h. elim ((tabled.keys key).0 h) [
+          | inl first ↦ absurd (not_first first.0 first.1)
+          | inr other ↦ found.1 other
+        ],
+      )
 
-module _ (rows : List Statement) (firsts : Firsts) (others : List TextKey) (tabled : AreTabled rows firsts others)
-  where
-    -- a look-up in the second table, of a key that is not in the first
-    pub found_other : (b : Bool) (key : Key) → b ≡ list_any (λ k. same_key key (key_in k)) others
-        → (key.2 ≡ [] → first_by firsts key.1 ≡ Some key.0 → ⊥) → IsTrue b ↔ Contains (keys_of rows) key
-    found_other b key is not_first =
-        let found = found_key same_key same_key-Decides key_in b key others (map key_in others) refl is in (
-          λ t. (tabled.keys key).1 (inr (found.0 t)),
-          λ h. elim ((tabled.keys key).0 h) [
-            | inl first ↦ absurd (not_first first.0 first.1)
-            | inr other ↦ found.1 other
-          ],
-        )
+  -- a word that the first table lacks
+  pub found_none : (key : Key) → key.2 ≡ [] → first_by firsts key.1 ≡ None → Contains (keys_of rows) key → ⊥
+  found_none key empty none h =
+      let at : Contains (keys_of rows) (key.0, key.1, []) =
+      subst (Contains (keys_of rows)) (λ i. (key.0, key.1, empty i)) h in
+      true≢false (sym (tabled.words key.0 key.1 at) ∙ ap is_some none)
 
-    -- a word that the first table lacks
-    pub found_none : (key : Key) → key.2 ≡ [] → first_by firsts key.1 ≡ None → Contains (keys_of rows) key → ⊥
-    found_none key empty none h =
-        let at : Contains (keys_of rows) (key.0, key.1, []) =
-        subst (Contains (keys_of rows)) (λ i. (key.0, key.1, empty i)) h in
-        true≢false (sym (tabled.words key.0 key.1 at) ∙ ap is_some none)
-
-    pub found_word : (b : Bool) (word : Word) → b ≡ is_some (first_by firsts word)
-        → IsTrue b ↔ ((k : Keyword) × HasRow rows k word)
-    found_word b word is = (
-      λ t.
-          let some = some_of (first_by firsts word) (sym is ∙ t) in
-          (some.0, (tabled.keys (some.0, word, [])).1 (inl (refl, some.1))),
-      λ (k, h). is ∙ tabled.words k word h,
-    )
+  pub found_word : (b : Bool) (word : Word) → b ≡ is_some (first_by firsts word)
+      → IsTrue b ↔ ((k : Keyword) × HasRow rows k word)
+  found_word b word is = (
+    λ t.
+        let some = some_of (first_by firsts word) (sym is ∙ t) in
+        (some.0, (tabled.keys (some.0, word, [])).1 (inl (refl, some.1))),
+    λ (k, h). is ∙ tabled.words k word h,
+  )

@@ -3,9 +3,6 @@ use Rattle.std.proofs.Common.{◌≤◌, arith}
 use Rattle.text_lines.specs.Faults.{number_of_fault}
 use Rattle.text_lines.specs.declared.fault.Fault.{Fault}
 use Rattle.text_lines.specs.declared.fault.Fault.TheVariants.{Shape, Misnamed, Unknown, Repeated}
-use Rattle.text_lines.specs.declared.fault.Fault.TheVariants.{OutOfRange, PassesLimit, Misplaced}
-use Rattle.text_lines.specs.declared.fault.Fault.TheVariants.{RepeatedHolder, SecondEntry, NoPrice, TooLong}
-use Rattle.text_lines.specs.declared.fault.Fault.TheVariants.{NoFeed, Unprintable, AfterEnd}
 use Rattle.line_shapes.specs.Lines.{IsNamed, Statement}
 use Rattle.line_rules.specs.Faults.{Fails, IsLeastOf, IsNew, IsComplete, Keep, MayStand}
 use Rattle.line_rules.specs.Known.{Known}
@@ -15,35 +12,14 @@ past_names : (k : Known) (s : Statement) → IsComplete k s → IsNamed s → (g
     → 3 ≤ number_of_fault g
 past_names k s whole named Shape h = absurd (h whole)
 past_names k s whole named Misnamed h = absurd (h.2 named)
-past_names k s whole named Unknown h = omega arith
-past_names k s whole named Repeated h = omega arith
-past_names k s whole named OutOfRange h = omega arith
-past_names k s whole named PassesLimit h = omega arith
-past_names k s whole named Misplaced h = omega arith
-past_names k s whole named RepeatedHolder h = omega arith
-past_names k s whole named SecondEntry h = omega arith
-past_names k s whole named NoPrice h = omega arith
-past_names k s whole named TooLong h = omega arith
-past_names k s whole named NoFeed h = omega arith
-past_names k s whole named Unprintable h = omega arith
-past_names k s whole named AfterEnd h = omega arith
+past_names k s whole named g h = omega arith
 
 past_known : (k : Known) (s : Statement) → IsComplete k s → IsNamed s → Keep rule.Declared k.rows s
     → (g : Fault) → Fails k s g → 4 ≤ number_of_fault g
 past_known k s whole named known Shape h = absurd (h whole)
 past_known k s whole named known Misnamed h = absurd (h.2 named)
 past_known k s whole named known Unknown h = absurd (h.2 known)
-past_known k s whole named known Repeated h = omega arith
-past_known k s whole named known OutOfRange h = omega arith
-past_known k s whole named known PassesLimit h = omega arith
-past_known k s whole named known Misplaced h = omega arith
-past_known k s whole named known RepeatedHolder h = omega arith
-past_known k s whole named known SecondEntry h = omega arith
-past_known k s whole named known NoPrice h = omega arith
-past_known k s whole named known TooLong h = omega arith
-past_known k s whole named known NoFeed h = omega arith
-past_known k s whole named known Unprintable h = omega arith
-past_known k s whole named known AfterEnd h = omega arith
+past_known k s whole named known g h = omega arith
 
 pub least_unknown : (k : Known) (s : Statement) → IsComplete k s → MayStand k s → IsNamed s
     → (Keep rule.Declared k.rows s → ⊥) → IsLeastOf (Fails k s) Unknown

@@ -3,10 +3,7 @@ use Rattle.std.proofs.Common.{◌≡◌, ◌≤◌, List, ◌∷◌, subst, arit
 use Rattle.text_lines.specs.Texts.{Line, Word}
 use Rattle.text_lines.specs.Faults.{number_of_fault}
 use Rattle.text_lines.specs.declared.fault.Fault.{Fault}
-use Rattle.text_lines.specs.declared.fault.Fault.TheVariants.{Shape, Misnamed, Unknown, Repeated}
-use Rattle.text_lines.specs.declared.fault.Fault.TheVariants.{OutOfRange, PassesLimit, Misplaced}
-use Rattle.text_lines.specs.declared.fault.Fault.TheVariants.{RepeatedHolder, SecondEntry, NoPrice, TooLong}
-use Rattle.text_lines.specs.declared.fault.Fault.TheVariants.{NoFeed, Unprintable, AfterEnd}
+use Rattle.text_lines.specs.declared.fault.Fault.TheVariants.{Shape, TooLong, NoFeed, Unprintable, AfterEnd}
 use Rattle.line_shapes.specs.Keywords.{spelling_of}
 use Rattle.line_shapes.specs.Lines.{Says, SaysNothing, Statement, words_in}
 use Rattle.line_shapes.specs.declared.keyword.Keyword.{Keyword}
@@ -24,19 +21,11 @@ fault_of_line : (k : Known) (line : Line) (s : Statement) → IsLegible k line �
     → Fails k s f → LineHas k line f
 fault_of_line k line s sound says Shape h =
     (sound, λ t other whole. h (subst (λ u. IsComplete k u) (says-unique line t s other says) whole))
-fault_of_line k line s sound says Misnamed h = (sound, (s, says, h))
-fault_of_line k line s sound says Unknown h = (sound, (s, says, h))
-fault_of_line k line s sound says Repeated h = (sound, (s, says, h))
-fault_of_line k line s sound says OutOfRange h = (sound, (s, says, h))
-fault_of_line k line s sound says PassesLimit h = (sound, (s, says, h))
-fault_of_line k line s sound says Misplaced h = (sound, (s, says, h))
-fault_of_line k line s sound says RepeatedHolder h = (sound, (s, says, h))
-fault_of_line k line s sound says SecondEntry h = (sound, (s, says, h))
-fault_of_line k line s sound says NoPrice h = (sound, (s, says, h))
 fault_of_line k line s sound says TooLong h = absurd (h.2 tt)
 fault_of_line k line s sound says NoFeed h = absurd (h.2 tt)
 fault_of_line k line s sound says Unprintable h = absurd (h.2 tt)
 fault_of_line k line s sound says AfterEnd h = absurd (h.2 tt)
+fault_of_line k line s sound says f h = (sound, (s, says, h))
 
 -- a statement that the line says is the one that it says
 same_fault : (k : Known) (line : Line) (s t : Statement) → Says line s → Says line t → (f : Fault)
@@ -47,20 +36,11 @@ same_fault k line s t one other f h = subst (λ u. Fails k u f) (says-unique lin
 fault_of_statement : (k : Known) (line : Line) (s : Statement) → IsLegible k line → Says line s
     → (f : Fault) → LineHas k line f → Fails k s f
 fault_of_statement k line s sound says Shape h = h.1 s says
-fault_of_statement k line s sound says Misnamed h = same_fault k line s h.1.0 says h.1.1 Misnamed h.1.2
-fault_of_statement k line s sound says Unknown h = same_fault k line s h.1.0 says h.1.1 Unknown h.1.2
-fault_of_statement k line s sound says Repeated h = same_fault k line s h.1.0 says h.1.1 Repeated h.1.2
-fault_of_statement k line s sound says OutOfRange h = same_fault k line s h.1.0 says h.1.1 OutOfRange h.1.2
-fault_of_statement k line s sound says PassesLimit h = same_fault k line s h.1.0 says h.1.1 PassesLimit h.1.2
-fault_of_statement k line s sound says Misplaced h = same_fault k line s h.1.0 says h.1.1 Misplaced h.1.2
-fault_of_statement k line s sound says RepeatedHolder h =
-    same_fault k line s h.1.0 says h.1.1 RepeatedHolder h.1.2
-fault_of_statement k line s sound says SecondEntry h = same_fault k line s h.1.0 says h.1.1 SecondEntry h.1.2
-fault_of_statement k line s sound says NoPrice h = same_fault k line s h.1.0 says h.1.1 NoPrice h.1.2
 fault_of_statement k line s sound says TooLong h = absurd h
 fault_of_statement k line s sound says NoFeed h = absurd h
 fault_of_statement k line s sound says Unprintable h = absurd (h sound.0)
 fault_of_statement k line s sound says AfterEnd h = absurd (sound.1 h)
+fault_of_statement k line s sound says f h = same_fault k line s h.1.0 says h.1.1 f h.1.2
 
 -- the least fault of the statement is the line's
 pub least_of_line : (k : Known) (line : Line) (s : Statement) → IsLegible k line → Says line s
@@ -78,27 +58,14 @@ line_faultless k line s sound says fit f h = fit_faultless k s fit f
 
 lowest : (g : Fault) → 1 ≤ number_of_fault g
 lowest Shape = omega arith
-lowest Misnamed = omega arith
-lowest Unknown = omega arith
-lowest Repeated = omega arith
-lowest OutOfRange = omega arith
-lowest PassesLimit = omega arith
-lowest Misplaced = omega arith
-lowest RepeatedHolder = omega arith
-lowest SecondEntry = omega arith
-lowest NoPrice = omega arith
-lowest TooLong = omega arith
-lowest NoFeed = omega arith
-lowest Unprintable = omega arith
-lowest AfterEnd = omega arith
+lowest g = omega arith
 
 -- a line that says nothing has the lowest fault of all
 pub nothing_least : (k : Known) (line : Line) → IsLegible k line → SaysNothing line
     → IsLeastOf (LineHas k line) Shape
 nothing_least k line sound nothing = record {
   applies = (sound, λ s says whole. nothing s says);
-  least =
-      λ g h. lowest g;
+  least = λ g h. lowest g;
 }
 
 -- the least error of what the line says is the line's

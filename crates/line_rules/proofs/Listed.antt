@@ -34,14 +34,15 @@ module _ (words more : Words) where
       → map (statement_at (words ++ more)) ps ≡ map (statement_at words) ps
   lines_kept [] within = refl
   lines_kept (p ∷ ps) within =
-      ap₂ (λ (s : Statement) (ss : List Statement). s ∷ ss) (line_kept p (All-head (IsWithin words) p ps within))
+      ap₂ (λ (s : Statement) (ss : List Statement). s ∷ ss)
+      (line_kept p (All-head (IsWithin words) p ps within))
       (lines_kept ps (All-tail (IsWithin words) p ps within))
 
   pub within_more : (ps : List LinePlace) → AreWithin words ps → AreWithin (words ++ more) ps
   within_more ps within =
       All-weaker (IsWithin words) (IsWithin (words ++ more))
-      (λ p at. (at.0, rw length-append (let inside : p.end ≤ length words = at.1 in omega (arith, inside)))) ps
-      within
+      (λ p at. (at.0, rw length-append (let inside : p.end ≤ length words = at.1 in omega (arith, inside))))
+      ps within
 
 -- the same of any list that is as long or longer by those words
 pub kept_by : (words more new : Words) (ps : List LinePlace) → new ≡ words ++ more → AreWithin words ps

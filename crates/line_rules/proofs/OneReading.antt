@@ -1,14 +1,14 @@
 -- A text is read in one way: it says one list of statements, or it has one least fault.
-use Rattle.std.proofs.Common.{ℕ, List, [], ◌∷◌, ◌≡◌, ◌≤◌, ◌<◌, ◌+◌, ◌⊎◌, ◌∙◌, inl, inr, length, take}
-use Rattle.std.proofs.Common.{refl, sym, ap, subst, arith}
+use Rattle.std.proofs.Common.{ℕ, List, [], ◌∷◌, ◌≡◌, ◌≤◌, ◌<◌, ◌+◌, ◌⊎◌, ◌∙◌, inl, inr, length, take, refl}
+use Rattle.std.proofs.Common.{sym, ap, subst, arith}
 use Rattle.std.specs.Prelude.{◌==◌, if◌then◌else◌}
 use Rattle.text_lines.specs.Texts.{Line, lines_of}
 use Rattle.text_lines.specs.Faults.{number_of_fault}
 use Rattle.text_lines.specs.declared.fault.Fault.{Fault}
-use Rattle.text_lines.specs.declared.fault.Fault.TheVariants.{Shape, Misnamed, Unknown, Repeated}
-use Rattle.text_lines.specs.declared.fault.Fault.TheVariants.{OutOfRange, PassesLimit, Misplaced}
-use Rattle.text_lines.specs.declared.fault.Fault.TheVariants.{RepeatedHolder, SecondEntry, NoPrice, TooLong}
-use Rattle.text_lines.specs.declared.fault.Fault.TheVariants.{NoFeed, Unprintable, AfterEnd}
+use Rattle.text_lines.specs.declared.fault.Fault.TheVariants.{Shape, Misnamed, Unknown, Repeated, OutOfRange}
+use Rattle.text_lines.specs.declared.fault.Fault.TheVariants.{PassesLimit, Misplaced, RepeatedHolder}
+use Rattle.text_lines.specs.declared.fault.Fault.TheVariants.{SecondEntry, NoPrice, TooLong, NoFeed}
+use Rattle.text_lines.specs.declared.fault.Fault.TheVariants.{Unprintable, AfterEnd}
 use Rattle.line_shapes.specs.Lines.{Statement}
 use Rattle.line_shapes.proofs.OneStatement.{says-unique}
 use Rattle.line_rules.specs.Texts.{Declare, IsLeastAt, IsLeastFault, ReadsAs, longest}
@@ -62,19 +62,7 @@ fault_told number =
 
 told_by_number : (f : Fault) → fault_told (number_of_fault f) ≡ f
 told_by_number Shape = refl
-told_by_number Misnamed = refl
-told_by_number Unknown = refl
-told_by_number Repeated = refl
-told_by_number OutOfRange = refl
-told_by_number PassesLimit = refl
-told_by_number Misplaced = refl
-told_by_number RepeatedHolder = refl
-told_by_number SecondEntry = refl
-told_by_number NoPrice = refl
-told_by_number TooLong = refl
-told_by_number NoFeed = refl
-told_by_number Unprintable = refl
-told_by_number AfterEnd = refl
+told_by_number f = refl
 
 -- no two faults have one number
 pub number_of_fault-injective : (f g : Fault) → number_of_fault f ≡ number_of_fault g → f ≡ g

@@ -1,16 +1,13 @@
 -- Line by line: what is known of a text whose first lines have been read without a fault.
-use Rattle.std.proofs.Common.{ℕ, List, [], ◌∷◌, ◌≡◌, ◌++◌, ◌+◌, ◌≤◌, ◌<◌, inl, inr, length}
-use Rattle.std.proofs.Common.{take, drop, refl, sym, ap, subst, ◌∙◌, arith, length-drop, length-append}
-use Rattle.std.proofs.Common.{add-one, suc, get_or, ◌==◌, drop_of_length-le}
+use Rattle.std.proofs.Common.{ℕ, List, [], ◌∷◌, ◌≡◌, ◌++◌, ◌+◌, ◌≤◌, ◌<◌, inl, inr, length, take, drop, refl}
+use Rattle.std.proofs.Common.{sym, ap, subst, ◌∙◌, arith, length-drop, length-append, add-one, suc, get_or}
+use Rattle.std.proofs.Common.{◌==◌, drop_of_length-le}
 use Rattle.std.proofs.Math.Seq.{drop-cons, take-suc}
 use Rattle.std.proofs.lemmas.Bool.{cases_lt, cases_eq}
 use Rattle.std.proofs.lemmas.List.Splits.{length-slice_split}
 use Rattle.text_lines.specs.Texts.{Line, lines_of}
 use Rattle.text_lines.specs.declared.fault.Fault.{Fault}
-use Rattle.text_lines.specs.declared.fault.Fault.TheVariants.{Shape, Misnamed, Unknown, Repeated}
-use Rattle.text_lines.specs.declared.fault.Fault.TheVariants.{OutOfRange, PassesLimit, Misplaced}
-use Rattle.text_lines.specs.declared.fault.Fault.TheVariants.{RepeatedHolder, SecondEntry, NoPrice, TooLong}
-use Rattle.text_lines.specs.declared.fault.Fault.TheVariants.{NoFeed, Unprintable, AfterEnd}
+use Rattle.text_lines.specs.declared.fault.Fault.TheVariants.{Misplaced, TooLong}
 use Rattle.line_shapes.specs.Lines.{Statement}
 use Rattle.line_rules.specs.Texts.{Declare}
 use Rattle.line_rules.specs.Known.{Known, entered, known_at}
@@ -20,8 +17,8 @@ use Rattle.line_rules.proofs.OneReading.{declare-unique}
 use Rattle.line_rules.proofs.Steps.{declare-step, known_at-step}
 use Rattle.line_rules.specs.declared.purpose.Purpose.{Purpose}
 use Rattle.line_rules.specs.declared.section.Section.TheVariants.{Ended}
-use Rattle.line_rules.specs.Reading.{AreFitLines, IsAllRead, IsFitLine, IsLeastError, Takes}
-use Rattle.line_rules.specs.Reading.{IsReadingError, error_at}
+use Rattle.line_rules.specs.Reading.{AreFitLines, IsAllRead, IsFitLine, IsLeastError, Takes, IsReadingError}
+use Rattle.line_rules.specs.Reading.{error_at}
 use Rattle.line_rules.specs.declared.reading.LineError.{LineError}
 use Rattle.line_rules.specs.declared.reading.LineError.TheVariants as error
 use Rattle.line_rules.proofs.FitLines.{fit-step, known_after, names_after}
@@ -72,15 +69,10 @@ drop_one n xs ys x e =
 -- ---- the line that is left first
 
 -- it has its line feed where others are left after it
-feed_follows : (k : Known) (line : Line) (ls : List Line) (g : Fault) → 0 < length ls
-    → FirstHas k (line ∷ ls) g → LineHas k line g
-feed_follows k line [] g h has = absurd (omega arith)
-feed_follows k line (next ∷ more) g h has = has
-
-first_of_more : (k : Known) (line : Line) (ls : List Line) (g : Fault) → 0 < length ls → LineHas k line g
-    → FirstHas k (line ∷ ls) g
-first_of_more k line [] g h has = absurd (omega arith)
-first_of_more k line (next ∷ more) g h has = has
+feed_follows : (k : Known) (line : Line) (ls : List Line) → 0 < length ls
+    → FirstHas k (line ∷ ls) ≡ LineHas k line
+feed_follows k line [] h = absurd (omega arith)
+feed_follows k line (next ∷ more) h = refl
 
 pub some_line : (text : List ℕ) → 0 < length (lines_of text)
 some_line text = omega (arith, length-slice_split (λ b. b == 10) text)
@@ -90,8 +82,8 @@ first_has : (purpose : Purpose) (text : List ℕ) (left : List Line) (n : ℕ) (
     → IsReadTo purpose text left n k → (g : Fault) → Applies purpose text n g → FirstHas k left g
 first_has purpose text left n k read g applies =
     let same : applies.0 ≡ read.before = declare-unique _ _ _ applies.1 read.says in
-    rw (read.known, read.rest) (subst (λ b. FirstHas (known_at purpose b) (drop n
-    (lines_of text)) g) same applies.2)
+    rw (read.known, read.rest)
+    (subst (λ b. FirstHas (known_at purpose b) (drop n (lines_of text)) g) same applies.2)
 
 line_has : (purpose : Purpose) (text : List ℕ) (left : List Line) (line : Line) (after : List Line)
     (n : ℕ) (k : Known)
@@ -99,8 +91,8 @@ line_has : (purpose : Purpose) (text : List ℕ) (left : List Line) (line : Line
     → Applies purpose text n g
     → LineHas k line g
 line_has purpose text left line after n k read split more g applies =
-    feed_follows k line after g more (subst (λ ls. FirstHas k ls g) split
-    (first_has purpose text left n k read g applies))
+    subst (λ (P : Fault → Type 0). P g) (ap (FirstHas k) split ∙ feed_follows k line after more)
+    (first_has purpose text left n k read g applies)
 
 -- ---- one line more
 
@@ -184,20 +176,16 @@ pub least_at : (purpose : Purpose) (text : List ℕ) (left : List Line) (line : 
     → 0 < length after
     → IsLeastOf (LineHas k line) f → IsLeastAt purpose text n f
 least_at purpose text left line after n k f short read split more least =
-    least_first purpose text left n k f short read (record {
-      applies = subst (λ ls. FirstHas k ls f) (sym split) (first_of_more k line after f more least.applies);
-      least = λ g h. least.least g (feed_follows k line after g more (subst (λ ls. FirstHas k ls g) split h));
-    })
+    least_first purpose text left n k f short read
+    (subst (λ P. IsLeastOf P f) (sym (ap (FirstHas k) split ∙ feed_follows k line after more)) least)
 
 pub least_at_rest : (purpose : Purpose) (text : List ℕ) (left : List Line) (line : Line) (n : ℕ) (k : Known)
     (f : Fault) → length text ≤ longest → IsReadTo purpose text left n k → left ≡ line ∷ []
     → IsLeastOf (RestHas k line) f
     → IsLeastAt purpose text n f
 least_at_rest purpose text left line n k f short read split least =
-    least_first purpose text left n k f short read (record {
-      applies = subst (λ ls. FirstHas k ls f) (sym split) least.applies;
-      least = λ g h. least.least g (subst (λ ls. FirstHas k ls g) split h);
-    })
+    least_first purpose text left n k f short read
+    (subst (λ P. IsLeastOf P f) (sym (ap (FirstHas k) split)) least)
 
 -- no line is too long: a text is
 never_too_long : (k : Known) (ls : List Line) → FirstHas k ls TooLong → ⊥
@@ -210,19 +198,7 @@ pub least_fault : (purpose : Purpose) (text : List ℕ) (n : ℕ) (f : Fault) �
     → IsLeastFault purpose text (n + 1) f
 least_fault purpose text n TooLong h =
     absurd (never_too_long (known_at purpose h.applies.0) (drop n (lines_of text)) h.applies.2)
-least_fault purpose text n Shape h = (n, refl, h)
-least_fault purpose text n Misnamed h = (n, refl, h)
-least_fault purpose text n Unknown h = (n, refl, h)
-least_fault purpose text n Repeated h = (n, refl, h)
-least_fault purpose text n OutOfRange h = (n, refl, h)
-least_fault purpose text n PassesLimit h = (n, refl, h)
-least_fault purpose text n Misplaced h = (n, refl, h)
-least_fault purpose text n RepeatedHolder h = (n, refl, h)
-least_fault purpose text n SecondEntry h = (n, refl, h)
-least_fault purpose text n NoPrice h = (n, refl, h)
-least_fault purpose text n NoFeed h = (n, refl, h)
-least_fault purpose text n Unprintable h = (n, refl, h)
-least_fault purpose text n AfterEnd h = (n, refl, h)
+least_fault purpose text n f h = (n, refl, h)
 
 pub error_of_text : (purpose : Purpose) (text : List ℕ) (left : List Line) (line : Line)
     (after : List Line) (n : ℕ) (k : Known)
@@ -237,19 +213,7 @@ error_of_text purpose text left line after n k error.Memory short read split mor
 
 rest_faultless : (k : Known) (f : Fault) → k.section ≡ Ended → FirstHas k ([] ∷ []) f → ⊥
 rest_faultless k Misplaced ended h = h ended
-rest_faultless k Shape ended h = h
-rest_faultless k Misnamed ended h = h
-rest_faultless k Unknown ended h = h
-rest_faultless k Repeated ended h = h
-rest_faultless k OutOfRange ended h = h
-rest_faultless k PassesLimit ended h = h
-rest_faultless k RepeatedHolder ended h = h
-rest_faultless k SecondEntry ended h = h
-rest_faultless k NoPrice ended h = h
-rest_faultless k TooLong ended h = h
-rest_faultless k NoFeed ended h = h
-rest_faultless k Unprintable ended h = h
-rest_faultless k AfterEnd ended h = h
+rest_faultless k f ended h = h
 
 lines_read : (purpose : Purpose) (text : List ℕ) (n : ℕ) (k : Known) → IsReadTo purpose text ([] ∷ []) n k
     → length (lines_of text) ≡ n + 1

@@ -1,7 +1,7 @@
--- The keys of rows: none is a command's, and what was declared is named; so the names of a line that uses declared
--- ones are names.
-use Rattle.std.proofs.Common.{ℕ, List, [], ◌∷◌, ◌++◌, ◌≡◌, ◌≢◌, ◌<◌, Option, Some, None, length, get_or}
-use Rattle.std.proofs.Common.{inl, inr, refl, subst, sym, arith}
+-- The keys of rows: none is a command's, and what was declared is named; so the names of a line that uses
+-- declared ones are names.
+use Rattle.std.proofs.Common.{ℕ, List, [], ◌∷◌, ◌++◌, ◌≡◌, ◌≢◌, ◌<◌, Option, Some, length, get_or, inl, inr}
+use Rattle.std.proofs.Common.{refl, subst, sym, arith}
 use Rattle.std.specs.List.{All}
 use Rattle.std.proofs.lemmas.List.{map-append}
 use Rattle.std.proofs.lemmas.List.Elements.{All-append, All-cons, All-contains, All-nil}
@@ -11,15 +11,14 @@ use Rattle.line_shapes.specs.Lines.{IsNamed, Statement}
 use Rattle.line_shapes.specs.Places.{place_at}
 use Rattle.line_shapes.specs.declared.keyword.Keyword.{Keyword}
 use Rattle.line_shapes.specs.declared.place.Kind.{Kind}
-use Rattle.line_shapes.specs.declared.place.Kind.TheVariants.{Centre, Rack, Worker, Split, Priced}
+use Rattle.line_shapes.specs.declared.place.Kind.TheVariants.{Priced}
 use Rattle.line_shapes.specs.declared.place.Place.{Place}
-use Rattle.line_shapes.specs.declared.place.Place.TheVariants.{New, Used, Number, Text}
+use Rattle.line_shapes.specs.declared.place.Place.TheVariants.{New, Used}
 use Rattle.line_rules.specs.declared.entering.Entering.{Entering}
-use Rattle.line_rules.specs.declared.entering.Entering.TheVariants.{Nothing, InTurn, Alone, Word as ByWord}
-use Rattle.line_rules.specs.declared.entering.Entering.TheVariants.{Pair as ByPair}
+use Rattle.line_rules.specs.declared.entering.Entering.TheVariants.{Nothing, InTurn, Word as ByWord}
 use Rattle.line_rules.specs.Entered.{AreFit, AreSound, HasName, IsFitIn, IsSound}
 use Rattle.line_rules.specs.Entering.{entered_by, entered_of, entering_of, first_key, key_of}
-use Rattle.line_rules.specs.Faults.{IsDeclaredIn, IsFirst, Keep}
+use Rattle.line_rules.specs.Faults.{IsDeclaredIn, Keep}
 use Rattle.line_rules.specs.Known.{HasRow, IsDeclared, keys_of}
 use Rattle.line_rules.specs.declared.rule.Rule.TheVariants.{Declared}
 
@@ -39,16 +38,16 @@ key_sound : (s : Statement) → IsNamed s → entering_of s.keyword ≢ InTurn �
 key_sound s named entered = record {
   entered = entered;
   named = λ by new.
-      subst (λ e. 0 < length (first_key e s.words) → IsName (first_key e s.words)) (sym by) (first_named s named new);
+      subst (λ e. 0 < length (first_key e s.words) → IsName (first_key e s.words)) (sym by)
+      (first_named s named new);
 }
 
 entered_sound : (s : Statement) → IsNamed s → (e : Entering) → entering_of s.keyword ≡ e
     → All IsSound (keys_of (entered_by e s))
 entered_sound s named Nothing is = All-nil IsSound
 entered_sound s named InTurn is = All-nil IsSound
-entered_sound s named Alone is = All-cons IsSound (key_of s) [] (key_sound s named (λ turn. cc)) (All-nil IsSound)
-entered_sound s named ByWord is = All-cons IsSound (key_of s) [] (key_sound s named (λ turn. cc)) (All-nil IsSound)
-entered_sound s named ByPair is = All-cons IsSound (key_of s) [] (key_sound s named (λ turn. cc)) (All-nil IsSound)
+entered_sound s named e is =
+    All-cons IsSound (key_of s) [] (key_sound s named (λ turn. cc)) (All-nil IsSound)
 
 -- a line whose names are names is entered
 pub sound_more : (rows : List Statement) (s : Statement) → AreSound rows → IsNamed s
@@ -59,12 +58,6 @@ sound_more rows s sound named =
 
 -- ---- what they tell of the next line
 
--- no row is a command's
-pub command_first : (rows : List Statement) (s : Statement) → AreSound rows → entering_of s.keyword ≡ InTurn
-    → IsFirst rows s
-command_first rows s sound turn there =
-    (All-contains IsSound (keys_of rows) (key_of s) sound there).entered turn
-
 row_named : (rows : List Statement) (k : Keyword) (w : Word) → AreSound rows → entering_of k ≡ ByWord
     → place_at k 0 ≡ Some New → HasRow rows k w → 0 < length w → IsName w
 row_named rows k w sound by new there some =
@@ -72,34 +65,27 @@ row_named rows k w sound by new there some =
 
 declared_named : (rows : List Statement) (kind : Kind) (w : Word) → AreSound rows → IsDeclared rows kind w
     → 0 < length w → IsName w
-declared_named rows Centre w sound there some = row_named rows _ w sound refl refl there some
-declared_named rows Rack w sound there some = row_named rows _ w sound refl refl there some
-declared_named rows Worker w sound there some = row_named rows _ w sound refl refl there some
-declared_named rows Split w sound there some = row_named rows _ w sound refl refl there some
 declared_named rows Priced w sound there some = elim there [
   | inl split ↦ row_named rows _ w sound refl refl split some
   | inr worker ↦ row_named rows _ w sound refl refl worker some
 ]
+declared_named rows kind w sound there some = row_named rows _ w sound refl refl there some
 
-named_in : (rows : List Statement) (place : Option Place) (w : Word) → AreSound rows → IsDeclaredIn rows place w
-    → HasName place w → IsNamedIn place w
-named_in rows None w sound declared has = tt
+named_in : (rows : List Statement) (place : Option Place) (w : Word) → AreSound rows
+    → IsDeclaredIn rows place w → HasName place w → IsNamedIn place w
 named_in rows (Some New) w sound declared has = has
 named_in rows (Some (Used kind)) w sound declared has = declared_named rows kind w sound declared has
-named_in rows (Some (Number least most)) w sound declared has = tt
-named_in rows (Some Text) w sound declared has = tt
+named_in rows place w sound declared has = tt
 
 pub line_named : (rows : List Statement) (s : Statement) → AreSound rows → Keep Declared rows s
     → ((i : ℕ) → i < length s.words → HasName (place_at s.keyword i) (get_or s.words i [])) → IsNamed s
 line_named rows s sound known has i lt = named_in rows _ _ sound (known i lt) (has i lt)
 
-fit_named_in : (rows : List Statement) (place : Option Place) (w : Word) → AreSound rows → IsFitIn rows place w
-    → IsNamedIn place w
-fit_named_in rows None w sound fit = tt
+fit_named_in : (rows : List Statement) (place : Option Place) (w : Word) → AreSound rows
+    → IsFitIn rows place w → IsNamedIn place w
 fit_named_in rows (Some New) w sound fit = fit.0
 fit_named_in rows (Some (Used kind)) w sound fit = declared_named rows kind w sound fit.1 fit.0
-fit_named_in rows (Some (Number least most)) w sound fit = tt
-fit_named_in rows (Some Text) w sound fit = tt
+fit_named_in rows place w sound fit = tt
 
 -- the names of a line whose words are fit are names
 pub fit_named : (rows : List Statement) (s : Statement) → AreSound rows → AreFit rows s → IsNamed s

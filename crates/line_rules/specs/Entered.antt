@@ -21,11 +21,9 @@ AreSound rows = All IsSound (keys_of rows)
 
 -- a name that is declared is one, and a name that is used is not empty
 abbrev pub HasName : Option Place → Word → Type 0
-HasName None w = Unit {0}
 HasName (Some New) w = IsName w
 HasName (Some (Used kind)) w = 0 < length w
-HasName (Some (Number least most)) w = Unit {0}
-HasName (Some Text) w = Unit {0}
+HasName place w = Unit {0}
 
 -- the word is all that its place asks of it, in view of the lines before
 abbrev pub IsFitIn : List Statement → Option Place → Word → Type 0

@@ -5,16 +5,15 @@ use Rattle.std.specs.Borrow.{Bor}
 use Rattle.text_lines.specs.Texts.{Word}
 use Rattle.text_lines.specs.Faults.{number_of_fault}
 use Rattle.text_lines.specs.declared.fault.Fault.{Fault}
-use Rattle.text_lines.specs.declared.fault.Fault.TheVariants.{Shape, Misnamed, Unknown, Repeated}
-use Rattle.text_lines.specs.declared.fault.Fault.TheVariants.{OutOfRange, PassesLimit, Misplaced}
-use Rattle.text_lines.specs.declared.fault.Fault.TheVariants.{RepeatedHolder, SecondEntry, NoPrice, TooLong}
-use Rattle.text_lines.specs.declared.fault.Fault.TheVariants.{NoFeed, Unprintable, AfterEnd}
+use Rattle.text_lines.specs.declared.fault.Fault.TheVariants.{Shape, Misnamed, Unknown, Repeated, OutOfRange}
+use Rattle.text_lines.specs.declared.fault.Fault.TheVariants.{PassesLimit, Misplaced, RepeatedHolder}
+use Rattle.text_lines.specs.declared.fault.Fault.TheVariants.{SecondEntry, NoPrice}
 use Rattle.line_shapes.specs.Lines.{HasTailApart, IsInRange, IsNamed, Statement, tail_words}
 use Rattle.line_shapes.specs.Places.{place_at}
 use Rattle.line_shapes.specs.declared.keyword.Keyword.{Keyword}
 use Rattle.line_shapes.specs.declared.keyword.Keyword.TheVariants as keyword
 use Rattle.line_shapes.specs.declared.place.Place.{Place}
-use Rattle.line_shapes.specs.declared.place.Place.TheVariants.{New, Used, Number, Text}
+use Rattle.line_shapes.specs.declared.place.Place.TheVariants.{New, Used}
 use Rattle.line_rules.specs.declared.edition.Version.{Version}
 use Rattle.line_rules.specs.declared.edition.Version.TheVariants.{One, Two}
 use Rattle.line_rules.specs.declared.entering.Entering.{Entering}
@@ -22,11 +21,11 @@ use Rattle.line_rules.specs.declared.entering.Entering.TheVariants as by
 use Rattle.line_rules.specs.declared.entering.Follow.{Follow}
 use Rattle.line_rules.specs.declared.entering.Follow.TheVariants.{Any, Centre, Counts}
 use Rattle.line_rules.specs.declared.purpose.Purpose.{Purpose}
-use Rattle.line_rules.specs.declared.purpose.Purpose.TheVariants.{Checking, Planning, Playing, Running}
+use Rattle.line_rules.specs.declared.purpose.Purpose.TheVariants.{Checking}
 use Rattle.line_rules.specs.declared.rule.Rule.{Rule}
 use Rattle.line_rules.specs.declared.rule.Rule.TheVariants as rule
 use Rattle.line_rules.specs.declared.section.Section.{Section}
-use Rattle.line_rules.specs.declared.section.Section.TheVariants.{First, Head, Body, Ended}
+use Rattle.line_rules.specs.declared.section.Section.TheVariants.{Head, Body, Ended}
 use Rattle.line_rules.specs.Entering.{Key, entering_of, follow_of, is_priced, key_of, most_more_of, most_of}
 use Rattle.line_rules.specs.Known.{HasRow, IsDeclared, IsTaken, Known, keys_of, rows_of}
 use Rattle.line_rules.specs.Sections.{IsOfVersion, edition_of, section_after, section_of}
@@ -59,19 +58,13 @@ MayStand k s = (section_of k.purpose s.keyword ≡ Some k.section)
 
 -- a name that is used is declared, of its kind
 abbrev pub IsDeclaredIn : List Statement → Option Place → Word → Type 0
-IsDeclaredIn rows None w = Unit {0}
-IsDeclaredIn rows (Some New) w = Unit {0}
 IsDeclaredIn rows (Some (Used kind)) w = IsDeclared rows kind w
-IsDeclaredIn rows (Some (Number least most)) w = Unit {0}
-IsDeclaredIn rows (Some Text) w = Unit {0}
+IsDeclaredIn rows place w = Unit {0}
 
 -- a name that is declared is not taken
 abbrev pub IsFreeIn : List Statement → Option Place → Word → Type 0
-IsFreeIn rows None w = Unit {0}
 IsFreeIn rows (Some New) w = IsTaken rows w → ⊥
-IsFreeIn rows (Some (Used kind)) w = Unit {0}
-IsFreeIn rows (Some (Number least most)) w = Unit {0}
-IsFreeIn rows (Some Text) w = Unit {0}
+IsFreeIn rows place w = Unit {0}
 
 abbrev pub KeepsTo : Rule → List Statement → Option Place → Word → Type 0
 KeepsTo rule.Declared rows place w = IsDeclaredIn rows place w
@@ -88,17 +81,13 @@ IsFirst rows s = Contains (keys_of rows) (key_of s) → ⊥
 
 -- what the head declares is declared once
 abbrev pub IsFirstOfHead : Section → List Statement → Statement → Type 0
-IsFirstOfHead First rows s = Unit {0}
 IsFirstOfHead Head rows s = IsFirst rows s
-IsFirstOfHead Body rows s = Unit {0}
-IsFirstOfHead Ended rows s = Unit {0}
+IsFirstOfHead section rows s = Unit {0}
 
 -- what the body states is stated once
 abbrev pub IsFirstOfBody : Section → List Statement → Statement → Type 0
-IsFirstOfBody First rows s = Unit {0}
-IsFirstOfBody Head rows s = Unit {0}
 IsFirstOfBody Body rows s = IsFirst rows s
-IsFirstOfBody Ended rows s = Unit {0}
+IsFirstOfBody section rows s = Unit {0}
 
 -- what the line declares is declared for the first time
 pub record IsNew (rows : List Statement) (s : Statement) : Type 0 where
@@ -120,11 +109,8 @@ KeepIn r rows k ws = (i : ℕ) (d : Bor (List ℕ)) → i < length ws
 
 -- the lines before that count towards the limit of a keyword: of a command's, all commands
 abbrev pub counted_by : Entering → Known → Keyword → ℕ
-counted_by by.Nothing k word = length (rows_of word k.rows)
 counted_by by.InTurn k word = length k.commands
-counted_by by.Alone k word = length (rows_of word k.rows)
-counted_by by.Word k word = length (rows_of word k.rows)
-counted_by by.Pair k word = length (rows_of word k.rows)
+counted_by e k word = length (rows_of word k.rows)
 
 abbrev pub counted_of : Known → Keyword → ℕ
 counted_of k word = counted_by (entering_of word) k word
@@ -141,16 +127,12 @@ HasItsPrice rows key = is_priced key.0 ≡ true → HasRow rows keyword.Price ke
 -- each of them, where there is a plan to check
 abbrev pub AreAllPriced : Purpose → List Statement → Type 0
 AreAllPriced Checking rows = All (HasItsPrice rows) (keys_of rows)
-AreAllPriced Planning rows = Unit {0}
-AreAllPriced Playing rows = Unit {0}
-AreAllPriced Running rows = Unit {0}
+AreAllPriced purpose rows = Unit {0}
 
 -- at the end nothing lacks its price
 abbrev pub IsPricedBefore : Section → Known → Type 0
-IsPricedBefore First k = Unit {0}
-IsPricedBefore Head k = Unit {0}
-IsPricedBefore Body k = Unit {0}
 IsPricedBefore Ended k = AreAllPriced k.purpose k.rows
+IsPricedBefore section k = Unit {0}
 
 -- ---- the faults
 
@@ -164,12 +146,7 @@ Meets k s PassesLimit = IsWithinLimit k s
 Meets k s RepeatedHolder = HasTailApart s
 Meets k s SecondEntry = IsFirstOfBody (section_after s.keyword) k.rows s
 Meets k s NoPrice = IsPricedBefore (section_after s.keyword) k
-Meets k s Shape = Unit {0}
-Meets k s Misplaced = Unit {0}
-Meets k s TooLong = Unit {0}
-Meets k s NoFeed = Unit {0}
-Meets k s Unprintable = Unit {0}
-Meets k s AfterEnd = Unit {0}
+Meets k s f = Unit {0}
 
 -- a line that is not whole has no other fault, and a misplaced line no other than that
 abbrev pub Fails : Known → Statement → Fault → Type 0

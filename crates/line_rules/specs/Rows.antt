@@ -46,7 +46,8 @@ IsTabled firsts others key = ((key.2 ≡ []) × (first_by firsts key.1 ≡ Some 
 pub record AreTabled (rows : List Statement) (firsts : List (Bor (List ℕ) × Keyword)) (others : List TextKey)
     : Type 0 where
   pub keys : (key : Key) → Contains (keys_of rows) key ↔ IsTabled firsts others key
-  pub words : (k : Keyword) (word : Word) → Contains (keys_of rows) (k, word, []) → IsSome (first_by firsts word)
+  pub words : (k : Keyword) (word : Word) → Contains (keys_of rows) (k, word, [])
+      → IsSome (first_by firsts word)
 
 -- the tables have this key more
 pub record HasKeyMore (firsts : List (Bor (List ℕ) × Keyword)) (others : List TextKey) (key : Key)

@@ -4,8 +4,8 @@ use Rattle.std.specs.List.{All}
 use Rattle.text_lines.specs.Texts.{IsPrintable, Line, lines_of}
 use Rattle.text_lines.specs.Faults.{number_of_fault}
 use Rattle.text_lines.specs.declared.fault.Fault.{Fault}
-use Rattle.text_lines.specs.declared.fault.Fault.TheVariants.{Shape, Misplaced, TooLong, NoFeed}
-use Rattle.text_lines.specs.declared.fault.Fault.TheVariants.{Unprintable, AfterEnd}
+use Rattle.text_lines.specs.declared.fault.Fault.TheVariants.{Shape, Misplaced, TooLong, NoFeed, Unprintable}
+use Rattle.text_lines.specs.declared.fault.Fault.TheVariants.{AfterEnd}
 use Rattle.line_shapes.specs.Lines.{Says, SaysNothing, Statement}
 use Rattle.line_rules.specs.declared.purpose.Purpose.{Purpose}
 use Rattle.line_rules.specs.declared.section.Section.TheVariants.{Ended}

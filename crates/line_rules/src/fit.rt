@@ -80,7 +80,8 @@ fn is_of_kind(rows: &Rows<'_>, kind: Kind, name: &str) -> bool
 // Whether a line of this keyword declares one of this kind.
 #[inline(always)]
 fn declares(keyword: Keyword, kind: Kind) -> bool
-    ensures { IsTrue result → (rows : List Statement) (w : Word) → HasRow rows keyword w → IsDeclared rows kind w }
+    ensures { IsTrue result
+        → (rows : List Statement) (w : Word) → HasRow rows keyword w → IsDeclared rows kind w }
 {
     match kind {
         Kind::Centre => matches!(keyword, Keyword::Centre),

@@ -75,8 +75,8 @@ fn is_free_in(rows: &Rows<'_>, place: Option<Place>, word: &str) -> bool
 /// Whether each name that the line declares is one, and none that it uses is empty. All its names are names
 /// then, where those that it uses are declared.
 pub fn declares_names(line: &KeyedLine<'_, '_>) -> bool
-    ensures { IsTrue result → (rows : List Statement) → AreSound rows → Keep Declared rows (statement_of line.now)
-        → IsNamed (statement_of line.now) }
+    ensures { IsTrue result → (rows : List Statement) → AreSound rows
+        → Keep Declared rows (statement_of line.now) → IsNamed (statement_of line.now) }
 {
     have_names(line.keyword, line.words)
 }

@@ -4,7 +4,8 @@ use Rattle.text_lines.specs.Texts.{IsPrintable, lines_of}
 use Rattle.line_rules.proofs.ReadTo.{IsReadTo}
 use Rattle.line_rules.proofs.reading.take_lines.Given as goal
 
--- the lines so far have no fault, and each took a byte at least; those that are left may be known to be printable
+-- the lines so far have no fault, and each took a byte at least; those that are left may be known to be
+-- printable
 abbrev pub invariant-loop-after : goal.invariant-loop-after
 invariant-loop-after l =
     IsReadTo l.initial.known.purpose l.text (lines_of l.rest) l.lines_read l.known

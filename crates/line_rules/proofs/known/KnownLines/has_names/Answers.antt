@@ -10,7 +10,8 @@ returns-then-declares_names c =
     subst (λ (k : Known). AreSound k.rows) c.self.view_is c.self.invariant.1 in (
       λ t. elim c.if-known.branch [
         | then-known w ↦
-            w.declares_names.ensures (sym w.value-is ∙ t) c.args.self.now.rows sound (c.requires w.if-known.true)
+            w.declares_names.ensures (sym w.value-is ∙ t) c.args.self.now.rows sound
+            (c.requires w.if-known.true)
         | else-known w ↦ absurd (true≢false (sym t ∙ w.value-is ∙ w.if-known.false))
       ],
       λ h. c.if-declares_names.true,

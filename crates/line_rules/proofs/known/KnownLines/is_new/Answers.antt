@@ -3,15 +3,13 @@ use Rattle.line_shapes.specs.Lines.{Statement, statement_of}
 use Rattle.line_rules.specs.Faults.{IsFirst, IsFirstOfHead, Keep}
 use Rattle.line_rules.specs.declared.rule.Rule.TheVariants.{Free}
 use Rattle.line_rules.specs.declared.section.Section.{Section}
-use Rattle.line_rules.specs.declared.section.Section.TheVariants.{First, Head, Body, Ended}
+use Rattle.line_rules.specs.declared.section.Section.TheVariants.{Head}
 use Rattle.line_rules.proofs.known.KnownLines.is_new.Goals as goal
 
 first_of_head : (after : Section) (rows : List Statement) (s : Statement) → IsFirst rows s
     → IsFirstOfHead after rows s
-first_of_head First rows s first = tt
 first_of_head Head rows s first = first
-first_of_head Body rows s first = tt
-first_of_head Ended rows s first = tt
+first_of_head after rows s first = tt
 
 pub returns-then-is_entered_by_new_name : goal.returns-then-is_entered_by_new_name
 returns-then-is_entered_by_new_name c =

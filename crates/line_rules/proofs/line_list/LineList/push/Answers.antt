@@ -11,7 +11,8 @@ returns-in_err-push-clause-err c =
     let all = c.extend_from_slice.new.self.items in
     let same : map (statement_at all) c.push.new.self.items ≡ c.args.self.now =
     ap (map (statement_at all)) c.in_err-push.ensures.items
-    ∙ (kept_by words c.args.line.now.words.now all ps c.in_ok-extend_from_slice.ensures.items c.self.invariant).1
+    ∙ (kept_by words c.args.line.now.words.now all ps c.in_ok-extend_from_slice.ensures.items
+    c.self.invariant).1
     ∙ c.self.view_is in
     search rules
 

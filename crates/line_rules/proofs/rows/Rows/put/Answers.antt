@@ -12,6 +12,7 @@ invariant_of-self-in-Ok c =
     let others = c.self.inside.others.keys in
     let more : HasKeyMore firsts others (key_of said) c.put_key.new.firsts.entries c.put_key.new.others.keys =
     subst (λ (k : Key). HasKeyMore firsts others k c.put_key.new.firsts.entries c.put_key.new.others.keys)
-    (λ i. (said.keyword, c.first_of_key-first.ensures i, c.second_of_key-second.ensures i)) c.in-Ok.ensures.ok in
-    tabled_more c.self.inside.lines c.push.new.self said firsts _ others _ c.in_ok-push.ensures.ok c.self.invariant
-    more
+    (λ i. (said.keyword, c.first_of_key-first.ensures i, c.second_of_key-second.ensures i))
+    c.in-Ok.ensures.ok in
+    tabled_more c.self.inside.lines c.push.new.self said firsts _ others _ c.in_ok-push.ensures.ok
+    c.self.invariant more
