@@ -13,7 +13,7 @@ use Rattle.line_rules.specs.declared.counts.Counts.{Counts}
 use Rattle.line_rules.specs.declared.purpose.Purpose.{Purpose}
 use Rattle.line_rules.specs.declared.purpose.Purpose.TheVariants.{Checking}
 
-few_workers : (purpose : Purpose) → most_workers purpose ≤ 256
+pub few_workers : (purpose : Purpose) → most_workers purpose ≤ 256
 few_workers Checking = omega arith
 few_workers purpose = omega arith
 

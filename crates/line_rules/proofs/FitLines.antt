@@ -29,6 +29,5 @@ pub fit-step : (k : Known) (ls : List Line) (ss : List Statement) (line : Line) 
     → AreFitLines k ls ss
     → IsFitLine (names_after k ss) line s → AreFitLines k (ls ++ line ∷ []) (ss ++ s ∷ [])
 fit-step k [] [] line s fits one = (one, tt)
-fit-step k [] (t ∷ ts) line s fits one = absurd fits
-fit-step k (l ∷ ls) [] line s fits one = absurd fits
 fit-step k (l ∷ ls) (t ∷ ts) line s fits one = (fits.0, fit-step (entered k t) ls ts line s fits.1 one)
+fit-step k ls ss line s fits one = absurd fits

@@ -52,9 +52,8 @@ pub record IsFitLine (k : Known) (line : Line) (s : Statement) : Type 0 where
 -- the lines say the statements, each without a fault after those before it
 abbrev pub AreFitLines : Known → List Line → List Statement → Type 0
 AreFitLines k [] [] = Unit {0}
-AreFitLines k [] (s ∷ ss) = ⊥
-AreFitLines k (line ∷ lines) [] = ⊥
 AreFitLines k (line ∷ lines) (s ∷ ss) = IsFitLine k line s × AreFitLines (entered k s) lines ss
+AreFitLines k lines ss = ⊥
 
 -- the text has no fault, and this is what is known after its lines
 pub record IsAllRead (purpose : Purpose) (text : List ℕ) (k : Known) : Type 0 where

@@ -134,7 +134,5 @@ version_by e version ws = version
 
 -- a line of this edition may stand in a text of this version
 abbrev pub IsOfVersion : Edition → Version → Type 0
-IsOfVersion Tells version = Unit {0}
-IsOfVersion Each version = Unit {0}
 IsOfVersion Second One = ⊥
-IsOfVersion Second Two = Unit {0}
+IsOfVersion e version = Unit {0}

@@ -1,4 +1,4 @@
-use Rattle.std.proofs.Common.{[], get_or, subst, List, ◌≡◌, ◌∙◌, ap}
+use Rattle.std.proofs.Common.{get_or, subst, List, ◌≡◌, ◌∙◌, ap}
 use Rattle.std.specs.Prelude.{slice_get}
 use Rattle.line_shapes.specs.Places.{or_more, place_at}
 use Rattle.line_shapes.specs.declared.place.Place.{Place}

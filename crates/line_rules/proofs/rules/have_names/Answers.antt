@@ -1,4 +1,4 @@
-use Rattle.std.proofs.Common.{[], get_or, subst}
+use Rattle.std.proofs.Common.{get_or, subst}
 use Rattle.line_shapes.specs.Places.{place_at}
 use Rattle.line_shapes.proofs.Each.{each_more, nothing}
 use Rattle.line_rules.specs.Entered.{HasName}
