@@ -1,6 +1,7 @@
 -- The rows of a keyword, and the names and keys that they have.
 use Rattle.std.proofs.Common.{ℕ, List, [], ◌∷◌, ◌++◌, ◌≡◌, ◌≢◌, ◌<◌, ◌+◌, ◌∙◌, Bool, true, false, zero, suc}
-use Rattle.std.proofs.Common.{ap, append-nil, arith, cond, get_or, length, map, refl, subst, sym, take}
+use Rattle.std.proofs.Common.{true≢false, ap, append-nil, arith, cond, get_or, length, map, refl, subst, sym}
+use Rattle.std.proofs.Common.{take}
 use Rattle.std.specs.List.{All, AllPairs, Contains, filter}
 use Rattle.std.proofs.lemmas.List.{get_or-map, get_or-take, get_or_default, length-map, length-take}
 use Rattle.std.proofs.lemmas.List.{map-append}
@@ -16,7 +17,9 @@ use Rattle.line_rules.specs.Known.{HasRow, is_of, keys_of, rows_of}
 use Rattle.line_rules.specs.Rows.{IsKeyAt, IsRowAt}
 use Rattle.line_rules.specs.declared.entering.Entering.TheVariants.{Word as ByWord}
 use Rattle.line_shapes.proofs.OneStatement.{spelling_of-injective}
+use Rattle.line_shapes.specs.contracts.keyword.Keyword.{the_type}
 use Rattle.plan_text.specs.Names.{names_in, names_of, nth_word}
+use denote.Enum.Bare.{sameb, same_true, true_same}
 
 -- ---- lists
 
@@ -58,6 +61,13 @@ is_of-other k s other = by (is_of k s) refl
     by : (b : Bool) → is_of k s ≡ b → b ≡ false
     by true is = absurd (other (keyword_of k s is))
     by false is = refl
+
+-- what a test of two keywords tells
+pub told_same : (j k : Keyword) (b : Bool) → b ≡ sameb the_type j k → b ≡ true → j ≡ k
+told_same j k b is same = same_true the_type tt j k (sym is ∙ same)
+
+pub told_apart : (j k : Keyword) (b : Bool) → b ≡ sameb the_type j k → b ≡ false → j ≡ k → ⊥
+told_apart j k b is apart e = true≢false (sym (true_same the_type j k e) ∙ sym is ∙ apart)
 
 pub in_rows_of : (k : Keyword) (rows : List Statement) (s : Statement) → Contains (rows_of k rows) s
     → Contains rows s × (s.keyword ≡ k)

@@ -1,6 +1,6 @@
 -- Names and their numbers, and the pairs that are barred.
-use Rattle.std.proofs.Common.{ℕ, List, [], ◌∷◌, ◌++◌, ◌≡◌, ◌≢◌, ◌<◌, ◌⊎◌, ◌∙◌, arith}
-use Rattle.std.proofs.Common.{Bool, true, false, true≢false, inl, inr, length, sym, ap, refl}
+use Rattle.std.proofs.Common.{ℕ, List, [], ◌∷◌, ◌++◌, ◌≡◌, ◌≢◌, ◌<◌, ◌⊎◌, ◌∙◌, arith, Bool, true, false}
+use Rattle.std.proofs.Common.{true≢false, inl, inr, length, sym, ap, refl}
 use Rattle.std.specs.Prelude.{◌↔◌, IsTrue, unwrap_or}
 use Rattle.std.specs.List.{Contains, position_or_len, slice_index_or}
 use Rattle.std.specs.Str.{bytes_eq}

@@ -1,7 +1,6 @@
 -- Lists that are mapped twice, and the parts that the rows of a text without a fault make.
 use Rattle.std.proofs.Common.{ℕ, List, [], ◌∷◌, ◌++◌, ◌≡◌, ◌≢◌, ◌<◌, ◌≤◌, ◌+◌, ◌∙◌, Option, Some, None}
-use Rattle.std.proofs.Common.{IfSome}
-use Rattle.std.proofs.Common.{length, take, map, subst, sym, ap, refl, arith}
+use Rattle.std.proofs.Common.{IfSome, length, take, map, subst, sym, ap, refl, arith}
 use Rattle.std.specs.List.{All, Contains, position, slice_index_or}
 use Rattle.std.specs.Option.{option_map}
 use Rattle.std.specs.Str.{bytes_eq}
@@ -101,6 +100,10 @@ module _ (rows : List KeyedLine) (names : List Word) (name : Word) (found : Opti
 
   pub row_inside : place < length rows
   row_inside = rw length-map at (start_inside (map said_in rows) name place at_place)
+
+  pub row_tidy : (P : Statement → Type 0) → All P (map said_in rows)
+      → P (said_in (slice_index_or rows place no_row))
+  row_tidy P all = All-unmap P said_in rows all place no_row row_inside
 
   pub beside_at : {X : Type 0} (d : X) (f : Statement → X)
       → beside d (names_in (map said_in rows)) (map f (map said_in rows)) name

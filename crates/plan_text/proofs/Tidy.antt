@@ -1,37 +1,37 @@
 -- The rows of a text without a fault are tidy.
 use Rattle.std.proofs.Common.{ℕ, List, [], ◌∷◌, ◌++◌, ◌≡◌, ◌≢◌, ◌≤◌, ◌<◌, ◌+◌, ◌∙◌, Option, Some, None, Bool}
 use Rattle.std.proofs.Common.{true, false, inl, inr, ap, append-nil, arith, cond, get_or, length}
-use Rattle.std.proofs.Common.{length-append}
-use Rattle.std.proofs.Common.{refl, subst, sym, take}
+use Rattle.std.proofs.Common.{length-append, refl, subst, sym, take}
 use Rattle.std.specs.List.{All, AllPairs, Contains}
 use Rattle.std.proofs.lemmas.List.{map-append}
 use Rattle.std.proofs.lemmas.List.Elements.{All-append, All-cons, All-nil, All-weaker, Contains-append_left}
-use Rattle.std.proofs.lemmas.List.Elements.{Contains-get_or, filter-append}
+use Rattle.std.proofs.lemmas.List.Elements.{Contains-get_or, filter-append, filter_passes}
+use Rattle.std.proofs.lemmas.List.Kept.{AllPairs-filter}
 use Rattle.std.proofs.lemmas.List.Quantifiers.{all_pairs_push}
 use Rattle.text_lines.specs.Texts.{Line, Word, lines_of}
 use Rattle.line_shapes.specs.Lines.{Statement}
+use Rattle.line_shapes.proofs.Mapped.{AllPairs-map, AllPairs-unmap}
 use Rattle.line_shapes.specs.Places.{place_at, places_of}
 use Rattle.line_shapes.specs.declared.keyword.Keyword.{Keyword}
 use Rattle.line_shapes.specs.declared.place.Kind.{Kind}
 use Rattle.line_shapes.specs.declared.keyword.Keyword.TheVariants as keyword
-use Rattle.line_shapes.specs.declared.place.Kind.TheVariants.{Centre, Rack, Worker, Split, Priced}
+use Rattle.line_shapes.specs.declared.place.Kind.TheVariants.{Priced}
 use Rattle.line_shapes.specs.declared.place.Place.{Place}
-use Rattle.line_shapes.specs.declared.place.Place.TheVariants.{New, Used, Number, Text}
+use Rattle.line_shapes.specs.declared.place.Place.TheVariants.{Used}
 use Rattle.line_rules.specs.Entering.{Key, entered_by, entered_of, entering_of, key_of, most_of, most_workers}
 use Rattle.line_rules.specs.Faults.{IsFewer, IsDeclaredIn, IsFew, IsFit, IsFirst, Keep, counted_by}
 use Rattle.line_rules.specs.Known.{HasRow, IsDeclared, Known, entered, is_of, keys_of, known_at, rows_of}
 use Rattle.line_rules.specs.Reading.{AreFitLines, IsAllRead}
 use Rattle.line_rules.specs.declared.entering.Entering.{Entering}
-use Rattle.line_rules.specs.declared.entering.Entering.TheVariants.{Nothing, InTurn, Alone}
-use Rattle.line_rules.specs.declared.entering.Entering.TheVariants.{Word as ByWord, Pair as ByPair}
+use Rattle.line_rules.specs.declared.entering.Entering.TheVariants.{Nothing, InTurn, Word as ByWord}
 use Rattle.line_rules.specs.declared.purpose.Purpose.{Purpose}
-use Rattle.line_rules.specs.declared.purpose.Purpose.TheVariants.{Checking, Planning, Playing, Running}
 use Rattle.line_rules.specs.declared.rule.Rule.TheVariants as rule
+use Rattle.line_rules.proofs.Counted.{few_workers}
 use Rattle.line_rules.proofs.FitLines.{known_after, names_after}
 use Rattle.line_rules.proofs.Fits.{fit_first}
-use Rattle.plan_text.specs.Names.{rows_in}
+use Rattle.plan_text.specs.Names.{names_of, nth_word, rows_in}
 use Rattle.plan_text.specs.Tidy.{AreTidy, IsTidyRow}
-use Rattle.plan_text.proofs.Named.{keyword_of}
+use Rattle.plan_text.proofs.Named.{key_by_word, keyword_of}
 
 -- ---- what is declared stays declared
 
@@ -42,20 +42,14 @@ module _ (rows more : List Statement) where
       (Contains-append_left (keys_of rows) (keys_of more) (k, n, []) h)
 
   declared-more : (kind : Kind) (n : Word) → IsDeclared rows kind n → IsDeclared (rows ++ more) kind n
-  declared-more Centre n h = has_row-more _ n h
-  declared-more Rack n h = has_row-more _ n h
-  declared-more Worker n h = has_row-more _ n h
-  declared-more Split n h = has_row-more _ n h
   declared-more Priced n (inl h) = inl (has_row-more _ n h)
   declared-more Priced n (inr h) = inr (has_row-more _ n h)
+  declared-more kind n h = has_row-more _ n h
 
   keeps-more : (place : Option Place) (w : Word) → IsDeclaredIn rows place w →
       IsDeclaredIn (rows ++ more) place w
-  keeps-more None w h = tt
-  keeps-more (Some New) w h = tt
   keeps-more (Some (Used kind)) w h = declared-more kind w h
-  keeps-more (Some (Number least most)) w h = tt
-  keeps-more (Some Text) w h = tt
+  keeps-more place w h = tt
 
   pub keep-more : (s : Statement) → Keep rule.Declared rows s → Keep rule.Declared (rows ++ more) s
   keep-more s h i lt = keeps-more (place_at s.keyword i) (get_or s.words i []) (h i lt)
@@ -82,9 +76,6 @@ few-one : (most : Option ℕ) (n m : ℕ) → IsFewer most n → m ≡ n + 1 →
 few-one None n m room is = tt
 few-one (Some most) n m room is = let room : n < most = room in omega arith
 
-few-none : (most : Option ℕ) (n m : ℕ) → IsFew most n → m ≡ n → IsFew most m
-few-none most n m few is = subst (IsFew most) (sym is) few
-
 abbrev count : Keyword → List Statement → ℕ
 count k rows = length (rows_of k rows)
 
@@ -107,7 +98,7 @@ few-more purpose k rows s few room = by (is_of k s) refl
         (subst (λ (j : Keyword). IsFewer (most_of purpose j) (count j rows)) same room)
         (count-more k rows s true is)
     by false is =
-        few-none (most_of purpose k) (count k rows) _ few (count-more k rows s false is ∙ omega arith)
+        subst (IsFew (most_of purpose k)) (sym (count-more k rows s false is ∙ omega arith)) few
 
 fresh : (rows : List Statement) (s : Statement) → IsFirst rows s → (i : ℕ) (d : Key) →
     i < length (keys_of rows)
@@ -158,9 +149,7 @@ tidy-entered k s whole fit kept = by (entering_of s.keyword) refl
     by : (e : Entering) → entering_of s.keyword ≡ e → AreKept k.purpose (k.rows ++ entered_by e s)
     by Nothing is = subst (AreKept k.purpose) (sym (append-nil k.rows)) kept
     by InTurn is = subst (AreKept k.purpose) (sym (append-nil k.rows)) kept
-    by Alone is = some Alone is (λ e. cc) refl
-    by ByWord is = some ByWord is (λ e. cc) refl
-    by ByPair is = some ByPair is (λ e. cc) refl
+    by e is = some e is (λ none. cc) refl
 
 -- ---- all lines
 
@@ -179,16 +168,9 @@ pub kept-after : (k : Known) (ls : List Line) (ss : List Statement) → AreFitLi
     AreKept k.purpose k.rows
     → AreKept k.purpose (names_after k ss).rows
 kept-after k [] [] fits kept = kept
-kept-after k [] (s ∷ ss) fits kept = absurd fits
-kept-after k (l ∷ ls) [] fits kept = absurd fits
 kept-after k (l ∷ ls) (s ∷ ss) fits kept =
     kept-after (entered k s) ls ss fits.1 (tidy-entered k s fits.0.says.many fits.0.fit kept)
-
-workers_most : (purpose : Purpose) → most_workers purpose ≤ 256
-workers_most Checking = omega arith
-workers_most Planning = omega arith
-workers_most Playing = omega arith
-workers_most Running = omega arith
+kept-after k ls ss fits kept = absurd fits
 
 tidy : (purpose : Purpose) (rows : List Statement) → AreKept purpose rows → AreTidy rows
 tidy purpose rows kept =
@@ -196,7 +178,7 @@ tidy purpose rows kept =
     record {
       few_centres = kept.few keyword.Centre;
       few_racks = kept.few keyword.Rack;
-      few_workers = omega (arith, workers, workers_most purpose);
+      few_workers = omega (arith, workers, few_workers purpose);
       few_splits = kept.few keyword.Split;
       differ = kept.differ;
       each = kept.each;
@@ -213,3 +195,18 @@ pub tidy-read : (purpose : Purpose) (text : List ℕ) (k : Known) → IsAllRead 
 tidy-read purpose text k read =
     subst (λ (j : Known). AreTidy j.rows) (sym read.known)
     (tidy-rows purpose (take (length read.statements) (lines_of text)) read.statements read.fit)
+
+-- no two rows of a keyword that is entered by its name have one name
+pub names_differ : (k : Keyword) → entering_of k ≡ ByWord → (rows : List Statement)
+    → AllPairs (λ a b. a ≢ b) (keys_of rows) → AllPairs (λ a b. a ≢ b) (names_of k rows)
+names_differ k by rows differ =
+    let Apart : Statement → Statement → Type 0 = λ a b. key_of a ≢ key_of b in
+    let apart = AllPairs-filter Apart (is_of k) rows (AllPairs-unmap (λ a b. a ≢ b) key_of rows differ) in
+    AllPairs-map (λ (a b : Word). a ≢ b) (nth_word 0) (rows_of k rows)
+    (λ i j d lt inside same.
+    let a : Statement = get_or (rows_of k rows) i d in
+    let b : Statement = get_or (rows_of k rows) j d in
+    apart i j d lt inside
+    (key_by_word k by a (keyword_of k a (filter_passes (is_of k) rows i d (omega arith)))
+    ∙ ap (λ w. (k, w, [])) same
+    ∙ sym (key_by_word k by b (keyword_of k b (filter_passes (is_of k) rows j d inside)))))

@@ -1,17 +1,15 @@
-use Rattle.std.proofs.Common.{List, [], ◌∷◌, ◌++◌, ◌≡◌, ◌∙◌, arith, subst, sym, take}
+use Rattle.std.proofs.Common.{List, [], ◌∷◌, ◌++◌, ◌≡◌, arith, subst, sym, take}
 use Rattle.std.specs.Prelude.{◌↔◌}
 use Rattle.node_ids.specs.Sets.{HasPair}
 use Rattle.text_lines.specs.Texts.{Word}
 use Rattle.line_shapes.specs.Lines.{Statement}
-use Rattle.line_shapes.specs.contracts.keyword.Keyword.{the_type}
 use Rattle.line_shapes.specs.declared.keyword.Keyword.TheVariants.{Barred, Split, Worker}
 use Rattle.line_rules.specs.Known.{rows_of}
 use Rattle.line_shapes.specs.declared.line.KeyedLine.{KeyedLine}
-use denote.Enum.Bare.{same_true, true_same}
 use Rattle.plan_text.specs.Names.{names_of, said_in}
 use Rattle.plan_text.specs.Tidy.{IsTidyBar}
 use Rattle.plan_text.specs.Value.{IsBarred}
-use Rattle.plan_text.proofs.Named.{at_element, row_of_keyword, rows_more, rows_same}
+use Rattle.plan_text.proofs.Named.{at_element, row_of_keyword, rows_more, rows_same, told_apart, told_same}
 use Rattle.plan_text.proofs.Numbers.{none_barred, one_more_barred}
 use Rattle.plan_text.proofs.Words.{tidy_bars}
 use Rattle.plan_text.proofs.built.build_barred.Goals as goal
@@ -23,7 +21,7 @@ bar-requires-clause-known c =
     let row : KeyedLine = c.in-Some.row in
     let found = c.in-Some.ensures in
     let same : row.keyword ≡ Barred =
-    same_true the_type tt row.keyword Barred (sym c.eq.ensures ∙ c.if-eq.true) in
+    told_same row.keyword Barred c.eq.result c.eq.ensures c.if-eq.true in
     let bar = at_element (IsTidyBar (names_of Split rows) (names_of Worker rows)) (rows_of Barred rows)
     (said_in row)
     (tidy_bars rows c.requires.tidy)
@@ -51,7 +49,7 @@ loop-place-preserved c s n lt =
           let row : KeyedLine = w.in-Some.row in
           let found = w.in-Some.ensures in
           let same : row.keyword ≡ Barred =
-          same_true the_type tt row.keyword Barred (sym w.eq.ensures ∙ w.if-eq.true) in
+          told_same row.keyword Barred w.eq.result w.eq.ensures w.if-eq.true in
           let step = one_more_barred splits workers (rows_of Barred (take place rows)) (said_in row) s n _ _
           (w.bar.ensures s n lt) (c.loop-place.invariant s n lt) in
           subst Bars (sym (rows_more Barred rows place (said_in row) found.0 found.1 same))
@@ -62,8 +60,7 @@ loop-place-preserved c s n lt =
           let row : KeyedLine = w.in-Some.row in
           let found = w.in-Some.ensures in
           let other : row.keyword ≡ Barred → ⊥ =
-          λ e. let same = sym (true_same the_type row.keyword Barred e) ∙ sym w.eq.ensures ∙ w.if-eq.false in
-          absurd cc in
+          told_apart row.keyword Barred w.eq.result w.eq.ensures w.if-eq.false in
           subst Bars (sym (rows_same Barred rows place (said_in row) found.0 found.1 other))
           (subst (λ set. HasPair set s n ↔ IsBarred splits workers (rows_of Barred (take place rows)) s n)
           (sym w.set-is) (c.loop-place.invariant s n lt))

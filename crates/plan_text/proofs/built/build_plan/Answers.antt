@@ -1,4 +1,4 @@
-use Rattle.std.proofs.Common.{List, ◌≡◌, ◌≤◌, ◌<◌, ◌∙◌, IfSome, ap, length, map, subst, sym}
+use Rattle.std.proofs.Common.{List, ◌≡◌, ◌<◌, ◌∙◌, IfSome, ap, length, map, subst, sym}
 use Rattle.std.specs.List.{All}
 use Rattle.text_lines.specs.Texts.{Word}
 use Rattle.line_shapes.specs.Lines.{Statement}
@@ -13,9 +13,7 @@ use Rattle.plan_text.proofs.built.build_plan.Goals as goal
 
 pub build_starts-requires-clause-few : goal.build_starts-requires-clause-few
 build_starts-requires-clause-few c =
-    let rows = c.args.rows.now in
-    let few = few_names rows c.requires.tidy Worker 256 (c.requires.tidy.few_workers) in
-    subst (λ (l : List Word). length l ≤ 256) (sym c.requires.workers) few
+    rw c.requires.workers (few_names c.args.rows.now c.requires.tidy Worker 256 c.requires.tidy.few_workers)
 
 pub build_starts-requires-clause-names : goal.build_starts-requires-clause-names
 build_starts-requires-clause-names c =

@@ -1,4 +1,4 @@
-use Rattle.std.proofs.Common.{List, ◌≤◌, ◌∙◌, ap, length, map, subst, sym}
+use Rattle.std.proofs.Common.{List, ◌∙◌, ap, map, subst, sym}
 use Rattle.std.specs.List.{All}
 use Rattle.text_lines.specs.Texts.{Word}
 use Rattle.line_shapes.specs.Lines.{Statement}
@@ -11,8 +11,7 @@ use Rattle.plan_text.proofs.built.build_split_lines.Goals as goal
 
 pub build_splits-requires-clause-few : goal.build_splits-requires-clause-few
 build_splits-requires-clause-few c =
-    let few = few_names c.args.rows.now c.requires.tidy Worker 256 (c.requires.tidy.few_workers) in
-    subst (λ (l : List Word). length l ≤ 256) (sym c.requires.workers) few
+    rw c.requires.workers (few_names c.args.rows.now c.requires.tidy Worker 256 c.requires.tidy.few_workers)
 
 pub build_splits-requires-clause-known : goal.build_splits-requires-clause-known
 build_splits-requires-clause-known c =

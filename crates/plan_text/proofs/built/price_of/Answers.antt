@@ -1,28 +1,22 @@
 use Rattle.std.proofs.Common.{ℕ, Option, ◌≤◌, ◌∙◌, ap, arith, subst, sym, unwrap_or}
 use Rattle.text_lines.specs.Texts.{IsNumber, Word, number_of}
-use Rattle.plan_text.specs.Names.{said_in, nth_word}
+use Rattle.plan_text.specs.Names.{nth_word}
 use Rattle.plan_text.specs.Tidy.{IsTidyPrice}
-use Rattle.plan_text.proofs.Parts.{All-unmap, beside_at, no_row, row_inside}
+use Rattle.plan_text.proofs.Parts.{beside_at, row_tidy}
 use Rattle.plan_text.proofs.built.price_of.Goals as goal
 
 pub number-requires-in-Some-clause-number : goal.number-requires-in-Some-clause-number
 number-requires-in-Some-clause-number c =
-    let rows = c.args.rows.now in
-    let inside = row_inside rows c.args.priced.now c.args.name.now c.number.result c.in-Some.place
-    c.requires.names
-    c.number.ensures.number c.in-Some.is in
     subst IsNumber (sym c.word.ensures)
-    (All-unmap IsTidyPrice said_in rows c.requires.amounts c.in-Some.place no_row inside).number
+    (row_tidy c.args.rows.now c.args.priced.now c.args.name.now c.number.result c.in-Some.place
+    c.requires.names c.number.ensures.number c.in-Some.is IsTidyPrice c.requires.amounts).number
 
 pub number-requires-in-Some-clause-small : goal.number-requires-in-Some-clause-small
 number-requires-in-Some-clause-small c =
-    let rows = c.args.rows.now in
-    let inside = row_inside rows c.args.priced.now c.args.name.now c.number.result c.in-Some.place
-    c.requires.names
-    c.number.ensures.number c.in-Some.is in
     let small : number_of c.word.result.now ≤ 18446744073709551615 =
     subst (λ (w : Word). number_of w ≤ 18446744073709551615) (sym c.word.ensures)
-    (All-unmap IsTidyPrice said_in rows c.requires.amounts c.in-Some.place no_row inside).most in
+    (row_tidy c.args.rows.now c.args.priced.now c.args.name.now c.number.result c.in-Some.place
+    c.requires.names c.number.ensures.number c.in-Some.is IsTidyPrice c.requires.amounts).most in
     omega arith
 
 pub returns-in-Some : goal.returns-in-Some

@@ -1,20 +1,18 @@
 use Rattle.std.proofs.Common.{◌∙◌, [], Some, ap, subst, sym}
 use Rattle.std.specs.List.{Contains}
 use Rattle.std.specs.Option.{option_map}
-use Rattle.plan_text.specs.Names.{said_in, nth_word}
+use Rattle.plan_text.specs.Names.{nth_word}
 use Rattle.plan_text.specs.Tidy.{IsTidyStart}
 use Rattle.plan_text.specs.Value.{number_in}
-use Rattle.plan_text.proofs.Parts.{All-unmap, beside_at, no_row, row_inside}
+use Rattle.plan_text.proofs.Parts.{beside_at, row_tidy}
 use Rattle.plan_text.proofs.built.start_of.Goals as goal
 
 pub worker_no-requires-clause-known : goal.worker_no-requires-clause-known
 worker_no-requires-clause-known c =
-    let rows = c.args.rows.now in
-    let place = c.in_ok-place.place in
-    let inside = row_inside rows c.args.started.now c.args.split.now c.number.result place c.requires.names
-    c.number.ensures.number c.in_ok-place.was in
     subst (Contains c.args.workers.now) (sym c.word.ensures)
-    (All-unmap (IsTidyStart c.args.workers.now) said_in rows c.requires.known place no_row inside)
+    (row_tidy c.args.rows.now c.args.started.now c.args.split.now c.number.result c.in_ok-place.place
+    c.requires.names c.number.ensures.number c.in_ok-place.was (IsTidyStart c.args.workers.now)
+    c.requires.known)
 
 pub returns : goal.returns
 returns c =

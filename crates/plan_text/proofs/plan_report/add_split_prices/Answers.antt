@@ -1,4 +1,4 @@
-use Rattle.std.proofs.Common.{◌++◌, ◌≡◌, ◌∙◌, ap, string_bytes}
+use Rattle.std.proofs.Common.{◌++◌, ◌∙◌, ap, string_bytes}
 use Rattle.std.specs.List.{slice_index}
 use Rattle.plan_text.specs.Report.{price_line}
 use Rattle.text_lines.specs.Texts.{name_of}
@@ -7,15 +7,10 @@ use Rattle.plan_text.proofs.plan_report.add_split_prices.Goals as goal
 
 pub loop-number-preserved : goal.loop-number-preserved
 loop-number-preserved c =
-    let splits = c.args.splits.now in
+    let names = c.args.splits.now in
     let amounts = c.args.prices.now.splits in
-    let n = c.loop-number.number in
-    let amount : c.split-price.result ≡ slice_index amounts n =
-    c.split-price.ensures ∙ ap (slice_index amounts) c.new.ensures in
-    let one : string_bytes c.add_price.new.lines
-    ≡ string_bytes c.loop-number.lines ++ price_line (name_of splits n) (slice_index amounts n) =
-    c.in_ok-add_price.ensures
-    ∙ ap (λ name. string_bytes c.loop-number.lines ++ price_line name c.split-price.result) c.name_at.ensures
-    ∙ ap (λ price. string_bytes c.loop-number.lines ++ price_line (name_of splits n) price) amount in
-    lines_more (λ i. price_line (name_of splits i) (slice_index amounts i)) _ _ _ n c.loop-number.invariant
-    one
+    let amount = c.split-price.ensures ∙ ap (slice_index amounts) c.new.ensures in
+    lines_more (λ i. price_line (name_of names i) (slice_index amounts i)) _ _ _ c.loop-number.number
+    c.loop-number.invariant
+    (c.in_ok-add_price.ensures
+    ∙ (λ i. string_bytes c.loop-number.lines ++ price_line (c.name_at.ensures i) (amount i)))

@@ -1,4 +1,4 @@
-use Rattle.std.proofs.Common.{◌++◌, ◌≡◌, ◌∙◌, ap, string_bytes}
+use Rattle.std.proofs.Common.{◌++◌, ◌∙◌, ap, string_bytes}
 use Rattle.wave_problem.specs.Assignment.{start_of}
 use Rattle.plan_text.specs.Report.{start_line}
 use Rattle.text_lines.specs.Texts.{name_of}
@@ -10,14 +10,8 @@ loop-number-preserved c =
     let splits = c.args.splits.now in
     let workers = c.args.workers.now in
     let starts = c.args.plan.now.starts in
-    let n = c.loop-number.number in
-    let start : c.of-start.result ≡ start_of starts n =
-    c.of-start.ensures.start ∙ ap (start_of starts) c.new.ensures in
-    let one : string_bytes c.add_start.new.lines
-    ≡ string_bytes c.loop-number.lines ++ start_line workers (name_of splits n) (start_of starts n) =
-    c.in_ok-add_start.ensures
-    ∙ ap (λ name. string_bytes c.loop-number.lines ++ start_line workers name c.of-start.result)
-    c.name_at.ensures
-    ∙ ap (λ worker. string_bytes c.loop-number.lines ++ start_line workers (name_of splits n) worker) start in
-    lines_more (λ i. start_line workers (name_of splits i) (start_of starts i)) _ _ _ n
-    c.loop-number.invariant one
+    let start = c.of-start.ensures.start ∙ ap (start_of starts) c.new.ensures in
+    lines_more (λ i. start_line workers (name_of splits i) (start_of starts i)) _ _ _ c.loop-number.number
+    c.loop-number.invariant
+    (c.in_ok-add_start.ensures
+    ∙ (λ i. string_bytes c.loop-number.lines ++ start_line workers (c.name_at.ensures i) (start i)))

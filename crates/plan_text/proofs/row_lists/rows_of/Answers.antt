@@ -1,11 +1,9 @@
 use Rattle.std.proofs.Common.{List, ◌≡◌, ◌++◌, ◌∷◌, ◌∙◌, [], ap, arith, map, sym}
 use Rattle.std.proofs.lemmas.List.{map-append}
 use Rattle.line_shapes.specs.Lines.{Statement}
-use Rattle.line_shapes.specs.contracts.keyword.Keyword.{the_type}
 use Rattle.line_shapes.specs.declared.line.KeyedLine.{KeyedLine}
-use denote.Enum.Bare.{same_true, true_same}
 use Rattle.plan_text.specs.Names.{said_in}
-use Rattle.plan_text.proofs.Named.{rows_more, rows_same}
+use Rattle.plan_text.proofs.Named.{rows_more, rows_same, told_apart, told_same}
 use Rattle.plan_text.proofs.row_lists.rows_of.Goals as goal
 use Rattle.plan_text.proofs.row_lists.rows_of.Goals.{in-None, in-Some+else-eq}
 use Rattle.plan_text.proofs.row_lists.rows_of.Goals.{in-Some+then-eq+in_ok-push-in-Some}
@@ -16,7 +14,7 @@ loop-place-preserved c = elim c.match-row.branch [
       let found = w.in-Some.ensures in
       let row : KeyedLine = w.in-Some.row in
       let same : row.keyword ≡ c.args.keyword =
-      same_true the_type tt row.keyword c.args.keyword (sym w.eq.ensures ∙ w.if-eq.true) in
+      told_same row.keyword c.args.keyword w.eq.result w.eq.ensures w.if-eq.true in
       ap (λ (v : _). map said_in v.items) w.found-is ∙ ap (map said_in) w.in_ok-push-in-Some.ensures.items
       ∙ map-append said_in c.loop-place.found.items (row ∷ [])
       ∙ ap (λ (l : List Statement). l ++ said_in row ∷ []) c.loop-place.invariant
@@ -25,9 +23,7 @@ loop-place-preserved c = elim c.match-row.branch [
       let found = w.in-Some.ensures in
       let row : KeyedLine = w.in-Some.row in
       let other : row.keyword ≡ c.args.keyword → ⊥ =
-      λ e. let same = sym (true_same the_type row.keyword c.args.keyword e) ∙ sym w.eq.ensures
-      ∙ w.if-eq.false in
-      absurd cc in
+      told_apart row.keyword c.args.keyword w.eq.result w.eq.ensures w.if-eq.false in
       ap (λ (v : _). map said_in v.items) w.found-is ∙ c.loop-place.invariant
       ∙ sym (rows_same c.args.keyword c.args.rows.now c.loop-place.place (said_in row) found.0 found.1 other)
   | in-None w ↦
