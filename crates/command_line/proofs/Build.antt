@@ -1,18 +1,14 @@
 -- How the table of commands is put together.
-use Rattle.std.proofs.Common.{◌≡◌, ◌∙◌, ap, Bool, true, false, sym, true≢false, refl, ap₂}
-use Rattle.std.specs.Prelude.{not}
+use Rattle.std.proofs.Common.{◌≡◌, ◌∙◌, ap, true, false, ap₂}
+use Rattle.std.proofs.lemmas.Bool.{not-true}
 use Rattle.clap.specs.Words.{AddsSubcommand, App, app_of, with_subcommand}
 use Rattle.clap.specs.declared.builder.command.Command.{Command}
 use Rattle.clap.specs.declared.builder.command.Command.TheViews.{out-Command}
 use Rattle.clap.proofs.WalkLemmas.{both}
 
-not_true : (b : Bool) → not b ≡ true → b ≡ false
-not_true true e = absurd (true≢false (sym e))
-not_true false e = refl
-
 -- a plain command has no global argument
 pub is_local : (c : Command) → (app_of c).top.is_plain ≡ true → (out-Command c).has_globals ≡ false
-is_local c plain = not_true _ (both _ _ (both _ _ (both _ _ plain).1).1).0
+is_local c plain = not-true _ (both _ _ (both _ _ (both _ _ plain).1).1).0
 
 -- a plain command more
 pub added : (old sub new : Command) (program command : App) → AddsSubcommand old sub new

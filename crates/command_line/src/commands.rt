@@ -1,6 +1,6 @@
-ghost use Rattle.std.specs.Prelude.{◌≡◌, IfOk};
-ghost use Rattle.clap.specs.Words.{app_of};
-ghost use Rattle.command_line.specs.Commands.{check, mrjob, plan, play, run};
+ghost use Rattle.std.specs.Prelude.{◌≡◌, false, IfOk};
+ghost use Rattle.clap.specs.Words.{app_of, rule_of};
+ghost use Rattle.command_line.specs.Commands.{check, flag, mrjob, plan, play, run};
 
 use clap::{Arg, ArgAction, Command};
 use std::alloc::{AllocError, Global};
@@ -155,13 +155,21 @@ fn check_command<'a>(alloc: Global) -> Command<'a>
         .after_help(CHECK_TEXTS)
 }
 
+// A flag of this name, which takes no value.
+fn flag_of<'a>(alloc: Global, name: &'a str, help: &'a str) -> Arg<'a>
+    ensures rule { rule_of result ≡ flag name.now }
+    ensures local { result.global ≡ false }
+{
+    Arg::new(alloc, name)
+        .long(name)
+        .help(help)
+        .action(ArgAction::SetTrue)
+}
+
 fn play_command<'a>(alloc: Global) -> Result<Command<'a>, AllocError>
     ensures { IfOk result (λ command. app_of command ≡ play) }
 {
-    let quiet = Arg::new(alloc, "quiet")
-        .long("quiet")
-        .help(QUIET_HELP)
-        .action(ArgAction::SetTrue);
+    let quiet = flag_of(alloc, "quiet", QUIET_HELP);
     Command::new(alloc, "play")
         .about(PLAY_ABOUT)
         .after_help(PLAY_TEXTS)
@@ -171,14 +179,8 @@ fn play_command<'a>(alloc: Global) -> Result<Command<'a>, AllocError>
 fn run_command<'a>(alloc: Global) -> Result<Command<'a>, AllocError>
     ensures { IfOk result (λ command. app_of command ≡ run) }
 {
-    let history = Arg::new(alloc, "history")
-        .long("history")
-        .help(HISTORY_HELP)
-        .action(ArgAction::SetTrue);
-    let quiet = Arg::new(alloc, "quiet")
-        .long("quiet")
-        .help(QUIET_HELP)
-        .action(ArgAction::SetTrue);
+    let history = flag_of(alloc, "history", HISTORY_HELP);
+    let quiet = flag_of(alloc, "quiet", QUIET_HELP);
     Command::new(alloc, "run")
         .about(RUN_ABOUT)
         .after_help(RUN_TEXTS)
@@ -190,10 +192,7 @@ fn run_command<'a>(alloc: Global) -> Result<Command<'a>, AllocError>
 pub(crate) fn plan_command<'a>(alloc: Global) -> Result<Command<'a>, AllocError>
     ensures { IfOk result (λ command. app_of command ≡ plan) }
 {
-    let prices = Arg::new(alloc, "prices")
-        .long("prices")
-        .help(PRICES_HELP)
-        .action(ArgAction::SetTrue);
+    let prices = flag_of(alloc, "prices", PRICES_HELP);
     let network = Arg::new(alloc, "network")
         .long("network")
         .help(NETWORK_HELP)
