@@ -1,18 +1,16 @@
 -- The names and values that the lines of a head and a plan declare.
-use Rattle.std.proofs.Common.{ℕ, List, [], ◌∷◌, ◌++◌, ◌≡◌, ◌≢◌, ◌≤◌, ◌<◌, ◌^◌, ◌∙◌, Option, Some, append-nil}
-use Rattle.std.proofs.Common.{ap, arith}
-use Rattle.std.proofs.Common.{get_or, length, map, refl, subst, sym}
+use Rattle.std.proofs.Common.{zip, ℕ, List, [], ◌∷◌, ◌++◌, ◌≡◌, ◌≤◌, ◌<◌, ◌^◌, ◌∙◌, Option, Some}
+use Rattle.std.proofs.Common.{append-nil, ap, arith, get_or, length, map, refl, subst, sym}
+use Rattle.std.proofs.lemmas.Slice.Zip.{firsts-zip, seconds-zip}
 use Rattle.std.specs.Prelude.{◌↔◌}
-use Rattle.std.specs.List.{All, AllPairs}
+use Rattle.std.specs.List.{All}
 use Rattle.std.proofs.lemmas.List.{map-append}
 use Rattle.std.proofs.lemmas.List.Elements.{All-filter, All-head, All-map, All-tail, filter_passes}
-use Rattle.std.proofs.lemmas.List.Kept.{AllPairs-filter}
 use Rattle.node_ids.specs.Sets.{HasPair}
 use Rattle.wave_problem.specs.Assignment.{start_of}
 use Rattle.wave_problem.specs.Wave.{Wave}
 use Rattle.price_certificate.specs.PriceList.{PriceList}
 use Rattle.text_lines.specs.Texts.{IsName, Word, number_of}
-use Rattle.line_shapes.proofs.Mapped.{AllPairs-map, AllPairs-unmap}
 use Rattle.line_shapes.specs.Demands.{MeetsDemand}
 use Rattle.line_shapes.specs.Lines.{Statement}
 use Rattle.line_shapes.specs.Places.{place_at, places_of}
@@ -22,19 +20,15 @@ use Rattle.line_shapes.specs.declared.place.Place.TheVariants.{New}
 use Rattle.line_shapes.specs.declared.keyword.Keyword.{Keyword}
 use Rattle.line_shapes.specs.declared.keyword.Keyword.TheVariants.{Centre, Rack, Worker, Split, Barred, Dead}
 use Rattle.line_shapes.specs.declared.keyword.Keyword.TheVariants.{Busy}
-use Rattle.line_rules.specs.Entering.{entering_of, key_of}
 use Rattle.line_rules.specs.Known.{is_of, rows_of}
-use Rattle.line_rules.specs.declared.entering.Entering.TheVariants.{Word as ByWord}
 use Rattle.plan_text.specs.Names.{names_in, names_of, nth_word}
 use Rattle.plan_text.specs.Tidy.{AreTidy, IsTidyRow}
-use Rattle.plan_text.specs.Value.{IsBarred, MakesWave, price_at, prices_in, declared_split}
-use Rattle.plan_text.specs.Value.{start_at, declared_starts}
-use Rattle.plan_text.specs.Value.{declared_tree, declared_worker}
-use Rattle.plan_text.proofs.Named.{key_by_word, keyword_of, named_row}
+use Rattle.plan_text.specs.Value.{IsBarred, MakesWave, price_at, prices_in, declared_split, start_at}
+use Rattle.plan_text.specs.Value.{declared_starts, declared_tree, declared_worker}
+use Rattle.plan_text.proofs.Named.{keyword_of, named_row}
+use Rattle.plan_text.proofs.Tidy.{names_differ}
 use Rattle.written_plan.proofs.Heads.{AreApart, IsBare}
-use Rattle.written_plan.proofs.Pairs.{new-none, price_pairs, price_said, priced_amounts, priced_names}
-use Rattle.written_plan.proofs.Pairs.{start_pairs}
-use Rattle.written_plan.proofs.Pairs.{start_said}
+use Rattle.written_plan.proofs.Pairs.{new-none, price_said, start_pairs, start_said}
 use Rattle.written_plan.proofs.PlanPart.{AreNames, plan_rows, price_names, rows-other, rows-price, rows-start}
 use Rattle.written_plan.proofs.PlanPart.{start_names}
 use Rattle.written_plan.proofs.Values.{priced_at, prices_read, started_on, starts_read}
@@ -62,26 +56,13 @@ first_named k first some rows s same tidy =
     let placed : place_at s.keyword 0 ≡ Some New = ap (λ (i : Keyword). place_at i 0) same ∙ first in
     subst (λ (p : Option Place). MeetsDemand Name p (nth_word 0 s)) placed (tidy.named 0 (omega arith))
 
-names_differ : (k : Keyword) → entering_of k ≡ ByWord → (rows : List Statement) → AreTidy rows
-    → AllPairs (λ a b. a ≢ b) (names_of k rows)
-names_differ k by rows tidy =
-    AllPairs-map (λ a b. a ≢ b) (nth_word 0) (rows_of k rows) (λ i j d lt inside same.
-    let s = get_or (rows_of k rows) i d in
-    let t = get_or (rows_of k rows) j d in
-    let near : i < length (rows_of k rows) = omega arith in
-    let of_s = keyword_of k s (filter_passes (is_of k) rows i d near) in
-    let of_t = keyword_of k t (filter_passes (is_of k) rows j d inside) in
-    AllPairs-filter (λ a b. key_of a ≢ key_of b) (is_of k) rows
-    (AllPairs-unmap (λ a b. a ≢ b) key_of rows tidy.differ) i j d lt inside
-    (key_by_word k by s of_s ∙ ap (λ (w : Word). (k, w, [])) same ∙ sym (key_by_word k by t of_t)))
-
 pub head_names : (rows : List Statement) → AreTidy rows → AreApart rows
     → AreNames (names_of Split rows) (names_of Worker rows)
 head_names rows tidy apart = record {
   splits_named = named_in Split rows tidy (first_named Split refl (omega arith) rows);
   workers_named = named_in Worker rows tidy (first_named Worker refl (omega arith) rows);
-  splits_differ = names_differ Split refl rows tidy;
-  workers_differ = names_differ Worker refl rows tidy;
+  splits_differ = names_differ Split refl rows tidy.differ;
+  workers_differ = names_differ Worker refl rows tidy.differ;
   apart = λ n split worker. apart n (named_row Split refl rows n split) (named_row Worker refl rows n worker);
 }
 
@@ -91,20 +72,13 @@ pub same_wave : (rows : List Statement) (a : List (Word × Word)) (b c : List (W
     → MakesWave rows w → MakesWave (rows ++ plan_rows a b c) w
 same_wave rows a b c w h =
     let all = rows ++ plan_rows a b c in
-    let centres : rows_of Centre rows ≡ rows_of Centre all =
-    sym (rows-other Centre rows a b c (λ p ss. refl) (λ p ss. refl)) in
-    let racks : rows_of Rack rows ≡ rows_of Rack all =
-    sym (rows-other Rack rows a b c (λ p ss. refl) (λ p ss. refl)) in
-    let workers : rows_of Worker rows ≡ rows_of Worker all =
-    sym (rows-other Worker rows a b c (λ p ss. refl) (λ p ss. refl)) in
-    let splits : rows_of Split rows ≡ rows_of Split all =
-    sym (rows-other Split rows a b c (λ p ss. refl) (λ p ss. refl)) in
-    let dead : rows_of Dead rows ≡ rows_of Dead all =
-    sym (rows-other Dead rows a b c (λ p ss. refl) (λ p ss. refl)) in
-    let busy : rows_of Busy rows ≡ rows_of Busy all =
-    sym (rows-other Busy rows a b c (λ p ss. refl) (λ p ss. refl)) in
-    let barred : rows_of Barred rows ≡ rows_of Barred all =
-    sym (rows-other Barred rows a b c (λ p ss. refl) (λ p ss. refl)) in
+    let centres = sym (rows-other Centre rows a b c (λ p ss. refl) (λ p ss. refl)) in
+    let racks = sym (rows-other Rack rows a b c (λ p ss. refl) (λ p ss. refl)) in
+    let workers = sym (rows-other Worker rows a b c (λ p ss. refl) (λ p ss. refl)) in
+    let splits = sym (rows-other Split rows a b c (λ p ss. refl) (λ p ss. refl)) in
+    let dead = sym (rows-other Dead rows a b c (λ p ss. refl) (λ p ss. refl)) in
+    let busy = sym (rows-other Busy rows a b c (λ p ss. refl) (λ p ss. refl)) in
+    let barred = sym (rows-other Barred rows a b c (λ p ss. refl) (λ p ss. refl)) in
     record {
       tree = h.tree ∙ (λ i. declared_tree (names_in (centres i)) (racks i) (workers i));
       workers = h.workers ∙ (λ i. map (declared_worker (names_in (dead i))) (workers i));
@@ -191,23 +165,23 @@ amount_words (p ∷ ps) small =
 
 amounts_back : (names : List Word) (amounts : List ℕ) → length amounts ≡ length names
     → All (λ a. a < 2 ^ 64) amounts
-    → map (λ s. number_of (nth_word 1 s)) (map price_said (price_pairs names amounts)) ≡ amounts
+    → map (λ s. number_of (nth_word 1 s)) (map price_said (zip names amounts)) ≡ amounts
 amounts_back names amounts count small =
-    let back = priced_amounts names amounts count in
-    amount_words (price_pairs names amounts) (subst (All (λ a. a < 2 ^ 64)) (sym back) small) ∙ back
+    let back = seconds-zip names amounts count in
+    amount_words (zip names amounts) (subst (All (λ a. a < 2 ^ 64)) (sym back) small) ∙ back
 
 pub prices-read_back : (rows : List Statement) (a : List (Word × Word)) (prices : PriceList) → IsBare rows
     → AreNames (names_of Split rows) (names_of Worker rows) →
     length prices.splits ≡ length (names_of Split rows)
     → length prices.workers ≡ length (names_of Worker rows) → All (λ x. x < 2 ^ 64) prices.splits
     → All (λ x. x < 2 ^ 64) prices.workers
-    → prices_in (rows ++ plan_rows a (price_pairs (names_of Split rows) prices.splits)
-    (price_pairs (names_of Worker rows) prices.workers)) ≡ prices
+    → prices_in (rows ++ plan_rows a (zip (names_of Split rows) prices.splits)
+    (zip (names_of Worker rows) prices.workers)) ≡ prices
 prices-read_back rows a prices bare names count more_count small more_small =
     let splits = names_of Split rows in
     let workers = names_of Worker rows in
-    let b = price_pairs splits prices.splits in
-    let c = price_pairs workers prices.workers in
+    let b = zip splits prices.splits in
+    let c = zip workers prices.workers in
     let split_rows = rows-other Split rows a b c (λ p ss. refl) (λ p ss. refl) in
     let worker_rows = rows-other Worker rows a b c (λ p ss. refl) (λ p ss. refl) in
     let lines = rows-price rows a b c bare.no_prices in
@@ -216,7 +190,7 @@ prices-read_back rows a prices bare names count more_count small more_small =
     let priced : names_in (bs ++ cs) ≡ splits ++ workers =
     map-append (nth_word 0) bs cs
     ∙ (λ i. price_names b i ++ price_names c i)
-    ∙ (λ i. priced_names splits prices.splits count i ++ priced_names workers prices.workers more_count i) in
+    ∙ (λ i. firsts-zip splits prices.splits count i ++ firsts-zip workers prices.workers more_count i) in
     let amounts : map (λ s. number_of (nth_word 1 s)) (bs ++ cs) ≡ prices.splits ++ prices.workers =
     map-append (λ s. number_of (nth_word 1 s)) bs cs
     ∙ (λ i. amounts_back splits prices.splits count small i

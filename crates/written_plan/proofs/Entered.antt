@@ -1,7 +1,7 @@
 -- The starts and prices of a plan fit, one after the other.
-use Rattle.std.proofs.Common.{ℕ, List, [], ◌∷◌, ◌++◌, ◌≡◌, ◌≢◌, ◌≤◌, ◌<◌, ◌^◌, ◌∙◌, ◌⊎◌, Option, Some, None}
-use Rattle.std.proofs.Common.{inl, inr}
-use Rattle.std.proofs.Common.{ap, append-nil, arith, codes, get_or, length, map, refl, subst, suc, sym}
+use Rattle.std.proofs.Common.{zip, ℕ, List, [], ◌∷◌, ◌++◌, ◌≡◌, ◌≢◌, ◌≤◌, ◌<◌, ◌^◌, ◌∙◌, ◌⊎◌, Option, Some}
+use Rattle.std.proofs.Common.{None, inl, inr, ap, append-nil, arith, codes, get_or, length, map, refl, subst}
+use Rattle.std.proofs.Common.{suc, sym}
 use Rattle.std.specs.Fmt.{decimal}
 use Rattle.std.specs.List.{All, Contains}
 use Rattle.std.proofs.lemmas.List.{map-append}
@@ -25,8 +25,7 @@ use Rattle.plan_text.specs.Names.{names_in, names_of, nth_word}
 use Rattle.plan_text.proofs.Named.{named_row, row_named}
 use Rattle.written_plan.proofs.Words.{IsMade, both_of, line_of, made-end, made-plan, made-price, made-start}
 use Rattle.written_plan.proofs.Words.{none_of, number-decimal, number_of-decimal, said}
-use Rattle.written_plan.proofs.Pairs.{AreNew, new-first, new-next, new-skip, price_pairs, price_said}
-use Rattle.written_plan.proofs.Pairs.{price_text}
+use Rattle.written_plan.proofs.Pairs.{AreNew, new-first, new-next, new-skip, price_said, price_text}
 use Rattle.written_plan.proofs.Pairs.{start_pairs, start_said, start_text}
 
 -- ---- what stands in the rows
@@ -47,17 +46,13 @@ names_of-append k rows more =
 -- with lines more that have these names
 module _ (rows more : List Statement) (splits workers started priced : List Word)
     (h : HasNames rows splits workers started priced) where
-  with_none : (k : Keyword) (names : List Word) → names_of k rows ≡ names → names_of k more ≡ []
-      → names_of k (rows ++ more) ≡ names
-  with_none k names is none =
-      names_of-append k rows more ∙ ap (λ (l : List Word). l ++ names_of k more) is
-      ∙ ap (λ (l : List Word). names ++ l) none ∙ append-nil names
-
   with_some : (k : Keyword) (names last : List Word) → names_of k rows ≡ names → names_of k more ≡ last
       → names_of k (rows ++ more) ≡ names ++ last
-  with_some k names last is some =
-      names_of-append k rows more ∙ ap (λ (l : List Word). l ++ names_of k more) is
-      ∙ ap (λ (l : List Word). names ++ l) some
+  with_some k names last is some = names_of-append k rows more ∙ (λ i. is i ++ some i)
+
+  with_none : (k : Keyword) (names : List Word) → names_of k rows ≡ names → names_of k more ≡ []
+      → names_of k (rows ++ more) ≡ names
+  with_none k names is none = with_some k names [] is none ∙ append-nil names
 
   pub names-started : (last : List Word) → names_of Split more ≡ [] → names_of Worker more ≡ []
       → names_of Start more ≡ last → names_of Price more ≡ []
@@ -145,8 +140,6 @@ pub are_starts : (splits workers started xs : List Word) (os : List (Option ℕ)
     → All IsName xs
     → All IsName workers → AreNew started xs → ((s w : ℕ) → get_or os s None ≡ Some w → w < length workers)
     → AreStarts splits workers started (start_pairs workers xs os)
-are_starts splits workers started [] os known named workers_named new of_workers = tt
-are_starts splits workers started (x ∷ xs) [] known named workers_named new of_workers = tt
 are_starts splits workers started (x ∷ xs) (None ∷ os) known named workers_named new of_workers =
     are_starts splits workers started xs os (All-tail (Contains splits) x xs known)
     (All-tail IsName x xs named)
@@ -164,6 +157,7 @@ are_starts splits workers started (x ∷ xs) (Some w ∷ os) known named workers
           (All-tail IsName x xs named)
           workers_named (new-next started x xs new) (λ s. of_workers (suc s)),
     )
+are_starts splits workers started xs os known named workers_named new of_workers = tt
 
 fit-start : (k : Known) (splits workers started priced : List Word) (p : Word × Word) → IsBegun k
     → HasNames k.rows splits workers started priced → IsStart splits workers started p →
@@ -218,9 +212,7 @@ ArePrices splits workers priced (p ∷ ps) =
 pub are_prices : (splits workers priced xs : List Word) (amounts : List ℕ)
     → All (λ x. Contains splits x ⊎ Contains workers x) xs
     → All IsName xs → AreNew priced xs → All (λ a. a < 2 ^ 64) amounts
-    → ArePrices splits workers priced (price_pairs xs amounts)
-are_prices splits workers priced [] amounts known named new small = tt
-are_prices splits workers priced (x ∷ xs) [] known named new small = tt
+    → ArePrices splits workers priced (zip xs amounts)
 are_prices splits workers priced (x ∷ xs) (a ∷ amounts) known named new small = (
   record {
     known = All-head (λ y. Contains splits y ⊎ Contains workers y) x xs known;
@@ -232,6 +224,7 @@ are_prices splits workers priced (x ∷ xs) (a ∷ amounts) known named new smal
       (All-tail (λ y. Contains splits y ⊎ Contains workers y) x xs known)
       (All-tail IsName x xs named) (new-next priced x xs new) (All-tail (λ b. b < 2 ^ 64) a amounts small),
 )
+are_prices splits workers priced xs amounts known named new small = tt
 
 fit-price : (k : Known) (splits workers started priced : List Word) (p : Word × ℕ) → IsBegun k
     → HasNames k.rows splits workers started priced → IsPrice splits workers priced p → IsFit k (price_said p)

@@ -1,7 +1,6 @@
 -- A text whose lines fit, and end, reads as what they say.
 use Rattle.std.proofs.Common.{ℕ, List, [], ◌∷◌, ◌++◌, ◌≡◌, ◌+◌, ◌≤◌, ◌<◌, ◌∙◌, inl, length, take, refl, sym}
-use Rattle.std.proofs.Common.{ap}
-use Rattle.std.proofs.Common.{subst, arith, length-append}
+use Rattle.std.proofs.Common.{ap, subst, arith, length-append}
 use Rattle.std.proofs.Math.Seq.{take-append_seam}
 use Rattle.text_lines.specs.Texts.{Line, lines_of}
 use Rattle.line_shapes.specs.Lines.{Statement}
@@ -16,18 +15,16 @@ use Rattle.line_rules.proofs.ReadTo.{IsReadTo, read_more, read_none, reads_all}
 
 fit-declare : (k : Known) (ls : List Line) (ss : List Statement) → AreFitLines k ls ss → Declare ls ss
 fit-declare k [] [] fits = tt
-fit-declare k [] (t ∷ ts) fits = absurd fits
-fit-declare k (l ∷ ls) [] fits = absurd fits
 fit-declare k (l ∷ ls) (t ∷ ts) fits = inl (fits.0.says, fit-declare (entered k t) ls ts fits.1)
+fit-declare k ls ss fits = absurd fits
 
 -- lines that fit after these statements, then lines that fit after those
 pub fit-append : (k : Known) (ls more : List Line) (ss ts : List Statement) → AreFitLines k ls ss
     → AreFitLines (names_after k ss) more ts → AreFitLines k (ls ++ more) (ss ++ ts)
 fit-append k [] more [] ts fits rest = rest
-fit-append k [] more (s ∷ ss) ts fits rest = absurd fits
-fit-append k (l ∷ ls) more [] ts fits rest = absurd fits
 fit-append k (l ∷ ls) more (s ∷ ss) ts fits rest =
     (fits.0, fit-append (entered k s) ls more ss ts fits.1 rest)
+fit-append k ls more ss ts fits rest = absurd fits
 
 pub after-append : (k : Known) (ss ts : List Statement)
     → names_after k (ss ++ ts) ≡ names_after (names_after k ss) ts
@@ -51,13 +48,12 @@ read_fit : (purpose : Purpose) (text : List ℕ) (ls : List Line) (ss : List Sta
     → IsReadTo purpose text (ls ++ [] ∷ []) n k → AreFitLines k ls ss
     → (m : ℕ) × IsReadTo purpose text ([] ∷ []) m (names_after k ss)
 read_fit purpose text [] [] n k read fits = (n, read)
-read_fit purpose text [] (s ∷ ss) n k read fits = absurd fits
-read_fit purpose text (l ∷ ls) [] n k read fits = absurd fits
 read_fit purpose text (l ∷ ls) (s ∷ ss) n k read fits =
     read_fit purpose text ls ss (n + 1) (entered k s)
     (read_more purpose text (l ∷ ls ++ [] ∷ []) l (ls ++ [] ∷ []) n k (entered k s) read refl
     (some_left ls [])
     (fit_taken k l s fits.0)) fits.1
+read_fit purpose text ls ss n k read fits = absurd fits
 
 -- the lines that fit are all but the last, so what the text says is what they say
 same_statements : (purpose : Purpose) (text : List ℕ) (ls : List Line) (ss ts : List Statement)

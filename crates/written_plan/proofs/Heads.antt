@@ -1,6 +1,6 @@
 -- The head of a text to plan from: it fits a text to check as well, and its names are names, each once.
-use Rattle.std.proofs.Common.{ℕ, List, [], ◌∷◌, ◌++◌, ◌≡◌, ◌≢◌, ◌≤◌, ◌<◌, ◌∙◌, ◌⊎◌, Option, Some, Bool}
-use Rattle.std.proofs.Common.{inl, inr, ap, arith, codes, cond, length, refl, subst, suc, sym, zero}
+use Rattle.std.proofs.Common.{ℕ, List, [], ◌∷◌, ◌++◌, ◌≡◌, ◌≢◌, ◌≤◌, ◌<◌, ◌∙◌, ◌⊎◌, Option, Some, Bool, inl}
+use Rattle.std.proofs.Common.{inr, ap, arith, codes, cond, length, refl, subst, suc, sym, zero}
 use Rattle.std.specs.List.{All, Contains}
 use Rattle.std.proofs.lemmas.List.{map-append}
 use Rattle.std.proofs.lemmas.List.Elements.{All-cons, All-nil, Contains-append_cases, filter-append}
@@ -17,13 +17,12 @@ use Rattle.line_rules.specs.Entering.{Key, entered_by, entered_of, entering_of, 
 use Rattle.line_rules.specs.Faults.{AreAsMany, IsFewer, IsFit, IsFreeIn, IsPricedBefore, Keep, counted_by}
 use Rattle.line_rules.specs.Faults.{counted_of, follows}
 use Rattle.line_rules.specs.declared.entering.Follow.{Follow}
-use Rattle.line_rules.specs.declared.entering.Follow.TheVariants.{Any, Centre, Counts}
+use Rattle.line_rules.specs.declared.entering.Follow.TheVariants.{Any}
 use Rattle.line_rules.specs.Known.{HasRow, IsTaken, Known, entered, is_of, keys_of, rows_of}
 use Rattle.line_rules.specs.Reading.{AreFitLines, IsFitLine}
 use Rattle.line_rules.specs.Sections.{section_of}
 use Rattle.line_rules.specs.declared.entering.Entering.{Entering}
-use Rattle.line_rules.specs.declared.entering.Entering.TheVariants.{Nothing, InTurn, Alone}
-use Rattle.line_rules.specs.declared.entering.Entering.TheVariants.{Word as ByWord, Pair as ByPair}
+use Rattle.line_rules.specs.declared.entering.Entering.TheVariants.{Nothing, InTurn, Word as ByWord}
 use Rattle.line_rules.specs.declared.purpose.Purpose.{Purpose}
 use Rattle.line_rules.specs.declared.purpose.Purpose.TheVariants.{Checking, Planning}
 use Rattle.line_rules.specs.declared.rule.Rule.TheVariants as rule
@@ -48,9 +47,8 @@ fit-printable k (l ∷ ls) (s ∷ ss) f =
 none_after : (k : Known) (ls : List Line) (ss : List Statement) → k.section ≡ Ended → AreFitLines k ls ss
     → (ls ≡ []) × (ss ≡ [])
 none_after k [] [] ended f = (refl, refl)
-none_after k [] (s ∷ ss) ended f = absurd f
-none_after k (l ∷ ls) [] ended f = absurd f
 none_after k (l ∷ ls) (s ∷ ss) ended f = absurd (f.0.not_ended ended)
+none_after k ls ss ended f = absurd f
 
 -- ---- the rows of one line more
 
@@ -64,9 +62,7 @@ row-entered s key = by (entering_of s.keyword)
     by : (e : Entering) → Contains (keys_of (entered_by e s)) key → key_of s ≡ key
     by Nothing h = absurd (let lt = h.1 in omega arith)
     by InTurn h = absurd (let lt = h.1 in omega arith)
-    by Alone h = one_element (key_of s) key h
-    by ByWord h = one_element (key_of s) key h
-    by ByPair h = one_element (key_of s) key h
+    by e h = one_element (key_of s) key h
 
 -- a row stood before, or is of this line
 row_cases : (rows : List Statement) (s : Statement) (k : Keyword) (n : Word) →
@@ -89,9 +85,7 @@ rows_of-entered k s other = by (entering_of s.keyword)
     by : (e : Entering) → rows_of k (entered_by e s) ≡ []
     by Nothing = refl
     by InTurn = refl
-    by Alone = one
-    by ByWord = one
-    by ByPair = one
+    by e = one
 
 -- nothing of a plan stands in the rows
 pub record IsBare (rows : List Statement) : Type 0 where
@@ -152,16 +146,12 @@ checking k = record k { purpose = Checking }
 
 same_follows : (k : Known) (f : Follow) → follows f (checking k) ≡ follows f k
 same_follows k Any = refl
-same_follows k Centre = refl
-same_follows k Counts = refl
+same_follows k f = refl
 
 same_count : (k : Known) (word : Keyword) (e : Entering) →
     counted_by e (checking k) word ≡ counted_by e k word
 same_count k word Nothing = refl
-same_count k word InTurn = refl
-same_count k word Alone = refl
-same_count k word ByWord = refl
-same_count k word ByPair = refl
+same_count k word e = refl
 
 fit-checking : (k : Known) (s : Statement) → k.purpose ≡ Planning → IsOfHead s.keyword → IsFit k s
     → IsFit (checking k) s
@@ -266,8 +256,6 @@ pub head_and_end : (k : Known) (ls : List Line) (ss : List Statement) → k.purp
     → AreApart k.rows → k.section ≢ Ended → AreFitLines k ls ss → (names_after k ss).section ≡ Ended
     → IsHeadAndEnd k ls ss
 head_and_end k [] [] planning bare apart going fit ended = absurd (going ended)
-head_and_end k [] (s ∷ ss) planning bare apart going fit ended = absurd fit
-head_and_end k (l ∷ ls) [] planning bare apart going fit ended = absurd fit
 head_and_end k (l ∷ ls) (s ∷ ss) planning bare apart going fit ended =
     let stands : section_of Planning s.keyword ≡ Some k.section =
     ap (λ (p : Purpose). section_of p s.keyword) (sym planning) ∙ fit.0.fit.may_stand.0 in
@@ -283,6 +271,7 @@ head_and_end k (l ∷ ls) (s ∷ ss) planning bare apart going fit ended =
           subst (λ (t : Statement). IsHeadAndEnd k (l ∷ ls) (t ∷ ss)) (sym e)
           (at_end k l ls ss planning bare apart all.0 all.1)
     ]
+head_and_end k ls ss planning bare apart going fit ended = absurd fit
 
 pub after-checking : (k : Known) (ss : List Statement)
     → names_after (checking k) ss ≡ checking (names_after k ss)

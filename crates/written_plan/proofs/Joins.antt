@@ -1,6 +1,6 @@
 -- A text and its last line, and the text with a plan behind its head.
-use Rattle.std.proofs.Common.{ℕ, List, [], ◌∷◌, ◌++◌, ◌≡◌, ◌≢◌, ◌-◌, ◌∙◌, Option, codes, length, map, take}
-use Rattle.std.proofs.Common.{drop, refl, sym, ap, arith}
+use Rattle.std.proofs.Common.{zip, ℕ, List, [], ◌∷◌, ◌++◌, ◌≡◌, ◌≢◌, ◌-◌, ◌∙◌, Option, codes, length, map}
+use Rattle.std.proofs.Common.{take, drop, refl, sym, ap, arith}
 use Rattle.std.proofs.lemmas.List.{append_assoc, length-append, length-drop, take-append-drop, take_at}
 use Rattle.price_certificate.specs.PriceList.{PriceList}
 use Rattle.text_lines.specs.Texts.{Line, Word, lines_of}
@@ -11,28 +11,24 @@ use Rattle.line_rules.specs.Known.{Known, known_at}
 use Rattle.line_rules.specs.Texts.{FirstHas, ReadsAs}
 use Rattle.line_rules.specs.declared.purpose.Purpose.{Purpose}
 use Rattle.line_rules.specs.declared.section.Section.{Section}
-use Rattle.line_rules.specs.declared.section.Section.TheVariants.{First, Head, Body, Ended}
-use Rattle.plan_text.specs.Report.{lines_of_plan, price_lines_of}
+use Rattle.line_rules.specs.declared.section.Section.TheVariants.{Ended}
+use Rattle.plan_text.specs.Report.{lines_of_plan}
 use Rattle.written_plan.specs.Joined.{IsWritable, end_line, without_last_line, with_plan}
 use Rattle.written_plan.proofs.Lines.{joined, joined-append}
-use Rattle.written_plan.proofs.Pairs.{price_lines-text, price_pairs, price_text, start_lines-text}
-use Rattle.written_plan.proofs.Pairs.{start_pairs, start_text}
+use Rattle.written_plan.proofs.Pairs.{price_lines-text, price_text, start_lines-text, start_pairs, start_text}
 use Rattle.written_plan.proofs.PlanPart.{plan_texts}
 
 -- ---- the last line
 
 ended : (section : Section) → (section ≢ Ended → ⊥) → section ≡ Ended
-ended First h = absurd (h (λ e. cc))
-ended Head h = absurd (h (λ e. cc))
-ended Body h = absurd (h (λ e. cc))
 ended Ended h = refl
+ended section h = absurd (h (λ e. cc))
 
 last_is : (k : Known) (rest : List Line) → length rest ≡ 1 → ((f : Fault) → FirstHas k rest f → ⊥)
     → (rest ≡ [] ∷ []) × (k.section ≡ Ended)
-last_is k [] one none = absurd (omega arith)
 last_is k ([] ∷ []) one none = (refl, ended k.section (none Misplaced))
 last_is k ((b ∷ bs) ∷ []) one none = absurd (none NoFeed tt)
-last_is k (l ∷ m ∷ ls) one none = absurd (omega arith)
+last_is k rest one none = absurd (omega arith)
 
 -- nothing follows the last line feed, and before it the last line is `end`
 pub last_line : (purpose : Purpose) (text : List ℕ) (ss : List Statement) → ReadsAs purpose text ss
@@ -76,25 +72,20 @@ pub text-with_plan : (text : List ℕ) (lines : List Line) (splits workers : Lis
     (prices : PriceList)
     → text ≡ joined (lines ++ codes "end" ∷ []) → IsWritable splits workers starts prices
     → with_plan text (lines_of_plan splits workers starts prices)
-    ≡ joined (lines ++ plan_texts (start_pairs workers splits starts) (price_pairs splits prices.splits)
-    (price_pairs workers prices.workers))
+    ≡ joined (lines ++ plan_texts (start_pairs workers splits starts) (zip splits prices.splits)
+    (zip workers prices.workers))
 text-with_plan text lines splits workers starts prices whole plan =
     let a = start_pairs workers splits starts in
-    let b = price_pairs splits prices.splits in
-    let c = price_pairs workers prices.workers in
+    let b = zip splits prices.splits in
+    let c = zip workers prices.workers in
     let head : without_last_line text ≡ joined lines =
     ap without_last_line (whole ∙ joined-append lines (codes "end" ∷ []))
     ∙ without_last_line-joined (joined lines) in
     ap (λ h. h ++ codes "plan" ++ (10 ∷ lines_of_plan splits workers starts prices) ++ end_line) head
-    ∙ ap (λ x. joined lines ++ codes "plan" ++ (10 ∷
-    (x ++ (price_lines_of splits prices.splits ++ price_lines_of workers prices.workers))) ++ end_line)
-    (start_lines-text splits workers starts plan.split_starts)
-    ∙ ap (λ x. joined lines ++ codes "plan" ++ (10 ∷
-    (joined (map start_text a) ++ (x ++ price_lines_of workers prices.workers))) ++ end_line)
-    (price_lines-text splits prices.splits plan.split_prices)
-    ∙ ap (λ x. joined lines ++ codes "plan" ++ (10 ∷
-    (joined (map start_text a) ++ (joined (map price_text b) ++ x))) ++ end_line)
-    (price_lines-text workers prices.workers plan.worker_prices)
+    ∙ (λ i. joined lines ++ codes "plan" ++ (10 ∷
+    (start_lines-text splits workers starts plan.split_starts i
+    ++ (price_lines-text splits prices.splits plan.split_prices i
+    ++ price_lines-text workers prices.workers plan.worker_prices i))) ++ end_line)
     ∙ regroup (joined lines) (joined (map start_text a)) (joined (map price_text b))
     (joined (map price_text c))
     ∙ ap (λ rest. joined lines ++ rest) (sym (joined-plan a b c))

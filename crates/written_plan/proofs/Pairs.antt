@@ -1,6 +1,7 @@
 -- The starts and prices of a plan as pairs, in the order of their lines.
-use Rattle.std.proofs.Common.{ℕ, List, [], ◌∷◌, ◌++◌, ◌≡◌, ◌≢◌, ◌+◌, ◌<◌, ◌∙◌, Option, Some, None, inl, inr}
-use Rattle.std.proofs.Common.{codes, length, map, refl, sym, ap, subst, arith, get_or, suc, zero, add-one}
+use Rattle.std.proofs.Common.{zip, ℕ, List, [], ◌∷◌, ◌++◌, ◌≡◌, ◌≢◌, ◌+◌, ◌<◌, ◌∙◌, Option, Some, None, inl}
+use Rattle.std.proofs.Common.{inr, codes, length, map, refl, sym, ap, subst, arith, get_or, suc, zero}
+use Rattle.std.proofs.Common.{add-one}
 use Rattle.std.specs.Fmt.{decimal}
 use Rattle.std.specs.List.{AllPairs, Contains, flat_map, range_with_len}
 use Rattle.std.proofs.lemmas.List.{append_assoc}
@@ -63,29 +64,9 @@ new-none taken names none differ = record {
 
 -- each split that starts with the worker's name
 abbrev pub start_pairs : List Word → List Word → List (Option ℕ) → List (Word × Word)
-start_pairs workers [] os = []
-start_pairs workers (s ∷ ss) [] = []
 start_pairs workers (s ∷ ss) (None ∷ os) = start_pairs workers ss os
 start_pairs workers (s ∷ ss) (Some w ∷ os) = (s, name_of workers w) ∷ start_pairs workers ss os
-
--- each name with its amount
-abbrev pub price_pairs : List Word → List ℕ → List (Word × ℕ)
-price_pairs [] amounts = []
-price_pairs (n ∷ ns) [] = []
-price_pairs (n ∷ ns) (a ∷ amounts) = (n, a) ∷ price_pairs ns amounts
-
-pub priced_names : (ns : List Word) (amounts : List ℕ) → length amounts ≡ length ns
-    → map (λ p. p.0) (price_pairs ns amounts) ≡ ns
-priced_names [] amounts e = refl
-priced_names (n ∷ ns) [] e = absurd (omega arith)
-priced_names (n ∷ ns) (a ∷ amounts) e = ap (λ ms. n ∷ ms) (priced_names ns amounts (omega arith))
-
-pub priced_amounts : (ns : List Word) (amounts : List ℕ) → length amounts ≡ length ns
-    → map (λ p. p.1) (price_pairs ns amounts) ≡ amounts
-priced_amounts [] [] e = refl
-priced_amounts [] (a ∷ amounts) e = absurd (omega arith)
-priced_amounts (n ∷ ns) [] e = absurd (omega arith)
-priced_amounts (n ∷ ns) (a ∷ amounts) e = ap (λ bs. a ∷ bs) (priced_amounts ns amounts (omega arith))
+start_pairs workers ss os = []
 
 pub started_are_splits : (workers ss : List Word) (os : List (Option ℕ)) (name : Word)
     → Contains (map (λ p. p.0) (start_pairs workers ss os)) name → Contains ss name
@@ -114,9 +95,8 @@ price_text p = spaced (codes "price" ∷ p.0 ∷ decimal p.1 ∷ [])
 -- ---- the text of the lines
 
 abbrev flat_pairs : {X Y : Type 0} → (X → Y → List ℕ) → List X → List Y → List ℕ
-flat_pairs f [] ys = []
-flat_pairs f (x ∷ xs) [] = []
 flat_pairs f (x ∷ xs) (y ∷ ys) = f x y ++ flat_pairs f xs ys
+flat_pairs f xs ys = []
 
 flat_map-later : (f : ℕ → List ℕ) (a n : ℕ)
     → flat_map f (range_with_len (a + 1) n) ≡ flat_map (λ i. f (suc i)) (range_with_len a n)
@@ -124,8 +104,7 @@ flat_map-later f a zero = refl
 flat_map-later f a (suc n) =
     let more = flat_map-later f (a + 1) n in
     let same : a + 1 ≡ suc a = add-one a in
-    ap (λ xs. f (a + 1) ++ xs) more ∙ ap (λ m. f m ++ flat_map (λ i. f (suc i)) (range_with_len (a + 1) n))
-    same
+    λ i. f (same i) ++ more i
 
 by_numbers : {X Y : Type 0} (f : X → Y → List ℕ) (d : X) (e : Y) (xs : List X) (ys : List Y)
     → length ys ≡ length xs
@@ -144,12 +123,11 @@ start_line-text s w rest = simp append_assoc
 
 starts-text : (workers ss : List Word) (os : List (Option ℕ))
     → flat_pairs (start_line workers) ss os ≡ joined (map start_text (start_pairs workers ss os))
-starts-text workers [] os = refl
-starts-text workers (s ∷ ss) [] = refl
 starts-text workers (s ∷ ss) (None ∷ os) = starts-text workers ss os
 starts-text workers (s ∷ ss) (Some w ∷ os) =
     start_line-text s (name_of workers w) (flat_pairs (start_line workers) ss os)
     ∙ ap (λ rest. start_text (s, name_of workers w) ++ 10 ∷ rest) (starts-text workers ss os)
+starts-text workers ss os = refl
 
 pub start_lines-text : (splits workers : List Word) (starts : List (Option ℕ)) → length starts ≡ length splits
     → start_lines splits workers starts ≡ joined (map start_text (start_pairs workers splits starts))
@@ -162,14 +140,13 @@ price_line-text : (n a rest : List ℕ)
 price_line-text n a rest = simp append_assoc
 
 prices-text : (ns : List Word) (amounts : List ℕ)
-    → flat_pairs price_line ns amounts ≡ joined (map price_text (price_pairs ns amounts))
-prices-text [] amounts = refl
-prices-text (n ∷ ns) [] = refl
+    → flat_pairs price_line ns amounts ≡ joined (map price_text (zip ns amounts))
 prices-text (n ∷ ns) (a ∷ amounts) =
     price_line-text n (decimal a) (flat_pairs price_line ns amounts)
     ∙ ap (λ rest. price_text (n, a) ++ 10 ∷ rest) (prices-text ns amounts)
+prices-text ns amounts = refl
 
 pub price_lines-text : (names : List Word) (amounts : List ℕ) → length amounts ≡ length names
-    → price_lines_of names amounts ≡ joined (map price_text (price_pairs names amounts))
+    → price_lines_of names amounts ≡ joined (map price_text (zip names amounts))
 price_lines-text names amounts same = by_numbers price_line [] 0 names amounts same
     ∙ prices-text names amounts

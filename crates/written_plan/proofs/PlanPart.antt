@@ -1,7 +1,7 @@
 -- The lines of a plan, with `plan` before and `end` after them: they fit, and what they leave in the rows.
-use Rattle.std.proofs.Common.{ℕ, List, [], ◌∷◌, ◌++◌, ◌≡◌, ◌≢◌, ◌<◌, ◌^◌, ◌∙◌, ◌⊎◌, Option, inl, inr}
-use Rattle.std.proofs.Common.{ap, append-nil, append_assoc, arith, codes, get_or, length, map, refl, subst}
-use Rattle.std.proofs.Common.{sym}
+use Rattle.std.proofs.Common.{zip, ℕ, List, [], ◌∷◌, ◌++◌, ◌≡◌, ◌≢◌, ◌<◌, ◌^◌, ◌∙◌, ◌⊎◌, Option, inl, inr, ap}
+use Rattle.std.proofs.Common.{append-nil, append_assoc, arith, codes, get_or, length, map, refl, subst, sym}
+use Rattle.std.proofs.lemmas.Slice.Zip.{firsts-zip}
 use Rattle.std.specs.List.{All, AllPairs, Contains}
 use Rattle.std.proofs.lemmas.Grind.{flat_map-append}
 use Rattle.std.proofs.lemmas.List.Elements.{All-contains_itself, All-weaker, Contains-append_cases}
@@ -17,23 +17,22 @@ use Rattle.line_rules.specs.Entering.{Key, entered_by, entered_of, entering_of, 
 use Rattle.line_rules.specs.Faults.{HasItsPrice}
 use Rattle.line_rules.specs.Known.{HasRow, Known, entered, is_of, keys_of, rows_of}
 use Rattle.line_rules.specs.Reading.{AreFitLines}
-use Rattle.line_rules.specs.declared.section.Section.TheVariants.{Head}
+use Rattle.line_rules.specs.declared.section.Section.TheVariants.{Head, Body}
 use Rattle.line_rules.specs.declared.entering.Entering.{Entering}
-use Rattle.line_rules.specs.declared.entering.Entering.TheVariants.{Nothing, InTurn, Alone}
-use Rattle.line_rules.specs.declared.entering.Entering.TheVariants.{Word as ByWord, Pair as ByPair}
+use Rattle.line_rules.specs.declared.entering.Entering.TheVariants.{Nothing, InTurn, Word as ByWord}
 use Rattle.line_rules.specs.declared.purpose.Purpose.TheVariants.{Checking}
 use Rattle.line_rules.proofs.FitLines.{names_after}
 use Rattle.plan_text.specs.Names.{names_in, names_of, rows_in, nth_word}
 use Rattle.plan_text.proofs.Named.{at_element, key_by_word, row_named}
 use Rattle.written_plan.specs.Joined.{IsWritable}
 use Rattle.written_plan.proofs.Entered.{HasNames, IsBegun, are_prices, are_starts, fit-end, fit-plan}
-use Rattle.written_plan.proofs.Entered.{fit-prices}
-use Rattle.written_plan.proofs.Entered.{fit-starts, has_price, names-priced, names-started, with_rows}
+use Rattle.written_plan.proofs.Entered.{fit-prices, fit-starts, has_price, names-priced, names-started}
+use Rattle.written_plan.proofs.Entered.{with_rows}
 use Rattle.written_plan.proofs.FitText.{fit-append}
 use Rattle.written_plan.proofs.Heads.{one_element}
 use Rattle.written_plan.proofs.HeadKinds.{priced_kinds}
-use Rattle.written_plan.proofs.Pairs.{AreNew, new-none, price_pairs, price_said, price_text, priced_names}
-use Rattle.written_plan.proofs.Pairs.{start_pairs, start_said, start_text}
+use Rattle.written_plan.proofs.Pairs.{AreNew, new-none, price_said, price_text, start_pairs, start_said}
+use Rattle.written_plan.proofs.Pairs.{start_text}
 use Rattle.written_plan.proofs.Words.{said}
 
 -- ---- the lines and what they say
@@ -106,27 +105,29 @@ names-prices rows splits workers started priced b h =
 
 -- ---- what is known after them
 
-after-starts : (k : Known) (a : List (Word × Word)) → IsBegun k
-    → names_after k (map start_said a) ≡ with_rows k (map start_said a)
-after-starts k [] begun = λ i. record k { rows = sym (append-nil k.rows) i }
-after-starts k (p ∷ ps) begun =
-    after-starts (entered k (start_said p)) ps (record { checking = begun.checking; body = refl })
+-- the lines known after one line more in the body, which is entered as it stands
+abbrev one_later : Known → Statement → Known
+one_later k s = record k { section = Body; rows = k.rows ++ s ∷ []; commands = k.commands ++ [] }
+
+after-each : {X : Type 0} (f : X → Statement) → ((k : Known) (x : X) → entered k (f x) ≡ one_later k (f x))
+    → (k : Known) (xs : List X) → IsBegun k → names_after k (map f xs) ≡ with_rows k (map f xs)
+after-each f one k [] begun = λ i. record k { rows = sym (append-nil k.rows) i }
+after-each f one k (x ∷ xs) begun =
+    ap (λ (j : Known). names_after j (map f xs)) (one k x)
+    ∙ after-each f one (one_later k (f x)) xs (record { checking = begun.checking; body = refl })
     ∙ (λ i. record k {
       section = sym begun.body i;
-      rows = append_assoc k.rows (start_said p ∷ []) (map start_said ps) i;
+      rows = append_assoc k.rows (f x ∷ []) (map f xs) i;
       commands = append-nil k.commands i;
     })
 
+after-starts : (k : Known) (a : List (Word × Word)) → IsBegun k
+    → names_after k (map start_said a) ≡ with_rows k (map start_said a)
+after-starts k a begun = after-each start_said (λ j p. refl) k a begun
+
 after-prices : (k : Known) (b : List (Word × ℕ)) → IsBegun k
     → names_after k (map price_said b) ≡ with_rows k (map price_said b)
-after-prices k [] begun = λ i. record k { rows = sym (append-nil k.rows) i }
-after-prices k (p ∷ ps) begun =
-    after-prices (entered k (price_said p)) ps (record { checking = begun.checking; body = refl })
-    ∙ (λ i. record k {
-      section = sym begun.body i;
-      rows = append_assoc k.rows (price_said p ∷ []) (map price_said ps) i;
-      commands = append-nil k.commands i;
-    })
+after-prices k b begun = after-each price_said (λ j p. refl) k b begun
 
 begun-rows : (k : Known) (more : List Statement) → IsBegun k → IsBegun (with_rows k more)
 begun-rows k more begun = record { checking = begun.checking; body = begun.body }
@@ -171,11 +172,11 @@ all_priced rows splits workers started priced h split_prices worker_prices i d l
 
 -- what has its price keeps it, and these names have it
 price_each : (priced names : List Word) (amounts : List ℕ) → length amounts ≡ length names
-    → All (Contains (priced ++ map (λ p. p.0) (price_pairs names amounts))) names
+    → All (Contains (priced ++ map (λ p. p.0) (zip names amounts))) names
 price_each priced names amounts count =
-    All-weaker (Contains names) (Contains (priced ++ map (λ p. p.0) (price_pairs names amounts)))
-    (λ name h. Contains-append_right priced (map (λ p. p.0) (price_pairs names amounts)) name
-    (subst (λ ns. Contains ns name) (sym (priced_names names amounts count)) h)) names
+    All-weaker (Contains names) (Contains (priced ++ map (λ p. p.0) (zip names amounts)))
+    (λ name h. Contains-append_right priced (map (λ p. p.0) (zip names amounts)) name
+    (subst (λ ns. Contains ns name) (sym (firsts-zip names amounts count)) h)) names
     (All-contains_itself names)
 
 still_priced : (priced more names : List Word) → All (Contains priced) names
@@ -189,10 +190,10 @@ module _ (splits workers : List Word) (names : AreNames splits workers) where
   fit-worker_prices : (k : Known) (started priced : List Word) (amounts : List ℕ) → IsBegun k
       → HasNames k.rows splits workers started priced → length amounts ≡ length workers
       → All (λ a. a < 2 ^ 64) amounts → AreNew priced workers → All (Contains priced) splits
-      → AreFitLines k (map price_text (price_pairs workers amounts) ++ codes "end" ∷ [])
-      (map price_said (price_pairs workers amounts) ++ said End [] ∷ [])
+      → AreFitLines k (map price_text (zip workers amounts) ++ codes "end" ∷ [])
+      (map price_said (zip workers amounts) ++ said End [] ∷ [])
   fit-worker_prices k started priced amounts begun h count small new split_prices =
-      let ps = price_pairs workers amounts in
+      let ps = zip workers amounts in
       let more = map (λ p. p.0) ps in
       let known : All (λ x. Contains splits x ⊎ Contains workers x) workers =
       All-weaker (Contains workers) (λ x. Contains splits x ⊎ Contains workers x) (λ x w. inr w) workers
@@ -212,13 +213,13 @@ module _ (splits workers : List Word) (names : AreNames splits workers) where
       → length prices.workers ≡ length workers → All (λ a. a < 2 ^ 64) prices.splits
       → All (λ a. a < 2 ^ 64) prices.workers
       → AreFitLines k
-      (map price_text (price_pairs splits prices.splits)
-      ++ (map price_text (price_pairs workers prices.workers) ++ codes "end" ∷ []))
-      (map price_said (price_pairs splits prices.splits)
-      ++ (map price_said (price_pairs workers prices.workers) ++ said End [] ∷ []))
+      (map price_text (zip splits prices.splits)
+      ++ (map price_text (zip workers prices.workers) ++ codes "end" ∷ []))
+      (map price_said (zip splits prices.splits)
+      ++ (map price_said (zip workers prices.workers) ++ said End [] ∷ []))
   fit-all_prices k started prices begun h count more_count small more_small =
-      let ps = price_pairs splits prices.splits in
-      let qs = price_pairs workers prices.workers in
+      let ps = zip splits prices.splits in
+      let qs = zip workers prices.workers in
       let priced = map (λ p. p.0) ps in
       let known : All (λ x. Contains splits x ⊎ Contains workers x) splits =
       All-weaker (Contains splits) (λ x. Contains splits x ⊎ Contains workers x) (λ x s. inl s) splits
@@ -227,7 +228,7 @@ module _ (splits workers : List Word) (names : AreNames splits workers) where
       let later : AreNew priced workers = record {
         differ = names.workers_differ;
         apart = λ x split w. names.apart x
-            (subst (λ ns. Contains ns x) (priced_names splits prices.splits count) split) w;
+            (subst (λ ns. Contains ns x) (firsts-zip splits prices.splits count) split) w;
       } in
       fit-append k (map price_text ps) (map price_text qs ++ codes "end" ∷ []) (map price_said ps)
       (map price_said qs ++ said End [] ∷ [])
@@ -245,15 +246,15 @@ module _ (splits workers : List Word) (names : AreNames splits workers) where
       → j.section ≡ Head → (HasRow j.rows Plan [] → ⊥) → HasNames j.rows splits workers [] []
       → IsWritable splits workers starts prices
       → AreFitLines j
-      (plan_texts (start_pairs workers splits starts) (price_pairs splits prices.splits)
-      (price_pairs workers prices.workers))
-      (plan_said (start_pairs workers splits starts) (price_pairs splits prices.splits)
-      (price_pairs workers prices.workers))
+      (plan_texts (start_pairs workers splits starts) (zip splits prices.splits)
+      (zip workers prices.workers))
+      (plan_said (start_pairs workers splits starts) (zip splits prices.splits)
+      (zip workers prices.workers))
   fit-plan_part j starts prices checking in_head once h plan =
       let k = entered j (said Plan []) in
       let ss = start_pairs workers splits starts in
-      let ps = price_pairs splits prices.splits in
-      let qs = price_pairs workers prices.workers in
+      let ps = zip splits prices.splits in
+      let qs = zip workers prices.workers in
       let begun : IsBegun k = record { checking = checking; body = refl } in
       let named : HasNames k.rows splits workers [] [] =
       subst (λ (rows : List Statement). HasNames rows splits workers [] []) (sym (append-nil j.rows)) h in (
@@ -291,9 +292,7 @@ not_entered k none n (s ∷ ss) h =
     of : (e : Entering) → entering_of s.keyword ≡ e → Contains (keys_of (entered_by e s)) (k, n, []) → ⊥
     of Nothing is has = absurd (let lt = has.1 in omega arith)
     of InTurn is has = absurd (let lt = has.1 in omega arith)
-    of Alone is has = row Alone is (λ e. cc) has
-    of ByWord is has = row ByWord is (λ e. cc) has
-    of ByPair is has = row ByPair is (λ e. cc) has
+    of e is has = row e is (λ none. cc) has
 
 rows-map : {X : Type 0} (f : X → Statement) → ((x : X) → entered_of (f x) ≡ f x ∷ []) → (xs : List X)
     → rows_in (map f xs) ≡ map f xs
@@ -328,43 +327,39 @@ rows-plan head a b c =
 pub rows-end : (head : List Statement) → rows_in (head ++ said End [] ∷ []) ≡ rows_in head
 rows-end head = rows-append head (said End [] ∷ []) ∙ append-nil (rows_in head)
 
+-- the rows of a keyword, part by part
+rows-split : (k : Keyword) (rows : List Statement) (a : List (Word × Word)) (b c : List (Word × ℕ))
+    → rows_of k (rows ++ plan_rows a b c) ≡ rows_of k rows ++ (rows_of k (map start_said a)
+    ++ (rows_of k (map price_said b) ++ rows_of k (map price_said c)))
+rows-split k rows a b c =
+    filter-append (is_of k) rows (plan_rows a b c) ∙ ap (λ (l : List Statement). rows_of k rows ++ l)
+    (filter-append (is_of k) (map start_said a) (map price_said b ++ map price_said c)
+    ∙ ap (λ (l : List Statement). rows_of k (map start_said a) ++ l)
+    (filter-append (is_of k) (map price_said b) (map price_said c)))
+
 -- rows of another keyword
 pub rows-other : (k : Keyword) (rows : List Statement) (a : List (Word × Word)) (b c : List (Word × ℕ))
     → ((p : Word × Word) (ss : List Statement) → rows_of k (start_said p ∷ ss) ≡ rows_of k ss)
     → ((p : Word × ℕ) (ss : List Statement) → rows_of k (price_said p ∷ ss) ≡ rows_of k ss)
     → rows_of k (rows ++ plan_rows a b c) ≡ rows_of k rows
 rows-other k rows a b c no_start no_price =
-    let none : rows_of k (plan_rows a b c) ≡ [] =
-    filter-append (is_of k) (map start_said a) (map price_said b ++ map price_said c)
-    ∙ ap (λ (l : List Statement). l ++ rows_of k (map price_said b ++ map price_said c))
-    (no_name k start_said no_start a)
-    ∙ filter-append (is_of k) (map price_said b) (map price_said c)
-    ∙ ap (λ (l : List Statement). l ++ rows_of k (map price_said c)) (no_name k price_said no_price b)
-    ∙ no_name k price_said no_price c in
-    filter-append (is_of k) rows (plan_rows a b c) ∙ ap (λ (l : List Statement). rows_of k rows ++ l) none
+    rows-split k rows a b c
+    ∙ (λ i. rows_of k rows ++ (no_name k start_said no_start a i
+    ++ (no_name k price_said no_price b i ++ no_name k price_said no_price c i)))
     ∙ append-nil (rows_of k rows)
 
 pub rows-start : (rows : List Statement) (a : List (Word × Word)) (b c : List (Word × ℕ)) →
     rows_of Start rows ≡ []
     → rows_of Start (rows ++ plan_rows a b c) ≡ map start_said a
 rows-start rows a b c none =
-    filter-append (is_of Start) rows (plan_rows a b c)
-    ∙ ap (λ (l : List Statement). l ++ rows_of Start (plan_rows a b c)) none
-    ∙ filter-append (is_of Start) (map start_said a) (map price_said b ++ map price_said c)
-    ∙ (λ i. start_rows a i ++ rows_of Start (map price_said b ++ map price_said c))
-    ∙ ap (λ (l : List Statement). map start_said a ++ l)
-    (filter-append (is_of Start) (map price_said b) (map price_said c)
-    ∙ (λ i. no_name Start price_said (λ x ss. refl) b i ++ no_name Start price_said (λ x ss. refl) c i))
+    rows-split Start rows a b c
+    ∙ (λ i. none i ++ (start_rows a i ++ (no_name Start price_said (λ x ss. refl) b i
+    ++ no_name Start price_said (λ x ss. refl) c i)))
     ∙ append-nil (map start_said a)
 
 pub rows-price : (rows : List Statement) (a : List (Word × Word)) (b c : List (Word × ℕ)) →
     rows_of Price rows ≡ []
     → rows_of Price (rows ++ plan_rows a b c) ≡ map price_said b ++ map price_said c
 rows-price rows a b c none =
-    filter-append (is_of Price) rows (plan_rows a b c)
-    ∙ ap (λ (l : List Statement). l ++ rows_of Price (plan_rows a b c)) none
-    ∙ filter-append (is_of Price) (map start_said a) (map price_said b ++ map price_said c)
-    ∙ ap (λ (l : List Statement). l ++ rows_of Price (map price_said b ++ map price_said c))
-    (no_name Price start_said (λ x ss. refl) a)
-    ∙ filter-append (is_of Price) (map price_said b) (map price_said c)
-    ∙ (λ i. price_rows b i ++ price_rows c i)
+    rows-split Price rows a b c
+    ∙ (λ i. none i ++ (no_name Price start_said (λ x ss. refl) a i ++ (price_rows b i ++ price_rows c i)))

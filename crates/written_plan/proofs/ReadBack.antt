@@ -1,6 +1,6 @@
 -- A plan that was written, put together with the head that it was made from, reads back as itself.
-use Rattle.std.proofs.Common.{ℕ, List, [], ◌∷◌, ◌++◌, ◌≡◌, ◌≤◌, ◌∙◌, Option, length, map, take, refl, sym, ap}
-use Rattle.std.proofs.Common.{subst}
+use Rattle.std.proofs.Common.{zip, ℕ, List, [], ◌∷◌, ◌++◌, ◌≡◌, ◌≤◌, ◌∙◌, Option, length, map, take, refl}
+use Rattle.std.proofs.Common.{sym, ap, subst}
 use Rattle.wave_problem.specs.Wave.{Wave}
 use Rattle.price_certificate.specs.PriceList.{PriceList}
 use Rattle.text_lines.specs.Texts.{Word, lines_of}
@@ -23,14 +23,13 @@ use Rattle.written_plan.specs.Joined.{IsWritable, ReadsBack, WrittenPlanReadsBac
 use Rattle.written_plan.proofs.Declared.{head_names, prices-read_back, same_wave, starts-back}
 use Rattle.written_plan.proofs.Entered.{HasNames}
 use Rattle.written_plan.proofs.FitText.{fit-append, reads_fit}
-use Rattle.written_plan.proofs.Heads.{AreApart, IsBare, IsHeadAndEnd, apart-none, bare-none}
-use Rattle.written_plan.proofs.Heads.{fit-printable, head_and_end}
+use Rattle.written_plan.proofs.Heads.{AreApart, IsBare, IsHeadAndEnd, apart-none, bare-none, fit-printable}
+use Rattle.written_plan.proofs.Heads.{head_and_end}
 use Rattle.written_plan.proofs.Joins.{all_lines, last_line, text-with_plan}
 use Rattle.written_plan.proofs.Lines.{joined, lines_of-joined, text-joined}
-use Rattle.written_plan.proofs.Pairs.{price_pairs, price_said, start_pairs, start_said}
+use Rattle.written_plan.proofs.Pairs.{price_said, start_pairs, start_said}
 use Rattle.written_plan.proofs.PlanPart.{AreNames, fit-plan_part, not_entered, plan_rows, plan_said}
-use Rattle.written_plan.proofs.PlanPart.{plan_texts}
-use Rattle.written_plan.proofs.PlanPart.{rows-end, rows-plan}
+use Rattle.written_plan.proofs.PlanPart.{plan_texts, rows-end, rows-plan}
 use Rattle.written_plan.proofs.Words.{said}
 
 -- a plan for these names, put after the head of the text
@@ -70,8 +69,8 @@ joined-reads_back text ss wave starts prices lines h makes plan short =
     let splits = names_of Split rows in
     let workers = names_of Worker rows in
     let a = start_pairs workers splits starts in
-    let b = price_pairs splits prices.splits in
-    let c = price_pairs workers prices.workers in
+    let b = zip splits prices.splits in
+    let c = zip workers prices.workers in
     let all = h.head ++ plan_said a b c in
     let written = h.lines ++ plan_texts a b c in
     let new_text = joined_by text rows starts prices in

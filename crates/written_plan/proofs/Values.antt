@@ -94,8 +94,6 @@ pub starts_read : (workers xs : List Word) (os : List (Option ℕ)) (before old 
     xs ≡
     os
 starts_read workers [] [] before old differ same count new of_workers = refl
-starts_read workers [] (o ∷ os) before old differ same count new of_workers = absurd (omega arith)
-starts_read workers (x ∷ xs) [] before old differ same count new of_workers = absurd (omega arith)
 starts_read workers (x ∷ xs) (None ∷ os) before old differ same count new of_workers =
     let names = before ++ started_names workers xs os in
     let on = old ++ start_workers workers xs os in
@@ -109,7 +107,7 @@ starts_read workers (x ∷ xs) (None ∷ os) before old differ same count new of
     let rest : map (started_on workers names on) xs ≡ os =
     starts_read workers xs os before old differ same (omega arith) (new-skip before x xs new)
     (λ s. of_workers (suc s)) in
-    ap (λ o. o ∷ map (started_on workers names on) xs) first ∙ ap (λ more. None ∷ more) rest
+    λ i. first i ∷ rest i
 starts_read workers (x ∷ xs) (Some w ∷ os) before old differ same count new of_workers =
     let names = started_names workers xs os in
     let on = start_workers workers xs os in
@@ -123,12 +121,10 @@ starts_read workers (x ∷ xs) (Some w ∷ os) before old differ same count new 
     (omega arith)
     (new-next before x xs new) (λ s. of_workers (suc s)) in
     let moved : map (started_on workers (before ++ x ∷ names) (old ++ y ∷ on)) xs ≡ os =
-    ap (λ ns. map (started_on workers ns (old ++ y ∷ on)) xs) (sym (append_assoc before (x ∷ []) names))
-    ∙ ap (λ ns. map (started_on workers (before ++ x ∷ [] ++ names) ns) xs)
-    (sym (append_assoc old (y ∷ []) on))
-    ∙ rest in
-    ap (λ o. o ∷ map (started_on workers (before ++ x ∷ names) (old ++ y ∷ on)) xs) first
-    ∙ ap (λ more. Some w ∷ more) moved
+    (λ i. map (started_on workers (sym (append_assoc before (x ∷ []) names) i)
+    (sym (append_assoc old (y ∷ []) on) i)) xs) ∙ rest in
+    λ i. first i ∷ moved i
+starts_read workers xs os before old differ same count new of_workers = absurd (omega arith)
 
 -- ---- prices
 
@@ -141,8 +137,6 @@ pub prices_read : (xs : List Word) (vs : List ℕ) (before more : List Word) (ol
     → length vs ≡ length xs → AreNew before xs
     → map (priced_at (before ++ (xs ++ more)) (old ++ (vs ++ rest))) xs ≡ vs
 prices_read [] [] before more old rest same count new = refl
-prices_read [] (v ∷ vs) before more old rest same count new = absurd (omega arith)
-prices_read (x ∷ xs) [] before more old rest same count new = absurd (omega arith)
 prices_read (x ∷ xs) (v ∷ vs) before more old rest same count new =
     let names = xs ++ more in
     let amounts = vs ++ rest in
@@ -153,8 +147,7 @@ prices_read (x ∷ xs) (v ∷ vs) before more old rest same count new =
     (omega arith)
     (new-next before x xs new) in
     let moved : map (priced_at (before ++ x ∷ names) (old ++ v ∷ amounts)) xs ≡ vs =
-    ap (λ ns. map (priced_at ns (old ++ v ∷ amounts)) xs) (sym (append_assoc before (x ∷ []) names))
-    ∙ ap (λ ns. map (priced_at (before ++ x ∷ [] ++ names) ns) xs) (sym (append_assoc old (v ∷ []) amounts))
-    ∙ later in
-    ap (λ p. p ∷ map (priced_at (before ++ x ∷ names) (old ++ v ∷ amounts)) xs) first
-    ∙ ap (λ ps. v ∷ ps) moved
+    (λ i. map (priced_at (sym (append_assoc before (x ∷ []) names) i)
+    (sym (append_assoc old (v ∷ []) amounts) i)) xs) ∙ later in
+    λ i. first i ∷ moved i
+prices_read xs vs before more old rest same count new = absurd (omega arith)

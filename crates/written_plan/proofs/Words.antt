@@ -1,6 +1,6 @@
 -- Words that a line can be put together from: names, numbers, and given words.
 use Rattle.std.proofs.Common.{ℕ, List, [], ◌∷◌, ◌≡◌, ◌<◌, ◌^◌, ◌∙◌, inl, inr, length, codes, ap, arith, rules}
-use Rattle.std.proofs.Common.{get_or, suc, zero}
+use Rattle.std.proofs.Common.{◌≤◌, refl, get_or, suc, zero}
 use Rattle.std.specs.Fmt.{decimal}
 use Rattle.std.specs.List.{All}
 use Rattle.std.proofs.lemmas.Bool.{cases_lt}
@@ -8,12 +8,13 @@ use Rattle.std.proofs.lemmas.Fmt.{decimal_digit, decimal_nonempty, digits_decima
 use Rattle.std.proofs.lemmas.Fmt.{first_decimal}
 use Rattle.std.proofs.lemmas.List.Elements.{All-append, All-cons, All-from_recursion, All-head, All-nil}
 use Rattle.std.proofs.lemmas.List.Elements.{All-tail, All-weaker}
-use Rattle.text_lines.specs.Texts.{IsDigit, IsName, IsNameByte, IsNumber, IsPrintable, Word, number_of}
+use Rattle.text_lines.specs.Texts.{IsDigit, IsName, IsNameByte, IsNumber, IsPrintable, Line, Word, number_of}
+use Rattle.text_lines.specs.Texts.{words_of}
 use Rattle.text_lines.proofs.Numerals.{numerals}
-use Rattle.line_shapes.specs.Demands.{MeetsDemand}
+use Rattle.line_shapes.specs.Demands.{Meet, MeetsDemand}
 use Rattle.line_shapes.specs.Keywords.{spelling_of}
-use Rattle.line_shapes.specs.Lines.{Says, Statement}
-use Rattle.line_shapes.specs.Places.{place_at}
+use Rattle.line_shapes.specs.Lines.{Says, Statement, words_in}
+use Rattle.line_shapes.specs.Places.{place_at, places_of}
 use Rattle.line_shapes.specs.declared.demand.Demand.TheVariants.{Shape}
 use Rattle.line_shapes.specs.declared.keyword.Keyword.{Keyword}
 use Rattle.line_shapes.specs.declared.keyword.Keyword.TheVariants.{Plan, Start, Price, End}
@@ -22,12 +23,7 @@ use Rattle.written_plan.proofs.Lines.{IsPlain, spaced, words_of-spaced}
 -- ---- names and numbers
 
 plain_byte : (b : ℕ) → IsNameByte b → IsPlain b
-plain_byte b (inl (inl upper)) = (omega arith, omega arith)
-plain_byte b (inl (inr lower)) = (omega arith, omega arith)
-plain_byte b (inr (inl digit)) = (omega arith, omega arith)
-plain_byte b (inr (inr (inl dash))) = (omega arith, omega arith)
-plain_byte b (inr (inr (inr (inl low)))) = (omega arith, omega arith)
-plain_byte b (inr (inr (inr (inr dot)))) = (omega arith, omega arith)
+plain_byte b h = (grind arith, grind arith)
 
 pub plain-name : (w : Word) → IsName w → All IsPlain w
 plain-name w h = All-weaker IsNameByte IsPlain plain_byte w h.3
@@ -91,73 +87,51 @@ pub record IsMade (k : Keyword) (ws : List Word) : Type 0 where
   pub printable : All IsPrintable (line_of k ws)
   pub says : Says (line_of k ws) (said k ws)
 
-all_three : {X : Type 0} (P : X → Type 0) (a b c : X) → P a → P b → P c → All P (a ∷ b ∷ c ∷ [])
-all_three P a b c p q r =
-    All-cons P a (b ∷ c ∷ []) p (All-cons P b (c ∷ []) q (All-cons P c [] r (All-nil P)))
+made : (k : Keyword) (ws : List Word) → ((line : Line) → words_in k line ≡ words_of line)
+    → All (All IsPlain) (spelling_of k ∷ ws) → length (places_of k) ≤ length ws → Meet Shape k ws
+    → IsMade k ws
+made k ws cut plain many shape = record {
+  printable = printable-spaced (spelling_of k ∷ ws) plain;
+  says = record {
+    spelled = cut (line_of k ws) ∙ words_of-spaced (spelling_of k) ws plain;
+    many = many;
+    shape = shape;
+  };
+}
 
-all_one : {X : Type 0} (P : X → Type 0) (a : X) → P a → All P (a ∷ [])
-all_one P a p = All-cons P a [] p (All-nil P)
+-- of two words, and of none
+made_of_two : (k : Keyword) (a b : Word) → ((line : Line) → words_in k line ≡ words_of line)
+    → length (places_of k) ≤ 2 → All IsPlain (spelling_of k) → All IsPlain a → All IsPlain b
+    → MeetsDemand Shape (place_at k 0) a → MeetsDemand Shape (place_at k 1) b → IsMade k (a ∷ b ∷ [])
+made_of_two k a b cut few first p q s t =
+    made k (a ∷ b ∷ []) cut
+    (All-cons (All IsPlain) (spelling_of k) (a ∷ b ∷ []) first (All-cons (All IsPlain) a (b ∷ []) p
+    (All-cons (All IsPlain) b [] q (All-nil (All IsPlain)))))
+    few (both_of (λ i v. MeetsDemand Shape (place_at k i) v) a b s t)
 
-plain-start : All IsPlain (codes "start")
-plain-start = All-from_recursion IsPlain (codes "start") (search rules)
-
-plain-price : All IsPlain (codes "price")
-plain-price = All-from_recursion IsPlain (codes "price") (search rules)
-
-plain-plan : All IsPlain (codes "plan")
-plain-plan = All-from_recursion IsPlain (codes "plan") (search rules)
-
-plain-end : All IsPlain (codes "end")
-plain-end = All-from_recursion IsPlain (codes "end") (search rules)
+made_of_none : (k : Keyword) → ((line : Line) → words_in k line ≡ words_of line) → length (places_of k) ≤ 0
+    → All IsPlain (spelling_of k) → IsMade k []
+made_of_none k cut few first =
+    made k [] cut (All-cons (All IsPlain) (spelling_of k) [] first (All-nil (All IsPlain))) few
+    (none_of (λ i v. MeetsDemand Shape (place_at k i) v))
 
 pub made-start : (split worker : Word) → IsName split → IsName worker → IsMade Start (split ∷ worker ∷ [])
 made-start split worker s w =
-    let plain = all_three (All IsPlain) (codes "start") split worker plain-start (plain-name split s)
-    (plain-name worker w) in
-    record {
-      printable = printable-spaced (codes "start" ∷ split ∷ worker ∷ []) plain;
-      says = record {
-        spelled = words_of-spaced (codes "start") (split ∷ worker ∷ []) plain;
-        many = omega arith;
-        shape = both_of (λ i v. MeetsDemand Shape (place_at Start i) v) split worker s.0 w.0;
-      };
-    }
+    made_of_two Start split worker (λ line. refl) (omega arith)
+    (All-from_recursion IsPlain (codes "start") (search rules)) (plain-name split s) (plain-name worker w)
+    s.0 w.0
 
 pub made-price : (name : Word) (amount : ℕ) → IsName name → amount < 2 ^ 64
     → IsMade Price (name ∷ decimal amount ∷ [])
 made-price name amount n small =
-    let plain = all_three (All IsPlain) (codes "price") name (decimal amount) plain-price (plain-name name n)
-    (plain-decimal amount small) in
-    record {
-      printable = printable-spaced (codes "price" ∷ name ∷ decimal amount ∷ []) plain;
-      says = record {
-        spelled = words_of-spaced (codes "price") (name ∷ decimal amount ∷ []) plain;
-        many = omega arith;
-        shape = both_of (λ i v. MeetsDemand Shape (place_at Price i) v) name (decimal amount) n.0
-            (number-decimal amount small);
-      };
-    }
+    made_of_two Price name (decimal amount) (λ line. refl) (omega arith)
+    (All-from_recursion IsPlain (codes "price") (search rules)) (plain-name name n)
+    (plain-decimal amount small) n.0 (number-decimal amount small)
 
 pub made-plan : IsMade Plan []
 made-plan =
-    let plain = all_one (All IsPlain) (codes "plan") plain-plan in
-    record {
-      printable = printable-spaced (codes "plan" ∷ []) plain;
-      says = record {
-        spelled = words_of-spaced (codes "plan") [] plain;
-        many = omega arith;
-        shape = none_of (λ i v. MeetsDemand Shape (place_at Plan i) v);
-      };
-    }
+    made_of_none Plan (λ line. refl) (omega arith) (All-from_recursion IsPlain (codes "plan") (search rules))
 
 pub made-end : IsMade End []
 made-end =
-    let plain = all_one (All IsPlain) (codes "end") plain-end in
-    record {
-      printable = printable-spaced (codes "end" ∷ []) plain;
-      says = record {
-        spelled = words_of-spaced (codes "end") [] plain;
-        many = omega arith;
-        shape = none_of (λ i v. MeetsDemand Shape (place_at End i) v);
-      };
-    }
+    made_of_none End (λ line. refl) (omega arith) (All-from_recursion IsPlain (codes "end") (search rules))
