@@ -7,10 +7,10 @@ use Rattle.clap.specs.Faults.{other_fault, turn_fault, walk_fault, word_fault}
 use Rattle.clap.specs.Kinds.{Kinds, or_else}
 use Rattle.clap.specs.Lexer.{long_of, short_of}
 use Rattle.clap.specs.Simple.{Shape}
-use Rattle.clap.specs.Walk.{Held, Names, Outcome, Rule, Step, Text, Waiting, Walk, done, waits, plain}
-use Rattle.clap.specs.Walk.{refused, idle, option, positional, next, trailing, subcommand, value, after_flag}
-use Rattle.clap.specs.Walk.{after_step, arg_by_index, long_or_other, plain_word, short_or_plain}
-use Rattle.clap.specs.Walk.{subcommand_met, subcommand_or_other, to_positional, walked, word_met}
+use Rattle.clap.specs.Walk.{Held, Names, Outcome, Rule, Step, Text, Waiting, Walk, done, waits, idle, next}
+use Rattle.clap.specs.Walk.{trailing, subcommand, value, after_flag, after_step, arg_by_index, long_or_other}
+use Rattle.clap.specs.Walk.{plain_word, short_or_plain, subcommand_met, subcommand_or_other, to_positional}
+use Rattle.clap.specs.Walk.{walked, word_met}
 use Rattle.clap.proofs.WalkLemmas.{walk_stopped}
 
 -- where the first step or the next has no fault, neither has one
@@ -26,15 +26,13 @@ stop_at _ = None
 plain_goes_on : (c : List Rule) (waiting : Waiting) (word : Text) (h : Held)
     → stop_at (plain_word c waiting word h).1 ≡ None
 plain_goes_on c idle word h = refl
-plain_goes_on c (option id) word h = refl
-plain_goes_on c positional word h = refl
+plain_goes_on c waiting word h = refl
 
 flag_goes_on : (c : List Rule) (waiting : Waiting) (word : Text) (h : Held) (o : Outcome)
     → stop_at (after_flag c waiting word h o).1 ≡ None
 flag_goes_on c waiting word h done = refl
 flag_goes_on c waiting word h (waits id) = refl
-flag_goes_on c waiting word h plain = plain_goes_on c waiting word h
-flag_goes_on c waiting word h refused = plain_goes_on c waiting word h
+flag_goes_on c waiting word h o = plain_goes_on c waiting word h
 
 short_goes_on : (c : List Rule) (waiting : Waiting) (word : Text) (o : Option Text) (h : Held)
     → stop_at (short_or_plain c waiting word o h).1 ≡ None

@@ -1,5 +1,6 @@
 use Rattle.std.proofs.Common.{rules, ap, sym, subst, true≢false, ℕ, List, inl, inr, Result, Ok, Err, ◌≡◌, ◌∙◌}
 use Rattle.std.proofs.Common.{Some, codes}
+use Rattle.std.proofs.lemmas.Option.{same_Some}
 use Rattle.clap.specs.Kinds.{IsAmong}
 use Rattle.clap.specs.Walk.{texts}
 use Rattle.clap.specs.Words.{kind_of}
@@ -18,9 +19,6 @@ use Rattle.command_line.specs.Commands.{NamesNoNetwork, RefusesNetwork, faults_i
 use Rattle.command_line.proofs.Mrjob.{faulted, found_named, found_value, named_in, unfaulted}
 use Rattle.command_line.proofs.ask.Goals as goal
 use denote.Enum.Bare.{sameb}
-
-the_some : {X : Type 0} (a b : X) → Some a ≡ Some b → a ≡ b
-the_some a b same = cc
 
 the_options : (a b : PlanOptions) → ◌≡◌ {A = Result Ask AskError} (Ok (Plan a)) (Ok (Plan b)) → a ≡ b
 the_options a b same = cc
@@ -51,7 +49,7 @@ pub unreachable-requires-in_default-name : goal.unreachable-requires-in_default-
 unreachable-requires-in_default-name c =
     let is : (name : List ℕ) → subcommand_name_of c.in-Ok-try_get_matches_from.matches ≡ Some name →
     c.in-Some.name.now ≡ name =
-    λ name same. the_some _ _ (c.in-Some.ensures.name ∙ same) in
+    λ name same. same_Some _ _ (c.in-Some.ensures.name ∙ same) in
     elim (found_named c.in-Ok.commands _ c.in-Ok.ensures
     c.in-Ok-try_get_matches_from.matches c.in-Ok-try_get_matches_from.ensures.matches
     c.in-Ok-try_get_matches_from.ensures.kinds) [
