@@ -1,8 +1,7 @@
 -- Commands of a text without a fault are not too many, none gives more counts than there may be workers, and
 -- the words of each keep to their places in view of all rows.
 use Rattle.std.proofs.Common.{ℕ, List, [], ◌∷◌, ◌++◌, ◌≡◌, ◌≤◌, ◌<◌, ◌∙◌, Option, Some, append-nil, arith}
-use Rattle.std.proofs.Common.{length}
-use Rattle.std.proofs.Common.{length-append, refl, subst, sym, ap, take}
+use Rattle.std.proofs.Common.{length, length-append, refl, subst, sym, ap, take}
 use Rattle.std.specs.List.{All}
 use Rattle.std.proofs.lemmas.List.{length_push}
 use Rattle.std.proofs.lemmas.List.Elements.{All-append, All-cons, All-nil, All-weaker, filter-append}
@@ -16,8 +15,7 @@ use Rattle.line_rules.specs.Faults.{IsFewer, IsFit, IsComplete, counted_by}
 use Rattle.line_rules.specs.Known.{Known, entered, is_of, known_at, rows_of}
 use Rattle.line_rules.specs.Reading.{AreFitLines, IsAllRead}
 use Rattle.line_rules.specs.declared.entering.Entering.{Entering}
-use Rattle.line_rules.specs.declared.entering.Entering.TheVariants.{Nothing, InTurn, Alone}
-use Rattle.line_rules.specs.declared.entering.Entering.TheVariants.{Word as ByWord, Pair as ByPair}
+use Rattle.line_rules.specs.declared.entering.Entering.TheVariants.{InTurn}
 use Rattle.line_rules.specs.declared.purpose.Purpose.{Purpose}
 use Rattle.line_rules.proofs.FitLines.{known_after, names_after}
 use Rattle.plan_text.specs.Tidy.{IsTidyRow}
@@ -38,37 +36,8 @@ pub record AreBounded (n : ℕ) (rows commands : List Statement) : Type 0 where
   pub tidy : All (IsTidyCommand rows) commands
 
 most_of_command : (purpose : Purpose) (k : Keyword) → entering_of k ≡ InTurn → most_of purpose k ≡ Some 65536
-most_of_command purpose keyword.Problem is = absurd cc
-most_of_command purpose keyword.Script is = absurd cc
-most_of_command purpose keyword.Job is = absurd cc
-most_of_command purpose keyword.Centre is = absurd cc
-most_of_command purpose keyword.Rack is = absurd cc
-most_of_command purpose keyword.Worker is = absurd cc
-most_of_command purpose keyword.Split is = absurd cc
-most_of_command purpose keyword.Barred is = absurd cc
-most_of_command purpose keyword.Dead is = absurd cc
-most_of_command purpose keyword.Busy is = absurd cc
-most_of_command purpose keyword.Parts is = absurd cc
-most_of_command purpose keyword.Target is = absurd cc
-most_of_command purpose keyword.Silence is = absurd cc
-most_of_command purpose keyword.Doc is = absurd cc
-most_of_command purpose keyword.Plan is = absurd cc
-most_of_command purpose keyword.Start is = absurd cc
-most_of_command purpose keyword.Price is = absurd cc
-most_of_command purpose keyword.Begin is = absurd cc
-most_of_command purpose keyword.Wave is = refl
-most_of_command purpose keyword.Done is = refl
-most_of_command purpose keyword.Fail is = refl
-most_of_command purpose keyword.Withdraw is = refl
-most_of_command purpose keyword.Die is = refl
-most_of_command purpose keyword.Join is = refl
-most_of_command purpose keyword.Add is = refl
-most_of_command purpose keyword.Lose is = refl
-most_of_command purpose keyword.Sweep is = refl
-most_of_command purpose keyword.Reduce is = refl
-most_of_command purpose keyword.Copies is = refl
-most_of_command purpose keyword.Backup is = refl
-most_of_command purpose keyword.End is = absurd cc
+most_of_command purpose keyword.Problem is = cc
+most_of_command purpose k is = cc
 
 abbrev workers_in : Known → ℕ
 workers_in k = length (rows_of keyword.Worker k.rows)
@@ -123,11 +92,8 @@ module _ (n : ℕ) (k : Known) (s : Statement) (whole : length (places_of s.keyw
       }
 
   by : (e : Entering) → entering_of s.keyword ≡ e → AreBounded n rows (k.commands ++ in_turn e s)
-  by Nothing is = none
   by InTurn is = one is
-  by Alone is = none
-  by ByWord is = none
-  by ByPair is = none
+  by e is = none
 
   bounded_more : AreBounded n rows (k.commands ++ command_of s)
   bounded_more = by (entering_of s.keyword) refl
@@ -136,11 +102,10 @@ bounded_after : (n : ℕ) (k : Known) (ls : List Line) (ss : List Statement) →
     → workers_in (names_after k ss) ≤ n → AreBounded n k.rows k.commands
     → AreBounded n (names_after k ss).rows (names_after k ss).commands
 bounded_after n k [] [] fits few bounded = bounded
-bounded_after n k [] (s ∷ ss) fits few bounded = absurd fits
-bounded_after n k (l ∷ ls) [] fits few bounded = absurd fits
 bounded_after n k (l ∷ ls) (s ∷ ss) fits few bounded =
     bounded_after n (entered k s) ls ss fits.1 few
     (bounded_more n k s fits.0.says.many fits.0.fit (omega (arith, few, workers_grow k (s ∷ ss))) bounded)
+bounded_after n k ls ss fits few bounded = absurd fits
 
 pub bounded-read : (purpose : Purpose) (text : List ℕ) (k : Known) → IsAllRead purpose text k
     → AreBounded 256 k.rows k.commands

@@ -5,8 +5,7 @@ use Rattle.std.proofs.lemmas.List.{length-map}
 use Rattle.std.proofs.lemmas.List.Elements.{All-map}
 use Rattle.line_shapes.specs.Lines.{Statement}
 use Rattle.line_shapes.specs.declared.keyword.Keyword.TheVariants.{Busy, Dead, Doc, Parts, Rack, Silence}
-use Rattle.line_shapes.specs.declared.keyword.Keyword.TheVariants.{Split}
-use Rattle.line_shapes.specs.declared.keyword.Keyword.TheVariants.{Worker}
+use Rattle.line_shapes.specs.declared.keyword.Keyword.TheVariants.{Split, Worker}
 use Rattle.line_rules.specs.Known.{rows_of}
 use Rattle.rack_tree.specs.Tree.{Tree}
 use Rattle.wave_problem.specs.Wave.{AreHeldWell, AreSmallSplits}

@@ -1,8 +1,7 @@
 -- The documents of each split, one line more.
-use Rattle.std.proofs.Common.{ℕ, List, [], ◌∷◌, ◌++◌, ◌≡◌, ◌≢◌, ◌<◌, ◌+◌, ◌∙◌, Bool, true, false}
-use Rattle.std.proofs.Common.{Vec, inl, inr, ap, append-nil, arith, cond, get_or, length, map, refl}
-use Rattle.std.proofs.Common.{replicate}
-use Rattle.std.proofs.Common.{set, sym}
+use Rattle.std.proofs.Common.{ℕ, List, [], ◌∷◌, ◌++◌, ◌≡◌, ◌≢◌, ◌<◌, ◌+◌, ◌∙◌, Bool, true, false, Vec, inl}
+use Rattle.std.proofs.Common.{inr, ap, append-nil, arith, cond, get_or, length, map, refl, replicate, set}
+use Rattle.std.proofs.Common.{sym}
 use Rattle.std.specs.List.{AllPairs, Contains, enumerate_from, filter}
 use Rattle.std.specs.Str.{bytes_eq}
 use Rattle.std.specs.declared.alloc.Global.{Global}

@@ -1,42 +1,19 @@
 -- What the rows of a text without a fault come to, for documents and settings.
-use Rattle.std.proofs.Common.{ℕ, List, [], ◌∷◌, ◌≡◌, ◌≢◌, ◌≤◌, ◌<◌, ◌∙◌, Some, ap, arith, get_or}
-use Rattle.std.proofs.Common.{length, map, refl, subst, sym}
-use Rattle.std.specs.List.{All, AllPairs, Contains, slice_get}
-use Rattle.std.proofs.lemmas.List.Elements.{filter_passes}
-use Rattle.std.proofs.lemmas.List.Kept.{AllPairs-filter}
+use Rattle.std.proofs.Common.{ℕ, List, [], ◌∷◌, ◌≡◌, ◌≤◌, ◌<◌, ◌∙◌, Some, ap, arith, get_or, length, map}
+use Rattle.std.proofs.Common.{refl, subst, sym}
+use Rattle.std.specs.List.{All, Contains, slice_get}
 use Rattle.text_lines.specs.Texts.{Word}
 use Rattle.line_shapes.specs.Demands.{IsNumberWithin}
 use Rattle.line_shapes.specs.Lines.{Statement}
-use Rattle.line_shapes.specs.declared.keyword.Keyword.{Keyword}
 use Rattle.line_shapes.specs.declared.keyword.Keyword.TheVariants.{Doc, Parts, Silence, Split, Target}
-use Rattle.line_shapes.proofs.Mapped.{AllPairs-map, AllPairs-unmap}
-use Rattle.line_rules.specs.Entering.{entering_of, key_of}
-use Rattle.line_rules.specs.Known.{is_of, keys_of, rows_of}
-use Rattle.line_rules.specs.declared.entering.Entering.TheVariants.{Word as ByWord}
+use Rattle.line_rules.specs.Known.{rows_of}
 use Rattle.line_shapes.specs.declared.line.KeyedLine.{KeyedLine}
 use Rattle.plan_text.specs.Names.{names_of, said_in, nth_word}
 use Rattle.plan_text.specs.Tidy.{AreTidy, IsAtMost, IsTidyRow}
-use Rattle.plan_text.proofs.Named.{key_by_word, keyword_of, row_named}
+use Rattle.plan_text.proofs.Named.{row_named}
 use Rattle.plan_text.proofs.Parts.{All-unmap, no_row}
 use Rattle.plan_text.proofs.Words.{each_of_keyword, line}
 use Rattle.script_text.specs.Settings.{IsSetting, number_or}
-
--- ---- names
-
--- no two rows of a keyword that is entered by its name have one name
-pub names_differ : (k : Keyword) → entering_of k ≡ ByWord → (rows : List Statement)
-    → AllPairs (λ a b. a ≢ b) (keys_of rows) → AllPairs (λ a b. a ≢ b) (names_of k rows)
-names_differ k by rows differ =
-    let Apart : Statement → Statement → Type 0 = λ a b. key_of a ≢ key_of b in
-    let apart = AllPairs-filter Apart (is_of k) rows (AllPairs-unmap (λ a b. a ≢ b) key_of rows differ) in
-    AllPairs-map (λ (a b : Word). a ≢ b) (nth_word 0) (rows_of k rows)
-    (λ i j d lt inside same.
-    let a : Statement = get_or (rows_of k rows) i d in
-    let b : Statement = get_or (rows_of k rows) j d in
-    apart i j d lt inside
-    (key_by_word k by a (keyword_of k a (filter_passes (is_of k) rows i d (omega arith)))
-    ∙ ap (λ w. (k, w, [])) same
-    ∙ sym (key_by_word k by b (keyword_of k b (filter_passes (is_of k) rows j d inside)))))
 
 -- ---- documents
 
@@ -90,7 +67,8 @@ module _ (rows : List KeyedLine) (lines : List Statement) (row : KeyedLine) (sam
   pub first_is_setting : All IsSetting lines → IsSetting (said_in row)
   first_is_setting settings = by rows same first
     where
-      by : (rs : List KeyedLine) → map said_in rs ≡ lines → Some row ≡ slice_get rs 0 → IsSetting (said_in row)
+      by : (rs : List KeyedLine) → map said_in rs ≡ lines → Some row ≡ slice_get rs 0
+          → IsSetting (said_in row)
       by [] is found = absurd cc
       by (r ∷ rs) is found =
           let here : r ≡ row = cc in

@@ -30,10 +30,6 @@ below names name n is = (position-Some (λ m. bytes_eq name m) names n name is).
 -- the command that a line says is known
 is_known : (names : Names) (s : Statement) (c : Command) → IsShort 256 s → SaysCommand names s c
     → IsKnownIn (length names.workers) (length names.splits) c
-is_known names s command.Wave short says = tt
-is_known names s (command.Done attempt) short says = tt
-is_known names s (command.Fail attempt) short says = tt
-is_known names s (command.Withdraw attempt) short says = tt
 is_known names s (command.Backup split worker) short says =
     (below names.splits _ split says.1.0, below names.workers _ worker says.1.1)
 is_known names s (command.Die worker) short says = below names.workers _ worker says.1
@@ -46,8 +42,7 @@ is_known names s (command.Add split worker) short says =
 is_known names s (command.Lose split worker) short says =
     (below names.splits _ split says.1.0, below names.workers _ worker says.1.1)
 is_known names s (command.Sweep counts) short says = omega (arith, says.1.many, short says.0)
-is_known names s command.Reduce short says = tt
-is_known names s command.Copies short says = tt
+is_known names s c short says = tt
 
 module _ (purpose : Purpose) (text : List ℕ) (value : ScriptText) (is : IsScriptOf purpose text value) where
   abbrev rows : List Statement

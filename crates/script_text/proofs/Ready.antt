@@ -60,24 +60,6 @@ module _ (rows : List Statement) (ws : List Word) where
 
 has_words : (rows : List Statement) (k : Keyword) (ws : List Word) → entering_of k ≡ InTurn
     → IsTidyRow rows (line k ws) → HasWords (told_names rows) k ws
-has_words rows keyword.Problem ws is row = absurd cc
-has_words rows keyword.Script ws is row = absurd cc
-has_words rows keyword.Job ws is row = absurd cc
-has_words rows keyword.Centre ws is row = absurd cc
-has_words rows keyword.Rack ws is row = absurd cc
-has_words rows keyword.Worker ws is row = absurd cc
-has_words rows keyword.Split ws is row = absurd cc
-has_words rows keyword.Barred ws is row = absurd cc
-has_words rows keyword.Dead ws is row = absurd cc
-has_words rows keyword.Busy ws is row = absurd cc
-has_words rows keyword.Parts ws is row = absurd cc
-has_words rows keyword.Target ws is row = absurd cc
-has_words rows keyword.Silence ws is row = absurd cc
-has_words rows keyword.Doc ws is row = absurd cc
-has_words rows keyword.Plan ws is row = absurd cc
-has_words rows keyword.Start ws is row = absurd cc
-has_words rows keyword.Price ws is row = absurd cc
-has_words rows keyword.Begin ws is row = absurd cc
 has_words rows keyword.Wave ws is row = tt
 has_words rows keyword.Done ws is row = has_attempt ws row.whole row.in_range
 has_words rows keyword.Fail ws is row = has_attempt ws row.whole row.in_range
@@ -91,7 +73,7 @@ has_words rows keyword.Sweep ws is row = λ i lt. has_number 1099511627776 ws i 
 has_words rows keyword.Reduce ws is row = tt
 has_words rows keyword.Copies ws is row = tt
 has_words rows keyword.Backup ws is row = have_pair rows ws row.whole row.known
-has_words rows keyword.End ws is row = absurd cc
+has_words rows k ws is row = absurd cc
 
 -- each command of a text that was read is ready
 pub ready-read : (purpose : Purpose) (text : List ℕ) (k : Known) → IsAllRead purpose text k

@@ -1,7 +1,5 @@
 -- A text for each list of documents, one list more.
-use Rattle.std.proofs.Common.{ℕ, List, ◌++◌, ◌≡◌, ◌≤◌, ◌+◌, ◌∙◌, Vec, ap, arith}
-use Rattle.std.proofs.Common.{length}
-use Rattle.std.proofs.Common.{length-append, map}
+use Rattle.std.proofs.Common.{ℕ, List, ◌++◌, ◌≡◌, ◌≤◌, ◌∙◌, Vec, ap, arith, length, length-append, map}
 use Rattle.std.specs.Arc.{arc_value}
 use Rattle.std.specs.List.{enumerate_from}
 use Rattle.std.specs.declared.alloc.Global.{Global}

@@ -34,24 +34,6 @@ HavePair names ws = HasName names.splits ws 0 × HasName names.workers ws 1
 
 -- these words follow the keyword of a command
 abbrev pub HasWords : Names → Keyword → List Word → Type 0
-HasWords names keyword.Problem ws = ⊥
-HasWords names keyword.Script ws = ⊥
-HasWords names keyword.Job ws = ⊥
-HasWords names keyword.Centre ws = ⊥
-HasWords names keyword.Rack ws = ⊥
-HasWords names keyword.Worker ws = ⊥
-HasWords names keyword.Split ws = ⊥
-HasWords names keyword.Barred ws = ⊥
-HasWords names keyword.Dead ws = ⊥
-HasWords names keyword.Busy ws = ⊥
-HasWords names keyword.Parts ws = ⊥
-HasWords names keyword.Target ws = ⊥
-HasWords names keyword.Silence ws = ⊥
-HasWords names keyword.Doc ws = ⊥
-HasWords names keyword.Plan ws = ⊥
-HasWords names keyword.Start ws = ⊥
-HasWords names keyword.Price ws = ⊥
-HasWords names keyword.Begin ws = ⊥
 HasWords names keyword.Wave ws = Unit {0}
 HasWords names keyword.Done ws = HasNumber 1000000 ws 0
 HasWords names keyword.Fail ws = HasNumber 1000000 ws 0
@@ -64,7 +46,7 @@ HasWords names keyword.Sweep ws = HaveNumbers 1099511627776 ws
 HasWords names keyword.Reduce ws = Unit {0}
 HasWords names keyword.Copies ws = Unit {0}
 HasWords names keyword.Backup ws = HavePair names ws
-HasWords names keyword.End ws = ⊥
+HasWords names k ws = ⊥
 
 -- the line is a command with all its words
 abbrev pub IsWholeCommand : Names → Statement → Type 0

@@ -8,7 +8,8 @@ use Rattle.line_rules.specs.Known.{rows_of}
 use Rattle.plan_text.specs.Names.{said_in, nth_word}
 use Rattle.plan_text.proofs.Words.{few_names}
 use Rattle.script_text.specs.Documents.{documents_of}
-use Rattle.script_text.proofs.Lines.{names_differ, tidy_docs}
+use Rattle.plan_text.proofs.Tidy.{names_differ}
+use Rattle.script_text.proofs.Lines.{tidy_docs}
 use Rattle.script_text.proofs.documents.build_texts.Goals as goal
 
 pub documents_by_split-requires-clause-few : goal.documents_by_split-requires-clause-few
