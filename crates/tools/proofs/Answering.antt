@@ -1,1 +1,0 @@
--- What is said of the value that was read is said of the text.
