@@ -64,7 +64,8 @@ event_lines splits workers starts sweeps (events.MapFailed a) = attempt_line (co
 event_lines splits workers starts sweeps (events.Withdraw a) = attempt_line (codes "withdraw ") a
 event_lines splits workers starts sweeps (events.Die w) = worker_line (codes "die ") workers w
 event_lines splits workers starts sweeps (events.Join w set) = join_line splits workers w set
-event_lines splits workers starts sweeps (events.Add split w) = pair_line (codes "add ") splits workers split w
+event_lines splits workers starts sweeps (events.Add split w) =
+    pair_line (codes "add ") splits workers split w
 event_lines splits workers starts sweeps (events.Lose split w) =
     pair_line (codes "lose ") splits workers split w
 event_lines splits workers starts sweeps (events.Sweep place) =

@@ -20,8 +20,8 @@ use node_ids::{AttemptNo, SplitNo, SplitSet, WorkerNo};
 use std::alloc::AllocError;
 use text_lines::NameTable;
 
-/// What was done to a master: its events in their order, with the starts of its attempts and the counts of its
-/// sweeps.
+/// What was done to a master: its events in their order, with the starts of its attempts and the counts of
+/// its sweeps.
 pub fn add_history(
     lines: &mut String,
     splits: &NameTable<'_>,

@@ -1,4 +1,4 @@
-use Rattle.std.proofs.Common.{◌∷◌, ◌++◌, ◌≡◌, ◌∙◌, ℕ, List, [], ap, if◌then◌else◌, string_bytes}
+use Rattle.std.proofs.Common.{◌∷◌, ◌++◌, ◌∙◌, [], ap, if◌then◌else◌, string_bytes}
 use Rattle.node_ids.specs.Sets.{has_number}
 use Rattle.text_lines.specs.Texts.{name_of}
 use Rattle.text_lines.proofs.NumberedLines.{lines_more}
@@ -9,9 +9,7 @@ loop-number-preserved c =
     let splits = c.args.splits.now in
     let set = c.args.set.now in
     let n = c.loop-number.number in
-    let f : ℕ → List ℕ = λ i. if has_number set i then 32 ∷ name_of splits i else [] in
-    let one : string_bytes c.add_member.new.lines ≡ string_bytes c.loop-number.lines ++ f n =
-    c.in_ok-add_member.ensures
-    ∙ ap (λ is_held. string_bytes c.loop-number.lines ++ (if is_held then 32 ∷ name_of splits n else []))
-    (c.has-is_held.ensures ∙ ap (has_number set) c.new.ensures) in
-    lines_more f _ _ _ n c.loop-number.invariant one
+    let is_held = c.has-is_held.ensures ∙ ap (has_number set) c.new.ensures in
+    lines_more (λ s. if has_number set s then 32 ∷ name_of splits s else []) _ _ _ n c.loop-number.invariant
+    (c.in_ok-add_member.ensures
+    ∙ (λ i. string_bytes c.loop-number.lines ++ (if is_held i then 32 ∷ name_of splits n else [])))
