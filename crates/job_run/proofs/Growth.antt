@@ -17,21 +17,19 @@ use Rattle.master_state.specs.declared.answers.Answer.TheVariants as answer
 use Rattle.master_state.specs.declared.states.Start.{Start}
 use Rattle.master_state.specs.declared.states.Work.{Work}
 use Rattle.master_state.specs.declared.states.Work.TheVariants as works
-use Rattle.master_state.specs.States.{Cluster, Setup, State, start_of}
-use Rattle.master_state.specs.Refusals.{Call, has_no_room, is_full, MapDone, MapFailed, Withdraw, Die, Join}
-use Rattle.master_state.specs.Refusals.{Add, Lose, Sweep, ReduceStart, PartDone, PartFailed, Backup}
+use Rattle.master_state.specs.States.{Cluster, Setup, State}
+use Rattle.master_state.specs.Refusals.{Call, has_no_room, is_full, Sweep, ReduceStart, Backup}
 use Rattle.master_state.specs.Steps.{problem_of, split_line}
 use Rattle.master_state.specs.Changes.{after, died, split_started}
 use Rattle.master_state.specs.Jobs.{Job, Answers}
 use Rattle.script_text.specs.declared.script.Names.{Names}
 use Rattle.script_text.specs.declared.script.Command.{Command}
 use Rattle.script_text.specs.declared.script.Command.TheVariants as command
-use Rattle.job_run.specs.Reports.{IsTold, Performs, PerformsAll, Does, DoesWork, FailsAttempt, FailsWork}
-use Rattle.job_run.specs.Reports.{Waves}
-use Rattle.job_run.specs.Reports.{LacksRoom, opening_job}
+use Rattle.job_run.specs.Reports.{Performs, PerformsAll, Waves, LacksRoom, opening_job}
 use Rattle.job_run.specs.Playing.{PerformedAll}
 use Rattle.job_run.specs.Rooms.{RunsOut, attempts_for, is_wave, starts_one, setup_for}
 use Rattle.script_text.specs.declared.script.Script.{Script}
+use Rattle.job_run.proofs.Calls.{is_done, started_by}
 use Rattle.job_run.proofs.Kept.{performs_setup}
 
 -- ---- what a change adds
@@ -63,11 +61,6 @@ pub record Adds (old new : State) (count : ℕ) : Type 0 where
   pub events : new.events ≤ old.events + 1
   pub starts : length new.starts ≤ length old.starts + count
 
-abbrev started_by : Call → ℕ
-started_by ReduceStart = 1
-started_by (Backup split w) = 1
-started_by call = 0
-
 adds_one : (s new : State) (work : Work) (w : ℕ) → new.events ≡ s.events + 1 →
     new.starts ≡ s.starts ++ record { work = work; worker = w } ∷ [] → Adds s new 1
 adds_one s new work w events starts =
@@ -82,13 +75,6 @@ adds_none s new events starts =
     record { events = omega (arith, events); starts = omega (arith, ap length starts) }
 
 adds_after : (s : State) (call : Call) → Adds s (after s call) (started_by call)
-adds_after s (MapDone a result) = adds_none s (after s (MapDone a result)) refl refl
-adds_after s (MapFailed a) = adds_none s (after s (MapFailed a)) refl refl
-adds_after s (Withdraw a) = adds_none s (after s (Withdraw a)) refl refl
-adds_after s (Die w) = adds_none s (after s (Die w)) refl refl
-adds_after s (Join w set) = adds_none s (after s (Join w set)) refl refl
-adds_after s (Add split w) = adds_none s (after s (Add split w)) refl refl
-adds_after s (Lose split w) = adds_none s (after s (Lose split w)) refl refl
 adds_after s (Sweep counts) =
     let heard : State = record s { workers = swept s.workers counts; sweeps = s.sweeps ++ counts ∷ [] } in
     let dead = filter (is_silent (swept s.workers counts))
@@ -96,9 +82,8 @@ adds_after s (Sweep counts) =
     adds_none s (after s (Sweep counts)) (ap (λ (n : ℕ). n + 1) (died_events heard dead))
     (died_starts heard dead)
 adds_after s ReduceStart = adds_one s (after s ReduceStart) _ _ refl refl
-adds_after s (PartDone a result) = adds_none s (after s (PartDone a result)) refl refl
-adds_after s (PartFailed a) = adds_none s (after s (PartFailed a)) refl refl
 adds_after s (Backup split w) = adds_one s (after s (Backup split w)) _ _ refl refl
+adds_after s call = adds_none s (after s call) refl refl
 
 -- ---- what a command adds
 
@@ -115,33 +100,6 @@ adds_answered old new call (answer.Accepted place) answers =
     subst (λ (s : State). Adds old.state s (started_by call)) (sym answers.change.leads)
     (adds_after old.state call)
 adds_answered old new call (answer.Ignored why) answers = adds_same old new (started_by call) answers.same
-
-adds_told : (old new : Job) (call : Call) (after : Answer → List ℕ) (out : List ℕ) →
-    IsTold old call after out new → Adds old.state new.state (started_by call)
-adds_told old new call after out told = adds_answered old new call told.answer told.answers
-
-adds_work_done : (old new : Job) (a : ℕ) (work : Work) (out : List ℕ) → DoesWork old a work out new →
-    Adds old.state new.state 0
-adds_work_done old new a (works.Split split) out does =
-    adds_told old new (MapDone a does.result) _ out does.is_told
-adds_work_done old new a (works.Part part) out does =
-    adds_told old new (PartDone a does.result) _ out does.is_told
-
-adds_done : (old new : Job) (a : ℕ) (start : Option Start) (out : List ℕ) → Does old a start out new →
-    Adds old.state new.state 0
-adds_done old new a None out does = adds_same old new 0 does.unchanged
-adds_done old new a (Some start) out does = adds_work_done old new a start.work out does
-
-adds_work_failed : (old new : Job) (a : ℕ) (work : Work) (out : List ℕ) → FailsWork old a work out new →
-    Adds old.state new.state 0
-adds_work_failed old new a (works.Split split) out fails = adds_told old new (MapFailed a) _ out fails
-adds_work_failed old new a (works.Part part) out fails = adds_told old new (PartFailed a) _ out fails
-
-adds_failed : (old new : Job) (a : ℕ) (start : Option Start) (out : List ℕ)
-    → FailsAttempt old a start out new →
-    Adds old.state new.state 0
-adds_failed old new a None out fails = adds_same old new 0 fails.unchanged
-adds_failed old new a (Some start) out fails = adds_work_failed old new a start.work out fails
 
 -- rising pairs of splits below n are no more than n
 rising_few : (n k : ℕ) (plan : List (Option ℕ)) → All (λ (pair : ℕ × ℕ). pair.0 < n) (pairs_from k plan) →
@@ -193,29 +151,16 @@ no_more old new few many most made =
 adds : (names : Names) (target : ℕ) (old new : Job) (c : Command) (out : List ℕ) →
     Performs names target old c out new →
     Adds old.state new.state (allowed (length old.setup.cluster.splits) c)
-adds names target old new command.Wave out done =
-    no_more _ _ (length old.setup.cluster.splits) _ (omega arith) (adds_wave names old new out done)
-adds names target old new (command.Done a) out done =
-    no_more _ _ 0 _ (omega arith) (adds_done old new a (start_of old.state a) out done)
-adds names target old new (command.Fail a) out done =
-    no_more _ _ 0 _ (omega arith) (adds_failed old new a (start_of old.state a) out done)
-adds names target old new (command.Withdraw a) out done =
-    no_more _ _ 0 _ (omega arith) (adds_told old new (Withdraw a) _ out done)
-adds names target old new (command.Backup s w) out done =
-    no_more _ _ 1 _ (omega arith) (adds_told old new (Backup s w) _ out done)
-adds names target old new (command.Die w) out done =
-    no_more _ _ 0 _ (omega arith) (adds_told old new (Die w) _ out done)
-adds names target old new (command.Join w splits) out done =
-    no_more _ _ 0 _ (omega arith) (adds_told old new (Join w _) _ out done)
-adds names target old new (command.Add s w) out done =
-    no_more _ _ 0 _ (omega arith) (adds_told old new (Add s w) _ out done)
-adds names target old new (command.Lose s w) out done =
-    no_more _ _ 0 _ (omega arith) (adds_told old new (Lose s w) _ out done)
-adds names target old new (command.Sweep counts) out done =
-    no_more _ _ 0 _ (omega arith) (adds_told old new (Sweep _) _ out done)
-adds names target old new command.Reduce out done =
-    no_more _ _ 1 _ (omega arith) (adds_told old new ReduceStart _ out done)
-adds names target old new command.Copies out done = adds_same old new _ done.unchanged
+adds names target old new c out done = elim (is_done names target old new c out done) [
+  | inl same ↦ adds_same old new _ same
+  | inr (inl wave) ↦
+      let splits = length old.setup.cluster.splits in
+      subst (λ (one : Command). Adds old.state new.state (allowed splits one)) (sym wave.0)
+      (no_more _ _ splits _ (omega arith) (adds_wave names old new out wave.1))
+  | inr (inr called) ↦
+      no_more _ _ (started_by called.call) _ (omega (arith, called.starts))
+      (adds_answered old new called.call called.given called.answers)
+]
 
 -- ---- what commands add
 

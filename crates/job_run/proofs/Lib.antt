@@ -1,9 +1,9 @@
 pub mod Writing
+pub mod Calls
 pub mod Kept
 pub mod Played
 pub mod Telling
 pub mod Known
-pub mod Numbers
 pub mod Started
 pub mod Handed
 pub mod Growth

@@ -45,7 +45,8 @@ pub texts_told : (names : Names) (given : Setup) (ended : Result Record RunError
     → length names.splits ≡ length given.cluster.texts → IfOk ended (IsRecordOf given)
     → IfOk ended (HasTextsNamed names)
 texts_told names given (Ok ran) named is =
-    named ∙ sym (ap (λ (setup : Setup). length setup.cluster.texts) (setup_kept given ran.master ran.index is))
+    named
+    ∙ sym (ap (λ (setup : Setup). length setup.cluster.texts) (setup_kept given ran.master ran.index is))
 texts_told names given (Err why) named is = tt
 
 pub runs_read : (asked : Bool) (text : List ℕ) (v : ScriptText) (end : JobEnd) (lines : List ℕ)

@@ -51,15 +51,22 @@ answers_from old new call result (handed.Ignored why back) answers = answers.1
 
 -- ---- an attempt is done
 
+-- by what was started
+done_as : (names : Names) (target : ℕ) (old new : Job) (a : ℕ) (start : Option Start)
+    (out before now : List ℕ)
+    → start_of old.state a ≡ start → Does old a start out new → now ≡ before ++ out
+    → Performed names target old (command.Done a) before now new
+done_as names target old new a start out before now is does written = record {
+  out = out;
+  performs = subst (λ (one : Option Start). Does old a one out new) (sym is) does;
+  written = written;
+}
+
 pub done_unknown : (names : Names) (target : ℕ) (old : Job) (a : ℕ) (before now : List ℕ) →
     start_of old.state a ≡ None → now ≡ before ++ ignored_line OldAttempt →
     Performed names target old (command.Done a) before now old
-done_unknown names target old a before now none written = record {
-  out = ignored_line OldAttempt;
-  performs = subst (λ (start : Option Start). Does old a start (ignored_line OldAttempt) old) (sym none)
-      (record { out_is = refl; unchanged = refl });
-  written = written;
-}
+done_unknown names target old a before now none written =
+    done_as names target old old a None _ before now none (record { out_is = refl; unchanged = refl }) written
 
 pub done_split : (names : Names) (target : ℕ) (old new : Job) (a split w : ℕ) (given : Answer)
     (before now : List ℕ) → start_of old.state a ≡ Some (record { work = works.Split split; worker = w }) →
@@ -71,11 +78,8 @@ done_split names target old new a split w given before now start hands written =
       text = hands.text;
       parts = hands.parts;
       is_told = is_told old new (MapDone a hands.result) given hands.answers;
-    } in record {
-      out = answer_line given;
-      performs = subst (λ (one : Option Start). Does old a one (answer_line given) new) (sym start) does;
-      written = written;
-    }
+    } in
+    done_as names target old new a _ (answer_line given) before now start does written
 
 pub done_part : (names : Names) (target : ℕ) (old new : Job) (a part w : ℕ) (given : Answer)
     (before now : List ℕ) → start_of old.state a ≡ Some (record { work = works.Part part; worker = w }) →
@@ -88,45 +92,40 @@ done_part names target old new a part w given before now start hands written =
       parts = hands.parts;
       texts = hands.texts;
       is_told = is_told old new (PartDone a hands.result) given hands.answers;
-    } in record {
-      out = answer_line given;
-      performs = subst (λ (one : Option Start). Does old a one (answer_line given) new) (sym start) does;
-      written = written;
-    }
+    } in
+    done_as names target old new a _ (answer_line given) before now start does written
 
 -- ---- an attempt fails
+
+fail_as : (names : Names) (target : ℕ) (old new : Job) (a : ℕ) (start : Option Start)
+    (out before now : List ℕ)
+    → start_of old.state a ≡ start → FailsAttempt old a start out new → now ≡ before ++ out
+    → Performed names target old (command.Fail a) before now new
+fail_as names target old new a start out before now is fails written = record {
+  out = out;
+  performs = subst (λ (one : Option Start). FailsAttempt old a one out new) (sym is) fails;
+  written = written;
+}
 
 pub fail_unknown : (names : Names) (target : ℕ) (old : Job) (a : ℕ) (before now : List ℕ) →
     start_of old.state a ≡ None → now ≡ before ++ ignored_line OldAttempt →
     Performed names target old (command.Fail a) before now old
-fail_unknown names target old a before now none written = record {
-  out = ignored_line OldAttempt;
-  performs = subst (λ (start : Option Start). FailsAttempt old a start (ignored_line OldAttempt) old)
-      (sym none) (record { out_is = refl; unchanged = refl });
-  written = written;
-}
+fail_unknown names target old a before now none written =
+    fail_as names target old old a None _ before now none (record { out_is = refl; unchanged = refl }) written
 
 pub fail_split : (names : Names) (target : ℕ) (old new : Job) (a split w : ℕ) (given : Answer)
     (before now : List ℕ) → start_of old.state a ≡ Some (record { work = works.Split split; worker = w }) →
     Answers old (MapFailed a) given new → now ≡ before ++ answer_line given →
     Performed names target old (command.Fail a) before now new
-fail_split names target old new a split w given before now start answers written = record {
-  out = answer_line given;
-  performs = subst (λ (one : Option Start). FailsAttempt old a one (answer_line given) new) (sym start)
-      (is_told old new (MapFailed a) given answers);
-  written = written;
-}
+fail_split names target old new a split w given before now start answers written =
+    fail_as names target old new a _ _ before now start (is_told old new (MapFailed a) given answers) written
 
 pub fail_part : (names : Names) (target : ℕ) (old new : Job) (a part w : ℕ) (given : Answer)
     (before now : List ℕ) → start_of old.state a ≡ Some (record { work = works.Part part; worker = w }) →
     Answers old (PartFailed a) given new → now ≡ before ++ answer_line given →
     Performed names target old (command.Fail a) before now new
-fail_part names target old new a part w given before now start answers written = record {
-  out = answer_line given;
-  performs = subst (λ (one : Option Start). FailsAttempt old a one (answer_line given) new) (sym start)
-      (is_told old new (PartFailed a) given answers);
-  written = written;
-}
+fail_part names target old new a part w given before now start answers written =
+    fail_as names target old new a _ _ before now start (is_told old new (PartFailed a) given answers) written
 
 -- ---- an answer with lines of its own
 

@@ -15,14 +15,14 @@ returns-then-not-part_runs c =
 
 pub of-requires : goal.of-requires
 of-requires c =
-    let inside = part_inside c.args.master.now c.args.attempt c.args.part c.requires.started.0 c.is_kept.ensures
-    c.requires.started.1 in
+    let inside = part_inside c.args.master.now c.args.attempt c.args.part c.requires.started.0
+    c.is_kept.ensures c.requires.started.1 in
     omega (arith, inside, c.requires.given.parts)
 
 pub merge-requires-clause-in_range : goal.merge-requires-clause-in_range
 merge-requires-clause-in_range c =
-    let inside = part_inside c.args.master.now c.args.attempt c.args.part c.requires.started.0 c.is_kept.ensures
-    c.requires.started.1 in
+    let inside = part_inside c.args.master.now c.args.attempt c.args.part c.requires.started.0
+    c.is_kept.ensures c.requires.started.1 in
     let same = ap (λ (cluster : Cluster). cluster.parts) c.cluster.ensures in
     omega (arith, inside, c.parts.ensures.count, same)
 

@@ -6,8 +6,8 @@ use Rattle.job_run.proofs.running.answer_job.Goals as goal
 
 pub returns-in_ok-lines-in-Ok : goal.returns-in_ok-lines-in-Ok
 returns-in_ok-lines-in-Ok g c =
-    runs_read c.args.asked c.args.text.now c.in-Ok.read c.in_ok-lines-in-Ok.end (string_bytes c.in_ok-lines-in-Ok.lines)
-    c.in-Ok.ensures.ok c.in_ok-lines-in-Ok.ensures
+    runs_read c.args.asked c.args.text.now c.in-Ok.read c.in_ok-lines-in-Ok.end
+    (string_bytes c.in_ok-lines-in-Ok.lines) c.in-Ok.ensures.ok c.in_ok-lines-in-Ok.ensures
 
 pub returns-in_ok-line-in-Err : goal.returns-in_ok-line-in-Err
 returns-in_ok-line-in-Err g c =

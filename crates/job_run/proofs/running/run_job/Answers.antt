@@ -36,7 +36,7 @@ returns-clause-ran g c =
 
 pub returns-clause-same : goal.returns-clause-same
 returns-clause-same g c =
-    wrote_its_answer (RunAnswer c.args.asked) AreEnds AnyLines _ _ _ c.in_ok-text.text.items c.as_slice.result.now
-    (string_bytes c.in_ok-lines.lines) c.as_bytes.result.now c.in_ok-lines.end c.ended.result (one_run_answer c.args.asked)
-    c.ended.ensures c.in_ok-text.ensures.read c.as_slice.ensures.value c.in_ok-lines.ensures
-    c.as_bytes.ensures.value c.in_ok-write_text.ensures.ok
+    wrote_its_answer (RunAnswer c.args.asked) AreEnds AnyLines _ _ _ c.in_ok-text.text.items
+    c.as_slice.result.now (string_bytes c.in_ok-lines.lines) c.as_bytes.result.now c.in_ok-lines.end
+    c.ended.result (one_run_answer c.args.asked) c.ended.ensures c.in_ok-text.ensures.read
+    c.as_slice.ensures.value c.in_ok-lines.ensures c.as_bytes.ensures.value c.in_ok-write_text.ensures.ok

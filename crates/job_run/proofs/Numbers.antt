@@ -1,1 +1,0 @@
--- The numbers of the attempts that a wave starts.
