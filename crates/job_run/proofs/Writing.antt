@@ -20,11 +20,13 @@ use Rattle.master_state.specs.Jobs.{Job, Answers, AnswersWith, AnswersBackup, An
 use Rattle.master_state.specs.Jobs.{IsAccepted, IsReply, died_in}
 use Rattle.node_ids.specs.Sets.{has_number}
 use Rattle.script_text.specs.declared.script.Names.{Names}
+use Rattle.script_text.specs.declared.script.Command.{Command}
 use Rattle.script_text.specs.declared.script.Command.TheVariants as command
 use Rattle.report_lines.specs.Lines.{accepted_line, answer_line, backup_line, dead_line, dead_lines}
 use Rattle.report_lines.specs.Lines.{ignored_line, reduce_line}
 use Rattle.text_lines.specs.Texts.{numbers_of}
-use Rattle.job_run.specs.Reports.{IsTold, Does, DoesSplit, DoesPart, FailsAttempt, alone, deaths, told}
+use Rattle.job_run.specs.Reports.{IsTold, Performs, Does, DoesSplit, DoesPart, FailsAttempt, alone, deaths}
+use Rattle.job_run.specs.Reports.{told}
 use Rattle.job_run.specs.Handing.{HandsSplit, HandsPart, answer_from}
 use Rattle.job_run.specs.Playing.{IsAnswered, Performed}
 use Rattle.job_run.proofs.Telling.{those_agree}
@@ -51,22 +53,20 @@ answers_from old new call result (handed.Ignored why back) answers = answers.1
 
 -- ---- an attempt is done
 
--- by what was started
-done_as : (names : Names) (target : ℕ) (old new : Job) (a : ℕ) (start : Option Start)
-    (out before now : List ℕ)
-    → start_of old.state a ≡ start → Does old a start out new → now ≡ before ++ out
-    → Performed names target old (command.Done a) before now new
-done_as names target old new a start out before now is does written = record {
-  out = out;
-  performs = subst (λ (one : Option Start). Does old a one out new) (sym is) does;
-  written = written;
-}
+-- a command on an attempt, by what was started
+by_start : (names : Names) (target : ℕ) (old new : Job) (c : Command) (a : ℕ) (Does : Option Start → Type 0)
+    (out before now : List ℕ) → (Does (start_of old.state a) → Performs names target old c out new)
+    → (start : Option Start) → start_of old.state a ≡ start → Does start → now ≡ before ++ out
+    → Performed names target old c before now new
+by_start names target old new c a Does out before now performs start is does written =
+    record { out = out; performs = performs (subst Does (sym is) does); written = written }
 
 pub done_unknown : (names : Names) (target : ℕ) (old : Job) (a : ℕ) (before now : List ℕ) →
     start_of old.state a ≡ None → now ≡ before ++ ignored_line OldAttempt →
     Performed names target old (command.Done a) before now old
 done_unknown names target old a before now none written =
-    done_as names target old old a None _ before now none (record { out_is = refl; unchanged = refl }) written
+    by_start names target old old (command.Done a) a (λ start. Does old a start (ignored_line OldAttempt) old)
+    _ before now (λ it. it) None none (record { out_is = refl; unchanged = refl }) written
 
 pub done_split : (names : Names) (target : ℕ) (old new : Job) (a split w : ℕ) (given : Answer)
     (before now : List ℕ) → start_of old.state a ≡ Some (record { work = works.Split split; worker = w }) →
@@ -79,7 +79,8 @@ done_split names target old new a split w given before now start hands written =
       parts = hands.parts;
       is_told = is_told old new (MapDone a hands.result) given hands.answers;
     } in
-    done_as names target old new a _ (answer_line given) before now start does written
+    by_start names target old new (command.Done a) a (λ one. Does old a one (answer_line given) new)
+    _ before now (λ it. it) _ start does written
 
 pub done_part : (names : Names) (target : ℕ) (old new : Job) (a part w : ℕ) (given : Answer)
     (before now : List ℕ) → start_of old.state a ≡ Some (record { work = works.Part part; worker = w }) →
@@ -93,39 +94,34 @@ done_part names target old new a part w given before now start hands written =
       texts = hands.texts;
       is_told = is_told old new (PartDone a hands.result) given hands.answers;
     } in
-    done_as names target old new a _ (answer_line given) before now start does written
+    by_start names target old new (command.Done a) a (λ one. Does old a one (answer_line given) new)
+    _ before now (λ it. it) _ start does written
 
 -- ---- an attempt fails
-
-fail_as : (names : Names) (target : ℕ) (old new : Job) (a : ℕ) (start : Option Start)
-    (out before now : List ℕ)
-    → start_of old.state a ≡ start → FailsAttempt old a start out new → now ≡ before ++ out
-    → Performed names target old (command.Fail a) before now new
-fail_as names target old new a start out before now is fails written = record {
-  out = out;
-  performs = subst (λ (one : Option Start). FailsAttempt old a one out new) (sym is) fails;
-  written = written;
-}
 
 pub fail_unknown : (names : Names) (target : ℕ) (old : Job) (a : ℕ) (before now : List ℕ) →
     start_of old.state a ≡ None → now ≡ before ++ ignored_line OldAttempt →
     Performed names target old (command.Fail a) before now old
 fail_unknown names target old a before now none written =
-    fail_as names target old old a None _ before now none (record { out_is = refl; unchanged = refl }) written
+    by_start names target old old (command.Fail a) a
+    (λ start. FailsAttempt old a start (ignored_line OldAttempt) old) _ before now (λ it. it) None none
+    (record { out_is = refl; unchanged = refl }) written
 
 pub fail_split : (names : Names) (target : ℕ) (old new : Job) (a split w : ℕ) (given : Answer)
     (before now : List ℕ) → start_of old.state a ≡ Some (record { work = works.Split split; worker = w }) →
     Answers old (MapFailed a) given new → now ≡ before ++ answer_line given →
     Performed names target old (command.Fail a) before now new
 fail_split names target old new a split w given before now start answers written =
-    fail_as names target old new a _ _ before now start (is_told old new (MapFailed a) given answers) written
+    by_start names target old new (command.Fail a) a (λ one. FailsAttempt old a one (answer_line given) new)
+    _ before now (λ it. it) _ start (is_told old new (MapFailed a) given answers) written
 
 pub fail_part : (names : Names) (target : ℕ) (old new : Job) (a part w : ℕ) (given : Answer)
     (before now : List ℕ) → start_of old.state a ≡ Some (record { work = works.Part part; worker = w }) →
     Answers old (PartFailed a) given new → now ≡ before ++ answer_line given →
     Performed names target old (command.Fail a) before now new
 fail_part names target old new a part w given before now start answers written =
-    fail_as names target old new a _ _ before now start (is_told old new (PartFailed a) given answers) written
+    by_start names target old new (command.Fail a) a (λ one. FailsAttempt old a one (answer_line given) new)
+    _ before now (λ it. it) _ start (is_told old new (PartFailed a) given answers) written
 
 -- ---- an answer with lines of its own
 
