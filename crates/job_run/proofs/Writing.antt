@@ -15,7 +15,7 @@ use Rattle.master_state.specs.declared.states.Start.{Start}
 use Rattle.master_state.specs.declared.states.Work.TheVariants as works
 use Rattle.master_state.specs.States.{start_of, next_attempt}
 use Rattle.master_state.specs.Tests.{next_part, next_worker}
-use Rattle.master_state.specs.Refusals.{Call, MapDone, MapFailed, PartDone, PartFailed, ReduceStart, Sweep}
+use Rattle.master_state.specs.Refusals.{Call, MapDone, PartDone, ReduceStart, Sweep}
 use Rattle.master_state.specs.Jobs.{Job, Answers, AnswersWith, AnswersBackup, AnswersReduce, AnswersSweep}
 use Rattle.master_state.specs.Jobs.{IsAccepted, IsReply, died_in}
 use Rattle.node_ids.specs.Sets.{has_number}
@@ -25,8 +25,8 @@ use Rattle.script_text.specs.declared.script.Command.TheVariants as command
 use Rattle.report_lines.specs.Lines.{accepted_line, answer_line, backup_line, dead_line, dead_lines}
 use Rattle.report_lines.specs.Lines.{ignored_line, reduce_line}
 use Rattle.text_lines.specs.Texts.{numbers_of}
-use Rattle.job_run.specs.Reports.{IsTold, Performs, Does, DoesSplit, DoesPart, FailsAttempt, alone, deaths}
-use Rattle.job_run.specs.Reports.{told}
+use Rattle.job_run.specs.Reports.{IsTold, Performs, Does, DoesSplit, DoesPart, FailsAttempt, FailsWork, alone}
+use Rattle.job_run.specs.Reports.{deaths, told}
 use Rattle.job_run.specs.Handing.{HandsSplit, HandsPart, answer_from}
 use Rattle.job_run.specs.Playing.{IsAnswered, Performed}
 use Rattle.job_run.proofs.Telling.{those_agree}
@@ -35,7 +35,7 @@ told_alone : (given : Answer) → answer_line given ≡ told given (alone given)
 told_alone (answer.Accepted place) = sym (append-nil (answer_line (answer.Accepted place)))
 told_alone (answer.Ignored why) = refl
 
-is_told : (old new : Job) (call : Call) (given : Answer) → Answers old call given new →
+pub is_told : (old new : Job) (call : Call) (given : Answer) → Answers old call given new →
     IsTold old call alone (answer_line given) new
 is_told old new call given answers = record { answer = given; answers = answers; out_is = told_alone given }
 
@@ -107,21 +107,13 @@ fail_unknown names target old a before now none written =
     (λ start. FailsAttempt old a start (ignored_line OldAttempt) old) _ before now (λ it. it) None none
     (record { out_is = refl; unchanged = refl }) written
 
-pub fail_split : (names : Names) (target : ℕ) (old new : Job) (a split w : ℕ) (given : Answer)
-    (before now : List ℕ) → start_of old.state a ≡ Some (record { work = works.Split split; worker = w }) →
-    Answers old (MapFailed a) given new → now ≡ before ++ answer_line given →
+pub failed : (names : Names) (target : ℕ) (old new : Job) (a : ℕ) (start : Start) (given : Answer)
+    (before now : List ℕ) → start_of old.state a ≡ Some start →
+    FailsWork old a start.work (answer_line given) new → now ≡ before ++ answer_line given →
     Performed names target old (command.Fail a) before now new
-fail_split names target old new a split w given before now start answers written =
+failed names target old new a start given before now is fails written =
     by_start names target old new (command.Fail a) a (λ one. FailsAttempt old a one (answer_line given) new)
-    _ before now (λ it. it) _ start (is_told old new (MapFailed a) given answers) written
-
-pub fail_part : (names : Names) (target : ℕ) (old new : Job) (a part w : ℕ) (given : Answer)
-    (before now : List ℕ) → start_of old.state a ≡ Some (record { work = works.Part part; worker = w }) →
-    Answers old (PartFailed a) given new → now ≡ before ++ answer_line given →
-    Performed names target old (command.Fail a) before now new
-fail_part names target old new a part w given before now start answers written =
-    by_start names target old new (command.Fail a) a (λ one. FailsAttempt old a one (answer_line given) new)
-    _ before now (λ it. it) _ start (is_told old new (PartFailed a) given answers) written
+    _ before now (λ it. it) (Some start) is fails written
 
 -- ---- an answer with lines of its own
 

@@ -1,7 +1,7 @@
 use Rattle.std.proofs.Common.{sym}
 use Rattle.std.proofs.lemmas.Result.{on_ok_weaker}
 use Rattle.master_core.proofs.Found.{start_for}
-use Rattle.job_run.proofs.Writing.{fail_unknown, fail_split, fail_part}
+use Rattle.job_run.proofs.Writing.{fail_unknown, failed, is_told}
 use Rattle.job_run.proofs.handing.fail.Goals as goal
 
 pub returns-in-None : goal.returns-in-None
@@ -13,12 +13,12 @@ pub returns-in-Split : goal.returns-in-Split
 returns-in-Split c = λ names target.
     let start = start_for c.args.master.now.state c.args.attempt (sym c.in-Some.ensures) c.in-Split.is in
     on_ok_weaker _
-    (λ next. fail_split names target _ _ _ _ _ _ _ _ start c.map_failed.ensures next)
+    (λ next. failed names target _ _ _ _ _ _ _ start (is_told _ _ _ _ c.map_failed.ensures) next)
     c.add_answer.ensures
 
 pub returns-in-Part : goal.returns-in-Part
 returns-in-Part c = λ names target.
     let start = start_for c.args.master.now.state c.args.attempt (sym c.in-Some.ensures) c.in-Part.is in
     on_ok_weaker _
-    (λ next. fail_part names target _ _ _ _ _ _ _ _ start c.part_failed.ensures next)
+    (λ next. failed names target _ _ _ _ _ _ _ start (is_told _ _ _ _ c.part_failed.ensures) next)
     c.add_answer-in-Part.ensures
