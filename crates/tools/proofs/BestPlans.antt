@@ -1,7 +1,7 @@
 -- What is said of a plan of the problem that was read is said of the text, and a check of what is written
 -- certifies it.
 use Rattle.std.proofs.Common.{ℕ, zero, suc, List, [], ◌∷◌, ◌++◌, Option, Bool, ◌≡◌, ◌<◌, ◌≤◌, ◌^◌, ◌∙◌}
-use Rattle.std.proofs.Common.{length, slice_index, refl, sym, subst, ap, arith, true, false}
+use Rattle.std.proofs.Common.{length, slice_index, refl, sym, subst, arith, true, false}
 use Rattle.std.specs.List.{All}
 use Rattle.std.proofs.lemmas.List.{append-nil}
 use Rattle.std.proofs.lemmas.List.Elements.{All-cons, All-nil}
@@ -37,17 +37,14 @@ certified_text : (text : List ℕ) (wave : Wave) (starts : List (Option ℕ)) (p
 certified_text text wave starts prices back says =
     let ss = back.statements in
     let said : List ℕ = line_on (claim wave starts prices) in
-    let with_prices : SaysCertified (claim wave starts (value.prices ss)) said =
-    subst (λ (p : PriceList). SaysCertified (claim wave starts p) said) (sym back.same_prices) says in
-    let with_starts : SaysCertified (claim wave (value.starts ss) (value.prices ss)) said =
-    subst (λ (q : List (Option ℕ)). SaysCertified (claim wave q (value.prices ss)) said)
-    (sym back.same_starts) with_prices in
+    let same : claim wave starts prices ≡ claim wave (value.starts ss) (value.prices ss) =
+    λ i. claim wave (sym back.same_starts i) (sym back.same_prices i) in
     record {
       statements = ss;
       wave = wave;
       reads = back.reads;
       declared = back.declared;
-      judges = with_starts;
+      judges = subst (λ (c : Claim). SaysCertified c said) same says;
     }
 
 checks_again : (text : List ℕ) (v : ProblemText) (starts : List (Option ℕ)) (prices : PriceList)
@@ -85,13 +82,11 @@ plans_read text v with_prices lines read fit plans =
 
 -- ---- a plan that was made for a problem
 
-below : (n m x : ℕ) → x ≤ m → m < n → x < n
-below n m x most less = omega (arith, most, less)
-
 all_below : (n m : ℕ) (xs : List ℕ) → m < n → ((i : ℕ) → slice_index xs i ≤ m) → All (λ x. x < n) xs
 all_below n m [] less each = All-nil _
 all_below n m (x ∷ xs) less each =
-    All-cons (λ y. y < n) x xs (below n m x (each zero) less) (all_below n m xs less (λ i. each (suc i)))
+    All-cons (λ y. y < n) x xs (let first : x ≤ m = each zero in omega arith)
+    (all_below n m xs less (λ i. each (suc i)))
 
 plan_for_names : (ss ws : List Word) (c : Claim) (plan_workers : ℕ) → length ss ≡ length c.wave.splits
     → length ws ≡ length c.wave.workers → HasOneSize c plan_workers → Certifies c → reward c.wave < 2 ^ 64
@@ -112,9 +107,7 @@ pub front_of : (ss ws : List Word) (c : Claim) (count cost : ℕ) (starts : List
     → lines ≡ wave_line count cost ++ start_lines ss ws starts
     → lines ≡ wave_line (plan_count c) (plan_cost c) ++ start_lines ss ws c.starts
 front_of ss ws c count cost starts lines as_starts as_count as_cost said =
-    said ∙ ap (λ (q : List (Option ℕ)). wave_line count cost ++ start_lines ss ws q) as_starts
-    ∙ ap (λ (n : ℕ). wave_line n cost ++ start_lines ss ws c.starts) as_count
-    ∙ ap (λ (n : ℕ). wave_line (plan_count c) n ++ start_lines ss ws c.starts) as_cost
+    said ∙ (λ i. wave_line (as_count i) (as_cost i) ++ start_lines ss ws (as_starts i))
 
 -- prices that were asked for follow
 pub with_asked : (asked : Bool) (ss ws : List Word) (prices made : PriceList) (front old new : List ℕ)
@@ -122,8 +115,7 @@ pub with_asked : (asked : Bool) (ss ws : List Word) (prices made : PriceList) (f
     → old ≡ front → prices ≡ made → new ≡ old ++ price_lines ss ws prices
     → new ≡ front ++ asked_prices asked ss ws made
 with_asked true ss ws prices made front old new is_asked before as_made said =
-    said ∙ ap (λ (q : PriceList). old ++ price_lines ss ws q) as_made
-    ∙ ap (λ (l : List ℕ). l ++ price_lines ss ws made) before
+    said ∙ (λ i. before i ++ price_lines ss ws (as_made i))
 with_asked false ss ws prices made front old new is_asked before as_made said = cc
 
 -- and others do not
