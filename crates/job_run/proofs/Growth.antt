@@ -175,9 +175,7 @@ attempts-cons splits c commands =
     let single : count_by starts_one (c ∷ commands)
     ≡ cond {A = ℕ} (starts_one c) 1 0 + count_by starts_one commands =
     sum_by-cons (λ (x : Command). cond {A = ℕ} (starts_one x) 1 0) c commands in
-    ap (λ (n : ℕ). splits * n + count_by starts_one (c ∷ commands)) many
-    ∙ ap (λ (n : ℕ). splits * (cond {A = ℕ} (is_wave c) 1 0 + waves commands) + n) single
-    ∙ omega arith
+    (λ i. splits * many i + single i) ∙ omega arith
 
 attempts-append : (splits : ℕ) (commands later : List Command) →
     attempts_for splits (commands ++ later) ≡ attempts_for splits commands + attempts_for splits later

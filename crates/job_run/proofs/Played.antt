@@ -20,7 +20,7 @@ performs_more names target old mid new [] c front back h step = (
   [],
   subst (λ (j : Job). Performs names target j c back new) h.1 step,
   (refl, refl),
-  ap (λ (lines : List ℕ). lines ++ back) h.0 ∙ sym (append-nil back),
+  (λ i. h.0 i ++ back) ∙ sym (append-nil back),
 )
 performs_more names target old mid new (d ∷ commands) c front back h step = (
   h.0,
@@ -28,7 +28,7 @@ performs_more names target old mid new (d ∷ commands) c front back h step = (
   h.2 ++ back,
   h.3,
   performs_more names target h.0 mid new commands c h.2 back h.4 step,
-  ap (λ (lines : List ℕ). lines ++ back) h.5 ∙ append_assoc h.1 h.2 back,
+  (λ i. h.5 i ++ back) ∙ append_assoc h.1 h.2 back,
 )
 
 pub performed_more : (names : Names) (target : ℕ) (old mid new : Job) (commands : List Command) (i : ℕ)
@@ -41,8 +41,7 @@ performed_more names target old mid new commands i c a b d below is h k =
     subst (λ (cs : List Command). PerformedAll names target old cs a d new) (sym more) (record {
       out = h.out ++ k.out;
       performs = performs_more names target old mid new (take i commands) c h.out k.out h.performs k.performs;
-      written = k.written ∙ ap (λ (lines : List ℕ). lines ++ k.out) h.written
-          ∙ append_assoc a h.out k.out;
+      written = k.written ∙ (λ i. h.written i ++ k.out) ∙ append_assoc a h.out k.out;
     })
 
 -- what is read next comes to those that stood before it

@@ -1,5 +1,5 @@
 -- Lines of those of whom a test is true.
-use Rattle.std.proofs.Common.{◌≡◌, ℕ, Bool, List, [], ◌∷◌, ◌++◌, refl, ap, ◌∙◌}
+use Rattle.std.proofs.Common.{◌≡◌, ℕ, Bool, List, [], ◌∷◌, ◌++◌, refl}
 use Rattle.std.specs.Prelude.{if◌then◌else◌}
 use Rattle.report_lines.specs.Lines.{lines_of_those}
 
@@ -8,6 +8,4 @@ pub those_agree : (test other : ℕ → Bool) (line : ℕ → List ℕ) (numbers
     ((n : ℕ) → test n ≡ other n) → lines_of_those test line numbers ≡ lines_of_those other line numbers
 those_agree test other line [] agree = refl
 those_agree test other line (n ∷ numbers) agree =
-    ap (λ (holds : Bool). (if holds then line n else []) ++ lines_of_those test line numbers) (agree n)
-    ∙ ap (λ (more : List ℕ). (if other n then line n else []) ++ more)
-    (those_agree test other line numbers agree)
+    λ i. (if agree n i then line n else []) ++ those_agree test other line numbers agree i

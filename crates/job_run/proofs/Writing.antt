@@ -120,7 +120,7 @@ failed names target old new a start given before now is fails written =
 pub written_more : (before mid now xs ys : List ℕ) → mid ≡ before ++ xs → now ≡ mid ++ ys →
     now ≡ before ++ (xs ++ ys)
 written_more before mid now xs ys first next =
-    next ∙ ap (λ (text : List ℕ). text ++ ys) first ∙ append_assoc before xs ys
+    next ∙ (λ i. first i ++ ys) ∙ append_assoc before xs ys
 
 pub backup_ignored : (names : Names) (target : ℕ) (old new : Job) (split w : ℕ) (why : Why)
     (before now : List ℕ) → AnswersBackup old split w (backup.Ignored why) new →
@@ -156,9 +156,7 @@ reduce_accepted names target old new place reply before mid now is accepted firs
       out = accepted_line place ++ line;
       performs = record { answer = answer.Accepted place; answers = accepted; out_is = refl };
       written = written_more before mid now (accepted_line place) line first
-          (next ∙ ap (λ (n : ℕ). mid ++ reduce_line names.workers n reply.part reply.worker) is.attempt
-          ∙ ap (λ (n : ℕ). mid ++ reduce_line names.workers (next_attempt s) n reply.worker) is.part
-          ∙ ap (λ (n : ℕ). mid ++ reduce_line names.workers (next_attempt s) (next_part s) n) is.worker);
+          (next ∙ (λ i. mid ++ reduce_line names.workers (is.attempt i) (is.part i) (is.worker i)));
     }
 
 pub reduce_ignored : (names : Names) (target : ℕ) (old new : Job) (why : Why) (before now : List ℕ) →
