@@ -164,9 +164,6 @@ adds names target old new c out done = elim (is_done names target old new c out 
 
 -- ---- what commands add
 
-abbrev waves : List Command → ℕ
-waves commands = count_by is_wave commands
-
 attempts-cons : (splits : ℕ) (c : Command) (commands : List Command) →
     attempts_for splits (c ∷ commands) ≡ allowed splits c + attempts_for splits commands
 attempts-cons splits c commands =
