@@ -1,39 +1,39 @@
 -- The calls that lists of entries, counts and starts stand for.
 use Rattle.std.proofs.Common.{◌≡◌, ℕ, zero, suc, ◌+◌, ◌-◌, ◌≤◌, List, [], ◌∷◌, ◌++◌, length, take, drop}
-use Rattle.std.proofs.Common.{get_or, All, Option, ◌<◌, ◌&&◌, nat_lt, nat_le, Bool, true, false, Some, None}
-use Rattle.std.proofs.Common.{refl, sym, ap, subst, ◌∙◌, arith}
+use Rattle.std.proofs.Common.{get_or, Option, ◌<◌, ◌&&◌, nat_lt, nat_le, Bool, true, false, Some}
+use Rattle.std.proofs.Common.{refl, sym, ap, subst, ◌∙◌, arith, sum_by}
 use Rattle.std.specs.Prelude.{slice_get}
 use Rattle.std.specs.Option.{option_map_or}
 use Rattle.std.proofs.lemmas.List.{drop-drop, take-append-le, drop-append-le, take_all, drop_at, length-drop}
 use Rattle.std.proofs.lemmas.List.{length-take-le, length-append, append_assoc, take_more}
 use Rattle.std.proofs.lemmas.List.Elements.{All-push}
 use Rattle.std.proofs.lemmas.Bool.Decides.{nat_tests}
-use Rattle.std.proofs.lemmas.List.Sums.{sum_by-cons, sum_by_push, sum_by_more, sum_by_more_le}
+use Rattle.std.proofs.lemmas.List.Sums.{sum_by-cons, sum_by_push, sum_by_more}
 use Rattle.master_state.specs.declared.events.Event.{Event}
 use Rattle.master_state.specs.declared.states.Limits.{Limits}
 use Rattle.master_state.specs.declared.states.Start.{Start}
 use Rattle.hand_ledger.specs.declared.keeping.Entry.{Entry}
 use Rattle.hand_ledger.specs.Hands.{Kept, kept, HandValue, counts_in, starts_in, all_counts, all_starts}
-use Rattle.hand_ledger.specs.Hands.{last_event, last_place, has_room}
+use Rattle.hand_ledger.specs.Hands.{has_room}
 use Rattle.hand_ledger.specs.Inside.{calls_of, counts_taken, starts_taken, AreKept, IsPlace}
-use Rattle.hand_ledger.specs.Settling.{LogValue, LastStands, all_calls, event_at, call_at, counts_at}
-use Rattle.hand_ledger.specs.Settling.{starts_at}
+use Rattle.hand_ledger.specs.Settling.{LogValue, all_calls, event_at, call_at, counts_at, starts_at}
 
 -- the call of an entry, whose counts and starts begin at these places
 abbrev pub call_of : Entry → List (List ℕ) → List Start → Kept
 call_of e counts starts =
     kept e.place e.event (take (counts_in e.event) counts) (take (starts_in e.event) starts)
 
--- where the next counts begin, after an entry and others
-counts_on : (x : Entry) (es : List Entry) (cs : List (List ℕ)) →
-    drop (counts_taken es) (drop (counts_in x.event) cs) ≡ drop (counts_taken (x ∷ es)) cs
-counts_on x es cs = drop-drop (counts_taken es) (counts_in x.event) cs
-    ∙ ap (λ n. drop n cs) (sym (sum_by-cons (λ (e : Entry). counts_in e.event) x es))
+-- how many counts, and how many starts, an entry takes
+abbrev pub counts_of : Entry → ℕ
+counts_of e = counts_in e.event
 
-starts_on : (x : Entry) (es : List Entry) (ss : List Start) →
-    drop (starts_taken es) (drop (starts_in x.event) ss) ≡ drop (starts_taken (x ∷ es)) ss
-starts_on x es ss = drop-drop (starts_taken es) (starts_in x.event) ss
-    ∙ ap (λ n. drop n ss) (sym (sum_by-cons (λ (e : Entry). starts_in e.event) x es))
+abbrev pub starts_of : Entry → ℕ
+starts_of e = starts_in e.event
+
+-- where the next elements begin, after those of an entry and of others
+taken_on : {X : Type 0} (f : Entry → ℕ) (x : Entry) (es : List Entry) (xs : List X) →
+    drop (sum_by f es) (drop (f x) xs) ≡ drop (sum_by f (x ∷ es)) xs
+taken_on f x es xs = drop-drop (sum_by f es) (f x) xs ∙ ap (λ n. drop n xs) (sym (sum_by-cons f x es))
 
 -- one entry more
 pub calls_more : (es : List Entry) (e : Entry) (cs : List (List ℕ)) (ss : List Start) →
@@ -44,24 +44,13 @@ calls_more (x ∷ es) e cs ss =
     ap (λ calls. call_of x cs ss ∷ calls)
     (calls_more es e (drop (counts_in x.event) cs) (drop (starts_in x.event) ss)
     ∙ (λ k. calls_of es (drop (counts_in x.event) cs) (drop (starts_in x.event) ss)
-    ++ call_of e (counts_on x es cs k) (starts_on x es ss k) ∷ []))
+    ++ call_of e (taken_on counts_of x es cs k) (taken_on starts_of x es ss k) ∷ []))
 
--- the first one's part of what all take
-counts_first : (x : Entry) (es : List Entry) (n : ℕ) → counts_taken (x ∷ es) ≤ n → counts_in x.event ≤ n
-counts_first x es n le = omega (arith, sum_by-cons (λ (e : Entry). counts_in e.event) x es)
-
-starts_first : (x : Entry) (es : List Entry) (n : ℕ) → starts_taken (x ∷ es) ≤ n → starts_in x.event ≤ n
-starts_first x es n le = omega (arith, sum_by-cons (λ (e : Entry). starts_in e.event) x es)
-
-counts_rest : (x : Entry) (es : List Entry) (cs : List (List ℕ)) →
-    counts_taken (x ∷ es) ≤ length cs → counts_taken es ≤ length (drop (counts_in x.event) cs)
-counts_rest x es cs le =
-    omega (arith, sum_by-cons (λ (e : Entry). counts_in e.event) x es, length-drop (counts_in x.event) cs)
-
-starts_rest : (x : Entry) (es : List Entry) (ss : List Start) →
-    starts_taken (x ∷ es) ≤ length ss → starts_taken es ≤ length (drop (starts_in x.event) ss)
-starts_rest x es ss le =
-    omega (arith, sum_by-cons (λ (e : Entry). starts_in e.event) x es, length-drop (starts_in x.event) ss)
+-- the first one's part of what all take, and that of the others
+taken_parts : {X : Type 0} (f : Entry → ℕ) (x : Entry) (es : List Entry) (xs : List X) →
+    sum_by f (x ∷ es) ≤ length xs → (f x ≤ length xs) × (sum_by f es ≤ length (drop (f x) xs))
+taken_parts f x es xs le =
+    let sum = sum_by-cons f x es in (omega arith, omega (arith, length-drop (f x) xs))
 
 -- counts and starts more, which no entry takes
 pub calls_same : (es : List Entry) (cs more : List (List ℕ)) (ss others : List Start) →
@@ -71,12 +60,12 @@ calls_same [] cs more ss others c s = refl
 calls_same (x ∷ es) cs more ss others c s =
     let n = counts_in x.event in
     let m = starts_in x.event in
-    let few : n ≤ length cs = counts_first x es (length cs) c in
-    let short : m ≤ length ss = starts_first x es (length ss) s in
-    (λ k. kept x.place x.event (take-append-le n cs more few k) (take-append-le m ss others short k)
-    ∷ calls_of es (drop-append-le n cs more few k) (drop-append-le m ss others short k))
+    let few = taken_parts counts_of x es cs c in
+    let short = taken_parts starts_of x es ss s in
+    (λ k. kept x.place x.event (take-append-le n cs more few.0 k) (take-append-le m ss others short.0 k)
+    ∷ calls_of es (drop-append-le n cs more few.0 k) (drop-append-le m ss others short.0 k))
     ∙ ap (λ calls. call_of x cs ss ∷ calls)
-    (calls_same es (drop n cs) more (drop m ss) others (counts_rest x es cs c) (starts_rest x es ss s))
+    (calls_same es (drop n cs) more (drop m ss) others few.1 short.1)
 
 -- what comes after the first elements, and all of it
 taken_back : {X : Type 0} (n : ℕ) (first back : List X) (k : ℕ) → k ≡ length first → length back ≡ n →
@@ -104,125 +93,70 @@ length-calls [] cs ss = refl
 length-calls (x ∷ es) cs ss =
     ap suc (length-calls es (drop (counts_in x.event) cs) (drop (starts_in x.event) ss))
 
-pub all_counts-calls : (es : List Entry) (cs : List (List ℕ)) (ss : List Start) →
-    counts_taken es ≡ length cs → all_counts (calls_of es cs ss) ≡ length cs
-all_counts-calls [] cs ss whole = whole
-all_counts-calls (x ∷ es) cs ss whole =
+pub taken-calls : (es : List Entry) (cs : List (List ℕ)) (ss : List Start) →
+    counts_taken es ≡ length cs → starts_taken es ≡ length ss →
+    (all_counts (calls_of es cs ss) ≡ length cs) × (all_starts (calls_of es cs ss) ≡ length ss)
+taken-calls [] cs ss c s = (c, s)
+taken-calls (x ∷ es) cs ss c s =
     let n = counts_in x.event in
-    let rest = calls_of es (drop n cs) (drop (starts_in x.event) ss) in
-    let sum = sum_by-cons (λ (e : Entry). counts_in e.event) x es in
-    let long = length-drop n cs in
-    omega (
-      arith,
-      length-take-le n cs (omega arith),
-      sum_by-cons (λ (call : Kept). length call.counts) (call_of x cs ss) rest,
-      all_counts-calls es (drop n cs) (drop (starts_in x.event) ss) (omega arith),
+    let m = starts_in x.event in
+    let few = taken_parts counts_of x es cs (omega arith) in
+    let short = taken_parts starts_of x es ss (omega arith) in
+    let rest = calls_of es (drop n cs) (drop m ss) in
+    let after = taken-calls es (drop n cs) (drop m ss)
+    (omega (arith, sum_by-cons counts_of x es, length-drop n cs))
+    (omega (arith, sum_by-cons starts_of x es, length-drop m ss)) in (
+      omega (
+        arith,
+        few.0,
+        after.0,
+        length-drop n cs,
+        length-take-le n cs few.0,
+        sum_by-cons (λ (call : Kept). length call.counts) (call_of x cs ss) rest,
+      ),
+      omega (
+        arith,
+        short.0,
+        after.1,
+        length-drop m ss,
+        length-take-le m ss short.0,
+        sum_by-cons (λ (call : Kept). length call.starts) (call_of x cs ss) rest,
+      ),
     )
 
-pub all_starts-calls : (es : List Entry) (cs : List (List ℕ)) (ss : List Start) →
-    starts_taken es ≡ length ss → all_starts (calls_of es cs ss) ≡ length ss
-all_starts-calls [] cs ss whole = whole
-all_starts-calls (x ∷ es) cs ss whole =
-    let n = starts_in x.event in
-    let rest = calls_of es (drop (counts_in x.event) cs) (drop n ss) in
-    let sum = sum_by-cons (λ (e : Entry). starts_in e.event) x es in
-    let long = length-drop n ss in
-    omega (
-      arith,
-      length-take-le n ss (omega arith),
-      sum_by-cons (λ (call : Kept). length call.starts) (call_of x cs ss) rest,
-      all_starts-calls es (drop (counts_in x.event) cs) (drop n ss) (omega arith),
-    )
+-- What holds of the last entry's call alone, and of calls where it does without the first, holds of all.
+by_last : (P : List Kept → Type 0) (es : List Entry) (n : ℕ) (e : Entry) (cs : List (List ℕ))
+    (ss : List Start) → n ≡ length es - 1 → Some e ≡ slice_get es n →
+    ((counts : List (List ℕ)) (starts : List Start) → P (kept e.place e.event counts starts ∷ [])) →
+    ((call next : Kept) (calls : List Kept) → P (next ∷ calls) → P (call ∷ next ∷ calls)) →
+    P (calls_of es cs ss)
+by_last P [] n e cs ss len at alone more = absurd cc
+by_last P (x ∷ []) zero e cs ss len at alone more =
+    let same : e ≡ x = cc in
+    subst (λ (z : Entry). P (call_of z cs ss ∷ [])) same
+    (alone (take (counts_in e.event) cs) (take (starts_in e.event) ss))
+by_last P (x ∷ []) (suc n) e cs ss len at alone more = absurd (omega arith)
+by_last P (x ∷ y ∷ es) zero e cs ss len at alone more = absurd (omega arith)
+by_last P (x ∷ y ∷ es) (suc n) e cs ss len at alone more =
+    more (call_of x cs ss) _ _
+    (by_last P (y ∷ es) n e (drop (counts_in x.event) cs) (drop (starts_in x.event) ss) (omega arith) at alone
+    more)
 
--- the last of some entries
-length-less_one : {X : Type 0} (x : X) (xs : List X) → length (x ∷ xs) - 1 ≡ length xs
-length-less_one x xs = omega arith
-
-is_there : {X : Type 0} (x : X) (xs : List X) → slice_get (x ∷ xs) (length xs) ≡ None → ⊥
-is_there x [] e = absurd cc
-is_there x (y ∷ ys) e = is_there y ys e
-
--- the last entry, by its index, is the last call
-pub last_event-calls : (es : List Entry) (n : ℕ) (e : Entry) (cs : List (List ℕ)) (ss : List Start) →
-    n + 1 ≡ length es → slice_get es n ≡ Some e → last_event (calls_of es cs ss) ≡ Some e.event
-last_event-calls [] n e cs ss len at = absurd (omega arith)
-last_event-calls (x ∷ []) zero e cs ss len at = cc
-last_event-calls (x ∷ []) (suc n) e cs ss len at = absurd (omega arith)
-last_event-calls (x ∷ y ∷ es) zero e cs ss len at = absurd (omega arith)
-last_event-calls (x ∷ y ∷ es) (suc n) e cs ss len at =
-    last_event-calls (y ∷ es) n e (drop (counts_in x.event) cs) (drop (starts_in x.event) ss) (omega arith) at
-
-pub last_place-calls : (es : List Entry) (n : ℕ) (e : Entry) (cs : List (List ℕ)) (ss : List Start) →
-    n + 1 ≡ length es → slice_get es n ≡ Some e → last_place (calls_of es cs ss) ≡ e.place
-last_place-calls [] n e cs ss len at = absurd (omega arith)
-last_place-calls (x ∷ []) zero e cs ss len at = cc
-last_place-calls (x ∷ []) (suc n) e cs ss len at = absurd (omega arith)
-last_place-calls (x ∷ y ∷ es) zero e cs ss len at = absurd (omega arith)
-last_place-calls (x ∷ y ∷ es) (suc n) e cs ss len at =
-    last_place-calls (y ∷ es) n e (drop (counts_in x.event) cs) (drop (starts_in x.event) ss) (omega arith) at
-
--- it stands where the entry does
-abbrev pub IsAtPlace : List Event → Entry → Type 0
-IsAtPlace history e = event_at history e.place ≡ Some e.event
-
-pub stands-calls : (history : List Event) (es : List Entry) (n : ℕ) (e : Entry) (cs : List (List ℕ))
-    (ss : List Start) →
-    n + 1 ≡ length es → slice_get es n ≡ Some e →
-    (LastStands history (calls_of es cs ss) → IsAtPlace history e) × (IsAtPlace history e →
-    LastStands history (calls_of es cs ss))
-stands-calls history [] n e cs ss len at = absurd (omega arith)
-stands-calls history (x ∷ []) zero e cs ss len at =
-    let same : x ≡ e = cc in (subst (IsAtPlace history) same, subst (IsAtPlace history) (sym same))
-stands-calls history (x ∷ []) (suc n) e cs ss len at = absurd (omega arith)
-stands-calls history (x ∷ y ∷ es) zero e cs ss len at = absurd (omega arith)
-stands-calls history (x ∷ y ∷ es) (suc n) e cs ss len at =
-    stands-calls history (y ∷ es) n e (drop (counts_in x.event) cs) (drop (starts_in x.event) ss)
-    (omega arith) at
-
-pub last_event-is : (es : List Entry) (e : Entry) (cs : List (List ℕ)) (ss : List Start) →
-    slice_get es (length es - 1) ≡ Some e → last_event (calls_of es cs ss) ≡ Some e.event
-last_event-is [] e cs ss at = absurd cc
-last_event-is (x ∷ es) e cs ss at =
-    last_event-calls (x ∷ es) (length es) e cs ss (omega arith)
-    (sym (ap (slice_get (x ∷ es)) (length-less_one x es)) ∙ at)
-
-pub last_place-is : (es : List Entry) (e : Entry) (cs : List (List ℕ)) (ss : List Start) →
-    slice_get es (length es - 1) ≡ Some e → last_place (calls_of es cs ss) ≡ e.place
-last_place-is [] e cs ss at = absurd cc
-last_place-is (x ∷ es) e cs ss at =
-    last_place-calls (x ∷ es) (length es) e cs ss (omega arith)
-    (sym (ap (slice_get (x ∷ es)) (length-less_one x es)) ∙ at)
-
-pub stands-is : (history : List Event) (es : List Entry) (e : Entry) (cs : List (List ℕ)) (ss : List Start) →
-    slice_get es (length es - 1) ≡ Some e →
-    (LastStands history (calls_of es cs ss) → IsAtPlace history e) × (IsAtPlace history e →
-    LastStands history (calls_of es cs ss))
-stands-is history [] e cs ss at = absurd cc
-stands-is history (x ∷ es) e cs ss at =
-    stands-calls history (x ∷ es) (length es) e cs ss (omega arith)
-    (sym (ap (slice_get (x ∷ es)) (length-less_one x es)) ∙ at)
+-- so it holds of a hand's, whose list of entries was read
+pub of_last : (P : List Kept → Type 0) (es : List Entry) (cs : List (List ℕ)) (ss : List Start)
+    {e : Entry} {read : List Entry} {calls : List Kept} → calls_of es cs ss ≡ calls → read ≡ es →
+    Some e ≡ slice_get read (length read - 1) →
+    ((counts : List (List ℕ)) (starts : List Start) → P (kept e.place e.event counts starts ∷ [])) →
+    ((call next : Kept) (calls : List Kept) → P (next ∷ calls) → P (call ∷ next ∷ calls)) → P calls
+of_last P es cs ss {e = e} {read = read} are is at alone more =
+    subst P are (by_last P es (length es - 1) e cs ss refl
+    (subst (λ (l : List Entry). Some e ≡ slice_get l (length l - 1)) is at) alone more)
 
 -- a loop over entries, an entry on
-pub counts_step : (es : List Entry) (i : ℕ) (e : Entry) → i < length es → e ≡ get_or es i e →
-    counts_taken (take (i + 1) es) ≡ counts_taken (take i es) + counts_in e.event
-counts_step es i e lt is =
-    sum_by_more (λ (x : Entry). counts_in x.event) es i e lt
-    ∙ ap (λ (x : Entry). counts_taken (take i es) + counts_in x.event) (sym is)
-
-pub starts_step : (es : List Entry) (i : ℕ) (e : Entry) → i < length es → e ≡ get_or es i e →
-    starts_taken (take (i + 1) es) ≡ starts_taken (take i es) + starts_in e.event
-starts_step es i e lt is =
-    sum_by_more (λ (x : Entry). starts_in x.event) es i e lt
-    ∙ ap (λ (x : Entry). starts_taken (take i es) + starts_in x.event) (sym is)
-
-pub starts_within : (es : List Entry) (i : ℕ) (e : Entry) (n : ℕ) → i < length es → e ≡ get_or es i e →
-    starts_taken es ≤ n → starts_taken (take i es) + starts_in e.event ≤ n
-starts_within es i e n lt is le =
-    omega (
-      arith,
-      sum_by_more_le (λ (x : Entry). starts_in x.event) es i e lt,
-      ap (λ (x : Entry). starts_in x.event) is,
-    )
+pub taken_step : (f : Entry → ℕ) (es : List Entry) (i : ℕ) (e : Entry) → i < length es →
+    e ≡ get_or es i e → sum_by f (take (i + 1) es) ≡ sum_by f (take i es) + f e
+taken_step f es i e lt is =
+    sum_by_more f es i e lt ∙ ap (λ (x : Entry). sum_by f (take i es) + f x) (sym is)
 
 pub calls_step : (before : List Kept) (es : List Entry) (i : ℕ) (e : Entry) (cs : List (List ℕ))
     (ss : List Start) →
@@ -236,32 +170,26 @@ calls_step before es i e cs ss lt is =
     (take_more es i e lt ∙ ap (λ (x : Entry). take i es ++ x ∷ []) (sym is))
     ∙ calls_more (take i es) e cs ss))
 
+-- a hand by its parts
+abbrev pub hand_from : List Kept → Limits → Bool → Bool → HandValue
+hand_from calls room strange full = record { calls = calls; room = room; strange = strange; full = full }
+
 -- the room of a hand, by its fields
-pub has_room-is : (es : List Entry) (cs : List (List ℕ)) (ss : List Start) (room : Limits)
-    (strange full : Bool) (c s : ℕ) →
-    counts_taken es ≡ length cs → starts_taken es ≡ length ss →
-    has_room (record { calls = calls_of es cs ss; room = room; strange = strange; full = full }) c s
-    ≡ (nat_lt (length es) room.events && nat_le (length cs + c) room.sweeps && nat_le
-    (length ss + s) room.attempts)
-has_room-is es cs ss room strange full c s cw sw k =
-    nat_lt (length-calls es cs ss k) room.events
-    && nat_le (all_counts-calls es cs ss cw k + c) room.sweeps
-    && nat_le (all_starts-calls es cs ss sw k + s) room.attempts
+pub room_is : {es : List Entry} {cs : List (List ℕ)} {ss : List Start} {room : Limits} {hand : HandValue}
+    {strange full : Bool} (c s : ℕ) → hand_from (calls_of es cs ss) room strange full ≡ hand →
+    AreKept es cs ss room →
+    (nat_lt (length es) room.events && nat_le (length cs + c) room.sweeps
+    && nat_le (length ss + s) room.attempts)
+    ≡ has_room hand c s
+room_is {es = es} {cs = cs} {ss = ss} {room = room} c s view lists =
+    let taken = taken-calls es cs ss lists.counts_are lists.starts_are in
+    (λ k. nat_lt (sym (length-calls es cs ss) k) room.events && nat_le (sym taken.0 k + c) room.sweeps
+    && nat_le (sym taken.1 k + s) room.attempts)
+    ∙ ap (λ (v : HandValue). has_room v c s) view
 
 pub three_true : (a b c d e f : ℕ) → (nat_lt a b && nat_le c d && nat_le e f) ≡ true →
     (a < b) × (c ≤ d) × (e ≤ f)
 three_true a b c d e f all = (grind (arith, nat_tests), grind (arith, nat_tests), grind (arith, nat_tests))
-
-pub room_of : {es : List Entry} {cs : List (List ℕ)} {ss : List Start} {room : Limits} {strange full : Bool}
-    {hand : HandValue} (c s : ℕ) →
-    record { calls = calls_of es cs ss; room = room; strange = strange; full = full } ≡ hand →
-    AreKept es cs ss room →
-    has_room hand c s ≡ true → (length es < room.events) × (length cs + c ≤ room.sweeps)
-    × (length ss + s ≤ room.attempts)
-room_of {es = es} {cs = cs} {ss = ss} {room = room} {strange = strange} {full = full} c s view lists has =
-    three_true (length es) room.events (length cs + c) room.sweeps (length ss + s) room.attempts
-    (sym (has_room-is es cs ss room strange full c s lists.counts_are lists.starts_are)
-    ∙ ap (λ (v : HandValue). has_room v c s) view ∙ has)
 
 pub first_false : (a b c d e f : ℕ) → b ≤ a → false ≡ (nat_lt a b && nat_le c d && nat_le e f)
 first_false a b c d e f le = grind (arith, nat_tests)
@@ -277,33 +205,23 @@ pub third_is : (a b c d e f : ℕ) → a < b → c ≤ d → nat_le e f ≡ (nat
 third_is a b c d e f lt le = grind (arith, nat_tests)
 
 -- a call more, within the room
-pub kept_more : (es esNew : List Entry) (e : Entry) (cs csNew more : List (List ℕ))
-    (ss ssNew others : List Start) (room : Limits) →
-    esNew ≡ es ++ e ∷ [] → csNew ≡ cs ++ more → ssNew ≡ ss ++ others →
-    length more ≡ counts_in e.event → length others ≡ starts_in e.event → IsPlace e.place →
+taken_more : {X : Type 0} (f : Entry → ℕ) (es : List Entry) (e : Entry) (xs more : List X) →
+    sum_by f es ≡ length xs → length more ≡ f e → sum_by f (es ++ e ∷ []) ≡ length (xs ++ more)
+taken_more f es e xs more was is = omega (arith, sum_by_push f es e, length-append xs more)
+
+pub kept_more : {es : List Entry} {cs : List (List ℕ)} {ss : List Start} {room : Limits} (e : Entry)
+    (more : List (List ℕ)) (others : List Start) → length more ≡ counts_in e.event →
+    length others ≡ starts_in e.event → IsPlace e.place →
     (length es < room.events) × (length cs + counts_in e.event ≤ room.sweeps)
     × (length ss + starts_in e.event ≤ room.attempts) →
-    AreKept es cs ss room → AreKept esNew csNew ssNew room
-kept_more es esNew e cs csNew more ss ssNew others room is cis sis m o place fits old = record {
-  places = subst (All (λ (x : Entry). IsPlace x.place)) (sym is)
-      (All-push (λ (x : Entry). IsPlace x.place) es e old.places place);
-  counts_are = ap counts_taken is ∙ omega (
-    arith,
-    sum_by_push (λ (x : Entry). counts_in x.event) es e,
-    ap length cis,
-    length-append cs more,
-    old.counts_are,
-  );
-  starts_are = ap starts_taken is ∙ omega (
-    arith,
-    sum_by_push (λ (x : Entry). starts_in x.event) es e,
-    ap length sis,
-    length-append ss others,
-    old.starts_are,
-  );
-  few_events = omega (arith, ap length is, length-append es (e ∷ []), fits.0);
-  few_counts = omega (arith, ap length cis, length-append cs more, fits.1);
-  few_starts = omega (arith, ap length sis, length-append ss others, fits.2);
+    AreKept es cs ss room → AreKept (es ++ e ∷ []) (cs ++ more) (ss ++ others) room
+kept_more {es = es} {cs = cs} {ss = ss} e more others m o place fits old = record {
+  places = All-push (λ (x : Entry). IsPlace x.place) es e old.places place;
+  counts_are = taken_more counts_of es e cs more old.counts_are m;
+  starts_are = taken_more starts_of es e ss others old.starts_are o;
+  few_events = omega (arith, length-append es (e ∷ []), fits.0);
+  few_counts = omega (arith, length-append cs more, fits.1);
+  few_starts = omega (arith, length-append ss others, fits.2);
 }
 
 -- the call at the place of an event
@@ -318,16 +236,12 @@ abbrev pub first_starts : List Kept → List Start
 first_starts [] = []
 first_starts (call ∷ calls) = call.starts
 
--- a hand by its parts
-abbrev pub hand_from : List Kept → Limits → Bool → Bool → HandValue
-hand_from calls room strange full = record { calls = calls; room = room; strange = strange; full = full }
-
 -- the calls of a hand, by its entries, and of others
-pub length-all_calls : (hands others : List HandValue) (hand : HandValue) →
-    (es : List Entry) (cs : List (List ℕ)) (ss : List Start) →
+pub length-all_calls : {hands others : List HandValue} {hand : HandValue} (es : List Entry)
+    (cs : List (List ℕ)) (ss : List Start) →
     hands ≡ hand ∷ others → calls_of es cs ss ≡ hand.calls →
     length (all_calls hands) ≡ length es + length (all_calls others)
-length-all_calls hands others hand es cs ss is its =
+length-all_calls {others = others} {hand = hand} es cs ss is its =
     omega (
       arith,
       ap (λ hs. length (all_calls hs)) is,

@@ -35,11 +35,6 @@ just_one f [] k lt = absurd (omega arith)
 just_one f (x ∷ xs) zero lt = refl
 just_one f (x ∷ xs) (suc k) lt = just_one f xs k (omega arith)
 
-pub some_call : (log : LogValue) (place : ℕ) → 1 ≤ place → place ≤ length log.history →
-    length (call_at log place) ≡ 1
-some_call log zero le within = absurd (omega arith)
-some_call log (suc k) le within = just_one _ log.history k (omega arith)
-
 pub no_call : (log : LogValue) (place : ℕ) → length log.history < place → call_at log place ≡ []
 no_call log zero past = absurd (omega arith)
 no_call log (suc k) past =
@@ -91,7 +86,20 @@ pub marks_more : (log : LogValue) (before : List Kept) (call : Kept) (found : Li
     old ≡ get_or found place old → Marks log before found →
     Marks log (before ++ call ∷ []) (set found place (found_more old r))
 marks_more log before call found place r old size small is right was marks =
-    record { each = each; past = past }
+    record {
+      each = λ p d lt. elim (ℕ_discrete p place) [
+        | yes e ↦
+            subst (λ q. Describes (get_or (set found place (found_more old r)) q d)
+            (at_place q (before ++ call ∷ [])) (call_at log q)) (sym e) (here d)
+        | no other ↦
+            subst (λ (f : Found). Describes f (at_place p (before ++ call ∷ [])) (call_at log p))
+            (sym (get_or-set_other found place p (found_more old r) d other))
+            (subst (λ (l : List Kept). Describes (get_or found p d) l (call_at log p))
+            (sym (at_same p before call (λ q. other (sym q ∙ is))))
+            (marks.each p d lt))
+      ];
+      past = λ p le. at_same p before call (λ q. absurd (omega (arith, q, is))) ∙ marks.past p le;
+    }
   where
     here : (d : Found) → Describes (get_or (set found place (found_more old r)) place d)
         (at_place place (before ++ call ∷ [])) (call_at log place)
@@ -104,48 +112,18 @@ marks_more log before call found place r old size small is right was marks =
         (subst (λ (f : Found). Describes f (at_place place before) (call_at log place)) (sym was)
         (marks.each place old (omega arith)))))
 
-    cases : (p : ℕ) (d : Found) → p < PLACES → Dec (p ≡ place) →
-        Describes (get_or (set found place (found_more old r)) p d) (at_place p (before ++ call ∷ []))
-        (call_at log p)
-    cases p d lt (yes e) =
-        subst (λ q. Describes (get_or (set found place (found_more old r)) q d)
-        (at_place q (before ++ call ∷ []))
-        (call_at log q)) (sym e) (here d)
-    cases p d lt (no other) =
-        subst (λ (f : Found). Describes f (at_place p (before ++ call ∷ [])) (call_at log p))
-        (sym (get_or-set_other found place p (found_more old r) d other))
-        (subst (λ (l : List Kept). Describes (get_or found p d) l (call_at log p))
-        (sym (at_same p before call (λ q. other (sym q ∙ is))))
-        (marks.each p d lt))
-
-    each : (p : ℕ) (d : Found) → p < PLACES →
-        Describes (get_or (set found place (found_more old r)) p d) (at_place p (before ++ call ∷ []))
-        (call_at log p)
-    each p d lt = cases p d lt (ℕ_discrete p place)
-
-    past : (p : ℕ) → PLACES ≤ p → at_place p (before ++ call ∷ []) ≡ []
-    past p le = at_same p before call (λ q. absurd (omega (arith, q, is))) ∙ marks.past p le
-
 -- what was found is right where the calls are those that are wanted, and nowhere else
-once_told : (f : Found) (calls ws : List Kept) → length ws ≡ 1 → f ≡ Once → Describes f calls ws → calls ≡ ws
-once_told Nowhere calls ws one is says = absurd (cc is)
-once_told Once calls ws one is says = says.0
-once_told Wrong calls ws one is says = absurd (cc is)
+once_is : (f : Found) (calls ws : List Kept) → length ws ≡ 1 → Describes f calls ws →
+    (f ≡ Once) ↔ (calls ≡ ws)
+once_is Nowhere calls ws one says =
+    (λ e. absurd (cc e), λ e. absurd (omega (arith, ap length (sym e ∙ says))))
+once_is Once calls ws one says = (λ e. says.0, λ e. refl)
+once_is Wrong calls ws one says = (λ e. absurd (cc e), λ e. absurd (says.1 e))
 
-told_once : (f : Found) (calls ws : List Kept) → length ws ≡ 1 → calls ≡ ws → Describes f calls ws → f ≡ Once
-told_once Nowhere calls ws one is says = absurd (omega (arith, ap length (sym is ∙ says)))
-told_once Once calls ws one is says = refl
-told_once Wrong calls ws one is says = absurd (says.1 is)
-
-nowhere_none : (f : Found) (calls : List Kept) → f ≡ Nowhere → Describes f calls [] → calls ≡ []
-nowhere_none Nowhere calls is says = says
-nowhere_none Once calls is says = absurd (cc is)
-nowhere_none Wrong calls is says = absurd (cc is)
-
-none_nowhere : (f : Found) (calls : List Kept) → calls ≡ [] → Describes f calls [] → f ≡ Nowhere
-none_nowhere Nowhere calls is says = refl
-none_nowhere Once calls is says = absurd (omega (arith, says.1))
-none_nowhere Wrong calls is says = absurd (says.0 is)
+nowhere_is : (f : Found) (calls : List Kept) → Describes f calls [] → (f ≡ Nowhere) ↔ (calls ≡ [])
+nowhere_is Nowhere calls says = (λ e. says, λ e. refl)
+nowhere_is Once calls says = (λ e. absurd (cc e), λ e. absurd (omega (arith, says.1)))
+nowhere_is Wrong calls says = (λ e. absurd (cc e), λ e. absurd (says.0 e))
 
 wanted_in : (events place : ℕ) → 1 ≤ place → place ≤ events → wanted events place ≡ Once
 wanted_in events place low high = grind (arith, nat_tests)
@@ -153,100 +131,57 @@ wanted_in events place low high = grind (arith, nat_tests)
 wanted_past : (events place : ℕ) → events < place → wanted events place ≡ Nowhere
 wanted_past events place past = grind (arith, nat_tests)
 
--- where a place stands: before the first event, at one, or after the last
-data Where (events place : ℕ) : Type 0 where
-  Before : place ≡ 0 → Where events place
-  At : 1 ≤ place → place ≤ events → Where events place
-  After : events < place → Where events place
-
-where_is : (events place : ℕ) → Where events place
-where_is events zero = Before refl
-where_is events (suc k) = cases (dec_le (suc k) events)
-  where
-    cases : Dec (suc k ≤ events) → Where events (suc k)
-    cases (yes le) = At (omega arith) le
-    cases (no more) = After (omega arith)
-
 -- the place is told exactly where what was found is wanted
-told_at : (log : LogValue) (calls : List Kept) (f : Found) (place : ℕ) → Where (length log.history) place →
+told_at : (log : LogValue) (calls : List Kept) (f : Found) (place : ℕ) →
     Describes f (at_place place calls) (call_at log place) →
     (f ≡ wanted (length log.history) place) ↔ (at_place place calls ≡ call_at log place)
-told_at log calls f place (Before is) says = at_zero place is says
-  where
-    at_zero : (p : ℕ) → p ≡ 0 → Describes f (at_place p calls) (call_at log p) →
-        (f ≡ wanted (length log.history) p) ↔ (at_place p calls ≡ call_at log p)
-    at_zero zero is says =
-        (λ e. nowhere_none f (at_place 0 calls) e says, λ e. none_nowhere f (at_place 0 calls) e says)
-    at_zero (suc k) is says = absurd (omega arith)
-told_at log calls f place (At low high) says =
-    let one = some_call log place low high in
-    let is = wanted_in (length log.history) place low high in (
-      λ e. once_told f (at_place place calls) (call_at log place) one (e ∙ is) says,
-      λ e. told_once f (at_place place calls) (call_at log place) one e says ∙ sym is,
-    )
-told_at log calls f place (After past) says =
-    let none = no_call log place past in
-    let is = wanted_past (length log.history) place past in
-    let said = subst (λ (l : List Kept). Describes f (at_place place calls) l) none says in (
-      λ e. nowhere_none f (at_place place calls) (e ∙ is) said ∙ sym none,
-      λ e. none_nowhere f (at_place place calls) (e ∙ none) said ∙ sym is,
-    )
+told_at log calls f zero says = nowhere_is f (at_place 0 calls) says
+told_at log calls f (suc k) says = elim (dec_le (suc k) (length log.history)) [
+  | yes within ↦
+      rw (wanted_in (length log.history) (suc k) (omega arith) within)
+      (once_is f (at_place (suc k) calls) (call_at log (suc k)) (just_one _ log.history k within) says)
+  | no past ↦
+      let none = no_call log (suc k) (omega arith) in
+      rw (wanted_past (length log.history) (suc k) (omega arith), none)
+      (nowhere_is f (at_place (suc k) calls)
+      (subst (λ (l : List Kept). Describes f (at_place (suc k) calls) l) none says))
+]
 
--- so it holds exactly where it is right
-pub right_holds : (log : LogValue) (short notes : Bool) (hands : List HandValue) (found : List Found)
-    (place : ℕ) →
-    place < PLACES → Marks log (all_calls hands) found → (IsTrue notes ↔ All (AreTrue short) hands) →
-    IsRight (length log.history) notes found place → AgreesAt log short hands place
-right_holds log short notes hands found place lt marks true_notes right = record {
-  told = (told_at log (all_calls hands) (get_or found place Nowhere) place
-      (where_is (length log.history) place)
-      (marks.each place Nowhere lt)).0 (right Nowhere).seen;
-  notes = λ last. true_notes.0 ((right Nowhere).noted last);
-}
+module _ (log : LogValue) (short notes : Bool) (hands : List HandValue) (found : List Found)
+    (few : length log.history ≤ 65536) (marks : Marks log (all_calls hands) found)
+    (true_notes : IsTrue notes ↔ All (AreTrue short) hands) where
+  -- so it holds exactly where it is right
+  right_is : (place : ℕ) → place < PLACES →
+      IsRight (length log.history) notes found place ↔ AgreesAt log short hands place
+  right_is place lt =
+      let told : (d : Found) → (get_or found place d ≡ wanted (length log.history) place)
+      ↔ (at_place place (all_calls hands) ≡ call_at log place) =
+      λ d. told_at log (all_calls hands) (get_or found place d) place (marks.each place d lt) in (
+        λ right. record {
+          told = (told Nowhere).0 (right Nowhere).seen;
+          notes = λ last. true_notes.0 ((right Nowhere).noted last);
+        },
+        λ holds d. record { seen = (told d).1 holds.told; noted = λ last. true_notes.1 (holds.notes last) },
+      )
 
-pub holds_right : (log : LogValue) (short notes : Bool) (hands : List HandValue) (found : List Found)
-    (place : ℕ) →
-    place < PLACES → Marks log (all_calls hands) found → (IsTrue notes ↔ All (AreTrue short) hands) →
-    AgreesAt log short hands place → IsRight (length log.history) notes found place
-holds_right log short notes hands found place lt marks true_notes holds d = record {
-  seen = (told_at log (all_calls hands) (get_or found place d) place (where_is (length log.history) place)
-      (marks.each place d lt)).1 holds.told;
-  noted = λ last. true_notes.1 (holds.notes last);
-}
+  -- past all places nothing is told, and nothing is asked for
+  all_hold : ((p : ℕ) → p < PLACES → IsRight (length log.history) notes found p) → (place : ℕ) →
+      AgreesAt log short hands place
+  all_hold all place = elim (dec_le PLACES place) [
+    | yes past ↦ record {
+      told = marks.past place past ∙ sym (no_call log place (omega arith));
+      notes = λ last. absurd (omega arith);
+    }
+    | no within ↦ let lt : place < PLACES = omega arith in (right_is place lt).0 (all place lt)
+  ]
 
--- past all places nothing is told, and nothing is asked for
-pub past_holds : (log : LogValue) (short : Bool) (hands : List HandValue) (found : List Found) (place : ℕ) →
-    length log.history ≤ 65536 → PLACES ≤ place → Marks log (all_calls hands) found →
-    AgreesAt log short hands place
-past_holds log short hands found place few past marks = record {
-  told = marks.past place past ∙ sym (no_call log place (omega arith));
-  notes = λ last. absurd (omega arith);
-}
-
-all_hold : (log : LogValue) (short notes : Bool) (hands : List HandValue) (found : List Found) (place : ℕ) →
-    length log.history ≤ 65536 → Marks log (all_calls hands) found →
-    (IsTrue notes ↔ All (AreTrue short) hands) →
-    ((p : ℕ) → p < PLACES → IsRight (length log.history) notes found p) → Dec (PLACES ≤ place) →
-    AgreesAt log short hands place
-all_hold log short notes hands found place few marks true_notes all (yes past) =
-    past_holds log short hands found place few past marks
-all_hold log short notes hands found place few marks true_notes all (no within) =
-    let lt : place < PLACES = omega arith in
-    right_holds log short notes hands found place lt marks true_notes (all place lt)
-
-pub lowest_torn : (log : LogValue) (short notes : Bool) (hands : List HandValue) (found : List Found)
-    (torn : Option ℕ) →
-    length log.history ≤ 65536 → Marks log (all_calls hands) found →
-    (IsTrue notes ↔ All (AreTrue short) hands) →
-    IsFirstWrong (length log.history) notes found torn →
-    IsLowestTorn log short hands torn
-lowest_torn log short notes hands found None few marks true_notes all =
-    λ place. all_hold log short notes hands found place few marks true_notes all (dec_le PLACES place)
-lowest_torn log short notes hands found (Some t) few marks true_notes is = (
-  λ holds. is.1 (holds_right log short notes hands found t is.0 marks true_notes holds),
-  λ place lt. right_holds log short notes hands found place (omega (arith, is.0)) marks true_notes
-      (is.2 place lt),
-)
+  pub lowest_torn : (torn : Option ℕ) → IsFirstWrong (length log.history) notes found torn →
+      IsLowestTorn log short hands torn
+  lowest_torn None all = all_hold all
+  lowest_torn (Some t) is = (
+    λ holds. is.1 ((right_is t is.0).1 holds),
+    λ place lt. (right_is place (omega (arith, is.0))).0 (is.2 place lt),
+  )
 
 -- a table in which nothing was found
 pub marks_none : (log : LogValue) (found : List Found) →
@@ -260,10 +195,9 @@ marks_none log found none = record {
 pub right_more : (events : ℕ) (notes : Bool) (found : List Found) (n : ℕ) → n < length found →
     IsAsWanted events notes (get_or found n Nowhere) n → ((p : ℕ) → p < n → IsRight events notes found p) →
     (p : ℕ) → p < n + 1 → IsRight events notes found p
-right_more events notes found n within here before p lt d = cases (ℕ_discrete p n)
-  where
-    cases : Dec (p ≡ n) → IsAsWanted events notes (get_or found p d) p
-    cases (yes e) =
-        subst (λ q. IsAsWanted events notes (get_or found q d) q) (sym e)
-        (subst (λ (f : Found). IsAsWanted events notes f n) (get_or_default found n Nowhere d within) here)
-    cases (no other) = before p (omega arith) d
+right_more events notes found n within here before p lt d = elim (ℕ_discrete p n) [
+  | yes e ↦
+      subst (λ q. IsAsWanted events notes (get_or found q d) q) (sym e)
+      (subst (λ (f : Found). IsAsWanted events notes f n) (get_or_default found n Nowhere d within) here)
+  | no other ↦ before p (omega arith) d
+]

@@ -5,17 +5,15 @@ use Rattle.hand_ledger.proofs.making.+audit_beside.Goals as goal
 pub returns-clause-bound : goal.returns-clause-bound
 returns-clause-bound g t c =
     let kept = c.hand.inside in
-    let all = length-all_calls c.args.hands.now c.in-Some.others.now c.in-Some.hand.now
-    kept.entries.items kept.counts.items kept.starts.items c.in-Some.ensures.cases.0
-    (ap (λ h. h.calls) c.hand.view_is) in
+    let all = length-all_calls kept.entries.items kept.counts.items kept.starts.items
+    c.in-Some.ensures.cases.0 (ap (λ h. h.calls) c.hand.view_is) in
     omega (arith, all, c.len-kept.ensures, c.give.ensures.amount_given, c.audit_beside.ensures.bound)
 
 pub returns-clause-whole : goal.returns-clause-whole
 returns-clause-whole g t c whole =
     let kept = c.hand.inside in
-    let all = length-all_calls c.args.hands.now c.in-Some.others.now c.in-Some.hand.now
-    kept.entries.items kept.counts.items kept.starts.items c.in-Some.ensures.cases.0
-    (ap (λ h. h.calls) c.hand.view_is) in
+    let all = length-all_calls kept.entries.items kept.counts.items kept.starts.items
+    c.in-Some.ensures.cases.0 (ap (λ h. h.calls) c.hand.view_is) in
     omega (
       arith,
       all,

@@ -2,7 +2,7 @@ use Rattle.std.proofs.Common.{List, [], ◌∷◌, ◌++◌, take, drop, refl, a
 use Rattle.hand_ledger.specs.Hands.{Kept, kept}
 use Rattle.hand_ledger.specs.Inside.{calls_of}
 use Rattle.hand_ledger.specs.Marks.{Marks}
-use Rattle.hand_ledger.proofs.Calls.{counts_step, starts_step, calls_step}
+use Rattle.hand_ledger.proofs.Calls.{counts_of, starts_of, taken_step, calls_step}
 use Rattle.hand_ledger.proofs.marks.mark_all.Goals as goal
 
 pub loop-entry-preserved : goal.loop-entry-preserved
@@ -19,13 +19,13 @@ loop-entry-preserved c =
         arith,
         kept_so.counts,
         c.counts_in-new_counts.ensures,
-        counts_step es i e c.loop-entry-test.true c.entry-item.is,
+        taken_step counts_of es i e c.loop-entry-test.true c.entry-item.is,
       );
       starts = omega (
         arith,
         kept_so.starts,
         c.starts_in-new_starts.ensures.value,
-        starts_step es i e c.loop-entry-test.true c.entry-item.is,
+        taken_step starts_of es i e c.loop-entry-test.true c.entry-item.is,
       );
       marks = λ before m.
           subst (λ (l : List Kept). Marks c.args.log.now l c.mark.new.found)

@@ -11,9 +11,9 @@ returns g c =
     let found = c.loop-hand.found in
     let log = c.args.log.now in
     let hands = c.args.hands.now in
-    lowest_torn log c.args.is_short c.are_true.result hands found c.first_wrong.result c.requires
+    lowest_torn log c.args.is_short c.are_true.result hands found c.requires
     (subst (λ (l : List HandValue). Marks log (all_calls l) found)
     (take_all c.loop-hand.hand-index hands c.loop-hand-test.false) c.loop-hand.invariant.1)
-    c.are_true.ensures
+    c.are_true.ensures c.first_wrong.result
     (subst (λ (n : ℕ). IsFirstWrong n c.are_true.result found c.first_wrong.result)
     (ap (λ (l : LogValue). length l.history) c.log.view_is) c.first_wrong.ensures)

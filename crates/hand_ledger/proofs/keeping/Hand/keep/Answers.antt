@@ -2,7 +2,7 @@ use Rattle.std.proofs.Common.{◌≡◌, ◌+◌, ◌<◌, ◌≤◌, length, Li
 use Rattle.hand_ledger.specs.Hands.{HandValue, Kept, kept, counts_in, starts_in, with_call}
 use Rattle.hand_ledger.specs.declared.keeping.Entry.{Entry}
 use Rattle.hand_ledger.specs.Inside.{calls_of}
-use Rattle.hand_ledger.proofs.Calls.{room_of, kept_more, calls_kept, hand_from}
+use Rattle.hand_ledger.proofs.Calls.{three_true, room_is, kept_more, calls_kept, hand_from}
 use Rattle.hand_ledger.proofs.keeping.Hand.keep.Given.{Over}
 use Rattle.hand_ledger.proofs.keeping.Hand.keep.Goals.{After-add}
 use Rattle.hand_ledger.proofs.keeping.Hand.keep.Goals as goal
@@ -12,8 +12,9 @@ fits : (g : Over) (c : After-add g) →
     × (length c.self.inside.counts.items + counts_in c.args.event.now ≤ c.self.inside.room.sweeps)
     × (length c.self.inside.starts.items + starts_in c.args.event.now ≤ c.self.inside.room.attempts)
 fits g c =
-    room_of (counts_in c.args.event.now) (starts_in c.args.event.now) c.self.view_is c.self.invariant.2
-    c.requires.room
+    three_true _ _ _ _ _ _
+    (room_is (counts_in c.args.event.now) (starts_in c.args.event.now) c.self.view_is c.self.invariant.2
+    ∙ c.requires.room)
 
 pub push_reserved-requires : goal.push_reserved-requires
 push_reserved-requires g c =
@@ -43,13 +44,10 @@ invariant_of-self g c =
         h.entries.ok.0,
         c.push_reserved.new.self.ok.0,
       ),
-      kept_more h.entries.items c.push_reserved.new.self.items
-          (record { place = c.args.place; event = c.args.event.now })
-          h.counts.items c.add_all.new.list.items c.args.counts.now
-          h.starts.items c.add_all-2.new.list.items c.args.starts.now h.room
-          c.push_reserved.ensures.items c.add_all.ensures.items c.add_all-2.ensures.items
-          c.requires.counts c.requires.starts c.requires.place
-          (fits g (goal.at.invariant_of-self g c).After-add) inv.2,
+      rw (c.push_reserved.ensures.items, c.add_all.ensures.items, c.add_all-2.ensures.items)
+          (kept_more (record { place = c.args.place; event = c.args.event.now }) c.args.counts.now
+          c.args.starts.now c.requires.counts c.requires.starts c.requires.place
+          (fits g (goal.at.invariant_of-self g c).After-add) inv.2),
       omega (arith, c.push_reserved.ensures.capacity, inv.3),
       omega (arith, c.add_all.ensures.capacity, inv.4),
       omega (arith, c.add_all-2.ensures.capacity, inv.5),

@@ -1,15 +1,11 @@
-use Rattle.std.proofs.Common.{◌≡◌, Some, List, length, ◌-◌, ap, sym, subst, ◌∙◌}
-use Rattle.std.specs.Prelude.{slice_get}
-use Rattle.hand_ledger.specs.declared.keeping.Entry.{Entry}
-use Rattle.hand_ledger.specs.Hands.{HandValue, last_event}
-use Rattle.hand_ledger.proofs.Calls.{last_event-is}
+use Rattle.std.proofs.Common.{◌≡◌, Some, List, ap, refl}
+use Rattle.hand_ledger.specs.Hands.{HandValue, Kept, last_event}
+use Rattle.hand_ledger.proofs.Calls.{of_last}
 use Rattle.hand_ledger.proofs.keeping.Hand.last.Goals as goal
 
 pub returns : goal.returns
 returns g c =
     let h = c.self.inside in
-    let e = c.in_ok-entry.entry.now in
-    let at = sym c.in_ok-entry.ensures.value in
-    sym (ap (λ (v : HandValue). last_event v.calls) (sym c.self.view_is)
-    ∙ last_event-is h.entries.items e h.counts.items h.starts.items
-    (subst (λ (l : List Entry). slice_get l (length l - 1) ≡ Some e) c.deref.ensures.value at))
+    of_last (λ (calls : List Kept). Some c.in_ok-entry.entry.now.event ≡ last_event calls) h.entries.items
+    h.counts.items h.starts.items (ap (λ (v : HandValue). v.calls) c.self.view_is) c.deref.ensures.value
+    c.in_ok-entry.ensures.value (λ counts starts. refl) (λ call next calls is. is)

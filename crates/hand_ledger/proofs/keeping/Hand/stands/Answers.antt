@@ -1,9 +1,8 @@
-use Rattle.std.proofs.Common.{◌≡◌, Some, List, length, ◌-◌, ap, sym, subst, ◌∙◌}
-use Rattle.std.specs.Prelude.{◌↔◌, slice_get}
-use Rattle.hand_ledger.specs.declared.keeping.Entry.{Entry}
-use Rattle.hand_ledger.specs.Hands.{HandValue}
+use Rattle.std.proofs.Common.{◌≡◌, Some, List, ap, sym, ◌∙◌}
+use Rattle.std.specs.Prelude.{◌↔◌}
+use Rattle.hand_ledger.specs.Hands.{HandValue, Kept}
 use Rattle.hand_ledger.specs.Settling.{LastStands, event_at}
-use Rattle.hand_ledger.proofs.Calls.{stands-is}
+use Rattle.hand_ledger.proofs.Calls.{of_last}
 use Rattle.hand_ledger.proofs.keeping.Hand.stands.Given.{Over}
 use Rattle.hand_ledger.proofs.keeping.Hand.stands.Goals.{After-event_at}
 use Rattle.hand_ledger.proofs.keeping.Hand.stands.Goals as goal
@@ -16,10 +15,10 @@ same g c =
     let h = c.self.inside in
     let e = c.in-Some.entry.now in
     let history = c.args.history.now in
-    let at = subst (λ (l : List Entry). slice_get l (length l - 1) ≡ Some e) c.deref.ensures.value
-    (sym c.in-Some.ensures.value) in
-    subst (λ (v : HandValue). LastStands history v.calls ↔ (event_at history e.place ≡ Some e.event))
-    c.self.view_is (stands-is history h.entries.items e h.counts.items h.starts.items at)
+    of_last (λ (calls : List Kept). LastStands history calls ↔ (event_at history e.place ≡ Some e.event))
+    h.entries.items h.counts.items h.starts.items (ap (λ (v : HandValue). v.calls) c.self.view_is)
+    c.deref.ensures.value c.in-Some.ensures.value (λ counts starts. (λ is. is, λ is. is))
+    (λ call next calls is. is)
 
 pub returns-in-None : goal.returns-in-None
 returns-in-None g c = (
