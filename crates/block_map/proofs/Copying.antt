@@ -1,12 +1,9 @@
 -- The worker to which a split is copied.
-use Rattle.std.proofs.Common.{◌≡◌, ℕ, ◌+◌, ◌<◌, ◌≤◌, Bool, true, false, List, length, get_or, take, Option}
+use Rattle.std.proofs.Common.{◌≡◌, ℕ, ◌+◌, ◌<◌, ◌≤◌, true, false, List, get_or, Option}
 use Rattle.std.proofs.Common.{Some, None, ◌⊎◌, inl, inr, sym, ap, ◌∙◌, subst, arith, replicate}
-use Rattle.std.proofs.Common.{get_or-set_same, get_or-set_other}
-use Rattle.std.proofs.Math.ListN.{set}
-use Rattle.std.specs.Prelude.{◌==◌, MatchOption, slice_index}
-use Rattle.std.proofs.lemmas.Bool.{cases_lt, cases_eq, false≢true, eq-eqb, ne_eqb}
+use Rattle.std.specs.Prelude.{MatchOption, slice_index}
+use Rattle.std.proofs.lemmas.Bool.{cases_lt, false≢true}
 use Rattle.std.proofs.lemmas.List.{get_or-replicate, get_or_past, length-replicate}
-use Rattle.std.proofs.lemmas.List.Sums.{count_by_more_yes, count_by_more_no}
 use Rattle.rack_tree.specs.Tree.{Tree}
 use Rattle.block_map.specs.Copies.{Holdings, IsNoWorse, may_hold, replicas_at, replicas_beside, replicas_in}
 use Rattle.block_map.specs.Holdings.{holders_of}
@@ -117,24 +114,3 @@ counted_none n rack = elim (cases_lt rack n) [
   | inl inside ↦ get_or-replicate n rack 0 0 inside
   | inr past ↦ get_or_past (replicate n 0) rack 0 (rw length-replicate past)
 ]
-
--- and after one holder more, in the rack r
-pub counted_more : (counts holders : List ℕ) (tree : Tree) (i r holder : ℕ) → i < length holders →
-    holder ≡ get_or holders i holder → r ≡ slice_index tree.rack_of holder → r < length counts →
-    ((rack : ℕ) → get_or counts rack 0 ≡ replicas_in tree rack (take i holders)) → (rack : ℕ) →
-    get_or (set counts r (get_or counts r 0 + 1)) rack 0 ≡ replicas_in tree rack (take (i + 1) holders)
-counted_more counts holders tree i r holder inside here at room counted rack =
-    let is_in : ℕ → Bool = λ h. slice_index tree.rack_of h == rack in
-    let is : slice_index tree.rack_of (get_or holders i holder) ≡ r =
-    ap (slice_index tree.rack_of) (sym here) ∙ sym at in
-    let more : List ℕ = set counts r (get_or counts r 0 + 1) in
-    elim (cases_eq rack r) [
-      | inl same ↦
-          let one_more : get_or more r 0 ≡ get_or counts r 0 + 1 = get_or-set_same counts r _ 0 room in
-          ap (λ (k : ℕ). get_or more k 0) same ∙ one_more
-          ∙ ap (λ (k : ℕ). k + 1) (ap (λ (k : ℕ). get_or counts k 0) (sym same) ∙ counted rack)
-          ∙ sym (count_by_more_yes is_in holders i holder inside (eq-eqb _ rack (is ∙ sym same)))
-      | inr other ↦
-          get_or-set_other counts r rack _ 0 other ∙ counted rack
-          ∙ sym (count_by_more_no is_in holders i holder inside (ne_eqb _ rack (λ e. other (sym e ∙ is))))
-    ]

@@ -1,15 +1,15 @@
 -- The copies of the splits below a number, one split after another.
-use Rattle.std.proofs.Common.{◌≡◌, ℕ, ◌+◌, ◌<◌, ◌≤◌, List, [], ◌∷◌, ◌++◌, length, map, All, ap, ◌∙◌, subst}
+use Rattle.std.proofs.Common.{◌≡◌, ℕ, ◌+◌, ◌<◌, List, [], ◌∷◌, ◌++◌, length, map, All, ap, ◌∙◌, subst}
 use Rattle.std.proofs.Common.{arith, get_or, inl, inr}
 use Rattle.std.specs.Prelude.{Contains}
 use Rattle.std.specs.List.Sorted.{IsStrictlyIncreasing}
 use Rattle.std.proofs.Math.ListN.{get_or-append}
 use Rattle.std.proofs.Math.Seq.{get_or-append_seam}
 use Rattle.std.proofs.lemmas.Bool.{cases_lt}
-use Rattle.std.proofs.lemmas.List.{length-append, map-append, get_or_past}
+use Rattle.std.proofs.lemmas.List.{length-append, map-append}
 use Rattle.std.proofs.lemmas.List.Elements.{All-push, Contains-append_left, Contains-push}
 use Rattle.block_map.specs.declared.CopyOrder.{CopyOrder}
-use Rattle.block_map.specs.Copies.{AreCopies, Holdings, IsCopy, WantsCopy}
+use Rattle.block_map.specs.Copies.{Holdings, IsCopy, WantsCopy}
 
 -- the copies of the splits below n
 pub record AreCopiesBelow (h : Holdings) (n : ℕ) (orders : List CopyOrder) : Type 0 where
@@ -33,14 +33,6 @@ rising-push xs n rising below k inside =
           let right = ap (λ (j : ℕ). get_or (xs ++ n ∷ []) j 0) at ∙ get_or-append_seam xs n [] 0 in
           omega (arith, left, right, below k 0 here)
     ]
-
-pub copies_none : (h : Holdings) → AreCopiesBelow h 0 []
-copies_none h = record {
-  rising = λ k inside. absurd (omega (arith, inside));
-  each = λ k d inside. absurd (omega (arith, inside));
-  below = λ k d inside. absurd (omega (arith, inside));
-  all = λ s past. absurd (omega (arith, past));
-}
 
 -- the split n wants a copy
 pub copies_push : (h : Holdings) (n : ℕ) (orders : List CopyOrder) (order : CopyOrder) →
@@ -75,20 +67,5 @@ copies_skip h n orders copies none = record {
     | inr here ↦
         let same : s ≡ n = omega (arith, below, here) in
         absurd (none (subst (WantsCopy h) same wants))
-  ];
-}
-
--- past the last split there is none
-pub copies_all : (h : Holdings) (n : ℕ) (orders : List CopyOrder) → length h.lists ≤ n →
-    AreCopiesBelow h n orders → AreCopies h orders
-copies_all h n orders last copies = record {
-  rising = copies.rising;
-  each = copies.each;
-  all = λ s wants. elim (cases_lt s n) [
-    | inl before ↦ copies.all s before wants
-    | inr past ↦
-        let off : length h.lists ≤ s = omega (arith, last, past) in
-        let empty = ap (λ (holders : List ℕ). length holders) (get_or_past h.lists s [] off) in
-        absurd (omega (arith, empty, wants.held))
   ];
 }

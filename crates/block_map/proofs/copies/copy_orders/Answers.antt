@@ -1,15 +1,10 @@
-use Rattle.std.proofs.Common.{◌≡◌, ◌≤◌, ◌<◌, ℕ, ap, sym, ◌∙◌, subst, arith, length, min, inl, inr, List}
+use Rattle.std.proofs.Common.{◌≡◌, ◌<◌, ℕ, ap, sym, ◌∙◌, subst, arith, length, min, inl, inr, List}
 use Rattle.block_map.specs.Holdings.{holders_of}
 use Rattle.block_map.specs.Copies.{WantsCopy, holdings, live_count}
-use Rattle.block_map.proofs.Orders.{copies_none, copies_push, copies_skip, copies_all}
+use Rattle.block_map.proofs.Orders.{copies_push, copies_skip}
 use Rattle.block_map.proofs.copies.copy_orders.Goals as goal
 use Rattle.block_map.proofs.copies.copy_orders.Goals.{then-count-gt0+then-count-limit+in_ok-push}
 use Rattle.block_map.proofs.copies.copy_orders.Goals.{else-count-gt0}
-
-pub loop-i-init : goal.loop-i-init
-loop-i-init c =
-    rw c.new-orders.ensures.items
-    (copies_none (holdings c.args.table.now c.args.tree.now c.args.blocks.now c.args.target))
 
 pub loop-i-preserved : goal.loop-i-preserved
 loop-i-preserved c =
@@ -40,10 +35,3 @@ loop-i-preserved c =
           ] in
           rw w.orders-is (copies_skip h c.loop-i.i orders c.loop-i.invariant none)
     ]
-
-pub returns : goal.returns
-returns c =
-    let h = holdings c.args.table.now c.args.tree.now c.args.blocks.now c.args.target in
-    let last : length c.args.blocks.now ≤ c.loop-i.i =
-    omega (arith, c.splits-i-end.ensures.count, c.loop-i-test.false) in
-    copies_all h c.loop-i.i c.loop-i.orders.items last c.loop-i.invariant
