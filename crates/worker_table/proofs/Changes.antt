@@ -8,11 +8,11 @@ use Rattle.worker_table.specs.View.{table_of}
 use Rattle.worker_table.specs.declared.Worker.{Worker}
 use Rattle.worker_table.specs.declared.WorkerTable.TheInside.{Inside}
 
-pub with_worker_at : (change : Worker → Worker) (inside : Inside) (t : Workers) (i n : ℕ) (found : Worker) →
+pub with_worker_at : (inside : Inside) {t : Workers} {i n : ℕ} {found : Worker} (change : Worker → Worker) →
     i ≡ n → table_of inside ≡ t → found ≡ get_or inside.workers.items i found → n < length t.each →
     record { limit = inside.limit; each = set inside.workers.items i (change found); barred = inside.bars }
     ≡ with_worker change t n
-with_worker_at change inside t i n found at is was known =
+with_worker_at inside {t = t} {i = i} {n = n} {found = found} change at is was known =
     ap (λ (ws : List Worker). record { limit = inside.limit; each = ws; barred = inside.bars })
     (updated_at change inside.workers.items t.each i n found (change found) at
     (ap (λ (u : Workers). u.each) is) was refl known)

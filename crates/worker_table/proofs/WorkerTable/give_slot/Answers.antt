@@ -5,7 +5,5 @@ use Rattle.worker_table.proofs.WorkerTable.give_slot.Goals as goal
 
 pub returns : goal.returns
 returns c =
-    with_worker_at (λ (worker : Worker). record worker { taken = worker.taken - 1 })
-    c.self.inside c.args.self.now c.index.result c.args.worker
-    c.index_mut-found.result.now c.index.ensures.value
-    c.self.view_is c.index_mut-found.ensures.value c.requires.known
+    with_worker_at c.self.inside (λ (worker : Worker). record worker { taken = worker.taken - 1 })
+    c.index.ensures.value c.self.view_is c.index_mut-found.ensures.value c.requires.known
