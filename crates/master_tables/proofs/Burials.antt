@@ -12,11 +12,14 @@ use Rattle.master_state.specs.declared.states.SplitState.{SplitState}
 use Rattle.master_state.specs.declared.states.SplitState.TheVariants.{Pending, Running, Done}
 use Rattle.master_state.specs.declared.states.PartState.{PartState}
 use Rattle.master_state.specs.declared.states.PartState.TheVariants as part
-use Rattle.master_state.specs.States.{State}
+use Rattle.master_state.specs.States.{Setup, State}
 use Rattle.master_state.specs.Tests.{all_parts_done, is_on, part_is_done, running}
 use Rattle.master_state.specs.Changes.{after_death, died, part_without, without_attempts}
+use Rattle.master_tables.specs.declared.entries.SplitEntry.{SplitEntry}
+use Rattle.master_tables.specs.Entries.{entry_after_death, shown_as}
+use Rattle.master_tables.specs.Kept.{AreOfSplits}
 use Rattle.master_tables.proofs.Among.{among}
-use Rattle.master_tables.proofs.Showing.{after_deaths}
+use Rattle.master_tables.proofs.Showing.{after_deaths, death_makes_none, made_mapped, shown-deaths}
 use Rattle.master_tables.proofs.Together.{filter-both, filter-none, map-both, map-nothing}
 
 -- the attempts that a split runs without those that either of two tests names
@@ -123,12 +126,6 @@ with_tables s workers holders splits parts = record s {
   parts = parts;
 }
 
-pub same_tables : (s : State) (workers were : Workers) (holders held : List (List ℕ))
-    (splits ran : List SplitState) (parts had : List PartState) →
-    workers ≡ were → holders ≡ held → splits ≡ ran → parts ≡ had →
-    with_tables s workers holders splits parts ≡ with_tables s were held ran had
-same_tables s workers were holders held splits ran parts had a b c d = rw (a, b, c, d) refl
-
 spares : (test : ℕ → Bool) → ((w : ℕ) → test w ≡ false) → (stays : Bool) (split : SplitState) →
     after_deaths stays (λ attempt. test attempt.worker) split ≡ split
 spares test none stays Pending = refl
@@ -147,54 +144,51 @@ died_before : (s : State) (w : ℕ) (dead : List ℕ) (later test : ℕ → Bool
     ((v : ℕ) → test v ≡ (v == w || later v)) → buried (died s w) later dead ≡ buried s test (w ∷ dead)
 died_before s w dead later test same =
     let stays = all_parts_done s in
-    let stay : all_parts_done (died s w) ≡ stays = all_done_after (is_on w) s.parts in
     let lost : SplitState → SplitState = after_deaths stays (λ attempt. later attempt.worker) in
-    same_tables s (fold with_death (with_death s.workers w) dead) (fold with_death s.workers (w ∷ dead))
-    (map (filter (λ h. not (later h))) (map (without w) s.holders))
-    (map (filter (λ h. not (test h))) s.holders)
-    (map (after_deaths (all_parts_done (died s w)) (λ attempt. later attempt.worker))
-    (map (after_death stays w) s.splits))
-    (map (after_deaths stays (λ attempt. test attempt.worker)) s.splits)
-    (map (part_without (λ attempt. later attempt.worker)) (map (part_without (is_on w)) s.parts))
-    (map (part_without (λ attempt. test attempt.worker)) s.parts)
-    refl
-    (map-both (without w) (filter (λ h. not (later h))) (filter (λ h. not (test h)))
-    (filter-both (λ h. h == w) later test same) s.holders)
-    (ap (λ (b : Bool). map (after_deaths b (λ attempt. later attempt.worker))
-    (map (after_death stays w) s.splits)) stay
+    let holders = map-both (without w) (filter (λ h. not (later h))) (filter (λ h. not (test h)))
+    (filter-both (λ h. h == w) later test same) s.holders in
+    let splits = ap (λ (b : Bool). map (after_deaths b (λ attempt. later attempt.worker))
+    (map (after_death stays w) s.splits)) (all_done_after (is_on w) s.parts)
     ∙ map-both (after_death stays w) lost (after_deaths stays (λ attempt. test attempt.worker))
     (λ split. ap lost (one_death stays w split)
     ∙ deaths_both stays (is_on w) (λ attempt. later attempt.worker) (λ attempt. test attempt.worker)
-    (λ attempt. same attempt.worker) split) s.splits)
-    (map-both (part_without (is_on w)) (part_without (λ attempt. later attempt.worker))
+    (λ attempt. same attempt.worker) split) s.splits in
+    let parts = map-both (part_without (is_on w)) (part_without (λ attempt. later attempt.worker))
     (part_without (λ attempt. test attempt.worker))
     (parts_both (is_on w) (λ attempt. later attempt.worker) (λ attempt. test attempt.worker)
-    (λ attempt. same attempt.worker)) s.parts)
+    (λ attempt. same attempt.worker)) s.parts in
+    (λ k. with_tables s (fold with_death s.workers (w ∷ dead)) (holders k) (splits k) (parts k))
 
 -- deaths one after another change each table once
 pub all_died : (s : State) (dead : List ℕ) (test : ℕ → Bool) → ((w : ℕ) → test w ≡ among dead w) →
     fold died s dead ≡ buried s test dead
 all_died s [] test none =
-    same_tables s s.workers s.workers s.holders (map (filter (λ h. not (test h))) s.holders) s.splits
-    (map (after_deaths (all_parts_done s) (λ attempt. test attempt.worker)) s.splits) s.parts
-    (map (part_without (λ attempt. test attempt.worker)) s.parts)
-    refl (sym (map-nothing (filter (λ h. not (test h))) (filter-none test none) s.holders))
-    (sym (map-nothing (after_deaths (all_parts_done s) (λ attempt. test attempt.worker))
-    (spares test none (all_parts_done s)) s.splits))
-    (sym (map-nothing (part_without (λ attempt. test attempt.worker)) (spares_part test none) s.parts))
+    let holders = map-nothing (filter (λ h. not (test h))) (filter-none test none) s.holders in
+    let splits = map-nothing (after_deaths (all_parts_done s) (λ attempt. test attempt.worker))
+    (spares test none (all_parts_done s)) s.splits in
+    let parts = map-nothing (part_without (λ attempt. test attempt.worker)) (spares_part test none) s.parts in
+    (λ k. with_tables s s.workers (sym holders k) (sym splits k) (sym parts k))
 all_died s (w ∷ dead) test same =
     all_died (died s w) dead (among dead) (λ v. refl) ∙ died_before s w dead (among dead) test same
 
--- the tables that a state has after deaths
-pub buried_is : (s : State) (dead : List ℕ) (test : ℕ → Bool) (workers : Workers) (holders : List (List ℕ))
-    (splits : List SplitState) (parts : List PartState) → ((w : ℕ) → test w ≡ among dead w) →
-    workers ≡ fold with_death s.workers dead → holders ≡ map (filter (λ h. not (test h))) s.holders →
-    splits ≡ map (after_deaths (all_parts_done s) (λ attempt. test attempt.worker)) s.splits →
-    parts ≡ map (part_without (λ attempt. test attempt.worker)) s.parts →
-    fold died s dead ≡ with_tables s workers holders splits parts
-buried_is s dead test workers holders splits parts those a b c d =
+-- the tables that a state has after deaths, by what became of those that a master keeps
+pub buried_is : (s : State) (dead : List ℕ) (test : ℕ → Bool) (old : List SplitEntry) {t left : Workers}
+    {held lists : List (List ℕ)} {new : List SplitEntry} {had parts : List PartState} →
+    ((w : ℕ) → test w ≡ among dead w) → s.workers ≡ t → s.holders ≡ held → s.splits ≡ map shown_as old →
+    s.parts ≡ had → left ≡ fold with_death t dead → lists ≡ map (filter (λ h. not (test h))) held →
+    new ≡ map (entry_after_death (list_all part_is_done had) (λ attempt. test attempt.worker)) old →
+    parts ≡ map (part_without (λ attempt. test attempt.worker)) had →
+    fold died s dead ≡ with_tables s left lists (map shown_as new) parts
+buried_is s dead test old {had = had} those workers holders splits parts a b c d =
+    let on : Attempt → Bool = λ attempt. test attempt.worker in
+    let shown = ap (map shown_as) c ∙ shown-deaths (list_all part_is_done had) on old in
     all_died s dead test those
-    ∙ same_tables s (fold with_death s.workers dead) workers
-    (map (filter (λ h. not (test h))) s.holders) holders
-    (map (after_deaths (all_parts_done s) (λ attempt. test attempt.worker)) s.splits) splits
-    (map (part_without (λ attempt. test attempt.worker)) s.parts) parts (sym a) (sym b) (sym c) (sym d)
+    ∙ (λ k. with_tables s (fold with_death (workers k) dead) (map (filter (λ h. not (test h))) (holders k))
+    (map (after_deaths (list_all part_is_done (parts k)) on) (splits k)) (map (part_without on) (parts k)))
+    ∙ (λ k. with_tables s (sym a k) (sym b k) (sym shown k) (sym d k))
+
+pub made_buried : (setup : Setup) (stays : Bool) (test : Attempt → Bool) (old : List SplitEntry)
+    {new : List SplitEntry} → new ≡ map (entry_after_death stays test) old → AreOfSplits setup old →
+    AreOfSplits setup new
+made_buried setup stays test old is made =
+    rw is (made_mapped setup (entry_after_death stays test) old (death_makes_none stays test) made)

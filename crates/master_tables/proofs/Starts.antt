@@ -1,5 +1,5 @@
 -- The starts of a plan, made one after another in the tables of a master.
-use Rattle.std.proofs.Common.{◌≡◌, ℕ, zero, suc, ◌+◌, ◌<◌, List, [], ◌∷◌, ◌++◌, length, map, None, refl, sym}
+use Rattle.std.proofs.Common.{◌≡◌, ℕ, ◌+◌, ◌<◌, List, [], ◌∷◌, ◌++◌, length, map, None, refl, sym}
 use Rattle.std.proofs.Common.{ap, ◌∙◌, arith, subst}
 use Rattle.std.specs.Prelude.{slice_index_or}
 use Rattle.node_ids.specs.Updates.{updated}
@@ -16,7 +16,7 @@ use Rattle.master_tables.specs.declared.entries.SplitEntry.{SplitEntry}
 use Rattle.master_tables.specs.declared.entries.SplitEntry.TheVariants.{Running}
 use Rattle.master_tables.specs.Entries.{shown_as}
 use Rattle.master_tables.specs.Starting.{MayStart}
-use Rattle.master_tables.proofs.Showing.{MakesNone}
+use Rattle.master_tables.proofs.Showing.{MakesNone, shown-updated}
 
 -- tables as a state of which nothing else is read, and a job with so many attempts
 abbrev state_with : Workers → List SplitState → List Start → State
@@ -78,13 +78,6 @@ first_slot t splits k v pairs may =
 abbrev pub run_by : ℕ → ℕ → SplitEntry
 run_by number worker = Running (record { number = number; worker = worker }) None
 
-shown-updated : (entry : SplitEntry) (entries : List SplitEntry) (k : ℕ) →
-    map shown_as (updated (λ _. entry) entries k) ≡ updated (λ _. shown_as entry) (map shown_as entries) k
-shown-updated entry [] k = refl
-shown-updated entry (one ∷ entries) zero = refl
-shown-updated entry (one ∷ entries) (suc k) =
-    ap (λ rest. shown_as one ∷ rest) (shown-updated entry entries k)
-
 -- the tables after the first start are those of the state after it
 pub started_next : (s : State) (t next : Workers) (entries later : List SplitEntry) (starts told : List Start)
     (k v : ℕ) → slice_index_or (map shown_as entries) k states.Pending ≡ states.Pending →
@@ -96,7 +89,9 @@ started_next s t next entries later starts told k v pending taken ran more =
     let now : State = record s { workers = t; splits = map shown_as entries; starts = starts } in
     let shown : map shown_as later ≡ updated (λ _. shown_as (run_by (length starts + 1) v))
     (map shown_as entries) k =
-    ap (map shown_as) ran ∙ shown-updated (run_by (length starts + 1) v) entries k in
+    ap (map shown_as) ran
+    ∙ shown-updated (λ _. run_by (length starts + 1) v) (λ _. shown_as (run_by (length starts + 1) v))
+    (λ entry. refl) entries k in
     rw (taken, shown, more) (sym (pending_started now k v pending))
 
 -- and the others may start then

@@ -1,11 +1,13 @@
 -- Changes made one after another, and all at once.
 use Rattle.std.proofs.Common.{◌≡◌, ℕ, zero, suc, ◌<◌, ◌≤◌, List, [], ◌∷◌, length, map, cond, not, Bool, true}
-use Rattle.std.proofs.Common.{false, ◌||◌, ◌==◌, inl, inr, Option, Some, None, refl, ap, sym, ◌∙◌, arith}
+use Rattle.std.proofs.Common.{false, ◌||◌, ◌==◌, get_or, set, inl, inr, Option, Some, None, refl, ap, sym}
+use Rattle.std.proofs.Common.{◌∙◌, arith}
 use Rattle.std.specs.Prelude.{filter, find, slice_index_or}
 use Rattle.std.specs.List.{list_any}
 use Rattle.std.proofs.lemmas.Bool.{cases_eq, eq-eqb, ne_eqb, or_left, or_right, false≢true}
 use Rattle.std.proofs.lemmas.List.Sums.{length-filter, count_by-le-length}
 use Rattle.node_ids.specs.Updates.{updated}
+use Rattle.node_ids.proofs.Updating.{updated_at}
 
 -- what passes neither of two tests, one after the other
 passes_neither : {X : Type 0} (q : X → Bool) (p_here q_here : Bool) (x : X) (rest both : List X) →
@@ -66,6 +68,12 @@ front_changed-all change zero (x ∷ xs) past = absurd (omega (arith, past))
 front_changed-all change (suc i) [] past = refl
 front_changed-all change (suc i) (x ∷ xs) past =
     ap (λ ys. change x ∷ ys) (front_changed-all change i xs (omega (arith, past)))
+
+-- an element that was read and written back changed, where both places are the same
+pub updated_here : {X : Type 0} (change : X → X) (xs : List X) {i n : ℕ} {x y : X} → i ≡ n →
+    x ≡ get_or xs i x → y ≡ change x → n < length xs → set xs i y ≡ updated change xs n
+updated_here change xs {i = i} {n = n} {x = x} {y = y} at was made known =
+    updated_at change xs xs i n x y at refl was made known
 
 -- two changes at one place, and one that changes nothing there
 pub updated-both : {X : Type 0} (f g : X → X) → ((x : X) → g (f x) ≡ g x) → (xs : List X) (n : ℕ) →

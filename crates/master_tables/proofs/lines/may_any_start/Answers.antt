@@ -1,16 +1,24 @@
-use Rattle.std.proofs.Common.{◌≡◌, ℕ, sym, ◌∙◌, arith, refl, inl, inr, subst}
+use Rattle.std.proofs.Common.{◌≡◌, ℕ, map, sym, ◌∙◌, arith, refl, inl, inr, subst}
 use Rattle.std.proofs.lemmas.Bool.{cases_lt, false≢true}
-use Rattle.wave_problem.specs.Wave.{IsAdmissible}
+use Rattle.wave_problem.specs.Wave.{IsAdmissible, Wave, split_at}
+use Rattle.master_tables.specs.Entries.{shown_as}
+use Rattle.master_tables.specs.Lines.{split_lines}
 use Rattle.master_tables.proofs.WaveLines.{seen_at, split_among}
+use Rattle.master_tables.proofs.lines.may_any_start.Goals.{After-may_start}
 use Rattle.master_tables.proofs.lines.may_any_start.Goals as goal
+
+seen : (c : After-may_start) (wave : Wave) →
+    wave.splits ≡ split_lines c.args.lines.now (map shown_as c.args.entries.now) c.args.holders.now →
+    split_at wave c.new-split.result ≡ c.split_line-line.result
+seen c wave splits =
+    seen_at wave c.args.lines.now c.args.entries.now c.args.holders.now c.loop-i.i c.new-split.result
+    c.index-lines-i.result c.split_line-line.result c.index-entries-i.result c.holders.result.now splits
+    c.new-split.ensures (omega arith) c.requires.entries c.requires.holders c.index-lines-i.is
+    c.index-entries-i.is c.holders.ensures.value c.split_line-line.ensures
 
 pub returns-then-may_start : goal.returns-then-may_start
 returns-then-may_start c wave workers barred splits =
-    let here = seen_at wave c.args.lines.now c.args.entries.now c.args.holders.now c.loop-i.i
-    c.new-split.result c.index-lines-i.result c.split_line-line.result c.index-entries-i.result
-    c.holders.result.now splits
-    c.new-split.ensures (omega arith) c.requires.entries c.requires.holders c.index-lines-i.is
-    c.index-entries-i.is c.holders.ensures.value c.split_line-line.ensures in
+    let here = seen (goal.at.returns-then-may_start c).After-may_start wave splits in
     let some = (c.may_start.ensures wave workers barred here).0 c.if-may_start.true in
     (λ _. (c.new-split.result, some.0, some.1), λ _. refl)
 
@@ -19,10 +27,7 @@ loop-i-preserved c wave split w workers barred splits below admissible =
     elim (cases_lt split c.loop-i.i) [
       | inl before ↦ c.loop-i.invariant wave split w workers barred splits before admissible
       | inr past ↦
-          let here = seen_at wave c.args.lines.now c.args.entries.now c.args.holders.now c.loop-i.i
-          c.new-split.result c.index-lines-i.result c.split_line-line.result c.index-entries-i.result
-          c.holders.result.now splits c.new-split.ensures (omega arith) c.requires.entries c.requires.holders
-          c.index-lines-i.is c.index-entries-i.is c.holders.ensures.value c.split_line-line.ensures in
+          let here = seen (goal.at.loop-i-preserved c).After-may_start wave splits in
           let same : split ≡ c.new-split.result = omega (arith, past, below, c.new-split.ensures) in
           false≢true
           (sym c.if-may_start.false ∙ (c.may_start.ensures wave workers barred here).1

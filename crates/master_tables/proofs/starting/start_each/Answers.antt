@@ -1,4 +1,4 @@
-use Rattle.std.proofs.Common.{◌≡◌, ℕ, ◌+◌, List, ◌∷◌, ◌++◌, [], length, drop, map, Some, sym, ap, ◌∙◌, arith}
+use Rattle.std.proofs.Common.{◌≡◌, ℕ, ◌+◌, List, ◌∷◌, ◌++◌, [], length, drop, map, sym, ap, ◌∙◌, arith}
 use Rattle.std.proofs.Common.{subst, length-append}
 use Rattle.std.specs.Prelude.{fold, vec_capacity}
 use Rattle.std.specs.declared.alloc.Global.{Global}
@@ -17,36 +17,29 @@ use Rattle.master_tables.specs.Starting.{MayStart}
 use Rattle.master_tables.proofs.Showing.{made_updated}
 use Rattle.master_tables.proofs.Starts.{first_slot, run_by, run_makes_none, started_next, others_may_start}
 use Rattle.master_tables.proofs.starting.start_each.Goals as goal
-use Rattle.master_tables.proofs.starting.start_each.Goals.{in-Some, in_default}
+use Rattle.master_tables.proofs.starting.start_each.Goals.{In-Some, in-Some, in_default}
+
+may : (c : In-Some) → MayStart c.loop-i.workers (map shown_as c.loop-i.splits.items)
+    ((c.loop-i.i, c.in-Some.worker)
+    ∷ pairs_from (c.loop-i.i + 1) (drop (c.loop-i.i + 1) c.args.plan.now.starts))
+may c =
+    let starts = c.args.plan.now.starts in
+    let shown = map shown_as c.loop-i.splits.items in
+    subst (λ (pairs : List (ℕ × ℕ)). MayStart c.loop-i.workers shown pairs)
+    (pair_next starts c.loop-i.i c.in-Some.worker (omega arith)
+    (sym (c.of.ensures.start ∙ ap (start_of starts) c.new-split.ensures) ∙ c.in-Some.is))
+    c.loop-i.invariant.allowed
 
 pub start_one-requires-clause-worker : goal.start_one-requires-clause-worker
 start_one-requires-clause-worker c =
-    let starts = c.args.plan.now.starts in
-    let i = c.loop-i.i in
-    let w = c.in-Some.worker in
-    let shown = map shown_as c.loop-i.splits.items in
-    let here : start_of starts i ≡ Some w =
-    sym (c.of.ensures.start ∙ ap (start_of starts) c.new-split.ensures) ∙ c.in-Some.is in
-    let front = pair_next starts i w (omega arith) here in
-    (first_slot c.loop-i.workers shown i w (pairs_from (i + 1) (drop (i + 1) starts))
-    (subst (λ (pairs : List (ℕ × ℕ)). MayStart c.loop-i.workers shown pairs) front
-    c.loop-i.invariant.allowed)).0
+    (first_slot _ _ _ _ _ (may (goal.at.start_one-requires-clause-worker c).In-Some)).0
 
 pub start_one-requires-clause-split : goal.start_one-requires-clause-split
 start_one-requires-clause-split c =
-    let starts = c.args.plan.now.starts in
-    let i = c.loop-i.i in
-    let w = c.in-Some.worker in
-    let shown = map shown_as c.loop-i.splits.items in
-    let here : start_of starts i ≡ Some w =
-    sym (c.of.ensures.start ∙ ap (start_of starts) c.new-split.ensures) ∙ c.in-Some.is in
-    let front = pair_next starts i w (omega arith) here in
-    let may : MayStart c.loop-i.workers shown ((i, w) ∷ pairs_from (i + 1) (drop (i + 1) starts)) =
-    subst (λ (pairs : List (ℕ × ℕ)). MayStart c.loop-i.workers shown pairs) front
-    c.loop-i.invariant.allowed in
     omega (
       arith,
-      may.known 0 (i, w) (omega arith),
+      (may (goal.at.start_one-requires-clause-split c).In-Some).known 0 (c.loop-i.i, c.in-Some.worker)
+          (omega arith),
       length-map c.loop-i.splits.items shown_as,
       c.new-split.ensures,
     )
