@@ -1,12 +1,9 @@
 -- What a table of places says of calls.
-use Rattle.std.proofs.Common.{◌≡◌, ℕ, zero, suc, ◌+◌, ◌<◌, ◌≤◌, Bool, true, false, List, [], ◌∷◌, ◌++◌}
-use Rattle.std.proofs.Common.{length, set, get_or, All, IsTrue, Option, Some, None, refl, sym, ap, subst, ◌∙◌}
-use Rattle.std.proofs.Common.{arith, ◌==◌, ◌↔◌}
+use Rattle.std.proofs.Common.{◌≡◌, ℕ, zero, suc, ◌+◌, ◌<◌, ◌≤◌, Bool, List, [], ◌∷◌, length, get_or, All}
+use Rattle.std.proofs.Common.{IsTrue, Option, Some, None, refl, sym, ap, subst, ◌∙◌, arith, ◌↔◌}
 use Rattle.std.specs.Option.{option_map_or}
 use Rattle.std.specs.Prelude.{slice_get}
-use Rattle.std.proofs.lemmas.List.{append-nil, nil_from_length, length_push, get_or-set_same}
-use Rattle.std.proofs.lemmas.List.{get_or-set_other, get_or_default}
-use Rattle.std.proofs.lemmas.List.Elements.{filter-append}
+use Rattle.std.proofs.lemmas.List.{get_or_default}
 use Rattle.std.proofs.lemmas.Option.{slice_get_past}
 use Rattle.std.proofs.lemmas.Bool.Decides.{nat_tests}
 use Rattle.std.proofs.Math.Decide.{dec_le}
@@ -16,17 +13,9 @@ use Rattle.hand_ledger.specs.declared.marks.Found.{Found}
 use Rattle.hand_ledger.specs.declared.marks.Found.TheVariants.{Nowhere, Once, Wrong}
 use Rattle.hand_ledger.specs.declared.marks.TheConstants.{PLACES}
 use Rattle.hand_ledger.specs.Hands.{Kept, kept, HandValue}
-use Rattle.hand_ledger.specs.Marks.{Describes, Marks, found_more, wanted, IsRight, IsAsWanted, IsFirstWrong}
-use Rattle.hand_ledger.specs.Settling.{LogValue, counts_at, starts_at, at_place, call_at, event_at, all_calls}
+use Rattle.hand_ledger.specs.Marks.{Describes, Marks, wanted, IsRight, IsAsWanted, IsFirstWrong}
+use Rattle.hand_ledger.specs.Settling.{LogValue, counts_at, starts_at, at_place, call_at, all_calls}
 use Rattle.hand_ledger.specs.Settling.{AreTrue, AgreesAt, IsLowestTorn}
-
--- at most one call stands at a place
-at_most_one : (f : Event → Kept) (o : Option Event) → length (option_map_or (λ e. f e ∷ []) o []) ≤ 1
-at_most_one f None = omega arith
-at_most_one f (Some e) = omega arith
-
-pub one_call : (log : LogValue) (place : ℕ) → length (call_at log place) ≤ 1
-one_call log place = at_most_one _ (event_at log.history place)
 
 -- one at each place of the history, and none elsewhere
 just_one : (f : Event → Kept) (history : List Event) (k : ℕ) → k < length history →
@@ -40,77 +29,6 @@ no_call log zero past = absurd (omega arith)
 no_call log (suc k) past =
     ap (λ (o : Option Event). option_map_or (λ event. kept (suc k) event (counts_at log event)
     (starts_at log event) ∷ []) o []) (slice_get_past log.history k (omega arith))
-
--- a call more at a place
-pub says_more : (f : Found) (r : Bool) (calls ws : List Kept) (call : Kept) → length ws ≤ 1 →
-    (IsTrue r ↔ (ws ≡ call ∷ [])) → Describes f calls ws → Describes (found_more f r) (calls ++ call ∷ []) ws
-says_more Nowhere true calls ws call few right is =
-    let w = right.0 refl in
-    (ap (λ l. l ++ call ∷ []) is ∙ sym w, ap length w)
-says_more Nowhere false calls ws call few right is = (
-  λ e. absurd (omega (arith, length_push calls call, ap length e)),
-  λ e. absurd (cc (right.1 (sym e ∙ ap (λ l. l ++ call ∷ []) is))),
-)
-says_more Once r calls ws call few right is = (
-  λ e. absurd (omega (arith, length_push calls call, ap length e)),
-  λ e. absurd (omega (arith, length_push calls call, ap length e, ap length is.0)),
-)
-says_more Wrong r calls ws call few right is = (
-  λ e. absurd (omega (arith, length_push calls call, ap length e)),
-  λ e. absurd (is.0 (nil_from_length calls (omega (arith, length_push calls call, ap length e)))),
-)
-
--- the call, where it stands at the place; elsewhere nothing
-one_at : (place : ℕ) (call : Kept) → call.place ≡ place → at_place place (call ∷ []) ≡ call ∷ []
-one_at place call is = grind (arith, nat_tests)
-
-none_at : (place : ℕ) (call : Kept) → (call.place ≡ place → ⊥) → at_place place (call ∷ []) ≡ []
-none_at place call is = grind (arith, nat_tests)
-
-pub at_more : (place : ℕ) (before : List Kept) (call : Kept) → call.place ≡ place →
-    at_place place (before ++ call ∷ []) ≡ at_place place before ++ call ∷ []
-at_more place before call is =
-    filter-append (λ (c : Kept). c.place == place) before (call ∷ [])
-    ∙ ap (λ l. at_place place before ++ l) (one_at place call is)
-
-pub at_same : (place : ℕ) (before : List Kept) (call : Kept) → (call.place ≡ place → ⊥) →
-    at_place place (before ++ call ∷ []) ≡ at_place place before
-at_same place before call is =
-    filter-append (λ (c : Kept). c.place == place) before (call ∷ [])
-    ∙ ap (λ l. at_place place before ++ l) (none_at place call is) ∙ append-nil (at_place place before)
-
-pub marks_more : (log : LogValue) (before : List Kept) (call : Kept) (found : List Found) (place : ℕ)
-    (r : Bool) (old : Found) →
-    length found ≡ PLACES → place ≤ 65536 → call.place ≡ place → (IsTrue r ↔ (call_at log place ≡ call ∷ []))
-    →
-    old ≡ get_or found place old → Marks log before found →
-    Marks log (before ++ call ∷ []) (set found place (found_more old r))
-marks_more log before call found place r old size small is right was marks =
-    record {
-      each = λ p d lt. elim (ℕ_discrete p place) [
-        | yes e ↦
-            subst (λ q. Describes (get_or (set found place (found_more old r)) q d)
-            (at_place q (before ++ call ∷ [])) (call_at log q)) (sym e) (here d)
-        | no other ↦
-            subst (λ (f : Found). Describes f (at_place p (before ++ call ∷ [])) (call_at log p))
-            (sym (get_or-set_other found place p (found_more old r) d other))
-            (subst (λ (l : List Kept). Describes (get_or found p d) l (call_at log p))
-            (sym (at_same p before call (λ q. other (sym q ∙ is))))
-            (marks.each p d lt))
-      ];
-      past = λ p le. at_same p before call (λ q. absurd (omega (arith, q, is))) ∙ marks.past p le;
-    }
-  where
-    here : (d : Found) → Describes (get_or (set found place (found_more old r)) place d)
-        (at_place place (before ++ call ∷ [])) (call_at log place)
-    here d =
-        subst (λ (f : Found). Describes f (at_place place (before ++ call ∷ [])) (call_at log place))
-        (sym (get_or-set_same found place (found_more old r) d (omega arith)))
-        (subst (λ (l : List Kept). Describes (found_more old r) l (call_at log place))
-        (sym (at_more place before call is))
-        (says_more old r (at_place place before) (call_at log place) call (one_call log place) right
-        (subst (λ (f : Found). Describes f (at_place place before) (call_at log place)) (sym was)
-        (marks.each place old (omega arith)))))
 
 -- what was found is right where the calls are those that are wanted, and nowhere else
 once_is : (f : Found) (calls ws : List Kept) → length ws ≡ 1 → Describes f calls ws →
