@@ -1,65 +1,23 @@
 -- A master after a call that it accepted.
-use Rattle.std.proofs.Common.{◌≡◌, ℕ, ◌+◌, ◌-◌, ◌^◌, ◌<◌, List, [], ◌∷◌, ◌++◌, length, Bool, true, false, not}
-use Rattle.std.proofs.Common.{Option, None, refl, sym, ap, ◌∙◌, arith, subst}
-use Rattle.std.specs.Prelude.{vec_len, vec_capacity}
+use Rattle.std.proofs.Common.{◌≡◌, ℕ, ◌+◌, ◌≤◌, List, [], ◌∷◌, ◌++◌, length, Bool, true, false, not}
+use Rattle.std.proofs.Common.{None, refl, sym, ap, ◌∙◌, subst}
+use Rattle.std.specs.Prelude.{vec_capacity}
 use Rattle.std.specs.declared.alloc.Global.{Global}
 use Rattle.std.specs.declared.vec.Vec.{Vec}
-use Rattle.std.proofs.lemmas.List.{append-nil, length-append, length-map}
+use Rattle.std.proofs.lemmas.List.{append-nil, length-append}
 use Rattle.shuffle_reduce.specs.Merged.{PartView}
-use Rattle.worker_table.specs.declared.Worker.{Worker}
 use Rattle.worker_table.specs.Workers.{Workers}
-use Rattle.master_state.specs.declared.answers.Why.{Why}
 use Rattle.master_state.specs.declared.events.Event.{Event}
 use Rattle.master_state.specs.declared.states.PartState.{PartState}
 use Rattle.master_state.specs.States.{Setup, State}
-use Rattle.master_state.specs.Refusals.{Call, IsKnown, PartDone, first_true, is_full, reasons, refusal}
+use Rattle.master_state.specs.Refusals.{Call, IsKnown, PartDone, refusal}
 use Rattle.master_state.specs.Changes.{changed, counted}
 use Rattle.master_state.specs.Jobs.{Job, IsAccepted, IsKept, event_of, added_by}
-use Rattle.master_state.proofs.Reasons.{NoneApplies, none_applies, room_left}
 use Rattle.master_state.proofs.Keeping.{calls_keep}
 use Rattle.master_tables.specs.declared.entries.SplitEntry.{SplitEntry}
 use Rattle.master_core.specs.declared.master.Master.TheInside.{Inside}
 use Rattle.master_core.specs.Inside.{setup_of, state_of, job_of, IsMaster, HasRoom}
 use Rattle.master_tables.specs.Kept.{AreOfSplits}
-
-module _ {m : Inside} {j : Job} (was : IsMaster m) (is : job_of m ≡ j) where
-  -- what is asked of a master's job holds of its tables
-  pub worker_in_table : (w : ℕ) → w < length j.setup.cluster.slots → w < length m.workers.each
-  worker_in_table w known =
-      let here : w < length m.cluster.slots =
-      subst (λ (i : Job). w < length i.setup.cluster.slots) (sym is) known in
-      let same = length-map m.workers.each (λ (worker : Worker). worker.slots) in
-      omega (arith, here, same, ap length was.kept.tidy.slots)
-
-  pub split_in_map : (split : ℕ) → split < length j.setup.cluster.splits → split < length m.holders
-  split_in_map split known =
-      let here : split < length m.cluster.splits =
-      subst (λ (i : Job). split < length i.setup.cluster.splits) (sym is) known in
-      omega (arith, here, was.kept.tidy.holders)
-
-  -- where a call is not refused, none of its tests is true of what the master keeps
-  pub tests_of : (call : Call) {why : Option Why} → why ≡ refusal j.setup j.state call → why ≡ None →
-      NoneApplies (reasons (setup_of m) (state_of m) call)
-  tests_of call answer none =
-      none_applies (reasons (setup_of m) (state_of m) call)
-      (ap (λ (i : Job). refusal i.setup i.state call) is ∙ sym answer ∙ none)
-
--- a history that is not full has room for an event
-pub record HasPlace (m : Inside) : Type 0 where
-  pub room : vec_len m.history < vec_capacity m.history
-  pub few : vec_len m.history < 2 ^ 32 - 1
-
-pub has_place : {m : Inside} → IsMaster m → is_full (setup_of m) (state_of m) ≡ false → HasPlace m
-has_place {m = m} was free =
-    let left = room_left (setup_of m) (state_of m) free in
-    record {
-      room = omega (arith, left, was.room.events);
-      few = omega (arith, left, was.kept.small.events);
-    }
-
--- a call of two tests is allowed where neither is true
-pub no_reason : (x y : Bool) (p q : Why) → x ≡ false → y ≡ false → first_true ((x, p) ∷ (y, q) ∷ []) ≡ None
-no_reason x y p q e f = rw (e, f) refl
 
 pub is_false : (b : Bool) → true ≡ not b → b ≡ false
 is_false true e = cc
@@ -84,33 +42,12 @@ rooms_of m = record {
 
 pub room_after : (old new : Inside) → HasRoom old → rooms_of new ≡ rooms_of old → HasRoom new
 room_after old new was same =
-    let setup = ap (λ (rooms : Rooms). rooms.setup) same in
-    record {
-      events = omega (
-        arith,
-        was.events,
-        ap (λ (rooms : Rooms). rooms.events) same,
-        ap (λ (s : Setup). s.limits.events) setup,
-      );
-      attempts = omega (
-        arith,
-        was.attempts,
-        ap (λ (rooms : Rooms). rooms.attempts) same,
-        ap (λ (s : Setup). s.limits.attempts) setup,
-      );
-      sweeps = omega (
-        arith,
-        was.sweeps,
-        ap (λ (rooms : Rooms). rooms.sweeps) same,
-        ap (λ (s : Setup). s.limits.sweeps) setup,
-      );
-      results = omega (
-        arith,
-        was.results,
-        ap (λ (rooms : Rooms). rooms.results) same,
-        ap (λ (s : Setup). s.cluster.parts) setup,
-      );
-    }
+    let Fit : Rooms → Type 0 = λ rooms.
+    (rooms.setup.limits.events ≤ rooms.events) × (rooms.setup.limits.attempts ≤ rooms.attempts)
+    × (rooms.setup.limits.sweeps ≤ rooms.sweeps) × (rooms.setup.cluster.parts ≤ rooms.results) in
+    let fit : Fit (rooms_of new) =
+    subst Fit (sym same) (was.events, was.attempts, was.sweeps, was.results) in
+    record { events = fit.0; attempts = fit.1; sweeps = fit.2; results = fit.3 }
 
 -- a master with other tables and another history, whose other lists are the same
 abbrev pub with_tables : Inside → Workers → List (List ℕ) → Vec SplitEntry Global → Vec PartState Global →
@@ -141,6 +78,9 @@ pub record Follows (new : Inside) (j : Job) (call : Call) (place : ℕ) : Type 0
   pub accepted : IsAccepted j call place (job_of new)
   pub master : IsMaster new
 
+pub master_of : {new : Inside} {j : Job} {call : Call} {place : ℕ} → Follows new j call place → IsMaster new
+master_of after = after.master
+
 -- so it is where what is kept is kept, in lists that keep their rooms
 pub still_master : {old new : Inside} → IsMaster old → rooms_of new ≡ rooms_of old → IsKept (job_of new) →
     AreOfSplits (setup_of old) new.splits.items → IsMaster new
@@ -152,7 +92,7 @@ still_master {old = old} {new = new} was rooms kept made = record {
 }
 
 -- and so where no reason applies, the event is recorded and the change made
-module _ {old new : Inside} {j : Job} {call : Call} {place : ℕ} (was : IsMaster old)
+module _ {old new : Inside} {j : Job} {place : ℕ} (call : Call) (was : IsMaster old)
     (is : job_of old ≡ j) where
   pub follows : IsKnown j.setup call → refusal j.setup j.state call ≡ None → rooms_of new ≡ rooms_of old →
       new.history.items ≡ old.history.items ++ event_of (state_of old) call ∷ [] →

@@ -1,14 +1,11 @@
 -- The deaths of a sweep, one after another.
-use Rattle.std.proofs.Common.{◌≡◌, ℕ, Bool, false, List, [], ◌∷◌, length, None}
-use Rattle.std.proofs.Common.{refl, ap, sym, ◌∙◌}
+use Rattle.std.proofs.Common.{◌≡◌, ℕ, List, length, ap, sym, ◌∙◌}
 use Rattle.std.specs.Prelude.{filter, fold}
 use Rattle.std.specs.List.{range_with_len}
 use Rattle.std.proofs.lemmas.List.Elements.{filter_agree}
 use Rattle.node_ids.specs.Sets.{has_number}
 use Rattle.worker_table.specs.Workers.{Workers, is_silent, swept}
-use Rattle.master_state.specs.declared.answers.Why.TheVariants.{HistoryFull}
 use Rattle.master_state.specs.States.{State}
-use Rattle.master_state.specs.Refusals.{first_true}
 use Rattle.master_state.specs.Changes.{died, with_sweep}
 use Rattle.master_state.proofs.Sweeping.{heard_state}
 
@@ -25,6 +22,3 @@ swept_is s counts dead table next heard silent buried =
     ∙ ap (fold died begun)
     (sym (filter_agree (has_number dead) (is_silent table) silent (range_with_len 0 (length table.each))))
     ∙ buried
-
-pub one_reason : (x : Bool) → x ≡ false → first_true ((x, HistoryFull) ∷ []) ≡ None
-one_reason x e = rw e refl

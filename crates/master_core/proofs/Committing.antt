@@ -28,11 +28,6 @@ best_in j pairs = IsBest (problem_of j.setup j.state) pairs
 abbrev no_room_in : Job → ℕ → Bool
 no_room_in j count = has_no_room j.setup j.state count
 
--- what a master answers of a plan that it committed, and keeps after it
-pub record Commits (new : Inside) (j : Job) (plan : List (Option ℕ)) (wave : Wave) : Type 0 where
-  pub committed : IsCommitted j plan wave (job_of new)
-  pub master : IsMaster new
-
 -- the pairs of a plan that is best may start
 pub best_may_start : {m : Inside} {j : Job} {pairs : List (ℕ × ℕ)} {count : ℕ} → IsMaster m → job_of m ≡ j →
     best_in j pairs → count ≡ length pairs → no_room_in j count ≡ false →
@@ -44,37 +39,33 @@ best_may_start {m = m} {j = j} {pairs = pairs} was is best many free =
     (attempts_left (setup_of m) (state_of m) (length pairs)
     (ap (λ (i : Job). no_room_in i (length pairs)) is ∙ ap (no_room_in j) (sym many) ∙ free)).1)
 
-module _ {old new : Inside} {j : Job} {plan : List (Option ℕ)} {wave : Wave} (was : IsMaster old)
-    (is : job_of old ≡ j) where
-  pub commits : best_in j (pairs_of plan) → no_room_in j wave.count ≡ false →
-      wave.first ≡ length old.starts.items + 1 → wave.count ≡ length (pairs_of plan) →
-      wave.cost ≡ total (problem_of j.setup j.state) (pairs_of plan) → rooms_of new ≡ rooms_of old →
-      new.history.items ≡ old.history.items ++ events.Wave wave.first wave.count wave.cost ∷ [] →
-      wave.place ≡ length old.history.items + 1 →
-      fold (λ now pair. split_started now pair.0 pair.1) (state_of old) (pairs_of plan)
-      ≡ record (state_of new) { events = length old.history.items } →
-      new.results.items ≡ old.results.items → AreOfSplits (setup_of old) new.splits.items →
-      Commits new j plan wave
-  commits best free first count cost rooms history place change results made =
-      let committed : IsCommitted (job_of old) plan wave (job_of new) = record {
-        change = record {
-          best = subst (λ (i : Job). best_in i (pairs_of plan)) (sym is) best;
-          room = ap (λ (i : Job). no_room_in i (length (pairs_of plan))) is ∙ ap (no_room_in j) (sym count)
-              ∙ free;
-          first_is = first;
-          count_is = count;
-          cost_is = cost ∙ ap (λ (i : Job). total (problem_of i.setup i.state) (pairs_of plan)) (sym is);
-          leads = leads_to old new _ _ history change;
-        };
-        next = record {
-          place_is = place;
-          setup = ap (λ (of : Rooms). of.setup) rooms;
-          history = history;
-          results = results ∙ sym (append-nil old.results.items);
-        };
-      } in
-      record {
-        committed = subst (λ (i : Job). IsCommitted i plan wave (job_of new)) is committed;
-        master = still_master was rooms
-            (waves_keep (job_of old) (job_of new) plan wave was.kept committed) made;
-      }
+-- a master that committed a plan is one still
+pub commits : {old new : Inside} {j : Job} (plan : List (Option ℕ)) (wave : Wave) → IsMaster old →
+    job_of old ≡ j → best_in j (pairs_of plan) → no_room_in j wave.count ≡ false →
+    wave.first ≡ length old.starts.items + 1 → wave.count ≡ length (pairs_of plan) →
+    wave.cost ≡ total (problem_of j.setup j.state) (pairs_of plan) → rooms_of new ≡ rooms_of old →
+    new.history.items ≡ old.history.items ++ events.Wave wave.first wave.count wave.cost ∷ [] →
+    wave.place ≡ length old.history.items + 1 →
+    fold (λ now pair. split_started now pair.0 pair.1) (state_of old) (pairs_of plan)
+    ≡ record (state_of new) { events = length old.history.items } →
+    new.results.items ≡ old.results.items → AreOfSplits (setup_of old) new.splits.items → IsMaster new
+commits {old = old} {new = new} {j = j} plan wave was is best free first count cost rooms history place change
+    results made =
+    let committed : IsCommitted (job_of old) plan wave (job_of new) = record {
+      change = record {
+        best = subst (λ (i : Job). best_in i (pairs_of plan)) (sym is) best;
+        room = ap (λ (i : Job). no_room_in i (length (pairs_of plan))) is ∙ ap (no_room_in j) (sym count)
+            ∙ free;
+        first_is = first;
+        count_is = count;
+        cost_is = cost ∙ ap (λ (i : Job). total (problem_of i.setup i.state) (pairs_of plan)) (sym is);
+        leads = leads_to old new _ _ history change;
+      };
+      next = record {
+        place_is = place;
+        setup = ap (λ (of : Rooms). of.setup) rooms;
+        history = history;
+        results = results ∙ sym (append-nil old.results.items);
+      };
+    } in
+    still_master was rooms (waves_keep (job_of old) (job_of new) plan wave was.kept committed) made

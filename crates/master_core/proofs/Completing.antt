@@ -1,11 +1,9 @@
 -- A master after the result of a split or a part.
-use Rattle.std.proofs.Common.{◌≡◌, ◌≢◌, ℕ, suc, ◌-◌, ◌==◌, List, [], ◌∷◌, length, map}
-use Rattle.std.proofs.Common.{Bool, true, false, not, Option, Some, None, refl, ap, ◌∙◌, sym, arith, inl, inr}
-use Rattle.std.proofs.Common.{All}
-use Rattle.std.specs.Prelude.{find, slice_get}
-use Rattle.std.specs.List.{list_any}
+use Rattle.std.proofs.Common.{◌≡◌, ◌≢◌, ℕ, ◌-◌, ◌==◌, List, [], ◌∷◌, length, map, Bool, false, not, Option}
+use Rattle.std.proofs.Common.{Some, None, refl, ap, ◌∙◌, sym, arith, inl, inr, All}
+use Rattle.std.specs.Prelude.{slice_get}
 use Rattle.std.specs.Option.{option_map, option_map_or}
-use Rattle.std.proofs.lemmas.Bool.{false≢true, cases_Bool, cases_eq, eqb-true, ne_eqb, not-false, or_parts}
+use Rattle.std.proofs.lemmas.Bool.{cases_eq, eqb-true, ne_eqb, not-false, or_parts}
 use Rattle.std.proofs.lemmas.Option.{same_Some, none-some}
 use Rattle.node_ids.specs.Updates.{updated}
 use Rattle.node_ids.proofs.Updating.{length-updated, get-updated_same, get-updated_other}
@@ -17,16 +15,15 @@ use Rattle.worker_table.specs.declared.Worker.{Worker}
 use Rattle.worker_table.specs.Workers.{Workers, taken_slots, with_slot_given}
 use Rattle.master_state.specs.declared.answers.Why.TheVariants.{OldAttempt, WrongInput, HistoryFull}
 use Rattle.master_state.specs.declared.states.Attempt.{Attempt}
-use Rattle.master_state.specs.declared.states.Work.{Work}
 use Rattle.master_state.specs.declared.states.Work.TheVariants as works
 use Rattle.master_state.specs.declared.states.SplitState.{SplitState}
 use Rattle.master_state.specs.declared.states.SplitState.TheVariants as states
-use Rattle.master_state.specs.States.{Setup, State, start_of, worker_of}
+use Rattle.master_state.specs.States.{Setup, State, worker_of}
 use Rattle.master_state.specs.Refusals.{MapDone, PartDone, first_true, is_full, is_wrong_map}
 use Rattle.master_state.specs.Refusals.{is_wrong_part, refusal, split_text}
-use Rattle.master_state.specs.Tests.{attempts_of, is_numbered, split_at}
+use Rattle.master_state.specs.Tests.{attempts_of, split_at}
 use Rattle.master_state.specs.Changes.{done_by, part_done_by, with_map_done, with_part_done}
-use Rattle.master_state.specs.Tidy.{IsTidy, IsToldAs}
+use Rattle.master_state.specs.Tidy.{IsTidy}
 use Rattle.master_state.specs.Jobs.{Job}
 use Rattle.master_state.proofs.Lists.{updated-agree}
 use Rattle.master_state.proofs.Places.{done_at, part_done_at, part_running_is, split_running_is, worker_in}
@@ -42,28 +39,9 @@ use Rattle.master_core.specs.Inside.{job_of, IsMaster}
 use Rattle.master_tables.specs.Kept.{AreOfSplits, IsOfSplit}
 use Rattle.master_tables.specs.Places.{RunsPart, RunsSplit}
 use Rattle.master_tables.specs.Slots.{AreTaken, with_slots_given}
+use Rattle.master_core.proofs.Ended.{found_is, numbered}
 use Rattle.master_core.proofs.Found.{tidy_at}
 use Rattle.master_tables.proofs.Showing.{shown-updated}
-
--- the attempt that has the number a, on the worker that its start tells
-abbrev pub numbered : ℕ → ℕ → Attempt
-numbered a w = record { number = a; worker = w }
-
-found_is : (s : State) (a w : ℕ) (work : Work) (attempts : List Attempt) →
-    start_of s a ≡ Some (record { work = work; worker = w }) → All (IsToldAs s work) attempts →
-    list_any (is_numbered a) attempts ≡ true → find (is_numbered a) attempts ≡ Some (numbered a w)
-found_is s a w work [] start told any = absurd (false≢true any)
-found_is s a w work (one ∷ attempts) start told any = elim (cases_Bool (is_numbered a one)) [
-  | inl here ↦
-      let number : one.number ≡ a = eqb-true one.number a here in
-      let begun : start_of s one.number ≡ Some (record { work = work; worker = one.worker }) =
-      told 0 one (omega arith) in
-      let worker : one.worker ≡ w =
-      sym (ap worker_in begun) ∙ ap (λ (n : ℕ). worker_in (start_of s n)) number ∙ ap worker_in start in
-      rw here (λ i. Some (record { number = number i; worker = worker i }))
-  | inr off ↦ rw off (found_is s a w work attempts start (λ k d l. told (suc k) d (omega (arith, l)))
-      (rw off at any))
-]
 
 -- the first attempt that is done makes its split done
 module _ {setup : Setup} {s : State} {a split w : ℕ} (tidy : IsTidy setup s)

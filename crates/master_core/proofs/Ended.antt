@@ -1,15 +1,13 @@
 -- The end of an attempt that a split or a part runs.
-use Rattle.std.proofs.Common.{◌≡◌, ℕ, ◌<◌, List, true, false, Option, None, Some, refl}
-use Rattle.std.proofs.Common.{ap, ◌∙◌, sym, subst, arith, length, All}
-use Rattle.std.specs.Option.{option_map_or}
+use Rattle.std.proofs.Common.{◌≡◌, ℕ, suc, ◌<◌, List, [], ◌∷◌, inl, inr, true, false, None, Some, refl}
+use Rattle.std.proofs.Common.{ap, ◌∙◌, sym, subst, arith, All}
 use Rattle.std.specs.List.{list_any}
-use Rattle.std.proofs.lemmas.Bool.{eqb-true}
-use Rattle.std.proofs.lemmas.List.Folds.{Any-from_list_any}
+use Rattle.std.specs.Prelude.{find}
+use Rattle.std.proofs.lemmas.Bool.{cases_Bool, eqb-true, false≢true}
 use Rattle.node_ids.specs.Updates.{updated}
 use Rattle.shuffle_reduce.specs.Merged.{PartView}
-use Rattle.worker_table.specs.Workers.{with_slot_given, taken_slots}
+use Rattle.worker_table.specs.Workers.{with_slot_given}
 use Rattle.master_state.specs.declared.states.Attempt.{Attempt}
-use Rattle.master_state.specs.declared.states.Start.{Start}
 use Rattle.master_state.specs.declared.states.Work.{Work}
 use Rattle.master_state.specs.declared.states.Work.TheVariants as works
 use Rattle.master_state.specs.States.{Setup, State, start_of, worker_of}
@@ -18,7 +16,9 @@ use Rattle.master_state.specs.Refusals.{Call, IsKnown, is_full, no_part_runs, no
 use Rattle.master_state.specs.Changes.{changed, without_attempts, part_without}
 use Rattle.master_state.specs.Tidy.{IsTidy, IsToldAs}
 use Rattle.master_state.specs.Jobs.{Job}
+use Rattle.master_state.proofs.Lists.{find-contains}
 use Rattle.master_state.proofs.Places.{split_inside, split_running_is, start_on, without_at, part_without_at}
+use Rattle.master_state.proofs.Places.{worker_in}
 use Rattle.master_state.proofs.Problems.{length-each}
 use Rattle.master_state.proofs.Running.{TakesSlot, split_takes_slots, part_takes_slot}
 use Rattle.master_tables.specs.Entries.{entry_without}
@@ -32,27 +32,34 @@ use Rattle.master_core.specs.Attempts.{freed_by, part_end, split_end}
 use Rattle.master_core.specs.Inside.{setup_of, state_of, job_of, IsMaster}
 use Rattle.master_core.proofs.Accepting.{results_after}
 
-abbrev on_worker : Option Start → ℕ
-on_worker start = option_map_or (λ one. one.worker) start 0
+-- the attempt that has the number a, on the worker that its start tells
+abbrev pub numbered : ℕ → ℕ → Attempt
+numbered a w = record { number = a; worker = w }
 
--- the attempt takes a slot of the worker on which it runs
+pub found_is : (s : State) (a w : ℕ) (work : Work) (attempts : List Attempt) →
+    start_of s a ≡ Some (start_on work w) → All (IsToldAs s work) attempts →
+    list_any (is_numbered a) attempts ≡ true → find (is_numbered a) attempts ≡ Some (numbered a w)
+found_is s a w work [] start told any = absurd (false≢true any)
+found_is s a w work (one ∷ attempts) start told any = elim (cases_Bool (is_numbered a one)) [
+  | inl here ↦
+      let number : one.number ≡ a = eqb-true one.number a here in
+      let begun : start_of s one.number ≡ Some (start_on work one.worker) = told 0 one (omega arith) in
+      let worker : one.worker ≡ w =
+      sym (ap worker_in begun) ∙ ap (λ (n : ℕ). worker_in (start_of s n)) number ∙ ap worker_in start in
+      rw here (λ i. Some (record { number = number i; worker = worker i }))
+  | inr off ↦ rw off (found_is s a w work attempts start (λ k d l. told (suc k) d (omega (arith, l)))
+      (rw off at any))
+]
+
+-- it takes a slot of this worker
 takes : (s : State) (a w : ℕ) (work : Work) (attempts : List Attempt) →
     start_of s a ≡ Some (start_on work w) → All (IsToldAs s work) attempts →
     All (TakesSlot s.workers) attempts → list_any (is_numbered a) attempts ≡ true →
-    TakesSlot s.workers (record { number = a; worker = w })
+    TakesSlot s.workers (numbered a w)
 takes s a w work attempts start told all any =
-    let found = Any-from_list_any (is_numbered a) attempts any in
-    let number : found.1.number ≡ a = eqb-true found.1.number a found.4 in
-    let here : TakesSlot s.workers found.1 =
-    subst (TakesSlot s.workers) found.3 (all found.0 found.1 found.2) in
-    let begun : start_of s found.1.number ≡ Some (start_on work found.1.worker) =
-    subst (IsToldAs s work) found.3 (told found.0 found.1 found.2) in
-    let worker : found.1.worker ≡ w =
-    sym (ap on_worker begun) ∙ ap (λ (n : ℕ). on_worker (start_of s n)) number ∙ ap on_worker start in
-    record {
-      known = subst (λ (v : ℕ). v < length s.workers.each) worker here.known;
-      taken = subst (λ (v : ℕ). 0 < taken_slots s.workers v) worker here.taken;
-    }
+    let at = find-contains (is_numbered a) attempts (numbered a w)
+    (found_is s a w work attempts start told any) in
+    subst (TakesSlot s.workers) at.2 (all at.0 (numbered a w) at.1)
 
 -- the end of an attempt as its place and its worker show it
 module _ {setup : Setup} {s : State} {a split w : ℕ} (tidy : IsTidy setup s)
@@ -63,29 +70,26 @@ module _ {setup : Setup} {s : State} {a split w : ℕ} (tidy : IsTidy setup s)
   }
   split_ended Failed =
       let places = without_at setup s a split w tidy run.start in
-      let on : worker_of s a ≡ w = ap on_worker run.start in
+      let on : worker_of s a ≡ w = ap worker_in run.start in
       rw (on, split_running_is setup s a split tidy run.runs, places.0, places.1) refl
   split_ended Withdrawn =
       let places = without_at setup s a split w tidy run.start in
-      let on : worker_of s a ≡ w = ap on_worker run.start in
+      let on : worker_of s a ≡ w = ap worker_in run.start in
       rw (on, places.0, places.1) refl
 
-pub part_ended : {setup : Setup} {s : State} {a r w : ℕ} → IsTidy setup s → RunsPart s a r w → (end : End) →
-    changed s (part_end end a) ≡ record s {
-      workers = with_slot_given s.workers w;
-      parts = updated (part_without (is_numbered a)) s.parts r;
-    }
-part_ended {setup = setup} {s = s} {a = a} {r = r} {w = w} tidy run end =
-    let places = part_without_at setup s a r w tidy run.start in
-    let on : worker_of s a ≡ w = ap on_worker run.start in
-    let is : changed s (part_end Withdrawn a) ≡ record s {
-      workers = with_slot_given s.workers w;
-      parts = updated (part_without (is_numbered a)) s.parts r;
-    } = rw (on, places.0, places.1) refl in
-    elim end as (λ e. changed s (part_end e a) ≡ record s {
-      workers = with_slot_given s.workers w;
-      parts = updated (part_without (is_numbered a)) s.parts r;
-    }) [ Failed ↦ is | Withdrawn ↦ is ]
+module _ {setup : Setup} {s : State} {a r w : ℕ} (tidy : IsTidy setup s) (run : RunsPart s a r w) where
+  pub part_ended : (end : End) → changed s (part_end end a) ≡ record s {
+    workers = with_slot_given s.workers w;
+    parts = updated (part_without (is_numbered a)) s.parts r;
+  }
+  part_ended Failed =
+      let places = part_without_at setup s a r w tidy run.start in
+      let on : worker_of s a ≡ w = ap worker_in run.start in
+      rw (on, places.0, places.1) refl
+  part_ended Withdrawn =
+      let places = part_without_at setup s a r w tidy run.start in
+      let on : worker_of s a ≡ w = ap worker_in run.start in
+      rw (on, places.0, places.1) refl
 
 -- such a call asks for nothing and adds no result
 pub record IsPlain (setup : Setup) (s : State) (call : Call) : Type 0 where
@@ -114,13 +118,13 @@ module _ {m : Inside} {j : Job} {a k w : ℕ} (was : IsMaster m) (is : job_of m 
   part_runs_in run = subst (λ (i : Job). RunsPart i.state a k w) (sym is) run
 
   -- and takes a slot of its worker there
-  pub split_slot : RunsSplit j.state a k w → TakesSlot m.workers (record { number = a; worker = w })
+  pub split_slot : RunsSplit j.state a k w → TakesSlot m.workers (numbered a w)
   split_slot run =
       let here = split_runs_in run in
       takes (state_of m) a w (works.Split k) (attempts_of (split_at (state_of m) k)) here.start
       (was.kept.tidy.told k) (split_takes_slots (setup_of m) (state_of m) k was.kept.tidy) here.runs
 
-  pub part_slot : RunsPart j.state a k w → TakesSlot m.workers (record { number = a; worker = w })
+  pub part_slot : RunsPart j.state a k w → TakesSlot m.workers (numbered a w)
   part_slot run =
       let here = part_runs_in run in
       takes (state_of m) a w (works.Part k) (part_attempts (part_at (state_of m) k)) here.start

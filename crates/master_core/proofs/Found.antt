@@ -1,8 +1,8 @@
 -- Where a master finds what runs an attempt.
-use Rattle.std.proofs.Common.{◌≡◌, ℕ, zero, suc, ◌<◌, List, [], ◌∷◌, length, map, get_or, Bool, true, false}
+use Rattle.std.proofs.Common.{◌≡◌, ℕ, ◌<◌, List, length, map, get_or, Bool, true, false}
 use Rattle.std.proofs.Common.{not, Some, None, ap, ◌∙◌, sym, arith, subst}
 use Rattle.std.specs.Prelude.{if◌then◌else◌, slice_index_or}
-use Rattle.std.proofs.lemmas.List.{length-map}
+use Rattle.std.proofs.lemmas.List.{get_or-map, get_or_default, length-map}
 use Rattle.std.proofs.lemmas.List.FromFn.{length-range_with_len}
 use Rattle.master_state.specs.declared.states.Work.{Work}
 use Rattle.master_state.specs.declared.states.Work.TheVariants as works
@@ -28,15 +28,7 @@ use Rattle.master_tables.specs.Places.{split_of, part_of}
 -- an element that is read shows at its place in a list of what its like show
 pub at_mapped : {X Y : Type 0} (f : X → Y) (xs : List X) (k : ℕ) (x : X) (d : Y) → k < length xs →
     x ≡ get_or xs k x → f x ≡ slice_index_or (map f xs) k d
-at_mapped f [] k x d inside at = absurd (omega (arith, inside))
-at_mapped f (first ∷ xs) zero x d inside at = ap f at
-at_mapped f (first ∷ xs) (suc k) x d inside at = at_mapped f xs k x d (omega (arith, inside)) at
-
-pub element_at : {X : Type 0} (xs : List X) (k : ℕ) (x d : X) → k < length xs → x ≡ get_or xs k x →
-    x ≡ slice_index_or xs k d
-element_at [] k x d inside at = absurd (omega (arith, inside))
-element_at (first ∷ xs) zero x d inside at = at
-element_at (first ∷ xs) (suc k) x d inside at = element_at xs k x d (omega (arith, inside)) at
+at_mapped f xs k x d inside at = ap f at ∙ sym (get_or-map f xs k x d inside)
 
 -- what the work of a start is
 pub of_split : (work : Work) {k : ℕ} → split_of work ≡ Some k → work ≡ works.Split k
@@ -128,6 +120,7 @@ module _ {m : Inside} {j : Job} (was : IsMaster m) (is : job_of m ≡ j) where
         IsFound j.state a (if b then Part (record { part = r; worker = w }) else Nowhere)
     part_found b {state = state} place at ran =
         let inside : state ≡ get_or m.parts.items r state = rw place at at in
-        let here = ran ∙ ap (part_runs a) (element_at m.parts.items r state part.Pending part_in_list inside)
+        let here = ran ∙ ap (part_runs a) (inside ∙ get_or_default m.parts.items r state part.Pending
+        part_in_list)
         ∙ ap (λ (l : Job). part_runs a (part_at l.state r)) is in
         part_told b here (no_part_is j.setup j.state a r w tidy_at start ∙ ap not (sym here))

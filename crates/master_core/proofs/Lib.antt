@@ -5,7 +5,6 @@ pub mod Opening
 pub mod Accepting
 pub mod Completing
 pub mod ResultRoom
-pub mod Handed
 pub mod Burying
 pub mod Committing
 pub mod Present

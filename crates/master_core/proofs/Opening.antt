@@ -52,13 +52,11 @@ none_done [] k attempt result is = cc
 none_done (split ∷ splits) zero attempt result is = cc
 none_done (split ∷ splits) (suc k) attempt result is = none_done splits k attempt result is
 
-pub made_opening : (setup : Setup) (splits : List Split) → AreOfSplits setup (map (λ _. Pending) splits)
-made_opening setup splits k attempt result is = absurd (none_done splits k attempt result is)
-
 pub made_from : (setup : Setup) (entries : List SplitEntry) →
     entries ≡ map (λ _. Pending) setup.cluster.splits →
     AreOfSplits setup entries
-made_from setup entries is = rw is (made_opening setup setup.cluster.splits)
+made_from setup entries is =
+    rw is (λ k attempt result found. absurd (none_done setup.cluster.splits k attempt result found))
 
 pub kept_from : (setup : Setup) (history : List Event) (state : State) (results : List PartView) →
     history ≡ [] → state ≡ opening setup → results ≡ [] → IsWhole setup.cluster → AreAllowed setup.limits →

@@ -21,7 +21,8 @@ after c =
     let old = c.self.inside in
     let split = c.args.split in
     let one : Attempt = record { number = c.record_start-number.result; worker = c.args.worker } in
-    follows c.self.invariant c.self.view_is c.requires (sym c.why_not_backup.ensures ∙ c.in_default.is)
+    follows (Backup split c.args.worker) c.self.invariant c.self.view_is c.requires (sym
+    c.why_not_backup.ensures ∙ c.in_default.is)
     (rw (c.record_event-place.ensures.capacity, c.record_start-number.ensures.capacity) refl)
     (c.record_event-place.ensures.items
     ∙ ap (λ (n : ℕ). old.history.items ++ events.Backup n split one.worker ∷ [])

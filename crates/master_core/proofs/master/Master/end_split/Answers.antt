@@ -24,7 +24,7 @@ after c =
     let j = c.args.self.now in
     let plain = split_plain j.setup j.state c.args.attempt c.args.end c.requires.1
     (sym c.has_no_place.ensures ∙ c.if-has_no_place.false) in
-    follows c.self.invariant c.self.view_is plain.known plain.allowed
+    follows (split_end c.args.end c.args.attempt) c.self.invariant c.self.view_is plain.known plain.allowed
     (rw c.record_event.ensures.capacity refl)
     (c.record_event.ensures.items
     ∙ ap (λ (e : Event). old.history.items ++ e ∷ []) (c.of_split.ensures (state_of old)))

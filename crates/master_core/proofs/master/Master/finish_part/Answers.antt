@@ -7,24 +7,16 @@ use Rattle.master_core.proofs.ResultRoom.{result_room}
 use Rattle.master_core.proofs.master.Master.finish_part.Goals as goal
 
 pub returns-then-is_wrong_part : goal.returns-then-is_wrong_part
-returns-then-is_wrong_part c = (
-  refl,
-  record {
-    refused = part_refusal c.self.invariant c.self.view_is c.args.made c.requires c.is_wrong_part.ensures
-        c.if-is_wrong_part.true refl;
-    same = refl;
-  },
-)
+returns-then-is_wrong_part c =
+    let refused = part_refusal c.self.invariant c.self.view_is c.args.made c.requires c.is_wrong_part.ensures
+    c.if-is_wrong_part.true refl in
+    (refl, record { refused = refused; same = refl })
 
 pub returns-then-has_no_place : goal.returns-then-has_no_place
-returns-then-has_no_place c = (
-  refl,
-  record {
-    refused = part_refusal c.self.invariant c.self.view_is c.args.made c.requires c.is_wrong_part.ensures
-        c.if-is_wrong_part.false (sym c.has_no_place.ensures ∙ c.if-has_no_place.true);
-    same = refl;
-  },
-)
+returns-then-has_no_place c =
+    let refused = part_refusal c.self.invariant c.self.view_is c.args.made c.requires c.is_wrong_part.ensures
+    c.if-is_wrong_part.false (sym c.has_no_place.ensures ∙ c.if-has_no_place.true) in
+    (refl, record { refused = refused; same = refl })
 
 pub give_slot-requires : goal.give_slot-requires
 give_slot-requires c =
@@ -43,7 +35,7 @@ after : (c : goal.After-record_event) →
       history = c.record_event.new.history;
     }) c.args.self.now (PartDone c.args.attempt c.args.made) c.record_event.result
 after c =
-    follows c.self.invariant c.self.view_is tt
+    follows (PartDone c.args.attempt c.args.made) c.self.invariant c.self.view_is tt
     (part_refusal c.self.invariant c.self.view_is c.args.made c.requires c.is_wrong_part.ensures
     c.if-is_wrong_part.false (sym c.has_no_place.ensures ∙ c.if-has_no_place.false))
     (rw (c.record_event.ensures.capacity, c.record_result.ensures.capacity) refl)

@@ -5,9 +5,9 @@ use Rattle.master_tables.specs.Entries.{shown_as}
 use Rattle.master_core.specs.Inside.{setup_of, state_of}
 use Rattle.master_core.proofs.Accepting.{Follows, follows, with_tables}
 use Rattle.master_core.proofs.Found.{entry_at, text_known}
-use Rattle.master_core.proofs.Completing.{done_is, made_done, map_refusal, numbered, of_split, shown-done_at}
+use Rattle.master_core.proofs.Completing.{done_is, made_done, map_refusal, of_split, shown-done_at}
 use Rattle.master_core.proofs.Completing.{split_taken}
-use Rattle.master_core.proofs.Ended.{split_runs_in}
+use Rattle.master_core.proofs.Ended.{numbered, split_runs_in}
 use Rattle.master_core.proofs.master.Master.finish_split.Goals.{After-index-2}
 use Rattle.master_core.proofs.master.Master.finish_split.Goals as goal
 
@@ -15,24 +15,16 @@ pub is_wrong_map-requires : goal.is_wrong_map-requires
 is_wrong_map-requires c = text_known c.self.invariant c.self.view_is c.args.attempt _ _ c.requires.0.start
 
 pub returns-then-is_wrong_map : goal.returns-then-is_wrong_map
-returns-then-is_wrong_map c = (
-  refl,
-  record {
-    refused = map_refusal c.self.invariant c.self.view_is c.args.made c.requires c.is_wrong_map.ensures
-        c.if-is_wrong_map.true refl;
-    same = refl;
-  },
-)
+returns-then-is_wrong_map c =
+    let refused = map_refusal c.self.invariant c.self.view_is c.args.made c.requires c.is_wrong_map.ensures
+    c.if-is_wrong_map.true refl in
+    (refl, record { refused = refused; same = refl })
 
 pub returns-then-has_no_place : goal.returns-then-has_no_place
-returns-then-has_no_place c = (
-  refl,
-  record {
-    refused = map_refusal c.self.invariant c.self.view_is c.args.made c.requires c.is_wrong_map.ensures
-        c.if-is_wrong_map.false (sym c.has_no_place.ensures ∙ c.if-has_no_place.true);
-    same = refl;
-  },
-)
+returns-then-has_no_place c =
+    let refused = map_refusal c.self.invariant c.self.view_is c.args.made c.requires c.is_wrong_map.ensures
+    c.if-is_wrong_map.false (sym c.has_no_place.ensures ∙ c.if-has_no_place.true) in
+    (refl, record { refused = refused; same = refl })
 
 shows : (c : After-index-2) →
     shown_as c.index-2.result.now ≡ split_at (state_of c.self.inside) c.args.found.split
@@ -56,7 +48,7 @@ after c =
     let one = numbered c.args.attempt c.args.found.worker in
     let right = of_split (setup_of old) split c.args.made
     (sym (c.is_wrong_map.ensures (setup_of old) refl) ∙ c.if-is_wrong_map.false) in
-    follows c.self.invariant c.self.view_is tt
+    follows (MapDone c.args.attempt c.args.made) c.self.invariant c.self.view_is tt
     (map_refusal c.self.invariant c.self.view_is c.args.made c.requires c.is_wrong_map.ensures
     c.if-is_wrong_map.false (sym c.has_no_place.ensures ∙ c.if-has_no_place.false))
     (rw c.record_event.ensures.capacity refl) c.record_event.ensures.items c.record_event.ensures.place

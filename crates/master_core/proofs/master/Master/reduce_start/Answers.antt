@@ -1,10 +1,9 @@
 use Rattle.std.proofs.Common.{◌≡◌, ◌+◌, length, refl, sym, ap, ◌∙◌, arith, subst}
-use Rattle.master_state.specs.declared.answers.Why.TheVariants.{NotReady, HistoryFull}
 use Rattle.master_state.specs.declared.answers.Reply.{Reply}
 use Rattle.master_state.specs.Refusals.{ReduceStart}
 use Rattle.master_state.specs.Jobs.{Job, IsReply}
 use Rattle.master_core.specs.Inside.{job_of, state_of}
-use Rattle.master_core.proofs.Accepting.{Follows, follows, is_false, no_reason}
+use Rattle.master_core.proofs.Accepting.{Follows, follows, is_false}
 use Rattle.master_core.proofs.PartStarts.{IsNextIn, entry_of_each, next_in, reduce_started_is}
 use Rattle.master_core.proofs.master.Master.reduce_start.Goals.{In-Some}
 use Rattle.master_core.proofs.master.Master.reduce_start.Goals as goal
@@ -42,8 +41,11 @@ after : (c : goal.After-record_event-place) →
     }) c.args.self.now ReduceStart c.record_event-place.result
 after c =
     let next = next (goal.at.returns c).In-Some in
-    follows c.self.invariant c.self.view_is tt (no_reason _ _ NotReady HistoryFull
-    (is_false _ c.in-Some.ensures.ready) (sym c.has_no_room.ensures ∙ c.if-has_no_room.false))
+    follows ReduceStart c.self.invariant c.self.view_is tt (rw (
+      is_false _ c.in-Some.ensures.ready,
+      sym
+          c.has_no_room.ensures ∙ c.if-has_no_room.false,
+    ) refl)
     (rw (c.record_event-place.ensures.capacity, c.start_part.ensures.capacity) refl)
     (c.record_event-place.ensures.items ∙ rw (number_is c, next.part_is, next.worker_is) refl)
     c.record_event-place.ensures.place

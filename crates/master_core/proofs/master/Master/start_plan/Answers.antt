@@ -1,42 +1,27 @@
-use Rattle.std.proofs.Common.{refl, sym, ap, ◌∙◌, arith}
+use Rattle.std.proofs.Common.{refl, ap, ◌∙◌, arith}
 use Rattle.master_state.specs.declared.answers.Wave.{Wave}
 use Rattle.master_state.specs.Refusals.{has_no_room}
 use Rattle.master_core.specs.Inside.{setup_of, state_of}
-use Rattle.master_core.proofs.Committing.{Commits, best_may_start, commits}
+use Rattle.master_core.proofs.Committing.{best_may_start, commits}
 use Rattle.master_core.proofs.master.Master.start_plan.Goals as goal
 
 pub start_each-requires-clause-allowed : goal.start_each-requires-clause-allowed
 start_each-requires-clause-allowed c =
     best_may_start c.self.invariant c.self.view_is c.requires.best refl c.requires.room
 
-abbrev wave_of : goal.After-record_event-place → Wave
-wave_of c = record {
-  place = c.record_event-place.result;
-  first = c.new-first.result;
-  count = c.args.certified.count;
-  cost = c.args.certified.cost;
-}
-
-after : (c : goal.After-record_event-place) →
-    Commits (record c.self.inside {
-      workers = c.start_each.new.workers;
-      splits = c.start_each.new.splits;
-      starts = c.start_each.new.starts;
-      history = c.record_event-place.new.history;
-    }) c.args.self.now c.args.plan.now.starts (wave_of c)
-after c =
-    let old = c.self.inside in
+pub invariant_of-self : goal.invariant_of-self
+invariant_of-self c =
     let j = c.args.self.now in
-    commits c.self.invariant c.self.view_is c.requires.best
+    let wave : Wave = record {
+      place = c.record_event-place.result;
+      first = c.new-first.result;
+      count = c.args.certified.count;
+      cost = c.args.certified.cost;
+    } in
+    commits c.args.plan.now.starts wave c.self.invariant c.self.view_is c.requires.best
     (ap (has_no_room j.setup j.state) c.requires.counted.count ∙ c.requires.room)
     (omega (arith, c.new-first.ensures, c.len.ensures)) c.requires.counted.count c.requires.counted.cost
     (rw (c.record_event-place.ensures.capacity, c.start_each.ensures.capacity) refl)
     c.record_event-place.ensures.items c.record_event-place.ensures.place
-    (c.start_each.ensures.started (state_of old) refl refl refl) refl
-    (c.start_each.ensures.made (setup_of old) c.self.invariant.made)
-
-pub invariant_of-self : goal.invariant_of-self
-invariant_of-self c = (after c).master
-
-pub returns : goal.returns
-returns c = (after c).committed
+    (c.start_each.ensures.started (state_of c.self.inside) refl refl refl) refl
+    (c.start_each.ensures.made (setup_of c.self.inside) c.self.invariant.made)

@@ -6,7 +6,7 @@ use Rattle.master_state.specs.Jobs.{Job}
 use Rattle.master_state.proofs.Sweeping.{heard_state}
 use Rattle.master_core.specs.Inside.{setup_of, state_of}
 use Rattle.master_core.proofs.Accepting.{Follows, follows}
-use Rattle.master_core.proofs.Burying.{one_reason, swept_is}
+use Rattle.master_core.proofs.Burying.{swept_is}
 use Rattle.master_core.proofs.master.Master.sweep.Goals as goal
 
 after : (c : goal.After-record_event) →
@@ -21,8 +21,8 @@ after : (c : goal.After-record_event) →
 after c =
     let old = c.self.inside in
     let counts = c.args.counts.now in
-    follows c.self.invariant c.self.view_is tt
-    (one_reason _ (sym c.has_no_sweep.ensures ∙ c.if-has_no_sweep.false))
+    follows (Sweep counts) c.self.invariant c.self.view_is tt
+    (rw (sym c.has_no_sweep.ensures ∙ c.if-has_no_sweep.false) refl)
     (rw (c.record_event.ensures.capacity, c.record_counts-place.ensures.capacity) refl)
     (c.record_event.ensures.items
     ∙ ap (λ (n : ℕ). old.history.items ++ events.Sweep n ∷ []) c.record_counts-place.ensures.place)
