@@ -10,7 +10,6 @@ use Rattle.std.proofs.lemmas.List.Elements.{All-cons, All-nil}
 use Rattle.wave_problem.specs.Assignment.{pairs_of}
 use Rattle.price_certificate.specs.PriceList.{PriceList}
 use Rattle.master_state.specs.declared.answers.Wave.{Wave}
-use Rattle.master_state.specs.declared.events.Event.TheVariants as events
 use Rattle.master_state.specs.declared.states.Work.TheVariants as works
 use Rattle.master_state.specs.declared.states.Start.{Start}
 use Rattle.master_state.specs.States.{Setup, State}
@@ -95,17 +94,14 @@ map_starts sizes old hand plan wave new own committed kept =
     (own.workers ∙ ap (λ (s : Setup). length s.cluster.slots) (sym committed.next.setup)) known)
 
 pub first_within : (old : Job) (plan : List (Option ℕ)) (wave : Wave) (new : Job) →
-    IsCommitted old plan wave new →
-    (wave.first - 1 ≤ length new.state.starts) × (wave.first ≡ length old.state.starts + 1)
-first_within old plan wave new committed = (
-  omega (
-    arith,
-    committed.change.first_is,
-    ap (λ (s : State). length s.starts) committed.change.leads,
-    length-started old.state (pairs_of plan),
-  ),
-  committed.change.first_is,
-)
+    IsCommitted old plan wave new → wave.first - 1 ≤ length new.state.starts
+first_within old plan wave new committed =
+    omega (
+      arith,
+      committed.change.first_is,
+      ap (λ (s : State). length s.starts) committed.change.leads,
+      length-started old.state (pairs_of plan),
+    )
 
 pub starts_counted : (old : Job) (plan : List (Option ℕ)) (wave : Wave) (new : Job) →
     IsCommitted old plan wave new →
@@ -118,17 +114,6 @@ starts_counted old plan wave new committed =
       ap (λ (s : State). length s.starts) committed.change.leads,
       length-started old.state (pairs_of plan),
       length-drop (wave.first - 1) new.state.starts,
-    )
-
-pub wave_last : (old : Job) (plan : List (Option ℕ)) (wave : Wave) (new : Job) →
-    IsCommitted old plan wave new →
-    wave.place ≡ length new.history
-wave_last old plan wave new committed =
-    omega (
-      arith,
-      committed.next.place_is,
-      ap length committed.next.history,
-      length-append old.history (events.Wave wave.first wave.count wave.cost ∷ []),
     )
 
 -- a plan that was committed under the lock, with its starts

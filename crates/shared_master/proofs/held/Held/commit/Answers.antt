@@ -4,14 +4,11 @@ use Rattle.master_state.specs.declared.states.Start.{Start}
 use Rattle.hand_ledger.specs.Hands.{has_room, kept, with_call}
 use Rattle.shared_master.specs.Held.{HeldValue}
 use Rattle.shared_master.specs.Steps.{IsOwn}
-use Rattle.shared_master.proofs.Waving.{first_within, shared_wave, starts_counted, wave_last}
+use Rattle.shared_master.proofs.Waving.{first_within, shared_wave, starts_counted}
 use Rattle.shared_master.proofs.held.Held.commit.Goals as goal
 
-pub starts_from-requires-clause-some : goal.starts_from-requires-clause-some
-starts_from-requires-clause-some g c = omega (arith, (first_within _ _ _ _ c.in-Ok.ensures.1).1)
-
 pub starts_from-requires-clause-within : goal.starts_from-requires-clause-within
-starts_from-requires-clause-within g c = (first_within _ _ _ _ c.in-Ok.ensures.1).0
+starts_from-requires-clause-within g c = first_within _ _ _ _ c.in-Ok.ensures.1
 
 pub with_all-starts-requires : goal.with_all-starts-requires
 with_all-starts-requires g c =
@@ -23,15 +20,6 @@ with_all-starts-requires g c =
       ap length c.starts_from.ensures,
       starts_counted _ _ _ _ c.in-Ok.ensures.1,
       c.in-Ok.ensures.1.change.count_is,
-    )
-
-pub keep-requires-clause-place : goal.keep-requires-clause-place
-keep-requires-clause-place g c =
-    omega (
-      arith,
-      wave_last _ _ _ _ c.in-Ok.ensures.1,
-      c.events-events.ensures.count,
-      c.events-events.ensures.most,
     )
 
 pub keep-requires-clause-starts : goal.keep-requires-clause-starts
