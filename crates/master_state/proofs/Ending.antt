@@ -2,7 +2,7 @@
 use Rattle.std.proofs.Common.{◌≡◌, ◌≢◌, ℕ, suc, ◌+◌, ◌==◌, ◌||◌, List, [], ◌∷◌, ◌++◌, length, map, cond, Bool}
 use Rattle.std.proofs.Common.{true, false, not, Option, Some, None, refl, sym, ap, ◌∙◌, arith, inl, inr, All}
 use Rattle.std.proofs.Common.{AllPairs, subst}
-use Rattle.std.specs.Prelude.{flat_map, filter, find, count_by, sum_by, is_some}
+use Rattle.std.specs.Prelude.{flat_map, filter, find, count_by, sum_by, is_some, slice_index_or}
 use Rattle.std.specs.List.{list_any}
 use Rattle.std.specs.Option.{option_map_or}
 use Rattle.std.proofs.lemmas.Bool.{false≢true, eqb-true, eqb-false, eq-eqb, ne_eqb, cases_Bool, cases_eq}
@@ -12,8 +12,7 @@ use Rattle.std.proofs.lemmas.List.Elements.{All-filter, All-append, All-map, All
 use Rattle.std.proofs.lemmas.List.Elements.{filter_passes}
 use Rattle.std.proofs.lemmas.List.Filters.{sum_by-filter_both}
 use Rattle.std.proofs.lemmas.List.Folds.{list_any-append}
-use Rattle.std.proofs.lemmas.List.Kept.{AllPairs-filter}
-use Rattle.std.proofs.lemmas.List.Sums.{length-filter, count_by-le-length}
+use Rattle.std.proofs.lemmas.List.Sums.{length-filter}
 use Rattle.std.proofs.lemmas.Option.{slice_get-get_or}
 use Rattle.node_ids.proofs.Updating.{sum_by-updated}
 use Rattle.word_map.specs.Runs.{MapView}
@@ -23,6 +22,7 @@ use Rattle.block_map.specs.Holdings.{without, without_worker}
 use Rattle.master_state.specs.declared.states.Attempt.{Attempt}
 use Rattle.master_state.specs.declared.states.SplitState.{SplitState}
 use Rattle.master_state.specs.declared.states.SplitState.TheVariants.{Pending, Done}
+use Rattle.master_state.specs.declared.states.PartState.{PartState}
 use Rattle.master_state.specs.declared.states.PartState.TheVariants as part
 use Rattle.master_state.specs.States.{Setup, State, worker_of}
 use Rattle.master_state.specs.Tests.{is_numbered, is_on, attempts_of, part_attempts, all_running, runs}
@@ -38,16 +38,14 @@ use Rattle.master_state.proofs.Lists.{find-any}
 use Rattle.master_state.proofs.Facts.{count-all_running}
 use Rattle.master_state.proofs.Places.{IsPlaced, placed, told_split, told_part, split_inside, found_split}
 use Rattle.master_state.proofs.Places.{found_part, done_at, part_without_at}
-use Rattle.master_state.proofs.Less.{tidy_ended, attempts-without, attempts-part_without}
-use Rattle.master_state.proofs.Less.{attempts-part_done_by, attempts-death, less_without, less_same}
+use Rattle.master_state.proofs.Holding.{held_less}
+use Rattle.master_state.proofs.Less.{IsLess, others, tidy_ended, attempts-without, attempts-part_without}
+use Rattle.master_state.proofs.Less.{attempts-part_done_by, attempts-death, less_without}
 use Rattle.master_state.proofs.Less.{less_done_by, less_death, part_less_filter}
-use Rattle.master_state.proofs.Slots.{fit_given, fit_all_given, fit_death, all_given, taken_given}
+use Rattle.master_state.proofs.Slots.{IsFit, fit_given, fit_all_given, fit_death, all_given, taken_given}
 use Rattle.master_state.proofs.Slots.{taken_all_given, taken_death, live_given, live_all_given, live_death}
 use Rattle.master_state.proofs.Reasons.{none_applies, room_left}
 use Rattle.master_state.proofs.Tidying.{tidy_tables, tidy_counted, fit_of, held_kept}
-
-abbrev others : (Attempt → Bool) → Attempt → Bool
-others test attempt = not (test attempt)
 
 -- of attempts with numbers of their own, one has the number a
 filter_once : (a : ℕ) (attempts : List Attempt) → AllPairs (λ x y. x.number ≢ y.number) attempts →
@@ -148,6 +146,35 @@ held_left setup s v tidy =
     held_kept s.workers (with_slot_given s.workers v) s.holders (λ w live. live_given s.workers v w
     ∙ live) tidy.held
 
+-- a state of which the attempts that pass a test ended, by a change of each split and of each part
+tidy_gone : (setup : Setup) (s : State) (table : Workers) (lists : List (List ℕ)) (test : Attempt → Bool)
+    (change : SplitState → SplitState) (end : PartState → PartState) → IsTidy setup s → IsFit setup table →
+    length lists ≡ length s.holders → All (AreHolders table) lists → change Pending ≡ Pending →
+    end part.Pending ≡ part.Pending →
+    ((split : SplitState) → attempts_of (change split) ≡ filter (others test) (attempts_of split)) →
+    ((state : PartState) → part_attempts (end state) ≡ filter (others test) (part_attempts state)) →
+    ((split : SplitState) → IsLess split (change split)) →
+    ((w : ℕ) → taken_slots table w ≡ count_by (is_on w) (filter (others test) (all_running s))) →
+    All (λ attempt. is_live table attempt.worker ≡ true) (filter (others test) (all_running s)) →
+    IsTidy setup (record s {
+      workers = table;
+      holders = lists;
+      splits = map change s.splits;
+      parts = map end s.parts;
+    })
+tidy_gone setup s table lists test change end tidy fit same held a b splits parts less taken live =
+    tidy_ended setup s table lists (map change s.splits) (map end s.parts)
+    (filter (others test) (all_running s)) tidy fit same held (length-map s.splits change)
+    (length-map s.parts end) (rw (
+      flat_map-filter attempts_of change (others test) s.splits splits,
+      flat_map-filter part_attempts end (others test) s.parts parts,
+    ) (sym (filter-append (others test) (flat_map attempts_of s.splits) (flat_map part_attempts s.parts))))
+    taken live
+    (λ k. rw (ap (slice_index_or (map change s.splits) k) (sym a) ∙ at-map change s.splits k Pending)
+    (less (split_at s k)))
+    (λ r. rw (ap (slice_index_or (map end s.parts) r) (sym b) ∙ at-map end s.parts r part.Pending)
+    (part_less_filter test (part_at s r) (end (part_at s r)) (parts (part_at s r))))
+
 -- an attempt that runs no more
 pub tidy_without : (setup : Setup) (s : State) (a : ℕ) → IsTidy setup s →
     list_any (is_numbered a) (all_running s) ≡ true →
@@ -155,21 +182,10 @@ pub tidy_without : (setup : Setup) (s : State) (a : ℕ) → IsTidy setup s →
 tidy_without setup s a tidy any =
     let v = worker_of s a in
     let test = is_numbered a in
-    tidy_ended setup s (with_slot_given s.workers v) s.holders (map (without_attempts test) s.splits)
-    (map (part_without test) s.parts)
-    (filter (others test) (all_running s)) tidy (fit_given setup s.workers v (fit_of setup s tidy)) refl
-    (held_left setup s v tidy)
-    (length-map s.splits (without_attempts test)) (length-map s.parts (part_without test))
-    (rw (
-      flat_map-filter attempts_of (without_attempts test) (others test) s.splits (attempts-without test),
-      flat_map-filter part_attempts (part_without test) (others test) s.parts (attempts-part_without test),
-    )
-    (sym (filter-append (others test) (flat_map attempts_of s.splits) (flat_map part_attempts s.parts))))
-    (slots_left setup s a tidy any) (live_left setup s a tidy)
-    (λ k. rw (at-map (without_attempts test) s.splits k Pending) (less_without test (split_at s k)))
-    (λ r. rw (at-map (part_without test) s.parts r part.Pending)
-    (part_less_filter test (part_at s r) (part_without test (part_at s r))
-    (attempts-part_without test (part_at s r))))
+    tidy_gone setup s (with_slot_given s.workers v) s.holders test (without_attempts test) (part_without test)
+    tidy (fit_given setup s.workers v (fit_of setup s tidy)) refl (held_left setup s v tidy) refl refl
+    (attempts-without test) (attempts-part_without test) (less_without test) (slots_left setup s a tidy any)
+    (live_left setup s a tidy)
 
 pub tidy_withdraw : (setup : Setup) (s : State) (a : ℕ) → IsTidy setup s →
     refusal setup s (Withdraw a) ≡ None →
@@ -281,22 +297,11 @@ tidy_part_done setup s a result tidy allowed =
     let start = told_part setup s a (part_running s a) tidy (found_part s a none.0) in
     let same = (part_without_at setup s a (part_running s a) v tidy start).0 in
     tidy_counted setup (with_part_done s a)
-    (tidy_ended setup s (with_slot_given s.workers v) s.holders s.splits (map (part_done_by a) s.parts)
-    (filter (others test) (all_running s)) tidy (fit_given setup s.workers v (fit_of setup s tidy)) refl
-    (held_left setup s v tidy)
-    refl (length-map s.parts (part_done_by a))
-    (ap (λ splits. flat_map attempts_of splits ++ flat_map part_attempts (map (part_done_by a) s.parts))
-    (sym same)
-    ∙ rw (
-      flat_map-filter attempts_of (without_attempts test) (others test) s.splits (attempts-without test),
-      flat_map-filter part_attempts (part_done_by a) (others test) s.parts (attempts-part_done_by a),
-    )
-    (sym (filter-append (others test) (flat_map attempts_of s.splits) (flat_map part_attempts s.parts))))
-    (slots_left setup s a tidy (any_of_part s a none.0)) (live_left setup s a tidy)
-    (λ k. less_same (split_at s k))
-    (λ r. rw (at-map (part_done_by a) s.parts r part.Pending)
-    (part_less_filter test (part_at s r) (part_done_by a (part_at s r))
-    (attempts-part_done_by a (part_at s r)))))
+    (subst (λ splits. IsTidy setup (record (with_part_done s a) { splits = splits })) same
+    (tidy_gone setup s (with_slot_given s.workers v) s.holders test (without_attempts test) (part_done_by a)
+    tidy (fit_given setup s.workers v (fit_of setup s tidy)) refl (held_left setup s v tidy) refl refl
+    (attempts-without test) (attempts-part_done_by a) (less_without test)
+    (slots_left setup s a tidy (any_of_part s a none.0)) (live_left setup s a tidy)))
     (room_left setup s none.1.1.0)
 
 -- after a death no slot of the worker is taken, and as many of the others as before
@@ -330,49 +335,24 @@ slots_death setup s v w tidy = elim (cases_eq v w) [
       ))
 ]
 
-held_death : (workers : Workers) (v : ℕ) (holders : List ℕ) → AreHolders workers holders →
-    AreHolders (with_death workers v) (without v holders)
-held_death workers v holders held = record {
-  few = omega (
-    arith,
-    length-filter (λ h. not (h == v)) holders,
-    count_by-le-length (λ h. not (h == v)) holders,
-    held.few,
-  );
-  once = AllPairs-filter (λ a b. a ≢ b) (λ h. not (h == v)) holders held.once;
-  live = λ k d l.
-      let off = filter_passes (λ h. not (h == v)) holders k d l in
-      live_death workers v _ (eqb-false _ v (not-true _ off))
-      ∙ All-filter (λ h. not (h == v)) (λ h. is_live workers h ≡ true) holders held.live k d l;
-}
-
 -- any worker may die
 pub tidy_died : (setup : Setup) (s : State) (v : ℕ) → IsTidy setup s → IsTidy setup (died s v)
 tidy_died setup s v tidy =
-    let lost = after_death (all_parts_done s) v in
+    let stays = all_parts_done s in
     let test = is_on v in
-    let rest = filter (others test) (all_running s) in
-    tidy_ended setup s (with_death s.workers v) (without_worker s.holders v) (map lost s.splits)
-    (map (part_without test) s.parts)
-    rest tidy (fit_death setup s.workers v (fit_of setup s tidy)) (length-map s.holders (without v))
+    tidy_gone setup s (with_death s.workers v) (without_worker s.holders v) test (after_death stays v)
+    (part_without test) tidy (fit_death setup s.workers v (fit_of setup s tidy))
+    (length-map s.holders (without v))
     (All-map (AreHolders (with_death s.workers v)) (without v) s.holders
     (All-weaker (AreHolders s.workers) (λ holders. AreHolders (with_death s.workers v) (without v holders))
-    (held_death s.workers v) s.holders tidy.held))
-    (length-map s.splits lost) (length-map s.parts (part_without test))
-    (rw (
-      flat_map-filter attempts_of lost (others test) s.splits (attempts-death (all_parts_done s) v),
-      flat_map-filter part_attempts (part_without test) (others test) s.parts (attempts-part_without test),
-    )
-    (sym (filter-append (others test) (flat_map attempts_of s.splits) (flat_map part_attempts s.parts))))
+    (λ holders. held_less s.workers (with_death s.workers v) (λ h. not (h == v)) holders
+    (λ h off live. live_death s.workers v h (eqb-false h v (not-true _ off)) ∙ live)) s.holders tidy.held))
+    refl refl (attempts-death stays v) (attempts-part_without test) (less_death stays v)
     (λ w. slots_death setup s v w tidy)
     (λ k d l. live_death s.workers v _
     (eqb-false _ v (not-true _ (filter_passes (others test) (all_running s) k d l)))
     ∙ All-filter (others test) (λ attempt. is_live s.workers attempt.worker ≡ true) (all_running s)
     tidy.live k d l)
-    (λ k. rw (at-map lost s.splits k Pending) (less_death (all_parts_done s) v (split_at s k)))
-    (λ r. rw (at-map (part_without test) s.parts r part.Pending)
-    (part_less_filter test (part_at s r) (part_without test (part_at s r))
-    (attempts-part_without test (part_at s r))))
 
 pub tidy_die : (setup : Setup) (s : State) (v : ℕ) → IsTidy setup s → refusal setup s (Die v) ≡ None →
     IsTidy setup (after s (Die v))

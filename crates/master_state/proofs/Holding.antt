@@ -1,12 +1,13 @@
 -- A replica that is added or lost keeps a state tidy.
-use Rattle.std.proofs.Common.{◌≡◌, ◌≢◌, ℕ, List, [], ◌∷◌, ◌++◌, length, true, false, not, ◌==◌, None, sym}
-use Rattle.std.proofs.Common.{◌∙◌, arith, All}
+use Rattle.std.proofs.Common.{◌≡◌, ◌≢◌, ℕ, List, [], ◌∷◌, ◌++◌, length, Bool, true, false, not, ◌==◌, None}
+use Rattle.std.proofs.Common.{sym, ◌∙◌, arith, All}
 use Rattle.std.specs.List.{list_any}
+use Rattle.std.specs.Prelude.{filter}
 use Rattle.std.specs.Cmp.{unsigned_Decides}
 use Rattle.std.proofs.lemmas.Bool.{true≢false, leb-false, or_parts, not-false}
 use Rattle.std.proofs.lemmas.List.Sums.{length-filter, count_by-le-length}
 use Rattle.std.proofs.lemmas.List.Kept.{AllPairs-filter}
-use Rattle.std.proofs.lemmas.List.Elements.{All-nil, All-cons, All-append, All-filter}
+use Rattle.std.proofs.lemmas.List.Elements.{All-nil, All-cons, All-append, All-filter, filter_passes}
 use Rattle.node_ids.proofs.Updating.{length-updated}
 use Rattle.worker_table.specs.Workers.{Workers, is_live}
 use Rattle.block_map.specs.Holdings.{holders_of, are_eight, without, with_holder, without_holder}
@@ -19,17 +20,15 @@ use Rattle.master_state.proofs.Reasons.{none_applies, room_left}
 use Rattle.master_state.proofs.Tidying.{tidy_held}
 use Rattle.std.proofs.lemmas.List.{length-append}
 
-held_without : (workers : Workers) (w : ℕ) (holders : List ℕ) → AreHolders workers holders →
-    AreHolders workers (without w holders)
-held_without workers w holders held = record {
-  few = omega (
-    arith,
-    length-filter (λ h. not (h == w)) holders,
-    count_by-le-length (λ h. not (h == w)) holders,
-    held.few,
-  );
-  once = AllPairs-filter (λ a b. a ≢ b) (λ h. not (h == w)) holders held.once;
-  live = All-filter (λ h. not (h == w)) (λ h. is_live workers h ≡ true) holders held.live;
+-- those of the holders that pass a test, in a table in which these live
+pub held_less : (old new : Workers) (test : ℕ → Bool) (holders : List ℕ) →
+    ((h : ℕ) → test h ≡ true → is_live old h ≡ true → is_live new h ≡ true) → AreHolders old holders →
+    AreHolders new (filter test holders)
+held_less old new test holders lives held = record {
+  few = omega (arith, length-filter test holders, count_by-le-length test holders, held.few);
+  once = AllPairs-filter (λ a b. a ≢ b) test holders held.once;
+  live = λ k d l. lives _ (filter_passes test holders k d l)
+      (All-filter test (λ h. is_live old h ≡ true) holders held.live k d l);
 }
 
 -- no holder is a worker that is none
@@ -59,7 +58,7 @@ pub tidy_lose : (setup : Setup) (s : State) (split w : ℕ) → IsTidy setup s �
 tidy_lose setup s split w tidy allowed =
     tidy_held setup s (without_holder s.holders split w) tidy (length-updated (without w) s.holders split)
     (All-updated (AreHolders s.workers) (without w) s.holders split [] tidy.held
-    (held_without s.workers w (holders_of s.holders split)))
+    (held_less s.workers s.workers (λ h. not (h == w)) (holders_of s.holders split) (λ h on live. live)))
     (room_left setup s (none_applies (reasons setup s (Lose split w)) allowed).1.0)
 
 pub tidy_add : (setup : Setup) (s : State) (split w : ℕ) → IsTidy setup s →

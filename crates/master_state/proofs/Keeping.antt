@@ -1,11 +1,9 @@
 -- A master keeps its promises by every call that is accepted, and by every wave.
-use Rattle.std.proofs.Common.{◌≡◌, ◌≢◌, ℕ, ◌+◌, ◌==◌, ◌||◌, List, [], ◌∷◌, ◌++◌, length}
-use Rattle.std.proofs.Common.{map, cond, Bool, true, false, not, None, refl, sym, ap, ◌∙◌}
-use Rattle.std.proofs.Common.{arith, inl, inr}
+use Rattle.std.proofs.Common.{◌≡◌, ℕ, ◌==◌, ◌||◌, List, [], ◌∷◌, ◌++◌, length, map, cond, Bool}
+use Rattle.std.proofs.Common.{true, false, not, None, refl, sym, ap, ◌∙◌, arith, inl, inr}
 use Rattle.std.specs.Prelude.{fold, filter, slice_index_or}
 use Rattle.std.specs.List.{list_any, list_all, range_with_len}
-use Rattle.std.proofs.lemmas.Bool.{false≢true, eqb-true, eq-eqb, ne_eqb, cases_eq, not-false}
-use Rattle.std.proofs.lemmas.Bool.{or_parts}
+use Rattle.std.proofs.lemmas.Bool.{false≢true, eqb-true, eq-eqb, ne_eqb, cases_eq, not-false, or_parts}
 use Rattle.std.proofs.lemmas.List.{append-nil}
 use Rattle.std.proofs.lemmas.List.Elements.{All-nil, All-push}
 use Rattle.std.proofs.lemmas.List.Sums.{sum_by_push}
@@ -23,7 +21,7 @@ use Rattle.master_state.specs.Tests.{is_numbered, is_on, is_done, part_runs, par
 use Rattle.master_state.specs.Tests.{part_is_done, part_is_pending, next_part, next_worker, next_on}
 use Rattle.master_state.specs.Refusals.{Call, MapDone, MapFailed, Withdraw, Die, Join, Add, Lose, Sweep}
 use Rattle.master_state.specs.Refusals.{ReduceStart, PartDone, PartFailed, Backup, refusal, reasons}
-use Rattle.master_state.specs.Changes.{after, after_wave, split_started, died, part_without, part_done_by}
+use Rattle.master_state.specs.Changes.{after, split_started, died, part_without, part_done_by}
 use Rattle.master_state.specs.Tidy.{IsTidy}
 use Rattle.master_state.specs.Jobs.{AreResults, IsResult, added_by}
 use Rattle.master_state.specs.Laws.{CallsKeep, WavesKeep, OpeningIsKept}
@@ -37,10 +35,10 @@ use Rattle.master_state.proofs.Steps.{Leads-more, legal-accepted}
 use Rattle.master_state.proofs.Histories.{tidy_change, tidy_step}
 
 -- where the same parts are done, the results are theirs still
-results_same : (setup : Setup) (old new : State) (results : List PartView) →
+results_same : {setup : Setup} {old new : State} {results : List PartView} →
     ((r : ℕ) → part_is_done (part_at new r) ≡ part_is_done (part_at old r)) → AreResults setup old results →
     AreResults setup new (results ++ [])
-results_same setup old new results same kept = record {
+results_same {results = results} same kept = record {
   each = rw (append-nil results) kept.each;
   one_each = λ r. rw (append-nil results, same r) (kept.one_each r);
 }
@@ -50,7 +48,7 @@ done_or_pending true a = refl
 done_or_pending false a = refl
 
 -- the end of an attempt, a death and a start leave the done parts as they are
-done_without : (test : Attempt → Bool) (state : PartState) →
+pub done_without : (test : Attempt → Bool) (state : PartState) →
     part_is_done (part_without test state) ≡ part_is_done state
 done_without test part.Pending = refl
 done_without test (part.Running a) = done_or_pending (test a) a
@@ -159,33 +157,26 @@ results_more setup s a result results tidy allowed kept =
 results_after : (setup : Setup) (s : State) (call : Call) (results : List PartView) → IsTidy setup s →
     refusal setup s call ≡ None → AreResults setup s results →
     AreResults setup (after s call) (results ++ added_by call)
-results_after setup s (MapDone a result) results tidy allowed kept =
-    results_same setup s (after s (MapDone a result)) results (λ r. refl) kept
+results_after setup s (MapDone a result) results tidy allowed kept = results_same (λ r. refl) kept
 results_after setup s (MapFailed a) results tidy allowed kept =
-    results_same setup s (after s (MapFailed a)) results (all_done_without (is_numbered a) s) kept
+    results_same (all_done_without (is_numbered a) s) kept
 results_after setup s (Withdraw a) results tidy allowed kept =
-    results_same setup s (after s (Withdraw a)) results (all_done_without (is_numbered a) s) kept
-results_after setup s (Die w) results tidy allowed kept = results_same setup s (after s (Die w)) results
-    (all_done_without (is_on w) s) kept
-results_after setup s (Join w set) results tidy allowed kept = results_same setup s (after s (Join w set))
-    results (λ r. refl) kept
-results_after setup s (Add split w) results tidy allowed kept = results_same setup s (after s (Add split w))
-    results (λ r. refl) kept
-results_after setup s (Lose split w) results tidy allowed kept = results_same setup s (after s (Lose split w))
-    results (λ r. refl) kept
+    results_same (all_done_without (is_numbered a) s) kept
+results_after setup s (Die w) results tidy allowed kept = results_same (all_done_without (is_on w) s) kept
+results_after setup s (Join w set) results tidy allowed kept = results_same (λ r. refl) kept
+results_after setup s (Add split w) results tidy allowed kept = results_same (λ r. refl) kept
+results_after setup s (Lose split w) results tidy allowed kept = results_same (λ r. refl) kept
 results_after setup s (Sweep counts) results tidy allowed kept =
-    results_same setup s (after s (Sweep counts)) results
-    (done_all_died (heard_state s counts)
+    results_same (done_all_died (heard_state s counts)
     (filter (is_silent (swept s.workers counts)) (range_with_len 0 (length (swept s.workers counts).each))))
     kept
 results_after setup s ReduceStart results tidy allowed kept =
-    results_same setup s (after s ReduceStart) results (λ r. done_reduce setup s r allowed) kept
+    results_same (λ r. done_reduce setup s r allowed) kept
 results_after setup s (PartDone a result) results tidy allowed kept =
     results_more setup s a result results tidy allowed kept
 results_after setup s (PartFailed a) results tidy allowed kept =
-    results_same setup s (after s (PartFailed a)) results (all_done_without (is_numbered a) s) kept
-results_after setup s (Backup split w) results tidy allowed kept =
-    results_same setup s (after s (Backup split w)) results (λ r. refl) kept
+    results_same (all_done_without (is_numbered a) s) kept
+results_after setup s (Backup split w) results tidy allowed kept = results_same (λ r. refl) kept
 
 pub calls_keep : CallsKeep
 calls_keep old new call place kept accepted =
@@ -213,8 +204,8 @@ waves_keep old new plan wave kept committed =
           ));
       tidy = rw next.setup (tidy_step old.setup old.state event new.state kept.tidy (plan, committed.change));
       results = rw (next.setup, next.results, committed.change.leads)
-          (results_same old.setup old.state (after_wave old.state (pairs_of plan)) old.results
-          (λ r. ap (λ (parts : List PartState). part_is_done (slice_index_or parts r part.Pending))
+          (results_same (λ r. ap (λ (parts : List PartState). part_is_done (slice_index_or parts r
+          part.Pending))
           (parts_all_started old.state (pairs_of plan)))
           kept.results);
     }

@@ -1,5 +1,5 @@
 -- A state of which some attempts ended is tidy still.
-use Rattle.std.proofs.Common.{◌≡◌, ◌≢◌, ℕ, ◌&&◌, ◌⊎◌, List, [], ◌∷◌, ◌++◌, length, cond, Bool, true, false}
+use Rattle.std.proofs.Common.{◌≡◌, ℕ, ◌&&◌, ◌⊎◌, List, [], ◌∷◌, ◌++◌, length, cond, Bool, true, false}
 use Rattle.std.proofs.Common.{not, Option, Some, None, refl, ap, ◌∙◌, inl, inr, All, Contains, subst}
 use Rattle.std.specs.Prelude.{flat_map, filter, find, count_by, slice_index_or}
 use Rattle.std.specs.Option.{option_map_or}
@@ -67,7 +67,7 @@ tidy_ended setup s workers lists splits parts rest tidy fit same_lists held same
     })
 
 -- a split without some of its attempts
-abbrev others : (Attempt → Bool) → Attempt → Bool
+abbrev pub others : (Attempt → Bool) → Attempt → Bool
 others test attempt = not (test attempt)
 
 running_one : (p : Bool) (a : Attempt) → attempts_of (running (cond p (a ∷ []) [])) ≡ cond p (a ∷ []) []
@@ -89,26 +89,22 @@ attempts-without test (Running a None) = running_one (not (test a)) a
 attempts-without test (Running a (Some b)) = running_two (not (test a)) (not (test b)) a b
 attempts-without test (Done a) = refl
 
-part_one : (b : Bool) (a : Attempt) → part_attempts (cond b part.Pending (part.Running a)) ≡ cond (not b)
-    (a ∷ []) []
-part_one true a = refl
-part_one false a = refl
+part_one : (b : Bool) (other : PartState) (a : Attempt) → part_attempts other ≡ [] →
+    part_attempts (cond b other (part.Running a)) ≡ cond (not b) (a ∷ []) []
+part_one true other a none = none
+part_one false other a none = refl
 
 pub attempts-part_without : (test : Attempt → Bool) (state : PartState) →
     part_attempts (part_without test state) ≡ filter (others test) (part_attempts state)
 attempts-part_without test part.Pending = refl
-attempts-part_without test (part.Running a) = part_one (test a) a
+attempts-part_without test (part.Running a) = part_one (test a) part.Pending a refl
 attempts-part_without test part.Done = refl
-
-done_one : (b : Bool) (a : Attempt) → part_attempts (cond b part.Done (part.Running a)) ≡ cond (not b)
-    (a ∷ []) []
-done_one true a = refl
-done_one false a = refl
 
 pub attempts-part_done_by : (a : ℕ) (state : PartState) →
     part_attempts (part_done_by a state) ≡ filter (others (is_numbered a)) (part_attempts state)
 attempts-part_done_by a part.Pending = refl
-attempts-part_done_by a (part.Running attempt) = done_one (is_numbered a attempt) attempt
+attempts-part_done_by a (part.Running attempt) =
+    part_one (is_numbered a attempt) part.Done attempt refl
 attempts-part_done_by a part.Done = refl
 
 pub part_less_filter : (test : Attempt → Bool) (old new : PartState) →
@@ -121,7 +117,7 @@ never_done [] a e = false≢true (ap is_done e)
 never_done (x ∷ []) a e = false≢true (ap is_done e)
 never_done (x ∷ y ∷ more) a e = false≢true (ap is_done e)
 
-abbrev has_two : SplitState → Bool
+abbrev pub has_two : SplitState → Bool
 has_two (Running a (Some b)) = true
 has_two split = false
 

@@ -3,14 +3,14 @@ use Rattle.std.proofs.Common.{◌≡◌, ◌≢◌, ◌||◌, cond, ℕ, zero, s
 use Rattle.std.proofs.Common.{true, false, Option, Some, refl, sym, ap, ◌∙◌, arith, inl, inr, All, AllPairs}
 use Rattle.std.proofs.Common.{Contains}
 use Rattle.std.specs.Prelude.{flat_map, filter, find, slice_get, slice_index_or, is_some}
-use Rattle.std.specs.List.{list_any}
-use Rattle.std.proofs.lemmas.Bool.{true≢false, false≢true, cases_lt}
-use Rattle.std.proofs.lemmas.List.Elements.{All-nil, All-cons, All-append, filter-append}
-use Rattle.std.proofs.lemmas.List.Folds.{find_at, list_any_none}
-use Rattle.std.proofs.lemmas.List.Sums.{fails_before_first, passes_at_first}
+use Rattle.std.specs.List.{list_any, position_or_len}
+use Rattle.std.proofs.lemmas.Bool.{true≢false, false≢true, cases_Bool, cases_eq, cases_lt}
+use Rattle.std.proofs.lemmas.List.{get_or_past}
+use Rattle.std.proofs.lemmas.List.Elements.{All-nil, All-cons, All-append, All-from_get_or, filter-append}
+use Rattle.std.proofs.lemmas.List.Folds.{find_at, list_any_at, list_any_none}
+use Rattle.std.proofs.lemmas.List.Sums.{fails_before_first, passes_at_first, position_or_len_is}
 use Rattle.std.proofs.lemmas.List.Kept.{AllPairs-cons}
 use Rattle.std.proofs.lemmas.Option.{slice_get_within, get_or_from_slice_get}
-use Rattle.std.specs.List.{position_or_len}
 use Rattle.node_ids.specs.Updates.{updated}
 
 -- the element at a place of a list that was changed throughout
@@ -190,14 +190,7 @@ flat_map-filter f change test [] each = refl
 flat_map-filter f change test (x ∷ xs) each =
     rw (each x, flat_map-filter f change test xs each) (sym (filter-append test (f x) (flat_map f xs)))
 
--- a filter that lets all pass, and one that lets none
-pub filter_all : {X : Type 0} (test : X → Bool) (xs : List X) → All (λ x. test x ≡ true) xs →
-    filter test xs ≡ xs
-filter_all test [] all = refl
-filter_all test (x ∷ xs) all =
-    rw (all 0 x (omega arith))
-    (ap (λ ys. x ∷ ys) (filter_all test xs (λ k d l. all (suc k) d (omega (arith, l)))))
-
+-- a filter that lets none pass
 pub filter_none : {X : Type 0} (test : X → Bool) (xs : List X) → All (λ x. test x ≡ false) xs →
     filter test xs ≡ []
 filter_none test [] all = refl
@@ -234,3 +227,36 @@ any_inside test xs any = elim (cases_lt (position_or_len test xs) (length xs)) [
 pub any_found : {X : Type 0} (test : X → Bool) (xs : List X) (d : X) → list_any test xs ≡ true →
     test (slice_index_or xs (position_or_len test xs) d) ≡ true
 any_found test xs d any = passes_at_first test xs d (any_inside test xs any)
+
+-- what passes a test that nothing past the end does, is inside
+pub inside_of : {X : Type 0} (test : X → Bool) (xs : List X) (k : ℕ) (d : X) → test d ≡ false →
+    test (slice_index_or xs k d) ≡ true → k < length xs
+inside_of test xs k d past here = elim (cases_lt k (length xs)) [
+  | inl inside ↦ inside
+  | inr out ↦ absurd (false≢true (sym (ap test (get_or_past xs k d out) ∙ past) ∙ here))
+]
+
+-- where the element at one place alone may pass, it says where the first is that does, and whether one does
+pub position_alone : {X : Type 0} (test : X → Bool) (xs : List X) (n : ℕ) (d : X) → n < length xs →
+    ((k : ℕ) → k ≢ n → test (slice_index_or xs k d) ≡ false) → test (slice_index_or xs n d) ≡ true →
+    position_or_len test xs ≡ n
+position_alone test xs n d inside alone here =
+    position_or_len_is test xs n d (omega (arith, inside))
+    (λ k below. alone k (λ e. absurd (omega (arith, below, e)))) (λ l. here)
+
+pub none_pass : {X : Type 0} (test : X → Bool) (xs : List X) (d : X) →
+    ((k : ℕ) → test (slice_index_or xs k d) ≡ false) → list_any test xs ≡ false
+none_pass test xs d none =
+    list_any_none test xs (All-from_get_or (λ x. test x ≡ false) xs d (λ k l. none k))
+
+pub any_alone : {X : Type 0} (test : X → Bool) (xs : List X) (n : ℕ) (d : X) → test d ≡ false →
+    ((k : ℕ) → k ≢ n → test (slice_index_or xs k d) ≡ false) →
+    list_any test xs ≡ test (slice_index_or xs n d)
+any_alone test xs n d past alone = elim (cases_Bool (test (slice_index_or xs n d))) [
+  | inl here ↦ list_any_at test xs n d (inside_of test xs n d past here) here ∙ sym here
+  | inr off ↦
+      none_pass test xs d (λ k. elim (cases_eq k n) [
+        | inl same ↦ rw same off
+        | inr other ↦ alone k other
+      ]) ∙ sym off
+]

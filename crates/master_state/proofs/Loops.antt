@@ -1,14 +1,7 @@
--- The steps of loops over the deaths of a sweep and over the starts of a plan.
-use Rattle.std.proofs.Common.{◌≡◌, ℕ, suc, ◌+◌, ◌-◌, ◌<◌, List, ◌∷◌, length, drop}
-use Rattle.std.proofs.Common.{Option, Some, None, ap, ◌∙◌, arith}
-use Rattle.std.specs.List.{range_with_len}
+-- The steps of a loop over the starts of a plan.
+use Rattle.std.proofs.Common.{◌≡◌, ℕ, ◌+◌, ◌<◌, List, ◌∷◌, length, drop, Option, Some, None, ap, ◌∙◌}
 use Rattle.std.proofs.lemmas.List.{drop_more}
 use Rattle.wave_problem.specs.Assignment.{start_of, pairs_from}
-
-range_front : (i n : ℕ) → i < n → range_with_len i (n - i) ≡ i ∷ range_with_len (i + 1) (n - (i + 1))
-range_front i n inside =
-    let more : n - i ≡ suc (n - (i + 1)) = omega (arith, inside) in
-    ap (range_with_len i) more
 
 -- split i starts before the others, or does not, and past the last none does
 pub pair_next : (starts : List (Option ℕ)) (i w : ℕ) → i < length starts → start_of starts i ≡ Some w →

@@ -1,7 +1,7 @@
 -- What the starts tell of the attempts that run.
-use Rattle.std.proofs.Common.{◌≡◌, ◌≢◌, ℕ, zero, suc, ◌<◌, [], ◌∷◌, Bool, true, false, Option, Some, None}
+use Rattle.std.proofs.Common.{◌≡◌, ◌≢◌, ℕ, zero, suc, ◌<◌, [], ◌∷◌, Bool, true, false, Some, None}
 use Rattle.std.proofs.Common.{refl, sym, ap, ◌∙◌, arith, All, AllPairs}
-use Rattle.std.specs.Option.{option_map, option_map_or}
+use Rattle.std.specs.Option.{option_map_or}
 use Rattle.std.proofs.lemmas.Bool.{true≢false}
 use Rattle.std.proofs.lemmas.List.Kept.{AllPairs-cons}
 use Rattle.std.specs.Prelude.{flat_map, slice_index_or}
@@ -19,6 +19,7 @@ use Rattle.master_state.specs.States.{State, start_of, next_attempt}
 use Rattle.master_state.specs.Tests.{attempts_of, part_attempts, all_running, split_at, part_at}
 use Rattle.master_state.specs.Tidy.{IsToldAs}
 use Rattle.master_state.proofs.Lists.{All-flat_map, AllPairs-append, AllPairs-flat_map}
+use Rattle.master_state.proofs.Places.{start_on, work_in, worker_in}
 
 -- an attempt that was started has a number that was given
 pub started_below : (s : State) (a : ℕ) (start : Start) → start_of s a ≡ Some start → a < next_attempt s
@@ -48,19 +49,10 @@ abbrev is_split : Work → Bool
 is_split (works.Split split) = true
 is_split (works.Part r) = false
 
-abbrev start_on : Work → ℕ → Start
-start_on work w = record { work = work; worker = w }
-
 -- attempts of one number were started for one work, on one worker
 same_start : (s : State) (a b : Attempt) (work other : Work) → IsToldAs s work a → IsToldAs s other b →
     a.number ≡ b.number → Some (start_on work a.worker) ≡ Some (start_on other b.worker)
 same_start s a b work other told_a told_b e = sym told_a ∙ ap (start_of s) e ∙ told_b
-
-abbrev work_in : Option Start → Option Work
-work_in start = option_map (λ (one : Start). one.work) start
-
-abbrev worker_in : Option Start → Option ℕ
-worker_in start = option_map (λ (one : Start). one.worker) start
 
 two_places : (s : State) (a b : Attempt) (work other : Work) → place_of work ≢ place_of other →
     IsToldAs s work a → IsToldAs s other b → HaveTwoNumbers a b
@@ -77,8 +69,8 @@ of_one_split s split (Running a None) told apart = λ i j d below l. absurd (ome
 of_one_split s split (Running a (Some b)) told apart =
     AllPairs-cons HaveTwoNumbers a (b ∷ [])
     (All-cons (HaveTwoNumbers a) b []
-    (λ e. apart a b refl (ap (λ start. option_map_or (λ w. w) (worker_in start) 0)
-    (same_start s a b (works.Split split) (works.Split split) (told 0 a (omega arith))
+    (λ e. apart a b refl (ap worker_in (same_start s a b (works.Split split) (works.Split split) (told 0 a
+    (omega arith))
     (told 1 a (omega arith)) e)))
     (All-nil (HaveTwoNumbers a)))
     (λ i j d below l. absurd (omega (arith, below, l)))

@@ -1,16 +1,13 @@
 -- Where an attempt runs: the starts tell it.
 use Rattle.std.proofs.Common.{◌≡◌, ◌≢◌, ℕ, ◌<◌, ◌||◌, List, length, map, Bool, true, false, not, Option, Some}
-use Rattle.std.proofs.Common.{None, refl, sym, ap, ◌∙◌, arith, inl, inr, All, subst}
+use Rattle.std.proofs.Common.{None, refl, sym, ap, ◌∙◌, All, subst}
 use Rattle.std.specs.Prelude.{flat_map, is_some}
 use Rattle.std.specs.List.{list_any}
 use Rattle.std.specs.Option.{option_map_or}
-use Rattle.std.proofs.lemmas.Bool.{false≢true, eqb-true, cases_Bool, cases_lt, cases_eq, false_from_ne_true}
-use Rattle.std.proofs.lemmas.Bool.{not-false, or_parts}
+use Rattle.std.proofs.lemmas.Bool.{false≢true, eqb-true, false_from_ne_true, not-false, or_parts}
 use Rattle.std.proofs.lemmas.Option.{none-some}
-use Rattle.std.proofs.lemmas.List.{get_or_past}
-use Rattle.std.proofs.lemmas.List.Elements.{All-append, All-from_get_or}
-use Rattle.std.proofs.lemmas.List.Folds.{Any-from_list_any, list_any_none, list_any_at}
-use Rattle.std.proofs.lemmas.List.Sums.{position_or_len_is}
+use Rattle.std.proofs.lemmas.List.Elements.{All-append}
+use Rattle.std.proofs.lemmas.List.Folds.{Any-from_list_any}
 use Rattle.node_ids.specs.Updates.{updated}
 use Rattle.master_state.specs.declared.states.Attempt.{Attempt}
 use Rattle.master_state.specs.declared.states.Start.{Start}
@@ -26,7 +23,8 @@ use Rattle.master_state.specs.Tests.{split_at, part_at, split_running, part_runn
 use Rattle.master_state.specs.Refusals.{no_split_runs, no_part_runs}
 use Rattle.master_state.specs.Changes.{without_attempts, part_without, done_by, part_done_by}
 use Rattle.master_state.specs.Tidy.{IsTidy, IsToldAs}
-use Rattle.master_state.proofs.Lists.{All-flat_map, map-updated, map-kept, any_found}
+use Rattle.master_state.proofs.Lists.{All-flat_map, map-updated, map-kept, any_alone, any_found, inside_of}
+use Rattle.master_state.proofs.Lists.{none_pass, position_alone}
 
 -- the start of this work on this worker
 abbrev pub start_on : Work → ℕ → Start
@@ -70,7 +68,7 @@ placed setup s tidy =
     (All-flat_map (IsPlaced s) part_attempts s.parts part.Pending
     (λ k l i d m. ap worker_in (tidy.told_parts k i d m)))
 
-abbrev work_in : Option Start → Option Work
+abbrev pub work_in : Option Start → Option Work
 work_in None = None
 work_in (Some start) = Some start.work
 
@@ -101,16 +99,10 @@ not_both s a split r v w here there =
 
 -- a split past the last runs nothing
 pub split_inside : (s : State) (a k : ℕ) → runs a (split_at s k) ≡ true → k < length s.splits
-split_inside s a k run = elim (cases_lt k (length s.splits)) [
-  | inl inside ↦ inside
-  | inr past ↦ absurd (false≢true (sym (ap (runs a) (get_or_past s.splits k Pending past)) ∙ run))
-]
+split_inside s a k run = inside_of (runs a) s.splits k Pending refl run
 
 pub part_inside : (s : State) (a r : ℕ) → part_runs a (part_at s r) ≡ true → r < length s.parts
-part_inside s a r run = elim (cases_lt r (length s.parts)) [
-  | inl inside ↦ inside
-  | inr past ↦ absurd (false≢true (sym (ap (part_runs a) (get_or_past s.parts r part.Pending past)) ∙ run))
-]
+part_inside s a r run = inside_of (part_runs a) s.parts r part.Pending refl run
 
 -- no other split runs an attempt that was started for this one, and no part does; nor the other way round
 pub runs_alone : (setup : Setup) (s : State) (a split w k : ℕ) → IsTidy setup s →
@@ -142,76 +134,46 @@ pub split_running_is : (setup : Setup) (s : State) (a split : ℕ) → IsTidy se
     runs a (split_at s split) ≡ true →
     split_running s a ≡ split
 split_running_is setup s a split tidy run =
-    let inside = split_inside s a split run in
-    position_or_len_is (runs a) s.splits split Pending (omega (arith, inside))
-    (λ k below. runs_alone setup s a split _ k tidy (told_split setup s a split tidy run)
-    (λ e. absurd (omega (arith, below, e))))
-    (λ l. run)
+    position_alone (runs a) s.splits split Pending (split_inside s a split run)
+    (λ k. runs_alone setup s a split _ k tidy (told_split setup s a split tidy run)) run
 
 pub part_running_is : (setup : Setup) (s : State) (a r : ℕ) → IsTidy setup s →
     part_runs a (part_at s r) ≡ true →
     part_running s a ≡ r
 part_running_is setup s a r tidy run =
-    let inside = part_inside s a r run in
-    position_or_len_is (part_runs a) s.parts r part.Pending (omega (arith, inside))
-    (λ k below. part_runs_alone setup s a r _ k tidy (told_part setup s a r tidy run)
-    (λ e. absurd (omega (arith, below, e))))
-    (λ l. run)
+    position_alone (part_runs a) s.parts r part.Pending (part_inside s a r run)
+    (λ k. part_runs_alone setup s a r _ k tidy (told_part setup s a r tidy run)) run
 
 -- whether a split runs the attempt that was started for it, decides whether any does
 pub no_split_is : (setup : Setup) (s : State) (a split w : ℕ) → IsTidy setup s →
     start_of s a ≡ Some (start_on (works.Split split) w) → no_split_runs s a ≡ not (runs a (split_at s split))
-no_split_is setup s a split w tidy start = elim (cases_Bool (runs a (split_at s split))) [
-  | inl run ↦ rw (run, list_any_at (runs a) s.splits split Pending (split_inside s a split run) run) refl
-  | inr none ↦ rw (
-    none,
-    list_any_none (runs a) s.splits
-        (All-from_get_or (λ state. runs a state ≡ false) s.splits Pending (λ k l. elim (cases_eq k split) [
-          | inl same ↦ rw same none
-          | inr other ↦ runs_alone setup s a split w k tidy start other
-        ])),
-  ) refl
-]
+no_split_is setup s a split w tidy start =
+    ap not (any_alone (runs a) s.splits split Pending refl (λ k. runs_alone setup s a split w k tidy start))
 
 pub no_part_is : (setup : Setup) (s : State) (a r w : ℕ) → IsTidy setup s →
     start_of s a ≡ Some (start_on (works.Part r) w) → no_part_runs s a ≡ not (part_runs a (part_at s r))
-no_part_is setup s a r w tidy start = elim (cases_Bool (part_runs a (part_at s r))) [
-  | inl run ↦ rw (run, list_any_at (part_runs a) s.parts r part.Pending (part_inside s a r run) run) refl
-  | inr none ↦ rw (
-    none,
-    list_any_none (part_runs a) s.parts
-        (All-from_get_or (λ state. part_runs a state ≡ false) s.parts part.Pending
-        (λ k l. elim (cases_eq k r) [
-          | inl same ↦ rw same none
-          | inr other ↦ part_runs_alone setup s a r w k tidy start other
-        ])),
-  ) refl
-]
+no_part_is setup s a r w tidy start =
+    ap not (any_alone (part_runs a) s.parts r part.Pending refl
+    (λ k. part_runs_alone setup s a r w k tidy start))
 
 -- no part runs an attempt of a split, no split one of a part, and nothing one that was never started
 pub no_part_of_split : (setup : Setup) (s : State) (a split w : ℕ) → IsTidy setup s →
     start_of s a ≡ Some (start_on (works.Split split) w) → no_part_runs s a ≡ true
 no_part_of_split setup s a split w tidy start =
-    ap not (list_any_none (part_runs a) s.parts (All-from_get_or (λ state. part_runs a state ≡ false)
-    s.parts part.Pending
-    (λ r l. no_part_beside setup s a split w r tidy start)))
+    ap not (none_pass (part_runs a) s.parts part.Pending (λ r. no_part_beside setup s a split w r tidy start))
 
 pub no_split_of_part : (setup : Setup) (s : State) (a r w : ℕ) → IsTidy setup s →
     start_of s a ≡ Some (start_on (works.Part r) w) → no_split_runs s a ≡ true
 no_split_of_part setup s a r w tidy start =
-    ap not (list_any_none (runs a) s.splits (All-from_get_or (λ state. runs a state ≡ false) s.splits Pending
-    (λ k l. no_split_beside setup s a r w k tidy start)))
+    ap not (none_pass (runs a) s.splits Pending (λ k. no_split_beside setup s a r w k tidy start))
 
 pub none_unstarted : (setup : Setup) (s : State) (a : ℕ) → IsTidy setup s → start_of s a ≡ None →
     (no_split_runs s a ≡ true) × (no_part_runs s a ≡ true)
 none_unstarted setup s a tidy start = (
-  ap not (list_any_none (runs a) s.splits (All-from_get_or (λ state. runs a state ≡ false) s.splits Pending
-      (λ k l. false_from_ne_true (runs a (split_at s k))
-      (λ run. none-some _ (sym start ∙ told_split setup s a k tidy run))))),
-  ap not (list_any_none (part_runs a) s.parts (All-from_get_or (λ state. part_runs a state ≡ false)
-      s.parts part.Pending
-      (λ r l. false_from_ne_true (part_runs a (part_at s r))
-      (λ run. none-some _ (sym start ∙ told_part setup s a r tidy run))))),
+  ap not (none_pass (runs a) s.splits Pending (λ k. false_from_ne_true (runs a (split_at s k))
+      (λ run. none-some _ (sym start ∙ told_split setup s a k tidy run)))),
+  ap not (none_pass (part_runs a) s.parts part.Pending (λ r. false_from_ne_true (part_runs a (part_at s r))
+      (λ run. none-some _ (sym start ∙ told_part setup s a r tidy run)))),
 )
 
 -- where a split runs the attempt, or a part, it is the one that was found

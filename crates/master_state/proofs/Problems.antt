@@ -1,15 +1,12 @@
 -- The problem of a tidy state keeps to the limits, and has the sizes of the cluster.
 use Rattle.std.proofs.Common.{◌≡◌, ℕ, suc, ◌<◌, ◌≤◌, List, [], ◌∷◌, length, true, refl, sym, ap, ◌∙◌, arith}
 use Rattle.std.proofs.Common.{All}
-use Rattle.std.specs.Prelude.{Option}
 use Rattle.std.proofs.lemmas.List.{length-map}
 use Rattle.std.proofs.lemmas.List.Elements.{All-nil, All-cons, All-map, All-weaker}
 use Rattle.rack_tree.proofs.Distances.{within_reach}
 use Rattle.wave_problem.specs.declared.TheConstants.{MAX_SLOTS}
 use Rattle.wave_problem.specs.declared.lines.WorkerLine.{WorkerLine}
 use Rattle.wave_problem.specs.Wave.{Split, IsSmall, AreSmall, IsHeldWell, AreHeldWell, IsWithinLimits}
-use Rattle.price_certificate.specs.Certificate.{HasOneSize, claim}
-use Rattle.price_certificate.specs.PriceList.{PriceList}
 use Rattle.worker_table.specs.declared.Worker.{Worker}
 use Rattle.worker_table.specs.Workers.{IsWithin, is_live}
 use Rattle.master_state.specs.declared.states.SplitState.{SplitState}
@@ -110,16 +107,3 @@ within_limits setup s whole tidy =
       distinct = All-weaker (IsHeldWell (length (problem_of setup s).workers)) _ (λ split h. h.once)
           (problem_of setup s).splits (held_well setup s whole tidy);
     }
-
--- a plan and prices with the cluster's sizes have those of the problem
-pub one_size : (setup : Setup) (s : State) (starts : List (Option ℕ)) (prices : PriceList) (workers : ℕ) →
-    IsTidy setup s →
-    length starts ≡ length setup.cluster.splits → workers ≡ length setup.cluster.slots →
-    length prices.splits ≡ length setup.cluster.splits → length prices.workers ≡ length setup.cluster.slots →
-    HasOneSize (claim (problem_of setup s) starts prices) workers
-one_size setup s starts prices workers tidy same_starts same_workers same_splits same_slots = record {
-  starts = same_starts ∙ sym (length-splits setup s tidy);
-  workers = same_workers ∙ sym (length-workers setup s tidy);
-  split_prices = same_splits ∙ sym (length-splits setup s tidy);
-  worker_prices = same_slots ∙ sym (length-workers setup s tidy);
-}

@@ -3,9 +3,8 @@ use Rattle.std.proofs.Common.{◌≡◌, ◌≢◌, ℕ, zero, suc, ◌+◌, ◌
 use Rattle.std.proofs.Common.{true, false, refl, sym, ap, ◌∙◌, arith, inl, inr, All, subst}
 use Rattle.std.specs.Prelude.{fold, count_by, slice_index, slice_index_or, min, nat_lt}
 use Rattle.std.specs.List.{enumerate_from}
-use Rattle.std.proofs.lemmas.Bool.{eq-eqb, ne_eqb, cases_eq, cases_lt, cond_both, false≢true}
+use Rattle.std.proofs.lemmas.Bool.{eq-eqb, ne_eqb, cases_eq, cond_both}
 use Rattle.std.proofs.Math.Nat.{min-le_left}
-use Rattle.std.proofs.lemmas.List.{get_or_past}
 use Rattle.std.proofs.lemmas.List.Elements.{All-nil, All-cons}
 use Rattle.std.proofs.lemmas.List.Sums.{sum_by-cons}
 use Rattle.worker_table.specs.declared.Worker.{Worker}
@@ -16,7 +15,7 @@ use Rattle.master_state.specs.declared.states.Attempt.{Attempt}
 use Rattle.master_state.specs.States.{Setup}
 use Rattle.master_state.specs.Tests.{is_on}
 use Rattle.master_state.proofs.Lists.{at-updated_other, at-updated_same, at-updated_kept, same-updated}
-use Rattle.master_state.proofs.Lists.{map-updated_same, All-updated}
+use Rattle.master_state.proofs.Lists.{map-updated_same, All-updated, inside_of}
 
 -- what stands past the last worker
 abbrev pub nobody : Worker
@@ -106,11 +105,7 @@ live_all_given t (attempt ∷ gone) w =
 
 -- a live worker is one of the table
 pub live-inside : (t : Workers) (w : ℕ) → is_live t w ≡ true → w < length t.each
-live-inside t w live = elim (cases_lt w (length t.each)) [
-  | inl inside ↦ inside
-  | inr past ↦ absurd
-      (false≢true (sym (ap (λ (worker : Worker). worker.live) (get_or_past t.each w nobody past)) ∙ live))
-]
+live-inside t w live = inside_of (λ worker. worker.live) t.each w nobody refl live
 
 pub live_taken : (t : Workers) (v w : ℕ) → is_live (with_slot_taken t v) w ≡ is_live t w
 live_taken t v w = same-updated (λ (worker : Worker). worker.live) _ t.each v w nobody (λ worker. refl)

@@ -1,12 +1,12 @@
 -- Starts keep a state tidy: backups, reduce attempts, and the starts of a wave.
 use Rattle.std.proofs.Common.{◌≡◌, ◌≢◌, ℕ, zero, suc, ◌+◌, ◌<◌, ◌≤◌, ◌==◌, ◌⊎◌, List, [], ◌∷◌, ◌++◌, length}
-use Rattle.std.proofs.Common.{cond, Bool, true, false, not, Some, None, refl, sym, ap, ◌∙◌, add-one, arith}
+use Rattle.std.proofs.Common.{cond, true, not, Some, None, refl, sym, ap, ◌∙◌, add-one, arith}
 use Rattle.std.proofs.Common.{inl, inr, All, AllPairs, subst}
 use Rattle.std.specs.List.{list_any, list_all}
 use Rattle.std.specs.Prelude.{◌||◌, flat_map, fold, count_by}
 use Rattle.std.proofs.lemmas.Bool.{false≢true, eq-eqb, cases_eq, not-true, not-false, and_parts, ltb-true}
-use Rattle.std.proofs.lemmas.Bool.{eqb-false, cases_lt, or_parts, and_from, lt-ltb}
-use Rattle.std.proofs.lemmas.List.{length-append, length-map, get_or_past}
+use Rattle.std.proofs.lemmas.Bool.{eqb-false, or_parts, and_from, lt-ltb}
+use Rattle.std.proofs.lemmas.List.{length-append, length-map}
 use Rattle.std.proofs.lemmas.List.Elements.{All-nil, All-cons, All-append, All-push, All-weaker}
 use Rattle.std.proofs.lemmas.List.Sums.{sum_by-cons, sum_by-append}
 use Rattle.std.proofs.lemmas.Option.{slice_get-get_or, none-some}
@@ -31,8 +31,10 @@ use Rattle.master_state.specs.Refusals.{ReduceStart, Backup, refusal, reasons, t
 use Rattle.master_state.specs.Changes.{with_start, split_started, with_reduce_started, after}
 use Rattle.master_state.specs.Tidy.{IsTidy, IsStartOf, IsToldAs}
 use Rattle.master_state.proofs.Lists.{All-left, All-right, All-one_changed, at-updated_other, at-updated_same}
-use Rattle.master_state.proofs.Lists.{updated-agree, slice_get-append, slice_get-push, any_inside, any_found}
+use Rattle.master_state.proofs.Lists.{inside_of, updated-agree, slice_get-append, slice_get-push, any_inside}
+use Rattle.master_state.proofs.Lists.{any_found}
 use Rattle.master_state.proofs.Facts.{count-all_running}
+use Rattle.master_state.proofs.Less.{has_two}
 use Rattle.master_state.proofs.Places.{start_on}
 use Rattle.master_state.proofs.Slots.{nobody, fit_taken, live-inside, live_taken, slots_taken, taken_taken}
 use Rattle.master_state.proofs.Reasons.{none_applies, attempts_left}
@@ -106,10 +108,6 @@ doer d split = d
 abbrev second : Attempt → SplitState → Attempt
 second d (Running a (Some b)) = b
 second d split = d
-
-abbrev has_two : SplitState → Bool
-has_two (Running a (Some b)) = true
-has_two split = false
 
 two_apart : (next : Attempt) (w : ℕ) (split : SplitState) → TakesOne w split → next.worker ≡ w →
     (a b : Attempt) →
@@ -218,10 +216,7 @@ takes_one w (Running a (Some b)) takes = absurd (false≢true takes)
 takes_one w (Done a) takes = absurd (false≢true takes)
 
 split_known : (s : State) (w k : ℕ) → takes_backup w (split_at s k) ≡ true → k < length s.splits
-split_known s w k takes = elim (cases_lt k (length s.splits)) [
-  | inl inside ↦ inside
-  | inr past ↦ absurd (false≢true (sym (ap (takes_backup w) (get_or_past s.splits k Pending past)) ∙ takes))
-]
+split_known s w k takes = inside_of (takes_backup w) s.splits k Pending refl takes
 
 pub tidy_backup : (setup : Setup) (s : State) (k w : ℕ) → IsTidy setup s →
     refusal setup s (Backup k w) ≡ None →
