@@ -15,6 +15,7 @@ use Rattle.master_state.specs.declared.states.PartState.TheVariants as part
 use Rattle.master_state.specs.States.{Setup, State}
 use Rattle.master_state.specs.Tests.{all_parts_done, is_on, part_is_done, running}
 use Rattle.master_state.specs.Changes.{after_death, died, part_without, without_attempts}
+use Rattle.master_state.proofs.Keeping.{done_without}
 use Rattle.master_tables.specs.declared.entries.SplitEntry.{SplitEntry}
 use Rattle.master_tables.specs.Entries.{entry_after_death, shown_as}
 use Rattle.master_tables.specs.Kept.{AreOfSplits}
@@ -92,21 +93,10 @@ parts_both p q either same (part.Running attempt) =
 parts_both p q either same part.Done = refl
 
 -- a death leaves no part done, and takes none back that is
-part_not_done : (ended : Bool) (attempt : Attempt) →
-    part_is_done (cond ended part.Pending (part.Running attempt)) ≡ false
-part_not_done true attempt = refl
-part_not_done false attempt = refl
-
-done_after : (test : Attempt → Bool) (state : PartState) →
-    part_is_done (part_without test state) ≡ part_is_done state
-done_after test part.Pending = refl
-done_after test (part.Running attempt) = part_not_done (test attempt) attempt
-done_after test part.Done = refl
-
 all_done_after : (test : Attempt → Bool) (parts : List PartState) →
     list_all part_is_done (map (part_without test) parts) ≡ list_all part_is_done parts
 all_done_after test [] = refl
-all_done_after test (state ∷ parts) = rw (done_after test state, all_done_after test parts) refl
+all_done_after test (state ∷ parts) = rw (done_without test state, all_done_after test parts) refl
 
 -- the state after the deaths of these workers, which are those that the test names
 abbrev pub buried : State → (ℕ → Bool) → List ℕ → State

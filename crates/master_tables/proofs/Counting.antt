@@ -1,10 +1,10 @@
 -- Counts over the front of a list, by one element more.
-use Rattle.std.proofs.Common.{◌≡◌, ℕ, zero, suc, ◌+◌, ◌<◌, List, [], ◌∷◌, ◌++◌, length, map, take, get_or}
+use Rattle.std.proofs.Common.{◌≡◌, ℕ, ◌+◌, ◌<◌, List, [], ◌∷◌, ◌++◌, length, map, take, get_or}
 use Rattle.std.proofs.Common.{refl, sym, ap, ◌∙◌, arith, length-append, Bool, true, false}
 use Rattle.std.specs.Prelude.{flat_map}
 use Rattle.std.specs.List.{list_all}
 use Rattle.std.proofs.lemmas.Grind.{flat_map-append}
-use Rattle.std.proofs.lemmas.List.{append-nil, length-map, take_more}
+use Rattle.std.proofs.lemmas.List.{append-nil, get_or-map, length-map, take_more}
 use Rattle.std.proofs.lemmas.List.Folds.{list_all_more, list_all_at}
 
 pub length_more : {X Y : Type 0} (f : X → List Y) (xs : List X) (i : ℕ) (x : X) → i < length xs →
@@ -19,9 +19,7 @@ length_more f xs i x inside at =
 -- an element of a list that was changed throughout
 pub changed_at : {X Y : Type 0} (f : X → Y) (xs : List X) (i : ℕ) (x : X) → i < length xs →
     x ≡ get_or xs i x → f x ≡ get_or (map f xs) i (f x)
-changed_at f [] i x inside at = absurd (omega (arith, inside))
-changed_at f (y ∷ xs) zero x inside at = ap f at
-changed_at f (y ∷ xs) (suc i) x inside at = changed_at f xs i x (omega (arith, inside)) at
+changed_at f xs i x inside at = ap f at ∙ sym (get_or-map f xs i x (f x) inside)
 
 -- a test of each element of such a list
 pub all_more : {X Y : Type 0} (f : X → Y) (p : Y → Bool) (xs : List X) (i : ℕ) (x : X) → i < length xs →
