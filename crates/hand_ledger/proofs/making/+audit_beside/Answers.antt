@@ -14,10 +14,6 @@ returns-clause-whole g t c whole =
     let kept = c.hand.inside in
     let all = length-all_calls kept.entries.items kept.counts.items kept.starts.items
     c.in-Some.ensures.cases.0 (ap (λ h. h.calls) c.hand.view_is) in
-    omega (
-      arith,
-      all,
-      c.len-kept.ensures,
-      c.give.ensures.amount_given,
-      c.audit_beside.ensures.whole (omega (arith, whole, c.in-Some.ensures.cases.1, c.give.ensures.parts_given)),
-    )
+    let beside = c.audit_beside.ensures.whole
+    (omega (arith, whole, c.in-Some.ensures.cases.1, c.give.ensures.parts_given)) in
+    omega (arith, all, c.len-kept.ensures, c.give.ensures.amount_given, beside)

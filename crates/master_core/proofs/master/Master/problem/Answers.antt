@@ -32,4 +32,5 @@ returns-clause-splits c =
     (λ (problem : Wave). length problem.splits ≡ length c.args.self.now.setup.cluster.splits)
     (λ problem is. splits_of_problem c.self.inside c.args.self.now problem c.self.invariant c.self.view_is
     (is ∙ problem_is c.self.inside c.in_ok-tree.tree c.in_ok-workers.workers.items c.deref-2.result.now
-    c.in_ok-barred.barred (parts_are (goal.at.returns-clause-splits c).After-deref-2))) c.within_limits.ensures
+    c.in_ok-barred.barred (parts_are (goal.at.returns-clause-splits c).After-deref-2)))
+    c.within_limits.ensures
