@@ -15,6 +15,3 @@ returns-clause-least g c = (finds _ c.requires.sink c.in_ok-total.ensures.ends).
 
 pub returns-clause-path : goal.returns-clause-path
 returns-clause-path g c = (finds _ c.requires.sink c.in_ok-total.ensures.ends).path
-
-pub returns-clause-size : goal.returns-clause-size
-returns-clause-size g c = (finds _ c.requires.sink c.in_ok-total.ensures.ends).size

@@ -1,21 +1,12 @@
-use Rattle.std.proofs.Common.{◌≡◌, ◌+◌, suc, List, ◌∷◌, length, get_or, drop, refl, ap, ◌∙◌}
+use Rattle.std.proofs.Common.{◌≡◌, ◌+◌, suc, List, ◌∷◌, length, get_or, drop, ap, ◌∙◌}
 use Rattle.std.proofs.Common.{subst, arith}
 use Rattle.std.proofs.Math.Seq.{drop-cons}
-use Rattle.std.proofs.Math.ListN.{drop_of_length-le}
 use Rattle.flow_network.specs.declared.arcs.ArcNo.{ArcNo}
 use Rattle.flow_network.specs.declared.arcs.ArcNo.TheVariants.{Forward}
 use Rattle.flow_network.proofs.Listed.{in_at}
 use Rattle.shortest_paths.specs.Lists.{ArcLists}
 use Rattle.shortest_paths.specs.Matched.{IsFollowing}
-use Rattle.shortest_paths.proofs.Following.{following_begins, following_ends}
 use Rattle.shortest_paths.proofs.residual_arcs.ResidualArcs.follow.Goals as goal
-
-pub loop-arc-init : goal.loop-arc-init
-loop-arc-init g c = record {
-  lists = refl;
-  size = refl;
-  following = λ flows e once t. following_begins _ _ _ _ _ e once t;
-}
 
 pub carried-flow-requires : goal.carried-flow-requires
 carried-flow-requires g c =
@@ -61,10 +52,3 @@ loop-arc-preserved g c =
           c.loop-arc.self)
           rest (c.loop-arc.invariant.following flows e once t));
     }
-
-pub returns-clause-matched : goal.returns-clause-matched
-returns-clause-matched g c = λ flows e once t. following_ends _ _ _
-    (subst (λ (path : List ArcNo). IsFollowing c.args.network.now.arcs c.args.network.now.flows path
-    c.loop-arc.self)
-    (drop_of_length-le c.args.path.now {i = c.loop-arc.arc-index} c.loop-arc-test.false)
-    (c.loop-arc.invariant.following flows e once t))

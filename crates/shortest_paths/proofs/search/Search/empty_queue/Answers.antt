@@ -1,9 +1,7 @@
-use Rattle.std.proofs.Common.{ℕ, ◌+◌, ◌-◌, ◌*◌, ◌<◌, false, List, [], length, ap, sym, subst, ◌∙◌, arith}
+use Rattle.std.proofs.Common.{◌+◌, ◌-◌, ◌*◌, ◌<◌, false, length, ap, sym, ◌∙◌, arith}
 use Rattle.std.proofs.lemmas.List.{get_or_default}
 use Rattle.std.proofs.lemmas.List.Sorted.{length_permutation}
 use Rattle.flow_network.specs.Flow.{Flow}
-use Rattle.shortest_paths.specs.Search.{tables, problem}
-use Rattle.shortest_paths.specs.Searching.{IsSearching}
 use Rattle.shortest_paths.proofs.Searching.{entry_inside, passed, advanced, few_so_far}
 use Rattle.shortest_paths.proofs.search.Search.empty_queue.Goals as goal
 
@@ -69,31 +67,6 @@ nodes-smaller g c =
     < 4 * (2 * length c.args.meter.now.network.arcs - c.nodes.meter.count) + 2 * length
     c.nodes.self.queue + length c.nodes.self.stack.items = omega arith in
     less
-
-pub nodes-preserved : goal.nodes-preserved
-nodes-preserved g c = record {
-  network = c.settle.ensures.network ∙ c.nodes.invariant.network;
-  empty = c.in_ok-settle.ensures.empty c.if-branch.false;
-  state = (c.in-Some.level, rw c.if-branch.false at c.in_ok-settle.ensures.goes);
-}
-
-pub returns-then-branch-clause-ends : goal.returns-then-branch-clause-ends
-returns-then-branch-clause-ends g c =
-    let goes = rw c.if-branch.true at c.in_ok-settle.ensures.goes in
-    (goes.0, goes.1.now)
-
-pub returns-clause-ends : goal.returns-clause-ends
-returns-clause-ends g c =
-    let s = c.nodes.invariant.state.1.now in
-    let before = c.in_default.ensures.empty in
-    let after = c.in_default.ensures.still_empty in (
-      c.nodes.invariant.state.0,
-      subst (λ (q : List (ℕ × ℕ)). IsSearching (problem c.nodes.meter.network c.args.query.now)
-          (length c.args.query.now.potentials.now) c.nodes.invariant.state.0 c.nodes.meter.count [] []
-          (record (tables c.nodes.self) { queue = q })) (before ∙ sym after) s,
-      c.nodes.invariant.empty,
-      after,
-    )
 
 pub returns-clause-steps : goal.returns-clause-steps
 returns-clause-steps g c =

@@ -1,4 +1,4 @@
-use Rattle.std.proofs.Common.{◌≡◌, ℕ, ◌+◌, ◌-◌, ◌<◌, ◌≤◌, List, [], length, get_or, take, ap, ◌∙◌, sym, subst}
+use Rattle.std.proofs.Common.{◌≡◌, ℕ, ◌+◌, ◌-◌, ◌<◌, List, length, get_or, take, ap, ◌∙◌, sym, subst}
 use Rattle.std.proofs.Common.{arith, refl}
 use Rattle.std.proofs.Math.Seq.{take-length}
 use Rattle.std.proofs.lemmas.Bool.{false≢true}
@@ -85,15 +85,6 @@ returns-then-branch-clause-goes g c =
     let goes = rw (c.if-branch.true, same) at c.in_ok-pass.ensures.goes in
     goes (take (length xs - (c.loop-i.i + 1)) xs)
     (next_arc_of xs c.loop-i.i inside c.loop-i.invariant.state)
-
-pub returns-clause-goes : goal.returns-clause-goes
-returns-clause-goes g c =
-    let xs : List ArcNo = leaving_of c.args.meter.now.network.arcs c.args.node in
-    let past : length xs ≤ c.loop-i.i = subst (λ ys. length ys ≤ c.loop-i.i) c.leaving-arcs.ensures
-    c.loop-i-test.false in
-    let none : length xs - c.loop-i.i ≡ 0 = omega arith in
-    let over : take (length xs - c.loop-i.i) xs ≡ [] = ap (λ n. take n xs) none in
-    rw over at c.loop-i.invariant.state
 
 pub returns-clause-steps : goal.returns-clause-steps
 returns-clause-steps g c =

@@ -1,7 +1,5 @@
-use Rattle.std.proofs.Common.{◌≡◌, ℕ, List, [], ◌∷◌, length, ap, ◌∙◌, sym, subst, arith, length-append}
+use Rattle.std.proofs.Common.{◌≡◌, ◌∙◌, sym, subst, arith}
 use Rattle.std.specs.Prelude.{IfSome}
-use Rattle.flow_network.specs.Flow.{Counted}
-use Rattle.shortest_paths.specs.Searching.{Tables}
 use Rattle.shortest_paths.specs.Search.{problem}
 use Rattle.shortest_paths.proofs.Searching.{entered_inside, opened_with, sink_arc_own, few_so_far}
 use Rattle.shortest_paths.proofs.Looking.{comes_of}
@@ -50,25 +48,6 @@ returns-in_ok-found-in-Some-clause-goes g c = λ rest s.
     rw c.is_some.ensures (comes_of c.in_ok-found-in-Some.found
     (subst (λ v. IfSome c.in_ok-found-in-Some.found (λ w. w ≡ v)) lead c.in_ok-found-in-Some.ensures.head)
     after)
-
-pub returns-in_ok-found-in-Some-clause-spends : goal.returns-in_ok-found-in-Some-clause-spends
-returns-in_ok-found-in-Some-clause-spends g c =
-    let n = ap (λ (m : Counted g.row.L.Denot). m.count) c.look.ensures.counted in
-    let e = c.in_ok-open.ensures in
-    let queue = ap (λ (t : Tables). length t.queue) e in
-    let stack = ap (λ (t : Tables). length t.stack) e in
-    let more = length-append c.args.self.now.stack.items (c.args.node ∷ []) in
-    let same = ap (λ (xs : List ℕ). length xs) c.in_ok-found-in-Some.ensures.stack in
-    let grows = c.in_ok-found-in-Some.ensures.queue in
-    omega arith
-
-pub returns-in-None-clause-spends : goal.returns-in-None-clause-spends
-returns-in-None-clause-spends g c =
-    let e = c.in_ok-open.ensures in
-    let queue = ap (λ (t : Tables). length t.queue) e in
-    let stack = ap (λ (t : Tables). length t.stack) e in
-    let more = length-append c.args.self.now.stack.items (c.args.node ∷ []) in
-    omega arith
 
 pub returns-in-None-clause-goes : goal.returns-in-None-clause-goes
 returns-in-None-clause-goes g c = λ rest s.
