@@ -1,5 +1,4 @@
 -- the network, arc by arc
-pub mod Ends
 pub mod Rows
 -- it is a network of its wave
 pub mod DirectWays

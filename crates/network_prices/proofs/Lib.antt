@@ -2,6 +2,7 @@
 pub mod Arcs
 pub mod Sums
 pub mod Tables
+pub mod Rows
 pub mod Costs
 pub mod Ways
 -- each pending split sends one unit

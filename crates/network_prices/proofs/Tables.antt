@@ -131,6 +131,12 @@ module _ {D : Type 0} (wanted : D → Type 0) (arc : D → FlowArc) where
       rows = pass u x v y network.arcs past between built.rows;
     }
 
+-- what holds of each arc of the table holds of each that the list has
+pub each_arc : {D : Type 0} {wanted : D → Type 0} {arc : D → FlowArc} {arcs : List FlowArc}
+    → AreRows wanted arc arcs → (P : FlowArc → Type 0) → ((d : D) → wanted d → P (arc d))
+    → (k : ℕ) → k < length arcs → P (arc_at arcs k)
+each_arc rows P each k l = let d = rows.sound k l in subst P (sym d.2) (each d.0 d.1)
+
 -- arcs that rise have one place each
 pub one_place : (arcs : List FlowArc) (j k : ℕ) → AreRisingArcs arcs → j < length arcs → k < length arcs
     → (arc_at arcs j).from ≡ (arc_at arcs k).from → (arc_at arcs j).to ≡ (arc_at arcs k).to → j ≡ k
@@ -286,3 +292,19 @@ outroom-rows arcs v base n f rising low high each = sym (room_all arcs v (base +
         let more = room_more arcs v (base + m) in
         let same : base + suc m ≡ suc (base + m) = omega arith in
         rw same (omega arith)
+
+-- where all that leave v are one arc
+pub outroom-one : (arcs : List FlowArc) (v x room : ℕ) → AreRisingArcs arcs
+    → ((k : ℕ) → k < length arcs → (arc_at arcs k).from ≡ v
+    → ((arc_at arcs k).to ≡ x) × ((arc_at arcs k).capacity ≡ room))
+    → (k : ℕ) × (k < length arcs) × ((arc_at arcs k).from ≡ v) × ((arc_at arcs k).to ≡ x)
+    → outroom arcs v ≡ room
+outroom-one arcs v x room rising own there =
+    let all : outroom arcs v ≡ 0 + room = outroom-rows arcs v x 1 (λ i. room) rising
+    (λ k l from. (let to = (own k l from).0 in omega arith))
+    (λ k l from. (let to = (own k l from).0 in omega arith))
+    (λ i l. record {
+      some = λ k m from to. (own k m from).1;
+      none = λ some. (there.0, there.1, there.2, (let to = there.3 in omega arith));
+    }) in
+    omega arith

@@ -24,19 +24,25 @@ HandsOn wave first u = ((split_at wave u).pending ≡ true) ⊎ ((length wave.sp
 abbrev pub IsWorkerNode : Wave → ℕ → ℕ → Type 0
 IsWorkerNode wave first v = (w : ℕ) × (w < length wave.workers) × (v ≡ first + w)
 
--- Each arc leads past the starts of those before it, and none to a split. It leaves a node that hands on,
--- and not for the sink; or it leaves a worker or the node of the splits that are not started, for the sink.
+-- what an arc leaves: a node that hands on, and not for the sink; or a worker or the node of the splits that
+-- are not started, for the sink
+abbrev pub Leaves : Wave → ℕ → FlowArc → Type 0
+Leaves wave first a = (HandsOn wave first a.from × (a.to ≡ first + length wave.workers + 1 → ⊥))
+    ⊎ ((a.to ≡ first + length wave.workers + 1)
+    × ((a.from ≡ first + length wave.workers) ⊎ IsWorkerNode wave first a.from))
+
+-- and what it enters
+abbrev pub Enters : Wave → ℕ → FlowArc → Type 0
+Enters wave first a = IsWorkerNode wave first a.to ⊎ ((a.to ≡ first + length wave.workers)
+    ⊎ (HandsOn wave first a.to ⊎ (a.to ≡ first + length wave.workers + 1)))
+
+-- each arc leads past the starts of those before it, and none to a split
 pub record IsLayered (wave : Wave) (first : ℕ) (arcs : List FlowArc) : Type 0 where
   pub past_splits : length wave.splits ≤ first
   pub onward : (j k : ℕ) → j ≤ k → k < length arcs → (arc_at arcs j).from < (arc_at arcs k).to
   pub no_entry : (k : ℕ) → k < length arcs → length wave.splits ≤ (arc_at arcs k).to
-  pub leaves : (k : ℕ) → k < length arcs
-      → (HandsOn wave first (arc_at arcs k).from × ((arc_at arcs k).to ≡ first + length wave.workers + 1 → ⊥))
-      ⊎ (((arc_at arcs k).to ≡ first + length wave.workers + 1)
-      × (((arc_at arcs k).from ≡ first + length wave.workers) ⊎ IsWorkerNode wave first (arc_at arcs k).from))
-  pub enters : (k : ℕ) → k < length arcs → IsWorkerNode wave first (arc_at arcs k).to
-      ⊎ (((arc_at arcs k).to ≡ first + length wave.workers)
-      ⊎ (HandsOn wave first (arc_at arcs k).to ⊎ ((arc_at arcs k).to ≡ first + length wave.workers + 1)))
+  pub leaves : (k : ℕ) → k < length arcs → Leaves wave first (arc_at arcs k)
+  pub enters : (k : ℕ) → k < length arcs → Enters wave first (arc_at arcs k)
 
 -- the split whose unit is at a place starts on the worker whose node that is
 pub record IsStart (wave : Wave) (first place : ℕ) (start : Option ℕ) : Type 0 where

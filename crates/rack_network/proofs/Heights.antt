@@ -4,13 +4,14 @@ use Rattle.std.proofs.Common.{inl, inr, arith}
 use Rattle.std.proofs.lemmas.Bool.{cases_lt, cases_eq, lt-ltb, le-ltb}
 use Rattle.rack_tree.specs.Tree.{distance}
 use Rattle.wave_problem.specs.Wave.{Wave}
+use Rattle.wave_problem.proofs.Bound.{live_known}
 use Rattle.network_prices.specs.Ways.{IsAmong}
 use Rattle.network_prices.specs.Networks.{way_of}
 use Rattle.rack_network.specs.Racks.{cluster_node, unstarted_node, rack_of, node_above, level_count}
-use Rattle.rack_network.specs.Racks.{above_centres, rack_nodes, IsTree}
+use Rattle.rack_network.specs.Racks.{above_centres, rack_nodes, IsReach, IsTree}
 use Rattle.rack_network.specs.Build.{level_start, level_end}
 use Rattle.rack_network.specs.Places.{several, one_cluster, clusters-le}
-use Rattle.rack_network.proofs.Levels.{Meet, distance_is}
+use Rattle.rack_network.proofs.Levels.{holder_live, Meet, distance_is}
 
 module _ (wave : Wave) (tree : IsTree wave) where
   pub four_levels : (level : ℕ) → level < level_count wave → level < 4
@@ -25,13 +26,6 @@ module _ (wave : Wave) (tree : IsTree wave) where
       let centre = tree.centres (rack_of wave w) (tree.racks w known) in (omega arith, omega arith)
   level_at (suc (suc (suc zero))) w l known = (omega arith, omega arith)
   level_at (suc (suc (suc (suc n)))) w l known = absurd (let few = four_levels _ l in omega arith)
-
-  pub level_opens : (level : ℕ) → level < 4 → level_start wave level ≤ level_end wave level
-  level_opens zero l = omega arith
-  level_opens (suc zero) l = omega arith
-  level_opens (suc (suc zero)) l = omega arith
-  level_opens (suc (suc (suc zero))) l = omega arith
-  level_opens (suc (suc (suc (suc n)))) l = absurd (omega arith)
 
   -- the levels lie one after the other, the highest first
   levels_fall : (high low : ℕ) → low < high → high < 4 → level_end wave high ≤ level_start wave low
@@ -54,6 +48,22 @@ module _ (wave : Wave) (tree : IsTree wave) where
   level_in (suc (suc zero)) l = (omega arith, omega arith)
   level_in (suc (suc (suc zero))) l = (omega arith, omega arith)
   level_in (suc (suc (suc (suc n)))) l = absurd (omega arith)
+
+  -- the node that a split reaches is one of its level, between the splits and the node of those that are not
+  -- started
+  pub reach_at : (s level h : ℕ) → IsReach wave s level h
+      → (level_start wave level ≤ node_above wave level h) × (node_above wave level h < level_end wave level)
+  reach_at s level h reach =
+      level_at level h reach.known (live_known wave h (holder_live wave s h reach.holder))
+
+  pub reach_in : (s level h : ℕ) → IsReach wave s level h
+      → (cluster_node wave ≤ node_above wave level h) × (node_above wave level h < unstarted_node wave)
+  reach_in s level h reach =
+      let at = reach_at s level h reach in
+      let within = level_in level (four_levels level reach.known) in
+      let low = at.0 in let high = at.1 in
+      let start = within.0 in let end = within.1 in
+      (omega arith, omega arith)
 
   -- no place is of two levels
   pub one_level : (level m v : ℕ) → level < 4 → m < 4 → level_start wave level ≤ v → v < level_end wave level

@@ -1,5 +1,5 @@
 -- The rack network is a network of its wave.
-use Rattle.std.proofs.Common.{◌≡◌, ℕ, zero, suc, ◌+◌, ◌*◌, ◌<◌, ◌≤◌, Bool, cond, eqb, [], ◌∷◌, List, length}
+use Rattle.std.proofs.Common.{◌≡◌, ℕ, zero, suc, ◌*◌, ◌<◌, ◌≤◌, Bool, cond, eqb, [], ◌∷◌, List, length}
 use Rattle.std.proofs.Common.{refl, sym, ap, ◌∙◌, subst, inl, inr, ◌⊎◌, arith, unwrap_or}
 use Rattle.std.proofs.lemmas.Bool.{cases_Bool, cases_eq, cases_lt, eq-eqb, ne_eqb, lt-ltb, le-ltb, false≢true}
 use Rattle.std.proofs.Math.Nat.{mul-le-mul_left}
@@ -12,7 +12,7 @@ use Rattle.wave_problem.proofs.Bound.{pending_known, live_known}
 use Rattle.network_prices.specs.Ways.{IsAmong, IsFed, IsInner, IsWay}
 use Rattle.network_prices.specs.Networks.{way_of, IsArcFrom, IsOffer, IsWaveNetwork}
 use Rattle.network_prices.proofs.Arcs.{arc_standing}
-use Rattle.network_prices.proofs.Tables.{outroom-rows}
+use Rattle.network_prices.proofs.Tables.{each_arc, outroom-one, outroom-rows}
 use Rattle.rack_network.specs.declared.arcs.RackArc.{RackArc}
 use Rattle.rack_network.specs.declared.arcs.RackArc.TheVariants.{Pair, Reach, Wait, Trunk, Branch, Feed, Slot}
 use Rattle.rack_network.specs.declared.arcs.RackArc.TheVariants.{Rest}
@@ -21,10 +21,9 @@ use Rattle.rack_network.specs.Racks.{first_rack, first_worker, worker_node, rack
 use Rattle.rack_network.specs.Racks.{cluster_node, unstarted_node, sink_node, slots_of, slots_below}
 use Rattle.rack_network.specs.Racks.{slots_within, rack_of, centre_of, rack_nodes, node_above, above_centres}
 use Rattle.rack_network.specs.Racks.{HasBars, arc_of, IsWanted, IsRackNetwork}
-use Rattle.rack_network.specs.Build.{level_start, level_end}
 use Rattle.rack_network.proofs.Levels.{holder_live, holder_held, cost-le, cost_is, Meet, distance-le}
 use Rattle.rack_network.proofs.Counts.{by_racks}
-use Rattle.rack_network.proofs.Heights.{four_levels, level_at, level_in, among_at, among_in, own_level}
+use Rattle.rack_network.proofs.Heights.{four_levels, reach_at, reach_in, among_at, among_in, own_level}
 use Rattle.rack_network.proofs.Heights.{meet_at, same_above, level_of, one_level}
 
 -- whether a split has a barred pair
@@ -49,219 +48,137 @@ bars_or_not wave s = elim (bars_below wave s (length wave.workers) (omega arith)
 ]
 
 module _ (wave : Wave) (arcs : List FlowArc) (network : IsRackNetwork wave arcs) where
-  abbrev Is : FlowArc → RackArc → Type 0
-  Is a d = a ≡ arc_of wave d
-
-  -- a split reaches nodes between the splits and the node of those that are not started
-  reach_at : (s level h : ℕ) → IsWanted wave (Reach s level h)
-      → (level_start wave level ≤ node_above wave level h) × (node_above wave level h < level_end wave level)
-  reach_at s level h d =
-      level_at wave network.tree level h d.known (live_known wave h (holder_live wave s h d.holder))
-
-  pub reach_in : (s level h : ℕ) → IsWanted wave (Reach s level h)
-      → (length wave.splits ≤ node_above wave level h) × (node_above wave level h < unstarted_node wave)
-  reach_in s level h d =
-      let at = reach_at s level h d in
-      let within = level_in wave network.tree level (four_levels wave network.tree level d.known) in
-      let low = at.0 in let high = at.1 in
-      let start = within.0 in let end = within.1 in
-      (omega arith, omega arith)
-
   -- what leads to a worker, to a rack, to a centre, to the cluster
-  to_worker : (w : ℕ) → w < length wave.workers → (d : RackArc) → IsWanted wave d → (a : FlowArc) → Is a d
-      → a.to ≡ worker_node wave w
-      → (a.from < length wave.splits) ⊎ ((a.from ≡ rack_node wave (rack_of wave w)) × (a.cost ≡ 0))
-  to_worker w k (Pair s v) d a e t =
-      let known = pending_known wave s d.0.pending in let from = ap (λ (a : FlowArc). a.from) e in
-      inl (omega arith)
-  to_worker w k (Reach s level h) d a e t =
-      let known = pending_known wave s d.pending in let from = ap (λ (a : FlowArc). a.from) e in
-      inl (omega arith)
-  to_worker w k (Wait s) d a e t =
-      absurd (let to = ap (λ (a : FlowArc). a.to) e in omega arith)
-  to_worker w k (Trunk c) d a e t =
-      absurd (let known = d.1 in let to = ap (λ (a : FlowArc). a.to) e in omega arith)
-  to_worker w k (Branch r) d a e t =
-      absurd (let to = ap (λ (a : FlowArc). a.to) e in omega arith)
-  to_worker w k (Feed v) d a e t =
-      let to = ap (λ (a : FlowArc). a.to) e in
-      let same : v ≡ w = omega arith in
-      inr (
-        ap (λ (a : FlowArc). a.from) e ∙ ap (λ (x : ℕ). rack_node wave (rack_of wave x)) same,
-        ap (λ (a : FlowArc). a.cost) e,
-      )
-  to_worker w k (Slot v) d a e t =
-      absurd (let to = ap (λ (a : FlowArc). a.to) e in omega arith)
-  to_worker w k Rest d a e t =
-      absurd (let to = ap (λ (a : FlowArc). a.to) e in omega arith)
+  abbrev FromAbove : ℕ → FlowArc → Type 0
+  FromAbove u a = (a.from < length wave.splits) ⊎ ((a.from ≡ u) × (a.cost ≡ 0))
 
-  to_rack : (r : ℕ) → r < length wave.tree.centre_of → (d : RackArc) → IsWanted wave d → (a : FlowArc)
-      → Is a d → a.to ≡ rack_node wave r
-      → (a.from < length wave.splits) ⊎ ((a.from ≡ centre_node wave (centre_of wave r)) × (a.cost ≡ 0))
-  to_rack r k (Pair s v) d a e t =
-      let known = pending_known wave s d.0.pending in let from = ap (λ (a : FlowArc). a.from) e in
-      inl (omega arith)
-  to_rack r k (Reach s level h) d a e t =
-      let known = pending_known wave s d.pending in let from = ap (λ (a : FlowArc). a.from) e in
-      inl (omega arith)
-  to_rack r k (Wait s) d a e t =
-      absurd (let to = ap (λ (a : FlowArc). a.to) e in omega arith)
-  to_rack r k (Trunk c) d a e t =
-      absurd (let known = d.1 in let to = ap (λ (a : FlowArc). a.to) e in omega arith)
-  to_rack r k (Branch q) d a e t =
-      let to = ap (λ (a : FlowArc). a.to) e in
-      let same : q ≡ r = omega arith in
-      inr (
-        ap (λ (a : FlowArc). a.from) e ∙ ap (λ (x : ℕ). centre_node wave (centre_of wave x)) same,
-        ap (λ (a : FlowArc). a.cost) e,
-      )
-  to_rack r k (Feed v) d a e t =
-      absurd (let to = ap (λ (a : FlowArc). a.to) e in let known = live_known wave v d.0 in omega arith)
-  to_rack r k (Slot v) d a e t =
-      absurd (let to = ap (λ (a : FlowArc). a.to) e in omega arith)
-  to_rack r k Rest d a e t =
-      absurd (let to = ap (λ (a : FlowArc). a.to) e in omega arith)
+  to_worker : (w : ℕ) → w < length wave.workers → (d : RackArc) → IsWanted wave d
+      → (arc_of wave d).to ≡ worker_node wave w
+      → FromAbove (rack_node wave (rack_of wave w)) (arc_of wave d)
+  to_worker w k (Pair s v) d t = inl (pending_known wave s d.0.pending)
+  to_worker w k (Reach s level h) d t = inl (pending_known wave s d.pending)
+  to_worker w k (Wait s) d t = absurd (omega arith)
+  to_worker w k (Trunk c) d t = absurd (let known = d.1 in omega arith)
+  to_worker w k (Branch r) d t = absurd (omega arith)
+  to_worker w k (Feed v) d t =
+      inr (ap (λ (x : ℕ). rack_node wave (rack_of wave x)) (let same : v ≡ w = omega arith in same), refl)
+  to_worker w k (Slot v) d t = absurd (omega arith)
+  to_worker w k Rest d t = absurd (omega arith)
 
-  to_centre : (c : ℕ) → c < wave.tree.centres → (d : RackArc) → IsWanted wave d → (a : FlowArc) → Is a d
-      → a.to ≡ centre_node wave c
-      → (a.from < length wave.splits)
+  to_rack : (r : ℕ) → r < length wave.tree.centre_of → (d : RackArc) → IsWanted wave d
+      → (arc_of wave d).to ≡ rack_node wave r
+      → FromAbove (centre_node wave (centre_of wave r)) (arc_of wave d)
+  to_rack r k (Pair s v) d t = inl (pending_known wave s d.0.pending)
+  to_rack r k (Reach s level h) d t = inl (pending_known wave s d.pending)
+  to_rack r k (Wait s) d t = absurd (omega arith)
+  to_rack r k (Trunk c) d t = absurd (let known = d.1 in omega arith)
+  to_rack r k (Branch q) d t =
+      inr (ap (λ (x : ℕ). centre_node wave (centre_of wave x)) (let same : q ≡ r = omega arith in same), refl)
+  to_rack r k (Feed v) d t = absurd (omega arith)
+  to_rack r k (Slot v) d t = absurd (omega arith)
+  to_rack r k Rest d t = absurd (omega arith)
+
+  abbrev FromTop : FlowArc → Type 0
+  FromTop a = (a.from < length wave.splits)
       ⊎ ((1 < wave.tree.centres) × (a.from ≡ cluster_node wave) × (a.cost ≡ 0))
-  to_centre c k (Pair s v) d a e t =
-      let known = pending_known wave s d.0.pending in let from = ap (λ (a : FlowArc). a.from) e in
-      inl (omega arith)
-  to_centre c k (Reach s level h) d a e t =
-      let known = pending_known wave s d.pending in let from = ap (λ (a : FlowArc). a.from) e in
-      inl (omega arith)
-  to_centre c k (Wait s) d a e t =
-      absurd (let to = ap (λ (a : FlowArc). a.to) e in omega arith)
-  to_centre c k (Trunk q) d a e t =
-      inr (d.0, ap (λ (a : FlowArc). a.from) e, ap (λ (a : FlowArc). a.cost) e)
-  to_centre c k (Branch r) d a e t =
-      absurd (let to = ap (λ (a : FlowArc). a.to) e in omega arith)
-  to_centre c k (Feed v) d a e t =
-      absurd (let to = ap (λ (a : FlowArc). a.to) e in let known = live_known wave v d.0 in omega arith)
-  to_centre c k (Slot v) d a e t =
-      absurd (let to = ap (λ (a : FlowArc). a.to) e in omega arith)
-  to_centre c k Rest d a e t =
-      absurd (let to = ap (λ (a : FlowArc). a.to) e in omega arith)
 
-  to_cluster : 1 < wave.tree.centres → (d : RackArc) → IsWanted wave d → (a : FlowArc) → Is a d
-      → a.to ≡ cluster_node wave
-      → a.from < length wave.splits
-  to_cluster many (Pair s v) d a e t =
-      let known = pending_known wave s d.0.pending in let from = ap (λ (a : FlowArc). a.from) e in omega arith
-  to_cluster many (Reach s level h) d a e t =
-      let known = pending_known wave s d.pending in let from = ap (λ (a : FlowArc). a.from) e in omega arith
-  to_cluster many (Wait s) d a e t =
-      absurd (let to = ap (λ (a : FlowArc). a.to) e in omega arith)
-  to_cluster many (Trunk c) d a e t =
-      absurd (let one = one_cluster wave.tree.centres many in let to = ap (λ (a : FlowArc). a.to) e in
-      omega arith)
-  to_cluster many (Branch r) d a e t =
-      absurd (let one = one_cluster wave.tree.centres many in let to = ap (λ (a : FlowArc). a.to) e in
-      omega arith)
-  to_cluster many (Feed v) d a e t =
-      absurd (let to = ap (λ (a : FlowArc). a.to) e in let known = live_known wave v d.0 in omega arith)
-  to_cluster many (Slot v) d a e t =
-      absurd (let to = ap (λ (a : FlowArc). a.to) e in omega arith)
-  to_cluster many Rest d a e t =
-      absurd (let to = ap (λ (a : FlowArc). a.to) e in omega arith)
+  to_centre : (c : ℕ) → c < wave.tree.centres → (d : RackArc) → IsWanted wave d
+      → (arc_of wave d).to ≡ centre_node wave c → FromTop (arc_of wave d)
+  to_centre c k (Pair s v) d t = inl (pending_known wave s d.0.pending)
+  to_centre c k (Reach s level h) d t = inl (pending_known wave s d.pending)
+  to_centre c k (Wait s) d t = absurd (omega arith)
+  to_centre c k (Trunk q) d t = inr (d.0, refl, refl)
+  to_centre c k (Branch r) d t = absurd (omega arith)
+  to_centre c k (Feed v) d t = absurd (omega arith)
+  to_centre c k (Slot v) d t = absurd (omega arith)
+  to_centre c k Rest d t = absurd (omega arith)
+
+  own_centre : (c : ℕ) → c < wave.tree.centres → (k : ℕ) → k < length arcs
+      → (arc_at arcs k).to ≡ centre_node wave c → FromTop (arc_at arcs k)
+  own_centre c known =
+      each_arc network.rows (λ a. a.to ≡ centre_node wave c → FromTop a) (to_centre c known)
+
+  to_cluster : 1 < wave.tree.centres → (d : RackArc) → IsWanted wave d
+      → (arc_of wave d).to ≡ cluster_node wave → (arc_of wave d).from < length wave.splits
+  to_cluster many (Pair s v) d t = pending_known wave s d.0.pending
+  to_cluster many (Reach s level h) d t = pending_known wave s d.pending
+  to_cluster many (Wait s) d t = pending_known wave s d
+  to_cluster many (Trunk c) d t = absurd (let one = one_cluster wave.tree.centres many in omega arith)
+  to_cluster many (Branch r) d t = absurd (let one = one_cluster wave.tree.centres many in omega arith)
+  to_cluster many (Feed v) d t = absurd (let one = one_cluster wave.tree.centres many in omega arith)
+  to_cluster many (Slot v) d t = absurd (omega arith)
+  to_cluster many Rest d t = absurd (omega arith)
 
   -- only splits lead to the node of those that are not started
-  to_unstarted : (d : RackArc) → IsWanted wave d → (a : FlowArc) → Is a d → a.to ≡ unstarted_node wave
-      → (a.from < length wave.splits) × (a.cost ≡ reward wave)
-  to_unstarted (Pair s v) d a e t =
-      absurd (let known = live_known wave v d.0.live in let to = ap (λ (a : FlowArc). a.to) e in omega arith)
-  to_unstarted (Reach s level h) d a e t =
-      absurd (let within = reach_in s level h d in let below = within.1 in
-      let to = ap (λ (a : FlowArc). a.to) e in omega arith)
-  to_unstarted (Wait s) d a e t =
-      let known = pending_known wave s d in let from = ap (λ (a : FlowArc). a.from) e in
-      (omega arith, ap (λ (a : FlowArc). a.cost) e)
-  to_unstarted (Trunk c) d a e t =
-      absurd (let known = d.1 in let to = ap (λ (a : FlowArc). a.to) e in omega arith)
-  to_unstarted (Branch r) d a e t =
-      absurd (let to = ap (λ (a : FlowArc). a.to) e in omega arith)
-  to_unstarted (Feed v) d a e t =
-      absurd (let to = ap (λ (a : FlowArc). a.to) e in let known = live_known wave v d.0 in omega arith)
-  to_unstarted (Slot v) d a e t =
-      absurd (let to = ap (λ (a : FlowArc). a.to) e in omega arith)
-  to_unstarted Rest d a e t =
-      absurd (let to = ap (λ (a : FlowArc). a.to) e in omega arith)
+  to_unstarted : (d : RackArc) → IsWanted wave d → (arc_of wave d).to ≡ unstarted_node wave
+      → ((arc_of wave d).from < length wave.splits) × ((arc_of wave d).cost ≡ reward wave)
+  to_unstarted (Pair s v) d t = absurd (let known = live_known wave v d.0.live in omega arith)
+  to_unstarted (Reach s level h) d t =
+      absurd (let below = (reach_in wave network.tree s level h d).1 in omega arith)
+  to_unstarted (Wait s) d t = (pending_known wave s d, refl)
+  to_unstarted (Trunk c) d t = absurd (let known = d.1 in omega arith)
+  to_unstarted (Branch r) d t = absurd (omega arith)
+  to_unstarted (Feed v) d t = absurd (let known = live_known wave v d.0 in omega arith)
+  to_unstarted (Slot v) d t = absurd (omega arith)
+  to_unstarted Rest d t = absurd (omega arith)
 
   -- no arc leads to a split
-  no_split : (d : RackArc) → IsWanted wave d → (a : FlowArc) → Is a d → length wave.splits ≤ a.to
-  no_split (Pair s v) d a e = let to = ap (λ (a : FlowArc). a.to) e in omega arith
-  no_split (Reach s level h) d a e = let within = reach_in s level h d in let past = within.0 in
-      let to = ap (λ (a : FlowArc). a.to) e in omega arith
-  no_split (Wait s) d a e = let to = ap (λ (a : FlowArc). a.to) e in omega arith
-  no_split (Trunk c) d a e = let to = ap (λ (a : FlowArc). a.to) e in omega arith
-  no_split (Branch r) d a e = let to = ap (λ (a : FlowArc). a.to) e in omega arith
-  no_split (Feed v) d a e = let to = ap (λ (a : FlowArc). a.to) e in omega arith
-  no_split (Slot v) d a e = let to = ap (λ (a : FlowArc). a.to) e in omega arith
-  no_split Rest d a e = let to = ap (λ (a : FlowArc). a.to) e in omega arith
+  no_split : (d : RackArc) → IsWanted wave d → length wave.splits ≤ (arc_of wave d).to
+  no_split (Pair s v) d = omega arith
+  no_split (Reach s level h) d = (reach_in wave network.tree s level h d).0
+  no_split (Wait s) d = omega arith
+  no_split (Trunk c) d = omega arith
+  no_split (Branch r) d = omega arith
+  no_split (Feed v) d = omega arith
+  no_split (Slot v) d = omega arith
+  no_split Rest d = omega arith
 
   -- a worker to which an arc leads is usable
-  usable_there : (w : ℕ) → w < length wave.workers → (d : RackArc) → IsWanted wave d → (a : FlowArc) → Is a d
-      → a.to ≡ worker_node wave w
-      → IsUsable wave w
-  usable_there w k (Pair s v) d a e t =
-      let to = ap (λ (a : FlowArc). a.to) e in
-      subst (λ (x : ℕ). IsUsable wave x) (let same : v ≡ w = omega arith in same) (d.0.live, d.0.has_slot)
-  usable_there w k (Reach s level h) d a e t =
-      let at = reach_at s level h d in
+  usable_there : (w : ℕ) → w < length wave.workers → (d : RackArc) → IsWanted wave d
+      → (arc_of wave d).to ≡ worker_node wave w → IsUsable wave w
+  usable_there w k (Pair s v) d t =
+      subst (IsUsable wave) (let same : v ≡ w = omega arith in same) (d.0.live, d.0.has_slot)
+  usable_there w k (Reach s level h) d t =
+      let at = reach_at wave network.tree s level h d in
       let low = at.0 in let high = at.1 in
-      let to = ap (λ (a : FlowArc). a.to) e in
       let zero_level : 0 ≡ level =
       one_level wave network.tree level 0 (worker_node wave w) (four_levels wave network.tree level d.known)
-      (omega arith)
-      (omega arith) (omega arith) (omega arith) (omega arith) in
+      (omega arith) (omega arith) (omega arith) (omega arith) (omega arith) in
       let own : node_above wave 0 h ≡ worker_node wave w =
-      ap (λ (m : ℕ). node_above wave m h) zero_level ∙ sym to ∙ t in
-      subst (λ (x : ℕ). IsUsable wave x) (let same : h ≡ w = omega arith in same)
+      ap (λ (m : ℕ). node_above wave m h) zero_level ∙ t in
+      subst (IsUsable wave) (let same : h ≡ w = omega arith in same)
       (holder_live wave s h d.holder, d.has_slot (sym zero_level))
-  usable_there w k (Wait s) d a e t =
-      absurd (let to = ap (λ (a : FlowArc). a.to) e in omega arith)
-  usable_there w k (Trunk c) d a e t =
-      absurd (let known = d.1 in let to = ap (λ (a : FlowArc). a.to) e in omega arith)
-  usable_there w k (Branch r) d a e t =
-      absurd (let to = ap (λ (a : FlowArc). a.to) e in omega arith)
-  usable_there w k (Feed v) d a e t =
-      let to = ap (λ (a : FlowArc). a.to) e in
-      subst (λ (x : ℕ). IsUsable wave x) (let same : v ≡ w = omega arith in same) d
-  usable_there w k (Slot v) d a e t =
-      absurd (let to = ap (λ (a : FlowArc). a.to) e in omega arith)
-  usable_there w k Rest d a e t =
-      absurd (let to = ap (λ (a : FlowArc). a.to) e in omega arith)
+  usable_there w k (Wait s) d t = absurd (omega arith)
+  usable_there w k (Trunk c) d t = absurd (let known = d.1 in omega arith)
+  usable_there w k (Branch r) d t = absurd (omega arith)
+  usable_there w k (Feed v) d t = subst (IsUsable wave) (let same : v ≡ w = omega arith in same) d
+  usable_there w k (Slot v) d t = absurd (omega arith)
+  usable_there w k Rest d t = absurd (omega arith)
 
   -- an arc of a split to a node of a worker's way
-  is_sound : (s w : ℕ) → s < length wave.splits → IsUsable wave w → (d : RackArc) → IsWanted wave d
-      → (a : FlowArc)
-      → Is a d → a.from ≡ s → IsAmong a.to (way_of (rack_nodes wave) w)
+  abbrev IsSound : ℕ → ℕ → FlowArc → Type 0
+  IsSound s w a = a.from ≡ s → IsAmong a.to (way_of (rack_nodes wave) w)
       → IsAdmissible wave s w × (unwrap_or (cost wave s w) 0 ≤ a.cost)
-  is_sound s w k u (Pair t v) d a e f among =
+
+  is_sound : (s w : ℕ) → s < length wave.splits → IsUsable wave w → (d : RackArc) → IsWanted wave d
+      → IsSound s w (arc_of wave d)
+  is_sound s w k u (Pair t v) d split among =
       let on = own_level wave network.tree 0 v w (omega arith) (live_known wave v d.0.live)
-      (live_known wave w u.0)
-      (subst (λ (x : ℕ). IsAmong x (way_of (rack_nodes wave) w)) (ap (λ (a : FlowArc). a.to) e) among) in
+      (live_known wave w u.0) among in
       let worker : v ≡ w = omega arith in
-      let split : t ≡ s = sym (ap (λ (a : FlowArc). a.from) e) ∙ f in
-      let c = ap (λ (a : FlowArc). a.cost) e in
       let same : unwrap_or (cost wave t v) 0 ≡ unwrap_or (cost wave s w) 0 =
       ap (λ (x : ℕ). unwrap_or (cost wave x v) 0) split
       ∙ ap (λ (x : ℕ). unwrap_or (cost wave s x) 0) worker in (
-        subst (λ (x : ℕ). IsAdmissible wave s x) worker (subst (λ (x : ℕ). IsAdmissible wave x v) split d.0),
-        omega (arith, c, same),
+        subst (IsAdmissible wave s) worker (subst (λ (x : ℕ). IsAdmissible wave x v) split d.0),
+        omega (arith, same),
       )
-  is_sound s w k u (Reach t level h) d a e f among =
+  is_sound s w k u (Reach t level h) d split among =
       let live = live_known wave h (holder_live wave t h d.holder) in
       let few = four_levels wave network.tree level d.known in
-      let on = own_level wave network.tree level h w d.known live (live_known wave w u.0)
-      (subst (λ (x : ℕ). IsAmong x (way_of (rack_nodes wave) w)) (ap (λ (a : FlowArc). a.to) e) among) in
+      let on = own_level wave network.tree level h w d.known live (live_known wave w u.0) among in
       let near = distance-le wave.tree h w level few (meet_at wave network.tree level h w few on) in
       let low = cost-le wave t w h d.holder in
       let scaled = mul-le-mul_left (split_at wave t).bytes near in
-      let split : t ≡ s = sym (ap (λ (a : FlowArc). a.from) e) ∙ f in
-      let c = ap (λ (a : FlowArc). a.cost) e in
       let same : unwrap_or (cost wave t w) 0 ≡ unwrap_or (cost wave s w) 0 =
       ap (λ (x : ℕ). unwrap_or (cost wave x w) 0) split in
       let admissible : IsAdmissible wave t w = record {
@@ -271,16 +188,15 @@ module _ (wave : Wave) (arcs : List FlowArc) (network : IsRackNetwork wave arcs)
         has_slot = u.1;
         not_barred = λ b. d.no_bars (w, live_known wave w u.0, b);
       } in
-      (subst (λ (x : ℕ). IsAdmissible wave x w) split admissible, omega (arith, c, same, low, scaled))
-  is_sound s w k u (Wait t) d a e f among =
-      absurd (let within = among_in wave network.tree a.to w (live_known wave w u.0) among in
-      let below = within.1 in let to = ap (λ (a : FlowArc). a.to) e in omega arith)
-  is_sound s w k u (Trunk c) d a e f among = absurd (let from = ap (λ (a : FlowArc). a.from) e in omega arith)
-  is_sound s w k u (Branch r) d a e f among =
-      absurd (let from = ap (λ (a : FlowArc). a.from) e in omega arith)
-  is_sound s w k u (Feed v) d a e f among = absurd (let from = ap (λ (a : FlowArc). a.from) e in omega arith)
-  is_sound s w k u (Slot v) d a e f among = absurd (let from = ap (λ (a : FlowArc). a.from) e in omega arith)
-  is_sound s w k u Rest d a e f among = absurd (let from = ap (λ (a : FlowArc). a.from) e in omega arith)
+      (subst (λ (x : ℕ). IsAdmissible wave x w) split admissible, omega (arith, same, low, scaled))
+  is_sound s w k u (Wait t) d split among =
+      absurd (let below = (among_in wave network.tree (unstarted_node wave) w (live_known wave w u.0) among).1
+      in omega arith)
+  is_sound s w k u (Trunk c) d split among = absurd (omega arith)
+  is_sound s w k u (Branch r) d split among = absurd (omega arith)
+  is_sound s w k u (Feed v) d split among = absurd (omega arith)
+  is_sound s w k u (Slot v) d split among = absurd (omega arith)
+  is_sound s w k u Rest d split among = absurd (omega arith)
 
   -- each arc that the network wants, by its number
   the_arc : (d : RackArc) → IsWanted wave d
@@ -294,47 +210,22 @@ module _ (wave : Wave) (arcs : List FlowArc) (network : IsRackNetwork wave arcs)
   worker_room w known =
       let f = the_arc (Slot w) known in
       let slot = f.1 in
-      let all : outroom arcs (worker_node wave w) ≡ 0 + (worker_at wave w).free =
-      outroom-rows arcs (worker_node wave w) (sink_node wave) 1 (λ i. (worker_at wave w).free)
-      network.rows.rising
-      (λ k l from. (let to = (own k l from).0 in omega arith))
-      (λ k l from. (let to = (own k l from).0 in omega arith))
-      (λ i l. record {
-        some = λ k m from to. (own k m from).1;
-        none = λ room. (f.0, slot.listed, slot.from_is, (let to = slot.to_is in omega arith));
-      }) in
-      omega arith
+      outroom-one arcs (worker_node wave w) (sink_node wave) (worker_at wave w).free network.rows.rising
+      (each_arc network.rows (λ a. a.from ≡ worker_node wave w
+      → (a.to ≡ sink_node wave) × (a.capacity ≡ (worker_at wave w).free)) is_slot)
+      (f.0, slot.listed, slot.from_is, slot.to_is)
     where
-      is_slot : (d : RackArc) → IsWanted wave d → (a : FlowArc) → Is a d → a.from ≡ worker_node wave w
-          → (a.to ≡ sink_node wave) × (a.capacity ≡ (worker_at wave w).free)
-      is_slot (Pair s v) d a e f =
-          absurd (let source = pending_known wave s d.0.pending in
-          let from = ap (λ (a : FlowArc). a.from) e in omega arith)
-      is_slot (Reach s level h) d a e f =
-          absurd (let source = pending_known wave s d.pending in let from = ap (λ (a : FlowArc). a.from) e in
-          omega arith)
-      is_slot (Wait s) d a e f =
-          absurd (let source = pending_known wave s d in let from = ap (λ (a : FlowArc). a.from) e in
-          omega arith)
-      is_slot (Trunk c) d a e f = absurd (let from = ap (λ (a : FlowArc). a.from) e in omega arith)
-      is_slot (Branch r) d a e f =
-          absurd (let centre = network.tree.centres r d in let from = ap (λ (a : FlowArc). a.from) e in
-          omega arith)
-      is_slot (Feed v) d a e f =
-          absurd (let rack = network.tree.racks v (live_known wave v d.0) in
-          let from = ap (λ (a : FlowArc). a.from) e in omega arith)
-      is_slot (Slot v) d a e f =
-          let from = ap (λ (a : FlowArc). a.from) e in
-          let same : v ≡ w = omega arith in (
-            ap (λ (a : FlowArc). a.to) e,
-            ap (λ (a : FlowArc). a.capacity) e
-                ∙ ap (λ (x : ℕ). (worker_at wave x).free) same,
-          )
-      is_slot Rest d a e f = absurd (let from = ap (λ (a : FlowArc). a.from) e in omega arith)
-
-      own : (k : ℕ) → k < length arcs → (arc_at arcs k).from ≡ worker_node wave w
-          → ((arc_at arcs k).to ≡ sink_node wave) × ((arc_at arcs k).capacity ≡ (worker_at wave w).free)
-      own k l from = let d = network.rows.sound k l in is_slot d.0 d.1 (arc_at arcs k) d.2 from
+      is_slot : (d : RackArc) → IsWanted wave d → (arc_of wave d).from ≡ worker_node wave w
+          → ((arc_of wave d).to ≡ sink_node wave) × ((arc_of wave d).capacity ≡ (worker_at wave w).free)
+      is_slot (Pair s v) d f = absurd (let split = pending_known wave s d.0.pending in omega arith)
+      is_slot (Reach s level h) d f = absurd (let split = pending_known wave s d.pending in omega arith)
+      is_slot (Wait s) d f = absurd (let split = pending_known wave s d in omega arith)
+      is_slot (Trunk c) d f = absurd (omega arith)
+      is_slot (Branch r) d f = absurd (let centre = network.tree.centres r d in omega arith)
+      is_slot (Feed v) d f = absurd (let rack = network.tree.racks v (live_known wave v d.0) in omega arith)
+      is_slot (Slot v) d f =
+          (refl, ap (λ (x : ℕ). (worker_at wave x).free) (let same : v ≡ w = omega arith in same))
+      is_slot Rest d f = absurd (omega arith)
 
   live_slots : (w : ℕ) → IsUsable wave w → slots_of wave w ≡ (worker_at wave w).free
   live_slots w u = ap (λ (b : Bool). cond b (worker_at wave w).free 0) u.0
@@ -351,6 +242,11 @@ module _ (wave : Wave) (arcs : List FlowArc) (network : IsRackNetwork wave arcs)
   ]
 
   -- a rack is left by the arcs to its usable workers
+  abbrev IsFeed : ℕ → FlowArc → Type 0
+  IsFeed r a = a.from ≡ rack_node wave r
+      → (w : ℕ) × IsUsable wave w × (rack_of wave w ≡ r) × (a.to ≡ worker_node wave w)
+      × (a.capacity ≡ (worker_at wave w).free)
+
   rack_room : (r : ℕ) → r < length wave.tree.centre_of
       → outroom arcs (rack_node wave r) ≡ slots_below wave (length wave.workers) r
   rack_room r known =
@@ -385,38 +281,25 @@ module _ (wave : Wave) (arcs : List FlowArc) (network : IsRackNetwork wave arcs)
       off_rack : (i : ℕ) → (rack_of wave i ≡ r → ⊥) → cond (eqb (rack_of wave i) r) (slots_of wave i) 0 ≡ 0
       off_rack i n = ap (λ (b : Bool). cond b (slots_of wave i) 0) (ne_eqb (rack_of wave i) r n)
 
-      is_feed : (d : RackArc) → IsWanted wave d → (a : FlowArc) → Is a d → a.from ≡ rack_node wave r
-          → (w : ℕ) × IsUsable wave w × (rack_of wave w ≡ r) × (a.to ≡ worker_node wave w)
-          × (a.capacity ≡ (worker_at wave w).free)
-      is_feed (Pair s v) d a e f =
-          absurd (let source = pending_known wave s d.0.pending in
-          let from = ap (λ (a : FlowArc). a.from) e in omega arith)
-      is_feed (Reach s level h) d a e f =
-          absurd (let source = pending_known wave s d.pending in let from = ap (λ (a : FlowArc). a.from) e in
-          omega arith)
-      is_feed (Wait s) d a e f =
-          absurd (let source = pending_known wave s d in let from = ap (λ (a : FlowArc). a.from) e in
-          omega arith)
-      is_feed (Trunk c) d a e f = absurd (let from = ap (λ (a : FlowArc). a.from) e in omega arith)
-      is_feed (Branch q) d a e f =
-          absurd (let centre = network.tree.centres q d in let from = ap (λ (a : FlowArc). a.from) e in
-          omega arith)
-      is_feed (Feed v) d a e f = (
-        v,
-        d,
-        (let from = ap (λ (a : FlowArc). a.from) e in omega arith),
-        ap (λ (a : FlowArc). a.to) e,
-        ap (λ (a : FlowArc). a.capacity) e,
-      )
-      is_feed (Slot v) d a e f = absurd (let from = ap (λ (a : FlowArc). a.from) e in omega arith)
-      is_feed Rest d a e f = absurd (let from = ap (λ (a : FlowArc). a.from) e in omega arith)
+      is_feed : (d : RackArc) → IsWanted wave d → IsFeed r (arc_of wave d)
+      is_feed (Pair s v) d f = absurd (let split = pending_known wave s d.0.pending in omega arith)
+      is_feed (Reach s level h) d f = absurd (let split = pending_known wave s d.pending in omega arith)
+      is_feed (Wait s) d f = absurd (let split = pending_known wave s d in omega arith)
+      is_feed (Trunk c) d f = absurd (omega arith)
+      is_feed (Branch q) d f = absurd (let centre = network.tree.centres q d in omega arith)
+      is_feed (Feed v) d f = (v, d, omega arith, refl, refl)
+      is_feed (Slot v) d f = absurd (omega arith)
+      is_feed Rest d f = absurd (omega arith)
 
-      own : (k : ℕ) → k < length arcs → (arc_at arcs k).from ≡ rack_node wave r
-          → (w : ℕ) × IsUsable wave w × (rack_of wave w ≡ r) × ((arc_at arcs k).to ≡ worker_node wave w)
-          × ((arc_at arcs k).capacity ≡ (worker_at wave w).free)
-      own k l from = let d = network.rows.sound k l in is_feed d.0 d.1 (arc_at arcs k) d.2 from
+      own : (k : ℕ) → k < length arcs → IsFeed r (arc_at arcs k)
+      own = each_arc network.rows (IsFeed r) is_feed
 
   -- a centre is left by the arcs to its racks
+  abbrev IsBranch : ℕ → FlowArc → Type 0
+  IsBranch c a = a.from ≡ centre_node wave c
+      → (r : ℕ) × (r < length wave.tree.centre_of) × (centre_of wave r ≡ c) × (a.to ≡ rack_node wave r)
+      × (a.capacity ≡ slots_below wave (length wave.workers) r)
+
   centre_room : (c : ℕ) → c < wave.tree.centres
       → outroom arcs (centre_node wave c) ≡ slots_within wave (length wave.workers) c
   centre_room c known =
@@ -454,64 +337,31 @@ module _ (wave : Wave) (arcs : List FlowArc) (network : IsRackNetwork wave arcs)
           ap (λ (b : Bool). cond b (slots_below wave (length wave.workers) i) 0)
           (ne_eqb (centre_of wave i) c n)
 
-      is_branch : (d : RackArc) → IsWanted wave d → (a : FlowArc) → Is a d → a.from ≡ centre_node wave c
-          → (r : ℕ) × (r < length wave.tree.centre_of) × (centre_of wave r ≡ c) × (a.to ≡ rack_node wave r)
-          × (a.capacity ≡ slots_below wave (length wave.workers) r)
-      is_branch (Pair s v) d a e f =
-          absurd (let source = pending_known wave s d.0.pending in
-          let from = ap (λ (a : FlowArc). a.from) e in omega arith)
-      is_branch (Reach s level h) d a e f =
-          absurd (let source = pending_known wave s d.pending in let from = ap (λ (a : FlowArc). a.from) e in
-          omega arith)
-      is_branch (Wait s) d a e f =
-          absurd (let source = pending_known wave s d in let from = ap (λ (a : FlowArc). a.from) e in
-          omega arith)
-      is_branch (Trunk q) d a e f =
-          absurd (let one = one_cluster wave.tree.centres d.0 in let from = ap (λ (a : FlowArc). a.from) e in
-          omega arith)
-      is_branch (Branch r) d a e f = (
-        r,
-        d,
-        (let from = ap (λ (a : FlowArc). a.from) e in omega arith),
-        ap (λ (a : FlowArc). a.to) e,
-        ap (λ (a : FlowArc). a.capacity) e,
-      )
-      is_branch (Feed v) d a e f = absurd (let from = ap (λ (a : FlowArc). a.from) e in omega arith)
-      is_branch (Slot v) d a e f = absurd (let from = ap (λ (a : FlowArc). a.from) e in omega arith)
-      is_branch Rest d a e f = absurd (let from = ap (λ (a : FlowArc). a.from) e in omega arith)
+      is_branch : (d : RackArc) → IsWanted wave d → IsBranch c (arc_of wave d)
+      is_branch (Pair s v) d f = absurd (let split = pending_known wave s d.0.pending in omega arith)
+      is_branch (Reach s level h) d f = absurd (let split = pending_known wave s d.pending in omega arith)
+      is_branch (Wait s) d f = absurd (let split = pending_known wave s d in omega arith)
+      is_branch (Trunk q) d f = absurd (let one = one_cluster wave.tree.centres d.0 in omega arith)
+      is_branch (Branch r) d f = (r, d, omega arith, refl, refl)
+      is_branch (Feed v) d f = absurd (omega arith)
+      is_branch (Slot v) d f = absurd (omega arith)
+      is_branch Rest d f = absurd (omega arith)
 
-      own : (k : ℕ) → k < length arcs → (arc_at arcs k).from ≡ centre_node wave c
-          → (r : ℕ) × (r < length wave.tree.centre_of) × (centre_of wave r ≡ c)
-          × ((arc_at arcs k).to ≡ rack_node wave r)
-          × ((arc_at arcs k).capacity ≡ slots_below wave (length wave.workers) r)
-      own k l from = let d = network.rows.sound k l in is_branch d.0 d.1 (arc_at arcs k) d.2 from
+      own : (k : ℕ) → k < length arcs → IsBranch c (arc_at arcs k)
+      own = each_arc network.rows (IsBranch c) is_branch
 
   -- each arc leads to a later node
-  pub is_onward : (d : RackArc) → IsWanted wave d → (a : FlowArc) → Is a d → a.from < a.to
-  is_onward (Pair s v) d a e =
-      let source = pending_known wave s d.0.pending in
-      let from = ap (λ (a : FlowArc). a.from) e in let to = ap (λ (a : FlowArc). a.to) e in omega arith
-  is_onward (Reach s level h) d a e =
-      let source = pending_known wave s d.pending in
-      let past = no_split (Reach s level h) d a e in
-      let from = ap (λ (a : FlowArc). a.from) e in omega arith
-  is_onward (Wait s) d a e =
-      let source = pending_known wave s d in
-      let from = ap (λ (a : FlowArc). a.from) e in let to = ap (λ (a : FlowArc). a.to) e in omega arith
-  is_onward (Trunk c) d a e =
-      let one = one_cluster wave.tree.centres d.0 in
-      let from = ap (λ (a : FlowArc). a.from) e in let to = ap (λ (a : FlowArc). a.to) e in omega arith
-  is_onward (Branch r) d a e =
-      let centre = network.tree.centres r d in
-      let from = ap (λ (a : FlowArc). a.from) e in let to = ap (λ (a : FlowArc). a.to) e in omega arith
-  is_onward (Feed v) d a e =
-      let rack = network.tree.racks v (live_known wave v d.0) in
-      let from = ap (λ (a : FlowArc). a.from) e in let to = ap (λ (a : FlowArc). a.to) e in omega arith
-  is_onward (Slot v) d a e =
-      let worker : v < length wave.workers = d in
-      let from = ap (λ (a : FlowArc). a.from) e in let to = ap (λ (a : FlowArc). a.to) e in omega arith
-  is_onward Rest d a e = let from = ap (λ (a : FlowArc). a.from) e in let to = ap (λ (a : FlowArc). a.to) e in
-      omega arith
+  pub is_onward : (d : RackArc) → IsWanted wave d → (arc_of wave d).from < (arc_of wave d).to
+  is_onward (Pair s v) d = let split = pending_known wave s d.0.pending in omega arith
+  is_onward (Reach s level h) d =
+      let split = pending_known wave s d.pending in
+      let low = (reach_in wave network.tree s level h d).0 in omega arith
+  is_onward (Wait s) d = let split = pending_known wave s d in omega arith
+  is_onward (Trunk c) d = let one = one_cluster wave.tree.centres d.0 in omega arith
+  is_onward (Branch r) d = let centre = network.tree.centres r d in omega arith
+  is_onward (Feed v) d = let rack = network.tree.racks v (live_known wave v d.0) in omega arith
+  is_onward (Slot v) d = let worker : v < length wave.workers = d in omega arith
+  is_onward Rest d = omega arith
 
   fed_worker : (w : ℕ) → IsUsable wave w
       → IsFed arcs (length wave.splits) (rack_node wave (rack_of wave w)) (worker_node wave w)
@@ -526,8 +376,8 @@ module _ (wave : Wave) (arcs : List FlowArc) (network : IsRackNetwork wave arcs)
         without_cost = arc.cost_is;
         whole = arc.capacity_is ∙ sym (worker_room w known);
         inner = omega arith;
-        entered = λ k l t. (let d = network.rows.sound k l in
-            to_worker w known d.0 d.1 (arc_at arcs k) d.2 t);
+        entered = each_arc network.rows (λ a. a.to ≡ worker_node wave w
+            → FromAbove (rack_node wave (rack_of wave w)) a) (to_worker w known);
       }
 
   fed_rack : (r : ℕ) → r < length wave.tree.centre_of
@@ -542,7 +392,8 @@ module _ (wave : Wave) (arcs : List FlowArc) (network : IsRackNetwork wave arcs)
         without_cost = arc.cost_is;
         whole = arc.capacity_is ∙ sym (rack_room r known);
         inner = omega arith;
-        entered = λ k l t. (let d = network.rows.sound k l in to_rack r known d.0 d.1 (arc_at arcs k) d.2 t);
+        entered = each_arc network.rows (λ a. a.to ≡ rack_node wave r
+            → FromAbove (centre_node wave (centre_of wave r)) a) (to_rack r known);
       }
 
   fed_centre : (c : ℕ) → 1 < wave.tree.centres → c < wave.tree.centres
@@ -557,11 +408,8 @@ module _ (wave : Wave) (arcs : List FlowArc) (network : IsRackNetwork wave arcs)
         without_cost = arc.cost_is;
         whole = arc.capacity_is ∙ sym (centre_room c known);
         inner = omega arith;
-        entered = λ k l t. (let d = network.rows.sound k l in
-            elim (to_centre c known d.0 d.1 (arc_at arcs k) d.2 t) [
-              | inl split ↦ inl split
-              | inr trunk ↦ inr (trunk.1, trunk.2)
-            ]);
+        entered = λ k l t. elim (own_centre c known k l t)
+            [ inl split ↦ inl split | inr trunk ↦ inr (trunk.1, trunk.2) ];
       }
 
   -- the way up from a centre: to the cluster, where there are several
@@ -574,18 +422,16 @@ module _ (wave : Wave) (arcs : List FlowArc) (network : IsRackNetwork wave arcs)
           fed_centre c many known,
           (
             record { no_source = omega arith; no_sink = λ e. omega arith },
-            λ k l t. (let d = network.rows.sound k l in to_cluster many d.0 d.1 (arc_at arcs k) d.2 t),
+            each_arc network.rows (λ a. a.to ≡ cluster_node wave → a.from < length wave.splits)
+                (to_cluster many),
           ),
         )
     | inr few ↦ subst (λ (b : Bool). IsWay arcs (length wave.splits) (sink_node wave)
         (centre_node wave c ∷ cond b (cluster_node wave ∷ []) []))
         (sym (le-ltb 1 wave.tree.centres (omega arith))) (
           inner,
-          λ k l t. (let d = network.rows.sound k l in
-              elim (to_centre c known d.0 d.1 (arc_at arcs k) d.2 t) [
-                | inl split ↦ split
-                | inr trunk ↦ absurd (let many = trunk.0 in omega arith)
-              ]),
+          λ k l t. elim (own_centre c known k l t)
+              [ inl split ↦ split | inr trunk ↦ absurd (let many = trunk.0 in omega arith) ],
         )
   ]
     where
@@ -656,42 +502,35 @@ module _ (wave : Wave) (arcs : List FlowArc) (network : IsRackNetwork wave arcs)
       slot (suc n) h w free m e = absurd (omega arith)
 
   -- the splits' arcs alone have costs
-  is_free : (d : RackArc) → IsWanted wave d → (a : FlowArc) → Is a d → length wave.splits ≤ a.from
-      → a.cost ≡ 0
-  is_free (Pair s w) want a e past =
-      absurd (let known = pending_known wave s want.0.pending in let from = ap (λ (a : FlowArc). a.from) e in
-      omega arith)
-  is_free (Reach s level h) want a e past =
-      absurd (let known = pending_known wave s want.pending in let from = ap (λ (a : FlowArc). a.from) e in
-      omega arith)
-  is_free (Wait s) want a e past =
-      absurd (let known = pending_known wave s want in let from = ap (λ (a : FlowArc). a.from) e in
-      omega arith)
-  is_free (Trunk c) want a e past = ap (λ (a : FlowArc). a.cost) e
-  is_free (Branch r) want a e past = ap (λ (a : FlowArc). a.cost) e
-  is_free (Feed w) want a e past = ap (λ (a : FlowArc). a.cost) e
-  is_free (Slot w) want a e past = ap (λ (a : FlowArc). a.cost) e
-  is_free Rest want a e past = ap (λ (a : FlowArc). a.cost) e
+  is_free : (d : RackArc) → IsWanted wave d → length wave.splits ≤ (arc_of wave d).from
+      → (arc_of wave d).cost ≡ 0
+  is_free (Pair s w) want past = absurd (let split = pending_known wave s want.0.pending in omega arith)
+  is_free (Reach s level h) want past = absurd (let split = pending_known wave s want.pending in omega arith)
+  is_free (Wait s) want past = absurd (let split = pending_known wave s want in omega arith)
+  is_free (Trunk c) want past = refl
+  is_free (Branch r) want past = refl
+  is_free (Feed w) want past = refl
+  is_free (Slot w) want past = refl
+  is_free Rest want past = refl
 
   pub wave_network : IsWaveNetwork wave (rack_nodes wave) arcs
   wave_network = record {
     past_splits = omega arith;
-    no_entry = λ k l. (let d = network.rows.sound k l in no_split d.0 d.1 (arc_at arcs k) d.2);
-    free = λ k l past. (let d = network.rows.sound k l in is_free d.0 d.1 (arc_at arcs k) d.2 past);
+    no_entry = each_arc network.rows (λ a. length wave.splits ≤ a.to) no_split;
+    free = each_arc network.rows (λ a. length wave.splits ≤ a.from → a.cost ≡ 0) is_free;
     ways = way_up;
-    closed = λ w k known n l t. (let d = network.rows.sound k l in
-        n (usable_there w known d.0 d.1 (arc_at arcs k) d.2 t));
+    closed = λ w k known n l t. n (each_arc network.rows (λ a. a.to ≡ worker_node wave w → IsUsable wave w)
+        (usable_there w known) k l t);
     known = λ w. omega arith;
     own = λ v w e. omega arith;
-    sound = λ s w k known u l f among. (let d = network.rows.sound k l in
-        is_sound s w known u d.0 d.1 (arc_at arcs k) d.2 f among);
+    sound = λ s w k known u. each_arc network.rows (IsSound s w) (is_sound s w known u) k;
     complete = is_complete;
     wait = λ s p. the_arc (Wait s) p;
-    waiting = λ k l t. (let d = network.rows.sound k l in to_unstarted d.0 d.1 (arc_at arcs k) d.2 t);
+    waiting = each_arc network.rows (λ a. a.to ≡ unstarted_node wave
+        → (a.from < length wave.splits) × (a.cost ≡ reward wave)) to_unstarted;
     rest = (let f = the_arc Rest tt in (f.0, (arc_of wave Rest).capacity, f.1, omega arith));
-    apart = λ w u among. (let within =
-        among_in wave network.tree (unstarted_node wave) w (live_known wave w u.0) among in
-        let below = within.1 in omega arith);
+    apart = λ w u among. (let below =
+        (among_in wave network.tree (unstarted_node wave) w (live_known wave w u.0) among).1 in omega arith);
     rest_inner = record { no_source = omega arith; no_sink = λ e. omega arith };
     slot = λ w u. the_arc (Slot w) (live_known wave w u.0);
     slots = λ w u. worker_room w (live_known wave w u.0);

@@ -1,7 +1,8 @@
 use Rattle.std.proofs.Common.{ℕ, ◌+◌, ◌*◌, sym, ◌∙◌, arith, subst}
 use Rattle.std.proofs.lemmas.Bool.{false≢true}
 use Rattle.wave_problem.specs.Wave.{IsAdmissible}
-use Rattle.direct_network.proofs.Rows.{to_pairs, pair_step, pair_skip}
+use Rattle.network_prices.proofs.Rows.{row_begin, row_step, row_skip}
+use Rattle.direct_network.proofs.Rows.{pairs}
 use Rattle.direct_network.proofs.network.add_pairs.Goals as goal
 use Rattle.direct_network.proofs.network.add_pairs.Goals.{then-admissible+in_ok-add, else-admissible}
 
@@ -17,18 +18,18 @@ loop-i-preserved c =
     let s : ℕ = c.args.split in
     let limit : ℕ = 257 * s + c.loop-i.i in
     let next : ℕ = 257 * s + (c.loop-i.i + 1) in
+    let row = pairs c.args.problem.now s c.requires.split in
     elim c.if-admissible.branch [
       | then-admissible+in_ok-add w ↦ rw w.network-is
-          (pair_step c.args.problem.now s c.loop-i.i c.new-worker.result limit next c.loop-i.network
-          w.add.new.network
-          (omega arith) (omega arith) c.requires.split (omega arith)
+          (row_step row c.loop-i.i c.new-worker.result limit next c.loop-i.network w.add.new.network
+          (omega arith) (omega arith) (omega arith)
           (subst (λ z. IsAdmissible z s c.new-worker.result) c.new-costs.ensures.wave
           (subst (λ z. IsAdmissible c.new-costs.result.wave z c.new-worker.result) c.new-costs.ensures.split
           (c.admissible.ensures.0 w.if-admissible.true)))
           c.loop-i.invariant w.in_ok-add.ensures)
       | else-admissible w ↦ rw w.network-is
-          (pair_skip c.args.problem.now s c.loop-i.i c.new-worker.result limit next c.loop-i.network
-          (omega arith) (omega arith) c.requires.split (omega arith)
+          (row_skip row c.loop-i.i c.new-worker.result limit next c.loop-i.network
+          (omega arith) (omega arith) (omega arith)
           (λ may. false≢true (sym w.if-admissible.false ∙ c.admissible.ensures.1
           (subst (λ z. IsAdmissible c.new-costs.result.wave z c.new-worker.result)
           (sym c.new-costs.ensures.split)
@@ -38,6 +39,5 @@ loop-i-preserved c =
 
 pub loop-i-init : goal.loop-i-init
 loop-i-init c =
-    to_pairs c.args.problem.now c.args.split (257 * c.args.split) (257 * c.args.split + 0) c.args.network.now
-    (omega arith) c.requires.split
-    c.requires.built
+    row_begin (pairs c.args.problem.now c.args.split c.requires.split) (257 * c.args.split)
+    (257 * c.args.split + 0) c.args.network.now (omega arith) c.requires.built

@@ -1,10 +1,11 @@
 use Rattle.std.proofs.Common.{ℕ, ◌≡◌, ◌+◌, suc, length, get_or, sym, ap, ◌∙◌, subst, arith}
 use Rattle.std.proofs.lemmas.Bool.{eqb-true, eqb-false}
 use Rattle.rack_tree.specs.Tree.{Tree}
+use Rattle.network_prices.proofs.Rows.{row_begin, row_step, row_skip}
 use Rattle.rack_network.specs.Racks.{centre_node, centre_of, rack_node}
 use Rattle.rack_network.specs.Build.{in_place, in_places, trunk_arcs, IsBuilt}
 use Rattle.rack_network.proofs.Counts.{place_more, place-le, place-mono, places_more, places-le}
-use Rattle.rack_network.proofs.Rows.{to_branches, branch_step, branch_skip, branches_end}
+use Rattle.rack_network.proofs.Rows.{branches, branches_end}
 use Rattle.rack_network.proofs.network.add_branches.Goals as goal
 use Rattle.rack_network.proofs.network.add_branches.Goals.{then-eq+in_ok-add, else-eq}
 
@@ -28,8 +29,8 @@ pub loop-i-init : goal.loop-i-init
 loop-i-init c =
     let wave = c.args.problem.now in
     let limit : ℕ = trunk_arcs wave + in_places (centre_of wave) (length wave.tree.centre_of) c.args.centre in
-    to_branches wave c.requires.tree c.args.centre limit (limit + in_place (centre_of wave) 0 c.args.centre)
-    c.args.network.now c.requires.centre (omega arith) c.requires.built
+    row_begin (branches wave c.requires.tree c.args.centre c.requires.centre) limit
+    (limit + in_place (centre_of wave) 0 c.args.centre) c.args.network.now (omega arith) c.requires.built
 
 pub loop-i-preserved : goal.loop-i-preserved
 loop-i-preserved c =
@@ -46,18 +47,17 @@ loop-i-preserved c =
     let racks = c.racks-i-end.ensures.count in
     let own : c.centre_of.result ≡ centre_of wave rack =
     c.centre_of.ensures.centre ∙ ap (λ (t : Tree). get_or t.centre_of rack 0) c.tree-tree.ensures.tree in
+    let row = branches wave c.requires.tree d c.requires.centre in
     elim c.if-eq.branch [
       | then-eq+in_ok-add w ↦ rw w.network-is
           (let here : centre_of wave rack ≡ d = sym own ∙ eqb-true _ _ (sym c.eq.ensures ∙ w.if-eq.true) in
           let one = place_more (centre_of wave) d c.loop-i.i (ap (centre_of wave) (sym same) ∙ here) in
-          branch_step wave c.requires.tree d c.loop-i.i rack now then c.loop-i.network w.add.new.network
-          c.requires.centre same (omega arith) (omega arith) here c.loop-i.invariant
-          w.in_ok-add.ensures)
+          row_step row c.loop-i.i rack now then c.loop-i.network w.add.new.network same (omega arith)
+          (omega arith) (omega arith, here) c.loop-i.invariant w.in_ok-add.ensures)
       | else-eq w ↦ rw w.network-is
           (let more = place-le (centre_of wave) d c.loop-i.i in
-          branch_skip wave c.requires.tree d c.loop-i.i rack now then c.loop-i.network c.requires.centre same
-          (omega arith) (λ here. eqb-false _ _ (sym c.eq.ensures ∙ w.if-eq.false) (own ∙ here))
-          c.loop-i.invariant)
+          row_skip row c.loop-i.i rack now then c.loop-i.network same (omega arith) (omega arith)
+          (λ here. eqb-false _ _ (sym c.eq.ensures ∙ w.if-eq.false) (own ∙ here.1)) c.loop-i.invariant)
     ]
 
 pub returns : goal.returns
@@ -74,9 +74,9 @@ returns c =
     ≡ in_places (centre_of wave) racks d + in_place (centre_of wave) racks d =
     ap (in_places (centre_of wave) racks) next ∙ places_more (centre_of wave) d racks in
     record {
-      built = branches_end wave c.requires.tree d (limit + in_place (centre_of wave) racks d)
-          (trunk_arcs wave + in_places (centre_of wave) racks (d + 1)) c.loop-i.network c.requires.centre
-          (omega arith)
+      built = branches_end wave c.requires.tree d c.requires.centre
+          (limit + in_place (centre_of wave) racks d)
+          (trunk_arcs wave + in_places (centre_of wave) racks (d + 1)) c.loop-i.network (omega arith)
           (subst (λ (i : ℕ). IsBuilt wave (centre_node wave d) (rack_node wave i)
           (limit + in_place (centre_of wave) i d) c.loop-i.network) end c.loop-i.invariant);
     }

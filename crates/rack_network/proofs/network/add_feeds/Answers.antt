@@ -1,9 +1,10 @@
 use Rattle.std.proofs.Common.{ℕ, ◌≡◌, ◌+◌, suc, length, sym, ap, ◌∙◌, subst, arith}
 use Rattle.std.proofs.lemmas.Bool.{false≢true}
+use Rattle.network_prices.proofs.Rows.{row_begin, row_step, row_skip}
 use Rattle.rack_network.specs.Racks.{rack_node, worker_node, rack_of}
 use Rattle.rack_network.specs.Build.{branch_arcs, in_place, in_places, IsBuilt}
 use Rattle.rack_network.proofs.Counts.{place_more, place-le, place-mono, places_more, places-le}
-use Rattle.rack_network.proofs.Rows.{to_feeds, feed_step, feed_skip, feeds_end}
+use Rattle.rack_network.proofs.Rows.{feeds, feeds_end}
 use Rattle.rack_network.proofs.network.add_feeds.Goals as goal
 use Rattle.rack_network.proofs.network.add_feeds.Goals.{then-takes_from+in_ok-add, else-takes_from}
 
@@ -26,9 +27,8 @@ pub loop-i-init : goal.loop-i-init
 loop-i-init c =
     let wave = c.args.problem.now in
     let limit : ℕ = branch_arcs wave + in_places (rack_of wave) (length wave.workers) c.args.rack in
-    to_feeds wave c.requires.tree c.args.rack limit (limit + in_place (rack_of wave) 0 c.args.rack)
-    c.args.network.now
-    c.requires.rack (omega arith) c.requires.built
+    row_begin (feeds wave c.requires.tree c.args.rack c.requires.rack) limit
+    (limit + in_place (rack_of wave) 0 c.args.rack) c.args.network.now (omega arith) c.requires.built
 
 pub loop-i-preserved : goal.loop-i-preserved
 loop-i-preserved c =
@@ -41,18 +41,17 @@ loop-i-preserved c =
     let then : ℕ = limit + in_place (rack_of wave) (c.loop-i.i + 1) r in
     let next : c.loop-i.i + 1 ≡ suc c.loop-i.i = omega arith in
     let count = ap (λ (n : ℕ). in_place (rack_of wave) n r) next in
+    let row = feeds wave c.requires.tree r c.requires.rack in
     elim c.if-takes_from.branch [
       | then-takes_from+in_ok-add w ↦ rw w.network-is
           (let takes = c.takes_from.ensures.0 w.if-takes_from.true in
           let one = place_more (rack_of wave) r c.loop-i.i (ap (rack_of wave) (sym same) ∙ takes.1) in
-          feed_step wave c.requires.tree r c.loop-i.i worker now then
-          c.loop-i.network w.add.new.network c.requires.rack same (omega arith) (omega arith) takes.0 takes.1
-          c.loop-i.invariant w.in_ok-add.ensures)
+          row_step row c.loop-i.i worker now then c.loop-i.network w.add.new.network same (omega arith)
+          (omega arith) takes c.loop-i.invariant w.in_ok-add.ensures)
       | else-takes_from w ↦ rw w.network-is
           (let more = place-le (rack_of wave) r c.loop-i.i in
-          feed_skip wave c.requires.tree r c.loop-i.i worker now then
-          c.loop-i.network c.requires.rack same (omega arith)
-          (λ usable rack. false≢true (sym w.if-takes_from.false ∙ c.takes_from.ensures.1 (usable, rack)))
+          row_skip row c.loop-i.i worker now then c.loop-i.network same (omega arith) (omega arith)
+          (λ takes. false≢true (sym w.if-takes_from.false ∙ c.takes_from.ensures.1 takes))
           c.loop-i.invariant)
     ]
 
@@ -69,9 +68,8 @@ returns c =
     ≡ in_places (rack_of wave) workers r + in_place (rack_of wave) workers r =
     ap (in_places (rack_of wave) workers) next ∙ places_more (rack_of wave) r workers in
     record {
-      built = feeds_end wave c.requires.tree r (limit + in_place (rack_of wave) workers r)
-          (branch_arcs wave + in_places (rack_of wave) workers (r + 1)) c.loop-i.network c.requires.rack
-          (omega arith)
+      built = feeds_end wave c.requires.tree r c.requires.rack (limit + in_place (rack_of wave) workers r)
+          (branch_arcs wave + in_places (rack_of wave) workers (r + 1)) c.loop-i.network (omega arith)
           (subst (λ (i : ℕ). IsBuilt wave (rack_node wave r) (worker_node wave i)
           (limit + in_place (rack_of wave) i r) c.loop-i.network) end c.loop-i.invariant);
     }

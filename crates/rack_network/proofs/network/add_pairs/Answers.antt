@@ -1,9 +1,10 @@
 use Rattle.std.proofs.Common.{ℕ, ◌≡◌, ◌+◌, ◌*◌, length, sym, ◌∙◌, arith, subst}
 use Rattle.std.proofs.lemmas.Bool.{false≢true}
 use Rattle.wave_problem.specs.Wave.{IsAdmissible}
+use Rattle.network_prices.proofs.Rows.{row_begin, row_step, row_skip}
 use Rattle.rack_network.specs.Racks.{worker_node, unstarted_node}
 use Rattle.rack_network.specs.Build.{IsBuilt}
-use Rattle.rack_network.proofs.Rows.{to_pairs, pair_step, pair_skip, raise}
+use Rattle.rack_network.proofs.Rows.{pairs, raise}
 use Rattle.rack_network.proofs.network.add_pairs.Goals as goal
 use Rattle.rack_network.proofs.network.add_pairs.Goals.{then-admissible+in_ok-add, else-admissible}
 
@@ -19,18 +20,17 @@ loop-i-preserved c =
     let s : ℕ = c.args.split in
     let limit : ℕ = 257 * s + c.loop-i.i in
     let next : ℕ = 257 * s + (c.loop-i.i + 1) in
+    let row = pairs c.args.problem.now c.requires.tree s c.requires.split c.requires.bars in
     elim c.if-admissible.branch [
       | then-admissible+in_ok-add w ↦ rw w.network-is
-          (pair_step c.args.problem.now c.requires.tree s c.requires.split c.requires.bars c.loop-i.i
-          c.new-worker.result limit next c.loop-i.network w.add.new.network
+          (row_step row c.loop-i.i c.new-worker.result limit next c.loop-i.network w.add.new.network
           (omega arith) (omega arith) (omega arith)
           (subst (λ z. IsAdmissible z s c.new-worker.result) c.new-costs.ensures.wave
           (subst (λ z. IsAdmissible c.new-costs.result.wave z c.new-worker.result) c.new-costs.ensures.split
           (c.admissible.ensures.0 w.if-admissible.true)))
           c.loop-i.invariant w.in_ok-add.ensures)
       | else-admissible w ↦ rw w.network-is
-          (pair_skip c.args.problem.now c.requires.tree s c.requires.split c.requires.bars c.loop-i.i
-          c.new-worker.result limit next c.loop-i.network
+          (row_skip row c.loop-i.i c.new-worker.result limit next c.loop-i.network
           (omega arith) (omega arith) (omega arith)
           (λ may. false≢true (sym w.if-admissible.false ∙ c.admissible.ensures.1
           (subst (λ z. IsAdmissible c.new-costs.result.wave z c.new-worker.result)
@@ -41,7 +41,7 @@ loop-i-preserved c =
 
 pub loop-i-init : goal.loop-i-init
 loop-i-init c =
-    to_pairs c.args.problem.now c.requires.tree c.args.split c.requires.split c.requires.bars
+    row_begin (pairs c.args.problem.now c.requires.tree c.args.split c.requires.split c.requires.bars)
     (257 * c.args.split) (257 * c.args.split + 0)
     c.args.network.now (omega arith) c.requires.built
 

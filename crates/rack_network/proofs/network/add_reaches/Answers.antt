@@ -5,8 +5,8 @@ use Rattle.rack_network.specs.Places.{clusters-le}
 use Rattle.rack_network.specs.Build.{passed_by, IsBuilt}
 use Rattle.rack_network.proofs.Counts.{passed_by-le, passed_by-more}
 use Rattle.rack_network.proofs.Above.{are_of, next_is, next_least, next_none}
-use Rattle.rack_network.proofs.Heights.{four_levels}
-use Rattle.rack_network.proofs.Rows.{reach_in, reach_step, reach_end, to_reaches}
+use Rattle.rack_network.proofs.Heights.{four_levels, reach_in}
+use Rattle.rack_network.proofs.Rows.{reach_step, reach_end, to_reaches}
 use Rattle.rack_network.proofs.network.add_reaches.Goals as goal
 
 pub loop-next-init : goal.loop-next-init

@@ -1,25 +1,24 @@
 use Rattle.std.proofs.Common.{ℕ, ◌≡◌, ◌+◌, ap, subst, arith}
 use Rattle.rack_tree.specs.Tree.{Tree}
+use Rattle.network_prices.proofs.Rows.{row_begin, row_step}
 use Rattle.rack_network.specs.Racks.{cluster_node, centre_node}
 use Rattle.rack_network.specs.Build.{split_arcs, trunk_arcs, IsBuilt}
-use Rattle.rack_network.proofs.Rows.{to_trunks, trunk_step, trunks_end}
+use Rattle.rack_network.proofs.Rows.{trunks, trunks_end}
 use Rattle.rack_network.proofs.network.add_trunk_row.Goals as goal
 
 pub loop-i-init : goal.loop-i-init
 loop-i-init c =
     let wave = c.args.problem.now in
-    to_trunks wave c.requires.tree c.requires.several (split_arcs wave) (split_arcs wave + 0)
-    c.args.network.now
-    (omega arith) c.requires.built
+    row_begin (trunks wave c.requires.tree c.requires.several) (split_arcs wave) (split_arcs wave + 0)
+    c.args.network.now (omega arith) c.requires.built
 
 pub loop-i-preserved : goal.loop-i-preserved
 loop-i-preserved c =
     let wave = c.args.problem.now in
     let count = ap (λ (t : Tree). t.centres) c.tree.ensures.tree in
-    trunk_step wave c.requires.tree c.requires.several c.loop-i.i c.new.result (split_arcs wave + c.loop-i.i)
-    (split_arcs wave + (c.loop-i.i + 1)) c.loop-i.network c.add.new.network (omega arith) (omega arith)
-    (omega arith)
-    c.loop-i.invariant c.in_ok-add.ensures
+    row_step (trunks wave c.requires.tree c.requires.several) c.loop-i.i c.new.result
+    (split_arcs wave + c.loop-i.i) (split_arcs wave + (c.loop-i.i + 1)) c.loop-i.network c.add.new.network
+    (omega arith) (omega arith) (omega arith) (omega arith) c.loop-i.invariant c.in_ok-add.ensures
 
 pub returns : goal.returns
 returns c =

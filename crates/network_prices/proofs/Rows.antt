@@ -1,0 +1,110 @@
+-- A row of a table is built arc by arc.
+use Rattle.std.proofs.Common.{◌≡◌, ℕ, ◌+◌, ◌<◌, ◌≤◌, refl, sym, ap, ◌∙◌, subst, ◌⊎◌, inl, inr, arith}
+use Rattle.std.proofs.lemmas.Bool.{cases_lt}
+use Rattle.flow_network.specs.declared.arcs.FlowArc.{FlowArc}
+use Rattle.flow_network.specs.Flow.{Flow}
+use Rattle.network_prices.specs.Building.{IsAdded}
+use Rattle.network_prices.specs.Tables.{IsBefore, IsBuiltTo}
+use Rattle.network_prices.proofs.Tables.{built_take, built_pass}
+
+-- what stands before a place of a row stands before an earlier one, or between the two
+between : (u x y : ℕ) (a : FlowArc) → IsBefore a u y
+    → IsBefore a u x ⊎ ((a.from ≡ u) × (x ≤ a.to) × (a.to < y))
+between u x y a (inl l) = inl (inl l)
+between u x y a (inr e) = elim (cases_lt a.to x)
+    [ inl l ↦ inl (inr (e.0, l)) | inr m ↦ inr (e.0, omega arith, e.1) ]
+
+-- what stands before the next row stands before a place of this one, or past it
+past : (u v x : ℕ) (a : FlowArc) → v ≡ u + 1 → IsBefore a v 0 → IsBefore a u x ⊎ ((a.from ≡ u) × (x ≤ a.to))
+past u v x a next (inr e) = absurd (let none = e.1 in omega arith)
+past u v x a next (inl l) = elim (cases_lt a.from u) [
+  | inl m ↦ inl (inl m)
+  | inr m ↦ elim (cases_lt a.to x)
+      [ inl k ↦ inl (inr (omega arith, k)) | inr k ↦ inr (omega arith, omega arith) ]
+]
+
+-- the arcs of a row to the n nodes from base on are those of some numbers
+pub record IsRow {D : Type 0} (wanted : D → Type 0) (arc : D → FlowArc) (u base n : ℕ) (own : ℕ → D)
+    (holds : ℕ → Type 0) : Type 0 where
+  pub here : (i : ℕ) → holds i → wanted (own i) × ((arc (own i)).from ≡ u) × ((arc (own i)).to ≡ base + i)
+  pub only : (e : D) → wanted e → (arc e).from ≡ u → (arc e).to < base + n
+      → (i : ℕ) × holds i × (e ≡ own i)
+
+number_of : {D : Type 0} {wanted : D → Type 0} {arc : D → FlowArc} {u base n : ℕ} {own : ℕ → D}
+    {holds : ℕ → Type 0} → IsRow wanted arc u base n own holds → (e : D) → wanted e → (arc e).from ≡ u
+    → (arc e).to < base + n → (i : ℕ) × holds i × (e ≡ own i) × ((arc e).to ≡ base + i)
+number_of {D} {wanted} {arc} row e want from high =
+    let o = row.only e want from high in
+    (o.0, o.1, o.2, ap (λ (d : D). (arc d).to) o.2 ∙ (row.here o.0 o.1).2)
+
+module _ {D L : Type 0} {wanted : D → Type 0} {arc : D → FlowArc} {sized : L → Type 0} where
+  -- the arc d is the only one between two places of its row
+  pub row_take : (u x y limit next : ℕ) (d : D) (old new : Flow L) → limit < next → wanted d
+      → (arc d).from ≡ u → x ≤ (arc d).to → (arc d).to < y
+      → ((e : D) → wanted e → (arc e).from ≡ u → x ≤ (arc e).to → (arc e).to < y → arc e ≡ arc d)
+      → IsBuiltTo wanted arc sized u x limit old → IsAdded (arc d) old new
+      → IsBuiltTo wanted arc sized u y next new
+  row_take u x y limit next d old new less want from low high only =
+      built_take wanted arc sized u x u y limit next d old new less want (inr (sym from, low))
+      (inr (from, high))
+      (λ e wish before. elim (between u x y (arc e) before)
+      [ inl was ↦ inl was | inr own ↦ inr (only e wish own.0 own.1 own.2) ])
+
+  -- there is none between them
+  pub row_pass : (u x y limit next : ℕ) (network : Flow L) → limit ≤ next → x ≤ y
+      → ((e : D) → wanted e → (arc e).from ≡ u → x ≤ (arc e).to → (arc e).to < y → ⊥)
+      → IsBuiltTo wanted arc sized u x limit network → IsBuiltTo wanted arc sized u y next network
+  row_pass u x y limit next network less up none =
+      built_pass wanted arc sized u x u y limit next network less (inr (refl, up))
+      (λ e wish before. elim (between u x y (arc e) before)
+      [ inl was ↦ was | inr own ↦ absurd (none e wish own.0 own.1 own.2) ])
+
+  -- the arc d is the only one from a place of its row on
+  pub row_last : (u v x limit next : ℕ) (d : D) (old new : Flow L) → v ≡ u + 1 → limit < next
+      → wanted d → (arc d).from ≡ u → x ≤ (arc d).to
+      → ((e : D) → wanted e → (arc e).from ≡ u → x ≤ (arc e).to → arc e ≡ arc d)
+      → IsBuiltTo wanted arc sized u x limit old → IsAdded (arc d) old new
+      → IsBuiltTo wanted arc sized v 0 next new
+  row_last u v x limit next d old new row less want from low only =
+      built_take wanted arc sized u x v 0 limit next d old new less want (inr (sym from, low))
+      (inl (omega arith))
+      (λ e wish before. elim (past u v x (arc e) row before)
+      [ inl was ↦ inl was | inr own ↦ inr (only e wish own.0 own.1) ])
+
+  -- there is none from it on
+  pub row_end : (u v x limit next : ℕ) (network : Flow L) → v ≡ u + 1 → limit ≤ next
+      → ((e : D) → wanted e → (arc e).from ≡ u → x ≤ (arc e).to → ⊥)
+      → IsBuiltTo wanted arc sized u x limit network → IsBuiltTo wanted arc sized v 0 next network
+  row_end u v x limit next network row less none =
+      built_pass wanted arc sized u x v 0 limit next network less (inl (omega arith))
+      (λ e wish before. elim (past u v x (arc e) row before)
+      [ inl was ↦ was | inr own ↦ absurd (none e wish own.0 own.1) ])
+
+  -- the arcs of a row number by number
+  module _ {u base n : ℕ} {own : ℕ → D} {holds : ℕ → Type 0} (row : IsRow wanted arc u base n own holds) where
+    pub row_begin : (limit next : ℕ) (network : Flow L) → limit ≤ next
+        → IsBuiltTo wanted arc sized u 0 limit network
+        → IsBuiltTo wanted arc sized u (base + 0) next network
+    row_begin limit next network less =
+        row_pass u 0 (base + 0) limit next network less (omega arith)
+        (λ e want from low high. let o = number_of row e want from (omega arith) in
+        let to = o.3 in omega arith)
+
+    pub row_step : (i j limit next : ℕ) (old new : Flow L) → j ≡ i → i < n → limit < next → holds j
+        → IsBuiltTo wanted arc sized u (base + i) limit old → IsAdded (arc (own j)) old new
+        → IsBuiltTo wanted arc sized u (base + (i + 1)) next new
+    row_step i j limit next old new same few less has =
+        let at = row.here j has in
+        let to = at.2 in
+        row_take u (base + i) (base + (i + 1)) limit next (own j) old new less at.0 at.1 (omega arith)
+        (omega arith)
+        (λ e want from low high. let o = number_of row e want from (omega arith) in
+        let end = o.3 in let is : o.0 ≡ j = omega arith in ap arc (o.2 ∙ ap own is))
+
+    pub row_skip : (i j limit next : ℕ) (network : Flow L) → j ≡ i → i < n → limit ≤ next → (holds j → ⊥)
+        → IsBuiltTo wanted arc sized u (base + i) limit network
+        → IsBuiltTo wanted arc sized u (base + (i + 1)) next network
+    row_skip i j limit next network same few less never =
+        row_pass u (base + i) (base + (i + 1)) limit next network less (omega arith)
+        (λ e want from low high. let o = number_of row e want from (omega arith) in
+        let end = o.3 in let is : o.0 ≡ j = omega arith in never (subst holds is o.1))
