@@ -15,6 +15,7 @@ use Rattle.direct_network.specs.declared.arcs.DirectArc.{DirectArc}
 use Rattle.direct_network.specs.declared.arcs.DirectArc.TheVariants.{Pair, Wait, Slot, Rest}
 use Rattle.direct_network.specs.Direct.{arc_of, direct_nodes, worker_node, unstarted_node, sink_node}
 use Rattle.direct_network.specs.Direct.{IsDirect, IsWanted}
+use Rattle.direct_network.proofs.Rows.{own_slot}
 
 module _ (wave : Wave) (arcs : List FlowArc) (direct : IsDirect wave arcs) where
   the_arc : (d : DirectArc) → IsWanted wave d
@@ -88,16 +89,10 @@ module _ (wave : Wave) (arcs : List FlowArc) (direct : IsDirect wave arcs) where
       let slot = f.1 in
       outroom-one arcs (worker_node wave w) (sink_node wave) (worker_at wave w).free direct.rising
       (each_arc direct (λ a. a.from ≡ worker_node wave w
-      → (a.to ≡ sink_node wave) × (a.capacity ≡ (worker_at wave w).free)) is_slot)
+      → (a.to ≡ sink_node wave) × (a.capacity ≡ (worker_at wave w).free))
+      (λ d want from. let is = ap (arc_of wave) (own_slot wave w known d want from) in
+      (ap (λ (a : FlowArc). a.to) is, ap (λ (a : FlowArc). a.capacity) is)))
       (f.0, slot.listed, slot.from_is, slot.to_is)
-    where
-      is_slot : (d : DirectArc) → IsWanted wave d → (arc_of wave d).from ≡ worker_node wave w
-          → ((arc_of wave d).to ≡ sink_node wave) × ((arc_of wave d).capacity ≡ (worker_at wave w).free)
-      is_slot (Pair s v) want from = absurd (let split = pending_known wave s want.pending in omega arith)
-      is_slot (Wait s) want from = absurd (let split = pending_known wave s want in omega arith)
-      is_slot (Slot v) want from =
-          (refl, ap (λ (x : ℕ). (worker_at wave x).free) (let same : v ≡ w = omega arith in same))
-      is_slot Rest want from = absurd (omega arith)
 
   -- the splits' arcs alone have costs
   is_free : (d : DirectArc) → IsWanted wave d → length wave.splits ≤ (arc_of wave d).from

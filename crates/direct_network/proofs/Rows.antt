@@ -1,25 +1,19 @@
 -- The rows of the direct network are built arc by arc.
-use Rattle.std.proofs.Common.{◌≡◌, ℕ, ◌+◌, ◌<◌, ◌≤◌, true, false, [], length, get_or, refl, sym, ap, ◌∙◌}
+use Rattle.std.proofs.Common.{◌≡◌, ℕ, ◌+◌, ◌<◌, ◌≤◌, true, false, length, get_or, refl, sym, ap, ◌∙◌}
 use Rattle.std.proofs.Common.{subst, ◌⊎◌, inl, inr, arith}
 use Rattle.std.proofs.lemmas.Bool.{false≢true}
 use Rattle.flow_network.specs.Flow.{Flow}
 use Rattle.wave_problem.specs.Wave.{Wave, IsAdmissible, split_at}
 use Rattle.wave_problem.proofs.Bound.{pending_known, live_known}
 use Rattle.network_prices.specs.Building.{IsAdded}
-use Rattle.network_prices.specs.Tables.{IsBefore}
-use Rattle.network_prices.proofs.Tables.{built_nothing, all_rows}
-use Rattle.network_prices.proofs.Rows.{IsRow, row_last, row_end}
+use Rattle.network_prices.proofs.Rows.{IsRow, row_last, row_end, rows_all}
 use Rattle.direct_network.specs.declared.layout.DirectLayout.{DirectLayout}
 use Rattle.direct_network.specs.declared.arcs.DirectArc.{DirectArc}
 use Rattle.direct_network.specs.declared.arcs.DirectArc.TheVariants.{Pair, Wait, Slot, Rest}
-use Rattle.direct_network.specs.Direct.{worker_node, unstarted_node, arc_of, IsSized, IsWanted, IsDirect}
+use Rattle.direct_network.specs.Direct.{worker_node, unstarted_node, arc_of, IsWanted, IsDirect}
 use Rattle.direct_network.specs.Build.{IsBuilt}
 
 module _ (wave : Wave) where
-  pub none_yet : (network : Flow DirectLayout) → IsSized wave network.layout → network.arcs ≡ []
-      → network.flows ≡ [] → IsBuilt wave 0 0 0 network
-  none_yet = built_nothing (IsWanted wave) (arc_of wave) (IsSized wave)
-
   -- the row of a split: its arcs to workers, and the last
   pub pairs : (s : ℕ) → s < length wave.splits
       → IsRow (IsWanted wave) (arc_of wave) s (length wave.splits) (length wave.workers) (Pair s)
@@ -60,20 +54,21 @@ module _ (wave : Wave) where
       (λ e want from low. false≢true (sym idle ∙ subst (IsWanted wave) (waits s split e want from low) want))
 
   -- the row of a worker
+  pub own_slot : (j : ℕ) → j < length wave.workers → (e : DirectArc) → IsWanted wave e
+      → (arc_of wave e).from ≡ worker_node wave j → e ≡ Slot j
+  own_slot j known (Pair q v) want from =
+      absurd (let split = pending_known wave q want.pending in omega arith)
+  own_slot j known (Wait q) want from = absurd (let split = pending_known wave q want in omega arith)
+  own_slot j known (Slot v) want from = ap Slot (let is : v ≡ j = omega arith in is)
+  own_slot j known Rest want from = absurd (omega arith)
+
   pub slot_step : (j w limit next : ℕ) (old new : Flow DirectLayout) → w ≡ j → limit < next
       → w < length wave.workers → IsBuilt wave (worker_node wave j) 0 limit old
       → IsAdded (arc_of wave (Slot w)) old new → IsBuilt wave (worker_node wave (j + 1)) 0 next new
   slot_step j w limit next old new same less known =
       row_last (worker_node wave j) (worker_node wave (j + 1)) 0 limit next (Slot w) old new (omega arith)
-      less known (omega arith) (omega arith) only
-    where
-      only : (e : DirectArc) → IsWanted wave e → (arc_of wave e).from ≡ worker_node wave j
-          → 0 ≤ (arc_of wave e).to → arc_of wave e ≡ arc_of wave (Slot w)
-      only (Pair q v) want from low = absurd (let split = pending_known wave q want.pending in omega arith)
-      only (Wait q) want from low = absurd (let split = pending_known wave q want in omega arith)
-      only (Slot v) want from low =
-          ap (λ (x : ℕ). arc_of wave (Slot x)) (let is : v ≡ w = omega arith in is)
-      only Rest want from low = absurd (omega arith)
+      less known (omega arith) (omega arith)
+      (λ e want from low. ap (arc_of wave) (own_slot j (omega arith) e want from ∙ ap Slot (sym same)))
 
   -- the last row
   before_rest : (e : DirectArc) → IsWanted wave e → ((arc_of wave e).from < unstarted_node wave) ⊎ (e ≡ Rest)
@@ -82,28 +77,8 @@ module _ (wave : Wave) where
   before_rest (Slot w) want = inl (omega arith)
   before_rest Rest want = inr refl
 
-  rest_step : (limit next : ℕ) (old new : Flow DirectLayout) → limit < next
-      → IsBuilt wave (unstarted_node wave) 0 limit old
-      → IsAdded (arc_of wave Rest) old new → IsBuilt wave (unstarted_node wave + 1) 0 next new
-  rest_step limit next old new less =
-      row_last (unstarted_node wave) (unstarted_node wave + 1) 0 limit next Rest old new refl less tt
-      refl (omega arith)
-      (λ e want from low. elim (before_rest e want)
-      [ inl b ↦ absurd (omega arith) | inr is ↦ ap (arc_of wave) is ])
-
-  pub is_direct : (limit next : ℕ) (old new : Flow DirectLayout) → limit < next
-      → IsBuilt wave (unstarted_node wave) 0 limit old
-      → IsAdded (arc_of wave Rest) old new → IsDirect wave new.arcs
-  is_direct limit next old new less built added =
-      all_rows (IsWanted wave) (arc_of wave) (unstarted_node wave + 1) 0 new.arcs
-      (λ e want. elim (before_rest e want) [
-        | inl b ↦ inl (omega arith)
-        | inr is ↦ subst (λ (d : DirectArc). IsBefore (arc_of wave d) (unstarted_node wave + 1) 0) (sym is)
-            (inl (omega arith))
-      ])
-      (rest_step limit next old new less built added).rows
-
-  pub is_empty : (limit next : ℕ) (old new : Flow DirectLayout) → limit < next
-      → IsBuilt wave (unstarted_node wave) 0 limit old
-      → IsAdded (arc_of wave Rest) old new → (k : ℕ) → get_or new.flows k 0 ≡ 0
-  is_empty limit next old new less built added = (rest_step limit next old new less built added).frame.empty
+  pub all_arcs : (limit next : ℕ) (old new : Flow DirectLayout) → limit < next
+      → IsBuilt wave (unstarted_node wave) 0 limit old → IsAdded (arc_of wave Rest) old new
+      → IsDirect wave new.arcs × ((k : ℕ) → get_or new.flows k 0 ≡ 0)
+  all_arcs limit next old new less =
+      rows_all (unstarted_node wave) limit next Rest old new less tt refl before_rest

@@ -1,11 +1,11 @@
 -- A row of a table is built arc by arc.
-use Rattle.std.proofs.Common.{◌≡◌, ℕ, ◌+◌, ◌<◌, ◌≤◌, refl, sym, ap, ◌∙◌, subst, ◌⊎◌, inl, inr, arith}
+use Rattle.std.proofs.Common.{◌≡◌, ℕ, ◌+◌, ◌<◌, ◌≤◌, get_or, refl, sym, ap, ◌∙◌, subst, ◌⊎◌, inl, inr, arith}
 use Rattle.std.proofs.lemmas.Bool.{cases_lt}
 use Rattle.flow_network.specs.declared.arcs.FlowArc.{FlowArc}
 use Rattle.flow_network.specs.Flow.{Flow}
 use Rattle.network_prices.specs.Building.{IsAdded}
-use Rattle.network_prices.specs.Tables.{IsBefore, IsBuiltTo}
-use Rattle.network_prices.proofs.Tables.{built_take, built_pass}
+use Rattle.network_prices.specs.Tables.{IsBefore, AreRows, IsBuiltTo}
+use Rattle.network_prices.proofs.Tables.{built_take, built_pass, all_rows}
 
 -- what stands before a place of a row stands before an earlier one, or between the two
 between : (u x y : ℕ) (a : FlowArc) → IsBefore a u y
@@ -79,6 +79,25 @@ module _ {D L : Type 0} {wanted : D → Type 0} {arc : D → FlowArc} {sized : L
       built_pass wanted arc sized u x v 0 limit next network less (inl (omega arith))
       (λ e wish before. elim (past u v x (arc e) row before)
       [ inl was ↦ was | inr own ↦ absurd (none e wish own.0 own.1) ])
+
+  -- the arc d is the only one of the last row
+  pub rows_all : (u limit next : ℕ) (d : D) (old new : Flow L) → limit < next → wanted d → (arc d).from ≡ u
+      → ((e : D) → wanted e → ((arc e).from < u) ⊎ (e ≡ d))
+      → IsBuiltTo wanted arc sized u 0 limit old → IsAdded (arc d) old new
+      → AreRows wanted arc new.arcs × ((k : ℕ) → get_or new.flows k 0 ≡ 0)
+  rows_all u limit next d old new less want from before built added =
+      let done : IsBuiltTo wanted arc sized (u + 1) 0 next new =
+      row_last u (u + 1) 0 limit next d old new refl less want from (omega arith)
+      (λ e wish row low. elim (before e wish) [ inl b ↦ absurd (omega arith) | inr is ↦ ap arc is ])
+      built added in (
+        all_rows wanted arc (u + 1) 0 new.arcs
+            (λ e wish. inl (elim (before e wish) [
+              | inl b ↦ omega arith
+              | inr is ↦ (let row = ap (λ (d : D). (arc d).from) is in omega arith)
+            ]))
+            done.rows,
+        done.frame.empty,
+      )
 
   -- the arcs of a row number by number
   module _ {u base n : ℕ} {own : ℕ → D} {holds : ℕ → Type 0} (row : IsRow wanted arc u base n own holds) where

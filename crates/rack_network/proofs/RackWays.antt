@@ -24,6 +24,7 @@ use Rattle.rack_network.specs.Racks.{HasBars, arc_of, IsWanted, IsRackNetwork}
 use Rattle.rack_network.proofs.Levels.{holder_live, holder_held, cost-le, cost_is, Meet, distance-le}
 use Rattle.rack_network.proofs.Counts.{by_racks}
 use Rattle.rack_network.proofs.Heights.{four_levels, reach_at, reach_in, among_at, among_in, own_level}
+use Rattle.rack_network.proofs.Rows.{own_branch, own_feed, own_slot}
 use Rattle.rack_network.proofs.Heights.{meet_at, same_above, level_of, one_level}
 
 -- whether a split has a barred pair
@@ -212,20 +213,10 @@ module _ (wave : Wave) (arcs : List FlowArc) (network : IsRackNetwork wave arcs)
       let slot = f.1 in
       outroom-one arcs (worker_node wave w) (sink_node wave) (worker_at wave w).free network.rows.rising
       (each_arc network.rows (λ a. a.from ≡ worker_node wave w
-      → (a.to ≡ sink_node wave) × (a.capacity ≡ (worker_at wave w).free)) is_slot)
+      → (a.to ≡ sink_node wave) × (a.capacity ≡ (worker_at wave w).free))
+      (λ d want from. let is = ap (arc_of wave) (own_slot wave network.tree w known d want from) in
+      (ap (λ (a : FlowArc). a.to) is, ap (λ (a : FlowArc). a.capacity) is)))
       (f.0, slot.listed, slot.from_is, slot.to_is)
-    where
-      is_slot : (d : RackArc) → IsWanted wave d → (arc_of wave d).from ≡ worker_node wave w
-          → ((arc_of wave d).to ≡ sink_node wave) × ((arc_of wave d).capacity ≡ (worker_at wave w).free)
-      is_slot (Pair s v) d f = absurd (let split = pending_known wave s d.0.pending in omega arith)
-      is_slot (Reach s level h) d f = absurd (let split = pending_known wave s d.pending in omega arith)
-      is_slot (Wait s) d f = absurd (let split = pending_known wave s d in omega arith)
-      is_slot (Trunk c) d f = absurd (omega arith)
-      is_slot (Branch r) d f = absurd (let centre = network.tree.centres r d in omega arith)
-      is_slot (Feed v) d f = absurd (let rack = network.tree.racks v (live_known wave v d.0) in omega arith)
-      is_slot (Slot v) d f =
-          (refl, ap (λ (x : ℕ). (worker_at wave x).free) (let same : v ≡ w = omega arith in same))
-      is_slot Rest d f = absurd (omega arith)
 
   live_slots : (w : ℕ) → IsUsable wave w → slots_of wave w ≡ (worker_at wave w).free
   live_slots w u = ap (λ (b : Bool). cond b (worker_at wave w).free 0) u.0
@@ -281,18 +272,11 @@ module _ (wave : Wave) (arcs : List FlowArc) (network : IsRackNetwork wave arcs)
       off_rack : (i : ℕ) → (rack_of wave i ≡ r → ⊥) → cond (eqb (rack_of wave i) r) (slots_of wave i) 0 ≡ 0
       off_rack i n = ap (λ (b : Bool). cond b (slots_of wave i) 0) (ne_eqb (rack_of wave i) r n)
 
-      is_feed : (d : RackArc) → IsWanted wave d → IsFeed r (arc_of wave d)
-      is_feed (Pair s v) d f = absurd (let split = pending_known wave s d.0.pending in omega arith)
-      is_feed (Reach s level h) d f = absurd (let split = pending_known wave s d.pending in omega arith)
-      is_feed (Wait s) d f = absurd (let split = pending_known wave s d in omega arith)
-      is_feed (Trunk c) d f = absurd (omega arith)
-      is_feed (Branch q) d f = absurd (let centre = network.tree.centres q d in omega arith)
-      is_feed (Feed v) d f = (v, d, omega arith, refl, refl)
-      is_feed (Slot v) d f = absurd (omega arith)
-      is_feed Rest d f = absurd (omega arith)
-
       own : (k : ℕ) → k < length arcs → IsFeed r (arc_at arcs k)
-      own = each_arc network.rows (IsFeed r) is_feed
+      own = each_arc network.rows (IsFeed r)
+          (λ d want from. let o = own_feed wave network.tree r known d want from in
+          let is = ap (arc_of wave) o.2 in
+          (o.0, o.1.0, o.1.1, ap (λ (a : FlowArc). a.to) is, ap (λ (a : FlowArc). a.capacity) is))
 
   -- a centre is left by the arcs to its racks
   abbrev IsBranch : ℕ → FlowArc → Type 0
@@ -337,18 +321,11 @@ module _ (wave : Wave) (arcs : List FlowArc) (network : IsRackNetwork wave arcs)
           ap (λ (b : Bool). cond b (slots_below wave (length wave.workers) i) 0)
           (ne_eqb (centre_of wave i) c n)
 
-      is_branch : (d : RackArc) → IsWanted wave d → IsBranch c (arc_of wave d)
-      is_branch (Pair s v) d f = absurd (let split = pending_known wave s d.0.pending in omega arith)
-      is_branch (Reach s level h) d f = absurd (let split = pending_known wave s d.pending in omega arith)
-      is_branch (Wait s) d f = absurd (let split = pending_known wave s d in omega arith)
-      is_branch (Trunk q) d f = absurd (let one = one_cluster wave.tree.centres d.0 in omega arith)
-      is_branch (Branch r) d f = (r, d, omega arith, refl, refl)
-      is_branch (Feed v) d f = absurd (omega arith)
-      is_branch (Slot v) d f = absurd (omega arith)
-      is_branch Rest d f = absurd (omega arith)
-
       own : (k : ℕ) → k < length arcs → IsBranch c (arc_at arcs k)
-      own = each_arc network.rows (IsBranch c) is_branch
+      own = each_arc network.rows (IsBranch c)
+          (λ d want from. let o = own_branch wave network.tree c known d want from in
+          let is = ap (arc_of wave) o.2 in
+          (o.0, o.1.0, o.1.1, ap (λ (a : FlowArc). a.to) is, ap (λ (a : FlowArc). a.capacity) is))
 
   -- each arc leads to a later node
   pub is_onward : (d : RackArc) → IsWanted wave d → (arc_of wave d).from < (arc_of wave d).to

@@ -1,5 +1,5 @@
 -- The rows of the rack network are built arc by arc.
-use Rattle.std.proofs.Common.{◌≡◌, ℕ, ◌+◌, ◌*◌, ◌<◌, ◌≤◌, true, false, [], length, get_or, refl, sym, ap, ◌∙◌}
+use Rattle.std.proofs.Common.{◌≡◌, ℕ, ◌+◌, ◌*◌, ◌<◌, ◌≤◌, true, false, length, get_or, refl, sym, ap, ◌∙◌}
 use Rattle.std.proofs.Common.{subst, ◌⊎◌, inl, inr, arith}
 use Rattle.std.proofs.lemmas.Bool.{false≢true}
 use Rattle.flow_network.specs.declared.arcs.FlowArc.{FlowArc}
@@ -7,9 +7,9 @@ use Rattle.flow_network.specs.Flow.{Flow}
 use Rattle.wave_problem.specs.Wave.{Wave, IsAdmissible, split_at, IsUsable}
 use Rattle.wave_problem.proofs.Bound.{pending_known, live_known}
 use Rattle.network_prices.specs.Building.{IsAdded}
-use Rattle.network_prices.specs.Tables.{IsBefore, AreRows}
-use Rattle.network_prices.proofs.Tables.{built_nothing, built_pass, all_rows}
-use Rattle.network_prices.proofs.Rows.{IsRow, row_take, row_pass, row_last, row_end}
+use Rattle.network_prices.specs.Tables.{AreRows}
+use Rattle.network_prices.proofs.Tables.{built_pass}
+use Rattle.network_prices.proofs.Rows.{IsRow, row_take, row_pass, row_last, row_end, rows_all}
 use Rattle.rack_network.specs.declared.layout.RackLayout.{RackLayout}
 use Rattle.rack_network.specs.declared.arcs.RackArc.{RackArc}
 use Rattle.rack_network.specs.declared.arcs.RackArc.TheVariants.{Pair, Reach, Wait, Trunk, Branch, Feed, Slot}
@@ -22,11 +22,6 @@ use Rattle.rack_network.specs.Places.{one_cluster, no_cluster}
 use Rattle.rack_network.proofs.Heights.{four_levels, one_level, reach_at, reach_in}
 
 module _ (wave : Wave) (tree : IsTree wave) where
-  pub none_yet : (network : Flow RackLayout) → IsSized wave network.layout → network.arcs ≡ []
-      → network.flows ≡ []
-      → IsBuilt wave 0 0 0 network
-  none_yet = built_nothing (IsWanted wave) (arc_of wave) (IsSized wave)
-
   abbrev Built : ℕ → ℕ → ℕ → Flow RackLayout → Type 0
   Built = IsBuilt wave
 
@@ -213,7 +208,7 @@ module _ (wave : Wave) (tree : IsTree wave) where
 
   -- the row of a centre
   module _ (c : ℕ) (known : c < wave.tree.centres) where
-    own_branch : (e : RackArc) → IsWanted wave e → (arc_of wave e).from ≡ centre_node wave c
+    pub own_branch : (e : RackArc) → IsWanted wave e → (arc_of wave e).from ≡ centre_node wave c
         → (r : ℕ) × ((r < length wave.tree.centre_of) × (centre_of wave r ≡ c)) × (e ≡ Branch r)
     own_branch (Pair q w) want from = absurd (let split = pending_known wave q want.0.pending in omega arith)
     own_branch (Reach q level h) want from =
@@ -243,7 +238,7 @@ module _ (wave : Wave) (tree : IsTree wave) where
 
   -- the row of a rack
   module _ (r : ℕ) (known : r < length wave.tree.centre_of) where
-    own_feed : (e : RackArc) → IsWanted wave e → (arc_of wave e).from ≡ rack_node wave r
+    pub own_feed : (e : RackArc) → IsWanted wave e → (arc_of wave e).from ≡ rack_node wave r
         → (w : ℕ) × (IsUsable wave w × (rack_of wave w ≡ r)) × (e ≡ Feed w)
     own_feed (Pair q w) want from = absurd (let split = pending_known wave q want.0.pending in omega arith)
     own_feed (Reach q level h) want from =
@@ -273,27 +268,28 @@ module _ (wave : Wave) (tree : IsTree wave) where
         let to = ap (λ (d : RackArc). (arc_of wave d).to) o.2 in omega arith)
 
   -- the row of a worker
+  pub own_slot : (j : ℕ) → j < length wave.workers → (e : RackArc) → IsWanted wave e
+      → (arc_of wave e).from ≡ worker_node wave j → e ≡ Slot j
+  own_slot j known (Pair q v) want from =
+      absurd (let split = pending_known wave q want.0.pending in omega arith)
+  own_slot j known (Reach q level h) want from =
+      absurd (let split = pending_known wave q want.pending in omega arith)
+  own_slot j known (Wait q) want from = absurd (let split = pending_known wave q want in omega arith)
+  own_slot j known (Trunk c) want from = absurd (omega arith)
+  own_slot j known (Branch r) want from = absurd (let centre = tree.centres r want in omega arith)
+  own_slot j known (Feed v) want from =
+      absurd (let rack = tree.racks v (live_known wave v want.0) in omega arith)
+  own_slot j known (Slot v) want from = ap Slot (let is : v ≡ j = omega arith in is)
+  own_slot j known Rest want from = absurd (omega arith)
+
   pub slot_step : (j w limit next : ℕ) (old new : Flow RackLayout) → w ≡ j → limit < next
       → w < length wave.workers
       → Built (worker_node wave j) 0 limit old → IsAdded (arc_of wave (Slot w)) old new
       → Built (worker_node wave (j + 1)) 0 next new
   slot_step j w limit next old new same less known =
       row_last (worker_node wave j) (worker_node wave (j + 1)) 0 limit next (Slot w) old new (omega arith)
-      less known (omega arith) (omega arith) only
-    where
-      only : (e : RackArc) → IsWanted wave e → (arc_of wave e).from ≡ worker_node wave j
-          → 0 ≤ (arc_of wave e).to → arc_of wave e ≡ arc_of wave (Slot w)
-      only (Pair q v) want from low = absurd (let split = pending_known wave q want.0.pending in omega arith)
-      only (Reach q level h) want from low =
-          absurd (let split = pending_known wave q want.pending in omega arith)
-      only (Wait q) want from low = absurd (let split = pending_known wave q want in omega arith)
-      only (Trunk c) want from low = absurd (omega arith)
-      only (Branch r) want from low = absurd (let centre = tree.centres r want in omega arith)
-      only (Feed v) want from low =
-          absurd (let rack = tree.racks v (live_known wave v want.0) in omega arith)
-      only (Slot v) want from low =
-          ap (λ (x : ℕ). arc_of wave (Slot x)) (let is : v ≡ w = omega arith in is)
-      only Rest want from low = absurd (omega arith)
+      less known (omega arith) (omega arith)
+      (λ e want from low. ap (arc_of wave) (own_slot j (omega arith) e want from ∙ ap Slot (sym same)))
 
   -- the last row
   before_rest : (e : RackArc) → IsWanted wave e → ((arc_of wave e).from < unstarted_node wave) ⊎ (e ≡ Rest)
@@ -306,28 +302,8 @@ module _ (wave : Wave) (tree : IsTree wave) where
   before_rest (Slot w) want = inl (omega arith)
   before_rest Rest want = inr refl
 
-  rest_step : (limit next : ℕ) (old new : Flow RackLayout) → limit < next
-      → Built (unstarted_node wave) 0 limit old
-      → IsAdded (arc_of wave Rest) old new → Built (unstarted_node wave + 1) 0 next new
-  rest_step limit next old new less =
-      row_last (unstarted_node wave) (unstarted_node wave + 1) 0 limit next Rest old new refl less tt
-      refl (omega arith)
-      (λ e want from low. elim (before_rest e want)
-      [ inl b ↦ absurd (omega arith) | inr is ↦ ap (arc_of wave) is ])
-
-  pub are_rows : (limit next : ℕ) (old new : Flow RackLayout) → limit < next
-      → Built (unstarted_node wave) 0 limit old
-      → IsAdded (arc_of wave Rest) old new → AreRows (IsWanted wave) (arc_of wave) new.arcs
-  are_rows limit next old new less built added =
-      all_rows (IsWanted wave) (arc_of wave) (unstarted_node wave + 1) 0 new.arcs
-      (λ e want. elim (before_rest e want) [
-        | inl b ↦ inl (omega arith)
-        | inr is ↦ subst (λ (d : RackArc). IsBefore (arc_of wave d) (unstarted_node wave + 1) 0) (sym is)
-            (inl (omega arith))
-      ])
-      (rest_step limit next old new less built added).rows
-
-  pub are_empty : (limit next : ℕ) (old new : Flow RackLayout) → limit < next
-      → Built (unstarted_node wave) 0 limit old
-      → IsAdded (arc_of wave Rest) old new → (k : ℕ) → get_or new.flows k 0 ≡ 0
-  are_empty limit next old new less built added = (rest_step limit next old new less built added).frame.empty
+  pub all_arcs : (limit next : ℕ) (old new : Flow RackLayout) → limit < next
+      → Built (unstarted_node wave) 0 limit old → IsAdded (arc_of wave Rest) old new
+      → AreRows (IsWanted wave) (arc_of wave) new.arcs × ((k : ℕ) → get_or new.flows k 0 ≡ 0)
+  all_arcs limit next old new less =
+      rows_all (unstarted_node wave) limit next Rest old new less tt refl before_rest

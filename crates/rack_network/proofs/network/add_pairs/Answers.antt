@@ -1,6 +1,5 @@
 use Rattle.std.proofs.Common.{ℕ, ◌≡◌, ◌+◌, ◌*◌, length, sym, ◌∙◌, arith, subst}
 use Rattle.std.proofs.lemmas.Bool.{false≢true}
-use Rattle.wave_problem.specs.Wave.{IsAdmissible}
 use Rattle.network_prices.proofs.Rows.{row_begin, row_step, row_skip}
 use Rattle.rack_network.specs.Racks.{worker_node, unstarted_node}
 use Rattle.rack_network.specs.Build.{IsBuilt}
@@ -21,21 +20,17 @@ loop-i-preserved c =
     let limit : ℕ = 257 * s + c.loop-i.i in
     let next : ℕ = 257 * s + (c.loop-i.i + 1) in
     let row = pairs c.args.problem.now c.requires.tree s c.requires.split c.requires.bars in
+    let may = rw (c.new-costs.ensures.wave, c.new-costs.ensures.split) at c.admissible.ensures in
     elim c.if-admissible.branch [
       | then-admissible+in_ok-add w ↦ rw w.network-is
           (row_step row c.loop-i.i c.new-worker.result limit next c.loop-i.network w.add.new.network
           (omega arith) (omega arith) (omega arith)
-          (subst (λ z. IsAdmissible z s c.new-worker.result) c.new-costs.ensures.wave
-          (subst (λ z. IsAdmissible c.new-costs.result.wave z c.new-worker.result) c.new-costs.ensures.split
-          (c.admissible.ensures.0 w.if-admissible.true)))
+          (may.0 w.if-admissible.true)
           c.loop-i.invariant w.in_ok-add.ensures)
       | else-admissible w ↦ rw w.network-is
           (row_skip row c.loop-i.i c.new-worker.result limit next c.loop-i.network
           (omega arith) (omega arith) (omega arith)
-          (λ may. false≢true (sym w.if-admissible.false ∙ c.admissible.ensures.1
-          (subst (λ z. IsAdmissible c.new-costs.result.wave z c.new-worker.result)
-          (sym c.new-costs.ensures.split)
-          (subst (λ z. IsAdmissible z s c.new-worker.result) (sym c.new-costs.ensures.wave) may))))
+          (λ is. false≢true (sym w.if-admissible.false ∙ may.1 is))
           c.loop-i.invariant)
     ]
 
