@@ -15,27 +15,15 @@ pub length-shifted : (flows : List ℕ) (a : ArcNo) → length (shifted flows a)
 length-shifted flows (Forward k) = length-set flows k _
 length-shifted flows (Reverse k) = length-set flows k _
 
--- a sum over two cases of one test
-over_test : (b : Bool) (f g x y : ℕ) → x + cond b f 0 ≡ y + cond b g 0 → (z : ℕ) →
-    (z + x) + cond b f 0 ≡ (z + y) + cond b g 0
-over_test true f g x y h z = omega arith
-over_test false f g x y h z = omega arith
-
-own_test : (b : Bool) (f g x : ℕ) → (cond b g 0 + x) + cond b f 0 ≡ (cond b f 0 + x) + cond b g 0
-own_test b f g x = omega arith
-
 -- the flow of one arc is set: what its end takes in changes by just that
 inflow-set : (arcs : List FlowArc) (flows : List ℕ) (k g w : ℕ) → length flows ≡ length arcs → k < length arcs
     → inflow arcs (set flows k g) w + cond (eqb (arc_at arcs k).to w) (get_or flows k 0) 0
     ≡ inflow arcs flows w + cond (eqb (arc_at arcs k).to w) g 0
 inflow-set [] flows k g w e l = absurd (omega arith)
 inflow-set (a ∷ arcs) [] k g w e l = absurd (omega arith)
-inflow-set (a ∷ arcs) (f ∷ flows) zero g w e l = own_test (eqb a.to w) f g (inflow arcs flows w)
+inflow-set (a ∷ arcs) (f ∷ flows) zero g w e l = omega arith
 inflow-set (a ∷ arcs) (f ∷ flows) (suc k) g w e l =
-    let e' : length flows ≡ length arcs = omega arith in
-    let l' : k < length arcs = omega arith in
-    over_test (eqb (arc_at arcs k).to w) (get_or flows k 0) g _ _ (inflow-set arcs flows k g w e' l')
-    (cond (eqb a.to w) f 0)
+    let rest = inflow-set arcs flows k g w (omega arith) (omega arith) in omega arith
 
 pub outflow-set : (arcs : List FlowArc) (flows : List ℕ) (k g w : ℕ) → length flows ≡ length arcs →
     k < length arcs
@@ -43,30 +31,42 @@ pub outflow-set : (arcs : List FlowArc) (flows : List ℕ) (k g w : ℕ) → len
     ≡ outflow arcs flows w + cond (eqb (arc_at arcs k).from w) g 0
 outflow-set [] flows k g w e l = absurd (omega arith)
 outflow-set (a ∷ arcs) [] k g w e l = absurd (omega arith)
-outflow-set (a ∷ arcs) (f ∷ flows) zero g w e l = own_test (eqb a.from w) f g (outflow arcs flows w)
+outflow-set (a ∷ arcs) (f ∷ flows) zero g w e l = omega arith
 outflow-set (a ∷ arcs) (f ∷ flows) (suc k) g w e l =
-    let e' : length flows ≡ length arcs = omega arith in
-    let l' : k < length arcs = omega arith in
-    over_test (eqb (arc_at arcs k).from w) (get_or flows k 0) g _ _ (outflow-set arcs flows k g w e' l')
-    (cond (eqb a.from w) f 0)
+    let rest = outflow-set arcs flows k g w (omega arith) (omega arith) in omega arith
 
--- one unit more
-one_more : (b c : Bool) (f i i' o o' : ℕ) → i' + cond b f 0 ≡ i + cond b (f + 1) 0 →
-    o' + cond c f 0 ≡ o + cond c (f + 1) 0
-    → i' + o + cond c 1 0 ≡ i + o' + cond b 1 0
-one_more true true f i i' o o' p q = omega arith
-one_more true false f i i' o o' p q = omega arith
-one_more false true f i i' o o' p q = omega arith
-one_more false false f i i' o o' p q = omega arith
+-- what comes to a node and what leaves it, after one unit more or less of an arc
+one_more : (b : Bool) (f o o' : ℕ) → o' + cond b f 0 ≡ o + cond b (f + 1) 0 → o' ≡ o + cond b 1 0
+one_more true f o o' p = omega arith
+one_more false f o o' p = omega arith
 
--- one unit less
-one_less : (b c : Bool) (f i i' o o' : ℕ) → 0 < f → i' + cond b f 0 ≡ i + cond b (f - 1) 0 →
-    o' + cond c f 0 ≡ o + cond c (f - 1) 0
-    → i' + o + cond b 1 0 ≡ i + o' + cond c 1 0
-one_less true true f i i' o o' l p q = omega arith
-one_less true false f i i' o o' l p q = omega arith
-one_less false true f i i' o o' l p q = omega arith
-one_less false false f i i' o o' l p q = omega arith
+one_less : (b : Bool) (f o o' : ℕ) → 0 < f → o' + cond b f 0 ≡ o + cond b (f - 1) 0 → o' + cond b 1 0 ≡ o
+one_less true f o o' l p = omega arith
+one_less false f o o' l p = omega arith
+
+inflow_forward : (arcs : List FlowArc) (flows : List ℕ) (k v : ℕ) → length flows ≡ length arcs
+    → k < length arcs
+    → inflow arcs (shifted flows (Forward k)) v ≡ inflow arcs flows v + unit_at (arc_at arcs k).to v
+inflow_forward arcs flows k v e l =
+    one_more (eqb (arc_at arcs k).to v) (get_or flows k 0) _ _ (inflow-set arcs flows k _ v e l)
+
+inflow_back : (arcs : List FlowArc) (flows : List ℕ) (k v : ℕ) → length flows ≡ length arcs
+    → k < length arcs → 0 < get_or flows k 0
+    → inflow arcs (shifted flows (Reverse k)) v + unit_at (arc_at arcs k).to v ≡ inflow arcs flows v
+inflow_back arcs flows k v e l unit =
+    one_less (eqb (arc_at arcs k).to v) (get_or flows k 0) _ _ unit (inflow-set arcs flows k _ v e l)
+
+pub outflow_forward : (arcs : List FlowArc) (flows : List ℕ) (k v : ℕ) → length flows ≡ length arcs →
+    k < length arcs
+    → outflow arcs (shifted flows (Forward k)) v ≡ outflow arcs flows v + unit_at (arc_at arcs k).from v
+outflow_forward arcs flows k v e l =
+    one_more (eqb (arc_at arcs k).from v) (get_or flows k 0) _ _ (outflow-set arcs flows k _ v e l)
+
+pub outflow_back : (arcs : List FlowArc) (flows : List ℕ) (k v : ℕ) → length flows ≡ length arcs →
+    k < length arcs → 0 < get_or flows k 0
+    → outflow arcs (shifted flows (Reverse k)) v + unit_at (arc_at arcs k).from v ≡ outflow arcs flows v
+outflow_back arcs flows k v e l unit =
+    one_less (eqb (arc_at arcs k).from v) (get_or flows k 0) _ _ unit (outflow-set arcs flows k _ v e l)
 
 -- a unit over one residual arc
 pub balance_of_shift : (arcs : List FlowArc) (flows : List ℕ) (a : ArcNo) (w : ℕ) →
@@ -74,11 +74,9 @@ pub balance_of_shift : (arcs : List FlowArc) (flows : List ℕ) (a : ArcNo) (w :
     → inflow arcs (shifted flows a) w + outflow arcs flows w + unit_at (tail_of arcs a) w
     ≡ inflow arcs flows w + outflow arcs (shifted flows a) w + unit_at (head_of arcs a) w
 balance_of_shift arcs flows (Forward k) w e r =
-    one_more (eqb (arc_at arcs k).to w) (eqb (arc_at arcs k).from w) (get_or flows k 0) _ _ _ _
-    (inflow-set arcs flows k _ w e r.listed) (outflow-set arcs flows k _ w e r.listed)
+    omega (arith, inflow_forward arcs flows k w e r.listed, outflow_forward arcs flows k w e r.listed)
 balance_of_shift arcs flows (Reverse k) w e r =
-    one_less (eqb (arc_at arcs k).to w) (eqb (arc_at arcs k).from w) (get_or flows k 0) _ _ _ _ r.room
-    (inflow-set arcs flows k _ w e r.listed) (outflow-set arcs flows k _ w e r.listed)
+    omega (arith, inflow_back arcs flows k w e r.listed r.room, outflow_back arcs flows k w e r.listed r.room)
 
 -- a unit over one arc takes no room from another
 pub room_stays : (arcs : List FlowArc) (flows : List ℕ) (a b : ArcNo) → length flows ≡ length arcs →
@@ -113,39 +111,15 @@ IsPath-shifted arcs flows a (b ∷ path) u v e r n p = (
   IsPath-shifted arcs flows a path _ v e r n.1 p.2,
 )
 
-step_balance : (i o i1 o1 i2 o2 x y z : ℕ) → i1 + o + x ≡ i + o1 + y → i2 + o1 + y ≡ i1 + o2 + z →
-    i2 + o + x ≡ i + o2 + z
-step_balance i o i1 o1 i2 o2 x y z p q = omega arith
-
 pub push_balance : PushKeepsConservation
 push_balance arcs flows [] u v w e d p = rw p refl
 push_balance arcs flows (a ∷ path) u v w e d p =
     let e' : length (shifted flows a) ≡ length arcs = length-shifted flows a ∙ e in
-    let first = balance_of_shift arcs flows a w e p.0 in
+    let shift = balance_of_shift arcs flows a w e p.0 in
+    let first = rw p.1 at shift in
     let rest = push_balance arcs (shifted flows a) path (head_of arcs a) v w e' d.1
     (IsPath-shifted arcs flows a path _ v e p.0 d.0 p.2) in
-    step_balance _ _ _ _ _ _ _ _ _ (rw p.1 at first) rest
-
--- what leaves a node, after one unit more or less of an arc
-one_out : (b : Bool) (f o o' : ℕ) → o' + cond b f 0 ≡ o + cond b (f + 1) 0 → o' ≡ o + cond b 1 0
-one_out true f o o' p = omega arith
-one_out false f o o' p = omega arith
-
-one_in : (b : Bool) (f o o' : ℕ) → 0 < f → o' + cond b f 0 ≡ o + cond b (f - 1) 0 → o' + cond b 1 0 ≡ o
-one_in true f o o' l p = omega arith
-one_in false f o o' l p = omega arith
-
-pub outflow_forward : (arcs : List FlowArc) (flows : List ℕ) (k v : ℕ) → length flows ≡ length arcs →
-    k < length arcs
-    → outflow arcs (shifted flows (Forward k)) v ≡ outflow arcs flows v + unit_at (arc_at arcs k).from v
-outflow_forward arcs flows k v e l =
-    one_out (eqb (arc_at arcs k).from v) (get_or flows k 0) _ _ (outflow-set arcs flows k _ v e l)
-
-pub outflow_back : (arcs : List FlowArc) (flows : List ℕ) (k v : ℕ) → length flows ≡ length arcs →
-    k < length arcs → 0 < get_or flows k 0
-    → outflow arcs (shifted flows (Reverse k)) v + unit_at (arc_at arcs k).from v ≡ outflow arcs flows v
-outflow_back arcs flows k v e l unit =
-    one_in (eqb (arc_at arcs k).from v) (get_or flows k 0) _ _ unit (outflow-set arcs flows k _ v e l)
+    omega arith
 
 -- the other arcs carry what they did
 pub kept_shift : (flows : List ℕ) (a : ArcNo) (k : ℕ) → (arc_index a ≡ k → ⊥) →

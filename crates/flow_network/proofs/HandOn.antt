@@ -43,34 +43,24 @@ enough_wait arcs flows u j extra waiting e l at none balance now =
     omega arith
 
 -- one arc more of the first ones
-inflow-suc : (arcs : List FlowArc) (flows : List ℕ) (v k : ℕ) → length flows ≡ length arcs → k < length arcs
-    → inflow (take (suc k) arcs) (take (suc k) flows) v ≡ inflow (take k arcs) (take k flows) v
-    + cond (eqb (arc_at arcs k).to v) (get_or flows k 0) 0
-inflow-suc [] flows v k e l = absurd (omega arith)
-inflow-suc (a ∷ arcs) [] v k e l = absurd (omega arith)
-inflow-suc (a ∷ arcs) (f ∷ flows) v zero e l = omega arith
-inflow-suc (a ∷ arcs) (f ∷ flows) v (suc k) e l = let rest =
-    inflow-suc arcs flows v k (omega arith) (omega arith) in omega arith
-
-outflow-suc : (arcs : List FlowArc) (flows : List ℕ) (v k : ℕ) → length flows ≡ length arcs → k < length arcs
-    → outflow (take (suc k) arcs) (take (suc k) flows) v ≡ outflow (take k arcs) (take k flows) v
-    + cond (eqb (arc_at arcs k).from v) (get_or flows k 0) 0
-outflow-suc [] flows v k e l = absurd (omega arith)
-outflow-suc (a ∷ arcs) [] v k e l = absurd (omega arith)
-outflow-suc (a ∷ arcs) (f ∷ flows) v zero e l = omega arith
-outflow-suc (a ∷ arcs) (f ∷ flows) v (suc k) e l = let rest =
-    outflow-suc arcs flows v k (omega arith) (omega arith) in omega arith
-
 pub inflow-more : (arcs : List FlowArc) (flows : List ℕ) (v k : ℕ) → length flows ≡ length arcs →
     k < length arcs
     → inflow (take (k + 1) arcs) (take (k + 1) flows) v ≡ inflow (take k arcs) (take k flows) v
     + cond (eqb (arc_at arcs k).to v) (get_or flows k 0) 0
-inflow-more arcs flows v k e l = let next : k + 1 ≡ suc k = omega arith in
-    rw next (inflow-suc arcs flows v k e l)
+inflow-more [] flows v k e l = absurd (omega arith)
+inflow-more (a ∷ arcs) [] v k e l = absurd (omega arith)
+inflow-more (a ∷ arcs) (f ∷ flows) v zero e l = omega arith
+inflow-more (a ∷ arcs) (f ∷ flows) v (suc k) e l =
+    let next : suc k + 1 ≡ suc (k + 1) = omega arith in
+    let rest = inflow-more arcs flows v k (omega arith) (omega arith) in rw next (omega arith)
 
 pub outflow-more : (arcs : List FlowArc) (flows : List ℕ) (v k : ℕ) → length flows ≡ length arcs →
     k < length arcs
     → outflow (take (k + 1) arcs) (take (k + 1) flows) v ≡ outflow (take k arcs) (take k flows) v
     + cond (eqb (arc_at arcs k).from v) (get_or flows k 0) 0
-outflow-more arcs flows v k e l = let next : k + 1 ≡ suc k = omega arith in
-    rw next (outflow-suc arcs flows v k e l)
+outflow-more [] flows v k e l = absurd (omega arith)
+outflow-more (a ∷ arcs) [] v k e l = absurd (omega arith)
+outflow-more (a ∷ arcs) (f ∷ flows) v zero e l = omega arith
+outflow-more (a ∷ arcs) (f ∷ flows) v (suc k) e l =
+    let next : suc k + 1 ≡ suc (k + 1) = omega arith in
+    let rest = outflow-more arcs flows v k (omega arith) (omega arith) in rw next (omega arith)

@@ -1,5 +1,5 @@
 -- Sums of flows at a node, against single arcs and capacities.
-use Rattle.std.proofs.Common.{◌≡◌, ℕ, zero, suc, ◌+◌, ◌<◌, ◌≤◌, Bool, true, false, cond, eqb, List, [], ◌∷◌}
+use Rattle.std.proofs.Common.{◌≡◌, ℕ, zero, suc, ◌+◌, ◌<◌, ◌≤◌, eqb, List, [], ◌∷◌}
 use Rattle.std.proofs.Common.{length, get_or, refl, ap, inl, inr, arith}
 use Rattle.std.proofs.lemmas.Bool.{cases_Bool, eq-eqb}
 use Rattle.flow_network.specs.declared.arcs.FlowArc.{FlowArc}
@@ -10,18 +10,15 @@ within-tail : (a : FlowArc) (arcs : List FlowArc) (f : ℕ) (flows : List ℕ) �
     WithinCapacities (a ∷ arcs) (f ∷ flows) → WithinCapacities arcs flows
 within-tail a arcs f flows w k l = w (suc k) (omega arith)
 
-counted : (b : Bool) (x y z w : ℕ) → x ≤ y → z ≤ w → cond b x 0 + z ≤ cond b y 0 + w
-counted true x y z w p q = omega arith
-counted false x y z w p q = omega arith
-
 -- what leaves a node is no more than its arcs take
 pub outflow-le : (arcs : List FlowArc) (flows : List ℕ) (v : ℕ) → WithinCapacities arcs flows →
     outflow arcs flows v ≤ outroom arcs v
 outflow-le [] flows v w = omega arith
 outflow-le (a ∷ arcs) [] v w = omega arith
 outflow-le (a ∷ arcs) (f ∷ flows) v w =
-    counted (eqb a.from v) f a.capacity _ _ (w 0 (omega arith))
-    (outflow-le arcs flows v (within-tail a arcs f flows w))
+    let first = w 0 (omega arith) in
+    let rest = outflow-le arcs flows v (within-tail a arcs f flows w) in
+    elim (cases_Bool (eqb a.from v)) [ inl t ↦ rw t (omega arith) | inr n ↦ rw n (omega arith) ]
 
 -- one arc with room
 outflow-lt : (arcs : List FlowArc) (flows : List ℕ) (v i : ℕ) → length flows ≡ length arcs →

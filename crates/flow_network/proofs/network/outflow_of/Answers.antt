@@ -1,4 +1,4 @@
-use Rattle.std.proofs.Common.{get_or, cond, arith, ap}
+use Rattle.std.proofs.Common.{arith}
 use Rattle.std.proofs.lemmas.Bool.{eq-eqb, ne_eqb}
 use Rattle.flow_network.specs.Flows.{arc_at}
 use Rattle.flow_network.proofs.HandOn.{outflow-more}
@@ -15,11 +15,11 @@ loop-k-preserved c =
     let bound = c.loop-k.invariant.bound in
     elim c.if-arcs-k.branch [
       | then-arcs-k w ↦
-          (let here = ap (λ b. cond b (get_or c.args.flows.now c.loop-k.k 0) 0)
-          (eq-eqb (arc_at c.args.arcs.now c.loop-k.k).from c.args.node w.if-arcs-k.true) in
+          (let here = eq-eqb (arc_at c.args.arcs.now c.loop-k.k).from c.args.node w.if-arcs-k.true in
+          let all = rw here at more in
           let is = w.given-is in record { sum = omega arith; bound = omega arith })
       | else-arcs-k w ↦
-          (let here = ap (λ b. cond b (get_or c.args.flows.now c.loop-k.k 0) 0)
-          (ne_eqb (arc_at c.args.arcs.now c.loop-k.k).from c.args.node w.if-arcs-k.false) in
+          (let here = ne_eqb (arc_at c.args.arcs.now c.loop-k.k).from c.args.node w.if-arcs-k.false in
+          let all = rw here at more in
           let is = w.given-is in record { sum = omega arith; bound = omega arith })
     ]
