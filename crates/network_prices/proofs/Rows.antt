@@ -1,11 +1,15 @@
 -- A row of a table is built arc by arc.
-use Rattle.std.proofs.Common.{◌≡◌, ℕ, ◌+◌, ◌<◌, ◌≤◌, get_or, refl, sym, ap, ◌∙◌, subst, ◌⊎◌, inl, inr, arith}
+use Rattle.std.proofs.Common.{◌≡◌, ℕ, ◌+◌, ◌<◌, ◌≤◌, List, get_or, refl, sym, ap, ◌∙◌, subst, ◌⊎◌, inl, inr}
+use Rattle.std.proofs.Common.{arith}
 use Rattle.std.proofs.lemmas.Bool.{cases_lt}
 use Rattle.flow_network.specs.declared.arcs.FlowArc.{FlowArc}
 use Rattle.flow_network.specs.Flow.{Flow}
+use Rattle.flow_network.specs.Laws.{outroom}
+use Rattle.wave_problem.specs.Sums.{sum_below}
 use Rattle.network_prices.specs.Building.{IsAdded}
 use Rattle.network_prices.specs.Tables.{IsBefore, AreRows, IsBuiltTo}
-use Rattle.network_prices.proofs.Tables.{built_take, built_pass, all_rows}
+use Rattle.network_prices.proofs.Tables.{built_take, built_pass, all_rows, each_arc}
+use Rattle.network_prices.proofs.Tables.{outroom-rows}
 
 -- what stands before a place of a row stands before an earlier one, or between the two
 between : (u x y : ℕ) (a : FlowArc) → IsBefore a u y
@@ -127,3 +131,37 @@ module _ {D L : Type 0} {wanted : D → Type 0} {arc : D → FlowArc} {sized : L
         row_pass u (base + i) (base + (i + 1)) limit next network less (omega arith)
         (λ e want from low high. let o = number_of row e want from (omega arith) in
         let end = o.3 in let is : o.0 ≡ j = omega arith in never (subst holds is o.1))
+
+    -- the row has no other arcs
+    pub row_close : (v limit next : ℕ) (network : Flow L) → v ≡ u + 1 → limit ≤ next
+        → ((e : D) → wanted e → (arc e).from ≡ u → (arc e).to < base + n)
+        → IsBuiltTo wanted arc sized u (base + n) limit network → IsBuiltTo wanted arc sized v 0 next network
+    row_close v limit next network after less inside =
+        row_end u v (base + n) limit next network after less
+        (λ e want from low. let high = inside e want from in omega arith)
+
+-- what the arcs of such a row can carry together
+pub outroom-row : {D : Type 0} {wanted : D → Type 0} {arc : D → FlowArc} {arcs : List FlowArc} {u base n : ℕ}
+    {own : ℕ → D} {holds : ℕ → Type 0} → AreRows wanted arc arcs → IsRow wanted arc u base n own holds
+    → ((e : D) → wanted e → (arc e).from ≡ u → (arc e).to < base + n)
+    → (f : ℕ → ℕ) → ((i : ℕ) → holds i → (arc (own i)).capacity ≡ f i)
+    → ((i : ℕ) → i < n → 0 < f i → holds i) → outroom arcs u ≡ sum_below n f
+outroom-row {D} {wanted} {arc} {arcs} {u} {base} {n} {own} {holds} rows row inside f room some =
+    let own_arc = each_arc rows (λ a. a.from ≡ u
+    → (i : ℕ) × holds i × (a.to ≡ base + i) × (a.to < base + n) × (a.capacity ≡ f i))
+    (λ d want from. let high = inside d want from in let o = number_of row d want from high in
+    (o.0, o.1, o.3, high, ap (λ (d : D). (arc d).capacity) o.2 ∙ room o.0 o.1)) in
+    outroom-rows arcs u base n f rows.rising
+    (λ k l from. let to = (own_arc k l from).2 in omega arith)
+    (λ k l from. (own_arc k l from).3)
+    (λ i l. record {
+      some = λ k m from to. let o = own_arc k m from in
+          let at = o.2 in let same : o.0 ≡ i = omega arith in o.4 ∙ ap f same;
+      none = λ more. let at = row.here i (some i l more) in
+          let stands = rows.complete (own i) at.0 in (
+            stands.0,
+            stands.1,
+            ap (λ (a : FlowArc). a.from) stands.2 ∙ at.1,
+            ap (λ (a : FlowArc). a.to) stands.2 ∙ at.2,
+          );
+    })

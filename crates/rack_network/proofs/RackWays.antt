@@ -12,19 +12,20 @@ use Rattle.wave_problem.proofs.Bound.{pending_known, live_known}
 use Rattle.network_prices.specs.Ways.{IsAmong, IsFed, IsInner, IsWay}
 use Rattle.network_prices.specs.Networks.{way_of, IsArcFrom, IsOffer, IsWaveNetwork}
 use Rattle.network_prices.proofs.Arcs.{arc_standing}
-use Rattle.network_prices.proofs.Tables.{each_arc, outroom-one, outroom-rows}
+use Rattle.network_prices.proofs.Tables.{each_arc, outroom-one}
+use Rattle.network_prices.proofs.Rows.{outroom-row}
 use Rattle.rack_network.specs.declared.arcs.RackArc.{RackArc}
 use Rattle.rack_network.specs.declared.arcs.RackArc.TheVariants.{Pair, Reach, Wait, Trunk, Branch, Feed, Slot}
 use Rattle.rack_network.specs.declared.arcs.RackArc.TheVariants.{Rest}
 use Rattle.rack_network.specs.Places.{one_cluster}
-use Rattle.rack_network.specs.Racks.{first_rack, first_worker, worker_node, rack_node, centre_node}
+use Rattle.rack_network.specs.Racks.{worker_node, rack_node, centre_node}
 use Rattle.rack_network.specs.Racks.{cluster_node, unstarted_node, sink_node, slots_of, slots_below}
 use Rattle.rack_network.specs.Racks.{slots_within, rack_of, centre_of, rack_nodes, node_above, above_centres}
 use Rattle.rack_network.specs.Racks.{HasBars, arc_of, IsWanted, IsRackNetwork}
 use Rattle.rack_network.proofs.Levels.{holder_live, holder_held, cost-le, cost_is, Meet, distance-le}
 use Rattle.rack_network.proofs.Counts.{by_racks}
 use Rattle.rack_network.proofs.Heights.{four_levels, reach_at, reach_in, among_at, among_in, own_level}
-use Rattle.rack_network.proofs.Rows.{own_branch, own_feed, own_slot}
+use Rattle.rack_network.proofs.Rows.{branches, branches_inside, feeds, feeds_inside, own_slot}
 use Rattle.rack_network.proofs.Heights.{meet_at, same_above, level_of, one_level}
 
 -- whether a split has a barred pair
@@ -223,109 +224,35 @@ module _ (wave : Wave) (arcs : List FlowArc) (network : IsRackNetwork wave arcs)
 
   some_slots : (w : ℕ) → 0 < slots_of wave w → IsUsable wave w
   some_slots w l = elim (cases_Bool (worker_at wave w).live) [
-    | inl live ↦
-        (let is : slots_of wave w ≡ (worker_at wave w).free =
-        ap (λ (b : Bool). cond b (worker_at wave w).free 0) live in
-        (live, omega arith))
-    | inr dead ↦
-        absurd (let is : slots_of wave w ≡ 0 = ap (λ (b : Bool). cond b (worker_at wave w).free 0) dead in
-        omega arith)
+    | inl live ↦ (live, rw live at l)
+    | inr dead ↦ absurd (let none = rw dead at l in omega arith)
   ]
 
   -- a rack is left by the arcs to its usable workers
-  abbrev IsFeed : ℕ → FlowArc → Type 0
-  IsFeed r a = a.from ≡ rack_node wave r
-      → (w : ℕ) × IsUsable wave w × (rack_of wave w ≡ r) × (a.to ≡ worker_node wave w)
-      × (a.capacity ≡ (worker_at wave w).free)
-
   rack_room : (r : ℕ) → r < length wave.tree.centre_of
       → outroom arcs (rack_node wave r) ≡ slots_below wave (length wave.workers) r
   rack_room r known =
-      outroom-rows arcs (rack_node wave r) (first_worker wave) (length wave.workers)
-      (λ w. cond (eqb (rack_of wave w) r) (slots_of wave w) 0) network.rows.rising
-      (λ k l from. (let o = own k l from in let to = o.3 in omega arith))
-      (λ k l from. (let o = own k l from in let to = o.3 in let worker = live_known wave o.0 o.1.0 in
-      omega arith))
-      (λ i l. record {
-        some = λ k m from to.
-            (let o = own k m from in
-            let at = o.3 in
-            let same : o.0 ≡ i = omega arith in
-            let rack : rack_of wave i ≡ r = sym (ap (rack_of wave) same) ∙ o.2 in
-            let usable = subst (IsUsable wave) same o.1 in
-            o.4 ∙ ap (λ (x : ℕ). (worker_at wave x).free) same ∙ sym (live_slots i usable)
-            ∙ sym (on_rack i rack));
-        none = λ room. elim (cases_eq (rack_of wave i) r) [
-          | inl rack ↦
-              (let is = on_rack i rack in
-              let f = the_arc (Feed i) (some_slots i (omega arith)) in
-              let feed = f.1 in
-              (f.0, feed.listed, feed.from_is ∙ ap (rack_node wave) rack, feed.to_is))
-          | inr other ↦ absurd (let is = off_rack i other in omega arith)
-        ];
-      })
-    where
-      on_rack : (i : ℕ) → rack_of wave i ≡ r
-          → cond (eqb (rack_of wave i) r) (slots_of wave i) 0 ≡ slots_of wave i
-      on_rack i e = ap (λ (b : Bool). cond b (slots_of wave i) 0) (eq-eqb (rack_of wave i) r e)
-
-      off_rack : (i : ℕ) → (rack_of wave i ≡ r → ⊥) → cond (eqb (rack_of wave i) r) (slots_of wave i) 0 ≡ 0
-      off_rack i n = ap (λ (b : Bool). cond b (slots_of wave i) 0) (ne_eqb (rack_of wave i) r n)
-
-      own : (k : ℕ) → k < length arcs → IsFeed r (arc_at arcs k)
-      own = each_arc network.rows (IsFeed r)
-          (λ d want from. let o = own_feed wave network.tree r known d want from in
-          let is = ap (arc_of wave) o.2 in
-          (o.0, o.1.0, o.1.1, ap (λ (a : FlowArc). a.to) is, ap (λ (a : FlowArc). a.capacity) is))
+      outroom-row network.rows (feeds wave network.tree r known) (feeds_inside wave network.tree r known)
+      (λ w. cond (eqb (rack_of wave w) r) (slots_of wave w) 0)
+      (λ w own. rw (eq-eqb (rack_of wave w) r own.1) (sym (live_slots w own.0)))
+      (λ w l some. elim (cases_eq (rack_of wave w) r) [
+        | inl rack ↦ (let has = rw (eq-eqb (rack_of wave w) r rack) at some in (some_slots w has, rack))
+        | inr other ↦ absurd (let none = rw (ne_eqb (rack_of wave w) r other) at some in omega arith)
+      ])
 
   -- a centre is left by the arcs to its racks
-  abbrev IsBranch : ℕ → FlowArc → Type 0
-  IsBranch c a = a.from ≡ centre_node wave c
-      → (r : ℕ) × (r < length wave.tree.centre_of) × (centre_of wave r ≡ c) × (a.to ≡ rack_node wave r)
-      × (a.capacity ≡ slots_below wave (length wave.workers) r)
-
   centre_room : (c : ℕ) → c < wave.tree.centres
       → outroom arcs (centre_node wave c) ≡ slots_within wave (length wave.workers) c
   centre_room c known =
-      outroom-rows arcs (centre_node wave c) (first_rack wave) (length wave.tree.centre_of)
-      (λ r. cond (eqb (centre_of wave r) c) (slots_below wave (length wave.workers) r) 0) network.rows.rising
-      (λ k l from. (let o = own k l from in let to = o.3 in omega arith))
-      (λ k l from. (let o = own k l from in let rack = o.1 in let to = o.3 in omega arith))
-      (λ i l. record {
-        some = λ k m from to.
-            (let o = own k m from in
-            let at = o.3 in
-            let same : o.0 ≡ i = omega arith in
-            let centre : centre_of wave i ≡ c = sym (ap (centre_of wave) same) ∙ o.2 in
-            o.4 ∙ ap (slots_below wave (length wave.workers)) same ∙ sym (on_centre i centre));
-        none = λ room. elim (cases_eq (centre_of wave i) c) [
-          | inl centre ↦
-              (let f = the_arc (Branch i) l in
-              let branch = f.1 in
-              (f.0, branch.listed, branch.from_is ∙ ap (centre_node wave) centre, branch.to_is))
-          | inr other ↦ absurd (let is = off_centre i other in omega arith)
-        ];
-      })
+      outroom-row network.rows (branches wave network.tree c known)
+      (branches_inside wave network.tree c known)
+      (λ r. cond (eqb (centre_of wave r) c) (slots_below wave (length wave.workers) r) 0)
+      (λ r own. rw (eq-eqb (centre_of wave r) c own.1) refl)
+      (λ r l some. elim (cases_eq (centre_of wave r) c) [
+        | inl centre ↦ (l, centre)
+        | inr other ↦ absurd (let none = rw (ne_eqb (centre_of wave r) c other) at some in omega arith)
+      ])
       ∙ by_racks wave network.tree c (length wave.workers) (omega arith)
-    where
-      on_centre : (i : ℕ) → centre_of wave i ≡ c
-          → cond (eqb (centre_of wave i) c) (slots_below wave (length wave.workers) i) 0
-          ≡ slots_below wave (length wave.workers) i
-      on_centre i e =
-          ap (λ (b : Bool). cond b (slots_below wave (length wave.workers) i) 0)
-          (eq-eqb (centre_of wave i) c e)
-
-      off_centre : (i : ℕ) → (centre_of wave i ≡ c → ⊥)
-          → cond (eqb (centre_of wave i) c) (slots_below wave (length wave.workers) i) 0 ≡ 0
-      off_centre i n =
-          ap (λ (b : Bool). cond b (slots_below wave (length wave.workers) i) 0)
-          (ne_eqb (centre_of wave i) c n)
-
-      own : (k : ℕ) → k < length arcs → IsBranch c (arc_at arcs k)
-      own = each_arc network.rows (IsBranch c)
-          (λ d want from. let o = own_branch wave network.tree c known d want from in
-          let is = ap (arc_of wave) o.2 in
-          (o.0, o.1.0, o.1.1, ap (λ (a : FlowArc). a.to) is, ap (λ (a : FlowArc). a.capacity) is))
 
   -- each arc leads to a later node
   pub is_onward : (d : RackArc) → IsWanted wave d → (arc_of wave d).from < (arc_of wave d).to
@@ -340,54 +267,43 @@ module _ (wave : Wave) (arcs : List FlowArc) (network : IsRackNetwork wave arcs)
   is_onward (Slot v) d = let worker : v < length wave.workers = d in omega arith
   is_onward Rest d = omega arith
 
+  -- what feeds a node
+  fed : (d : RackArc) → IsWanted wave d → (arc_of wave d).cost ≡ 0
+      → outroom arcs (arc_of wave d).to ≡ (arc_of wave d).capacity
+      → length wave.splits ≤ (arc_of wave d).from
+      → ((k : ℕ) → k < length arcs → (arc_at arcs k).to ≡ (arc_of wave d).to
+      → FromAbove (arc_of wave d).from (arc_at arcs k))
+      → IsFed arcs (length wave.splits) (arc_of wave d).from (arc_of wave d).to
+  fed d want free room inner entered =
+      let f = the_arc d want in let arc = f.1 in
+      record {
+        feed = f.0;
+        listed = arc.listed;
+        from_is = arc.from_is;
+        to_is = arc.to_is;
+        without_cost = arc.cost_is ∙ free;
+        whole = arc.capacity_is ∙ sym room;
+        inner = inner;
+        entered = entered;
+      }
+
   fed_worker : (w : ℕ) → IsUsable wave w
       → IsFed arcs (length wave.splits) (rack_node wave (rack_of wave w)) (worker_node wave w)
   fed_worker w u =
       let known = live_known wave w u.0 in
-      let f = the_arc (Feed w) u in let arc = f.1 in
-      record {
-        feed = f.0;
-        listed = arc.listed;
-        from_is = arc.from_is;
-        to_is = arc.to_is;
-        without_cost = arc.cost_is;
-        whole = arc.capacity_is ∙ sym (worker_room w known);
-        inner = omega arith;
-        entered = each_arc network.rows (λ a. a.to ≡ worker_node wave w
-            → FromAbove (rack_node wave (rack_of wave w)) a) (to_worker w known);
-      }
+      fed (Feed w) u refl (worker_room w known) (omega arith) (each_arc network.rows
+      (λ a. a.to ≡ worker_node wave w → FromAbove (rack_node wave (rack_of wave w)) a) (to_worker w known))
 
   fed_rack : (r : ℕ) → r < length wave.tree.centre_of
       → IsFed arcs (length wave.splits) (centre_node wave (centre_of wave r)) (rack_node wave r)
-  fed_rack r known =
-      let f = the_arc (Branch r) known in let arc = f.1 in
-      record {
-        feed = f.0;
-        listed = arc.listed;
-        from_is = arc.from_is;
-        to_is = arc.to_is;
-        without_cost = arc.cost_is;
-        whole = arc.capacity_is ∙ sym (rack_room r known);
-        inner = omega arith;
-        entered = each_arc network.rows (λ a. a.to ≡ rack_node wave r
-            → FromAbove (centre_node wave (centre_of wave r)) a) (to_rack r known);
-      }
+  fed_rack r known = fed (Branch r) known refl (rack_room r known) (omega arith) (each_arc network.rows
+      (λ a. a.to ≡ rack_node wave r → FromAbove (centre_node wave (centre_of wave r)) a) (to_rack r known))
 
   fed_centre : (c : ℕ) → 1 < wave.tree.centres → c < wave.tree.centres
       → IsFed arcs (length wave.splits) (cluster_node wave) (centre_node wave c)
-  fed_centre c many known =
-      let f = the_arc (Trunk c) (many, known) in let arc = f.1 in
-      record {
-        feed = f.0;
-        listed = arc.listed;
-        from_is = arc.from_is;
-        to_is = arc.to_is;
-        without_cost = arc.cost_is;
-        whole = arc.capacity_is ∙ sym (centre_room c known);
-        inner = omega arith;
-        entered = λ k l t. elim (own_centre c known k l t)
-            [ inl split ↦ inl split | inr trunk ↦ inr (trunk.1, trunk.2) ];
-      }
+  fed_centre c many known = fed (Trunk c) (many, known) refl (centre_room c known) (omega arith)
+      (λ k l t. elim (own_centre c known k l t)
+      [ inl split ↦ inl split | inr trunk ↦ inr (trunk.1, trunk.2) ])
 
   -- the way up from a centre: to the cluster, where there are several
   way_from : (c : ℕ) → c < wave.tree.centres

@@ -188,14 +188,11 @@ module _ (wave : Wave) (tree : IsTree wave) where
       only = λ e want from high. own_trunk e want from;
     }
 
-    pub trunks_end : (limit next : ℕ) (network : Flow RackLayout) → limit ≤ next
-        → Built (cluster_node wave) (centre_node wave wave.tree.centres) limit network
-        → Built (centre_node wave 0) 0 next network
-    trunks_end limit next network less =
-        row_end (cluster_node wave) (centre_node wave 0) (centre_node wave wave.tree.centres) limit next
-        network (let one = one_cluster wave.tree.centres several in omega arith) less
-        (λ e want from low. let o = own_trunk e want from in
-        let known = o.1 in let to = ap (λ (d : RackArc). (arc_of wave d).to) o.2 in omega arith)
+    pub trunks_inside : (e : RackArc) → IsWanted wave e → (arc_of wave e).from ≡ cluster_node wave
+        → (arc_of wave e).to < first_centre wave + wave.tree.centres
+    trunks_inside e want from =
+        let o = own_trunk e want from in
+        let known = o.1 in let to = ap (λ (d : RackArc). (arc_of wave d).to) o.2 in omega arith
 
   -- where there is one centre, the cluster has no row
   pub no_trunks : (limit next : ℕ) (network : Flow RackLayout) → limit ≤ next → wave.tree.centres ≤ 1
@@ -208,7 +205,7 @@ module _ (wave : Wave) (tree : IsTree wave) where
 
   -- the row of a centre
   module _ (c : ℕ) (known : c < wave.tree.centres) where
-    pub own_branch : (e : RackArc) → IsWanted wave e → (arc_of wave e).from ≡ centre_node wave c
+    own_branch : (e : RackArc) → IsWanted wave e → (arc_of wave e).from ≡ centre_node wave c
         → (r : ℕ) × ((r < length wave.tree.centre_of) × (centre_of wave r ≡ c)) × (e ≡ Branch r)
     own_branch (Pair q w) want from = absurd (let split = pending_known wave q want.0.pending in omega arith)
     own_branch (Reach q level h) want from =
@@ -227,18 +224,15 @@ module _ (wave : Wave) (tree : IsTree wave) where
       only = λ e want from high. own_branch e want from;
     }
 
-    pub branches_end : (limit next : ℕ) (network : Flow RackLayout) → limit ≤ next
-        → Built (centre_node wave c) (rack_node wave (length wave.tree.centre_of)) limit network
-        → Built (centre_node wave (c + 1)) 0 next network
-    branches_end limit next network less =
-        row_end (centre_node wave c) (centre_node wave (c + 1)) (rack_node wave (length wave.tree.centre_of))
-        limit next network (omega arith) less
-        (λ e want from low. let o = own_branch e want from in
-        let rack = o.1.0 in let to = ap (λ (d : RackArc). (arc_of wave d).to) o.2 in omega arith)
+    pub branches_inside : (e : RackArc) → IsWanted wave e → (arc_of wave e).from ≡ centre_node wave c
+        → (arc_of wave e).to < first_rack wave + length wave.tree.centre_of
+    branches_inside e want from =
+        let o = own_branch e want from in
+        let rack = o.1.0 in let to = ap (λ (d : RackArc). (arc_of wave d).to) o.2 in omega arith
 
   -- the row of a rack
   module _ (r : ℕ) (known : r < length wave.tree.centre_of) where
-    pub own_feed : (e : RackArc) → IsWanted wave e → (arc_of wave e).from ≡ rack_node wave r
+    own_feed : (e : RackArc) → IsWanted wave e → (arc_of wave e).from ≡ rack_node wave r
         → (w : ℕ) × (IsUsable wave w × (rack_of wave w ≡ r)) × (e ≡ Feed w)
     own_feed (Pair q w) want from = absurd (let split = pending_known wave q want.0.pending in omega arith)
     own_feed (Reach q level h) want from =
@@ -257,15 +251,12 @@ module _ (wave : Wave) (tree : IsTree wave) where
       only = λ e want from high. own_feed e want from;
     }
 
-    pub feeds_end : (limit next : ℕ) (network : Flow RackLayout) → limit ≤ next
-        → Built (rack_node wave r) (worker_node wave (length wave.workers)) limit network
-        → Built (rack_node wave (r + 1)) 0 next network
-    feeds_end limit next network less =
-        row_end (rack_node wave r) (rack_node wave (r + 1)) (worker_node wave (length wave.workers))
-        limit next network (omega arith) less
-        (λ e want from low. let o = own_feed e want from in
+    pub feeds_inside : (e : RackArc) → IsWanted wave e → (arc_of wave e).from ≡ rack_node wave r
+        → (arc_of wave e).to < first_worker wave + length wave.workers
+    feeds_inside e want from =
+        let o = own_feed e want from in
         let worker = live_known wave o.0 o.1.0.0 in
-        let to = ap (λ (d : RackArc). (arc_of wave d).to) o.2 in omega arith)
+        let to = ap (λ (d : RackArc). (arc_of wave d).to) o.2 in omega arith
 
   -- the row of a worker
   pub own_slot : (j : ℕ) → j < length wave.workers → (e : RackArc) → IsWanted wave e

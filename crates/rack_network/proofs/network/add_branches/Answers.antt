@@ -1,11 +1,11 @@
 use Rattle.std.proofs.Common.{ℕ, ◌≡◌, ◌+◌, suc, length, get_or, sym, ap, ◌∙◌, subst, arith}
 use Rattle.std.proofs.lemmas.Bool.{eqb-true, eqb-false}
 use Rattle.rack_tree.specs.Tree.{Tree}
-use Rattle.network_prices.proofs.Rows.{row_begin, row_step, row_skip}
+use Rattle.network_prices.proofs.Rows.{row_begin, row_step, row_skip, row_close}
 use Rattle.rack_network.specs.Racks.{centre_node, centre_of, rack_node}
 use Rattle.rack_network.specs.Build.{in_place, in_places, trunk_arcs, IsBuilt}
 use Rattle.rack_network.proofs.Counts.{place_more, place-le, place-mono, places_more, places-le}
-use Rattle.rack_network.proofs.Rows.{branches, branches_end}
+use Rattle.rack_network.proofs.Rows.{branches, branches_inside}
 use Rattle.rack_network.proofs.network.add_branches.Goals as goal
 use Rattle.rack_network.proofs.network.add_branches.Goals.{then-eq+in_ok-add, else-eq}
 
@@ -74,9 +74,10 @@ returns c =
     ≡ in_places (centre_of wave) racks d + in_place (centre_of wave) racks d =
     ap (in_places (centre_of wave) racks) next ∙ places_more (centre_of wave) d racks in
     record {
-      built = branches_end wave c.requires.tree d c.requires.centre
+      built = row_close (branches wave c.requires.tree d c.requires.centre) (centre_node wave (d + 1))
           (limit + in_place (centre_of wave) racks d)
           (trunk_arcs wave + in_places (centre_of wave) racks (d + 1)) c.loop-i.network (omega arith)
+          (omega arith) (branches_inside wave c.requires.tree d c.requires.centre)
           (subst (λ (i : ℕ). IsBuilt wave (centre_node wave d) (rack_node wave i)
           (limit + in_place (centre_of wave) i d) c.loop-i.network) end c.loop-i.invariant);
     }

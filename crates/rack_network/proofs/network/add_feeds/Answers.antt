@@ -1,10 +1,10 @@
 use Rattle.std.proofs.Common.{ℕ, ◌≡◌, ◌+◌, suc, length, sym, ap, ◌∙◌, subst, arith}
 use Rattle.std.proofs.lemmas.Bool.{false≢true}
-use Rattle.network_prices.proofs.Rows.{row_begin, row_step, row_skip}
+use Rattle.network_prices.proofs.Rows.{row_begin, row_step, row_skip, row_close}
 use Rattle.rack_network.specs.Racks.{rack_node, worker_node, rack_of}
 use Rattle.rack_network.specs.Build.{branch_arcs, in_place, in_places, IsBuilt}
 use Rattle.rack_network.proofs.Counts.{place_more, place-le, place-mono, places_more, places-le}
-use Rattle.rack_network.proofs.Rows.{feeds, feeds_end}
+use Rattle.rack_network.proofs.Rows.{feeds, feeds_inside}
 use Rattle.rack_network.proofs.network.add_feeds.Goals as goal
 use Rattle.rack_network.proofs.network.add_feeds.Goals.{then-takes_from+in_ok-add, else-takes_from}
 
@@ -68,8 +68,10 @@ returns c =
     ≡ in_places (rack_of wave) workers r + in_place (rack_of wave) workers r =
     ap (in_places (rack_of wave) workers) next ∙ places_more (rack_of wave) r workers in
     record {
-      built = feeds_end wave c.requires.tree r c.requires.rack (limit + in_place (rack_of wave) workers r)
+      built = row_close (feeds wave c.requires.tree r c.requires.rack) (rack_node wave (r + 1))
+          (limit + in_place (rack_of wave) workers r)
           (branch_arcs wave + in_places (rack_of wave) workers (r + 1)) c.loop-i.network (omega arith)
+          (omega arith) (feeds_inside wave c.requires.tree r c.requires.rack)
           (subst (λ (i : ℕ). IsBuilt wave (rack_node wave r) (worker_node wave i)
           (limit + in_place (rack_of wave) i r) c.loop-i.network) end c.loop-i.invariant);
     }

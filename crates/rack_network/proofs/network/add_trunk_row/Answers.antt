@@ -1,9 +1,10 @@
 use Rattle.std.proofs.Common.{ℕ, ◌≡◌, ◌+◌, ap, subst, arith}
 use Rattle.rack_tree.specs.Tree.{Tree}
-use Rattle.network_prices.proofs.Rows.{row_begin, row_step}
+use Rattle.network_prices.proofs.Rows.{row_begin, row_step, row_close}
 use Rattle.rack_network.specs.Racks.{cluster_node, centre_node}
 use Rattle.rack_network.specs.Build.{split_arcs, trunk_arcs, IsBuilt}
-use Rattle.rack_network.proofs.Rows.{trunks, trunks_end}
+use Rattle.rack_network.specs.Places.{one_cluster}
+use Rattle.rack_network.proofs.Rows.{trunks, trunks_inside}
 use Rattle.rack_network.proofs.network.add_trunk_row.Goals as goal
 
 pub loop-i-init : goal.loop-i-init
@@ -26,9 +27,10 @@ returns c =
     let count = ap (λ (t : Tree). t.centres) c.tree.ensures.tree in
     let end : c.loop-i.i ≡ wave.tree.centres = omega arith in
     record {
-      built = trunks_end wave c.requires.tree c.requires.several (trunk_arcs wave)
-          (trunk_arcs wave) c.loop-i.network
-          (omega arith)
+      built = row_close (trunks wave c.requires.tree c.requires.several) (centre_node wave 0)
+          (trunk_arcs wave) (trunk_arcs wave) c.loop-i.network
+          (let one = one_cluster wave.tree.centres c.requires.several in omega arith) (omega arith)
+          (trunks_inside wave c.requires.tree c.requires.several)
           (subst (λ (i : ℕ). IsBuilt wave (cluster_node wave) (centre_node wave i) (split_arcs wave + i)
           c.loop-i.network)
           end c.loop-i.invariant);
