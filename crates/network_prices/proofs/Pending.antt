@@ -110,15 +110,6 @@ sources_rise wave (suc n) j k less l = elim (cases_Bool (split_at wave n).pendin
       ]))
 ]
 
-pub pending-le : (wave : Wave) (n : ℕ) → length (pending_below wave n) ≤ n
-pending-le wave zero = omega arith
-pending-le wave (suc n) = elim (cases_Bool (split_at wave n).pending) [
-  | inl t ↦ (let more = ap (λ (z : List ℕ). length z) (pending-more wave n t) in
-      let size = length-append (pending_below wave n) (n ∷ []) in let rest = pending-le wave n in omega arith)
-  | inr f ↦ (let same = ap (λ (z : List ℕ). length z) (pending-same wave n f) in
-      let rest = pending-le wave n in omega arith)
-]
-
 pub pending_mono : (wave : Wave) (m n : ℕ) → m ≤ n →
     length (pending_below wave m) ≤ length (pending_below wave n)
 pending_mono wave m zero l = let same = ap (λ (k : ℕ). length (pending_below wave k))

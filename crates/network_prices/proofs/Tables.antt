@@ -1,18 +1,18 @@
 -- The rows of a table are built arc by arc.
-use Rattle.std.proofs.Common.{◌≡◌, ℕ, zero, suc, ◌+◌, ◌<◌, ◌≤◌, cond, eqb, ltb, List, [], ◌∷◌, ◌++◌, length}
+use Rattle.std.proofs.Common.{◌≡◌, ℕ, zero, suc, ◌+◌, ◌-◌, ◌<◌, ◌≤◌, cond, eqb, List, [], ◌∷◌, ◌++◌, length}
 use Rattle.std.proofs.Common.{get_or, refl, sym, ap, ◌∙◌, subst, ◌⊎◌, inl, inr, arith}
-use Rattle.std.proofs.lemmas.Bool.{cases_lt, cases_eq, eq-eqb, ne_eqb, le-ltb, lt-ltb}
+use Rattle.std.proofs.lemmas.Bool.{cases_lt, cases_eq, eq-eqb, ne_eqb}
 use Rattle.std.proofs.lemmas.List.{length-append}
 use Rattle.flow_network.specs.declared.arcs.FlowArc.{FlowArc}
 use Rattle.flow_network.specs.Flow.{Flow}
 use Rattle.flow_network.specs.Flows.{arc_at}
 use Rattle.flow_network.specs.Laws.{outroom}
 use Rattle.wave_problem.specs.Sums.{sum_below}
+use Rattle.wave_problem.proofs.Grouping.{sum_below-add, sum_below-one, sum_below-same, sum_below-zero}
 use Rattle.network_prices.specs.Networks.{HasArc}
 use Rattle.network_prices.specs.Building.{IsAdded}
 use Rattle.network_prices.specs.Tables.{IsBefore, AreRisingArcs, AreRows, AreRowsTo, IsBuiltTo}
 use Rattle.network_prices.proofs.Arcs.{at_old, at_new, stands_on, stands_new, each_push, add_empty, more_room}
-use Rattle.network_prices.proofs.Sums.{part_more}
 
 -- the place u, x is no later than v, y
 abbrev pub NoLater : ℕ → ℕ → ℕ → ℕ → Type 0
@@ -137,20 +137,6 @@ pub each_arc : {D : Type 0} {wanted : D → Type 0} {arc : D → FlowArc} {arcs 
     → (k : ℕ) → k < length arcs → P (arc_at arcs k)
 each_arc rows P each k l = let d = rows.sound k l in subst P (sym d.2) (each d.0 d.1)
 
--- arcs that rise have one place each
-pub one_place : (arcs : List FlowArc) (j k : ℕ) → AreRisingArcs arcs → j < length arcs → k < length arcs
-    → (arc_at arcs j).from ≡ (arc_at arcs k).from → (arc_at arcs j).to ≡ (arc_at arcs k).to → j ≡ k
-one_place arcs j k rising l m from to = elim (cases_eq j k) [
-  | inl e ↦ e
-  | inr n ↦ absurd (elim (cases_lt j k) [
-    | inl less ↦
-        elim (rising j k less m) [ inl before ↦ omega arith | inr row ↦ (let before = row.1 in omega arith) ]
-    | inr more ↦
-        (let less : k < j = elim (cases_lt k j) [ inl a ↦ a | inr b ↦ absurd (n (omega arith)) ] in
-        elim (rising k j less l) [ inl before ↦ omega arith | inr row ↦ (let before = row.1 in omega arith) ])
-  ])
-]
-
 -- where each arc leads to a later node, none leads to a start before it
 pub rising_ends : (arcs : List FlowArc) → AreRisingArcs arcs
     → ((k : ℕ) → k < length arcs → (arc_at arcs k).from < (arc_at arcs k).to)
@@ -167,74 +153,22 @@ rising_ends arcs rising onward j k less l =
           ]
     ]
 
--- what the arcs from v carry that lead to x, and to nodes below m
+-- what the arcs from v can carry that lead to x
 abbrev room_at : List FlowArc → ℕ → ℕ → ℕ
 room_at [] v x = 0
 room_at (a ∷ arcs) v x = cond (eqb a.from v) (cond (eqb a.to x) a.capacity 0) 0 + room_at arcs v x
 
-abbrev room_to : List FlowArc → ℕ → ℕ → ℕ
-room_to [] v m = 0
-room_to (a ∷ arcs) v m = cond (eqb a.from v) (cond (ltb a.to m) a.capacity 0) 0 + room_to arcs v m
+-- none of the arcs leads from v to x
+abbrev NoneAt : List FlowArc → ℕ → ℕ → Type 0
+NoneAt arcs v x =
+    (k : ℕ) → k < length arcs → (arc_at arcs k).from ≡ v → (arc_at arcs k).to ≡ x → ⊥
 
-room_more : (arcs : List FlowArc) (v m : ℕ) → room_to arcs v (suc m) ≡ room_to arcs v m + room_at arcs v m
-room_more [] v m = refl
-room_more (a ∷ arcs) v m =
-    let rest = room_more arcs v m in
-    let part = part_more a.to m a.capacity in
-    elim (cases_eq a.from v) [
-      | inl e ↦ rw (eq-eqb a.from v e) (omega arith)
-      | inr n ↦ rw (ne_eqb a.from v n) (omega arith)
-    ]
-
-room_none : (arcs : List FlowArc) (v m : ℕ)
-    → ((k : ℕ) → k < length arcs → (arc_at arcs k).from ≡ v → m ≤ (arc_at arcs k).to) → room_to arcs v m ≡ 0
-room_none [] v m none = refl
-room_none (a ∷ arcs) v m none =
-    let rest = room_none arcs v m (λ k l e. none (suc k) (omega arith) e) in
-    elim (cases_eq a.from v) [
-      | inl e ↦ rw (eq-eqb a.from v e, le-ltb a.to m (none 0 (omega arith) e)) (omega arith)
-      | inr n ↦ rw (ne_eqb a.from v n) (omega arith)
-    ]
-
-room_all : (arcs : List FlowArc) (v m : ℕ)
-    → ((k : ℕ) → k < length arcs → (arc_at arcs k).from ≡ v → (arc_at arcs k).to < m)
-    → room_to arcs v m ≡ outroom arcs v
-room_all [] v m all = refl
-room_all (a ∷ arcs) v m all =
-    let rest = room_all arcs v m (λ k l e. all (suc k) (omega arith) e) in
-    elim (cases_eq a.from v) [
-      | inl e ↦ rw (eq-eqb a.from v e, lt-ltb a.to m (all 0 (omega arith) e)) (omega arith)
-      | inr n ↦ rw (ne_eqb a.from v n) (omega arith)
-    ]
-
-at_none : (arcs : List FlowArc) (v x : ℕ)
-    → ((k : ℕ) → k < length arcs → (arc_at arcs k).from ≡ v → (arc_at arcs k).to ≡ x → ⊥) →
-    room_at arcs v x ≡ 0
+at_none : (arcs : List FlowArc) (v x : ℕ) → NoneAt arcs v x → room_at arcs v x ≡ 0
 at_none [] v x none = refl
 at_none (a ∷ arcs) v x none =
     let rest = at_none arcs v x (λ k l e f. none (suc k) (omega arith) e f) in
     elim (cases_eq a.from v) [
       | inl e ↦ rw (eq-eqb a.from v e, ne_eqb a.to x (λ f. none 0 (omega arith) e f)) (omega arith)
-      | inr n ↦ rw (ne_eqb a.from v n) (omega arith)
-    ]
-
-at_one : (arcs : List FlowArc) (v x j : ℕ) → j < length arcs → (arc_at arcs j).from ≡ v →
-    (arc_at arcs j).to ≡ x
-    → ((k : ℕ) → k < length arcs → (arc_at arcs k).from ≡ v → (arc_at arcs k).to ≡ x → k ≡ j)
-    → room_at arcs v x ≡ (arc_at arcs j).capacity
-at_one [] v x j l from to only = absurd (omega arith)
-at_one (a ∷ arcs) v x zero l from to only =
-    let rest = at_none arcs v x
-    (λ k m e f. (let s : suc k ≡ 0 = only (suc k) (omega arith) e f in absurd (omega arith))) in
-    rw (eq-eqb a.from v from, eq-eqb a.to x to) (omega arith)
-at_one (a ∷ arcs) v x (suc j) l from to only =
-    let rest = at_one arcs v x j (omega arith) from to
-    (λ k m e f. (let s : suc k ≡ suc j = only (suc k) (omega arith) e f in omega arith)) in
-    elim (cases_eq a.from v) [
-      | inl e ↦
-          (let apart : a.to ≡ x → ⊥ = λ f. (let s : 0 ≡ suc j = only 0 (omega arith) e f in
-          absurd (omega arith)) in
-          rw (eq-eqb a.from v e, ne_eqb a.to x apart) (omega arith))
       | inr n ↦ rw (ne_eqb a.from v n) (omega arith)
     ]
 
@@ -244,54 +178,85 @@ pub record IsRoom (arcs : List FlowArc) (v x room : ℕ) : Type 0 where
       (arc_at arcs k).capacity ≡ room
   pub none : (0 < room) → (k : ℕ) × (k < length arcs) × ((arc_at arcs k).from ≡ v) × ((arc_at arcs k).to ≡ x)
 
-place_or_not : (arcs : List FlowArc) (v x : ℕ) →
-    ((k : ℕ) × (k < length arcs) × ((arc_at arcs k).from ≡ v) × ((arc_at arcs k).to ≡ x))
-    ⊎ ((k : ℕ) → k < length arcs → (arc_at arcs k).from ≡ v → (arc_at arcs k).to ≡ x → ⊥)
-place_or_not [] v x = inr (λ k l e f. absurd (omega arith))
-place_or_not (a ∷ arcs) v x = elim (place_or_not arcs v x) [
-  | inl found ↦ (let l = found.1 in inl (suc found.0, omega arith, found.2, found.3))
-  | inr none ↦ elim (cases_eq a.from v) [
-    | inr n ↦ inr (not_first (λ e f. n e) none)
-    | inl e ↦ elim (cases_eq a.to x) [
-      | inl f ↦ inl (0, omega arith, e, f)
-      | inr n ↦ inr (not_first (λ e f. n f) none)
+-- of arcs that rise none leads from v to x, or one, whose room is all
+abbrev RoomCases : List FlowArc → ℕ → ℕ → Type 0
+RoomCases arcs v x = (NoneAt arcs v x × (room_at arcs v x ≡ 0))
+    ⊎ ((k : ℕ) × (k < length arcs) × ((arc_at arcs k).from ≡ v) × ((arc_at arcs k).to ≡ x)
+    × (room_at arcs v x ≡ (arc_at arcs k).capacity))
+
+room_cases : (arcs : List FlowArc) (v x : ℕ) → AreRisingArcs arcs → RoomCases arcs v x
+room_cases [] v x rising = inl (λ k l e f. absurd (omega arith), refl)
+room_cases (a ∷ arcs) v x rising =
+    let rest = room_cases arcs v x (λ j k less l. rising (suc j) (suc k) (omega arith) (omega arith)) in
+    elim (cases_eq a.from v) [
+      | inr n ↦ past_first (λ e f. n e) (rw (ne_eqb a.from v n) (omega arith)) rest
+      | inl e ↦ elim (cases_eq a.to x) [
+        | inr n ↦ past_first (λ e f. n f) (rw (eq-eqb a.from v e, ne_eqb a.to x n) (omega arith)) rest
+        | inl f ↦
+            (let none = at_none arcs v x (λ k l e' f'. elim (rising 0 (suc k) (omega arith) (omega arith))
+            [ inl before ↦ omega arith | inr row ↦ (let before = row.1 in omega arith) ]) in
+            inr (0, omega arith, e, f, rw (eq-eqb a.from v e, eq-eqb a.to x f) (omega arith)))
+      ]
     ]
-  ]
-]
   where
-    not_first : (a.from ≡ v → a.to ≡ x → ⊥) → ((k : ℕ) → k < length arcs → (arc_at arcs k).from ≡ v →
-        (arc_at arcs k).to ≡ x → ⊥)
-        → (k : ℕ) → k < length (a ∷ arcs) → (arc_at (a ∷ arcs) k).from ≡ v → (arc_at (a ∷ arcs) k).to ≡ x → ⊥
+    not_first : (a.from ≡ v → a.to ≡ x → ⊥) → NoneAt arcs v x → NoneAt (a ∷ arcs) v x
     not_first first none zero l e f = first e f
     not_first first none (suc k) l e f = none k (omega arith) e f
 
+    past_first : (a.from ≡ v → a.to ≡ x → ⊥) → room_at (a ∷ arcs) v x ≡ room_at arcs v x
+        → RoomCases arcs v x → RoomCases (a ∷ arcs) v x
+    past_first off same (inl none) = inl (not_first off none.0, same ∙ none.1)
+    past_first off same (inr found) =
+        let l = found.1 in inr (suc found.0, omega arith, found.2, found.3, same ∙ found.4)
+
 room_is : (arcs : List FlowArc) (v x room : ℕ) → AreRisingArcs arcs → IsRoom arcs v x room →
     room_at arcs v x ≡ room
-room_is arcs v x room rising is = elim (place_or_not arcs v x) [
-  | inl found ↦ at_one arcs v x found.0 found.1 found.2 found.3
-      (λ k l e f. one_place arcs k found.0 rising l found.1 (e ∙ sym found.2) (f ∙ sym found.3))
-      ∙ is.some found.0 found.1 found.2 found.3
-  | inr none ↦ (let zero_room = at_none arcs v x none in elim (cases_lt 0 room) [
-    | inl l ↦ (let there = is.none l in absurd (none there.0 there.1 there.2 there.3))
+room_is arcs v x room rising is = elim (room_cases arcs v x rising) [
+  | inr found ↦ found.4 ∙ is.some found.0 found.1 found.2 found.3
+  | inl none ↦ none.1 ∙ elim (cases_lt 0 room) [
+    | inl l ↦ (let there = is.none l in absurd (none.0 there.0 there.1 there.2 there.3))
     | inr n ↦ omega arith
-  ])
+  ]
 ]
 
+-- an arc to one of n nodes is counted at one of them
+one_end : (to base n room : ℕ) → base ≤ to → to < base + n
+    → sum_below n (λ i. cond (eqb to (base + i)) room 0) ≡ room
+one_end to base n room low high =
+    sum_below-same n (λ i. cond (eqb to (base + i)) room 0) (λ i. cond (eqb (to - base) i) room 0)
+    (λ i l. elim (cases_eq to (base + i)) [
+      | inl e ↦ rw (eq-eqb to (base + i) e, eq-eqb (to - base) i (omega arith)) refl
+      | inr d ↦ rw (ne_eqb to (base + i) d, ne_eqb (to - base) i (λ e. d (omega arith))) refl
+    ])
+    ∙ sum_below-one n (to - base) (λ _. room) (omega arith)
+
 -- the arcs that leave v lead to nodes from base on: what they can carry together, end by end
+by_ends : (arcs : List FlowArc) (v base n : ℕ)
+    → ((k : ℕ) → k < length arcs → (arc_at arcs k).from ≡ v → base ≤ (arc_at arcs k).to)
+    → ((k : ℕ) → k < length arcs → (arc_at arcs k).from ≡ v → (arc_at arcs k).to < base + n)
+    → outroom arcs v ≡ sum_below n (λ i. room_at arcs v (base + i))
+by_ends [] v base n low high = sym (sum_below-zero n)
+by_ends (a ∷ arcs) v base n low high =
+    let rest = by_ends arcs v base n (λ k l e. low (suc k) (omega arith) e)
+    (λ k l e. high (suc k) (omega arith) e) in
+    elim (cases_eq a.from v) [
+      | inr d ↦ rw (ne_eqb a.from v d) (
+          let same = sum_below-same n (λ i. 0 + room_at arcs v (base + i)) (λ i. room_at arcs v (base + i))
+          (λ i l. omega arith) in omega arith)
+      | inl e ↦ rw (eq-eqb a.from v e) (
+          let own = one_end a.to base n a.capacity (low 0 (omega arith) e) (high 0 (omega arith) e) in
+          let both = sum_below-add n (λ i. cond (eqb a.to (base + i)) a.capacity 0)
+          (λ i. room_at arcs v (base + i)) in
+          omega arith)
+    ]
+
 pub outroom-rows : (arcs : List FlowArc) (v base n : ℕ) (f : ℕ → ℕ) → AreRisingArcs arcs
     → ((k : ℕ) → k < length arcs → (arc_at arcs k).from ≡ v → base ≤ (arc_at arcs k).to)
     → ((k : ℕ) → k < length arcs → (arc_at arcs k).from ≡ v → (arc_at arcs k).to < base + n)
     → ((i : ℕ) → i < n → IsRoom arcs v (base + i) (f i)) → outroom arcs v ≡ sum_below n f
-outroom-rows arcs v base n f rising low high each = sym (room_all arcs v (base + n) high) ∙ up n (omega arith)
-  where
-    up : (m : ℕ) → m ≤ n → room_to arcs v (base + m) ≡ sum_below m f
-    up zero l = let same : base + 0 ≡ base = omega arith in rw same (room_none arcs v base low)
-    up (suc m) l =
-        let before = up m (omega arith) in
-        let one = room_is arcs v (base + m) (f m) rising (each m (omega arith)) in
-        let more = room_more arcs v (base + m) in
-        let same : base + suc m ≡ suc (base + m) = omega arith in
-        rw same (omega arith)
+outroom-rows arcs v base n f rising low high each = by_ends arcs v base n low high
+    ∙ sum_below-same n (λ i. room_at arcs v (base + i)) f
+    (λ i l. room_is arcs v (base + i) (f i) rising (each i l))
 
 -- where all that leave v are one arc
 pub outroom-one : (arcs : List FlowArc) (v x room : ℕ) → AreRisingArcs arcs

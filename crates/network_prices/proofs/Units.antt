@@ -143,15 +143,6 @@ module _ (old now : List ℕ) (u v units left i : ℕ) (moving : IsMoving old no
 
 module _ (arcs : List FlowArc) (flows : List ℕ) (sink : ℕ) (first now : List ℕ)
     (can : CanHandOn arcs flows sink first) where
-  pub handed_none : IsHandedOn arcs flows sink first first 0
-  handed_none = record {
-    size = refl;
-    came = λ s l. ([], refl);
-    off_sink = can.first_off;
-    passing = λ v n p. omega arith;
-    ending = λ v n p. omega arith;
-  }
-
   module _ (j : ℕ) (l : j < length arcs) (state : IsHandedOn arcs flows sink first now j) where
     -- enough units are at the start of an arc
     pub enough_stand : ((arc_at arcs j).to ≡ sink → ⊥) → get_or flows j 0 ≤ standing now (arc_at arcs j).from

@@ -103,10 +103,6 @@ module _ (place_of : ℕ → ℕ) where
       let part = part_more (place_of n) p 1 in
       omega arith
 
-  pub places_none : (n : ℕ) → in_places place_of n 0 ≡ 0
-  places_none zero = refl
-  places_none (suc n) = let rest = places_none n in rw (le-ltb (place_of n) 0 (omega arith)) (omega arith)
-
   pub places-le : (p n : ℕ) → in_places place_of n p ≤ n
   places-le p zero = omega arith
   places-le p (suc n) =

@@ -5,6 +5,7 @@ use Rattle.std.proofs.Common.{arith, unwrap_or}
 use Rattle.std.specs.Prelude.{◌==◌}
 use Rattle.std.specs.Option.{option_map}
 use Rattle.std.proofs.lemmas.Bool.{cases_Bool, cases_eq, cases_lt, eq-eqb, ne_eqb}
+use Rattle.std.proofs.lemmas.List.{get_or_default}
 use Rattle.std.proofs.Math.Nat.{mul-le-mul_left}
 use Rattle.rack_tree.specs.Tree.{Tree, centre_at, distance}
 use Rattle.rack_tree.proofs.Distances.{distance_by, steps_by}
@@ -213,11 +214,5 @@ among_kept p (y ∷ ys) (suc i) l t = elim (cases_Bool (p y)) [
   | inr f ↦ rw f (among_kept p ys i (omega arith) t)
 ]
 
--- an element that is read with another default
-read_at : (xs : List ℕ) (i d e : ℕ) → i < length xs → get_or xs i d ≡ get_or xs i e
-read_at [] i d e l = absurd (omega arith)
-read_at (x ∷ xs) zero d e l = refl
-read_at (x ∷ xs) (suc i) d e l = read_at xs i d e (omega arith)
-
 pub read_zero : (xs : List ℕ) (i h : ℕ) → i < length xs → h ≡ get_or xs i h → get_or xs i 0 ≡ h
-read_zero xs i h l is = read_at xs i 0 h l ∙ sym is
+read_zero xs i h l is = get_or_default xs i 0 h l ∙ sym is

@@ -18,7 +18,7 @@ use Rattle.rack_network.specs.Racks.{cluster_node, centre_node, rack_node, worke
 use Rattle.rack_network.specs.Racks.{first_centre, first_rack, first_worker, rack_of, centre_of, node_above}
 use Rattle.rack_network.specs.Racks.{HasBars, IsReach, IsTree, arc_of, IsSized, IsWanted}
 use Rattle.rack_network.specs.Build.{IsBuilt}
-use Rattle.rack_network.specs.Places.{one_cluster, no_cluster}
+use Rattle.rack_network.specs.Places.{one_cluster}
 use Rattle.rack_network.proofs.Heights.{four_levels, one_level, reach_at, reach_in}
 
 module _ (wave : Wave) (tree : IsTree wave) where
@@ -193,15 +193,6 @@ module _ (wave : Wave) (tree : IsTree wave) where
     trunks_inside e want from =
         let o = own_trunk e want from in
         let known = o.1 in let to = ap (λ (d : RackArc). (arc_of wave d).to) o.2 in omega arith
-
-  -- where there is one centre, the cluster has no row
-  pub no_trunks : (limit next : ℕ) (network : Flow RackLayout) → limit ≤ next → wave.tree.centres ≤ 1
-      → Built (cluster_node wave) 0 limit network → Built (centre_node wave 0) 0 next network
-  no_trunks limit next network less few built =
-      let none = no_cluster wave.tree.centres few in
-      subst (λ (u : ℕ). Built u 0 next network)
-      (let here : cluster_node wave ≡ centre_node wave 0 = omega arith in here)
-      (raise (cluster_node wave) 0 limit next network less built)
 
   -- the row of a centre
   module _ (c : ℕ) (known : c < wave.tree.centres) where
