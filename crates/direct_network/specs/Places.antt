@@ -1,9 +1,8 @@
 -- The laws of the numbering, proved here since an impl cites them: each node has a place of its own, each
 -- place a node.
-use Rattle.std.proofs.Common.{◌≡◌, ℕ, ◌+◌, ◌-◌, ◌<◌, true, false, eqb, ltb, inl, inr, refl, sym, ap, ◌∙◌}
+use Rattle.std.proofs.Common.{◌≡◌, ℕ, ◌+◌, ◌-◌, ◌<◌, true, inl, inr, refl, sym, ap, ◌∙◌}
 use Rattle.std.proofs.Common.{arith}
-use Rattle.std.proofs.lemmas.Bool.Decides.{eqb_tells}
-use Rattle.std.proofs.lemmas.Bool.{cases_lt, lt-ltb, le-ltb, ltb-true, eq-eqb}
+use Rattle.std.proofs.lemmas.Bool.{cases_lt, lt-ltb, le-ltb, ltb-true, eq-eqb, ne_eqb}
 use Rattle.direct_network.specs.declared.layout.DirectNode.{DirectNode}
 use Rattle.direct_network.specs.declared.layout.DirectNode.TheVariants.{Split, Worker, Unstarted, Sink}
 use Rattle.direct_network.specs.Layout.{place_of, node_of, is_node}
@@ -13,28 +12,18 @@ at_split s w i h = rw (lt-ltb i s h) refl
 
 at_worker : (s w k : ℕ) → k < w → node_of s w (s + k) ≡ Worker k
 at_worker s w k h =
-    let past : ltb (s + k) s ≡ false = le-ltb (s + k) s (omega arith) in
-    let within : ltb (s + k) (s + w) ≡ true = lt-ltb (s + k) (s + w) (omega arith) in
     let back : s + k - s ≡ k = omega arith in
-    rw (past, within, back) refl
+    rw (le-ltb (s + k) s (omega arith), lt-ltb (s + k) (s + w) (omega arith), back) refl
 
 at_unstarted : (s w : ℕ) → node_of s w (s + w) ≡ Unstarted
 at_unstarted s w =
-    let past : ltb (s + w) s ≡ false = le-ltb (s + w) s (omega arith) in
-    let none : ltb (s + w) (s + w) ≡ false = le-ltb (s + w) (s + w) (omega arith) in
-    let same : eqb (s + w) (s + w) ≡ true = eq-eqb (s + w) (s + w) refl in
-    rw (past, none, same) refl
+    let same = eq-eqb (s + w) (s + w) refl in
+    rw (le-ltb (s + w) s (omega arith), le-ltb (s + w) (s + w) (omega arith), same) refl
 
 at_sink : (s w : ℕ) → node_of s w (s + w + 1) ≡ Sink
 at_sink s w =
-    let past : ltb (s + w + 1) s ≡ false = le-ltb (s + w + 1) s (omega arith) in
-    let none : ltb (s + w + 1) (s + w) ≡ false = le-ltb (s + w + 1) (s + w) (omega arith) in
-    let other : eqb (s + w + 1) (s + w) ≡ false = elim (eqb_tells (s + w + 1) (s + w)) [
-      | inl t ↦
-          absurd (omega (arith, t.1))
-      | inr f ↦ f.0
-    ] in
-    rw (past, none, other) refl
+    let other = ne_eqb (s + w + 1) (s + w) (λ e. omega arith) in
+    rw (le-ltb (s + w + 1) s (omega arith), le-ltb (s + w + 1) (s + w) (omega arith), other) refl
 
 pub node_at_place : (s w : ℕ) (n : DirectNode) → is_node s w n ≡ true → node_of s w (place_of s w n) ≡ n
 node_at_place s w (Split k) h = at_split s w k (ltb-true k s h)

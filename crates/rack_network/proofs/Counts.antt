@@ -1,7 +1,7 @@
 -- How many arcs there are at most: holders that are passed, workers of racks, racks of centres; and a
 -- centre's slots.
-use Rattle.std.proofs.Common.{◌≡◌, ℕ, zero, suc, ◌+◌, ◌*◌, ◌<◌, ◌≤◌, Bool, true, false, cond, eqb, List, []}
-use Rattle.std.proofs.Common.{◌∷◌, length, get_or, refl, ap, ◌∙◌, inl, inr, arith}
+use Rattle.std.proofs.Common.{◌≡◌, ℕ, zero, suc, ◌+◌, ◌*◌, ◌<◌, ◌≤◌, Bool, true, false, cond, eqb, ltb, List}
+use Rattle.std.proofs.Common.{[], ◌∷◌, length, get_or, refl, ap, ◌∙◌, inl, inr, arith}
 use Rattle.std.proofs.lemmas.Bool.{cases_lt, cases_eq, lt-ltb, le-ltb, eq-eqb}
 use Rattle.wave_problem.specs.Sums.{sum_below}
 use Rattle.wave_problem.specs.Wave.{Wave}
@@ -82,11 +82,11 @@ passed_by-more wave level x y i holders four l m low high =
 
 -- the numbers below n in a place, and in the places before one
 module _ (place_of : ℕ → ℕ) where
-  pub place_more : (p n : ℕ) → place_of n ≡ p → in_place place_of (suc n) p ≡ in_place place_of n p + 1
-  place_more p n e = rw (eq-eqb (place_of n) p e) refl
+  pub place_more : (p n : ℕ) → place_of n ≡ p → in_place place_of (n + 1) p ≡ in_place place_of n p + 1
+  place_more p n e = let next : n + 1 ≡ suc n = omega arith in rw (next, eq-eqb (place_of n) p e) refl
 
-  pub place-le : (p n : ℕ) → in_place place_of n p ≤ in_place place_of (suc n) p
-  place-le p n = omega arith
+  pub place-le : (p n : ℕ) → in_place place_of n p ≤ in_place place_of (n + 1) p
+  place-le p n = let next : n + 1 ≡ suc n = omega arith in rw next (omega arith)
 
   pub place-mono : (p m n : ℕ) → m ≤ n → in_place place_of m p ≤ in_place place_of n p
   place-mono p m zero l = let none : m ≡ 0 = omega arith in
@@ -96,11 +96,14 @@ module _ (place_of : ℕ → ℕ) where
     | inr d ↦ (let rest = place-mono p m n (omega arith) in omega arith)
   ]
 
-  pub places_more : (p n : ℕ) → in_places place_of n (suc p) ≡ in_places place_of n p + in_place place_of n p
+  pub places_more : (p n : ℕ) → in_places place_of n (p + 1) ≡ in_places place_of n p + in_place place_of n p
   places_more p zero = refl
   places_more p (suc n) =
       let rest = places_more p n in
-      let part = part_more (place_of n) p 1 in
+      let next : p + 1 ≡ suc p = omega arith in
+      let part : cond (ltb (place_of n) (p + 1)) 1 0
+      ≡ cond (ltb (place_of n) p) 1 0 + cond (eqb (place_of n) p) 1 0 =
+      rw next (part_more (place_of n) p 1) in
       omega arith
 
   pub places-le : (p n : ℕ) → in_places place_of n p ≤ n

@@ -2,6 +2,7 @@
 -- place a node.
 use Rattle.std.proofs.Common.{◌≡◌, ℕ, ◌+◌, ◌-◌, ◌<◌, ◌≤◌, Bool, true, cond, ◌⊎◌, inl, inr, refl, sym, ap, ◌∙◌}
 use Rattle.std.proofs.Common.{arith}
+use Rattle.std.specs.Prelude.{nat_lt, if◌then◌else◌, ◌==◌}
 use Rattle.std.proofs.lemmas.Bool.{cases_lt, lt-ltb, le-ltb, ltb-true, eq-eqb, ne_eqb}
 use Rattle.rack_network.specs.declared.layout.RackNode.{RackNode}
 use Rattle.rack_network.specs.declared.layout.RackNode.TheVariants.{Split, Cluster, Centre, Rack, Worker}
@@ -29,77 +30,58 @@ pub clusters-le : (c : ℕ) → clusters c ≤ 1
 clusters-le c = elim (several_or_not c)
     [ inl some ↦ (let is = some.1 in omega arith) | inr none ↦ (let is = none.1 in omega arith) ]
 
+past_lower : (i m : ℕ) (x y : RackNode) → m ≤ i → (if nat_lt i m then x else y) ≡ y
+past_lower i m x y l = rw (le-ltb i m l) refl
+
+below_upper : (i m : ℕ) (x y : RackNode) → i < m → (if nat_lt i m then x else y) ≡ x
+below_upper i m x y l = rw (lt-ltb i m l) refl
+
 module _ (s c r w : ℕ) where
   -- the nodes between the splits and the centres
   abbrev k : ℕ
   k = clusters c
 
   at_split : (i : ℕ) → i < s → node_of s c r w i ≡ Split i
-  at_split i h = rw (lt-ltb i s h) refl
+  at_split i h = below_upper i s _ _ h
 
   at_cluster : 1 < c → node_of s c r w s ≡ Cluster
   at_cluster h =
       let one = one_cluster c h in
-      rw (le-ltb s s (omega arith), lt-ltb s (s + k) (omega arith)) refl
+      past_lower s s _ _ (omega arith) ∙ below_upper s (s + k) _ _ (omega arith)
 
   at_centre : (i : ℕ) → i < c → node_of s c r w (s + k + i) ≡ Centre i
   at_centre i h =
-      let back : s + k + i - (s + k) ≡ i = omega arith in
-      rw (
-        le-ltb (s + k + i) s (omega arith),
-        le-ltb (s + k + i) (s + k) (omega arith),
-        lt-ltb (s + k + i) (s + k + c) (omega arith),
-        back,
-      ) refl
+      past_lower _ s _ _ (omega arith) ∙ past_lower _ (s + k) _ _ (omega arith)
+      ∙ below_upper _ (s + k + c) _ _ (omega arith)
+      ∙ ap Centre (let back : s + k + i - (s + k) ≡ i = omega arith in back)
 
   at_rack : (i : ℕ) → i < r → node_of s c r w (s + k + c + i) ≡ Rack i
   at_rack i h =
-      let back : s + k + c + i - (s + k + c) ≡ i = omega arith in
-      rw (
-        le-ltb (s + k + c + i) s (omega arith),
-        le-ltb (s + k + c + i) (s + k) (omega arith),
-        le-ltb (s + k + c + i) (s + k + c) (omega arith),
-        lt-ltb (s + k + c + i) (s + k + c + r)
-            (omega arith),
-        back,
-      ) refl
+      past_lower _ s _ _ (omega arith) ∙ past_lower _ (s + k) _ _ (omega arith)
+      ∙ past_lower _ (s + k + c) _ _ (omega arith) ∙ below_upper _ (s + k + c + r) _ _ (omega arith)
+      ∙ ap Rack (let back : s + k + c + i - (s + k + c) ≡ i = omega arith in back)
+
+  past_racks : (i : ℕ) → s + k + c + r ≤ i → node_of s c r w i
+      ≡ (if nat_lt i (s + k + c + r + w) then Worker (i - (s + k + c + r))
+      else (if i == s + k + c + r + w then Unstarted else Sink))
+  past_racks i l =
+      past_lower i s _ _ (omega arith) ∙ past_lower i (s + k) _ _ (omega arith)
+      ∙ past_lower i (s + k + c) _ _ (omega arith) ∙ past_lower i (s + k + c + r) _ _ l
 
   at_worker : (i : ℕ) → i < w → node_of s c r w (s + k + c + r + i) ≡ Worker i
   at_worker i h =
-      let back : s + k + c + r + i - (s + k + c + r) ≡ i = omega arith in
-      rw (
-        le-ltb (s + k + c + r + i) s (omega arith),
-        le-ltb (s + k + c + r + i) (s + k) (omega arith),
-        le-ltb (s + k + c + r + i) (s + k + c) (omega arith),
-        le-ltb (s + k + c + r + i) (s + k + c + r)
-            (omega arith),
-        lt-ltb (s + k + c + r + i) (s + k + c + r + w) (omega arith),
-        back,
-      ) refl
+      past_racks (s + k + c + r + i) (omega arith) ∙ below_upper _ (s + k + c + r + w) _ _ (omega arith)
+      ∙ ap Worker (let back : s + k + c + r + i - (s + k + c + r) ≡ i = omega arith in back)
 
   at_unstarted : node_of s c r w (s + k + c + r + w) ≡ Unstarted
   at_unstarted =
-      rw (
-        le-ltb (s + k + c + r + w) s (omega arith),
-        le-ltb (s + k + c + r + w) (s + k) (omega arith),
-        le-ltb (s + k + c + r + w) (s + k + c) (omega arith),
-        le-ltb (s + k + c + r + w) (s + k + c + r)
-            (omega arith),
-        le-ltb (s + k + c + r + w) (s + k + c + r + w) (omega arith),
-        eq-eqb (s + k + c + r + w) (s + k + c + r + w) refl,
-      ) refl
+      past_racks (s + k + c + r + w) (omega arith) ∙ past_lower _ (s + k + c + r + w) _ _ (omega arith)
+      ∙ rw (eq-eqb (s + k + c + r + w) (s + k + c + r + w) refl) refl
 
   at_sink : node_of s c r w (s + k + c + r + w + 1) ≡ Sink
   at_sink =
-      rw (
-        le-ltb (s + k + c + r + w + 1) s (omega arith),
-        le-ltb (s + k + c + r + w + 1) (s + k)
-            (omega arith),
-        le-ltb (s + k + c + r + w + 1) (s + k + c) (omega arith),
-        le-ltb (s + k + c + r + w + 1) (s + k + c + r) (omega arith),
-        le-ltb (s + k + c + r + w + 1) (s + k + c + r + w) (omega arith),
-        ne_eqb (s + k + c + r + w + 1) (s + k + c + r + w) (λ e. omega arith),
-      ) refl
+      past_racks (s + k + c + r + w + 1) (omega arith) ∙ past_lower _ (s + k + c + r + w) _ _ (omega arith)
+      ∙ rw (ne_eqb (s + k + c + r + w + 1) (s + k + c + r + w) (λ e. omega arith)) refl
 
   pub node_at_place : (n : RackNode) → is_node s c r w n ≡ true → node_of s c r w (place_of s c r w n) ≡ n
   node_at_place (Split i) h = at_split i (ltb-true i s h)

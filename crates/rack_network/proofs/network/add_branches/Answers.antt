@@ -1,4 +1,4 @@
-use Rattle.std.proofs.Common.{ℕ, ◌≡◌, ◌+◌, suc, length, get_or, sym, ap, ◌∙◌, subst, arith}
+use Rattle.std.proofs.Common.{ℕ, ◌≡◌, ◌+◌, length, get_or, sym, ap, ◌∙◌, subst, arith}
 use Rattle.std.proofs.lemmas.Bool.{eqb-true, eqb-false}
 use Rattle.rack_tree.specs.Tree.{Tree}
 use Rattle.network_prices.proofs.Rows.{row_begin, row_step, row_skip, row_close}
@@ -22,7 +22,7 @@ add-requires-clause-room c =
     let tree = ap (λ (t : Tree). length t.centre_of) c.tree-tree.ensures.tree in
     let up = place-mono (centre_of wave) c.args.centre c.loop-i.i racks (omega arith) in
     let whole = places_more (centre_of wave) c.args.centre racks in
-    let all = places-le (centre_of wave) (suc c.args.centre) racks in
+    let all = places-le (centre_of wave) (c.args.centre + 1) racks in
     omega arith
 
 pub loop-i-init : goal.loop-i-init
@@ -41,8 +41,6 @@ loop-i-preserved c =
     let limit : ℕ = trunk_arcs wave + in_places (centre_of wave) (length wave.tree.centre_of) d in
     let now : ℕ = limit + in_place (centre_of wave) c.loop-i.i d in
     let then : ℕ = limit + in_place (centre_of wave) (c.loop-i.i + 1) d in
-    let next : c.loop-i.i + 1 ≡ suc c.loop-i.i = omega arith in
-    let count = ap (λ (n : ℕ). in_place (centre_of wave) n d) next in
     let tree = ap (λ (t : Tree). length t.centre_of) c.tree-tree.ensures.tree in
     let racks = c.racks-i-end.ensures.count in
     let own : c.centre_of.result ≡ centre_of wave rack =
@@ -69,10 +67,7 @@ returns c =
     let count = c.racks-i-end.ensures.count in
     let tree = ap (λ (t : Tree). length t.centre_of) c.tree-tree.ensures.tree in
     let end : c.loop-i.i ≡ racks = omega arith in
-    let next : d + 1 ≡ suc d = omega arith in
-    let whole : in_places (centre_of wave) racks (d + 1)
-    ≡ in_places (centre_of wave) racks d + in_place (centre_of wave) racks d =
-    ap (in_places (centre_of wave) racks) next ∙ places_more (centre_of wave) d racks in
+    let whole = places_more (centre_of wave) d racks in
     record {
       built = row_close (branches wave c.requires.tree d c.requires.centre) (centre_node wave (d + 1))
           (limit + in_place (centre_of wave) racks d)

@@ -1,4 +1,4 @@
-use Rattle.std.proofs.Common.{ℕ, ◌≡◌, ◌+◌, suc, length, sym, ap, ◌∙◌, subst, arith}
+use Rattle.std.proofs.Common.{ℕ, ◌≡◌, ◌+◌, length, sym, ap, ◌∙◌, subst, arith}
 use Rattle.std.proofs.lemmas.Bool.{false≢true}
 use Rattle.network_prices.proofs.Rows.{row_begin, row_step, row_skip, row_close}
 use Rattle.rack_network.specs.Racks.{rack_node, worker_node, rack_of}
@@ -20,7 +20,7 @@ add-requires-clause-room c =
     let count = c.workers-i-end.ensures.count in
     let up = place-mono (rack_of wave) c.args.rack c.loop-i.i (length wave.workers) (omega arith) in
     let whole = places_more (rack_of wave) c.args.rack (length wave.workers) in
-    let all = places-le (rack_of wave) (suc c.args.rack) (length wave.workers) in
+    let all = places-le (rack_of wave) (c.args.rack + 1) (length wave.workers) in
     omega arith
 
 pub loop-i-init : goal.loop-i-init
@@ -39,8 +39,6 @@ loop-i-preserved c =
     let limit : ℕ = branch_arcs wave + in_places (rack_of wave) (length wave.workers) r in
     let now : ℕ = limit + in_place (rack_of wave) c.loop-i.i r in
     let then : ℕ = limit + in_place (rack_of wave) (c.loop-i.i + 1) r in
-    let next : c.loop-i.i + 1 ≡ suc c.loop-i.i = omega arith in
-    let count = ap (λ (n : ℕ). in_place (rack_of wave) n r) next in
     let row = feeds wave c.requires.tree r c.requires.rack in
     elim c.if-takes_from.branch [
       | then-takes_from+in_ok-add w ↦ rw w.network-is
@@ -63,10 +61,7 @@ returns c =
     let limit : ℕ = branch_arcs wave + in_places (rack_of wave) workers r in
     let count = c.workers-i-end.ensures.count in
     let end : c.loop-i.i ≡ length wave.workers = omega arith in
-    let next : r + 1 ≡ suc r = omega arith in
-    let whole : in_places (rack_of wave) workers (r + 1)
-    ≡ in_places (rack_of wave) workers r + in_place (rack_of wave) workers r =
-    ap (in_places (rack_of wave) workers) next ∙ places_more (rack_of wave) r workers in
+    let whole = places_more (rack_of wave) r workers in
     record {
       built = row_close (feeds wave c.requires.tree r c.requires.rack) (rack_node wave (r + 1))
           (limit + in_place (rack_of wave) workers r)
