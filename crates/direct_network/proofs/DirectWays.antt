@@ -30,9 +30,7 @@ module _ (wave : Wave) (arcs : List FlowArc) (direct : IsDirect wave arcs) where
   pair_at w known (Pair s v) want to =
       let same : v ≡ w = omega arith in
       (s, subst (IsAdmissible wave s) same want, ap (λ (x : ℕ). arc_of wave (Pair s x)) same)
-  pair_at w known (Wait s) want to = absurd (omega arith)
-  pair_at w known (Slot v) want to = absurd (omega arith)
-  pair_at w known Rest want to = absurd (omega arith)
+  pair_at w known _ want to = absurd (omega arith)
 
   own_pair : (k w : ℕ) → k < length arcs → w < length wave.workers
       → (arc_at arcs k).to ≡ worker_node wave w
@@ -45,15 +43,12 @@ module _ (wave : Wave) (arcs : List FlowArc) (direct : IsDirect wave arcs) where
       → ((arc_of wave d).from < length wave.splits) × ((arc_of wave d).cost ≡ reward wave)
   waiting (Pair s w) want to = absurd (let known = live_known wave w want.live in omega arith)
   waiting (Wait s) want to = (pending_known wave s want, refl)
-  waiting (Slot w) want to = absurd (omega arith)
-  waiting Rest want to = absurd (omega arith)
+  waiting _ want to = absurd (omega arith)
 
   -- no arc leads to a split
   no_split : (d : DirectArc) → IsWanted wave d → length wave.splits ≤ (arc_of wave d).to
   no_split (Pair s w) want = omega arith
-  no_split (Wait s) want = omega arith
-  no_split (Slot w) want = omega arith
-  no_split Rest want = omega arith
+  no_split _ want = omega arith
 
   is_sound : (s w k : ℕ) → IsUsable wave w → k < length arcs → (arc_at arcs k).from ≡ s
       → IsAmong (arc_at arcs k).to (way_of (direct_nodes wave) w)
@@ -99,8 +94,7 @@ module _ (wave : Wave) (arcs : List FlowArc) (direct : IsDirect wave arcs) where
       → (arc_of wave d).cost ≡ 0
   is_free (Pair s w) want past = absurd (let known = pending_known wave s want.pending in omega arith)
   is_free (Wait s) want past = absurd (let known = pending_known wave s want in omega arith)
-  is_free (Slot w) want past = refl
-  is_free Rest want past = refl
+  is_free _ want past = refl
 
   pub wave_network : IsWaveNetwork wave (direct_nodes wave) arcs
   wave_network = record {
@@ -136,8 +130,7 @@ module _ (wave : Wave) (arcs : List FlowArc) (direct : IsDirect wave arcs) where
   is_onward : (d : DirectArc) → IsWanted wave d → (arc_of wave d).from < (arc_of wave d).to
   is_onward (Pair s w) want = let known = pending_known wave s want.pending in omega arith
   is_onward (Wait s) want = let known = pending_known wave s want in omega arith
-  is_onward (Slot w) want = omega arith
-  is_onward Rest want = omega arith
+  is_onward _ want = omega arith
 
   -- what each arc leaves, and what it enters
   leaving : (d : DirectArc) → IsWanted wave d → Leaves wave (length wave.splits) (arc_of wave d)

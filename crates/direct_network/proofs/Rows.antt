@@ -25,16 +25,13 @@ module _ (wave : Wave) where
           → (w : ℕ) × IsAdmissible wave s w × (e ≡ Pair s w)
       only (Pair q w) want from high =
           (w, subst (λ (z : ℕ). IsAdmissible wave z w) from want, ap (λ (z : ℕ). Pair z w) from)
-      only (Wait q) want from high = absurd (omega arith)
-      only (Slot w) want from high = absurd (omega arith)
-      only Rest want from high = absurd (omega arith)
+      only _ want from high = absurd (omega arith)
 
   waits : (s : ℕ) → s < length wave.splits → (e : DirectArc) → IsWanted wave e → (arc_of wave e).from ≡ s
       → unstarted_node wave ≤ (arc_of wave e).to → e ≡ Wait s
   waits s split (Pair q w) want from low = absurd (let known = live_known wave w want.live in omega arith)
   waits s split (Wait q) want from low = ap Wait from
-  waits s split (Slot w) want from low = absurd (omega arith)
-  waits s split Rest want from low = absurd (omega arith)
+  waits s split _ want from low = absurd (omega arith)
 
   pub wait_step : (s limit next : ℕ) (old new : Flow DirectLayout) → limit < next → s < length wave.splits
       → (split_at wave s).pending ≡ true

@@ -59,26 +59,20 @@ module _ (wave : Wave) (arcs : List FlowArc) (network : IsRackNetwork wave arcs)
       → FromAbove (rack_node wave (rack_of wave w)) (arc_of wave d)
   to_worker w k (Pair s v) d t = inl (pending_known wave s d.0.pending)
   to_worker w k (Reach s level h) d t = inl (pending_known wave s d.pending)
-  to_worker w k (Wait s) d t = absurd (omega arith)
   to_worker w k (Trunk c) d t = absurd (let known = d.1 in omega arith)
-  to_worker w k (Branch r) d t = absurd (omega arith)
   to_worker w k (Feed v) d t =
       inr (ap (λ (x : ℕ). rack_node wave (rack_of wave x)) (let same : v ≡ w = omega arith in same), refl)
-  to_worker w k (Slot v) d t = absurd (omega arith)
-  to_worker w k Rest d t = absurd (omega arith)
+  to_worker w k _ d t = absurd (omega arith)
 
   to_rack : (r : ℕ) → r < length wave.tree.centre_of → (d : RackArc) → IsWanted wave d
       → (arc_of wave d).to ≡ rack_node wave r
       → FromAbove (centre_node wave (centre_of wave r)) (arc_of wave d)
   to_rack r k (Pair s v) d t = inl (pending_known wave s d.0.pending)
   to_rack r k (Reach s level h) d t = inl (pending_known wave s d.pending)
-  to_rack r k (Wait s) d t = absurd (omega arith)
   to_rack r k (Trunk c) d t = absurd (let known = d.1 in omega arith)
   to_rack r k (Branch q) d t =
       inr (ap (λ (x : ℕ). centre_node wave (centre_of wave x)) (let same : q ≡ r = omega arith in same), refl)
-  to_rack r k (Feed v) d t = absurd (omega arith)
-  to_rack r k (Slot v) d t = absurd (omega arith)
-  to_rack r k Rest d t = absurd (omega arith)
+  to_rack r k _ d t = absurd (omega arith)
 
   abbrev FromTop : FlowArc → Type 0
   FromTop a = (a.from < length wave.splits)
@@ -88,12 +82,8 @@ module _ (wave : Wave) (arcs : List FlowArc) (network : IsRackNetwork wave arcs)
       → (arc_of wave d).to ≡ centre_node wave c → FromTop (arc_of wave d)
   to_centre c k (Pair s v) d t = inl (pending_known wave s d.0.pending)
   to_centre c k (Reach s level h) d t = inl (pending_known wave s d.pending)
-  to_centre c k (Wait s) d t = absurd (omega arith)
   to_centre c k (Trunk q) d t = inr (d.0, refl, refl)
-  to_centre c k (Branch r) d t = absurd (omega arith)
-  to_centre c k (Feed v) d t = absurd (omega arith)
-  to_centre c k (Slot v) d t = absurd (omega arith)
-  to_centre c k Rest d t = absurd (omega arith)
+  to_centre c k _ d t = absurd (omega arith)
 
   own_centre : (c : ℕ) → c < wave.tree.centres → (k : ℕ) → k < length arcs
       → (arc_at arcs k).to ≡ centre_node wave c → FromTop (arc_at arcs k)
@@ -108,8 +98,7 @@ module _ (wave : Wave) (arcs : List FlowArc) (network : IsRackNetwork wave arcs)
   to_cluster many (Trunk c) d t = absurd (let one = one_cluster wave.tree.centres many in omega arith)
   to_cluster many (Branch r) d t = absurd (let one = one_cluster wave.tree.centres many in omega arith)
   to_cluster many (Feed v) d t = absurd (let one = one_cluster wave.tree.centres many in omega arith)
-  to_cluster many (Slot v) d t = absurd (omega arith)
-  to_cluster many Rest d t = absurd (omega arith)
+  to_cluster many _ d t = absurd (omega arith)
 
   -- only splits lead to the node of those that are not started
   to_unstarted : (d : RackArc) → IsWanted wave d → (arc_of wave d).to ≡ unstarted_node wave
@@ -119,21 +108,13 @@ module _ (wave : Wave) (arcs : List FlowArc) (network : IsRackNetwork wave arcs)
       absurd (let below = (reach_in wave network.tree s level h d).1 in omega arith)
   to_unstarted (Wait s) d t = (pending_known wave s d, refl)
   to_unstarted (Trunk c) d t = absurd (let known = d.1 in omega arith)
-  to_unstarted (Branch r) d t = absurd (omega arith)
   to_unstarted (Feed v) d t = absurd (let known = live_known wave v d.0 in omega arith)
-  to_unstarted (Slot v) d t = absurd (omega arith)
-  to_unstarted Rest d t = absurd (omega arith)
+  to_unstarted _ d t = absurd (omega arith)
 
   -- no arc leads to a split
   no_split : (d : RackArc) → IsWanted wave d → length wave.splits ≤ (arc_of wave d).to
-  no_split (Pair s v) d = omega arith
   no_split (Reach s level h) d = (reach_in wave network.tree s level h d).0
-  no_split (Wait s) d = omega arith
-  no_split (Trunk c) d = omega arith
-  no_split (Branch r) d = omega arith
-  no_split (Feed v) d = omega arith
-  no_split (Slot v) d = omega arith
-  no_split Rest d = omega arith
+  no_split _ d = omega arith
 
   -- a worker to which an arc leads is usable
   usable_there : (w : ℕ) → w < length wave.workers → (d : RackArc) → IsWanted wave d
@@ -150,12 +131,9 @@ module _ (wave : Wave) (arcs : List FlowArc) (network : IsRackNetwork wave arcs)
       ap (λ (m : ℕ). node_above wave m h) zero_level ∙ t in
       subst (IsUsable wave) (let same : h ≡ w = omega arith in same)
       (holder_live wave s h d.holder, d.has_slot (sym zero_level))
-  usable_there w k (Wait s) d t = absurd (omega arith)
   usable_there w k (Trunk c) d t = absurd (let known = d.1 in omega arith)
-  usable_there w k (Branch r) d t = absurd (omega arith)
   usable_there w k (Feed v) d t = subst (IsUsable wave) (let same : v ≡ w = omega arith in same) d
-  usable_there w k (Slot v) d t = absurd (omega arith)
-  usable_there w k Rest d t = absurd (omega arith)
+  usable_there w k _ d t = absurd (omega arith)
 
   -- an arc of a split to a node of a worker's way
   abbrev IsSound : ℕ → ℕ → FlowArc → Type 0
@@ -194,11 +172,7 @@ module _ (wave : Wave) (arcs : List FlowArc) (network : IsRackNetwork wave arcs)
   is_sound s w k u (Wait t) d split among =
       absurd (let below = (among_in wave network.tree (unstarted_node wave) w (live_known wave w u.0) among).1
       in omega arith)
-  is_sound s w k u (Trunk c) d split among = absurd (omega arith)
-  is_sound s w k u (Branch r) d split among = absurd (omega arith)
-  is_sound s w k u (Feed v) d split among = absurd (omega arith)
-  is_sound s w k u (Slot v) d split among = absurd (omega arith)
-  is_sound s w k u Rest d split among = absurd (omega arith)
+  is_sound s w k u _ d split among = absurd (omega arith)
 
   -- each arc that the network wants, by its number
   the_arc : (d : RackArc) → IsWanted wave d
@@ -400,11 +374,7 @@ module _ (wave : Wave) (arcs : List FlowArc) (network : IsRackNetwork wave arcs)
   is_free (Pair s w) want past = absurd (let split = pending_known wave s want.0.pending in omega arith)
   is_free (Reach s level h) want past = absurd (let split = pending_known wave s want.pending in omega arith)
   is_free (Wait s) want past = absurd (let split = pending_known wave s want in omega arith)
-  is_free (Trunk c) want past = refl
-  is_free (Branch r) want past = refl
-  is_free (Feed w) want past = refl
-  is_free (Slot w) want past = refl
-  is_free Rest want past = refl
+  is_free _ want past = refl
 
   pub wave_network : IsWaveNetwork wave (rack_nodes wave) arcs
   wave_network = record {

@@ -47,12 +47,7 @@ module _ (wave : Wave) (tree : IsTree wave) where
           (w, subst (λ (z : ℕ). IsAdmissible wave z w) from want.0, ap (λ (z : ℕ). Pair z w) from)
       only (Reach q level h) want from high =
           absurd (want.no_bars (subst (HasBars wave) (sym from) bars))
-      only (Wait q) want from high = absurd (omega arith)
-      only (Trunk c) want from high = absurd (omega arith)
-      only (Branch r) want from high = absurd (omega arith)
-      only (Feed w) want from high = absurd (omega arith)
-      only (Slot w) want from high = absurd (omega arith)
-      only Rest want from high = absurd (omega arith)
+      only _ want from high = absurd (omega arith)
 
   -- the row of another
   module _ (s : ℕ) (split : s < length wave.splits) (no_bars : HasBars wave s → ⊥) where
@@ -66,12 +61,7 @@ module _ (wave : Wave) (tree : IsTree wave) where
       subst (λ (z : ℕ). IsReach wave z level h) from want,
       ap (λ (z : ℕ). arc_of wave (Reach z level h)) from,
     )
-    reaches (Wait q) want from high = absurd (omega arith)
-    reaches (Trunk c) want from high = absurd (omega arith)
-    reaches (Branch r) want from high = absurd (omega arith)
-    reaches (Feed w) want from high = absurd (omega arith)
-    reaches (Slot w) want from high = absurd (omega arith)
-    reaches Rest want from high = absurd (omega arith)
+    reaches _ want from high = absurd (omega arith)
 
     pub to_reaches : (limit next : ℕ) (network : Flow RackLayout) → limit ≤ next → Built s 0 limit network
         → Built s (cluster_node wave) next network
@@ -143,11 +133,7 @@ module _ (wave : Wave) (tree : IsTree wave) where
       only (Reach q level h) want from low =
           absurd (let below = (reach_in wave tree q level h want).1 in omega arith)
       only (Wait q) want from low = ap (λ (z : ℕ). arc_of wave (Wait z)) from
-      only (Trunk c) want from low = absurd (omega arith)
-      only (Branch r) want from low = absurd (omega arith)
-      only (Feed w) want from low = absurd (omega arith)
-      only (Slot w) want from low = absurd (omega arith)
-      only Rest want from low = absurd (omega arith)
+      only _ want from low = absurd (omega arith)
 
   -- the row of a split that is not pending
   pub idle_row : (s limit next : ℕ) (network : Flow RackLayout) → limit ≤ next → s < length wave.splits
@@ -161,11 +147,7 @@ module _ (wave : Wave) (tree : IsTree wave) where
       none (Pair q w) want from low = never q from want.0.pending
       none (Reach q level h) want from low = never q from want.pending
       none (Wait q) want from low = never q from want
-      none (Trunk c) want from low = omega arith
-      none (Branch r) want from low = omega arith
-      none (Feed w) want from low = omega arith
-      none (Slot w) want from low = omega arith
-      none Rest want from low = omega arith
+      none _ want from low = omega arith
 
   -- the row of the cluster, where there are several centres
   module _ (several : 1 < wave.tree.centres) where
@@ -204,9 +186,7 @@ module _ (wave : Wave) (tree : IsTree wave) where
     own_branch (Wait q) want from = absurd (let split = pending_known wave q want in omega arith)
     own_branch (Trunk q) want from = absurd (let one = one_cluster wave.tree.centres want.0 in omega arith)
     own_branch (Branch r) want from = (r, (want, omega arith), refl)
-    own_branch (Feed w) want from = absurd (omega arith)
-    own_branch (Slot w) want from = absurd (omega arith)
-    own_branch Rest want from = absurd (omega arith)
+    own_branch _ want from = absurd (omega arith)
 
     pub branches : Row (centre_node wave c) (first_rack wave) (length wave.tree.centre_of) Branch
         (λ r. (r < length wave.tree.centre_of) × (centre_of wave r ≡ c))
@@ -229,11 +209,9 @@ module _ (wave : Wave) (tree : IsTree wave) where
     own_feed (Reach q level h) want from =
         absurd (let split = pending_known wave q want.pending in omega arith)
     own_feed (Wait q) want from = absurd (let split = pending_known wave q want in omega arith)
-    own_feed (Trunk c) want from = absurd (omega arith)
     own_feed (Branch q) want from = absurd (let centre = tree.centres q want in omega arith)
     own_feed (Feed w) want from = (w, (want, omega arith), refl)
-    own_feed (Slot w) want from = absurd (omega arith)
-    own_feed Rest want from = absurd (omega arith)
+    own_feed _ want from = absurd (omega arith)
 
     pub feeds : Row (rack_node wave r) (first_worker wave) (length wave.workers) Feed
         (λ w. IsUsable wave w × (rack_of wave w ≡ r))
@@ -257,12 +235,11 @@ module _ (wave : Wave) (tree : IsTree wave) where
   own_slot j known (Reach q level h) want from =
       absurd (let split = pending_known wave q want.pending in omega arith)
   own_slot j known (Wait q) want from = absurd (let split = pending_known wave q want in omega arith)
-  own_slot j known (Trunk c) want from = absurd (omega arith)
   own_slot j known (Branch r) want from = absurd (let centre = tree.centres r want in omega arith)
   own_slot j known (Feed v) want from =
       absurd (let rack = tree.racks v (live_known wave v want.0) in omega arith)
   own_slot j known (Slot v) want from = ap Slot (let is : v ≡ j = omega arith in is)
-  own_slot j known Rest want from = absurd (omega arith)
+  own_slot j known _ want from = absurd (omega arith)
 
   pub slot_step : (j w limit next : ℕ) (old new : Flow RackLayout) → w ≡ j → limit < next
       → w < length wave.workers
@@ -278,11 +255,10 @@ module _ (wave : Wave) (tree : IsTree wave) where
   before_rest (Pair q w) want = let known = pending_known wave q want.0.pending in inl (omega arith)
   before_rest (Reach q level h) want = let known = pending_known wave q want.pending in inl (omega arith)
   before_rest (Wait q) want = let known = pending_known wave q want in inl (omega arith)
-  before_rest (Trunk c) want = inl (omega arith)
   before_rest (Branch r) want = let centre = tree.centres r want in inl (omega arith)
   before_rest (Feed w) want = let rack = tree.racks w (live_known wave w want.0) in inl (omega arith)
-  before_rest (Slot w) want = inl (omega arith)
   before_rest Rest want = inr refl
+  before_rest _ want = inl (omega arith)
 
   pub all_arcs : (limit next : ℕ) (old new : Flow RackLayout) → limit < next
       → Built (unstarted_node wave) 0 limit old → IsAdded (arc_of wave Rest) old new
