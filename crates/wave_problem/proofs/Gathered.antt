@@ -17,14 +17,10 @@ use Rattle.wave_problem.specs.SplitCosts.{Shows}
 use Rattle.wave_problem.specs.Sums.{least}
 use Rattle.wave_problem.specs.declared.split_costs.LiveHolders.{LiveHolders}
 
-or_false : (a b : Bool) → (a || (b || false)) ≡ (a || b)
-or_false true b = refl
-or_false false true = refl
-or_false false false = refl
-
 -- a test of one element more
 list_any-push : (p : ℕ → Bool) (xs : List ℕ) (x : ℕ) → list_any p (xs ++ x ∷ []) ≡ (list_any p xs || p x)
-list_any-push p xs x = list_any-append p xs (x ∷ []) ∙ or_false (list_any p xs) (p x)
+list_any-push p xs x =
+    list_any-append p xs (x ∷ []) ∙ ap (λ (b : Bool). list_any p xs || b) (or-false (p x))
 
 -- a set of numbers after one was put
 pub put_more : (old new live : List ℕ) (x : ℕ) → ((n : ℕ) → Has new n ↔ ((n ≡ x) ⊎ Has old n)) →
@@ -136,5 +132,6 @@ pub least_shown : (tree : Tree) (w rack centre : ℕ) (live : List ℕ) (tables 
     get_or tables.centres centre false ≡ centres →
     Some (steps_by one racks centres) ≡ least (map (λ h. distance tree h w) live)
 least_shown tree w rack centre live tables one racks centres some shown here there r c own near by =
-    sym (least_near tree w live some ∙ ap Some (steps_shown tree w rack centre live one racks centres here there
+    sym (least_near tree w live some
+    ∙ ap Some (steps_shown tree w rack centre live one racks centres here there
     (sym own ∙ shown.workers w) (sym near ∙ shown.racks rack r) (sym by ∙ shown.centres centre c)))
