@@ -7,10 +7,9 @@ use Rattle.flow_network.specs.Laws.{outroom}
 use Rattle.wave_problem.specs.Wave.{Wave, IsAdmissible, worker_at, cost, reward, IsUsable}
 use Rattle.wave_problem.proofs.Bound.{live_known, pending_known}
 use Rattle.network_prices.specs.Ways.{IsAmong}
-use Rattle.network_prices.specs.Networks.{way_of, IsArcFrom, IsOffer, IsWaveNetwork}
+use Rattle.network_prices.specs.Networks.{way_of, IsOffer, IsWaveNetwork}
 use Rattle.network_prices.specs.Layers.{Leaves, Enters, IsLayered}
-use Rattle.network_prices.proofs.Arcs.{arc_standing}
-use Rattle.network_prices.proofs.Tables.{each_arc, outroom-one, rising_ends}
+use Rattle.network_prices.proofs.Tables.{each_arc, the_arc, outroom-one, rising_ends}
 use Rattle.direct_network.specs.declared.arcs.DirectArc.{DirectArc}
 use Rattle.direct_network.specs.declared.arcs.DirectArc.TheVariants.{Pair, Wait, Slot, Rest}
 use Rattle.direct_network.specs.Direct.{arc_of, direct_nodes, worker_node, unstarted_node, sink_node}
@@ -18,11 +17,6 @@ use Rattle.direct_network.specs.Direct.{IsDirect, IsWanted}
 use Rattle.direct_network.proofs.Rows.{own_slot}
 
 module _ (wave : Wave) (arcs : List FlowArc) (direct : IsDirect wave arcs) where
-  the_arc : (d : DirectArc) → IsWanted wave d
-      → (k : ℕ) × IsArcFrom arcs k (arc_of wave d).from (arc_of wave d).to (arc_of wave d).capacity
-      (arc_of wave d).cost
-  the_arc d wanted = arc_standing arcs (arc_of wave d) (direct.complete d wanted)
-
   -- the pair whose arc enters a worker
   pair_at : (w : ℕ) → w < length wave.workers → (d : DirectArc) → IsWanted wave d
       → (arc_of wave d).to ≡ worker_node wave w
@@ -65,7 +59,7 @@ module _ (wave : Wave) (arcs : List FlowArc) (direct : IsDirect wave arcs) where
   is_complete : (s w : ℕ) → IsAdmissible wave s w →
       (k : ℕ) × IsOffer arcs s (way_of (direct_nodes wave) w) (unwrap_or (cost wave s w) 0) k
   is_complete s w may =
-      let f = the_arc (Pair s w) may in
+      let f = the_arc direct (Pair s w) may in
       let arc = f.1 in (
         f.0,
         record {
@@ -80,7 +74,7 @@ module _ (wave : Wave) (arcs : List FlowArc) (direct : IsDirect wave arcs) where
   -- a worker is left by its one arc
   slot_room : (w : ℕ) → w < length wave.workers → outroom arcs (worker_node wave w) ≡ (worker_at wave w).free
   slot_room w known =
-      let f = the_arc (Slot w) known in
+      let f = the_arc direct (Slot w) known in
       let slot = f.1 in
       outroom-one arcs (worker_node wave w) (sink_node wave) (worker_at wave w).free direct.rising
       (each_arc direct (λ a. a.from ≡ worker_node wave w
@@ -112,13 +106,13 @@ module _ (wave : Wave) (arcs : List FlowArc) (direct : IsDirect wave arcs) where
     own = λ v w e. omega arith;
     sound = λ s w k known u l from among. is_sound s w k u l from among;
     complete = is_complete;
-    wait = λ s p. the_arc (Wait s) p;
+    wait = λ s p. the_arc direct (Wait s) p;
     waiting = each_arc direct (λ a. a.to ≡ unstarted_node wave
         → (a.from < length wave.splits) × (a.cost ≡ reward wave)) waiting;
-    rest = (let f = the_arc Rest tt in (f.0, (arc_of wave Rest).capacity, f.1, omega arith));
+    rest = (let f = the_arc direct Rest tt in (f.0, (arc_of wave Rest).capacity, f.1, omega arith));
     apart = apart_from;
     rest_inner = record { no_source = omega arith; no_sink = λ e. omega arith };
-    slot = λ w u. the_arc (Slot w) (live_known wave w u.0);
+    slot = λ w u. the_arc direct (Slot w) (live_known wave w u.0);
     slots = λ w u. slot_room w (live_known wave w u.0);
   }
     where

@@ -9,10 +9,11 @@ use Rattle.flow_network.specs.Flows.{arc_at}
 use Rattle.flow_network.specs.Laws.{outroom}
 use Rattle.wave_problem.specs.Sums.{sum_below}
 use Rattle.wave_problem.proofs.Grouping.{sum_below-add, sum_below-one, sum_below-same, sum_below-zero}
-use Rattle.network_prices.specs.Networks.{HasArc}
+use Rattle.network_prices.specs.Networks.{HasArc, IsArcFrom}
 use Rattle.network_prices.specs.Building.{IsAdded}
 use Rattle.network_prices.specs.Tables.{IsBefore, AreRisingArcs, AreRows, AreRowsTo, IsBuiltTo}
-use Rattle.network_prices.proofs.Arcs.{at_old, at_new, stands_on, stands_new, each_push, add_empty, more_room}
+use Rattle.network_prices.proofs.Arcs.{arc_standing, at_old, at_new, stands_on, stands_new, each_push}
+use Rattle.network_prices.proofs.Arcs.{add_empty, more_room}
 
 -- the place u, x is no later than v, y
 abbrev pub NoLater : ℕ → ℕ → ℕ → ℕ → Type 0
@@ -136,6 +137,12 @@ pub each_arc : {D : Type 0} {wanted : D → Type 0} {arc : D → FlowArc} {arcs 
     → AreRows wanted arc arcs → (P : FlowArc → Type 0) → ((d : D) → wanted d → P (arc d))
     → (k : ℕ) → k < length arcs → P (arc_at arcs k)
 each_arc rows P each k l = let d = rows.sound k l in subst P (sym d.2) (each d.0 d.1)
+
+-- each arc that the table has stands in the list, by its number
+pub the_arc : {D : Type 0} {wanted : D → Type 0} {arc : D → FlowArc} {arcs : List FlowArc}
+    → AreRows wanted arc arcs → (d : D) → wanted d
+    → (k : ℕ) × IsArcFrom arcs k (arc d).from (arc d).to (arc d).capacity (arc d).cost
+the_arc {D} {wanted} {arc} {arcs} rows d want = arc_standing arcs (arc d) (rows.complete d want)
 
 -- where each arc leads to a later node, none leads to a start before it
 pub rising_ends : (arcs : List FlowArc) → AreRisingArcs arcs

@@ -10,9 +10,8 @@ use Rattle.flow_network.specs.Laws.{outroom}
 use Rattle.wave_problem.specs.Wave.{Wave, IsAdmissible, split_at, worker_at, cost, reward, IsUsable}
 use Rattle.wave_problem.proofs.Bound.{pending_known, live_known}
 use Rattle.network_prices.specs.Ways.{IsAmong, IsFed, IsInner, IsWay}
-use Rattle.network_prices.specs.Networks.{way_of, IsArcFrom, IsOffer, IsWaveNetwork}
-use Rattle.network_prices.proofs.Arcs.{arc_standing}
-use Rattle.network_prices.proofs.Tables.{each_arc, outroom-one}
+use Rattle.network_prices.specs.Networks.{way_of, IsOffer, IsWaveNetwork}
+use Rattle.network_prices.proofs.Tables.{each_arc, the_arc, outroom-one}
 use Rattle.network_prices.proofs.Rows.{outroom-row}
 use Rattle.rack_network.specs.declared.arcs.RackArc.{RackArc}
 use Rattle.rack_network.specs.declared.arcs.RackArc.TheVariants.{Pair, Reach, Wait, Trunk, Branch, Feed, Slot}
@@ -95,10 +94,7 @@ module _ (wave : Wave) (arcs : List FlowArc) (network : IsRackNetwork wave arcs)
   to_cluster many (Pair s v) d t = pending_known wave s d.0.pending
   to_cluster many (Reach s level h) d t = pending_known wave s d.pending
   to_cluster many (Wait s) d t = pending_known wave s d
-  to_cluster many (Trunk c) d t = absurd (let one = one_cluster wave.tree.centres many in omega arith)
-  to_cluster many (Branch r) d t = absurd (let one = one_cluster wave.tree.centres many in omega arith)
-  to_cluster many (Feed v) d t = absurd (let one = one_cluster wave.tree.centres many in omega arith)
-  to_cluster many _ d t = absurd (omega arith)
+  to_cluster many _ d t = absurd (let one = one_cluster wave.tree.centres many in omega arith)
 
   -- only splits lead to the node of those that are not started
   to_unstarted : (d : RackArc) → IsWanted wave d → (arc_of wave d).to ≡ unstarted_node wave
@@ -174,17 +170,11 @@ module _ (wave : Wave) (arcs : List FlowArc) (network : IsRackNetwork wave arcs)
       in omega arith)
   is_sound s w k u _ d split among = absurd (omega arith)
 
-  -- each arc that the network wants, by its number
-  the_arc : (d : RackArc) → IsWanted wave d
-      → (k : ℕ) × IsArcFrom arcs k (arc_of wave d).from (arc_of wave d).to (arc_of wave d).capacity
-      (arc_of wave d).cost
-  the_arc d wanted = arc_standing arcs (arc_of wave d) (network.rows.complete d wanted)
-
   -- a worker is left by its one arc
   worker_room : (w : ℕ) → w < length wave.workers
       → outroom arcs (worker_node wave w) ≡ (worker_at wave w).free
   worker_room w known =
-      let f = the_arc (Slot w) known in
+      let f = the_arc network.rows (Slot w) known in
       let slot = f.1 in
       outroom-one arcs (worker_node wave w) (sink_node wave) (worker_at wave w).free network.rows.rising
       (each_arc network.rows (λ a. a.from ≡ worker_node wave w
@@ -249,7 +239,7 @@ module _ (wave : Wave) (arcs : List FlowArc) (network : IsRackNetwork wave arcs)
       → FromAbove (arc_of wave d).from (arc_at arcs k))
       → IsFed arcs (length wave.splits) (arc_of wave d).from (arc_of wave d).to
   fed d want free room inner entered =
-      let f = the_arc d want in let arc = f.1 in
+      let f = the_arc network.rows d want in let arc = f.1 in
       record {
         feed = f.0;
         listed = arc.listed;
@@ -323,7 +313,7 @@ module _ (wave : Wave) (arcs : List FlowArc) (network : IsRackNetwork wave arcs)
       → (k : ℕ) × IsOffer arcs s (way_of (rack_nodes wave) w) (unwrap_or (cost wave s w) 0) k
   is_complete s w a = elim (bars_or_not wave s) [
     | inl b ↦
-        (let f = the_arc (Pair s w) (a, b) in let arc = f.1 in (
+        (let f = the_arc network.rows (Pair s w) (a, b) in let arc = f.1 in (
           f.0,
           record {
             listed = arc.listed;
@@ -341,7 +331,7 @@ module _ (wave : Wave) (arcs : List FlowArc) (network : IsRackNetwork wave arcs)
         let level = meet.0 in
         let above = same_above wave network.tree level h w (four_levels wave network.tree level meet.1) meet.2
         in
-        let f = the_arc (Reach s level h) (record {
+        let f = the_arc network.rows (Reach s level h) (record {
           pending = a.pending;
           no_bars = n;
           known = meet.1;
@@ -388,13 +378,13 @@ module _ (wave : Wave) (arcs : List FlowArc) (network : IsRackNetwork wave arcs)
     own = λ v w e. omega arith;
     sound = λ s w k known u. each_arc network.rows (IsSound s w) (is_sound s w known u) k;
     complete = is_complete;
-    wait = λ s p. the_arc (Wait s) p;
+    wait = λ s p. the_arc network.rows (Wait s) p;
     waiting = each_arc network.rows (λ a. a.to ≡ unstarted_node wave
         → (a.from < length wave.splits) × (a.cost ≡ reward wave)) to_unstarted;
-    rest = (let f = the_arc Rest tt in (f.0, (arc_of wave Rest).capacity, f.1, omega arith));
+    rest = (let f = the_arc network.rows Rest tt in (f.0, (arc_of wave Rest).capacity, f.1, omega arith));
     apart = λ w u among. (let below =
         (among_in wave network.tree (unstarted_node wave) w (live_known wave w u.0) among).1 in omega arith);
     rest_inner = record { no_source = omega arith; no_sink = λ e. omega arith };
-    slot = λ w u. the_arc (Slot w) (live_known wave w u.0);
+    slot = λ w u. the_arc network.rows (Slot w) (live_known wave w u.0);
     slots = λ w u. worker_room w (live_known wave w u.0);
   }

@@ -158,10 +158,7 @@ module _ (wave : Wave) (tree : IsTree wave) where
         absurd (let split = pending_known wave q want.pending in omega arith)
     own_trunk (Wait q) want from = absurd (let split = pending_known wave q want in omega arith)
     own_trunk (Trunk c) want from = (c, want.1, refl)
-    own_trunk (Branch r) want from = absurd (let one = one_cluster wave.tree.centres several in omega arith)
-    own_trunk (Feed w) want from = absurd (let one = one_cluster wave.tree.centres several in omega arith)
-    own_trunk (Slot w) want from = absurd (let one = one_cluster wave.tree.centres several in omega arith)
-    own_trunk Rest want from = absurd (let one = one_cluster wave.tree.centres several in omega arith)
+    own_trunk _ want from = absurd (let one = one_cluster wave.tree.centres several in omega arith)
 
     pub trunks : Row (cluster_node wave) (first_centre wave) wave.tree.centres Trunk
         (λ c. c < wave.tree.centres)
