@@ -281,13 +281,6 @@ fn build_prices(
     Ok(Prices::from_lists(split_prices, worker_prices))
 }
 
-/// The name of a number, empty where the table has no such number.
-pub(crate) fn name_at<'t>(names: &NameTable<'t>, number: usize) -> &'t str
-    ensures { result.now ≡ slice_index_or names.now number [] }
-{
-    names.name(number).unwrap_or("")
-}
-
 /// The number of a name that the table has.
 pub fn number_of(names: &NameTable<'_>, name: &str) -> usize
     requires { Contains names.now name.now }
@@ -566,7 +559,7 @@ fn build_starts(
 {
     let mut starts = Vec::new(alloc);
     for number in 0..splits.len() {
-        starts.push(start_of(workers, started, rows, name_at(splits, number)))?;
+        starts.push(start_of(workers, started, rows, splits.name_or_empty(number)))?;
     }
     Ok(starts)
 }
@@ -600,7 +593,7 @@ fn prices_of(
 {
     let mut prices = Vec::new(alloc);
     for number in 0..table.len() {
-        prices.push(price_of(priced, rows, name_at(table, number)))?;
+        prices.push(price_of(priced, rows, table.name_or_empty(number)))?;
     }
     Ok(prices)
 }

@@ -1,7 +1,6 @@
 ghost use Rattle.std.specs.Prelude.{◌≡◌, IfOk, string_bytes};
 ghost use Rattle.plan_text.specs.Report.{certified_line, refused_at, refused_at_pair, refused_line};
 
-use crate::built::name_at;
 use price_certificate::Condition;
 use std::alloc::{AllocError, Global};
 use text_lines::NameTable;
@@ -23,30 +22,30 @@ pub fn refused(
     ensures { IfOk result (λ line. string_bytes line ≡ refused_line splits.now workers.now condition) }
 {
     match condition {
-        Condition::Open(s) => refusal(alloc, 1, name_at(splits, s.index())),
+        Condition::Open(s) => refusal(alloc, 1, splits.name_or_empty(s.index())),
         Condition::Allowed(s, w) => refusal_of_pair(
             alloc,
             2,
-            name_at(splits, s.index()),
-            name_at(workers, w.index()),
+            splits.name_or_empty(s.index()),
+            workers.name_or_empty(w.index()),
         ),
-        Condition::Room(w) => refusal(alloc, 3, name_at(workers, w.index())),
-        Condition::SplitPrice(s) => refusal(alloc, 4, name_at(splits, s.index())),
-        Condition::WorkerPrice(w) => refusal(alloc, 4, name_at(workers, w.index())),
+        Condition::Room(w) => refusal(alloc, 3, workers.name_or_empty(w.index())),
+        Condition::SplitPrice(s) => refusal(alloc, 4, splits.name_or_empty(s.index())),
+        Condition::WorkerPrice(w) => refusal(alloc, 4, workers.name_or_empty(w.index())),
         Condition::Priced(s, w) => refusal_of_pair(
             alloc,
             5,
-            name_at(splits, s.index()),
-            name_at(workers, w.index()),
+            splits.name_or_empty(s.index()),
+            workers.name_or_empty(w.index()),
         ),
         Condition::Tight(s, w) => refusal_of_pair(
             alloc,
             6,
-            name_at(splits, s.index()),
-            name_at(workers, w.index()),
+            splits.name_or_empty(s.index()),
+            workers.name_or_empty(w.index()),
         ),
-        Condition::Unstarted(s) => refusal(alloc, 7, name_at(splits, s.index())),
-        Condition::Spare(w) => refusal(alloc, 8, name_at(workers, w.index())),
+        Condition::Unstarted(s) => refusal(alloc, 7, splits.name_or_empty(s.index())),
+        Condition::Spare(w) => refusal(alloc, 8, workers.name_or_empty(w.index())),
     }
 }
 

@@ -4,7 +4,6 @@ ghost use Rattle.rack_tree.specs.declared.TheConstants.{MAX_WORKERS};
 ghost use Rattle.plan_text.specs.Report.{price_line, price_lines, price_lines_of, start_line, start_lines};
 ghost use Rattle.plan_text.specs.Report.{wave_line};
 
-use crate::built::name_at;
 use node_ids::{SplitNo, WorkerNo};
 use price_certificate::Prices;
 use std::alloc::{AllocError, Global};
@@ -67,7 +66,7 @@ fn add_starts(
 {
     for number in 0..plan.splits() {
         let start = plan.of(SplitNo::new(number as u16));
-        add_start(lines, name_at(splits, number), workers, start)?;
+        add_start(lines, splits.name_or_empty(number), workers, start)?;
     }
     Ok(())
 }
@@ -84,7 +83,7 @@ fn add_start(
 {
     match start {
         Some(worker) => {
-            let worker = name_at(workers, worker.index());
+            let worker = workers.name_or_empty(worker.index());
             write!(lines, "start {split} {worker}\n")
         }
         None => Ok(()),
@@ -103,7 +102,7 @@ fn add_split_prices(
 {
     for number in 0..splits.len() {
         let price = prices.split(SplitNo::new(number as u16));
-        add_price(lines, name_at(splits, number), price)?;
+        add_price(lines, splits.name_or_empty(number), price)?;
     }
     Ok(())
 }
@@ -120,7 +119,7 @@ fn add_worker_prices(
 {
     for number in 0..workers.len() {
         let price = prices.worker(WorkerNo::new(number as u16));
-        add_price(lines, name_at(workers, number), price)?;
+        add_price(lines, workers.name_or_empty(number), price)?;
     }
     Ok(())
 }

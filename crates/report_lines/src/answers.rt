@@ -73,8 +73,8 @@ pub fn add_start(
         ≡ string_bytes lines.old ++ started_line splits.now workers.now attempt split worker) }
 {
     let attempt = attempt.index();
-    let split = name_at(splits, split.index());
-    let worker = name_at(workers, worker.index());
+    let split = splits.name_or_empty(split.index());
+    let worker = workers.name_or_empty(worker.index());
     write!(lines, "start {attempt} {split} {worker}\n")
 }
 
@@ -91,8 +91,8 @@ pub fn add_backup(
         ≡ string_bytes lines.old ++ backup_line splits.now workers.now attempt split worker) }
 {
     let attempt = attempt.index();
-    let split = name_at(splits, split.index());
-    let worker = name_at(workers, worker.index());
+    let split = splits.name_or_empty(split.index());
+    let worker = workers.name_or_empty(worker.index());
     write!(lines, "backup {attempt} {split} {worker}\n")
 }
 
@@ -109,7 +109,7 @@ pub fn add_reduce(
 {
     let attempt = attempt.index();
     let part = part.index();
-    let worker = name_at(workers, worker.index());
+    let worker = workers.name_or_empty(worker.index());
     write!(lines, "reduce {attempt} {part} {worker}\n")
 }
 
@@ -143,7 +143,7 @@ fn add_death(
     if !is_dead {
         return Ok(());
     }
-    let worker = name_at(workers, number);
+    let worker = workers.name_or_empty(number);
     write!(lines, "dead {worker}\n")
 }
 
@@ -174,15 +174,8 @@ fn add_copy(
     ensures { OnOk result (string_bytes lines.new
         ≡ string_bytes lines.old ++ copy_line splits.now workers.now order) }
 {
-    let split = name_at(splits, order.split.index());
-    let from = name_at(workers, order.from.index());
-    let to = name_at(workers, order.to.index());
+    let split = splits.name_or_empty(order.split.index());
+    let from = workers.name_or_empty(order.from.index());
+    let to = workers.name_or_empty(order.to.index());
     write!(lines, "copy {split} {from} {to}\n")
-}
-
-/// The name of a number, empty where the table has no such number.
-pub(crate) fn name_at<'t>(names: &NameTable<'t>, number: usize) -> &'t str
-    ensures { result.now ≡ name_of names.now number }
-{
-    names.name(number).unwrap_or("")
 }

@@ -2,7 +2,6 @@ ghost use Rattle.std.specs.Prelude.{◌≡◌, ◌++◌, OnOk, [], if◌then◌e
 ghost use Rattle.master_state.specs.Tests.{is_done};
 ghost use Rattle.report_lines.specs.Lines.{found_line, index_lines, open_line, stuck_lines};
 
-use crate::answers::name_at;
 use master_state::SplitState;
 use std::alloc::AllocError;
 use text_lines::NameTable;
@@ -32,7 +31,7 @@ fn add_found(lines: &mut String, documents: &NameTable<'_>, entry: &Entry) -> Re
     let word = entry.word();
     write!(lines, "word {word}")?;
     for document in entry.documents() {
-        let name = name_at(documents, document.index());
+        let name = documents.name_or_empty(document.index());
         write!(lines, " {name}")?;
     }
     write!(lines, "\n")
@@ -69,7 +68,7 @@ fn add_open(
     if !is_open {
         return Ok(());
     }
-    let split = name_at(splits, number);
+    let split = splits.name_or_empty(number);
     write!(lines, "open {split}\n")
 }
 

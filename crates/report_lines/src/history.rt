@@ -14,7 +14,7 @@ ghost use Rattle.report_lines.specs.History.{
 };
 ghost use Rattle.text_lines.specs.Texts.{name_of};
 
-use crate::answers::{add_backup, add_reduce, add_wave, name_at};
+use crate::answers::{add_backup, add_reduce, add_wave};
 use master_state::{Event, Start, Work};
 use node_ids::{AttemptNo, SplitNo, SplitSet, WorkerNo};
 use std::alloc::AllocError;
@@ -98,7 +98,7 @@ fn add_worker(
     ensures { OnOk result (string_bytes lines.new
         ≡ string_bytes lines.old ++ worker_line word.now workers.now worker) }
 {
-    let worker = name_at(workers, worker.index());
+    let worker = workers.name_or_empty(worker.index());
     write!(lines, "{word}{worker}\n")
 }
 
@@ -113,8 +113,8 @@ fn add_pair(
     ensures { OnOk result (string_bytes lines.new
         ≡ string_bytes lines.old ++ pair_line word.now splits.now workers.now split worker) }
 {
-    let split = name_at(splits, split.index());
-    let worker = name_at(workers, worker.index());
+    let split = splits.name_or_empty(split.index());
+    let worker = workers.name_or_empty(worker.index());
     write!(lines, "{word}{split} {worker}\n")
 }
 
@@ -130,7 +130,7 @@ fn add_join(
     ensures { OnOk result (string_bytes lines.new
         ≡ string_bytes lines.old ++ join_line splits.now workers.now worker set.now) }
 {
-    let worker = name_at(workers, worker.index());
+    let worker = workers.name_or_empty(worker.index());
     write!(lines, "join {worker}")?;
     for number in 0..splits.len() {
         let is_held = set.has(SplitNo::new(number as u16));
@@ -151,7 +151,7 @@ fn add_member(
     if !is_held {
         return Ok(());
     }
-    let split = name_at(splits, number);
+    let split = splits.name_or_empty(number);
     write!(lines, " {split}")
 }
 
@@ -222,10 +222,10 @@ fn add_started(
     let Some(Start { work, worker }) = start else {
         return Ok(());
     };
-    let worker = name_at(workers, worker.index());
+    let worker = workers.name_or_empty(worker.index());
     match work {
         Work::Split(split) => {
-            let split = name_at(splits, split.index());
+            let split = splits.name_or_empty(split.index());
             write!(lines, "start {attempt} {split} {worker}\n")
         }
         Work::Part(part) => {

@@ -65,6 +65,13 @@ impl<'t> NameTable<'t> {
         self.names.get_index(number).copied()
     }
 
+    /// The name of a number, empty where there is no such number.
+    pub fn name_or_empty(&self, number: usize) -> &'t str
+        ensures { result.now ≡ slice_index_or self.now number [] }
+    {
+        self.name(number).unwrap_or("")
+    }
+
     /// Declares one name more.
     pub fn declare(&mut self, name: &'t str) -> Result<(), AllocError>
         requires { ¬ Contains self.old name.now }

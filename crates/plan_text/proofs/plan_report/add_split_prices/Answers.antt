@@ -13,4 +13,4 @@ loop-number-preserved c =
     lines_more (λ i. price_line (name_of names i) (slice_index amounts i)) _ _ _ c.loop-number.number
     c.loop-number.invariant
     (c.in_ok-add_price.ensures
-    ∙ (λ i. string_bytes c.loop-number.lines ++ price_line (c.name_at.ensures i) (amount i)))
+    ∙ (λ i. string_bytes c.loop-number.lines ++ price_line (c.name_or_empty.ensures i) (amount i)))

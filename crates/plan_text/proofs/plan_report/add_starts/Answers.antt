@@ -14,4 +14,4 @@ loop-number-preserved c =
     lines_more (λ i. start_line workers (name_of splits i) (start_of starts i)) _ _ _ c.loop-number.number
     c.loop-number.invariant
     (c.in_ok-add_start.ensures
-    ∙ (λ i. string_bytes c.loop-number.lines ++ start_line workers (c.name_at.ensures i) (start i)))
+    ∙ (λ i. string_bytes c.loop-number.lines ++ start_line workers (c.name_or_empty.ensures i) (start i)))
