@@ -1,5 +1,6 @@
 -- What one unit over a path changes: rooms, lengths, balance.
-use Rattle.std.proofs.Common.{◌≡◌, ℕ, zero, suc, ◌+◌, ◌-◌, ◌*◌, ◌<◌, Bool, true, false, cond, eqb, List, [], ◌∷◌}
+use Rattle.std.proofs.Common.{◌≡◌, ℕ, zero, suc, ◌+◌, ◌-◌, ◌*◌, ◌<◌, Bool, true, false, cond, eqb, List, []}
+use Rattle.std.proofs.Common.{◌∷◌}
 use Rattle.std.proofs.Common.{length, get_or, set, refl, sym, ap, ◌∙◌, inl, inr, arith, get_or-set_same}
 use Rattle.std.proofs.Common.{get_or-set_other, length-set}
 use Rattle.std.proofs.Math.Nat.{add-mul}
@@ -7,7 +8,8 @@ use Rattle.std.proofs.lemmas.Bool.{cases_eq}
 use Rattle.flow_network.specs.declared.arcs.FlowArc.{FlowArc}
 use Rattle.flow_network.specs.declared.arcs.ArcNo.{ArcNo}
 use Rattle.flow_network.specs.declared.arcs.ArcNo.TheVariants.{Forward, Reverse}
-use Rattle.flow_network.specs.Flows.{arc_at, arc_index, tail_of, head_of, residual_of, IsResidual, IsPath, shifted}
+use Rattle.flow_network.specs.Flows.{arc_at, arc_index, tail_of, head_of, residual_of, IsResidual, IsPath}
+use Rattle.flow_network.specs.Flows.{shifted}
 use Rattle.flow_network.specs.Flows.{inflow, outflow, unit_at, Lacks}
 use Rattle.flow_network.specs.Laws.{PushKeepsConservation, flow_cost}
 

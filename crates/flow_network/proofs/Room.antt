@@ -34,7 +34,8 @@ outflow-lt (a ∷ arcs) (f ∷ flows) v (suc i) e w l at m =
     elim (cases_Bool (eqb a.from v)) [ inl t ↦ rw t (omega arith) | inr n ↦ rw n (omega arith) ]
 
 -- one arc's flow, and two arcs'
-pub inflow-ge : (arcs : List FlowArc) (flows : List ℕ) (v j : ℕ) → length flows ≡ length arcs → j < length arcs →
+pub inflow-ge : (arcs : List FlowArc) (flows : List ℕ) (v j : ℕ) → length flows ≡ length arcs →
+    j < length arcs →
     (arc_at arcs j).to ≡ v → get_or flows j 0 ≤ inflow arcs flows v
 inflow-ge [] flows v j e l at = absurd (omega arith)
 inflow-ge (a ∷ arcs) [] v j e l at = absurd (omega arith)

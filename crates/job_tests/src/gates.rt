@@ -5,8 +5,8 @@ use node_ids::WorkerNo;
 use std::sync::atomic::{AtomicU64, Ordering};
 use std::thread;
 
-// Once in so many idle turns a gate sweeps that is to see workers that are late, and none that are slow: they last some
-// thirty milliseconds.
+// Once in so many idle turns a gate sweeps that is to see workers that are late, and none that are slow: they
+// last some thirty milliseconds.
 const RARELY: u64 = 8192;
 
 // How often a gate yields before it gives up.

@@ -215,7 +215,8 @@ impl Counted {
     }
 }
 
-// Whether a full history can be: there is little room, or the threads were so slow that there were many calls.
+// Whether a full history can be: there is little room, or the threads were so slow that there were many
+// calls.
 fn may_be_full(gate: &Made, sizes: Sizes) -> bool {
     sizes.is_small || count(&gate.seen.sweeps) >= 1000 || count(&gate.seen.begun) >= 1000
 }

@@ -41,7 +41,8 @@ so_far_more first n counts looks result inside all rises =
             there w other ∙ all.seen w before ∙ sym (seen_other n w result looks (λ e. other (sym e)))
         | inr past ↦
             let at : w ≡ n = omega (arith, past, below) in
-            subst (λ (v : ℕ). slice_index (set counts n result) v ≡ last_seen v (look n result ∷ looks)) (sym at)
+            subst (λ (v : ℕ). slice_index (set counts n result) v ≡ last_seen v (look n result ∷ looks))
+            (sym at)
             (here ∙ sym (seen_now n result looks))
       ];
       rising = λ w below. elim (cases_lt w n) [

@@ -178,7 +178,8 @@ fn is_still(glance: &Glance) -> bool
     glance.running == 0 && !glance.ready && !glance.reducible
 }
 
-// For how many microseconds the calling thread naps: at each 64th idle turn, and longer where there were many.
+// For how many microseconds the calling thread naps: at each 64th idle turn, and longer where there were
+// many.
 fn nap_micros(idle: u64) -> u64
     ensures { result ≡ nap_micros idle }
 {

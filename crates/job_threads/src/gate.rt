@@ -42,8 +42,8 @@ pub trait Gate: Sync {
     fn turn(&self, idle: u64) -> Turn;
 }
 
-/// The gate of a plain run. It yields once a turn until the calling thread naps between them, which is from the
-/// 64th idle turn on, and answers Sweep at the positive multiples of 65,536 idle turns, Backup at the odd
+/// The gate of a plain run. It yields once a turn until the calling thread naps between them, which is from
+/// the 64th idle turn on, and answers Sweep at the positive multiples of 65,536 idle turns, Backup at the odd
 /// multiples of 32,768, else On.
 #[derive(Clone, Copy, Debug)]
 pub struct PlainGate;

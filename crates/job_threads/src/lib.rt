@@ -2,8 +2,8 @@
 //!
 //! The calling thread plans, sends orders and looks after beats, by what a gate says; the workers map and
 //! merge, and tell a shared master. Upward the layer promises what an outcome means, whatever the threads
-//! did: an index is the sequential one of the job's documents, and a stuck master can start nothing. It stands on
-//! `shared_master`, `beat_board` and `lane_queue`, and knows no text.
+//! did: an index is the sequential one of the job's documents, and a stuck master can start nothing. It
+//! stands on `shared_master`, `beat_board` and `lane_queue`, and knows no text.
 #![tactic(auto)]
 
 mod beats;

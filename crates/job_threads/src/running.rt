@@ -48,8 +48,8 @@ pub fn run<G: Gate, R: Threads + Wait + Clock + Sync>(
     Ok(outcome_of(run_recorded(rt, alloc, job, gate, &Unobserved)?))
 }
 
-/// The same, and hands back the master with all that was done. While the job runs, the observer is told how far it
-/// is.
+/// The same, and hands back the master with all that was done. While the job runs, the observer is told how
+/// far it is.
 pub fn run_recorded<G: Gate, O: Observer, R: Threads + Wait + Clock + Sync>(
     rt: &R,
     alloc: Global,

@@ -109,8 +109,8 @@ impl Lane {
         Ok(Pass { token })
     }
 
-    /// Puts an order at the back. It comes back where the lane was found full: of a pass that was never shared
-    /// a clause says that it was; what others put and took meanwhile a shared pass does not know.
+    /// Puts an order at the back. It comes back where the lane was found full: of a pass that was never
+    /// shared a clause says that it was; what others put and took meanwhile a shared pass does not know.
     pub fn put<R: Wait>(&self, rt: &R, pass: &mut Pass, order: Order) -> Result<(), Full>
         requires { pass.old.lane ≡ self.now.lane }
         ensures lane { pass.new.lane ≡ pass.old.lane }

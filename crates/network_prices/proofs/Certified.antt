@@ -109,7 +109,8 @@ module _ (wave : Wave) (nodes : WaveNodes) (arcs : List FlowArc) (flows : List �
       let c = plan.came s p in
       let at : CameFrom arcs flows c.0 s (nodes.worker w) =
       subst (λ (o : Option ℕ). CameFrom arcs flows c.0 s (end_of nodes o)) e c.1 in
-      came_down arcs flows (length wave.splits) nodes.sink shipped.sizes shipped.within even network.no_entry s
+      came_down arcs flows (length wave.splits) nodes.sink shipped.sizes shipped.within even
+      network.no_entry s
       c.0 (nodes.above w) (nodes.worker w) (pending_known wave s p) (network.ways w (usable s w e)) at
 
   admissible : (s w : ℕ) → start_of starts s ≡ Some w → IsAdmissible wave s w
@@ -316,8 +317,8 @@ module _ (wave : Wave) (nodes : WaveNodes) (arcs : List FlowArc) (flows : List �
         let less = not_above_reward s c.0 (pending s w e) by.listed by.from_is off by.unit in
         omega arith
 
-    -- another start of a split that starts is worth no more, and one of a split that does not no more than the
-    -- reward
+    -- another start of a split that starts is worth no more, and one of a split that does not no more than
+    -- the reward
     worth_of_offer : (s w k : ℕ) → IsUsable wave w → IsOffer arcs s (way_of nodes w) (price s w) k
         → (arc_at arcs k).cost + h (arc_at arcs k).to ≤ price s w + worker_price prices w
     worth_of_offer s w k u offer =

@@ -13,7 +13,8 @@ use Rattle.network_prices.specs.Networks.{WaveNodes}
 -- one worker more
 pub priced_more : (wave : Wave) (nodes : WaveNodes) (h : ℕ → ℕ) (prices : List ℕ) (price i : ℕ)
     → length prices ≡ i → ((w : ℕ) → w < i → IsSlotPrice wave nodes h w (get_or prices w 0))
-    → IsSlotPrice wave nodes h i price → (w : ℕ) → w < i + 1 → IsSlotPrice wave nodes h w (get_or (prices ++ price ∷ []) w 0)
+    → IsSlotPrice wave nodes h i price → (w : ℕ) → w < i + 1
+    → IsSlotPrice wave nodes h w (get_or (prices ++ price ∷ []) w 0)
 priced_more wave nodes h prices price i size each next w l = elim (cases_eq w i) [
   | inl e ↦ subst (λ (x : ℕ). IsSlotPrice wave nodes h x (get_or (prices ++ price ∷ []) x 0)) (sym e)
       (subst (IsSlotPrice wave nodes h i) (sym (get_or_push prices price 0 i size)) next)

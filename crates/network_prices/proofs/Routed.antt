@@ -1,6 +1,7 @@
--- An admissible assignment is a flow of the same cost: at first the unit of each pending split waits, and then
--- one start after the other leads its split's unit to the worker.
-use Rattle.std.proofs.Common.{◌≡◌, ℕ, zero, suc, ◌+◌, ◌-◌, ◌*◌, ◌<◌, ◌≤◌, Bool, true, false, cond, List, [], ◌∷◌}
+-- An admissible assignment is a flow of the same cost: at first the unit of each pending split waits, and
+-- then one start after the other leads its split's unit to the worker.
+use Rattle.std.proofs.Common.{◌≡◌, ℕ, zero, suc, ◌+◌, ◌-◌, ◌*◌, ◌<◌, ◌≤◌, Bool, true, false, cond, List, []}
+use Rattle.std.proofs.Common.{◌∷◌}
 use Rattle.std.proofs.Common.{length, get_or, refl, sym, ap, ◌∙◌, subst, inl, inr, arith, unwrap_or}
 use Rattle.std.proofs.Common.{get_or-set_same, Option, replicate}
 use Rattle.std.specs.Prelude.{◌==◌}
@@ -83,16 +84,19 @@ WaitsAt wave nodes arcs flows s = (k : ℕ) × IsArcFrom arcs k s nodes.unstarte
     × (0 < get_or flows k 0)
 
 -- the flow that these starts make
-record Carries (wave : Wave) (nodes : WaveNodes) (arcs : List FlowArc) (network : IsWaveNetwork wave nodes arcs)
+record Carries (wave : Wave) (nodes : WaveNodes) (arcs : List FlowArc)
+    (network : IsWaveNetwork wave nodes arcs)
     (pairs : List (ℕ × ℕ)) (flows : List ℕ) : Type 0 where
   pub shipped : IsShipped wave nodes arcs flows
-  pub waits : (s : ℕ) → (split_at wave s).pending ≡ true → times_started pairs s ≡ 0 → WaitsAt wave nodes arcs flows s
+  pub waits : (s : ℕ) → (split_at wave s).pending ≡ true → times_started pairs s ≡ 0
+      → WaitsAt wave nodes arcs flows s
   pub loads : (w : ℕ) → IsUsable wave w → outflow arcs flows (nodes.worker w) ≡ load pairs w
   pub rests : outflow arcs flows nodes.unstarted ≡ get_or flows network.rest.0 0
   pub costs : CostsAsMuch wave arcs flows pairs
 
 -- the units of the splits below n wait
-record AllWait (wave : Wave) (nodes : WaveNodes) (arcs : List FlowArc) (network : IsWaveNetwork wave nodes arcs)
+record AllWait (wave : Wave) (nodes : WaveNodes) (arcs : List FlowArc)
+    (network : IsWaveNetwork wave nodes arcs)
     (n : ℕ) (flows : List ℕ) : Type 0 where
   pub shipment : IsShipment arcs (pending_below wave n) nodes.sink flows
   pub unused : (s k : ℕ) → n ≤ s → s < length wave.splits → k < length arcs → (arc_at arcs k).from ≡ s →
@@ -103,7 +107,8 @@ record AllWait (wave : Wave) (nodes : WaveNodes) (arcs : List FlowArc) (network 
   pub resting : get_or flows network.rest.0 0 ≡ length (pending_below wave n)
   pub costs : flow_cost arcs flows ≡ reward wave * length (pending_below wave n)
 
-module _ (wave : Wave) (nodes : WaveNodes) (arcs : List FlowArc) (network : IsWaveNetwork wave nodes arcs) where
+module _ (wave : Wave) (nodes : WaveNodes) (arcs : List FlowArc)
+    (network : IsWaveNetwork wave nodes arcs) where
   abbrev splits : ℕ
   splits = length wave.splits
 
@@ -118,7 +123,8 @@ module _ (wave : Wave) (nodes : WaveNodes) (arcs : List FlowArc) (network : IsWa
             let all = network.slots w u in let own = is.capacity_is in absurd (omega arith))
       ]
 
-  module _ (pairs : List (ℕ × ℕ)) (flows : List ℕ) (state : Carries wave nodes arcs network pairs flows) (s w : ℕ)
+  module _ (pairs : List (ℕ × ℕ)) (flows : List ℕ) (state : Carries wave nodes arcs network pairs flows)
+      (s w : ℕ)
       (may : IsAdmissible wave s w) (fresh : times_started pairs s ≡ 0)
       (room : load pairs w < (worker_at wave w).free) where
     abbrev u : IsUsable wave w
@@ -209,12 +215,14 @@ module _ (wave : Wave) (nodes : WaveNodes) (arcs : List FlowArc) (network : IsWa
                 ∙ ap (λ (z : ℕ). outflow arcs f v + unit_at z v) is.from_is),
             (λ k off. kept_shift f (Forward slot.0) k
                 (λ e. off (inl (ap (λ (j : ℕ). (arc_at arcs j).from) (sym e) ∙ is.from_is)))),
-            (let more = flow_cost_forward arcs f slot.0 size is.listed in let free = is.cost_is in omega arith),
+            (let more = flow_cost_forward arcs f slot.0 size is.listed in
+                let free = is.cost_is in omega arith),
           ),
         )
 
     -- one arc higher
-    higher : (v x : ℕ) (rest : List ℕ) (path : List ArcNo) (way : IsWay arcs splits nodes.sink (v ∷ (x ∷ rest)))
+    higher : (v x : ℕ) (rest : List ℕ) (path : List ArcNo)
+        (way : IsWay arcs splits nodes.sink (v ∷ (x ∷ rest)))
         → IsAmong x (nodes.above w) → Leads v (length (x ∷ rest)) path →
         Leads x (length rest) (Forward way.1.feed ∷ path)
     higher v x rest path way on leads =
@@ -242,7 +250,8 @@ module _ (wave : Wave) (nodes : WaveNodes) (arcs : List FlowArc) (network : IsWa
           ),
           (fed.feed, fed.listed, fed.from_is, some),
           λ f size. (
-              let then = leads.4 (shifted f (Forward fed.feed)) (length-shifted f (Forward fed.feed) ∙ size) in (
+              let then = leads.4 (shifted f (Forward fed.feed)) (length-shifted f (Forward fed.feed)
+              ∙ size) in (
                 (λ v' off.
                     (let step = then.0 v' off in
                     let here = outflow_forward arcs f fed.feed v' size fed.listed in
@@ -315,7 +324,8 @@ module _ (wave : Wave) (nodes : WaveNodes) (arcs : List FlowArc) (network : IsWa
     offer_free =
         let is = (network.complete s w may).1 in
         let some = waiting in
-        let one = one_each wave nodes arcs flows network.past_splits network.no_entry state.shipped s may.pending
+        let one = one_each wave nodes arcs flows network.past_splits network.no_entry
+        state.shipped s may.pending
         in
         let two = outflow-ge_two arcs flows s offer wait state.shipped.sizes is.listed
         wait_is.listed from_offer from_wait waits_apart in
@@ -406,7 +416,8 @@ module _ (wave : Wave) (nodes : WaveNodes) (arcs : List FlowArc) (network : IsWa
         omega arith
 
     -- an arc off the way that is none of the three carries what it did
-    same_flow : (k : ℕ) → (IsAmong (arc_at arcs k).from (way_of nodes w) → ⊥) → (rest ≡ k → ⊥) → (wait ≡ k → ⊥)
+    same_flow : (k : ℕ) → (IsAmong (arc_at arcs k).from (way_of nodes w) → ⊥) → (rest ≡ k → ⊥)
+        → (wait ≡ k → ⊥)
         → (offer ≡ k → ⊥) → get_or after k 0 ≡ get_or flows k 0
     same_flow k off a b c =
         (down.2.4 with_offer size_3).1 k off ∙ kept_shift without_wait (Forward offer) k c
@@ -468,7 +479,8 @@ module _ (wave : Wave) (nodes : WaveNodes) (arcs : List FlowArc) (network : IsWa
               rest_is = refl;
             });
         balance = λ v.
-            (let moved = push_balance arcs flows path nodes.sink nodes.sink v state.shipped.sizes distinct leads
+            (let moved = push_balance arcs flows path nodes.sink nodes.sink v
+            state.shipped.sizes distinct leads
             in
             let old = state.shipped.balance v in omega arith);
       };
@@ -494,7 +506,8 @@ module _ (wave : Wave) (nodes : WaveNodes) (arcs : List FlowArc) (network : IsWa
           let more = load_more x in
           omega arith);
       rests =
-          (let all = out_after nodes.unstarted (λ on. network.apart w u (inr on)) network.rest_inner.no_source in
+          (let all = out_after nodes.unstarted (λ on. network.apart w u (inr on))
+          network.rest_inner.no_source in
           let one = unit_on nodes.unstarted nodes.unstarted refl in
           let off = unit_off (nodes.worker w) nodes.unstarted (λ e. network.apart w u (inl (sym e))) in
           let same : get_or after rest 0 ≡ get_or without_rest rest 0 =
@@ -634,7 +647,8 @@ module _ (wave : Wave) (nodes : WaveNodes) (arcs : List FlowArc) (network : IsWa
             let times = ap (times_in v) (pending-more wave n p) ∙ times_in-push v (pending_below wave n) n in
             let units = ap (λ (z : ℕ). z * unit_at nodes.sink v) one_longer
             ∙ ap (λ (z : ℕ). z * unit_at nodes.sink v)
-            (let e : suc (length (pending_below wave n)) ≡ length (pending_below wave n) + 1 = omega arith in e)
+            (let e : suc (length (pending_below wave n)) ≡ length (pending_below wave n) + 1 =
+            omega arith in e)
             ∙ add-mul (length (pending_below wave n)) 1 (unit_at nodes.sink v) in
             omega arith);
       };
@@ -648,7 +662,8 @@ module _ (wave : Wave) (nodes : WaveNodes) (arcs : List FlowArc) (network : IsWa
       waits = λ s q l. elim (cases_eq s n) [
         | inl e ↦ (let more = own_more in
             subst (WaitsAt wave nodes arcs both) (sym e) (own, own_is, omega arith))
-        | inr d ↦ (let old = state.waits s q (omega arith) in let some = old.2 in let known = pending_known wave s q in
+        | inr d ↦ (let old = state.waits s q (omega arith) in let some = old.2 in
+            let known = pending_known wave s q in
             let same = kept old.0
             (λ e. d (sym old.1.from_is ∙ sym (ap (λ (j : ℕ). (arc_at arcs j).from) e) ∙ own_is.from_is))
             (λ e. (let from' = ap (λ (j : ℕ). (arc_at arcs j).from) e in let a = network.rest.2.from_is in

@@ -39,9 +39,9 @@ pub record IsOffer (arcs : List FlowArc) (s : ℕ) (way : List ℕ) (most k : �
   pub at_most : (arc_at arcs k).cost ≤ most
 
 -- The arcs of the splits alone have costs. Each worker has a node of its own, and each way up from there is a
--- way of the network. The arcs of a split to a way's nodes are just what makes its starts there admissible, at
--- no less than a start's cost, and one of them costs no more. A pending split has an arc to the node of those
--- that are not started, which can send on the units of all.
+-- way of the network. The arcs of a split to a way's nodes are just what makes its starts there admissible,
+-- at no less than a start's cost, and one of them costs no more. A pending split has an arc to the node of
+-- those that are not started, which can send on the units of all.
 pub record IsWaveNetwork (wave : Wave) (nodes : WaveNodes) (arcs : List FlowArc) : Type 0 where
   pub past_splits : length wave.splits ≤ nodes.sink
   pub no_entry : (k : ℕ) → k < length arcs → length wave.splits ≤ (arc_at arcs k).to

@@ -1,5 +1,5 @@
-// Seven types of one form, written out: no macro may write an `impl` here, and one type over a kind would give
-// all numbers the width and the bound of the widest.
+// Seven types of one form, written out: no macro may write an `impl` here, and one type over a kind would
+// give all numbers the width and the bound of the widest.
 
 ghost use Rattle.std.specs.Prelude.{◌≡◌, ◌<◌, ◌^◌};
 

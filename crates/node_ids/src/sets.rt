@@ -1,5 +1,6 @@
 ghost use Rattle.std.specs.Prelude.{◌≡◌, ℕ, ◌*◌, ◌<◌, ◌⊎◌, ◌↔◌, ◌≤◌, IfOk, IsTrue, false, length};
-ghost use Rattle.node_ids.specs.Sets.{AreBelow, Has, HasPair, has_number, with_number, with_pair, place_of_pair};
+ghost use Rattle.node_ids.specs.Sets.{AreBelow, Has, HasPair, has_number, place_of_pair, with_number};
+ghost use Rattle.node_ids.specs.Sets.{with_pair};
 ghost use Rattle.node_ids.specs.Sets.{no_pairs, no_splits, no_workers};
 ghost use Rattle.std.specs.Int.{bit_at};
 

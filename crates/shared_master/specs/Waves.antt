@@ -134,7 +134,8 @@ PlansAs sizes old hand (Err e) new after =
 
 -- what the caller of a wave sees: it is kept with its starts, above the hand's last call, and the hand had
 -- room
-pub record IsKeptWave (sizes : Sizes) (hand : HandValue) (shared : SharedWave) (after : HandValue) : Type 0 where
+pub record IsKeptWave (sizes : Sizes) (hand : HandValue) (shared : SharedWave) (after : HandValue)
+    : Type 0 where
   pub hand_is : after ≡ with_call hand (kept_wave shared)
   pub above : last_place hand.calls < shared.wave.place
   pub room : has_room hand 0 (length shared.starts.items) ≡ true

@@ -77,7 +77,8 @@ table_has_pair m is some = by m.entries (entries_have_some m is) some
     by : (es : List (List ℕ × SmallVec ℕ)) → All (λ (e : List ℕ × SmallVec ℕ). 0 < length e.1.items) es →
         (length es ≡ 0 → ⊥) → HavePair (views es)
     by [] each some = absurd (some refl)
-    by (e ∷ es) each some = have_pair (views (e ∷ es)) _ (first_is_there _ (views es)) (each 0 e (omega arith))
+    by (e ∷ es) each some = have_pair (views (e ∷ es)) _ (first_is_there _ (views es))
+        (each 0 e (omega arith))
 
 pub made_none : {S : Type 0} (m : HashMap (List ℕ) (SmallVec ℕ) S) → IsTable m →
     AreMade m.entries m.entries []

@@ -12,7 +12,8 @@ returns-in_ok-push-in-Some-clause-added c w n =
     (c.get_mut.follows.lender c.push.new.self) c.args.word c.in-Some.documents.now
     c.push.new.self one (search rules)
     ((c.get_mut.follows.holds c.push.new.self).3 (search rules)) c.in_ok-push-in-Some.ensures.ok w n in (
-      (λ h. ⊎_elim (λ was. inl was) (λ this. inr (this.0, sym (only_one c.args.document n this.1))) (more.0 h)),
+      (λ h. ⊎_elim (λ was. inl was) (λ this. inr (this.0, sym (only_one c.args.document n this.1)))
+          (more.0 h)),
       (λ h. more.1 (⊎_elim (λ was. inl was)
           (λ this. inr (this.0, subst (Contains one) (sym this.1) (first_is_there c.args.document []))) h)),
     )

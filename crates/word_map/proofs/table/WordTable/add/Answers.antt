@@ -17,7 +17,8 @@ loop-entry-preserved c =
     c.entry-item.is c.loop-entry.invariant c.in_ok-add_entry.ensures
 
 pub returns-clause-added : goal.returns-clause-added
-returns-clause-added c = subst (λ es. AddsPairs c.args.self.now c.loop-entry.self (Contains (pairs_of_index es)))
+returns-clause-added c = subst (λ es. AddsPairs c.args.self.now c.loop-entry.self
+    (Contains (pairs_of_index es)))
     (take_all c.loop-entry.entry-index c.args.entries.now c.loop-entry-test.false) c.loop-entry.invariant
 
 -- the entry that wants memory has a document
