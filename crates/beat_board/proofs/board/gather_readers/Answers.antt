@@ -1,13 +1,11 @@
-use Rattle.std.proofs.Common.{◌≡◌, arith, ap, sym, subst, ◌∙◌}
-use Rattle.std.proofs.lemmas.List.Elements.{All-nil}
-use Rattle.std.specs.List.{All}
+use Rattle.std.proofs.Common.{◌≡◌, arith, ap, ◌∙◌}
 use Rattle.view_sums.proofs.Last.{all_but_last}
 use Rattle.beat_board.specs.declared.view.View.{View}
-use Rattle.beat_board.specs.Values.{ReaderValue, AreWithin}
+use Rattle.beat_board.specs.Values.{ReaderValue}
 use Rattle.beat_board.specs.Views.{reading}
 use Rattle.beat_board.specs.Steps.{gathers}
 use Rattle.beat_board.proofs.Keeps.{hears_as}
-use Rattle.beat_board.proofs.Gathers.{more_seen, remade_looks, none_left}
+use Rattle.beat_board.proofs.Gathers.{more_seen, remade_looks}
 use Rattle.beat_board.proofs.board.gather_readers.Goals as goal
 
 pub join_seat-requires : goal.join_seat-requires
@@ -44,11 +42,3 @@ loop-reader-preserved c =
           i.4 words s.1 (s.0 s.1 others),
       last.0,
     )
-
-pub returns-clause-looks : goal.returns-clause-looks
-returns-clause-looks c = λ words within.
-    let none = none_left c.loop-reader.readers.items
-    (omega (arith, c.loop-reader.readers.ok.0, c.in_default.ensures.cases.0)) in
-    c.loop-reader.invariant.4 words within
-    (subst (All (λ (r : ReaderValue). AreWithin words r.looks)) (sym none)
-    (All-nil (λ (r : ReaderValue). AreWithin words r.looks)))

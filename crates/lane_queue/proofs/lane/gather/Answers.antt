@@ -1,32 +1,12 @@
-use Rattle.std.proofs.Common.{◌≡◌, ◌<◌, ◌∷◌, ◌++◌, [], length, List, ap, sym, ◌∙◌, arith, subst}
+use Rattle.std.proofs.Common.{◌≡◌, ◌<◌, ◌∷◌, length, ap, ◌∙◌, arith}
 use Rattle.view_sums.proofs.Last.{all_but_last}
 use Rattle.lane_queue.specs.Lanes.{PassValue, depths_of}
 use Rattle.lane_queue.proofs.Keeps.{merges}
-use Rattle.lane_queue.proofs.Gathers.{gathered, first, next, moved, empty_list}
+use Rattle.lane_queue.proofs.Gathers.{next, moved}
 use Rattle.lane_queue.proofs.lane.gather.Goals as goal
-
-pub absorb-requires-clause-queue : goal.absorb-requires-clause-queue
-absorb-requires-clause-queue c =
-    let i = c.loop-pass.invariant in
-    let of_lane = λ (x : PassValue). x.lane ≡ c.args.queue.now.table.shared.table_id in
-    let last = all_but_last of_lane _ _ _ c.in-Some.ensures.items i.1 in
-    ((ap (λ x. x.lane) c.pass.view_is ∙ last.1, c.pass.invariant.0), i.0)
 
 pub absorb-requires-clause-rule : goal.absorb-requires-clause-rule
 absorb-requires-clause-rule c = merges _ _ _ _
-
-pub loop-pass-init : goal.loop-pass-init
-loop-pass-init c =
-    let x = c.in_ok-token.field-0 in
-    let is = c.token.view_is in
-    let of_lane = λ (x : PassValue). x.lane ≡ c.args.queue.now.table.shared.table_id in
-    let last = all_but_last of_lane _ _ _ c.in_ok-token.ensures.items c.requires in
-    let known = first _ x c.token.invariant.1 (ap (λ p. p.puts) is) (ap (λ p. p.takes) is)
-    (ap (λ p. p.depth) is) in (
-      (ap (λ p. p.lane) is ∙ last.1, c.token.invariant.0),
-      last.0,
-      (x ∷ [], c.in_ok-token.ensures.items, omega arith, known),
-    )
 
 pub loop-pass-preserved : goal.loop-pass-preserved
 loop-pass-preserved c =
@@ -49,12 +29,3 @@ loop-pass-preserved c =
         c.absorb.ensures.rule ∙ known,
       ),
     )
-
-pub returns : goal.returns
-returns c =
-    let i = c.loop-pass.invariant in
-    let none : c.loop-pass.passes.items ≡ [] =
-    empty_list c.loop-pass.passes.items
-    (omega (arith, c.loop-pass.passes.ok.0, c.in_default.ensures.cases.0)) in
-    let all : i.2.0 ≡ c.args.passes.items = sym (i.2.1 ∙ ap (λ (l : List PassValue). l ++ i.2.0) none) in
-    (i.0, subst (λ l. 0 < length (depths_of l)) all i.2.2, i.2.3 ∙ ap gathered all)

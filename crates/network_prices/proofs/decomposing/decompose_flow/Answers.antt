@@ -9,11 +9,6 @@ hand_on-left-requires-clause-units c =
     enough_stand c.args.arcs.now c.args.flows.now c.args.sink c.args.places.now c.loop-k.places c.requires
     c.loop-k.k c.loop-k-test.true c.loop-k.invariant.handed
 
-pub hand_on-left-requires-clause-apart : goal.hand_on-left-requires-clause-apart
-hand_on-left-requires-clause-apart c = λ e.
-    (let on = c.requires.ordered c.loop-k.k c.loop-k.k (omega arith) c.loop-k-test.true in
-    absurd (omega arith))
-
 pub loop-k-preserved : goal.loop-k-preserved
 loop-k-preserved c = elim c.if-units-gt0.branch [
   | then-units-gt0 w ↦ record {

@@ -4,15 +4,6 @@ use Rattle.network_prices.specs.Layers.{nodes_from}
 use Rattle.network_prices.specs.Prices.{IsPlanOf}
 use Rattle.network_prices.proofs.reading.plan_of.Goals as goal
 
-pub read_plan-requires-clause-layers : goal.read_plan-requires-clause-layers
-read_plan-requires-clause-layers g c =
-    rw (c.first-first.ensures.place, c.all_arcs.ensures)
-    (c.is_wave_network.ensures.layers c.args.problem.now c.args.network.now.arcs c.requires.arcs)
-
-pub read_plan-requires-clause-shipped : goal.read_plan-requires-clause-shipped
-read_plan-requires-clause-shipped g c =
-    rw (c.first-first.ensures.place, c.all_arcs.ensures, c.all_flows.ensures) c.requires.shipped
-
 pub returns-clause-read : goal.returns-clause-read
 returns-clause-read g c =
     let wave = c.args.problem.now in

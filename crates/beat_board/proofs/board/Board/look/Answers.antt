@@ -1,6 +1,4 @@
-use Rattle.std.proofs.Common.{◌≡◌, ◌<◌, ◌≤◌, arith, ap, sym, subst, ◌∙◌}
-use Rattle.std.specs.List.{All}
-use Rattle.beat_board.specs.declared.view.Look.{Look}
+use Rattle.std.proofs.Common.{◌<◌, arith, ap, sym, ◌∙◌}
 use Rattle.beat_board.specs.Values.{last_seen}
 use Rattle.beat_board.proofs.Keeps.{looks_as, last_within}
 use Rattle.beat_board.proofs.board.Board.look.Goals as goal
@@ -20,14 +18,6 @@ load-requires c =
       omega (arith, c.self.invariant.0, small),
       looks_as _ _ r.token.me _ c.reader.invariant.1 c.reader.invariant.0,
     )
-
-pub returns-clause-above : goal.returns-clause-above
-returns-clause-above c =
-    let n = c.load.result in
-    let seen = subst (λ k. All (λ (x : Look). x.worker ≡ k → x.beats ≤ n) c.reader.inside.token.me.0.looks)
-    c.index.ensures.value c.load.ensures.2.2 in
-    subst (λ xs. All (λ (x : Look). x.worker ≡ c.args.worker → x.beats ≤ n) xs)
-    (ap (λ r. r.looks) c.reader.view_is) seen
 
 pub returns-clause-rises : goal.returns-clause-rises
 returns-clause-rises c =

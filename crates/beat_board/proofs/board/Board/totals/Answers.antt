@@ -1,8 +1,8 @@
-use Rattle.std.proofs.Common.{◌≤◌, arith, ap, sym, subst, ◌∙◌, length, slice_index}
-use Rattle.std.specs.List.{sum_by, All}
+use Rattle.std.proofs.Common.{◌≤◌, arith, ap, sym, ◌∙◌, length, slice_index}
+use Rattle.std.specs.List.{sum_by}
 use Rattle.std.specs.Slots.{slots_items}
 use Rattle.beat_board.specs.declared.view.View.{View}
-use Rattle.beat_board.specs.Values.{ReaderValue, AreWithin, down_from}
+use Rattle.beat_board.specs.Values.{down_from}
 use Rattle.beat_board.specs.Rule.{beats_of, told_of}
 use Rattle.beat_board.proofs.Keeps.{Gathered}
 use Rattle.beat_board.proofs.Gathers.{ended, whole_end}
@@ -55,9 +55,3 @@ returns-clause-told c w lt f =
     ∙ sym (ap (λ (v : View). told_of w f v.tallies) c.gather_readers.ensures.view)
     ∙ (end last).told (all_in last) w lt f
     ∙ ap (λ ws. sum_by f (down_from (slice_index ws w))) (sym c.words_of-beats.ensures)
-
-pub returns-clause-seen : goal.returns-clause-seen
-returns-clause-seen c =
-    subst (λ ws. All (λ (x : ReaderValue). AreWithin ws x.looks) c.args.readers.items)
-    (sym c.words_of-beats.ensures)
-    (c.gather_readers.ensures.looks _ (end (goal.at.returns-clause-seen c).After-words_of-beats).seen)

@@ -3,7 +3,7 @@ use Rattle.std.proofs.Common.{subst, sym, ◌∙◌}
 use Rattle.std.proofs.lemmas.Bool.{false≢true}
 use Rattle.word_map.specs.Entries.{HavePair, pairs_of_index}
 use Rattle.word_map.proofs.SortedLemmas.{table_has_pair}
-use Rattle.word_map.proofs.TableLemmas.{no_entries, pairs_of_reordered}
+use Rattle.word_map.proofs.TableLemmas.{pairs_of_reordered}
 use Rattle.word_map.proofs.table.WordTable.into_entries.Goals as goal
 
 -- a sort moves the words
@@ -18,12 +18,6 @@ returns-clause-same c = λ pair.
     ((λ h. moved.1 (made.0 h)), (λ h. made.1 (moved.0 h)))
 
 -- a table without words has no pairs
-pub returns-then-is_empty-clause-same : goal.returns-then-is_empty-clause-same
-returns-then-is_empty-clause-same c = λ pair.
-    let none = no_entries c.self.inside.table.entries (c.is_empty.ensures.0 c.if-is_empty.true) in
-    subst (λ es. Contains (pairs_of_index c.new.result.items) pair ↔ Contains (pairs_of_index es) pair)
-    (c.new.ensures.items ∙ sym none ∙ c.self.view_is) ((λ h. h), (λ h. h))
-
 -- what wants memory has a word
 pub returns-in_err-sort_unstable_keys-clause-memory : goal.returns-in_err-sort_unstable_keys-clause-memory
 returns-in_err-sort_unstable_keys-clause-memory c err = subst HavePair c.self.view_is
