@@ -1,16 +1,9 @@
 use Rattle.std.proofs.Common.{ℕ, ◌+◌, ◌*◌, sym, ◌∙◌, arith}
 use Rattle.std.proofs.lemmas.Bool.{false≢true}
-use Rattle.network_prices.proofs.Rows.{row_begin, row_step, row_skip}
+use Rattle.network_prices.proofs.Rows.{row_step, row_skip}
 use Rattle.direct_network.proofs.Rows.{pairs}
 use Rattle.direct_network.proofs.network.add_pairs.Goals as goal
 use Rattle.direct_network.proofs.network.add_pairs.Goals.{then-admissible+in_ok-add, else-admissible}
-
-pub add-requires-clause-room : goal.add-requires-clause-room
-add-requires-clause-room c =
-    let limit = c.loop-i.invariant.frame.arc_limit in
-    let few = c.requires.few in
-    let workers = c.workers-i-end.ensures.most in
-    omega arith
 
 pub loop-i-preserved : goal.loop-i-preserved
 loop-i-preserved c =
@@ -31,8 +24,3 @@ loop-i-preserved c =
           (λ is. false≢true (sym w.if-admissible.false ∙ may.1 is))
           c.loop-i.invariant)
     ]
-
-pub loop-i-init : goal.loop-i-init
-loop-i-init c =
-    row_begin (pairs c.args.problem.now c.args.split c.requires.split) (257 * c.args.split)
-    (257 * c.args.split + 0) c.args.network.now (omega arith) c.requires.built

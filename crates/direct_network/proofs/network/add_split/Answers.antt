@@ -1,12 +1,6 @@
 use Rattle.std.proofs.Common.{◌+◌, ◌*◌, sym, ◌∙◌, arith}
-use Rattle.direct_network.proofs.Rows.{wait_step, wait_skip}
+use Rattle.direct_network.proofs.Rows.{wait_step}
 use Rattle.direct_network.proofs.network.add_split.Goals as goal
-
-pub add-requires-clause-room : goal.add-requires-clause-room
-add-requires-clause-room c =
-    let limit = c.in_ok-add_pairs.ensures.built.frame.arc_limit in
-    let few = c.requires.few in
-    omega arith
 
 pub returns-in_ok-add : goal.returns-in_ok-add
 returns-in_ok-add c = record {
@@ -16,13 +10,4 @@ returns-in_ok-add c = record {
       (omega arith) c.requires.split (sym c.is_pending.ensures ∙ c.if-is_pending.true)
       c.in_ok-add_pairs.ensures.built
       c.in_ok-add.ensures;
-}
-
-pub returns-else-is_pending : goal.returns-else-is_pending
-returns-else-is_pending c = record {
-  built =
-      wait_skip c.args.problem.now c.args.split (257 * c.args.split + 256)
-      (257 * c.args.split + 257) c.add_pairs.new.network
-      (omega arith) c.requires.split (sym c.is_pending.ensures ∙ c.if-is_pending.false)
-      c.in_ok-add_pairs.ensures.built;
 }

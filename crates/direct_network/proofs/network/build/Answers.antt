@@ -1,16 +1,6 @@
-use Rattle.std.proofs.Common.{ℕ, ◌+◌, ◌*◌, length, sym, subst, arith}
-use Rattle.network_prices.proofs.Tables.{built_nothing}
-use Rattle.direct_network.specs.Direct.{arc_of, IsSized, IsWanted}
+use Rattle.std.proofs.Common.{ℕ, ◌+◌, ◌*◌, length, arith}
 use Rattle.direct_network.proofs.Rows.{all_arcs}
 use Rattle.direct_network.proofs.network.build.Goals as goal
-
-pub add_splits-requires : goal.add_splits-requires
-add_splits-requires c =
-    let wave = c.args.problem.now in
-    built_nothing (IsWanted wave) (arc_of wave) (IsSized wave) c.in_ok-network.network
-    (subst (IsSized wave) (sym c.in_ok-network.ensures.layout)
-    (record { splits = c.splits.ensures.count; workers = c.workers.ensures.count }))
-    c.in_ok-network.ensures.arcs c.in_ok-network.ensures.flows
 
 pub returns-clause-arcs : goal.returns-clause-arcs
 returns-clause-arcs c =

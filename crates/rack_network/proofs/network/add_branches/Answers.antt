@@ -1,7 +1,7 @@
 use Rattle.std.proofs.Common.{ℕ, ◌≡◌, ◌+◌, length, get_or, sym, ap, ◌∙◌, subst, arith}
 use Rattle.std.proofs.lemmas.Bool.{eqb-true, eqb-false}
 use Rattle.rack_tree.specs.Tree.{Tree}
-use Rattle.network_prices.proofs.Rows.{row_begin, row_step, row_skip, row_close}
+use Rattle.network_prices.proofs.Rows.{row_step, row_skip, row_close}
 use Rattle.rack_network.specs.Racks.{centre_node, centre_of, rack_node}
 use Rattle.rack_network.specs.Build.{in_place, in_places, trunk_arcs, IsBuilt}
 use Rattle.rack_network.proofs.Counts.{place_more, place-le, place-mono, places_more, places-le}
@@ -24,13 +24,6 @@ add-requires-clause-room c =
     let whole = places_more (centre_of wave) c.args.centre racks in
     let all = places-le (centre_of wave) (c.args.centre + 1) racks in
     omega arith
-
-pub loop-i-init : goal.loop-i-init
-loop-i-init c =
-    let wave = c.args.problem.now in
-    let limit : ℕ = trunk_arcs wave + in_places (centre_of wave) (length wave.tree.centre_of) c.args.centre in
-    row_begin (branches wave c.requires.tree c.args.centre c.requires.centre) limit
-    (limit + in_place (centre_of wave) 0 c.args.centre) c.args.network.now (omega arith) c.requires.built
 
 pub loop-i-preserved : goal.loop-i-preserved
 loop-i-preserved c =

@@ -6,14 +6,6 @@ use Rattle.rack_network.proofs.Counts.{places-le}
 use Rattle.rack_network.proofs.Rows.{raise}
 use Rattle.rack_network.proofs.network.add_centres.Goals as goal
 
-pub loop-i-init : goal.loop-i-init
-loop-i-init c =
-    let wave = c.args.problem.now in
-    raise wave c.requires.tree (centre_node wave 0) 0 (trunk_arcs wave)
-    (trunk_arcs wave + in_places (centre_of wave) (length wave.tree.centre_of) 0) c.args.network.now
-    (omega arith)
-    c.requires.built
-
 pub returns : goal.returns
 returns c =
     let wave = c.args.problem.now in

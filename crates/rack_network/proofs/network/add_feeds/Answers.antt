@@ -1,6 +1,6 @@
 use Rattle.std.proofs.Common.{ℕ, ◌≡◌, ◌+◌, length, sym, ap, ◌∙◌, subst, arith}
 use Rattle.std.proofs.lemmas.Bool.{false≢true}
-use Rattle.network_prices.proofs.Rows.{row_begin, row_step, row_skip, row_close}
+use Rattle.network_prices.proofs.Rows.{row_step, row_skip, row_close}
 use Rattle.rack_network.specs.Racks.{rack_node, worker_node, rack_of}
 use Rattle.rack_network.specs.Build.{branch_arcs, in_place, in_places, IsBuilt}
 use Rattle.rack_network.proofs.Counts.{place_more, place-le, place-mono, places_more, places-le}
@@ -22,13 +22,6 @@ add-requires-clause-room c =
     let whole = places_more (rack_of wave) c.args.rack (length wave.workers) in
     let all = places-le (rack_of wave) (c.args.rack + 1) (length wave.workers) in
     omega arith
-
-pub loop-i-init : goal.loop-i-init
-loop-i-init c =
-    let wave = c.args.problem.now in
-    let limit : ℕ = branch_arcs wave + in_places (rack_of wave) (length wave.workers) c.args.rack in
-    row_begin (feeds wave c.requires.tree c.args.rack c.requires.rack) limit
-    (limit + in_place (rack_of wave) 0 c.args.rack) c.args.network.now (omega arith) c.requires.built
 
 pub loop-i-preserved : goal.loop-i-preserved
 loop-i-preserved c =

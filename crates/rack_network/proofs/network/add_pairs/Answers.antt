@@ -1,18 +1,9 @@
-use Rattle.std.proofs.Common.{ℕ, ◌≡◌, ◌+◌, ◌*◌, length, sym, ◌∙◌, arith, subst}
+use Rattle.std.proofs.Common.{ℕ, ◌+◌, ◌*◌, sym, ◌∙◌, arith}
 use Rattle.std.proofs.lemmas.Bool.{false≢true}
-use Rattle.network_prices.proofs.Rows.{row_begin, row_step, row_skip}
-use Rattle.rack_network.specs.Racks.{worker_node, unstarted_node}
-use Rattle.rack_network.specs.Build.{IsBuilt}
-use Rattle.rack_network.proofs.Rows.{pairs, raise}
+use Rattle.network_prices.proofs.Rows.{row_step, row_skip}
+use Rattle.rack_network.proofs.Rows.{pairs}
 use Rattle.rack_network.proofs.network.add_pairs.Goals as goal
 use Rattle.rack_network.proofs.network.add_pairs.Goals.{then-admissible+in_ok-add, else-admissible}
-
-pub add-requires-clause-room : goal.add-requires-clause-room
-add-requires-clause-room c =
-    let limit = c.loop-i.invariant.frame.arc_limit in
-    let few = c.requires.few in
-    let workers = c.workers-i-end.ensures.most in
-    omega arith
 
 pub loop-i-preserved : goal.loop-i-preserved
 loop-i-preserved c =
@@ -33,23 +24,3 @@ loop-i-preserved c =
           (λ is. false≢true (sym w.if-admissible.false ∙ may.1 is))
           c.loop-i.invariant)
     ]
-
-pub loop-i-init : goal.loop-i-init
-loop-i-init c =
-    row_begin (pairs c.args.problem.now c.requires.tree c.args.split c.requires.split c.requires.bars)
-    (257 * c.args.split) (257 * c.args.split + 0)
-    c.args.network.now (omega arith) c.requires.built
-
-pub returns : goal.returns
-returns c =
-    let wave = c.args.problem.now in
-    let s : ℕ = c.args.split in
-    let workers = c.workers-i-end.ensures.most in
-    let count = c.workers-i-end.ensures.count in
-    let end : c.loop-i.i ≡ length wave.workers = omega arith in
-    record {
-      built = raise wave c.requires.tree s (unstarted_node wave) (257 * s + length wave.workers)
-          (257 * s + 256) c.loop-i.network (omega arith)
-          (subst (λ (i : ℕ). IsBuilt wave s (worker_node wave i) (257 * s + i) c.loop-i.network) end
-          c.loop-i.invariant);
-    }

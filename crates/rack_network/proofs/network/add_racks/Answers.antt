@@ -6,13 +6,6 @@ use Rattle.rack_network.proofs.Counts.{places-le}
 use Rattle.rack_network.proofs.Rows.{raise}
 use Rattle.rack_network.proofs.network.add_racks.Goals as goal
 
-pub loop-i-init : goal.loop-i-init
-loop-i-init c =
-    let wave = c.args.problem.now in
-    raise wave c.requires.tree (rack_node wave 0) 0 (branch_arcs wave)
-    (branch_arcs wave + in_places (rack_of wave) (length wave.workers) 0) c.args.network.now (omega arith)
-    c.requires.built
-
 pub returns : goal.returns
 returns c =
     let wave = c.args.problem.now in

@@ -6,21 +6,8 @@ use Rattle.rack_network.specs.Build.{passed_by, IsBuilt}
 use Rattle.rack_network.proofs.Counts.{passed_by-le, passed_by-more}
 use Rattle.rack_network.proofs.Above.{are_of, next_is, next_least, next_none}
 use Rattle.rack_network.proofs.Heights.{four_levels, reach_in}
-use Rattle.rack_network.proofs.Rows.{reach_step, reach_end, to_reaches}
+use Rattle.rack_network.proofs.Rows.{reach_step, reach_end}
 use Rattle.rack_network.proofs.network.add_reaches.Goals as goal
-
-pub loop-next-init : goal.loop-next-init
-loop-next-init c =
-    let wave = c.args.problem.now in
-    let s : ℕ = c.args.split in (
-      omega arith,
-      subst (λ (x : ℕ). IsBuilt wave s x (257 * s + passed_by wave x (split_at wave s).holders)
-          c.args.network.now)
-          (let here : cluster_node wave ≡ cluster_node wave + 0 = omega arith in here)
-          (to_reaches wave c.requires.tree s c.requires.split c.requires.no_bars (257 * s)
-          (257 * s + passed_by wave (cluster_node wave) (split_at wave s).holders)
-          c.args.network.now (omega arith) c.requires.built),
-    )
 
 pub add_reach-requires-clause-node : goal.add_reach-requires-clause-node
 add_reach-requires-clause-node c =

@@ -1,10 +1,5 @@
-use Rattle.std.proofs.Common.{arith}
 use Rattle.direct_network.proofs.DirectWays.{is_layered, wave_network}
 use Rattle.direct_network.proofs.wave_network.DirectLayoutWaveNetwork.is_wave_network.Goals as goal
-
-pub returns-clause-nodes : goal.returns-clause-nodes
-returns-clause-nodes c = λ wave layout sized.
-    (let splits = sized.splits in let workers = sized.workers in omega arith)
 
 pub returns-clause-layers : goal.returns-clause-layers
 returns-clause-layers c = is_layered
