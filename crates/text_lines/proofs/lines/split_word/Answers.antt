@@ -1,10 +1,10 @@
 use Rattle.std.proofs.Common.{rules, ◌==◌, ◌<◌, ◌∙◌, ◌∷◌, List, ℕ, Some, ap₂, arith, eqb-true, get_or, sym}
-use Rattle.std.proofs.Common.{take, true, ap, ◌-◌, ◌≡◌, ◌+◌, drop, refl}
+use Rattle.std.proofs.Common.{take, true, ap, ◌-◌, ◌≡◌}
 use Rattle.std.specs.List.{position}
 use Rattle.std.proofs.lemmas.List.Quantifiers.{position-Some}
 use Rattle.std.proofs.lemmas.Str.{IsCharBoundary-after_ascii, IsCharBoundary-before_ascii}
 use Rattle.text_lines.specs.Texts.{words_of}
-use Rattle.text_lines.proofs.Splitting.{cut_none, cut_some, first_at, first_none}
+use Rattle.text_lines.proofs.Splitting.{cut_none, cut_some}
 use Rattle.text_lines.proofs.lines.split_word.Goals as goal
 
 ascii_at : (line : List ℕ) (at : ℕ) → (get_or line at 0 == 32) ≡ true → get_or line at 0 < 128
@@ -36,19 +36,5 @@ returns-in-Some-clause-words c =
       omega (arith, c.range_from.ensures.len),
     )
 
-pub returns-in-Some-clause-cut : goal.returns-in-Some-clause-cut
-returns-in-Some-clause-cut c =
-    let line = c.args.line.now in
-    let found : position (λ b. b == 32) line ≡ Some c.in-Some.at = search rules in
-    let at = first_at (λ b. b == 32) line c.in-Some.at found in
-    let whole : c.in-Some.at - 0 ≡ c.in-Some.at = omega arith in (
-      at.0,
-      c.range.ensures.value ∙ ap (λ n. take n line) (whole ∙ sym at.1),
-      c.range_from.ensures.value ∙ ap (λ n. drop (n + 1) line) (sym at.1),
-    )
-
 pub returns-in-None-clause-words : goal.returns-in-None-clause-words
 returns-in-None-clause-words c = cut_none (λ b. b == 32) c.args.line.now (search rules)
-
-pub returns-in-None-clause-cut : goal.returns-in-None-clause-cut
-returns-in-None-clause-cut c = (first_none (λ b. b == 32) c.args.line.now (search rules), refl)

@@ -1,12 +1,7 @@
-use Rattle.std.proofs.Common.{arith, sym, subst, ap, Ok}
-use Rattle.std.specs.Io.KnownBytes.{Consumes}
-use Rattle.std.proofs.KnownBytes.{Consumes-nil}
+use Rattle.std.proofs.Common.{arith, ap, Ok}
 use Rattle.text_lines.specs.Streams.{most_read}
 use Rattle.text_lines.proofs.Pieces.{at_most, ended, full, more}
 use Rattle.text_lines.proofs.streams.read_text.Goals as goal
-
-pub loop-init : goal.loop-init
-loop-init g c = (subst (Consumes _ _) (sym c.new-text.ensures.items) (Consumes-nil _), omega arith)
 
 pub returns-then-len-ge-MAX_READ_BYTES-clause-read : goal.returns-then-len-ge-MAX_READ_BYTES-clause-read
 returns-then-len-ge-MAX_READ_BYTES-clause-read g c =
@@ -29,18 +24,3 @@ returns-in-End-clause-read g c =
     (more _ _ _ _ _ c.loop.invariant.0 c.in_ok-read_piece.ensures.ok)
     (c.in_ok-read_piece.ensures.end (ap Ok c.in-End.is))
     (omega (arith, c.read_piece.ensures.bound))
-
-pub returns-in-End-clause-unread : goal.returns-in-End-clause-unread
-returns-in-End-clause-unread g c = record {
-  bytes = c.read_piece.new.text.items;
-  few = omega (arith, c.read_piece.ensures.bound);
-  consumed = more _ _ _ _ _ c.loop.invariant.0 c.in_ok-read_piece.ensures.ok;
-}
-
-pub loop-preserved : goal.loop-preserved
-loop-preserved g c =
-    (more _ _ _ _ _ c.loop.invariant.0 c.in_ok-read_piece.ensures.ok, c.read_piece.ensures.bound)
-
-pub returns-clause-unread : goal.returns-clause-unread
-returns-clause-unread g c =
-    record { bytes = c.loop.text.items; few = omega arith; consumed = c.loop.invariant.0 }

@@ -4,21 +4,9 @@ use Rattle.line_rules.specs.Counts.{AreCounts}
 use Rattle.line_rules.specs.Entered.{AreSound}
 use Rattle.line_rules.specs.Faults.{IsFit}
 use Rattle.line_rules.specs.Known.{Known}
-use Rattle.line_rules.proofs.Counted.{counts_more, small_before}
-use Rattle.line_rules.proofs.Fits.{fit_first}
+use Rattle.line_rules.proofs.Counted.{counts_more}
 use Rattle.line_rules.proofs.Sound.{sound_more}
 use Rattle.line_rules.proofs.known.KnownLines.enter.Goals as goal
-
-pub put-requires : goal.put-requires
-put-requires c =
-    let said = statement_of c.args.line.now in
-    let fit = subst (λ (k : Known). IsFit k said) (sym c.self.view_is) c.requires in fit_first _ said fit
-
-pub with-self-inside-requires : goal.with-self-inside-requires
-with-self-inside-requires c =
-    let said = statement_of c.args.line.now in
-    let fit = subst (λ (k : Known). IsFit k said) (sym c.self.view_is) c.requires in
-    small_before _ c.self.inside.counts said.keyword c.self.invariant.0 fit.within_limit.room
 
 pub invariant_of-self-2 : goal.invariant_of-self-2
 invariant_of-self-2 c =
