@@ -10,7 +10,7 @@ use Rattle.plan_text.specs.Names.{names_of, said_in}
 use Rattle.plan_text.specs.Tidy.{IsTidyBar}
 use Rattle.plan_text.specs.Value.{IsBarred}
 use Rattle.plan_text.proofs.Named.{at_element, row_of_keyword, rows_more, rows_same, told_apart, told_same}
-use Rattle.plan_text.proofs.Numbers.{none_barred, one_more_barred}
+use Rattle.plan_text.proofs.Numbers.{one_more_barred}
 use Rattle.plan_text.proofs.Words.{tidy_bars}
 use Rattle.plan_text.proofs.built.build_barred.Goals as goal
 use Rattle.plan_text.proofs.built.build_barred.Goals.{in-None, in-Some+else-eq, in-Some+then-eq}
@@ -29,12 +29,6 @@ bar-requires-clause-known c =
     subst (λ (splits : List Word). IsTidyBar splits c.args.workers.now (said_in row)) (sym c.requires.splits)
     (subst (λ (workers : List Word). IsTidyBar (names_of Split rows) workers (said_in row))
     (sym c.requires.workers) bar)
-
-pub loop-place-init : goal.loop-place-init
-loop-place-init c s w lt = (
-  λ has. absurd (c.in_ok-set.ensures.members s w has),
-  λ barred. absurd (none_barred c.args.splits.now c.args.workers.now s w barred),
-)
 
 pub loop-place-preserved : goal.loop-place-preserved
 loop-place-preserved c s n lt =

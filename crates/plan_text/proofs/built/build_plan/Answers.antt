@@ -4,21 +4,12 @@ use Rattle.text_lines.specs.Texts.{Word}
 use Rattle.line_shapes.specs.Lines.{Statement}
 use Rattle.line_shapes.specs.declared.keyword.Keyword.TheVariants.{Start, Worker}
 use Rattle.line_rules.specs.Known.{rows_of}
-use Rattle.plan_text.specs.Names.{names_in, names_of, said_in}
+use Rattle.plan_text.specs.Names.{names_of, said_in}
 use Rattle.plan_text.specs.Tidy.{IsTidyStart}
 use Rattle.plan_text.specs.Value.{start_at, declared_starts}
 use Rattle.plan_text.proofs.Parts.{starts_within}
-use Rattle.plan_text.proofs.Words.{few_names, tidy_starts}
+use Rattle.plan_text.proofs.Words.{tidy_starts}
 use Rattle.plan_text.proofs.built.build_plan.Goals as goal
-
-pub build_starts-requires-clause-few : goal.build_starts-requires-clause-few
-build_starts-requires-clause-few c =
-    rw c.requires.workers (few_names c.args.rows.now c.requires.tidy Worker 256 c.requires.tidy.few_workers)
-
-pub build_starts-requires-clause-names : goal.build_starts-requires-clause-names
-build_starts-requires-clause-names c =
-    c.in_ok-started.ensures.names
-    ∙ sym (ap names_in (ap (map said_in) c.deref.ensures.value ∙ c.in_ok-started.ensures.rows))
 
 pub build_starts-requires-clause-known : goal.build_starts-requires-clause-known
 build_starts-requires-clause-known c =
@@ -38,9 +29,3 @@ from_starts-requires-clause-known c =
     subst (λ n. All (λ start. IfSome start (λ w. w < n)) c.in_ok-starts.starts.items) (sym count)
     (subst (All (λ start. IfSome start (λ w. w < length (names_of Worker rows)))) (sym starts)
     (starts_within rows c.requires.tidy))
-
-pub returns-clause-starts : goal.returns-clause-starts
-returns-clause-starts c =
-    let lines = ap (map said_in) c.deref.ensures.value ∙ c.in_ok-started.ensures.rows in
-    c.from_starts.ensures.starts ∙ c.in_ok-starts.ensures
-    ∙ (λ i. map (start_at (c.requires.workers i) (lines i)) (c.requires.splits i))

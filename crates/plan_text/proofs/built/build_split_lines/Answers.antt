@@ -2,16 +2,12 @@ use Rattle.std.proofs.Common.{List, ◌∙◌, ap, map, subst, sym}
 use Rattle.std.specs.List.{All}
 use Rattle.text_lines.specs.Texts.{Word}
 use Rattle.line_shapes.specs.Lines.{Statement}
-use Rattle.line_shapes.specs.declared.keyword.Keyword.TheVariants.{Split, Worker}
+use Rattle.line_shapes.specs.declared.keyword.Keyword.TheVariants.{Split}
 use Rattle.line_rules.specs.Known.{rows_of}
 use Rattle.plan_text.specs.Names.{said_in}
 use Rattle.plan_text.specs.Tidy.{IsTidySplit}
-use Rattle.plan_text.proofs.Words.{few_names, tidy_splits}
+use Rattle.plan_text.proofs.Words.{tidy_splits}
 use Rattle.plan_text.proofs.built.build_split_lines.Goals as goal
-
-pub build_splits-requires-clause-few : goal.build_splits-requires-clause-few
-build_splits-requires-clause-few c =
-    rw c.requires.workers (few_names c.args.rows.now c.requires.tidy Worker 256 c.requires.tidy.few_workers)
 
 pub build_splits-requires-clause-known : goal.build_splits-requires-clause-known
 build_splits-requires-clause-known c =

@@ -1,10 +1,8 @@
-use Rattle.std.proofs.Common.{List, ◌≡◌, IfOk, map, subst, sym}
+use Rattle.std.proofs.Common.{List, subst, sym}
 use Rattle.std.specs.List.{All}
 use Rattle.line_shapes.specs.Lines.{Statement}
-use Rattle.wave_problem.specs.declared.lines.WorkerLine.{WorkerLine}
 use Rattle.plan_text.specs.Names.{nth_word}
 use Rattle.plan_text.specs.Tidy.{IsAtMost}
-use Rattle.plan_text.specs.Value.{declared_worker}
 use Rattle.plan_text.proofs.Words.{tidy_workers}
 use Rattle.plan_text.proofs.built.worker_lines.Goals as goal
 
@@ -12,8 +10,3 @@ pub build_workers-requires : goal.build_workers-requires
 build_workers-requires c =
     subst (λ (l : List Statement). All (λ s. IsAtMost (nth_word 2 s) 16) l) (sym c.requires.workers)
     (λ i d lt. (tidy_workers c.args.rows.now c.requires.tidy i d lt).slots)
-
-pub returns : goal.returns
-returns c =
-    subst (λ (l : List WorkerLine). IfOk c.build_workers.result (λ made. made.items ≡ l))
-    (λ i. map (declared_worker (c.in_ok-dead.ensures i)) (c.requires.workers i)) c.build_workers.ensures

@@ -1,16 +1,11 @@
 use Rattle.line_rules.specs.declared.purpose.Purpose.TheVariants.{Planning}
-use Rattle.plan_text.proofs.Read.{all_fit, problem_of, rows_tidy}
+use Rattle.plan_text.proofs.Read.{all_fit, rows_tidy}
 use Rattle.plan_text.proofs.reader.read_problem.Goals as goal
 
 pub build_problem_text-requires : goal.build_problem_text-requires
 build_problem_text-requires c =
     rows_tidy Planning c.args.text.now c.in_ok-known.known c.in_ok-known.ensures.ok c.rows.result.now
     c.rows.ensures
-
-pub returns-in-Ok-clause-ok : goal.returns-in-Ok-clause-ok
-returns-in-Ok-clause-ok c =
-    problem_of c.args.text.now c.in_ok-known.known c.rows.result.now c.in-Ok.value c.in_ok-known.ensures.ok
-    c.rows.ensures c.in-Ok.ensures.value
 
 pub returns-in-Ok-clause-fit : goal.returns-in-Ok-clause-fit
 returns-in-Ok-clause-fit c =

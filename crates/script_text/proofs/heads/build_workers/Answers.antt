@@ -4,7 +4,6 @@ use Rattle.line_shapes.specs.Lines.{Statement}
 use Rattle.plan_text.specs.Names.{said_in, nth_word}
 use Rattle.plan_text.specs.Tidy.{IsAtMost}
 use Rattle.plan_text.proofs.Words.{tidy_workers}
-use Rattle.script_text.specs.Heads.{slots_told}
 use Rattle.script_text.proofs.heads.build_workers.Goals as goal
 
 pub build_slots-requires : goal.build_slots-requires
@@ -12,11 +11,3 @@ build_slots-requires c =
     let lines = ap (map said_in) c.deref.ensures.value ∙ c.in_ok-worker_rows.ensures in
     subst (λ (l : List Statement). All (λ s. IsAtMost (nth_word 2 s) 16) l) (sym lines)
     (λ i d lt. (tidy_workers c.args.rows.now c.requires i d lt).slots)
-
-pub build_tree-requires-clause-workers : goal.build_tree-requires-clause-workers
-build_tree-requires-clause-workers c = ap (map said_in) c.deref-2.ensures.value ∙ c.in_ok-worker_rows.ensures
-
-pub returns-clause-slots : goal.returns-clause-slots
-returns-clause-slots c =
-    let lines = ap (map said_in) c.deref.ensures.value ∙ c.in_ok-worker_rows.ensures in
-    c.in_ok-slots.ensures ∙ ap (map slots_told) lines
