@@ -1,12 +1,7 @@
-use Rattle.std.proofs.Common.{rules, ap, sym, subst, true≢false, ℕ, List, inl, inr, Result, Ok, Err, ◌≡◌, ◌∙◌}
+use Rattle.std.proofs.Common.{ap, sym, subst, ℕ, List, inl, inr, Result, Ok, Err, ◌≡◌, ◌∙◌}
 use Rattle.std.proofs.Common.{Some, codes}
 use Rattle.std.proofs.lemmas.Option.{same_Some}
-use Rattle.clap.specs.Kinds.{IsAmong}
-use Rattle.clap.specs.Walk.{texts}
-use Rattle.clap.specs.Words.{kind_of}
 use Rattle.clap.specs.declared.error.Error.{Error}
-use Rattle.clap.specs.declared.error.kind.ErrorKind.TheVariants.{OutOfMemory}
-use Rattle.clap.specs.contracts.error.kind.ErrorKind.{the_type}
 use Rattle.command_line.specs.declared.asked.Ask.{Ask}
 use Rattle.command_line.specs.declared.asked.Ask.TheVariants.{Plan, Play, Run}
 use Rattle.command_line.specs.declared.asked.AskError.{AskError}
@@ -15,10 +10,9 @@ use Rattle.command_line.specs.declared.asked.PlayOptions.{PlayOptions}
 use Rattle.command_line.specs.declared.asked.RunOptions.{RunOptions}
 use Rattle.clap.specs.Matches.{subcommand_name_of}
 use Rattle.command_line.specs.declared.asked.AskError.TheVariants.{Fault}
-use Rattle.command_line.specs.Commands.{NamesNoNetwork, RefusesNetwork, faults_in, is_set, word_of}
-use Rattle.command_line.proofs.Mrjob.{faulted, found_named, found_value, named_in, unfaulted}
+use Rattle.command_line.specs.Commands.{NamesNoNetwork, RefusesNetwork, is_set, word_of}
+use Rattle.command_line.proofs.Mrjob.{found_named, found_value, unfaulted}
 use Rattle.command_line.proofs.ask.Goals as goal
-use denote.Enum.Bare.{sameb}
 
 the_options : (a b : PlanOptions) → ◌≡◌ {A = Result Ask AskError} (Ok (Plan a)) (Ok (Plan b)) → a ≡ b
 the_options a b same = cc
@@ -34,12 +28,6 @@ the_fault a b same = cc
 
 the_error : (a b : AskError) → ◌≡◌ {A = Result Ask AskError} (Err a) (Err b) → a ≡ b
 the_error a b same = cc
-
-pub returns-in-check-clause-command : goal.returns-in-check-clause-command
-returns-in-check-clause-command c =
-    named_in c.in-Ok.commands _ c.in-Ok.ensures
-    c.in-Ok-try_get_matches_from.matches c.in-Ok-try_get_matches_from.ensures.matches
-    _ (codes "check") c.in-Some.ensures.name (search rules)
 
 pub returns-in-check-clause-ok : goal.returns-in-check-clause-ok
 returns-in-check-clause-ok c ok =
@@ -60,12 +48,6 @@ unreachable-requires-in_default-name c =
       | inr (inr (inr (inr none))) ↦ none
     ]
 
-pub returns-in-play-clause-command : goal.returns-in-play-clause-command
-returns-in-play-clause-command c =
-    named_in c.in-Ok.commands _ c.in-Ok.ensures
-    c.in-Ok-try_get_matches_from.matches c.in-Ok-try_get_matches_from.ensures.matches
-    _ (codes "play") c.in-Some.ensures.name (search rules)
-
 pub returns-in-play-clause-play_quiet : goal.returns-in-play-clause-play_quiet
 returns-in-play-clause-play_quiet c =
     let found = found_value c.in-Ok.commands _ c.in-Ok.ensures
@@ -77,12 +59,6 @@ returns-in-play-clause-play_quiet c =
 pub returns-in-play-clause-ok : goal.returns-in-play-clause-ok
 returns-in-play-clause-ok c ok =
     unfaulted c.in-Ok.commands _ c.in-Ok.ensures c.in-Ok-try_get_matches_from.ensures.kinds
-
-pub returns-in-run-clause-command : goal.returns-in-run-clause-command
-returns-in-run-clause-command c =
-    named_in c.in-Ok.commands _ c.in-Ok.ensures
-    c.in-Ok-try_get_matches_from.matches c.in-Ok-try_get_matches_from.ensures.matches
-    _ (codes "run") c.in-Some.ensures.name (search rules)
 
 pub returns-in-run-clause-history : goal.returns-in-run-clause-history
 returns-in-run-clause-history c =
@@ -103,12 +79,6 @@ returns-in-run-clause-run_quiet c =
 pub returns-in-run-clause-ok : goal.returns-in-run-clause-ok
 returns-in-run-clause-ok c ok =
     unfaulted c.in-Ok.commands _ c.in-Ok.ensures c.in-Ok-try_get_matches_from.ensures.kinds
-
-pub returns-in-Some-network_named-clause-command : goal.returns-in-Some-network_named-clause-command
-returns-in-Some-network_named-clause-command c =
-    named_in c.in-Ok.commands _ c.in-Ok.ensures
-    c.in-Ok-try_get_matches_from.matches c.in-Ok-try_get_matches_from.ensures.matches
-    _ (codes "plan") c.in-Some.ensures.name (search rules)
 
 pub returns-in-Some-network_named-clause-flag : goal.returns-in-Some-network_named-clause-flag
 returns-in-Some-network_named-clause-flag c =
@@ -139,12 +109,3 @@ returns-in-plan-clause-fault c =
       subst RefusesNetwork (the_error _ _ is) c.unknown_network.ensures,
       subst NamesNoNetwork found c.in-None.ensures,
     )
-
-pub returns-clause-fault : goal.returns-clause-fault
-returns-clause-fault c =
-    let among = faulted c.in-Ok.commands _ c.in-Ok.ensures c.in-Err-2.error c.in-Err-2.ensures.kinds
-    (λ memory. true≢false (sym (sym c.if-eq.false ∙ c.eq.ensures
-    ∙ ap (λ k. sameb the_type k OutOfMemory)
-    (c.kind.ensures ∙ ap kind_of c.in-Err-2.error-is ∙ memory)))) in
-    λ error is. inl (subst (λ e. IsAmong (kind_of e) (faults_in (texts c.args.words.now)))
-    (sym c.in-Err-2.error-is ∙ the_fault _ _ is) among)
