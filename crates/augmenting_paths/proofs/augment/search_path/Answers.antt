@@ -1,19 +1,13 @@
 use Rattle.std.proofs.Common.{◌≡◌, ◌∙◌, refl, arith}
 use Rattle.std.specs.Prelude.{slice_index}
 use Rattle.augmenting_paths.proofs.NextUnit.{may_search}
-use Rattle.augmenting_paths.proofs.Shipped.{sink_in, not_none, total_low, unit_found}
+use Rattle.augmenting_paths.proofs.Shipped.{not_none, total_low, unit_found}
 use Rattle.augmenting_paths.proofs.augment.search_path.Goals as goal
 
 pub find-requires-clause-may : goal.find-requires-clause-may
 find-requires-clause-may g c =
     may_search c.limits.ensures c.requires.next c.requires.kept.size c.requires.kept.lists
     c.requires.lifted refl
-
-pub find-requires-clause-sink : goal.find-requires-clause-sink
-find-requires-clause-sink g c =
-    let inside = sink_in c.requires.next.can c.requires.next.left c.requires.lifted.state in
-    let size = c.requires.kept.size in
-    omega arith
 
 pub unreachable-requires : goal.unreachable-requires
 unreachable-requires g c =
