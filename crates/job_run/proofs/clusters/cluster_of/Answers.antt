@@ -1,16 +1,6 @@
 use Rattle.std.proofs.Common.{ℕ, List, Err, ◌∙◌, ap, length, subst, sym}
 use Rattle.wave_problem.specs.Wave.{AreHeldWell}
-use Rattle.master_core.specs.Clusters.{AreFewAndSmall}
-use Rattle.job_run.proofs.Answered.{few_and_small}
 use Rattle.job_run.proofs.clusters.cluster_of.Goals as goal
-
-pub unreachable-requires : goal.unreachable-requires
-unreachable-requires c =
-    let head = c.args.head in
-    c.new.ensures.limit.0 (c.in-Err-Limit.is ∙ ap Err c.in-Err-Limit.field-0-is)
-    (subst (λ (slots : List ℕ). AreFewAndSmall slots head.splits.items head.parts)
-    (sym c.as_slice.ensures.value)
-    (few_and_small head c.requires))
 
 pub unreachable-requires-in-Err-Holder : goal.unreachable-requires-in-Err-Holder
 unreachable-requires-in-Err-Holder c =

@@ -13,9 +13,3 @@ tell-requires-clause-named g c =
     c.in_ok-job.ensures c.run_recorded-ended.ensures in
     texts_told read.script.names (setup_on (cluster_in read.head)) c.run_recorded-ended.result
     (texts_named read.head read.script c.requires.fit c.requires.known) ended
-
-pub returns : goal.returns
-returns g c =
-    let ended = subst (λ (job : Job). IfOk c.run_recorded-ended.result (IsRecordOf (setup_of job)))
-    c.in_ok-job.ensures c.run_recorded-ended.ensures in
-    c.tell.ensures (setup_on (cluster_in c.args.read.head)) ended
