@@ -42,8 +42,8 @@ impl Trail {
         self.time = time;
     }
 
-    /// Whether a search from a node comes to the sink, and then its path, whose nodes are open again. It
-    /// enters each node at most once, and looks at each of its arcs at most once.
+    /// Whether a search from a query's start comes to its sink, and then its path, whose nodes are open
+    /// again. It enters each node at most once, and looks at each of its arcs at most once.
     pub fn search<L: Layout>(
         &mut self,
         network: &Network<L>,

@@ -10,8 +10,8 @@ use node_ids::Layout;
 use shortest_paths::{Potentials, Query, leaving};
 use std::alloc::AllocError;
 
-/// Whether a walk from a node comes to the sink, and then its path. It goes over one of the node's own arcs,
-/// and on by `arc_down`; where it comes no further, it begins anew with the next of the node's own arcs. The
+/// Whether a walk from a query's start comes to its sink, and then its path. It goes over one of the start's
+/// own arcs, and on by `arc_down`; where it comes no further, it begins anew with the next of those arcs. The
 /// last of them is tried before the others: it leads to the latest node, that of splits which wait.
 pub fn walk_down<L: Layout>(
     network: &Network<L>,
