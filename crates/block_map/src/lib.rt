@@ -11,16 +11,8 @@ mod holders;
 
 ghost use Rattle.std.specs.Prelude.{◌≡◌, ◌≢◌, ◌<◌, ◌≤◌, ◌↔◌, [], ◌∷◌, ◌++◌, ◌&&◌, true, false, if◌then◌else◌};
 ghost use Rattle.std.specs.Prelude.{length, replicate, All, IfOk, OnOk, OnErr};
-ghost use Rattle.block_map.specs.Holdings.{
-  are_eight,
-  has_eight_among,
-  holders_of,
-  is_holder,
-  with_holder,
-  with_holder_of_all,
-  without_holder,
-  without_worker,
-};
+ghost use Rattle.block_map.specs.Holdings.{are_eight, has_eight_among, holders_of, is_holder, with_holder};
+ghost use Rattle.block_map.specs.Holdings.{with_holder_of_all, without_holder, without_worker};
 ghost use Rattle.block_map.specs.Copies.{AreCopies, holdings};
 
 use holders::Holders;

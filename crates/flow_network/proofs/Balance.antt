@@ -1,7 +1,7 @@
 -- What one unit over a path changes: rooms, lengths, balance.
 use Rattle.std.proofs.Common.{◌≡◌, ℕ, zero, suc, ◌+◌, ◌-◌, ◌*◌, ◌<◌, Bool, true, false, cond, eqb, List, []}
 use Rattle.std.proofs.Common.{◌∷◌}
-use Rattle.std.proofs.Common.{length, get_or, set, refl, sym, ap, ◌∙◌, inl, inr, arith, get_or-set_same}
+use Rattle.std.proofs.Common.{length, get_or, set, refl, sym, ap, ◌∙◌, arith, get_or-set_same}
 use Rattle.std.proofs.Common.{get_or-set_other, length-set}
 use Rattle.std.proofs.Math.Nat.{add-mul}
 use Rattle.std.proofs.lemmas.Bool.{cases_eq}
@@ -89,18 +89,9 @@ room_stays arcs flows (Forward i) (Forward j) e r n l =
 room_stays arcs flows (Reverse i) (Reverse j) e r n l =
     rw (get_or-set_other flows i j (get_or flows i 0 - 1) 0 (λ s. n (ap Reverse (sym s)))) l
 room_stays arcs flows (Forward i) (Reverse j) e r n l =
-    let inside : i < length flows = rw e r.listed in
-    elim (cases_eq j i) [
-      | inl s ↦ rw (s, get_or-set_same flows i (get_or flows i 0 + 1) 0 inside) (omega arith)
-      | inr s ↦ rw (get_or-set_other flows i j (get_or flows i 0 + 1) 0 s) l
-    ]
+    grind (arith, cases_eq, get_or-set_same, get_or, get_or-set_other)
 room_stays arcs flows (Reverse i) (Forward j) e r n l =
-    let inside : i < length flows = rw e r.listed in
-    elim (cases_eq j i) [
-      | inl s ↦ let l' : 0 < (arc_at arcs i).capacity - get_or flows i 0 = (rw s at l) in
-          rw (s, get_or-set_same flows i (get_or flows i 0 - 1) 0 inside) (omega arith)
-      | inr s ↦ rw (get_or-set_other flows i j (get_or flows i 0 - 1) 0 s) l
-    ]
+    grind (arith, cases_eq, get_or, get_or-set_same, get_or-set_other)
 
 -- so the rest of a path stays a path
 pub IsPath-shifted : (arcs : List FlowArc) (flows : List ℕ) (a : ArcNo) (path : List ArcNo) (u v : ℕ) →
@@ -142,15 +133,9 @@ flow_cost-set (a ∷ arcs) (f ∷ flows) (suc k) g e l =
 
 pub flow_cost_forward : (arcs : List FlowArc) (flows : List ℕ) (k : ℕ) → length flows ≡ length arcs →
     k < length arcs → flow_cost arcs (shifted flows (Forward k)) ≡ flow_cost arcs flows + (arc_at arcs k).cost
-flow_cost_forward arcs flows k e l =
-    let step = flow_cost-set arcs flows k (get_or flows k 0 + 1) e l in
-    let more = add-mul (get_or flows k 0) 1 (arc_at arcs k).cost in omega arith
+flow_cost_forward arcs flows k e l = grind (arith, flow_cost-set, get_or, add-mul)
 
 pub flow_cost_back : (arcs : List FlowArc) (flows : List ℕ) (k : ℕ) → length flows ≡ length arcs →
     k < length arcs → 0 < get_or flows k 0
     → flow_cost arcs (shifted flows (Reverse k)) + (arc_at arcs k).cost ≡ flow_cost arcs flows
-flow_cost_back arcs flows k e l unit =
-    let step = flow_cost-set arcs flows k (get_or flows k 0 - 1) e l in
-    let one : get_or flows k 0 ≡ get_or flows k 0 - 1 + 1 = omega arith in
-    let more = ap (λ (z : ℕ). z * (arc_at arcs k).cost) one
-    ∙ add-mul (get_or flows k 0 - 1) 1 (arc_at arcs k).cost in omega arith
+flow_cost_back arcs flows k e l unit = grind (arith, flow_cost-set, get_or, add-mul)

@@ -37,10 +37,7 @@ outflow-take (a ∷ arcs) (f ∷ flows) u (suc j) e l at = let rest =
     outflow-take arcs flows u j (omega arith) (omega arith) at in omega arith
 
 pub enough_wait : EnoughWait
-enough_wait arcs flows u j extra waiting e l at none balance now =
-    let ins = inflow-take arcs flows u j e none in
-    let outs = outflow-take arcs flows u j e l at in
-    omega arith
+enough_wait arcs flows u j extra waiting e l at none balance now = grind (arith, inflow-take, outflow-take)
 
 -- one arc more of the first ones
 pub inflow-more : (arcs : List FlowArc) (flows : List ℕ) (v k : ℕ) → length flows ≡ length arcs →

@@ -2,7 +2,7 @@
 use Rattle.std.proofs.Common.{◌≡◌, ℕ, zero, suc, ◌+◌, ◌*◌, ◌<◌, ◌≤◌, Bool, true, false, cond, eqb, List, []}
 use Rattle.std.proofs.Common.{◌∷◌, ◌++◌, length, get_or, set, refl, sym, ap, ◌∙◌, inl, inr, ◌⊎◌, arith}
 use Rattle.std.proofs.Common.{length-append}
-use Rattle.std.proofs.lemmas.Bool.{cases_eq, eq-eqb, ne_eqb, eqb-true}
+use Rattle.std.proofs.lemmas.Bool.{cases_eq, eq-eqb, ne_eqb}
 use Rattle.flow_network.specs.declared.arcs.FlowArc.{FlowArc}
 use Rattle.flow_network.specs.declared.arcs.ArcNo.{ArcNo}
 use Rattle.flow_network.specs.declared.arcs.ArcNo.TheVariants.{Forward, Reverse}
@@ -36,21 +36,13 @@ start_of (Reverse i) x = x.to
 into_own : (a : ArcNo) (k : ℕ) (x : FlowArc) (u : ℕ) → arc_index a ≡ k → start_of a x ≡ u →
     IsIn a (own_leaving k x u)
 unfolding start_of
-into_own (Forward i) k x u e s =
-    in_left (Forward i) (cond (eqb x.from u) (Forward k ∷ []) []) (cond (eqb x.to u) (Reverse k ∷ []) [])
-    (rw (eq-eqb x.from u s) (inl (ap Forward e)))
-into_own (Reverse i) k x u e s =
-    in_right (Reverse i) (cond (eqb x.from u) (Forward k ∷ []) []) (cond (eqb x.to u) (Reverse k ∷ []) [])
-    (rw (eq-eqb x.to u s) (inl (ap Reverse e)))
+into_own (Forward i) k x u e s = grind arith
+into_own (Reverse i) k x u e s = grind arith
 
 from_own : (a : ArcNo) (k : ℕ) (x : FlowArc) (u : ℕ) → IsIn a (own_leaving k x u) →
     (arc_index a ≡ k) × (start_of a x ≡ u)
 unfolding start_of
-from_own a k x u i =
-    elim (in_split a (cond (eqb x.from u) (Forward k ∷ []) []) (cond (eqb x.to u) (Reverse k ∷ []) []) i) [
-      | inl l ↦ (let c = in_cond a (eqb x.from u) (Forward k) l in rw c.1 (refl, eqb-true x.from u c.0))
-      | inr r ↦ (let c = in_cond a (eqb x.to u) (Reverse k) r in rw c.1 (refl, eqb-true x.to u c.0))
-    ]
+from_own a k x u i = grind arith
 
 into : (a : ArcNo) (k : ℕ) (arcs : List FlowArc) (u j : ℕ) → j < length arcs → arc_index a ≡ k + j →
     start_of a (arc_at arcs j) ≡ u → IsIn a (leaving_from k arcs u)
@@ -103,12 +95,8 @@ marked_past (false ∷ marks) i x l = let rest = marked_past marks (suc i) x (om
 
 marked_once : (marks : List Bool) (i x : ℕ) → marked_sum marks i (λ u. cond (eqb x u) 1 0) ≤ 1
 marked_once [] i x = omega arith
-marked_once (true ∷ marks) i x = elim (cases_eq x i) [
-  | inl e ↦ (let rest = marked_past marks (suc i) x (omega arith) in
-      let one : cond {A = ℕ} (eqb x i) 1 0 ≡ 1 = ap (λ b. cond b 1 0) (eq-eqb x i e) in omega arith)
-  | inr n ↦ (let rest = marked_once marks (suc i) x in let none : cond {A = ℕ} (eqb x i) 1 0 ≡ 0 =
-      ap (λ b. cond b 1 0) (ne_eqb x i n) in omega arith)
-]
+marked_once (true ∷ marks) i x =
+    grind (arith, marked_once marks (suc i) x, cases_eq, marked_past, eq-eqb, ne_eqb)
 marked_once (false ∷ marks) i x = let rest = marked_once marks (suc i) x in omega arith
 
 marked_none : (marks : List Bool) (i : ℕ) → marked_sum marks i (λ u. 0) ≡ 0

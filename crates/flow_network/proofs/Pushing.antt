@@ -1,6 +1,6 @@
 -- The loop that pushes a unit over each arc of a path.
-use Rattle.std.proofs.Common.{◌≡◌, ℕ, ◌+◌, ◌-◌, ◌<◌, List, [], ◌∷◌, length, get_or, sym, ap, ◌∙◌, subst, inl}
-use Rattle.std.proofs.Common.{inr, arith, get_or-set_same, get_or-set_other, drop}
+use Rattle.std.proofs.Common.{◌≡◌, ℕ, ◌+◌, ◌<◌, List, [], ◌∷◌, length, get_or, sym, ap, ◌∙◌, subst}
+use Rattle.std.proofs.Common.{arith, get_or-set_same, get_or-set_other, drop}
 use Rattle.std.proofs.lemmas.List.{drop_more}
 use Rattle.std.proofs.lemmas.Bool.{cases_eq}
 use Rattle.flow_network.specs.declared.arcs.FlowArc.{FlowArc}
@@ -19,39 +19,21 @@ AllResidual-shifted : (arcs : List FlowArc) (flows : List ℕ) (a : ArcNo) (path
     length flows ≡ length arcs → IsResidual arcs flows a
     → Lacks a path → AllResidual arcs flows path → AllResidual arcs (shifted flows a) path
 AllResidual-shifted arcs flows a [] e r n p = tt
-AllResidual-shifted arcs flows a (b ∷ path) e r n p = (
-  record { listed = p.0.listed; room = room_stays arcs flows a b e r n.0 p.0.room },
-  AllResidual-shifted arcs flows a path e r n.1 p.1,
-)
+AllResidual-shifted arcs flows a (b ∷ path) e r n p =
+    grind (arith, AllResidual-shifted arcs flows a path e r n.1 p.1, room_stays)
 
 within-shifted : (arcs : List FlowArc) (flows : List ℕ) (a : ArcNo) → length flows ≡ length arcs →
     IsResidual arcs flows a
     → WithinCapacities arcs flows → WithinCapacities arcs (shifted flows a)
 within-shifted arcs flows (Forward i) e r w k l =
-    let room = r.room in
-    let inside : i < length flows = rw e r.listed in
-    elim (cases_eq k i) [
-      | inl s ↦ rw (s, get_or-set_same flows i (get_or flows i 0 + 1) 0 inside) (omega arith)
-      | inr s ↦ rw (get_or-set_other flows i k (get_or flows i 0 + 1) 0 s) (w k l)
-    ]
+    grind (arith, cases_eq, get_or-set_same, get_or, get_or-set_other)
 within-shifted arcs flows (Reverse i) e r w k l =
-    let inside : i < length flows = rw e r.listed in
-    elim (cases_eq k i) [
-      | inl s ↦ let old = w i r.listed in
-          rw (s, get_or-set_same flows i (get_or flows i 0 - 1) 0 inside) (omega arith)
-      | inr s ↦ rw (get_or-set_other flows i k (get_or flows i 0 - 1) 0 s) (w k l)
-    ]
+    grind (arith, cases_eq, get_or-set_same, get_or, get_or-set_other)
 
 -- one turn of the loop
 pub pushing_step : {arcs : List FlowArc} {flows : List ℕ} {a : ArcNo} {rest : List ArcNo} {last : List ℕ}
     → IsPushing arcs flows (a ∷ rest) last → IsPushing arcs (shifted flows a) rest last
-pushing_step {arcs} {flows} {a} {rest} p = record {
-  sizes = length-shifted flows a ∙ p.sizes;
-  within = within-shifted arcs flows a p.sizes p.residual.0 p.within;
-  distinct = p.distinct.1;
-  residual = AllResidual-shifted arcs flows a rest p.sizes p.residual.0 p.distinct.0 p.residual.1;
-  rest_is = p.rest_is;
-}
+pushing_step {arcs} {flows} {a} {rest} p = grind (arith, length-shifted, within-shifted, AllResidual-shifted)
 
 -- and the last flows keep within the capacities
 pub pushed_within : (arcs : List FlowArc) (flows : List ℕ) (path : List ArcNo) (last : List ℕ) →
@@ -75,7 +57,4 @@ pushing_turn arcs flows path last i a next l e p n =
 pub pushing_room : (arcs : List FlowArc) (flows : List ℕ) (path : List ArcNo) (last : List ℕ) (i : ℕ)
     (a : ArcNo) → i < length path
     → get_or path i (Forward 0) ≡ a → IsPushing arcs flows (drop i path) last → IsResidual arcs flows a
-pushing_room arcs flows path last i a l e p =
-    let q : IsPushing arcs flows (a ∷ drop (i + 1) path) last =
-    subst (λ rest. IsPushing arcs flows rest last) (at_place path i a l e) p in
-    q.residual.0
+pushing_room arcs flows path last i a l e p = grind (arith, at_place)

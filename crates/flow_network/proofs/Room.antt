@@ -58,9 +58,5 @@ inflow-ge_two (a ∷ arcs) (f ∷ flows) v (suc i) (suc j) e l m p q n =
     (λ s. n (ap suc s)) in omega arith
 
 pub room_above : RoomBelowIsRoomAbove
-room_above arcs flows v j e w balance l at cap = (
-  (λ i m from room. let less = outflow-lt arcs flows v i e w m from room in
-      let own = inflow-ge arcs flows v j e l at in omega arith),
-  (λ i m to n unit. let most = outflow-le arcs flows v w in
-      let both = inflow-ge_two arcs flows v i j e m l to at n in omega arith),
-)
+room_above arcs flows v j e w balance l at cap =
+    grind (arith, outflow-lt, inflow-ge, outflow-le, inflow-ge_two)

@@ -1,17 +1,7 @@
 ghost use Rattle.std.specs.Prelude.{◌≡◌, ◌+◌, ◌≤◌, ◌↔◌, List, ◌++◌, true, length, vec_len, vec_capacity};
 ghost use Rattle.std.specs.Prelude.{IsTrue, IfOk, OnOk, OnErr};
-ghost use Rattle.hand_ledger.specs.Hands.{
-  Kept,
-  counts_in,
-  has_room,
-  kept,
-  last_event,
-  last_place,
-  new_hand,
-  noted,
-  starts_in,
-  with_call,
-};
+ghost use Rattle.hand_ledger.specs.Hands.{Kept, counts_in, has_room, kept, last_event, last_place, new_hand};
+ghost use Rattle.hand_ledger.specs.Hands.{noted, starts_in, with_call};
 ghost use Rattle.hand_ledger.specs.Inside.{IsPlace};
 ghost use Rattle.hand_ledger.specs.Marks.{Marks};
 ghost use Rattle.hand_ledger.specs.declared.marks.TheConstants.{PLACES};

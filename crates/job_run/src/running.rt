@@ -7,17 +7,8 @@ ghost use Rattle.master_state.specs.States.{Setup};
 ghost use Rattle.script_text.specs.Scripts.{IsOfHead, IsTarget};
 ghost use Rattle.job_threads.specs.Outcomes.{IsRecordOf};
 ghost use Rattle.job_run.specs.PlayAnswer.{AreEnds, cluster_in};
-ghost use Rattle.job_run.specs.RunAnswer.{
-  HasTextsNamed,
-  RunAnswer,
-  TellsEnd,
-  TellsJob,
-  TellsRun,
-  done_lines,
-  job_in,
-  ran_as,
-  setup_on,
-};
+ghost use Rattle.job_run.specs.RunAnswer.{HasTextsNamed, RunAnswer, TellsEnd, TellsJob, TellsRun, done_lines};
+ghost use Rattle.job_run.specs.RunAnswer.{job_in, ran_as, setup_on};
 
 use crate::clusters::cluster_of;
 use crate::ending::add_open;

@@ -1,13 +1,7 @@
 ghost use Rattle.std.specs.Prelude.{◌≡◌, ◌<◌, ◌≤◌, OnOk};
 ghost use Rattle.job_threads.specs.Holdings.{changed_at, stopped};
-ghost use Rattle.job_threads.specs.Turns.{
-  has_ended,
-  idle_after,
-  is_still,
-  nap_micros,
-  quiet_after,
-  quiet_swept,
-};
+ghost use Rattle.job_threads.specs.Turns.{has_ended, idle_after, is_still, nap_micros, quiet_after};
+ghost use Rattle.job_threads.specs.Turns.{quiet_swept};
 
 use crate::beats::Watch;
 use crate::common::Common;

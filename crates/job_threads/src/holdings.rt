@@ -1,15 +1,6 @@
 ghost use Rattle.std.specs.Prelude.{◌≡◌, ◌<◌, ◌≤◌, Some, slice_get};
-ghost use Rattle.job_threads.specs.Holdings.{
-  AreReturning,
-  back_with,
-  buried,
-  changed_at,
-  has_risen,
-  holders_of,
-  holding_too,
-  may_return,
-  stopped,
-};
+ghost use Rattle.job_threads.specs.Holdings.{AreReturning, back_with, buried, changed_at, has_risen};
+ghost use Rattle.job_threads.specs.Holdings.{holders_of, holding_too, may_return, stopped};
 
 use master_core::Cluster;
 use node_ids::{SplitNo, SplitSet, WorkerNo};

@@ -1,14 +1,8 @@
 ghost use Rattle.std.specs.Prelude.{◌≡◌, IsTrue, slice_get};
 ghost use Rattle.master_state.specs.declared.events.Event.{Event};
 ghost use Rattle.shared_master.specs.Steps.{AreDeadOf, IsKeptSweep};
-ghost use Rattle.job_threads.specs.Holdings.{
-  AreReturning,
-  back_with,
-  buried,
-  changed_at,
-  has_risen,
-  holding_too,
-};
+ghost use Rattle.job_threads.specs.Holdings.{AreReturning, back_with, buried, changed_at, has_risen};
+ghost use Rattle.job_threads.specs.Holdings.{holding_too};
 ghost use Rattle.job_threads.specs.Steps.{Changes};
 ghost use Rattle.job_threads.specs.Watching.{AreLooks};
 

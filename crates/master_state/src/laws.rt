@@ -1,15 +1,7 @@
 //! Laws of the machine, each proved once, of its definitions alone.
-ghost use Rattle.master_state.specs.Laws.{
-  CallsKeep,
-  EveryWaveIsBest,
-  LegalStatesAreTidy,
-  OpeningIsKept,
-  PartsAsToldAreRight,
-  ResultsAsToldAreRight,
-  SecondResultsAreOld,
-  TheOtherGoesOn,
-  WavesKeep,
-};
+ghost use Rattle.master_state.specs.Laws.{CallsKeep, EveryWaveIsBest, LegalStatesAreTidy, OpeningIsKept};
+ghost use Rattle.master_state.specs.Laws.{PartsAsToldAreRight, ResultsAsToldAreRight, SecondResultsAreOld};
+ghost use Rattle.master_state.specs.Laws.{TheOtherGoesOn, WavesKeep};
 
 /// A state that a legal history leads to keeps its tables in agreement.
 pub fn legal_states_are_tidy()

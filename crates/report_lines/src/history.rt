@@ -1,17 +1,8 @@
 ghost use Rattle.std.specs.Prelude.{◌≡◌, ◌≤◌, ◌+◌, ◌++◌, ◌∷◌, OnOk, [], if◌then◌else◌, length, string_bytes};
 ghost use Rattle.std.specs.Prelude.{◌-◌, ◌<◌, slice_get, slice_index_or};
 ghost use Rattle.std.specs.Fmt.{decimal};
-ghost use Rattle.report_lines.specs.History.{
-  attempt_line,
-  event_lines,
-  history_lines,
-  join_line,
-  pair_line,
-  start_line,
-  start_lines,
-  sweep_line,
-  worker_line,
-};
+ghost use Rattle.report_lines.specs.History.{attempt_line, event_lines, history_lines, join_line, pair_line};
+ghost use Rattle.report_lines.specs.History.{start_line, start_lines, sweep_line, worker_line};
 ghost use Rattle.text_lines.specs.Texts.{name_of};
 
 use crate::answers::{add_backup, add_reduce, add_wave};

@@ -8,24 +8,9 @@ ghost use Rattle.master_state.specs.declared.events.Event.{Event};
 ghost use Rattle.hand_ledger.specs.Hands.{has_room, new_hand, noted};
 ghost use Rattle.hand_ledger.specs.Settling.{all_calls};
 ghost use Rattle.hand_ledger.specs.declared.making.HandError.{HandError};
-ghost use Rattle.shared_master.specs.Steps.{
-  answered,
-  call_of,
-  HasCounts,
-  IsAt,
-  IsBarrier,
-  IsHandedBack,
-  IsKnownTo,
-  IsLast,
-  IsOwn,
-  IsReduceStep,
-  IsStep,
-  NamesNext,
-  plain_backup,
-  plain_with,
-  Replies,
-  total_after,
-};
+ghost use Rattle.shared_master.specs.Steps.{answered, call_of, HasCounts, IsAt, IsBarrier, IsHandedBack};
+ghost use Rattle.shared_master.specs.Steps.{IsKnownTo, IsLast, IsOwn, IsReduceStep, IsStep, NamesNext};
+ghost use Rattle.shared_master.specs.Steps.{plain_backup, plain_with, Replies, total_after};
 
 use crate::calls::{PlainCall, plain_backup, plain_reduce, plain_with};
 use crate::sizes::Sizes;

@@ -4,19 +4,9 @@ ghost use Rattle.master_state.specs.declared.events.Event.{Event};
 ghost use Rattle.master_state.specs.Jobs.{IsGlance, IsKept, Job};
 ghost use Rattle.master_state.specs.Refusals.{Call};
 ghost use Rattle.hand_ledger.specs.Hands.{new_hand};
-ghost use Rattle.shared_master.specs.Steps.{
-  AreDeadOf,
-  IsHandedBack,
-  IsKeptAs,
-  IsKeptBackup,
-  IsKeptReduce,
-  IsKeptSweep,
-  IsKnownTo,
-  call_of,
-  plain_event,
-  plain_with,
-  Replies,
-};
+ghost use Rattle.shared_master.specs.Steps.{AreDeadOf, IsHandedBack, IsKeptAs, IsKeptBackup, IsKeptReduce};
+ghost use Rattle.shared_master.specs.Steps.{IsKeptSweep, IsKnownTo, call_of, plain_event, plain_with};
+ghost use Rattle.shared_master.specs.Steps.{Replies};
 ghost use Rattle.shared_master.specs.Waves.{TurnsAs, WavesAs};
 
 use crate::calls::PlainCall;

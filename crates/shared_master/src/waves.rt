@@ -3,16 +3,8 @@ ghost use Rattle.std.specs.Prelude.{Err, IfOk, MatchResult};
 ghost use Rattle.wave_problem.specs.Assignment.{IsBest, pairs_of};
 ghost use Rattle.price_certificate.specs.Certificate.{claim, Certifies, HasOneSize};
 ghost use Rattle.shared_master.specs.declared.waves.WaveError.{WaveError};
-ghost use Rattle.shared_master.specs.Waves.{
-  CommitsAs,
-  FitsSizes,
-  has_place,
-  IsAsked,
-  IsUnasked,
-  noted_wave,
-  PlansAs,
-  why_of,
-};
+ghost use Rattle.shared_master.specs.Waves.{CommitsAs, FitsSizes, has_place, IsAsked, IsUnasked, noted_wave};
+ghost use Rattle.shared_master.specs.Waves.{PlansAs, why_of};
 
 use crate::held::Held;
 use crate::sizes::Sizes;

@@ -10,27 +10,10 @@ ghost use Rattle.std.specs.Prelude.{◌≡◌, ℕ, ◌<◌, ◌≤◌, [], leng
 ghost use Rattle.std.specs.Prelude.{◌==◌};
 ghost use Rattle.std.specs.List.{list_any, position_or_len};
 ghost use Rattle.node_ids.specs.Sets.{has_number};
-ghost use Rattle.worker_table.specs.Workers.{
-  IsTable,
-  IsWithin,
-  free_slots,
-  fresh,
-  has_free_slot,
-  heard,
-  heard_from,
-  is_barred,
-  is_live,
-  is_silent,
-  opening_workers,
-  swept,
-  taken_slots,
-  with_bar,
-  with_death,
-  with_return,
-  with_slot_given,
-  with_slot_taken,
-  worker_at,
-};
+ghost use Rattle.worker_table.specs.Workers.{IsTable, IsWithin, free_slots, fresh, has_free_slot, heard};
+ghost use Rattle.worker_table.specs.Workers.{heard_from, is_barred, is_live, is_silent, opening_workers};
+ghost use Rattle.worker_table.specs.Workers.{swept, taken_slots, with_bar, with_death, with_return};
+ghost use Rattle.worker_table.specs.Workers.{with_slot_given, with_slot_taken, worker_at};
 
 use node_ids::{PairSet, SplitNo, WorkerNo, WorkerSet};
 use std::alloc::{AllocError, Global};
