@@ -4,6 +4,7 @@ ghost use Rattle.std.specs.Prelude.{IfOk, IfErr, OnOk, OnErr, IsOk, IsErr};
 ghost use Rattle.std.specs.List.{All};
 ghost use Rattle.std.specs.Slots.{slots_items, slots_len, IsFull};
 ghost use Rattle.beat_board.specs.Values.{beats_by, told_by, last_seen, look, AreWithin, AreToldOnce};
+ghost use Rattle.beat_board.specs.Values.{BoardValue};
 ghost use Rattle.beat_board.specs.Rule.{beats_of, told_of};
 ghost use Rattle.beat_board.specs.Views.{making};
 
@@ -26,9 +27,6 @@ pub struct Board {
 }
 
 impl Model for Board {
-    ghost use Rattle.std.specs.Prelude.{◌≡◌, ◌≤◌};
-    ghost use Rattle.beat_board.specs.Values.{BoardValue};
-
     ghost Value = { BoardValue };
 
     ghost view = { λ b. record { board = b.table.shared.table_id; workers = b.workers } };

@@ -1,4 +1,6 @@
-ghost use Rattle.std.specs.Prelude.{◌≡◌, ◌+◌, ◌<◌, ◌↔◌, IsTrue, false};
+ghost use Rattle.std.specs.Prelude.{◌≡◌, ◌+◌, ◌<◌, ◌↔◌, IsTrue, false, ◌≤◌, [], ◌^◌};
+ghost use Rattle.beat_board.specs.Values.{MakerValue, SeatValue, ReaderValue};
+ghost use Rattle.beat_board.specs.Views.{making, seated, answers, reading};
 
 // The maker, the seats and the readers of a board. Each has a token of the table, which takes no bytes
 // and with which its steps are made.
@@ -17,10 +19,6 @@ pub struct Maker {
 }
 
 impl Model for Maker {
-    ghost use Rattle.std.specs.Prelude.{◌≡◌, ◌+◌, ◌≤◌, []};
-    ghost use Rattle.beat_board.specs.Values.{MakerValue};
-    ghost use Rattle.beat_board.specs.Views.{making};
-
     ghost Value = { MakerValue };
 
     ghost view = { λ m. record { board = m.token.table_id; seats = m.seats; readers = m.readers } };
@@ -47,10 +45,6 @@ pub struct Seat {
 }
 
 impl Model for Seat {
-    ghost use Rattle.std.specs.Prelude.{◌≡◌, ◌<◌, ◌≤◌, ◌^◌, []};
-    ghost use Rattle.beat_board.specs.Values.{SeatValue};
-    ghost use Rattle.beat_board.specs.Views.{seated, answers};
-
     ghost Value = { SeatValue };
 
     ghost view = { λ s. record {
@@ -72,10 +66,6 @@ pub struct Reader {
 }
 
 impl Model for Reader {
-    ghost use Rattle.std.specs.Prelude.{◌≡◌, []};
-    ghost use Rattle.beat_board.specs.Values.{ReaderValue};
-    ghost use Rattle.beat_board.specs.Views.{reading};
-
     ghost Value = { ReaderValue };
 
     ghost view = { λ r. record { board = r.token.table_id; looks = r.token.me.0.looks } };

@@ -1,5 +1,10 @@
 // What a thread knows of the board, and the steps by which that changes. No value of these types is made:
 // they are what the proofs carry along with a token of the table.
+ghost use Rattle.std.specs.Prelude.{[]};
+ghost use Rattle.beat_board.specs.Rule.{Rule};
+ghost use Rattle.beat_board.specs.Views.{making, seated, reading, spent};
+ghost use Rattle.beat_board.specs.Steps.{Beats, Looks, Turns, more, shown, gathers};
+
 use atomic_table::{Join, Play, Split, TableRule};
 use std::collections::LinkedList;
 
@@ -29,10 +34,6 @@ pub struct View {
 pub struct Sums;
 
 impl TableRule<u8, View, ()> for Sums {
-    ghost use Rattle.std.specs.Prelude.{[]};
-    ghost use Rattle.beat_board.specs.Rule.{Rule};
-    ghost use Rattle.beat_board.specs.Views.{making};
-
     ghost holds = { λ _. Rule };
 
     ghost first = { λ _. making [] [] 0 0 };
@@ -42,8 +43,6 @@ impl TableRule<u8, View, ()> for Sums {
 pub struct BeatStep;
 
 impl Play<u8, View> for BeatStep {
-    ghost use Rattle.beat_board.specs.Steps.{Beats};
-
     ghost then = { Beats };
 }
 
@@ -51,8 +50,6 @@ impl Play<u8, View> for BeatStep {
 pub struct LookStep;
 
 impl Play<u8, View> for LookStep {
-    ghost use Rattle.beat_board.specs.Steps.{Looks};
-
     ghost then = { Looks };
 }
 
@@ -60,8 +57,6 @@ impl Play<u8, View> for LookStep {
 pub struct TurnStep;
 
 impl Play<u8, View> for TurnStep {
-    ghost use Rattle.beat_board.specs.Steps.{Turns};
-
     ghost then = { Turns };
 }
 
@@ -69,10 +64,6 @@ impl Play<u8, View> for TurnStep {
 pub struct SeatSplit;
 
 impl Split<View> for SeatSplit {
-    ghost use Rattle.std.specs.Prelude.{[]};
-    ghost use Rattle.beat_board.specs.Views.{seated};
-    ghost use Rattle.beat_board.specs.Steps.{more};
-
     ghost left = { more };
 
     ghost right = { λ v. seated v.next 0 [] };
@@ -82,9 +73,6 @@ impl Split<View> for SeatSplit {
 pub struct ReaderSplit;
 
 impl Split<View> for ReaderSplit {
-    ghost use Rattle.std.specs.Prelude.{[]};
-    ghost use Rattle.beat_board.specs.Views.{reading};
-
     ghost left = { λ v. v };
 
     ghost right = { λ v. reading [] };
@@ -94,9 +82,6 @@ impl Split<View> for ReaderSplit {
 pub struct TellSplit;
 
 impl Split<View> for TellSplit {
-    ghost use Rattle.beat_board.specs.Views.{reading};
-    ghost use Rattle.beat_board.specs.Steps.{shown};
-
     ghost left = { λ v. v };
 
     ghost right = { λ v. reading (shown v.tallies) };
@@ -106,9 +91,6 @@ impl Split<View> for TellSplit {
 pub struct Gather;
 
 impl Join<View> for Gather {
-    ghost use Rattle.beat_board.specs.Views.{spent};
-    ghost use Rattle.beat_board.specs.Steps.{gathers};
-
     ghost both = { gathers };
 
     ghost spent = { spent };

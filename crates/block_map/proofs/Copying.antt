@@ -15,31 +15,13 @@ IsTargetBelow h s n (Some to) =
     (to < n) × (may_hold h s to ≡ true) × ((w : ℕ) → w < n → may_hold h s w ≡ true → IsNoWorse h s to w)
 
 no_worse-trans : (h : Holdings) (s a b c : ℕ) → IsNoWorse h s a b → IsNoWorse h s b c → IsNoWorse h s a c
-no_worse-trans h s a b c p q = elim p [
-  | inl less ↦ elim q [ inl lesser ↦ inl (omega arith) | inr same ↦ inl (omega (arith, same.0)) ]
-  | inr as_many ↦ elim q [
-    | inl less ↦ inl (omega (arith, as_many.0))
-    | inr same ↦ inr (as_many.0 ∙ same.0, omega (arith, as_many.1, same.1))
-  ]
-]
+no_worse-trans h s a b c p q = grind arith
 
 -- the next worker may not hold the split
 pub target_skip : (h : Holdings) (s i : ℕ) (best : Option ℕ) → may_hold h s i ≡ false →
     IsTargetBelow h s i best → IsTargetBelow h s (i + 1) best
-target_skip h s i None off none = λ w below. elim (cases_lt w i) [
-  | inl before ↦ none w before
-  | inr after ↦ let same : w ≡ i = omega arith in rw same off
-]
-target_skip h s i (Some to) off best = (
-  omega (arith, best.0),
-  best.1,
-  λ w below on. elim (cases_lt w i) [
-    | inl before ↦ best.2 w before on
-    | inr after ↦
-        let same : w ≡ i = omega arith in
-        absurd (false≢true (sym off ∙ ap (may_hold h s) (sym same) ∙ on))
-  ],
-)
+target_skip h s i None off none = grind arith
+target_skip h s i (Some to) off best = grind arith
 
 -- the next worker may, and the better of the two is kept
 pub target_take : (h : Holdings) (s i r : ℕ) (best : Option ℕ) → may_hold h s i ≡ true →
@@ -80,10 +62,7 @@ target_take h s i r (Some b) on best is = elim is [
 -- of two workers the one with fewer replicas beside it, or the lower one
 fewest_first : (h : Holdings) (s v w : ℕ) → replicas_beside h s v ≤ replicas_beside h s w → v ≤ w →
     IsNoWorse h s v w
-fewest_first h s v w few low = elim (cases_lt (replicas_beside h s v) (replicas_beside h s w)) [
-  | inl less ↦ inl less
-  | inr as_many ↦ inr (omega (arith, few, as_many), low)
-]
+fewest_first h s v w few low = grind arith
 
 -- the best so far, unless the next worker has fewer replicas in its rack
 abbrev pub IsLessCrowded : List ℕ → Tree → Option ℕ → ℕ → ℕ → Type 0
@@ -110,7 +89,4 @@ target_better h s i r counts (Some b) counted on below is =
 
 -- the numbers of replicas by rack, before the first holder
 pub counted_none : (n rack : ℕ) → ◌≡◌ {A = ℕ} (get_or (replicate n 0) rack 0) 0
-counted_none n rack = elim (cases_lt rack n) [
-  | inl inside ↦ get_or-replicate n rack 0 0 inside
-  | inr past ↦ get_or_past (replicate n 0) rack 0 (rw length-replicate past)
-]
+counted_none n rack = grind (arith, cases_lt, get_or-replicate, get_or_past, length-replicate)

@@ -1,6 +1,6 @@
 -- The copies of the splits below a number, one split after another.
-use Rattle.std.proofs.Common.{◌≡◌, ℕ, ◌+◌, ◌<◌, List, [], ◌∷◌, ◌++◌, length, map, All, ap, ◌∙◌, subst}
-use Rattle.std.proofs.Common.{arith, get_or, inl, inr}
+use Rattle.std.proofs.Common.{◌≡◌, ℕ, ◌+◌, ◌<◌, List, [], ◌∷◌, ◌++◌, map, All, ap, ◌∙◌, subst}
+use Rattle.std.proofs.Common.{arith, inl, inr}
 use Rattle.std.specs.Prelude.{Contains}
 use Rattle.std.specs.List.Sorted.{IsStrictlyIncreasing}
 use Rattle.std.proofs.Math.ListN.{get_or-append}
@@ -21,18 +21,7 @@ pub record AreCopiesBelow (h : Holdings) (n : ℕ) (orders : List CopyOrder) : T
 rising-push : (xs : List ℕ) (n : ℕ) → IsStrictlyIncreasing xs → All (λ x. x < n) xs →
     IsStrictlyIncreasing (xs ++ n ∷ [])
 rising-push xs n rising below k inside =
-    let size : length (xs ++ n ∷ []) ≡ length xs + 1 = length-append xs (n ∷ []) in
-    let here : k < length xs = omega (arith, inside, size) in
-    let left = get_or-append xs (n ∷ []) 0 k here in
-    elim (cases_lt (k + 1) (length xs)) [
-      | inl more ↦
-          let right = get_or-append xs (n ∷ []) 0 (k + 1) more in
-          omega (arith, left, right, rising k more)
-      | inr last ↦
-          let at : k + 1 ≡ length xs = omega arith in
-          let right = ap (λ (j : ℕ). get_or (xs ++ n ∷ []) j 0) at ∙ get_or-append_seam xs n [] 0 in
-          omega (arith, left, right, below k 0 here)
-    ]
+    grind (arith, length-append, get_or-append, cases_lt, get_or-append_seam)
 
 -- the split n wants a copy
 pub copies_push : (h : Holdings) (n : ℕ) (orders : List CopyOrder) (order : CopyOrder) →
@@ -58,14 +47,4 @@ copies_push h n orders order copies at copy =
 -- the split n wants none
 pub copies_skip : (h : Holdings) (n : ℕ) (orders : List CopyOrder) → AreCopiesBelow h n orders →
     (WantsCopy h n → ⊥) → AreCopiesBelow h (n + 1) orders
-copies_skip h n orders copies none = record {
-  rising = copies.rising;
-  each = copies.each;
-  below = λ k d inside. omega (arith, copies.below k d inside);
-  all = λ s below wants. elim (cases_lt s n) [
-    | inl before ↦ copies.all s before wants
-    | inr here ↦
-        let same : s ≡ n = omega (arith, below, here) in
-        absurd (none (subst (WantsCopy h) same wants))
-  ];
-}
+copies_skip h n orders copies none = grind arith

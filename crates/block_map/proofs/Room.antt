@@ -1,13 +1,13 @@
 -- Where fewer workers hold a split than live, one of the live ones may get it.
 use Rattle.std.proofs.Common.{◌≡◌, ℕ, zero, suc, ◌+◌, ◌<◌, ◌≤◌, Bool, true, false, ltb, List, [], ◌∷◌, length}
-use Rattle.std.proofs.Common.{get_or, take, count_by, Option, Some, None, inl, inr, refl, sym, ap, ◌∙◌, subst}
-use Rattle.std.proofs.Common.{arith, cond}
+use Rattle.std.proofs.Common.{take, count_by, Option, Some, None, inl, inr, refl, ap, subst}
+use Rattle.std.proofs.Common.{arith}
 use Rattle.std.proofs.Math.Seq.{take-length}
 use Rattle.std.proofs.Math.Numerals.{add-one}
 use Rattle.std.specs.Prelude.{◌==◌, IsSome}
 use Rattle.std.specs.List.{list_any}
 use Rattle.std.proofs.lemmas.Bool.{cases_Bool, and_cases, not-false, true≢false}
-use Rattle.std.proofs.lemmas.Bool.Decides.{nat_tests}
+use Rattle.std.proofs.lemmas.Grind.{common_steps}
 use Rattle.std.proofs.lemmas.List.Folds.{Any-from_list_any}
 use Rattle.std.proofs.lemmas.List.Sums.{count_by_more_yes, count_by_more_no, count_by-le-length, sum_by-cons}
 use Rattle.std.proofs.lemmas.List.Sums.{get_or-le-sum_by}
@@ -21,27 +21,12 @@ use Rattle.block_map.proofs.Copying.{IsTargetBelow}
 count_below_more : (n : ℕ) (holders : List ℕ) →
     count_by (λ h. ltb h (n + 1)) holders ≡ count_by (λ h. ltb h n) holders + count_by (λ h. h == n) holders
 count_below_more n [] = refl
-count_below_more n (h ∷ holders) =
-    let one : cond (ltb h (n + 1)) 1 0 ≡ cond (ltb h n) 1 0 + cond (h == n) 1 0 = grind (arith, nat_tests) in
-    let rest = count_below_more n holders in
-    omega (
-      arith,
-      one,
-      rest,
-      sum_by-cons (λ (k : ℕ). cond (ltb k (n + 1)) 1 0) h holders,
-      sum_by-cons (λ (k : ℕ). cond (ltb k n) 1 0) h holders,
-      sum_by-cons (λ (k : ℕ). cond (k == n) 1 0) h holders,
-    )
+count_below_more n (h ∷ holders) = grind (arith, count_below_more n holders, common_steps, sum_by-cons)
 
 -- who stands in a list is counted
 one_counted : (n : ℕ) (holders : List ℕ) → list_any (λ h. h == n) holders ≡ true →
     1 ≤ count_by (λ h. h == n) holders
-one_counted n holders found =
-    let place = Any-from_list_any (λ h. h == n) holders found in
-    let one : ℕ → ℕ = λ h. cond (h == n) 1 0 in
-    let is : ◌≡◌ {A = ℕ} (one (get_or holders place.0 place.1)) 1 =
-    ap one place.3 ∙ ap (λ (b : Bool). cond b 1 0) place.4 in
-    omega (arith, is, get_or-le-sum_by one holders place.0 place.1 place.2)
+one_counted n holders found = grind (arith, Any-from_list_any, get_or-le-sum_by)
 
 -- where each live worker holds the split, there are no more live workers than holders
 live_below : (h : Holdings) (s n : ℕ) → n ≤ length h.workers.each →
@@ -59,14 +44,7 @@ live_below h s (suc n) inside none =
     let more = count_below_more n holders in
     let Few : ℕ → Type 0 = λ m. count_by lives (take m each) ≤ count_by (λ (k : ℕ). ltb k m) holders in
     let step : Few (n + 1) = elim (cases_Bool (is_live h.workers n)) [
-      | inl live ↦
-          let off_or_held = and_cases _ _ (none n (omega arith)) in
-          let held : list_any (λ (k : ℕ). k == n) holders ≡ true = elim off_or_held [
-            | inl off ↦ absurd (true≢false (sym live ∙ off))
-            | inr holds ↦ not-false _ holds
-          ] in
-          let one = one_counted n holders held in
-          omega (arith, before, more, one, count_by_more_yes lives each n dead here live)
+      | inl live ↦ grind (arith, and_cases, true≢false, not-false, one_counted, count_by_more_yes)
       | inr off ↦ omega (arith, before, more, count_by_more_no lives each n dead here off)
     ] in
     subst Few (add-one n) step

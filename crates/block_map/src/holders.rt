@@ -1,4 +1,4 @@
-ghost use Rattle.std.specs.Prelude.{◌≡◌, ◌<◌, ◌≤◌, ◌++◌, ◌∷◌, [], ◌==◌, length};
+ghost use Rattle.std.specs.Prelude.{◌≡◌, ◌<◌, ◌≤◌, ◌++◌, ◌∷◌, [], ◌==◌, length, List, ℕ};
 ghost use Rattle.std.specs.List.{list_any};
 ghost use Rattle.block_map.specs.Holdings.{are_eight, without};
 
@@ -15,8 +15,6 @@ pub(crate) struct Holders {
 }
 
 impl Model for Holders {
-    ghost use Rattle.std.specs.Prelude.{List, ℕ, length, ◌≤◌, ◌≡◌};
-
     ghost Value = { List ℕ };
 
     ghost view = { λ h. h.workers.items };

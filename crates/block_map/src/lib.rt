@@ -10,7 +10,7 @@ mod copies;
 mod holders;
 
 ghost use Rattle.std.specs.Prelude.{◌≡◌, ◌≢◌, ◌<◌, ◌≤◌, ◌↔◌, [], ◌∷◌, ◌++◌, ◌&&◌, true, false, if◌then◌else◌};
-ghost use Rattle.std.specs.Prelude.{length, replicate, All, IfOk, OnOk, OnErr};
+ghost use Rattle.std.specs.Prelude.{length, replicate, All, IfOk, OnOk, OnErr, List, ℕ};
 ghost use Rattle.block_map.specs.Holdings.{are_eight, has_eight_among, holders_of, is_holder, with_holder};
 ghost use Rattle.block_map.specs.Holdings.{with_holder_of_all, without_holder, without_worker};
 ghost use Rattle.block_map.specs.Copies.{AreCopies, holdings};
@@ -52,8 +52,6 @@ pub struct BlockMap {
 }
 
 impl Model for BlockMap {
-    ghost use Rattle.std.specs.Prelude.{List, ℕ, ◌≤◌, length};
-
     ghost Value = { List (List ℕ) };
 
     ghost view = { λ m. m.lists.items };

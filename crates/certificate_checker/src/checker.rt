@@ -9,9 +9,10 @@ ghost use Rattle.price_certificate.specs.Certificate.{AllHold, claim, Certifies,
 ghost use Rattle.price_certificate.specs.Certificate.{IsFirstFailure, IsFirstOf, MayTake, priced_at};
 ghost use Rattle.price_certificate.specs.Certificate.{split_price, worker_price, of_allowed, of_open};
 ghost use Rattle.price_certificate.specs.Certificate.{of_priced, of_room, of_spare, of_split_price, of_tight};
-ghost use Rattle.price_certificate.specs.Certificate.{of_unstarted, of_worker_price};
+ghost use Rattle.price_certificate.specs.Certificate.{of_unstarted, of_worker_price, Claim};
 ghost use Rattle.certificate_checker.specs.Verdict.{IfFailed, IsFirstUnderpriced, MayComparePairs};
 ghost use Rattle.certificate_checker.specs.Floors.{AreFloors, IsPricedFar, IsPricedNear};
+ghost use Rattle.certificate_checker.specs.View.{claim_of, IsSound};
 
 use crate::floors::Floors;
 use crate::{Certified, CheckError};
@@ -38,11 +39,8 @@ pub(crate) struct Checker<'a> {
 }
 
 impl<'a> Model for Checker<'a> {
-    ghost use Rattle.price_certificate.specs.Certificate.{Claim};
-
     ghost Value = { Claim };
 
-    ghost use Rattle.certificate_checker.specs.View.{claim_of, IsSound};
 
     ghost view = { claim_of };
 

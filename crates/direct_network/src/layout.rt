@@ -1,5 +1,7 @@
 //! The nodes of the direct network.
 ghost use Rattle.std.specs.Prelude.{◌≡◌, ◌+◌};
+ghost use Rattle.direct_network.specs.Layout.{is_node, node_of, place_of};
+ghost use Rattle.direct_network.specs.Places.{member_at, node_at_place, place_at, place_below};
 
 use node_ids::{Layout, SplitNo, WorkerNo};
 
@@ -26,10 +28,6 @@ pub struct DirectLayout {
 }
 
 impl Layout for DirectLayout {
-    ghost use Rattle.std.specs.Prelude.{◌+◌};
-    ghost use Rattle.direct_network.specs.Layout.{is_node, node_of, place_of};
-    ghost use Rattle.direct_network.specs.Places.{member_at, node_at_place, place_at, place_below};
-
     type Node = DirectNode;
 
     ghost node_count = { λ l. l.splits + l.workers + 2 };

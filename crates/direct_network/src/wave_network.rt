@@ -1,5 +1,6 @@
 //! The direct network as one that each wave has.
-ghost use Rattle.std.specs.Prelude.{◌≡◌};
+ghost use Rattle.std.specs.Prelude.{◌≡◌, [], length};
+ghost use Rattle.direct_network.specs.Direct.{IsDirect, IsSized};
 
 use crate::{DirectLayout, build};
 use flow_network::Network;
@@ -9,9 +10,6 @@ use std::alloc::{AllocError, Global};
 use wave_problem::Problem;
 
 impl WaveNetwork for DirectLayout {
-    ghost use Rattle.std.specs.Prelude.{[], length};
-    ghost use Rattle.direct_network.specs.Direct.{IsDirect, IsSized};
-
     ghost first = { λ wave. length wave.splits };
 
     ghost above = { λ wave w. [] };

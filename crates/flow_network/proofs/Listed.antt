@@ -23,11 +23,6 @@ in_split a [] ys i = inr i
 in_split a (x ∷ xs) ys (inl e) = inl (inl e)
 in_split a (x ∷ xs) ys (inr i) = elim (in_split a xs ys i) [ inl l ↦ inl (inr l) | inr r ↦ inr r ]
 
-in_cond : (a : ArcNo) (b : Bool) (y : ArcNo) → IsIn a (cond b (y ∷ []) []) → (b ≡ true) × (a ≡ y)
-in_cond a true y (inl e) = (refl, e)
-in_cond a true y (inr n) = absurd n
-in_cond a false y i = absurd i
-
 -- the end of an arc that the residual arc leaves
 start_of : ArcNo → FlowArc → ℕ
 start_of (Forward i) x = x.from

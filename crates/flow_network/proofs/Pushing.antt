@@ -53,8 +53,3 @@ pushing_turn arcs flows path last i a next l e p n =
     let q : IsPushing arcs flows (a ∷ drop (i + 1) path) last =
     subst (λ rest. IsPushing arcs flows rest last) (at_place path i a l e) p in
     subst (λ f. IsPushing arcs f (drop (i + 1) path) last) (sym n) (pushing_step q)
-
-pub pushing_room : (arcs : List FlowArc) (flows : List ℕ) (path : List ArcNo) (last : List ℕ) (i : ℕ)
-    (a : ArcNo) → i < length path
-    → get_or path i (Forward 0) ≡ a → IsPushing arcs flows (drop i path) last → IsResidual arcs flows a
-pushing_room arcs flows path last i a l e p = grind (arith, at_place)

@@ -1,6 +1,7 @@
 //! A network that counts how many of its arcs are looked at.
 ghost use Rattle.std.specs.Prelude.{◌≡◌, ℕ, ◌+◌, ◌<◌, ◌^◌, length, true};
 ghost use Rattle.flow_network.specs.Flows.{arc_index, head_of, residual_of, cost_of, leaving_of, IsNetwork};
+ghost use Rattle.flow_network.specs.Flow.{Counted};
 
 use crate::{ArcNo, Network};
 use node_ids::Layout;
@@ -23,8 +24,6 @@ pub struct Meter<'a, L: Layout> {
 }
 
 impl<'a, L: Layout> Model for Meter<'a, L> {
-    ghost use Rattle.flow_network.specs.Flow.{Counted};
-
     ghost Value = { Counted L };
 
     ghost view = { λ m. record { network = m.network.now; count = m.count } };

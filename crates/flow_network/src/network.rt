@@ -5,6 +5,7 @@ ghost use Rattle.flow_network.specs.Flows.{tail_of, head_of, residual_of, arc_in
 ghost use Rattle.flow_network.specs.Flows.{IsPath, IsDistinct, pushed, inflow, outflow, unit_at, opposite};
 ghost use Rattle.flow_network.specs.Flows.{WithinCapacities, AllResidual, AreArcs, path_start, path_end};
 ghost use Rattle.flow_network.specs.Flows.{leaving_of, cost_of, IsNetwork};
+ghost use Rattle.flow_network.specs.Flow.{Flow, IsFlow};
 
 use crate::leaving::{Leaving, list_arc, none_leaving};
 use crate::{ArcNo, FlowArc, Look};
@@ -35,8 +36,6 @@ pub struct Network<L: Layout> {
 }
 
 impl<L: Layout> Model for Network<L> {
-    ghost use Rattle.flow_network.specs.Flow.{Flow, IsFlow};
-
     ghost Value = { Flow L };
 
     ghost view = { λ n. record { layout = n.layout; arcs = n.arcs.items; flows = n.flows.items } };

@@ -1,8 +1,8 @@
 ghost use Rattle.std.specs.Prelude.{◌≡◌, ◌+◌, ◌≤◌, ◌↔◌, List, ◌++◌, true, length, vec_len, vec_capacity};
 ghost use Rattle.std.specs.Prelude.{IsTrue, IfOk, OnOk, OnErr};
 ghost use Rattle.hand_ledger.specs.Hands.{Kept, counts_in, has_room, kept, last_event, last_place, new_hand};
-ghost use Rattle.hand_ledger.specs.Hands.{noted, starts_in, with_call};
-ghost use Rattle.hand_ledger.specs.Inside.{IsPlace};
+ghost use Rattle.hand_ledger.specs.Hands.{noted, starts_in, with_call, HandValue};
+ghost use Rattle.hand_ledger.specs.Inside.{IsPlace, calls_of, AreKept};
 ghost use Rattle.hand_ledger.specs.Marks.{Marks};
 ghost use Rattle.hand_ledger.specs.declared.marks.TheConstants.{PLACES};
 ghost use Rattle.hand_ledger.specs.Settling.{AreTrue, LastStands};
@@ -36,12 +36,8 @@ pub struct Hand<L: Ledger> {
 }
 
 impl<L: Ledger> Model for Hand<L> {
-    ghost use Rattle.std.specs.Prelude.{◌≡◌, ◌≤◌, length, vec_capacity};
-    ghost use Rattle.hand_ledger.specs.Hands.{HandValue};
-
     ghost Value = { HandValue };
 
-    ghost use Rattle.hand_ledger.specs.Inside.{calls_of, AreKept};
 
     ghost view = { λ h. record {
       calls = calls_of h.entries.items h.counts.items h.starts.items;

@@ -1,7 +1,7 @@
 ghost use Rattle.std.specs.Prelude.{◌≡◌, ◌<◌, ◌≤◌, ◌^◌, ◌↔◌, ◌∷◌, [], IsTrue, take, drop};
 ghost use Rattle.std.specs.Option.{option_copied};
 ghost use Rattle.hand_ledger.specs.Hands.{kept, counts_in, starts_in};
-ghost use Rattle.hand_ledger.specs.Settling.{call_at, event_at, counts_at, starts_at};
+ghost use Rattle.hand_ledger.specs.Settling.{call_at, event_at, counts_at, starts_at, LogValue};
 
 use crate::keeping::Entry;
 use master_state::{Event, Start};
@@ -16,8 +16,6 @@ pub struct Log<'a> {
 }
 
 impl<'a> Model for Log<'a> {
-    ghost use Rattle.hand_ledger.specs.Settling.{LogValue};
-
     ghost Value = { LogValue };
 
     ghost view = { λ log. record {

@@ -1,5 +1,5 @@
 ghost use Rattle.std.specs.Prelude.{◌≡◌, ◌+◌, ◌≤◌, ◌↔◌, length, Err, IfOk, OnErr, OnOk};
-ghost use Rattle.hand_ledger.specs.Hands.{new_hand};
+ghost use Rattle.hand_ledger.specs.Hands.{new_hand, HandsValue};
 ghost use Rattle.hand_ledger.specs.Settling.{all_calls};
 ghost use Rattle.hand_ledger.specs.declared.making.HandError.{HandError};
 
@@ -27,9 +27,6 @@ pub struct Hands<L: Ledger> {
 }
 
 impl<L: Ledger> Model for Hands<L> {
-    ghost use Rattle.std.specs.Prelude.{◌≡◌, ◌+◌, ◌≤◌};
-    ghost use Rattle.hand_ledger.specs.Hands.{HandsValue};
-
     ghost Value = { HandsValue };
 
     ghost view = { λ h. record { total = h.book.total; made = h.made } };

@@ -1,6 +1,7 @@
 ghost use Rattle.std.specs.Prelude.{◌≡◌, ◌<◌, ◌≤◌, IfOk, IfSome, slice_index};
-ghost use Rattle.beat_board.specs.Values.{last_seen};
-ghost use Rattle.job_threads.specs.Watching.{AreLooks};
+ghost use Rattle.std.specs.Arc.{arc_value};
+ghost use Rattle.beat_board.specs.Values.{last_seen, SeatValue};
+ghost use Rattle.job_threads.specs.Watching.{AreLooks, WatchValue};
 
 use beat_board::{Board, Maker, Reader, Seat};
 use node_ids::WorkerNo;
@@ -16,10 +17,6 @@ pub(crate) struct Pulse {
 }
 
 impl Model for Pulse {
-    ghost use Rattle.std.specs.Prelude.{◌≡◌};
-    ghost use Rattle.std.specs.Arc.{arc_value};
-    ghost use Rattle.beat_board.specs.Values.{SeatValue};
-
     ghost Value = { SeatValue };
 
     ghost view = { λ p. p.seat };
@@ -46,10 +43,6 @@ pub(crate) struct Watch {
 }
 
 impl Model for Watch {
-    ghost use Rattle.std.specs.Prelude.{◌≡◌, ◌≤◌};
-    ghost use Rattle.std.specs.Arc.{arc_value};
-    ghost use Rattle.job_threads.specs.Watching.{WatchValue};
-
     ghost Value = { WatchValue };
 
     ghost view = { λ w. record { reader = w.reader; workers = w.workers } };

@@ -1,5 +1,6 @@
 ghost use Rattle.std.specs.Prelude.{◌≡◌, IfOk, IsTrue};
 ghost use Rattle.shuffle_reduce.specs.Gather.{values_of};
+ghost use Rattle.master_state.specs.States.{Setup};
 
 use master_core::{Cluster, Master};
 use master_state::Limits;
@@ -20,8 +21,6 @@ pub(crate) struct Given {
 }
 
 impl Model for Given {
-    ghost use Rattle.master_state.specs.States.{Setup};
-
     ghost Value = { Setup };
 
     ghost view = { λ g. record { cluster = g.cluster; limits = g.limits } };

@@ -1,5 +1,7 @@
 ghost use Rattle.std.specs.Prelude.{◌≡◌, ◌<◌, ◌≤◌, ◌++◌, [], ◌∷◌, IfErr, IfOk, IfSome, IfNone, OnErr, OnOk};
+ghost use Rattle.std.specs.Arc.{arc_value};
 ghost use Rattle.job_threads.specs.Steps.{with_put};
+ghost use Rattle.lane_queue.specs.Lanes.{PassValue};
 
 use lane_queue::{Full, Lane, Order, Pass};
 use std::alloc::{AllocError, Global};
@@ -17,10 +19,6 @@ pub(crate) struct LaneEnd {
 }
 
 impl Model for LaneEnd {
-    ghost use Rattle.std.specs.Prelude.{◌≡◌};
-    ghost use Rattle.std.specs.Arc.{arc_value};
-    ghost use Rattle.lane_queue.specs.Lanes.{PassValue};
-
     ghost Value = { PassValue };
 
     ghost view = { λ e. e.pass };

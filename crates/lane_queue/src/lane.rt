@@ -1,11 +1,12 @@
-ghost use Rattle.std.specs.Prelude.{◌≡◌, ◌+◌, ◌<◌, ◌≤◌, ◌++◌, List, [], ◌∷◌, length, vec_capacity};
-ghost use Rattle.std.specs.Prelude.{IfOk, IfErr, IfSome, IfNone, IsOk, OnOk, OnErr, MatchOption};
+ghost use Rattle.std.specs.Prelude.{◌≡◌, ◌+◌, ◌<◌, ◌≤◌, ◌++◌, List, [], ◌∷◌, length, vec_capacity, IfOk};
+ghost use Rattle.std.specs.Prelude.{IfErr, IfSome, IfNone, IsOk, OnOk, OnErr, MatchOption, true};
 ghost use Rattle.std.specs.List.{All};
 ghost use Rattle.crossbeam_queue.specs.Passes.{view, IsPassOf, ruled_capacity};
 ghost use Rattle.lane_queue.specs.declared.order.Order.{Order};
 ghost use Rattle.lane_queue.specs.Orders.{Settles};
-ghost use Rattle.lane_queue.specs.Lanes.{Knows, AreWhole, puts_of, takes_of, depths_of, one_each};
-ghost use Rattle.lane_queue.specs.Steps.{hand, Totals};
+ghost use Rattle.lane_queue.specs.Lanes.{Knows, AreWhole, puts_of, takes_of, depths_of, one_each, LaneValue};
+ghost use Rattle.lane_queue.specs.Lanes.{PassValue};
+ghost use Rattle.lane_queue.specs.Steps.{hand, Totals, depth_of};
 
 use crate::order::Order;
 use crate::view::{InLine, PutStep, ShareJoin, ShareSplit, TakeStep, View};
@@ -25,9 +26,6 @@ pub struct Lane {
 }
 
 impl Model for Lane {
-    ghost use Rattle.crossbeam_queue.specs.Passes.{ruled_capacity};
-    ghost use Rattle.lane_queue.specs.Lanes.{LaneValue};
-
     ghost Value = { LaneValue };
 
     ghost view = { λ l. record { lane = l.queue.table.shared.table_id; capacity = ruled_capacity l.queue } };
@@ -41,10 +39,6 @@ pub struct Pass {
 }
 
 impl Model for Pass {
-    ghost use Rattle.std.specs.Prelude.{◌≡◌, [], ◌∷◌, true};
-    ghost use Rattle.lane_queue.specs.Lanes.{PassValue};
-    ghost use Rattle.lane_queue.specs.Steps.{hand, depth_of};
-
     ghost Value = { PassValue };
 
     ghost view = { λ p. record {

@@ -1,5 +1,9 @@
 // What a pass knows of the lane, and the steps by which that changes. No value of these types is made:
 // they are what the proofs carry along with a pass.
+ghost use Rattle.std.specs.Prelude.{[], ◌∷◌, true, ◌≡◌};
+ghost use Rattle.lane_queue.specs.Rule.{Balanced};
+ghost use Rattle.lane_queue.specs.Steps.{hand, putting, Totals, taking, deeper, both};
+
 use crate::order::Order;
 use crossbeam_queue::protocol::{Join, Lesson, Outcome, Protocol, Split};
 use std::collections::LinkedList;
@@ -16,10 +20,6 @@ pub struct View {
 pub struct InLine;
 
 impl Protocol<Order, View> for InLine {
-    ghost use Rattle.std.specs.Prelude.{[], ◌∷◌, true};
-    ghost use Rattle.lane_queue.specs.Rule.{Balanced};
-    ghost use Rattle.lane_queue.specs.Steps.{hand};
-
     ghost holds = { Balanced };
 
     ghost first = { hand [] [] (0 ∷ []) true };
@@ -29,15 +29,10 @@ impl Protocol<Order, View> for InLine {
 pub struct PutStep;
 
 impl Outcome<Order, View> for PutStep {
-    ghost use Rattle.std.specs.Prelude.{◌≡◌};
-    ghost use Rattle.lane_queue.specs.Steps.{putting};
-
     ghost then = { λ v x w. w ≡ putting v x };
 }
 
 impl Lesson<Order, View> for PutStep {
-    ghost use Rattle.lane_queue.specs.Steps.{Totals};
-
     ghost fact = { Totals };
 }
 
@@ -45,15 +40,10 @@ impl Lesson<Order, View> for PutStep {
 pub struct TakeStep;
 
 impl Outcome<Order, View> for TakeStep {
-    ghost use Rattle.std.specs.Prelude.{◌≡◌};
-    ghost use Rattle.lane_queue.specs.Steps.{taking};
-
     ghost then = { λ v x w. w ≡ taking v x };
 }
 
 impl Lesson<Order, View> for TakeStep {
-    ghost use Rattle.lane_queue.specs.Steps.{Totals};
-
     ghost fact = { Totals };
 }
 
@@ -61,9 +51,6 @@ impl Lesson<Order, View> for TakeStep {
 pub struct ShareSplit;
 
 impl Split<View> for ShareSplit {
-    ghost use Rattle.std.specs.Prelude.{[], true};
-    ghost use Rattle.lane_queue.specs.Steps.{hand, deeper};
-
     ghost left = { λ v. hand v.puts v.takes (deeper v.depths) v.ordered };
 
     ghost right = { λ v. hand [] [] (deeper v.depths) true };
@@ -73,9 +60,6 @@ impl Split<View> for ShareSplit {
 pub struct ShareJoin;
 
 impl Join<View> for ShareJoin {
-    ghost use Rattle.std.specs.Prelude.{[], true};
-    ghost use Rattle.lane_queue.specs.Steps.{hand, both};
-
     ghost both = { both };
 
     ghost spent = { hand [] [] [] true };

@@ -1,11 +1,20 @@
 ghost use Rattle.std.specs.Prelude.{◌≡◌, ◌≢◌, ◌++◌, ◌≤◌, ◌↔◌, IfOk, IsTrue, MatchOption, OnErr, OnOk, Some};
-ghost use Rattle.std.specs.Prelude.{length};
-ghost use Rattle.line_shapes.specs.Lines.{statement_of};
+ghost use Rattle.std.specs.Prelude.{length, []};
+ghost use Rattle.line_shapes.specs.Lines.{statement_of, IsInRange, IsNamed, Statement};
 ghost use Rattle.line_shapes.specs.Places.{places_of};
 ghost use Rattle.line_rules.specs.Entering.{command_of, entered_of, entering_of as entering};
-ghost use Rattle.line_rules.specs.Faults.{IsFirst, centres_in as centres};
+ghost use Rattle.line_rules.specs.Entering.{most_of as most_in};
+ghost use Rattle.line_rules.specs.Faults.{IsFirst, centres_in as centres, Fails, IsFewer, IsFit, IsLeastOf};
+ghost use Rattle.line_rules.specs.Faults.{IsNew, AreAllPriced, IsFirstOfBody, IsPricedBefore, IsComplete};
+ghost use Rattle.line_rules.specs.Faults.{Keep, IsWithinLimit, MayStand, counted_of};
 ghost use Rattle.line_rules.specs.declared.entering.Entering.TheVariants.{Nothing};
 ghost use Rattle.text_lines.specs.declared.fault.Fault.{Fault};
+ghost use Rattle.line_rules.specs.Counts.{AreCounts};
+ghost use Rattle.line_rules.specs.Entered.{AreSound, AreFit};
+ghost use Rattle.line_rules.specs.Known.{Known, entered, known_at};
+ghost use Rattle.line_shapes.specs.declared.keyword.Keyword.{Keyword};
+ghost use Rattle.line_rules.specs.Sections.{section_of as section_in};
+ghost use Rattle.line_rules.specs.declared.rule.Rule.TheVariants as rule;
 
 use crate::counts::{Counts, is_below};
 use crate::edition::{Version, is_of_version, version_after};
@@ -44,10 +53,6 @@ pub struct KnownLines<'t> {
 }
 
 impl<'t> Model for KnownLines<'t> {
-    ghost use Rattle.line_rules.specs.Counts.{AreCounts};
-    ghost use Rattle.line_rules.specs.Entered.{AreSound};
-    ghost use Rattle.line_rules.specs.Known.{Known};
-
     ghost Value = { Known };
 
     ghost view = { λ k. record {
@@ -62,18 +67,6 @@ impl<'t> Model for KnownLines<'t> {
 }
 
 impl<'t> KnownLines<'t> {
-    ghost use Rattle.std.specs.Prelude.{[]};
-    ghost use Rattle.line_shapes.specs.Lines.{IsInRange, IsNamed, Statement};
-    ghost use Rattle.line_shapes.specs.declared.keyword.Keyword.{Keyword};
-    ghost use Rattle.line_rules.specs.Entered.{AreFit};
-    ghost use Rattle.line_rules.specs.Entering.{most_of as most_in};
-    ghost use Rattle.line_rules.specs.Faults.{Fails, IsFewer, IsFit, IsLeastOf, IsNew, AreAllPriced};
-    ghost use Rattle.line_rules.specs.Faults.{IsFirstOfBody, IsPricedBefore, IsComplete, Keep};
-    ghost use Rattle.line_rules.specs.Faults.{IsWithinLimit, MayStand, counted_of};
-    ghost use Rattle.line_rules.specs.Known.{entered, known_at};
-    ghost use Rattle.line_rules.specs.Sections.{section_of as section_in};
-    ghost use Rattle.line_rules.specs.declared.rule.Rule.TheVariants as rule;
-
     /// Before the first line of a text, with room for what so many bytes say.
     pub fn before(
         alloc: Global,

@@ -1,5 +1,7 @@
 ghost use Rattle.std.specs.Prelude.{◌≡◌, ◌++◌, ◌∷◌, ◌↔◌, ◌≤◌, ◌<◌, IfOk, IsTrue, MatchOption, OnErr, OnOk};
-ghost use Rattle.std.specs.Prelude.{length, take};
+ghost use Rattle.std.specs.Prelude.{length, take, List, map, []};
+ghost use Rattle.line_shapes.specs.Lines.{Statement, statement_of};
+ghost use Rattle.line_rules.specs.Rows.{AreWithin, statement_at, IsRowAt};
 
 use line_shapes::{KeyedLine, Keyword};
 use std::alloc::{AllocError, Global};
@@ -21,10 +23,6 @@ pub struct LinePlace {
 }
 
 impl<'t> Model for LineList<'t> {
-    ghost use Rattle.std.specs.Prelude.{List, map};
-    ghost use Rattle.line_shapes.specs.Lines.{Statement};
-    ghost use Rattle.line_rules.specs.Rows.{AreWithin, statement_at};
-
     ghost Value = { List Statement };
 
     ghost view = { λ l. map (statement_at l.words.items) l.places.items };
@@ -33,10 +31,6 @@ impl<'t> Model for LineList<'t> {
 }
 
 impl<'t> LineList<'t> {
-    ghost use Rattle.std.specs.Prelude.{[]};
-    ghost use Rattle.line_shapes.specs.Lines.{statement_of};
-    ghost use Rattle.line_rules.specs.Rows.{IsRowAt};
-
     /// No lines, with room for so many, and for their words.
     pub fn with_room(alloc: Global, lines: usize, words: usize) -> Result<LineList<'t>, AllocError>
         ensures { IfOk result (λ list. list ≡ []) }

@@ -1,6 +1,11 @@
-ghost use Rattle.std.specs.Prelude.{◌≡◌, ◌++◌, ◌∷◌, ◌↔◌, ◌≤◌, ◌<◌, IsTrue, MatchOption, OnErr, OnOk};
-ghost use Rattle.std.specs.Prelude.{[], Contains, IfOk, IsSome, List, Ok, false, length, true};
-ghost use Rattle.line_rules.specs.Rows.{HasKeyMore, TextKey, first_by};
+ghost use Rattle.std.specs.Prelude.{◌≡◌, ◌++◌, ◌∷◌, ◌↔◌, ◌≤◌, ◌<◌, IsTrue, MatchOption, OnErr, OnOk, []};
+ghost use Rattle.std.specs.Prelude.{Contains, IfOk, IsSome, List, Ok, false, length, true, ◌≢◌};
+ghost use Rattle.line_rules.specs.Rows.{HasKeyMore, TextKey, first_by, AreTabled, IsKeyAt, IsRowAt};
+ghost use Rattle.line_shapes.specs.Lines.{Statement, statement_of};
+ghost use Rattle.line_shapes.specs.declared.keyword.Keyword.{Keyword};
+ghost use Rattle.line_rules.specs.Entering.{entered_of, entering_of as entering, key_of};
+ghost use Rattle.line_rules.specs.Known.{HasRow, keys_of};
+ghost use Rattle.line_rules.specs.declared.entering.Entering.TheVariants.{Nothing};
 
 use crate::entering::{Entering, entering_of};
 use crate::line_list::LineList;
@@ -22,10 +27,6 @@ pub struct Rows<'t> {
 }
 
 impl<'t> Model for Rows<'t> {
-    ghost use Rattle.std.specs.Prelude.{List};
-    ghost use Rattle.line_shapes.specs.Lines.{Statement};
-    ghost use Rattle.line_rules.specs.Rows.{AreTabled};
-
     ghost Value = { List Statement };
 
     ghost view = { λ r. r.lines };
@@ -34,14 +35,6 @@ impl<'t> Model for Rows<'t> {
 }
 
 impl<'t> Rows<'t> {
-    ghost use Rattle.std.specs.Prelude.{[], ◌≢◌};
-    ghost use Rattle.line_shapes.specs.Lines.{statement_of};
-    ghost use Rattle.line_shapes.specs.declared.keyword.Keyword.{Keyword};
-    ghost use Rattle.line_rules.specs.Entering.{entered_of, entering_of as entering, key_of};
-    ghost use Rattle.line_rules.specs.Known.{HasRow, keys_of};
-    ghost use Rattle.line_rules.specs.Rows.{IsKeyAt, IsRowAt};
-    ghost use Rattle.line_rules.specs.declared.entering.Entering.TheVariants.{Nothing};
-
     /// No lines, with room for so many, and for their words.
     pub fn with_room(alloc: Global, lines: usize, words: usize) -> Result<Rows<'t>, AllocError>
         ensures { IfOk result (λ rows. rows ≡ []) }

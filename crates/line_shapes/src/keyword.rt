@@ -3,6 +3,7 @@ ghost use Rattle.text_lines.specs.Texts.{Word};
 ghost use Rattle.line_shapes.specs.Keywords.{spelling_of};
 ghost use Rattle.line_shapes.specs.Lines.{words_after, words_in};
 ghost use Rattle.line_shapes.specs.declared.keyword.Keyword.{Keyword};
+ghost use Rattle.line_shapes.specs.Places.{more_of, place_at, places_of};
 
 use crate::cut::first_word;
 use crate::place::{Kind, Place};
@@ -44,9 +45,6 @@ pub enum Keyword {
 }
 
 impl Keyword {
-    ghost use Rattle.line_shapes.specs.Keywords.{spelling_of};
-    ghost use Rattle.line_shapes.specs.declared.keyword.Keyword.{Keyword};
-
     /// The keyword that is spelled so. The arms are tried in turn: those of most lines come first.
     pub fn of(word: &str) -> Option<Keyword>
         ensures { MatchOption result ((k : Keyword) → spelling_of k ≡ word.now → ⊥)
@@ -90,9 +88,6 @@ impl Keyword {
 }
 
 impl Keyword {
-    ghost use Rattle.std.specs.Prelude.{◌≡◌, ℕ};
-    ghost use Rattle.line_shapes.specs.Places.{more_of, place_at, places_of};
-
     /// What follows the keyword.
     #[inline(always)]
     pub fn places(self) -> &'static [Place]

@@ -1,5 +1,7 @@
-ghost use Rattle.std.specs.Prelude.{◌≡◌, MatchOption};
-ghost use Rattle.line_shapes.specs.Lines.{IsShaped, stated, statement_of};
+ghost use Rattle.std.specs.Prelude.{◌≡◌, MatchOption, ◌↔◌, ◌≤◌, IsTrue, length, map};
+ghost use Rattle.line_shapes.specs.Lines.{IsShaped, stated, statement_of, HasTailApart, IsInRange, IsNamed};
+ghost use Rattle.line_shapes.specs.Lines.{tail_words};
+ghost use Rattle.line_shapes.specs.Places.{places_of};
 
 use crate::apart::are_apart;
 use crate::demand::{Demand, meet};
@@ -26,10 +28,6 @@ pub fn said_by<'w, 't>(keyword: Keyword, words: &'w [&'t str]) -> Option<KeyedLi
 }
 
 impl<'w, 't> KeyedLine<'w, 't> {
-    ghost use Rattle.std.specs.Prelude.{◌↔◌, ◌≡◌, ◌≤◌, IsTrue, length, map};
-    ghost use Rattle.line_shapes.specs.Lines.{HasTailApart, IsInRange, IsNamed, statement_of, tail_words};
-    ghost use Rattle.line_shapes.specs.Places.{places_of};
-
     /// Whether the words in the places of names are names.
     pub fn is_named(&self) -> bool
         ensures { IsTrue result ↔ IsNamed (statement_of self.now) }

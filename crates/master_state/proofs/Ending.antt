@@ -1,8 +1,8 @@
 -- Results, failures, withdrawals and deaths keep a state tidy.
-use Rattle.std.proofs.Common.{◌≡◌, ◌≢◌, ℕ, suc, ◌+◌, ◌==◌, ◌||◌, List, [], ◌∷◌, ◌++◌, length, map, cond, Bool}
+use Rattle.std.proofs.Common.{◌≡◌, ◌≢◌, ℕ, suc, ◌==◌, ◌||◌, List, [], ◌∷◌, ◌++◌, length, map, cond, Bool}
 use Rattle.std.proofs.Common.{true, false, not, Option, Some, None, refl, sym, ap, ◌∙◌, arith, inl, inr, All}
 use Rattle.std.proofs.Common.{AllPairs, subst}
-use Rattle.std.specs.Prelude.{flat_map, filter, find, count_by, sum_by, is_some, slice_index_or}
+use Rattle.std.specs.Prelude.{flat_map, filter, count_by, sum_by, is_some, slice_index_or}
 use Rattle.std.specs.List.{list_any}
 use Rattle.std.specs.Option.{option_map_or}
 use Rattle.std.proofs.lemmas.Bool.{false≢true, eqb-true, eqb-false, eq-eqb, ne_eqb, cases_Bool, cases_eq}
@@ -34,7 +34,6 @@ use Rattle.master_state.specs.Changes.{without_attempts, part_without, done_by, 
 use Rattle.master_state.specs.Changes.{after_death, died, with_map_done, with_part_done, after}
 use Rattle.master_state.specs.Tidy.{IsTidy, AreHolders}
 use Rattle.master_state.proofs.Lists.{at-map, All-changed, All-left, All-right, flat_map-filter, filter_none}
-use Rattle.master_state.proofs.Lists.{find-any}
 use Rattle.master_state.proofs.Facts.{count-all_running}
 use Rattle.master_state.proofs.Places.{IsPlaced, placed, told_split, told_part, split_inside, found_split}
 use Rattle.master_state.proofs.Places.{found_part, done_at, part_without_at}
@@ -45,7 +44,7 @@ use Rattle.master_state.proofs.Less.{less_done_by, less_death, part_less_filter}
 use Rattle.master_state.proofs.Slots.{IsFit, fit_given, fit_all_given, fit_death, all_given, taken_given}
 use Rattle.master_state.proofs.Slots.{taken_all_given, taken_death, live_given, live_all_given, live_death}
 use Rattle.master_state.proofs.Reasons.{none_applies, room_left}
-use Rattle.master_state.proofs.Tidying.{tidy_tables, tidy_counted, fit_of, held_kept}
+use Rattle.master_state.proofs.Tidying.{tidy_counted, fit_of, held_kept}
 
 -- of attempts with numbers of their own, one has the number a
 filter_once : (a : ℕ) (attempts : List Attempt) → AllPairs (λ x y. x.number ≢ y.number) attempts →
@@ -81,38 +80,24 @@ one_slot setup s a w tidy any =
     let there : worker_of s x.number ≡ x.worker =
     subst (λ xs. All (IsPlaced s) xs) alone.1 (All-filter (is_numbered a) (IsPlaced s) (all_running s)
     (placed setup s tidy)) 0 x (omega arith) in
-    ap (count_by (is_on w)) alone.1
-    ∙ omega (
-      arith,
-      ap (λ v. let one : ℕ = cond (v == w) 1 0 in one) (sym (ap (worker_of s) (sym number) ∙ there)),
-    )
+    grind arith
 
 list_any-flat_map : {X Y : Type 0} (test : Y → Bool) (f : X → List Y) (xs : List X) →
     list_any test (flat_map f xs) ≡ list_any (λ x. list_any test (f x)) xs
 list_any-flat_map test f [] = refl
-list_any-flat_map test f (x ∷ xs) =
-    list_any-append test (f x) (flat_map f xs)
-    ∙ ap (λ b. list_any test (f x) || b) (list_any-flat_map test f xs)
+list_any-flat_map test f (x ∷ xs) = grind (arith, list_any-flat_map test f xs, list_any-append)
 
 -- an attempt that a split or a part runs is among those that run
 runs_somewhere : (s : State) (a : ℕ) →
     list_any (is_numbered a) (all_running s) ≡ (list_any (runs a) s.splits || list_any (part_runs a) s.parts)
-runs_somewhere s a =
-    list_any-append (is_numbered a) (flat_map attempts_of s.splits) (flat_map part_attempts s.parts)
-    ∙ ap (λ b. b || list_any (is_numbered a) (flat_map part_attempts s.parts))
-    (list_any-flat_map (is_numbered a) attempts_of s.splits)
-    ∙ ap (λ b. list_any (runs a) s.splits || b) (list_any-flat_map (is_numbered a) part_attempts s.parts)
+runs_somewhere s a = grind (arith, list_any-append, list_any-flat_map)
 
 any_of_split : (s : State) (a : ℕ) → no_split_runs s a ≡ false →
     list_any (is_numbered a) (all_running s) ≡ true
-any_of_split s a some =
-    runs_somewhere s a ∙ or_left (list_any (runs a) s.splits) (list_any (part_runs a) s.parts)
-    (not-false (list_any (runs a) s.splits) some)
+any_of_split s a some = grind (arith, runs_somewhere, or_left, not-false)
 
 any_of_part : (s : State) (a : ℕ) → no_part_runs s a ≡ false → list_any (is_numbered a) (all_running s) ≡ true
-any_of_part s a some =
-    runs_somewhere s a ∙ or_right (list_any (runs a) s.splits) (list_any (part_runs a) s.parts)
-    (not-false (list_any (part_runs a) s.parts) some)
+any_of_part s a some = grind (arith, runs_somewhere, or_right, not-false)
 
 -- the slots that are taken once the attempt a runs no more
 slots_left : (setup : Setup) (s : State) (a : ℕ) → IsTidy setup s →
@@ -132,19 +117,11 @@ slots_left setup s a tidy any w =
 live_left : (setup : Setup) (s : State) (a : ℕ) → IsTidy setup s →
     All (λ attempt. is_live (with_slot_given s.workers (worker_of s a)) attempt.worker ≡ true)
     (filter (others (is_numbered a)) (all_running s))
-live_left setup s a tidy =
-    All-weaker (λ attempt. is_live s.workers attempt.worker ≡ true)
-    (λ attempt. is_live (with_slot_given s.workers (worker_of s a)) attempt.worker ≡ true)
-    (λ attempt live. live_given s.workers (worker_of s a) attempt.worker
-    ∙ live) (filter (others (is_numbered a)) (all_running s))
-    (All-filter (others (is_numbered a)) (λ attempt. is_live s.workers attempt.worker ≡ true) (all_running s)
-    tidy.live)
+live_left setup s a tidy = search (arith, All-weaker, live_given, others, All-filter)
 
 held_left : (setup : Setup) (s : State) (v : ℕ) → IsTidy setup s →
     All (AreHolders (with_slot_given s.workers v)) s.holders
-held_left setup s v tidy =
-    held_kept s.workers (with_slot_given s.workers v) s.holders (λ w live. live_given s.workers v w
-    ∙ live) tidy.held
+held_left setup s v tidy = grind (arith, held_kept, live_given)
 
 -- a state of which the attempts that pass a test ended, by a change of each split and of each part
 tidy_gone : (setup : Setup) (s : State) (table : Workers) (lists : List (List ℕ)) (test : Attempt → Bool)
@@ -215,10 +192,7 @@ tidy_map_failed setup s a tidy allowed =
     let left = without_attempt s a in
     let table = with_bar left.workers (split_running s a) (worker_of s a) in
     let kept = tidy_without setup s a tidy (any_of_split s a none.0) in
-    tidy_tables setup left table s.holders s.sweeps (s.events + 1) kept
-    (record { slots = kept.slots; limit = kept.limit; within = kept.within })
-    (λ w. refl) (λ w live. live) refl (held_kept left.workers table s.holders (λ w live. live) kept.held)
-    tidy.sweeps (room_left setup s none.1.0)
+    grind arith
 
 -- a split that is done runs nothing
 none_found : (found : Option Attempt) (split : SplitState) → is_some found ≡ true →
@@ -227,9 +201,7 @@ none_found None split some = absurd (false≢true some)
 none_found (Some a) split some = refl
 
 pub attempts-done_by : (a : ℕ) (split : SplitState) → runs a split ≡ true → attempts_of (done_by a split) ≡ []
-attempts-done_by a split run =
-    none_found (find (is_numbered a) (attempts_of split)) split
-    (find-any (is_numbered a) (attempts_of split) run)
+attempts-done_by a split run = grind arith
 
 -- the slots that are taken once a split is done
 slots_done : (setup : Setup) (s : State) (a k w : ℕ) → IsTidy setup s → runs a (split_at s k) ≡ true →
@@ -312,27 +284,14 @@ count_none test xs none = sym (length-filter test xs) ∙ ap length (filter_none
 slots_death : (setup : Setup) (s : State) (v w : ℕ) → IsTidy setup s →
     taken_slots (with_death s.workers v) w ≡ count_by (is_on w) (filter (others (is_on v)) (all_running s))
 slots_death setup s v w tidy = elim (cases_eq v w) [
-  | inl same ↦
-      taken_death s.workers v w
-      ∙ rw (eq-eqb v w same) (sym (count_none (is_on w) (filter (others (is_on v)) (all_running s))
-      (subst (λ n. All (λ x. is_on n x ≡ false) (filter (others (is_on v)) (all_running s))) same
-      (All-weaker (λ x. others (is_on v) x ≡ true) (λ x. is_on v x ≡ false)
-      (λ x off. not-true (is_on v x) off)
-      (filter (others (is_on v)) (all_running s)) (filter_passes (others (is_on v)) (all_running s))))))
+  | inl same ↦ grind (arith, taken_death, eq-eqb, count_none, others, All-weaker, not-true, filter_passes)
   | inr differ ↦
       let lost : count_by (is_on w) (filter (is_on v) (all_running s)) ≡ 0 =
       count_none (is_on w) (filter (is_on v) (all_running s))
       (All-weaker (λ x. is_on v x ≡ true) (λ x. is_on w x ≡ false)
       (λ x on. ne_eqb x.worker w (λ e. differ (sym (eqb-true x.worker v on) ∙ e)))
       (filter (is_on v) (all_running s)) (filter_passes (is_on v) (all_running s))) in
-      taken_death s.workers v w ∙ rw (ne_eqb v w differ)
-      (omega (
-        arith,
-        tidy.taken w,
-        lost,
-        sum_by-filter_both (is_on v) (others (is_on v)) (λ x. refl) (λ x. cond (is_on w x) 1 0)
-            (all_running s),
-      ))
+      grind (arith, taken_death, ne_eqb, sum_by-filter_both, others)
 ]
 
 -- any worker may die

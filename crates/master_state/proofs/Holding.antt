@@ -1,10 +1,11 @@
 -- A replica that is added or lost keeps a state tidy.
-use Rattle.std.proofs.Common.{◌≡◌, ◌≢◌, ℕ, List, [], ◌∷◌, ◌++◌, length, Bool, true, false, not, ◌==◌, None}
+use Rattle.std.proofs.Common.{◌≡◌, ◌≢◌, ℕ, List, [], ◌∷◌, ◌++◌, Bool, true, false, not, ◌==◌, None}
 use Rattle.std.proofs.Common.{sym, ◌∙◌, arith, All}
 use Rattle.std.specs.List.{list_any}
 use Rattle.std.specs.Prelude.{filter}
 use Rattle.std.specs.Cmp.{unsigned_Decides}
 use Rattle.std.proofs.lemmas.Bool.{true≢false, leb-false, or_parts, not-false}
+use Rattle.std.proofs.lemmas.Grind.{common_steps}
 use Rattle.std.proofs.lemmas.List.Sums.{length-filter, count_by-le-length}
 use Rattle.std.proofs.lemmas.List.Kept.{AllPairs-filter}
 use Rattle.std.proofs.lemmas.List.Elements.{All-nil, All-cons, All-append, All-filter, filter_passes}
@@ -44,13 +45,9 @@ none_is w (h ∷ holders) none =
 held_with : (workers : Workers) (w : ℕ) (holders : List ℕ) → is_live workers w ≡ true →
     list_any (λ h. h == w) holders ≡ false →
     are_eight holders ≡ false → AreHolders workers holders → AreHolders workers (holders ++ w ∷ [])
-held_with workers w holders lives none few held = record {
-  few = omega (arith, length-append holders (w ∷ []), leb-false 8 (length holders) few);
-  once = AllPairs-append (λ a b. a ≢ b) holders (w ∷ []) held.once
-      (λ i j d below l. absurd (omega (arith, below, l))) (none_is w holders none);
-  live = All-append (λ h. is_live workers h ≡ true) holders (w ∷ []) held.live
-      (All-cons (λ h. is_live workers h ≡ true) w [] lives (All-nil (λ h. is_live workers h ≡ true)));
-}
+held_with workers w holders lives none few held =
+    grind (arith, common_steps, length-append, leb-false, AllPairs-append, none_is, All-append, All-cons,
+      All-nil)
 
 pub tidy_lose : (setup : Setup) (s : State) (split w : ℕ) → IsTidy setup s →
     refusal setup s (Lose split w) ≡ None →

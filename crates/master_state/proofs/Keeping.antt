@@ -1,24 +1,21 @@
 -- A master keeps its promises by every call that is accepted, and by every wave.
-use Rattle.std.proofs.Common.{◌≡◌, ℕ, ◌==◌, ◌||◌, List, [], ◌∷◌, ◌++◌, length, map, cond, Bool}
+use Rattle.std.proofs.Common.{◌≡◌, ℕ, ◌==◌, ◌||◌, List, [], ◌∷◌, ◌++◌, map, cond, Bool}
 use Rattle.std.proofs.Common.{true, false, not, None, refl, sym, ap, ◌∙◌, arith, inl, inr}
-use Rattle.std.specs.Prelude.{fold, filter, slice_index_or}
-use Rattle.std.specs.List.{list_any, list_all, range_with_len}
+use Rattle.std.specs.Prelude.{fold, slice_index_or}
 use Rattle.std.proofs.lemmas.Bool.{false≢true, eqb-true, eq-eqb, ne_eqb, cases_eq, not-false, or_parts}
+use Rattle.std.proofs.lemmas.Grind.{common_steps}
 use Rattle.std.proofs.lemmas.List.{append-nil}
 use Rattle.std.proofs.lemmas.List.Elements.{All-nil, All-push}
 use Rattle.std.proofs.lemmas.List.Sums.{sum_by_push}
 use Rattle.shuffle_reduce.specs.Merged.{PartView, same_texts}
 use Rattle.shuffle_reduce.proofs.CoverLemmas.{Decides-same_texts}
-use Rattle.shuffle_reduce.specs.Indexed.{count_of}
-use Rattle.wave_problem.specs.Assignment.{pairs_of}
-use Rattle.worker_table.specs.Workers.{has_free_slot, is_silent, swept}
 use Rattle.master_state.specs.declared.states.Attempt.{Attempt}
 use Rattle.master_state.specs.declared.states.PartState.{PartState}
 use Rattle.master_state.specs.declared.states.PartState.TheVariants as part
 use Rattle.master_state.specs.declared.events.Event.TheVariants as events
-use Rattle.master_state.specs.States.{Setup, State, opening}
-use Rattle.master_state.specs.Tests.{is_numbered, is_on, is_done, part_runs, part_at, part_running}
-use Rattle.master_state.specs.Tests.{part_is_done, part_is_pending, next_part, next_worker, next_on}
+use Rattle.master_state.specs.States.{Setup, State}
+use Rattle.master_state.specs.Tests.{is_numbered, is_on, part_runs, part_at, part_running}
+use Rattle.master_state.specs.Tests.{part_is_done, part_is_pending}
 use Rattle.master_state.specs.Refusals.{Call, MapDone, MapFailed, Withdraw, Die, Join, Add, Lose, Sweep}
 use Rattle.master_state.specs.Refusals.{ReduceStart, PartDone, PartFailed, Backup, refusal, reasons}
 use Rattle.master_state.specs.Changes.{after, split_started, died, part_without, part_done_by}
@@ -38,10 +35,7 @@ use Rattle.master_state.proofs.Histories.{tidy_change, tidy_step}
 results_same : {setup : Setup} {old new : State} {results : List PartView} →
     ((r : ℕ) → part_is_done (part_at new r) ≡ part_is_done (part_at old r)) → AreResults setup old results →
     AreResults setup new (results ++ [])
-results_same {results = results} same kept = record {
-  each = rw (append-nil results) kept.each;
-  one_each = λ r. rw (append-nil results, same r) (kept.one_each r);
-}
+results_same {results = results} same kept = grind (arith, append-nil)
 
 done_or_pending : (b : Bool) (a : Attempt) → part_is_done (cond b part.Pending (part.Running a)) ≡ false
 done_or_pending true a = refl
@@ -77,22 +71,8 @@ pending_not_done part.Done e = absurd (false≢true e)
 done_reduce : (setup : Setup) (s : State) (r : ℕ) → refusal setup s ReduceStart ≡ None →
     part_is_done (part_at (after s ReduceStart) r) ≡ part_is_done (part_at s r)
 done_reduce setup s r allowed =
-    let none = (none_applies (reasons setup s ReduceStart) allowed).0 in
-    let splits_and_parts =
-    (or_parts (not (list_all is_done s.splits) || not (list_any part_is_pending s.parts))
-    (not (list_any has_free_slot s.workers.each)) none).0 in
-    let some = not-false (list_any part_is_pending s.parts)
-    (or_parts (not (list_all is_done s.splits)) (not (list_any part_is_pending s.parts))
-    splits_and_parts).1 in
-    let change : PartState → PartState = λ _. part.Running (next_on s (next_worker s)) in
-    elim (cases_eq r (next_part s)) [
-      | inl same ↦ rw same
-          (ap part_is_done (at-updated_same change s.parts (next_part s) part.Pending
-          (any_inside part_is_pending s.parts some))
-          ∙ sym (pending_not_done (part_at s (next_part s))
-          (any_found part_is_pending s.parts part.Pending some)))
-      | inr other ↦ ap part_is_done (at-updated_other change s.parts (next_part s) r part.Pending other)
-    ]
+    grind (arith, none_applies, or_parts, not-false, cases_eq, at-updated_same, any_inside,
+      pending_not_done, any_found, at-updated_other)
 
 ended : (b : Bool) (a : Attempt) → (b || false) ≡ true →
     part_is_done (cond b part.Done (part.Running a)) ≡ true
@@ -129,18 +109,7 @@ results_more setup s a result results tidy allowed kept =
       });
       one_each = λ r. sum_by_push (λ (one : PartView). cond (one.part == r) 1 0) results result
           ∙ elim (cases_eq r here) [
-            | inl same ↦
-                let ends = part_ends a (part_at s here) run in
-                let old : count_of results r ≡ 0 = kept.one_each r
-                ∙ ap (λ b. let n : ℕ = cond b 1 0 in n) (ap (λ k. part_is_done (part_at s k)) same ∙ ends.0)
-                in
-                let counted : ℕ = cond (result.part == r) 1 0 in
-                let one : counted ≡ 1 = ap (λ b. let n : ℕ = cond b 1 0 in n)
-                (eq-eqb result.part r (part_is ∙ sym same)) in
-                let new : part_is_done (part_at (after s (PartDone a result)) r) ≡ true =
-                ap part_is_done (at-map (part_done_by a) s.parts r part.Pending)
-                ∙ ap (λ k. part_is_done (part_done_by a (part_at s k))) same ∙ ends.1 in
-                rw new (omega (arith, old, one))
+            | inl same ↦ grind (arith, common_steps, part_ends, eq-eqb, at-map)
             | inr other ↦
                 let counted : ℕ = cond (result.part == r) 1 0 in
                 let none_more : counted ≡ 0 = ap (λ b. let n : ℕ = cond b 1 0 in n)
@@ -167,9 +136,7 @@ results_after setup s (Join w set) results tidy allowed kept = results_same (λ 
 results_after setup s (Add split w) results tidy allowed kept = results_same (λ r. refl) kept
 results_after setup s (Lose split w) results tidy allowed kept = results_same (λ r. refl) kept
 results_after setup s (Sweep counts) results tidy allowed kept =
-    results_same (done_all_died (heard_state s counts)
-    (filter (is_silent (swept s.workers counts)) (range_with_len 0 (length (swept s.workers counts).each))))
-    kept
+    grind (arith, common_steps, results_same, done_all_died, heard_state)
 results_after setup s ReduceStart results tidy allowed kept =
     results_same (λ r. done_reduce setup s r allowed) kept
 results_after setup s (PartDone a result) results tidy allowed kept =
@@ -197,29 +164,10 @@ waves_keep old new plan wave kept committed =
     record {
       whole = rw next.setup kept.whole;
       small = rw next.setup kept.small;
-      legal = rw (next.setup, next.history)
-          (Leads-more old.setup (opening old.setup) old.state new.state old.history event kept.legal (
-            plan,
-            committed.change,
-          ));
+      legal = grind (arith, Leads-more);
       tidy = rw next.setup (tidy_step old.setup old.state event new.state kept.tidy (plan, committed.change));
-      results = rw (next.setup, next.results, committed.change.leads)
-          (results_same (λ r. ap (λ (parts : List PartState). part_is_done (slice_index_or parts r
-          part.Pending))
-          (parts_all_started old.state (pairs_of plan)))
-          kept.results);
+      results = grind (arith, common_steps, results_same, parts_all_started);
     }
 
 pub opening_is_kept : OpeningIsKept
-opening_is_kept setup whole small = record {
-  whole = whole;
-  small = small;
-  legal = refl;
-  tidy = tidy_opening setup whole;
-  results = record {
-    each = All-nil (IsResult setup);
-    one_each =
-        λ r. sym (ap (λ state. let n : ℕ = cond (part_is_done state) 1 0 in n)
-        (pending_part setup.cluster.parts r));
-  };
-}
+opening_is_kept setup whole small = search (arith, tidy_opening, All-nil, pending_part)

@@ -1,9 +1,8 @@
 -- A legal history: a wave with its certificate, and a result.
-use Rattle.std.proofs.Common.{◌≡◌, ℕ, zero, suc, ◌==◌, ◌<◌, ◌≤◌, [], ◌∷◌, Some, refl, sym, ap, subst, true}
+use Rattle.std.proofs.Common.{◌≡◌, ℕ, zero, suc, ◌==◌, [], ◌∷◌, Some, refl, sym, ap, subst, true}
 use Rattle.std.proofs.Common.{false, arith}
 use Rattle.std.specs.Prelude.{is_some, unwrap_or}
 use Rattle.std.proofs.lemmas.Bool.{false≢true}
-use Rattle.std.proofs.lemmas.List.Elements.{All-cons, All-nil}
 use Rattle.rack_tree.proofs.Distances.{within_reach}
 use Rattle.wave_problem.specs.Wave.{Split, IsSmall, IsHeldWell}
 use Rattle.price_certificate.specs.Certificate.{Claim, Certifies, MayTake, claim, priced_at}
@@ -25,32 +24,11 @@ small : IsSmall split
 small = record { bytes = omega arith; holders = omega arith }
 
 held : IsHeldWell 1 split
-held = record {
-  known = All-cons (λ h. h < 1) 0 [] (omega arith) (All-nil _);
-  once = λ i j d below inside. absurd (omega (arith, below, inside));
-}
+held = grind arith
 
 -- the cluster of the late result is whole
 pub whole : IsWhole job.cluster
-whole = record {
-  tree = record {
-    centres = omega arith;
-    racks = omega arith;
-    workers = omega arith;
-    centres_known = All-cons (λ centre. centre < 1) 0 [] (omega arith) (All-nil _);
-    known = All-cons (λ rack. rack < 1) 0 []
-        (omega arith) (All-nil _);
-  };
-  racks = refl;
-  slots = All-cons (λ n. n ≤ 16) 1 [] (omega arith) (All-nil _);
-  few_splits = omega arith;
-  small = All-cons IsSmall split [] small (All-nil _);
-  held = All-cons (IsHeldWell 1) split [] held (All-nil _);
-  texts = refl;
-  some_parts = omega arith;
-  few_parts = omega arith;
-  silence = omega arith;
-}
+whole = grind arith
 
 not_zero : (w : ℕ) → 0 == suc w ≡ false
 not_zero w = grind arith

@@ -146,9 +146,7 @@ pub All-one_changed : {X Y : Type 0} (P : Y → Type 0) (f : X → List Y) (chan
     (All P (f (slice_index_or xs n d)) → All P (f (change (slice_index_or xs n d)))) →
     All P (flat_map f xs) → All P (flat_map f (updated change xs n))
 All-one_changed P f change [] n d each all = All-nil P
-All-one_changed P f change (x ∷ xs) zero d each all =
-    All-append P (f (change x)) (flat_map f xs) (each (All-left P (f x) (flat_map f xs) all))
-    (All-right P (f x) (flat_map f xs) all)
+All-one_changed P f change (x ∷ xs) zero d each all = search (arith, All-append, All-left, All-right)
 All-one_changed P f change (x ∷ xs) (suc n) d each all =
     All-append P (f x) (flat_map f (updated change xs n)) (All-left P (f x) (flat_map f xs) all)
     (All-one_changed P f change xs n d each (All-right P (f x) (flat_map f xs) all))
@@ -218,11 +216,7 @@ find-any test (x ∷ xs) any = found_first (test x) x (list_any test xs) (find t
 -- where some element passes, the first that passes is there, and does
 pub any_inside : {X : Type 0} (test : X → Bool) (xs : List X) → list_any test xs ≡ true →
     position_or_len test xs < length xs
-any_inside test xs any = elim (cases_lt (position_or_len test xs) (length xs)) [
-  | inl inside ↦ inside
-  | inr past ↦ absurd (true≢false (sym any ∙ list_any_none test xs
-      (λ k d l. fails_before_first test xs k d (omega (arith, past, l)))))
-]
+any_inside test xs any = grind (arith, cases_lt, true≢false, list_any_none, fails_before_first)
 
 pub any_found : {X : Type 0} (test : X → Bool) (xs : List X) (d : X) → list_any test xs ≡ true →
     test (slice_index_or xs (position_or_len test xs) d) ≡ true
@@ -231,18 +225,13 @@ any_found test xs d any = passes_at_first test xs d (any_inside test xs any)
 -- what passes a test that nothing past the end does, is inside
 pub inside_of : {X : Type 0} (test : X → Bool) (xs : List X) (k : ℕ) (d : X) → test d ≡ false →
     test (slice_index_or xs k d) ≡ true → k < length xs
-inside_of test xs k d past here = elim (cases_lt k (length xs)) [
-  | inl inside ↦ inside
-  | inr out ↦ absurd (false≢true (sym (ap test (get_or_past xs k d out) ∙ past) ∙ here))
-]
+inside_of test xs k d past here = grind (arith, cases_lt, false≢true, get_or_past)
 
 -- where the element at one place alone may pass, it says where the first is that does, and whether one does
 pub position_alone : {X : Type 0} (test : X → Bool) (xs : List X) (n : ℕ) (d : X) → n < length xs →
     ((k : ℕ) → k ≢ n → test (slice_index_or xs k d) ≡ false) → test (slice_index_or xs n d) ≡ true →
     position_or_len test xs ≡ n
-position_alone test xs n d inside alone here =
-    position_or_len_is test xs n d (omega (arith, inside))
-    (λ k below. alone k (λ e. absurd (omega (arith, below, e)))) (λ l. here)
+position_alone test xs n d inside alone here = grind (arith, position_or_len_is)
 
 pub none_pass : {X : Type 0} (test : X → Bool) (xs : List X) (d : X) →
     ((k : ℕ) → test (slice_index_or xs k d) ≡ false) → list_any test xs ≡ false

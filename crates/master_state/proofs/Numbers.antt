@@ -56,9 +56,7 @@ same_start s a b work other told_a told_b e = sym told_a ∙ ap (start_of s) e �
 
 two_places : (s : State) (a b : Attempt) (work other : Work) → place_of work ≢ place_of other →
     IsToldAs s work a → IsToldAs s other b → HaveTwoNumbers a b
-two_places s a b work other apart told_a told_b e =
-    apart (ap (λ start. option_map_or place_of (work_in start) 0)
-    (same_start s a b work other told_a told_b e))
+two_places s a b work other apart told_a told_b e = grind arith
 
 of_one_split : (s : State) (split : ℕ) (state : SplitState) →
     All (IsToldAs s (works.Split split)) (attempts_of state) →

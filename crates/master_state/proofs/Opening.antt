@@ -58,11 +58,7 @@ is_pending_not_done a e = false≢true (sym (ap is_pending e))
 
 holders_at : (slots : List ℕ) (limit : ℕ) (split : Split) → IsSmall split → IsHeldWell (length slots) split →
     AreHolders (opening_workers slots limit) split.holders
-holders_at slots limit split small held = record {
-  few = small.holders;
-  once = held.once;
-  live = λ k d l. live_fresh slots limit (slice_index_or split.holders k d) (held.known k d l);
-}
+holders_at slots limit split small held = search (arith, live_fresh)
 
 pub tidy_opening : (setup : Setup) → IsWhole setup.cluster → IsTidy setup (opening setup)
 tidy_opening setup whole = record {

@@ -1,5 +1,5 @@
 -- The problem of a tidy state keeps to the limits, and has the sizes of the cluster.
-use Rattle.std.proofs.Common.{◌≡◌, ℕ, suc, ◌<◌, ◌≤◌, List, [], ◌∷◌, length, true, refl, sym, ap, ◌∙◌, arith}
+use Rattle.std.proofs.Common.{◌≡◌, ℕ, suc, ◌≤◌, List, [], ◌∷◌, length, refl, sym, ap, ◌∙◌, arith}
 use Rattle.std.proofs.Common.{All}
 use Rattle.std.proofs.lemmas.List.{length-map}
 use Rattle.std.proofs.lemmas.List.Elements.{All-nil, All-cons, All-map, All-weaker}
@@ -8,7 +8,7 @@ use Rattle.wave_problem.specs.declared.TheConstants.{MAX_SLOTS}
 use Rattle.wave_problem.specs.declared.lines.WorkerLine.{WorkerLine}
 use Rattle.wave_problem.specs.Wave.{Split, IsSmall, AreSmall, IsHeldWell, AreHeldWell, IsWithinLimits}
 use Rattle.worker_table.specs.declared.Worker.{Worker}
-use Rattle.worker_table.specs.Workers.{IsWithin, is_live}
+use Rattle.worker_table.specs.Workers.{IsWithin}
 use Rattle.master_state.specs.declared.states.SplitState.{SplitState}
 use Rattle.master_state.specs.States.{Setup, State, IsWhole}
 use Rattle.master_state.specs.Steps.{worker_line, problem_of}
@@ -49,9 +49,7 @@ length-each setup s whole tidy =
 -- the problem has a line for each worker and each split of the cluster
 pub length-workers : (setup : Setup) (s : State) → IsTidy setup s →
     length (problem_of setup s).workers ≡ length setup.cluster.slots
-length-workers setup s tidy =
-    length-map s.workers.each worker_line
-    ∙ sym (length-map s.workers.each (λ (worker : Worker). worker.slots)) ∙ ap length tidy.slots
+length-workers setup s tidy = grind (arith, length-map)
 
 pub length-splits : (setup : Setup) (s : State) → IsTidy setup s →
     length (problem_of setup s).splits ≡ length setup.cluster.splits
@@ -83,9 +81,7 @@ pub held_well : (setup : Setup) (s : State) → IsWhole setup.cluster → IsTidy
 held_well setup s whole tidy =
     lines_keep IsSmall (AreHolders s.workers) (IsHeldWell (length (problem_of setup s).workers))
     (λ split line bytes small held. record {
-      known = All-weaker (λ h. is_live s.workers h ≡ true) (λ h. h < length (problem_of setup s).workers)
-          (λ h live. omega (arith, live-inside s.workers h live, length-map s.workers.each worker_line))
-          line.holders held.live;
+      known = grind (arith, All-weaker, live-inside, length-map);
       once = held.once;
     })
     setup.cluster.splits s.splits s.holders whole.small tidy.held

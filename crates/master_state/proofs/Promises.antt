@@ -3,22 +3,21 @@ use Rattle.std.proofs.Common.{◌≡◌, ◌≢◌, ℕ, List, [], ◌∷◌, �
 use Rattle.std.proofs.Common.{None, refl, sym, ap, ◌∙◌, arith, inl, inr, All, subst}
 use Rattle.std.specs.List.{list_any}
 use Rattle.std.proofs.lemmas.Bool.{false≢true, eq-eqb, ne_eqb, cases_eq, not_from_true, or_from}
+use Rattle.std.proofs.lemmas.Grind.{common_steps}
 use Rattle.std.proofs.lemmas.List.Elements.{All-from_get_or, All-map}
 use Rattle.std.proofs.lemmas.List.Folds.{list_any_none}
 use Rattle.word_map.specs.Runs.{MapView}
-use Rattle.word_map.specs.Texts.{same_text}
 use Rattle.word_map.proofs.TextLemmas.{Decides-same_text}
 use Rattle.shuffle_reduce.specs.Merged.{PartView, AreSameTexts}
 use Rattle.shuffle_reduce.proofs.CoverLemmas.{Decides-same_texts}
 use Rattle.master_state.specs.declared.answers.Why.{Why}
 use Rattle.master_state.specs.declared.answers.Why.TheVariants.{OldAttempt, WrongInput, HistoryFull}
 use Rattle.master_state.specs.declared.events.Event.{Event}
-use Rattle.master_state.specs.declared.events.Event.TheVariants as events
 use Rattle.master_state.specs.declared.states.Attempt.{Attempt}
 use Rattle.master_state.specs.declared.states.Work.TheVariants as works
 use Rattle.master_state.specs.declared.states.SplitState.{SplitState}
 use Rattle.master_state.specs.declared.states.SplitState.TheVariants.{Pending, Running}
-use Rattle.master_state.specs.States.{Setup, State, opening, worker_of}
+use Rattle.master_state.specs.States.{Setup, State, worker_of}
 use Rattle.master_state.specs.Tests.{is_numbered, is_on, attempts_of, runs, split_at, split_running}
 use Rattle.master_state.specs.Tests.{part_running, all_parts_done}
 use Rattle.master_state.specs.Refusals.{MapDone, first_true, split_text, is_full, no_split_runs, no_part_runs}
@@ -30,7 +29,7 @@ use Rattle.master_state.specs.Laws.{SecondResultsAreOld, TheOtherGoesOn, GoesOnA
 use Rattle.master_state.specs.Tidy.{IsTidy, IsToldAs}
 use Rattle.master_state.proofs.Lists.{at-map}
 use Rattle.master_state.proofs.Less.{without_first, without_second}
-use Rattle.master_state.proofs.Places.{worker_in, told_split, told_part, one_split, one_part, runs_alone}
+use Rattle.master_state.proofs.Places.{told_split, told_part, one_split, one_part, runs_alone}
 use Rattle.master_state.proofs.Places.{found_split, found_part, done_by_none}
 use Rattle.master_state.proofs.Ending.{attempts-done_by}
 
@@ -45,21 +44,10 @@ step_between : (setup : Setup) (old : State) (before : List Event) (event : Even
     Leads setup old (before ++ event ∷ later) new → HasStep setup old before event later new
 step_between setup old [] event later new leads = (old, leads.0, refl, leads.1, leads.2)
 step_between setup old (first ∷ before) event later new leads =
-    let rest = step_between setup leads.0 before event later new leads.2 in
-    (rest.0, rest.1, (leads.0, leads.1, rest.2), rest.3, rest.4)
+    grind (arith, step_between setup leads.0 before event later new leads.2)
 
 pub every_wave_is_best : EveryWaveIsBest
-every_wave_is_best setup before later first count cost s legal =
-    let found = step_between setup (opening setup) before (events.Wave first count cost) later s legal in
-    record {
-      old = found.0;
-      new = found.1;
-      plan = found.3.0;
-      legal = found.2;
-      wave = found.3.1;
-      leads =
-          found.4;
-    }
+every_wave_is_best setup before later first count cost s legal = grind (arith, step_between)
 
 -- a result is refused for its input only where it is wrong
 abbrev is_wrong_input : Option Why → Bool
@@ -76,11 +64,7 @@ not_wrong false false false right e = false≢true (ap is_wrong_input e)
 right_map : (setup : Setup) (k : ℕ) (result : MapView) → result.text ≡ split_text setup k →
     result.parts ≡ setup.cluster.parts →
     is_wrong_map setup k result ≡ false
-right_map setup k result text parts =
-    or_from (not (same_text result.text (split_text setup k))) _
-    (not_from_true (same_text result.text (split_text setup k))
-    ((Decides-same_text result.text (split_text setup k)).1 text))
-    (not_from_true _ (eq-eqb result.parts setup.cluster.parts parts))
+right_map setup k result text parts = grind (arith, or_from, not_from_true, Decides-same_text, eq-eqb)
 
 pub results_as_told_are_right : ResultsAsToldAreRight
 results_as_told_are_right setup s a split w result tidy start text parts refused =
@@ -95,12 +79,7 @@ results_as_told_are_right setup s a split w result tidy start text parts refused
 right_part : (setup : Setup) (r : ℕ) (result : PartView) → result.part ≡ r →
     result.parts ≡ setup.cluster.parts →
     AreSameTexts result.texts setup.cluster.texts → is_wrong_part setup r result ≡ false
-right_part setup r result part parts same =
-    let part_is = not_from_true _ (eq-eqb result.part r part) in
-    let parts_are = not_from_true _ (eq-eqb result.parts setup.cluster.parts parts) in
-    let texts_are =
-    not_from_true _ ((Decides-same_texts result.texts setup.cluster.texts).1 same) in
-    rw (part_is, parts_are, texts_are) refl
+right_part setup r result part parts same = grind (arith, not_from_true, eq-eqb, Decides-same_texts)
 
 pub parts_as_told_are_right : PartsAsToldAreRight
 parts_as_told_are_right setup s a r w result tidy start part parts same refused =
@@ -140,22 +119,12 @@ two_numbers : (setup : Setup) (s : State) (split : ℕ) (one other : Attempt) �
 two_numbers setup s split one other tidy both same =
     let told = subst (λ state. All (IsToldAs s (works.Split split)) (attempts_of state)) both
     (tidy.told split) in
-    tidy.apart split one other both
-    (sym (ap worker_in (told 0 one (omega arith))) ∙ ap (worker_of s) same
-    ∙ ap worker_in (told 1 one (omega arith)))
+    grind arith
 
 goes_on : (s : State) (split : ℕ) (both : SplitState) (lost other : Attempt) → split_at s split ≡ both →
     without_attempts (is_numbered lost.number) both ≡ Running other None →
     after_death (all_parts_done s) lost.worker both ≡ Running other None → GoesOnAlone s split lost other
-goes_on s split both lost other is numbered dead =
-    let left = at-map (without_attempts (is_numbered lost.number)) s.splits split Pending
-    ∙ ap (without_attempts (is_numbered lost.number)) is ∙ numbered in
-    record {
-      failed = left;
-      withdrawn = left;
-      died = at-map (after_death (all_parts_done s) lost.worker) s.splits split Pending
-          ∙ ap (after_death (all_parts_done s) lost.worker) is ∙ dead;
-    }
+goes_on s split both lost other is numbered dead = grind (arith, common_steps, at-map)
 
 pub the_other_goes_on : TheOtherGoesOn
 the_other_goes_on setup s split one other tidy both =

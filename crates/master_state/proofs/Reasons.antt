@@ -2,7 +2,7 @@
 use Rattle.std.proofs.Common.{◌≡◌, ℕ, ◌+◌, ◌≤◌, List, [], ◌∷◌, length, Bool, true, false, None, refl, ap}
 use Rattle.std.proofs.Common.{arith}
 use Rattle.std.specs.Prelude.{is_some}
-use Rattle.std.proofs.lemmas.Bool.{true≢false, leb-false, ltb-false, or_parts}
+use Rattle.std.proofs.lemmas.Bool.{true≢false, leb-false}
 use Rattle.master_state.specs.declared.answers.Why.{Why}
 use Rattle.master_state.specs.States.{Setup, State}
 use Rattle.master_state.specs.Refusals.{first_true, is_full, has_no_room, has_no_sweep}
@@ -23,12 +23,8 @@ room_left setup s full = omega (arith, leb-false setup.limits.events s.events fu
 
 pub attempts_left : (setup : Setup) (s : State) (count : ℕ) → has_no_room setup s count ≡ false →
     (s.events + 1 ≤ setup.limits.events) × (length s.starts + count ≤ setup.limits.attempts)
-attempts_left setup s count none =
-    let parts = or_parts (is_full setup s) _ none in
-    (room_left setup s parts.0, ltb-false setup.limits.attempts (length s.starts + count) parts.1)
+attempts_left setup s count none = grind arith
 
 pub sweep_left : (setup : Setup) (s : State) → has_no_sweep setup s ≡ false →
     (s.events + 1 ≤ setup.limits.events) × (length s.sweeps + 1 ≤ setup.limits.sweeps)
-sweep_left setup s none =
-    let parts = or_parts (is_full setup s) _ none in
-    (room_left setup s parts.0, omega (arith, leb-false setup.limits.sweeps (length s.sweeps) parts.1))
+sweep_left setup s none = grind arith

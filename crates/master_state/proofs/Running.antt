@@ -1,7 +1,7 @@
 -- What runs in a tidy state takes a slot of a worker of the cluster.
-use Rattle.std.proofs.Common.{◌≡◌, ℕ, zero, suc, ◌<◌, cond, length, Some, refl, ap, arith, inl, inr}
+use Rattle.std.proofs.Common.{◌≡◌, ℕ, zero, suc, ◌<◌, length, Some, arith, inl, inr}
 use Rattle.std.proofs.Common.{All, subst}
-use Rattle.std.specs.Prelude.{flat_map, slice_index_or}
+use Rattle.std.specs.Prelude.{flat_map}
 use Rattle.std.proofs.lemmas.Bool.{eq-eqb, cases_lt}
 use Rattle.std.proofs.lemmas.List.{get_or_past}
 use Rattle.std.proofs.lemmas.List.Elements.{All-nil}
@@ -13,7 +13,7 @@ use Rattle.master_state.specs.declared.states.Start.{Start}
 use Rattle.master_state.specs.declared.states.SplitState.TheVariants.{Pending}
 use Rattle.master_state.specs.declared.states.PartState.TheVariants as part
 use Rattle.master_state.specs.States.{Setup, State, start_of}
-use Rattle.master_state.specs.Tests.{is_on, attempts_of, part_attempts, all_running, split_at, part_at}
+use Rattle.master_state.specs.Tests.{attempts_of, part_attempts, all_running, split_at, part_at}
 use Rattle.master_state.specs.Tidy.{IsTidy, IsStartOf}
 use Rattle.master_state.proofs.Lists.{All-left, All-right, All-of_flat_map}
 use Rattle.master_state.proofs.Slots.{live-inside}
@@ -24,15 +24,7 @@ pub record TakesSlot (workers : Workers) (attempt : Attempt) : Type 0 where
   pub taken : 0 < taken_slots workers attempt.worker
 
 pub all_take_slots : (setup : Setup) (s : State) → IsTidy setup s → All (TakesSlot s.workers) (all_running s)
-all_take_slots setup s tidy = λ k d l.
-    let w = (slice_index_or (all_running s) k d).worker in
-    let count : Attempt → ℕ = λ attempt. cond (is_on w attempt) 1 0 in
-    let one : count (slice_index_or (all_running s) k d) ≡ 1 = ap (λ b. let n : ℕ = cond b 1 0 in n)
-    (eq-eqb w w refl) in
-    record {
-      known = live-inside s.workers w (tidy.live k d l);
-      taken = omega (arith, tidy.taken w, get_or-le-sum_by count (all_running s) k d l, one);
-    }
+all_take_slots setup s tidy = grind (arith, eq-eqb, live-inside, get_or-le-sum_by)
 
 -- so does each attempt of a split, and of a part
 pub split_takes_slots : (setup : Setup) (s : State) (k : ℕ) → IsTidy setup s →

@@ -1,7 +1,7 @@
 -- The table of workers after slots are taken or given, and after deaths, returns and sweeps.
 use Rattle.std.proofs.Common.{◌≡◌, ◌≢◌, ℕ, zero, suc, ◌+◌, ◌-◌, ◌<◌, ◌==◌, List, [], ◌∷◌, length, map, cond}
-use Rattle.std.proofs.Common.{true, false, refl, sym, ap, ◌∙◌, arith, inl, inr, All, subst}
-use Rattle.std.specs.Prelude.{fold, count_by, slice_index, slice_index_or, min, nat_lt}
+use Rattle.std.proofs.Common.{true, false, refl, ap, ◌∙◌, arith, All}
+use Rattle.std.specs.Prelude.{fold, count_by, slice_index, slice_index_or, nat_lt}
 use Rattle.std.specs.List.{enumerate_from}
 use Rattle.std.proofs.lemmas.Bool.{eq-eqb, ne_eqb, cases_eq, cond_both}
 use Rattle.std.proofs.Math.Nat.{min-le_left}
@@ -72,28 +72,13 @@ fit_all_given setup t (attempt ∷ gone) fit =
 
 pub taken_given : (t : Workers) (v w : ℕ) → taken_slots (with_slot_given t v) w ≡ taken_slots t w - cond
     (v == w) 1 0
-taken_given t v w = elim (cases_eq v w) [
-  | inl same ↦ rw (eq-eqb v w same)
-      (subst (λ n. taken_slots (with_slot_given t v) n ≡ taken_slots t n - 1) same
-      (ap (λ (worker : Worker). worker.taken) (at-updated_kept _ t.each v nobody refl)))
-  | inr differ ↦ rw (ne_eqb v w differ)
-      (ap (λ (worker : Worker). worker.taken) (at-updated_other _ t.each v w nobody (λ e. differ (sym e)))
-      ∙ omega arith)
-]
+taken_given t v w = grind (arith, cases_eq, eq-eqb, at-updated_kept, ne_eqb, at-updated_other)
 
 pub taken_all_given : (t : Workers) (gone : List Attempt) (w : ℕ) →
     taken_slots (all_given t gone) w ≡ taken_slots t w - count_by (is_on w) gone
 taken_all_given t [] w = omega arith
 taken_all_given t (attempt ∷ gone) w =
-    let counted : count_by (is_on w) (attempt ∷ gone) ≡ cond (attempt.worker == w) 1 0 + count_by (is_on w)
-    gone =
-    sum_by-cons (λ x. cond (is_on w x) 1 0) attempt gone in
-    omega (
-      arith,
-      taken_all_given (with_slot_given t attempt.worker) gone w,
-      taken_given t attempt.worker w,
-      counted,
-    )
+    search (arith, taken_all_given (with_slot_given t attempt.worker) gone w, sum_by-cons, taken_given)
 
 pub live_given : (t : Workers) (v w : ℕ) → is_live (with_slot_given t v) w ≡ is_live t w
 live_given t v w = same-updated (λ (worker : Worker). worker.live) _ t.each v w nobody (λ worker. refl)
@@ -115,24 +100,11 @@ slots_taken t v w = same-updated (λ (worker : Worker). worker.slots) _ t.each v
 
 pub taken_taken : (t : Workers) (v w : ℕ) → v < length t.each →
     taken_slots (with_slot_taken t v) w ≡ taken_slots t w + cond (v == w) 1 0
-taken_taken t v w inside = elim (cases_eq v w) [
-  | inl same ↦ rw (eq-eqb v w same)
-      (subst (λ n. taken_slots (with_slot_taken t v) n ≡ taken_slots t n + 1) same
-      (ap (λ (worker : Worker). worker.taken) (at-updated_same _ t.each v nobody inside)))
-  | inr differ ↦ rw (ne_eqb v w differ)
-      (ap (λ (worker : Worker). worker.taken) (at-updated_other _ t.each v w nobody (λ e. differ (sym e)))
-      ∙ omega arith)
-]
+taken_taken t v w inside = grind (arith, cases_eq, eq-eqb, at-updated_same, ne_eqb, at-updated_other)
 
 -- the dead worker has no slot taken, the others as many as before
 pub taken_death : (t : Workers) (v w : ℕ) → taken_slots (with_death t v) w ≡ cond (v == w) 0 (taken_slots t w)
-taken_death t v w = elim (cases_eq v w) [
-  | inl same ↦ rw (eq-eqb v w same)
-      (subst (λ n. taken_slots (with_death t v) n ≡ 0) same
-      (ap (λ (worker : Worker). worker.taken) (at-updated_kept _ t.each v nobody refl)))
-  | inr differ ↦ rw (ne_eqb v w differ)
-      (ap (λ (worker : Worker). worker.taken) (at-updated_other _ t.each v w nobody (λ e. differ (sym e))))
-]
+taken_death t v w = grind (arith, cases_eq, eq-eqb, at-updated_kept, ne_eqb, at-updated_other)
 
 pub live_death : (t : Workers) (v w : ℕ) → w ≢ v → is_live (with_death t v) w ≡ is_live t w
 live_death t v w other = ap (λ (worker : Worker). worker.live) (at-updated_other _ t.each v w nobody other)
@@ -142,10 +114,7 @@ pub live_return : (t : Workers) (w : ℕ) → w < length t.each → is_live (wit
 live_return t w inside = ap (λ (worker : Worker). worker.live) (at-updated_same _ t.each w nobody inside)
 
 pub live_return_other : (t : Workers) (v w : ℕ) → is_live t w ≡ true → is_live (with_return t v) w ≡ true
-live_return_other t v w live = elim (cases_eq w v) [
-  | inl same ↦ rw same (live_return t v (subst (λ n. n < length t.each) same (live-inside t w live)))
-  | inr other ↦ ap (λ (worker : Worker). worker.live) (at-updated_other _ t.each v w nobody other) ∙ live
-]
+live_return_other t v w live = grind (arith, cases_eq, live_return, live-inside, at-updated_other)
 
 pub taken_return : (t : Workers) (v w : ℕ) → taken_slots (with_return t v) w ≡ taken_slots t w
 taken_return t v w = same-updated (λ (worker : Worker). worker.taken) _ t.each v w nobody (λ worker. refl)
@@ -154,11 +123,7 @@ taken_return t v w = same-updated (λ (worker : Worker). worker.taken) _ t.each 
 heard_kept : {Y : Type 0} (f : Worker → Y) (limit : ℕ) (worker : Worker) (count : ℕ) →
     ((beat silence : ℕ) → f (record worker { beat = beat; silence = silence }) ≡ f worker) →
     f (heard limit worker count) ≡ f worker
-heard_kept f limit worker count kept =
-    cond_both worker.live _ worker (λ new. f new ≡ f worker)
-    (λ _. cond_both (nat_lt worker.beat count) _ _ (λ new. f new ≡ f worker)
-    (λ _. kept count 0) (λ _. kept worker.beat (min limit (worker.silence + 1))))
-    (λ _. refl)
+heard_kept f limit worker count kept = grind arith
 
 -- what each worker has heard, the first one having the number n
 abbrev heard_from : ℕ → ℕ → List ℕ → List Worker → List Worker
@@ -173,9 +138,7 @@ map-heard : {Y : Type 0} (f : Worker → Y) (n limit : ℕ) (counts : List ℕ) 
     IsKeptBySweeps f →
     map f (heard_from n limit counts each) ≡ map f each
 map-heard f n limit counts [] kept = refl
-map-heard f n limit counts (worker ∷ each) kept =
-    rw (heard_kept f limit worker (slice_index counts n) (kept worker))
-    (ap (λ ys. f worker ∷ ys) (map-heard f (n + 1) limit counts each kept))
+map-heard f n limit counts (worker ∷ each) kept = grind (arith, map-heard f (n + 1) limit counts each kept)
 
 at-heard : {Y : Type 0} (f : Worker → Y) (n limit : ℕ) (counts : List ℕ) (each : List Worker) (k : ℕ) →
     IsKeptBySweeps f →
@@ -200,12 +163,7 @@ within-heard n limit counts (worker ∷ each) all =
     (within-heard (n + 1) limit counts each (λ k d l. all (suc k) d (omega (arith, l))))
 
 pub fit_swept : (setup : Setup) (t : Workers) (counts : List ℕ) → IsFit setup t → IsFit setup (swept t counts)
-fit_swept setup t counts fit = record {
-  slots = map-heard (λ worker. worker.slots) 0 t.limit counts t.each (λ worker beat silence. refl)
-      ∙ fit.slots;
-  limit = fit.limit;
-  within = within-heard 0 t.limit counts t.each fit.within;
-}
+fit_swept setup t counts fit = grind (arith, map-heard, within-heard)
 
 pub live_swept : (t : Workers) (counts : List ℕ) (w : ℕ) → is_live (swept t counts) w ≡ is_live t w
 live_swept t counts w =

@@ -4,7 +4,7 @@ use Rattle.std.proofs.Common.{cond, true, not, Some, None, refl, sym, ap, ◌∙
 use Rattle.std.proofs.Common.{inl, inr, All, AllPairs, subst}
 use Rattle.std.specs.List.{list_any, list_all}
 use Rattle.std.specs.Prelude.{◌||◌, flat_map, fold, count_by}
-use Rattle.std.proofs.lemmas.Bool.{false≢true, eq-eqb, cases_eq, not-true, not-false, and_parts, ltb-true}
+use Rattle.std.proofs.lemmas.Bool.{false≢true, eq-eqb, cases_eq, not-true, not-false}
 use Rattle.std.proofs.lemmas.Bool.{eqb-false, or_parts, and_from, lt-ltb}
 use Rattle.std.proofs.lemmas.List.{length-append, length-map}
 use Rattle.std.proofs.lemmas.List.Elements.{All-nil, All-cons, All-append, All-push, All-weaker}
@@ -13,7 +13,6 @@ use Rattle.std.proofs.lemmas.Option.{slice_get-get_or, none-some}
 use Rattle.node_ids.specs.Updates.{updated}
 use Rattle.node_ids.proofs.Updating.{length-updated, sum_by-updated}
 use Rattle.wave_problem.specs.Assignment.{load}
-use Rattle.worker_table.specs.declared.Worker.{Worker}
 use Rattle.worker_table.specs.Workers.{Workers, is_live, taken_slots, has_free_slot, worker_at}
 use Rattle.worker_table.specs.Workers.{with_slot_taken}
 use Rattle.master_state.specs.declared.states.Attempt.{Attempt}
@@ -49,43 +48,27 @@ told_more s work w (suc a) start told = slice_get-append s.starts (start_on work
 -- and of the next attempt what it was started for
 told_next : (s : State) (work : Work) (w : ℕ) →
     start_of (with_start s work w) (next_attempt s) ≡ Some (start_on work w)
-told_next s work w =
-    subst (λ a. start_of (with_start s work w) a ≡ Some (start_on work w)) (sym (add-one (length s.starts)))
-    (slice_get-push s.starts (start_on work w))
+told_next s work w = search (arith, start_on, add-one, slice_get-push)
 
 all_told_more : (s : State) (work other : Work) (w : ℕ) (attempts : List Attempt) →
     All (IsToldAs s other) attempts →
     All (IsToldAs (with_start s work w) other) attempts
-all_told_more s work other w attempts told =
-    All-weaker (IsToldAs s other) (IsToldAs (with_start s work w) other)
-    (λ attempt. told_more s work w attempt.number (start_on other attempt.worker)) attempts told
+all_told_more s work other w attempts told = search (arith, All-weaker, told_more, start_on)
 
 -- one attempt more among those of a place
 one_more : (s : State) (work : Work) (w : ℕ) (attempts : List Attempt) → All (IsToldAs s work) attempts →
     All (IsToldAs (with_start s work w) work) (attempts ++ next_on s w ∷ [])
-one_more s work w attempts told =
-    All-append (IsToldAs (with_start s work w) work) attempts (next_on s w ∷ [])
-    (all_told_more s work work w attempts told)
-    (All-cons (IsToldAs (with_start s work w) work) (next_on s w) [] (told_next s work w)
-    (All-nil (IsToldAs (with_start s work w) work)))
+one_more s work w attempts told = search (arith, All-append, all_told_more, All-cons, told_next, All-nil)
 
 -- a worker with a free slot lives, and has one
 pub free_parts : (t : Workers) (w : ℕ) → has_free_slot (worker_at t w) ≡ true →
     (is_live t w ≡ true) × (taken_slots t w < (worker_at t w).slots)
-free_parts t w free =
-    let parts = and_parts (worker_at t w).live _ free in
-    (parts.0, ltb-true (taken_slots t w) (worker_at t w).slots parts.1)
+free_parts t w free = grind arith
 
 -- a live worker is one of the cluster
 worker_known : (setup : Setup) (s : State) (w : ℕ) → IsTidy setup s → is_live s.workers w ≡ true →
     w < length setup.cluster.slots
-worker_known setup s w tidy live =
-    omega (
-      arith,
-      live-inside s.workers w live,
-      length-map s.workers.each (λ (worker : Worker). worker.slots),
-      ap length tidy.slots,
-    )
+worker_known setup s w tidy live = grind (arith, live-inside, length-map)
 
 -- the split may run one attempt more, on w
 pub TakesOne : ℕ → SplitState → Type 0
@@ -115,10 +98,7 @@ two_apart : (next : Attempt) (w : ℕ) (split : SplitState) → TakesOne w split
 unfolding TakesOne
 two_apart next w split (inl pending) on a b e =
     absurd (false≢true (ap has_two (sym (ap (with_next next) pending) ∙ e)))
-two_apart next w split (inr one) on a b e = λ same.
-    let now : Running one.0 (Some next) ≡ Running a (Some b) = sym (ap (with_next next) one.1) ∙ e in
-    one.2 (ap (λ state. (doer next state).worker) now ∙ same
-    ∙ sym (ap (λ state. (second next state).worker) now) ∙ on)
+two_apart next w split (inr one) on a b e = grind arith
 
 never_done : (next : Attempt) (w : ℕ) (split : SplitState) → TakesOne w split → (a : Attempt) →
     with_next next split ≡ Done a → ⊥
@@ -129,9 +109,7 @@ never_done next w split (inr one) a e = false≢true (ap is_done (sym (ap (with_
 -- the slots that are taken with one attempt more
 count_next : (w v : ℕ) (next : Attempt) (attempts : List Attempt) → next.worker ≡ v →
     count_by (is_on w) (attempts ++ next ∷ []) ≡ count_by (is_on w) attempts + cond (v == w) 1 0
-count_next w v next attempts on =
-    sum_by-append (λ x. cond (is_on w x) 1 0) attempts (next ∷ [])
-    ∙ omega (arith, ap (λ u. let one : ℕ = cond (u == w) 1 0 in one) on)
+count_next w v next attempts on = grind (arith, sum_by-append)
 
 -- the split runs one attempt more
 pub tidy_split_started : (setup : Setup) (s : State) (k v : ℕ) → IsTidy setup s → k < length s.splits →
@@ -183,9 +161,7 @@ tidy_split_started setup s k v tidy inside takes free room =
     (All-right Lives splits parts lived))
     (record {
       apart = λ j a b. elim (cases_eq j k) [
-        | inl same ↦ subst (λ n. split_at (split_started s k v) n ≡ Running a (Some b) →
-            a.worker ≢ b.worker) (sym same)
-            (λ e. two_apart next v (split_at s k) takes refl a b (sym here ∙ e))
+        | inl same ↦ grind (arith, two_apart)
         | inr other ↦ λ e. tidy.apart j a b
             (sym (at-updated_other (with_next next) s.splits k j Pending other) ∙ e)
       ];
@@ -199,9 +175,7 @@ tidy_split_started setup s k v tidy inside takes free room =
       told_parts = λ r. all_told_more s (works.Split k) (works.Part r) v (part_attempts (part_at s r))
           (tidy.told_parts r);
       told_done = λ j a. elim (cases_eq j k) [
-        | inl same ↦ subst (λ n. split_at (split_started s k v) n ≡ Done a →
-            IsToldAs (split_started s k v) (works.Split n) a) (sym same)
-            (λ e. absurd (never_done next v (split_at s k) takes a (sym here ∙ e)))
+        | inl same ↦ grind arith
         | inr other ↦ λ e. told_more s (works.Split k) v a.number (start_on (works.Split j) a.worker)
             (tidy.told_done j a (sym (at-updated_other (with_next next) s.splits k j Pending other) ∙ e))
       ];
@@ -227,9 +201,7 @@ tidy_backup setup s k w tidy allowed =
     let takes = not-false (takes_backup w (split_at s k)) none.1.0 in
     let free = not-false (has_free_slot (worker_at s.workers w))
     (or_parts _ (not (has_free_slot (worker_at s.workers w))) none.1.1.0).1 in
-    tidy_counted setup (split_started s k w)
-    (tidy_split_started setup s k w tidy (split_known s w k takes) (takes_one w (split_at s k) takes)
-    free room.1) room.0
+    search (arith, tidy_counted, tidy_split_started, split_known, takes_one)
 
 -- a pending part runs the next attempt
 abbrev pub part_started : State → ℕ → ℕ → State
@@ -387,7 +359,4 @@ tidy_all_started setup s ((k, v) ∷ pairs) tidy starts =
 pub pending_started : (s : State) (k v : ℕ) → split_at s k ≡ Pending →
     split_started s k v ≡ record (with_start s (works.Split k) v)
     { splits = updated (λ _. Running (next_on s v) None) s.splits k }
-pending_started s k v pending =
-    ap (λ (splits : List SplitState). record (with_start s (works.Split k) v) { splits = splits })
-    (updated-agree (with_next (next_on s v)) (λ _. Running (next_on s v) None) s.splits k Pending
-    (ap (with_next (next_on s v)) pending))
+pending_started s k v pending = grind (arith, updated-agree)

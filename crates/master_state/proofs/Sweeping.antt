@@ -1,9 +1,10 @@
 -- A sweep, and a return, keep a state tidy.
 use Rattle.std.proofs.Common.{◌≡◌, ◌≢◌, ℕ, suc, ◌+◌, ◌<◌, ◌&&◌, List, [], ◌∷◌, ◌++◌, length, map, cond, Bool}
-use Rattle.std.proofs.Common.{true, false, None, refl, sym, ap, ◌∙◌, arith, All}
+use Rattle.std.proofs.Common.{true, false, None, refl, ap, ◌∙◌, arith, All}
 use Rattle.std.specs.Prelude.{fold, filter}
 use Rattle.std.specs.List.{list_any, enumerate_from, range_with_len}
-use Rattle.std.proofs.lemmas.Bool.{false≢true, leb-false, or_parts}
+use Rattle.std.proofs.lemmas.Bool.{leb-false, or_parts}
+use Rattle.std.proofs.lemmas.Grind.{common_steps}
 use Rattle.std.proofs.lemmas.List.{length-append, length-map}
 use Rattle.std.proofs.lemmas.List.Elements.{All-nil, All-cons, All-append, All-weaker}
 use Rattle.node_ids.specs.Sets.{has_number}
@@ -11,7 +12,7 @@ use Rattle.worker_table.specs.Workers.{Workers, is_live, is_silent, swept, with_
 use Rattle.block_map.specs.Holdings.{are_eight, with_holder_of_all}
 use Rattle.master_state.specs.States.{Setup, State}
 use Rattle.master_state.specs.Refusals.{Join, Sweep, IsKnown, refusal, reasons}
-use Rattle.master_state.specs.Changes.{died, with_sweep, after}
+use Rattle.master_state.specs.Changes.{died, after}
 use Rattle.master_state.specs.Tidy.{IsTidy, AreHolders}
 use Rattle.master_state.proofs.Lists.{AllPairs-append}
 use Rattle.master_state.proofs.Slots.{fit_swept, live_swept, taken_swept, fit_return, live_return}
@@ -43,13 +44,8 @@ tidy_sweep setup s counts tidy allowed =
     let room = sweep_left setup s (none_applies (reasons setup s (Sweep counts)) allowed).0 in
     let lives : (w : ℕ) → is_live s.workers w ≡ true →
     is_live table w ≡ true = λ w live. live_swept s.workers counts w ∙ live in
-    tidy_counted setup (with_sweep s counts)
-    (tidy_all_died setup (heard_state s counts) dead
-    (tidy_tables setup s table s.holders (s.sweeps ++ counts ∷ []) s.events tidy
-    (fit_swept setup s.workers counts (fit_of setup s tidy))
-    (taken_swept s.workers counts) lives refl (held_kept s.workers table s.holders lives tidy.held)
-    (omega (arith, length-append s.sweeps (counts ∷ []), room.1)) tidy.events))
-    (omega (arith, events_all_died (heard_state s counts) dead, room.0))
+    search (arith, tidy_counted, tidy_all_died, tidy_tables, fit_swept, fit_of, taken_swept, held_kept,
+      length-append, events_all_died)
 
 -- the holders of each split of the set with w after them, the first split having the number n
 abbrev returned_from : ℕ → List ℕ → ℕ → List (List ℕ) → List (List ℕ)
@@ -64,36 +60,19 @@ length-returned n set w (holders ∷ lists) = ap suc (length-returned (n + 1) se
 -- a dead worker is no holder
 off_dead : (workers : Workers) (w : ℕ) (holders : List ℕ) → is_live workers w ≡ false →
     All (λ h. is_live workers h ≡ true) holders → All (λ h. All (λ v. h ≢ v) (w ∷ [])) holders
-off_dead workers w holders dead live =
-    All-weaker (λ h. is_live workers h ≡ true) (λ h. All (λ v. h ≢ v) (w ∷ []))
-    (λ h lives. All-cons (λ v. h ≢ v) w [] (λ same. false≢true (sym dead ∙ sym (ap (is_live workers) same)
-    ∙ lives)) (All-nil (λ v. h ≢ v)))
-    holders live
+off_dead workers w holders dead live = grind arith
 
 held_more : (workers : Workers) (w : ℕ) (holders : List ℕ) → is_live workers w ≡ false →
     w < length workers.each →
     are_eight holders ≡ false → AreHolders workers holders →
     AreHolders (with_return workers w) (holders ++ w ∷ [])
-held_more workers w holders dead inside few held = record {
-  few = omega (arith, length-append holders (w ∷ []), leb-false 8 (length holders) few);
-  once = AllPairs-append (λ a b. a ≢ b) holders (w ∷ []) held.once
-      (λ i j d below l. absurd (omega (arith, below, l)))
-      (off_dead workers w holders dead held.live);
-  live = All-append (λ h. is_live (with_return workers w) h ≡ true) holders (w ∷ [])
-      (All-weaker (λ h. is_live workers h ≡ true) (λ h. is_live (with_return workers w) h ≡ true)
-      (live_return_other workers w) holders held.live)
-      (All-cons (λ h. is_live (with_return workers w) h ≡ true) w [] (live_return workers w inside)
-      (All-nil (λ h. is_live (with_return workers w) h ≡ true)));
-}
+held_more workers w holders dead inside few held =
+    grind (arith, common_steps, length-append, leb-false, AllPairs-append, off_dead, All-append, All-weaker,
+      live_return_other, All-cons, live_return, All-nil)
 
 held_same : (workers : Workers) (w : ℕ) (holders : List ℕ) → AreHolders workers holders →
     AreHolders (with_return workers w) holders
-held_same workers w holders held = record {
-  few = held.few;
-  once = held.once;
-  live = All-weaker (λ h. is_live workers h ≡ true) (λ h. is_live (with_return workers w) h ≡ true)
-      (live_return_other workers w) holders held.live;
-}
+held_same workers w holders held = grind (arith, All-weaker, live_return_other)
 
 held_one : (workers : Workers) (w : ℕ) (holders : List ℕ) (inside_set : Bool) → is_live workers w ≡ false →
     w < length workers.each →

@@ -7,7 +7,6 @@ use Rattle.price_certificate.specs.Certificate.{Certifies, Holds, claim, split_p
 use Rattle.price_certificate.specs.PriceList.{PriceList}
 use Rattle.price_certificate.specs.declared.Condition.TheVariants as condition
 use Rattle.std.proofs.lemmas.Bool.{false≢true}
-use Rattle.std.proofs.lemmas.List.Elements.{All-cons, All-nil}
 use Rattle.block_map.specs.Copies.{Holdings, IsCopy, WantsCopy, AreCopies, may_hold, IsNoWorse}
 use Rattle.block_map.specs.declared.CopyOrder.{CopyOrder}
 use Rattle.master_state.specs.States.{Setup, State, opening}
@@ -66,14 +65,7 @@ costs_nothing = refl
 
 -- the near start is admissible now
 near_start : IsAdmissible present 1 0
-near_start = record {
-  pending = refl;
-  held = omega arith;
-  live = refl;
-  has_slot = omega arith;
-  not_barred =
-      λ h. false≢true h;
-}
+near_start = grind arith
 
 -- the plan made before: split 1 on worker 1
 abbrev old_plan : List (Option ℕ)
@@ -136,24 +128,14 @@ no_worse (suc (suc zero)) e = inr (refl, omega arith)
 no_worse (suc (suc (suc w))) e = absurd (false≢true e)
 
 is_copy : IsCopy held copy
-is_copy = record {
-  wanted = record { held = omega arith; few = omega arith };
-  held = (0, omega arith, refl);
-  lowest = λ k d l. omega arith;
-  allowed = refl;
-  fewest = no_worse;
-}
+is_copy = grind arith
 
 only_first : (s : ℕ) → WantsCopy held s → Contains (0 ∷ []) s
 only_first zero wants = (0, omega arith, refl)
 only_first (suc s) wants = absurd (omega (arith, wants.held))
 
 are_copies : AreCopies held (copy ∷ [])
-are_copies = record {
-  rising = λ k l. absurd (omega (arith, l));
-  each = All-cons (IsCopy held) copy [] is_copy (All-nil (IsCopy held));
-  all = only_first;
-}
+are_copies = grind arith
 
 -- the first attempt fails, so the pair is barred, and the split goes to the other worker of the rack
 failed_answers : answers racks (Start ((0, 0) ∷ []) ∷ Ask (MapFailed 1) ∷ Start ((0, 1) ∷ []) ∷ [])

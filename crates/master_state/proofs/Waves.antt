@@ -1,6 +1,6 @@
 -- A wave keeps a state tidy: a best assignment's pairs are starts.
 use Rattle.std.proofs.Common.{◌≡◌, ◌≢◌, ℕ, zero, suc, ◌+◌, ◌<◌, ◌≤◌, ◌==◌, List, [], ◌∷◌, length, map, cond}
-use Rattle.std.proofs.Common.{true, false, Option, refl, sym, ap, ◌∙◌, arith, inl, inr, AllPairs, subst}
+use Rattle.std.proofs.Common.{true, false, Option, refl, sym, ap, ◌∙◌, arith, AllPairs}
 use Rattle.std.specs.Prelude.{slice_index_or, zip}
 use Rattle.std.proofs.lemmas.Bool.{false≢true, eq-eqb, cases_lt}
 use Rattle.std.proofs.lemmas.List.{get_or_past}
@@ -10,7 +10,6 @@ use Rattle.wave_problem.specs.declared.lines.WorkerLine.{WorkerLine}
 use Rattle.wave_problem.specs.Wave.{Split}
 use Rattle.wave_problem.specs.Wave as wave
 use Rattle.wave_problem.specs.Assignment.{IsAssignment, times_started, pairs_of}
-use Rattle.worker_table.specs.declared.Worker.{Worker}
 use Rattle.worker_table.specs.Workers.{worker_at, taken_slots}
 use Rattle.master_state.specs.declared.states.SplitState.{SplitState}
 use Rattle.master_state.specs.declared.states.SplitState.TheVariants.{Pending, Running, Done}
@@ -43,8 +42,7 @@ pending_line (split ∷ splits) [] lists k e = absurd (false≢true e)
 pending_line (split ∷ splits) (state ∷ states) [] k e = absurd (false≢true e)
 pending_line (split ∷ splits) (state ∷ states) (holders ∷ lists) zero e = (omega arith, e)
 pending_line (split ∷ splits) (state ∷ states) (holders ∷ lists) (suc k) e =
-    let rest = pending_line splits states lists k e in
-    (omega (arith, rest.0), rest.1)
+    grind (arith, pending_line splits states lists k e)
 
 pub pending_is : (split : SplitState) → is_pending split ≡ true → split ≡ Pending
 pending_is Pending e = refl
@@ -82,11 +80,7 @@ once_pairs (pair ∷ pairs) once =
 -- no worker has more slots taken than it has
 pub within_slots : (setup : Setup) (s : State) (w : ℕ) → IsTidy setup s →
     taken_slots s.workers w ≤ (worker_at s.workers w).slots
-within_slots setup s w tidy = elim (cases_lt w (length s.workers.each)) [
-  | inl inside ↦ (tidy.within w nobody inside).taken
-  | inr past ↦ subst (λ (worker : Worker). worker.taken ≤ worker.slots)
-      (sym (get_or_past s.workers.each w nobody past)) (omega arith)
-]
+within_slots setup s w tidy = grind (arith, cases_lt, nobody, get_or_past)
 
 -- the pairs of an assignment may start together
 pub are_starts : (setup : Setup) (s : State) (pairs : List (ℕ × ℕ)) → IsTidy setup s →

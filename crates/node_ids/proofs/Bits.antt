@@ -1,5 +1,5 @@
 -- What a table of bits holds after one bit was set, and where none is.
-use Rattle.std.proofs.Common.{◌≡◌, ◌≢◌, ℕ, ◌+◌, ◌-◌, ◌*◌, ◌/◌, ◌%◌, ◌^◌, ◌<◌, ◌≤◌, List, length, get_or, set}
+use Rattle.std.proofs.Common.{◌≡◌, ℕ, ◌+◌, ◌-◌, ◌*◌, ◌/◌, ◌%◌, ◌^◌, ◌<◌, ◌≤◌, List, length, get_or, set}
 use Rattle.std.proofs.Common.{w64, min, subst, ◌⊎◌, inl, inr, ◌↔◌, arith, sym, ap, ◌∙◌, get_or-set_same}
 use Rattle.std.proofs.Common.{get_or-set_other, replicate}
 use Rattle.std.specs.Int.{bit_at, bit_not, trailing_zeros}
@@ -25,12 +25,7 @@ set_one xs n k h =
     let low : n % 64 < 64 = omega arith in
     let word = with_bit (get_or xs (n / 64) 0) (n % 64) in
     elim (cases_eq (k / 64) (n / 64)) [
-      | inr far ↦
-          let same : get_or (set xs (n / 64) word) (k / 64) 0 ≡ get_or xs (k / 64) 0 = rw get_or-set_other in
-          let apart : k ≢ n = λ e. far (ap (λ (z : ℕ). z / 64) e) in (
-            λ new. inr (rw same at new),
-            λ old. elim old [ inl e ↦ absurd (apart e) | inr was ↦ rw same was ],
-          )
+      | inr far ↦ grind (arith, get_or-set_other)
       | inl near ↦
           let here : get_or (set xs (n / 64) word) (k / 64) 0 ≡ word = rw near (rw get_or-set_same) in
           elim (cases_eq (k % 64) (n % 64)) [
@@ -52,28 +47,17 @@ set_one xs n k h =
 
 pub has-set : (xs : List ℕ) (n k : ℕ) → n < 64 * length xs →
     Has (set xs (n / 64) (with_bit (get_or xs (n / 64) 0) (n % 64))) k ↔ ((k ≡ n) ⊎ Has xs k)
-has-set xs n k h =
-    let one = set_one xs n k h in (
-      λ new. elim (one.0 (eqb-true _ 1 new)) [ inl e ↦ inl e | inr was ↦ inr (eq-eqb _ 1 was) ],
-      λ old. eq-eqb _ 1 (one.1 (elim old [ inl e ↦ inl e | inr was ↦ inr (eqb-true _ 1 was) ])),
-    )
+has-set xs n k h = grind (arith, set_one, eqb-true, eq-eqb)
 
 abbrev zeros : ℕ → List ℕ
 zeros n = replicate n 0
 
 zeros-get_or : (n k : ℕ) → get_or (zeros n) k 0 ≡ 0
-zeros-get_or n k = elim (cases_lt k n) [
-  | inl h ↦ get_or-replicate n k 0 0 h
-  | inr h ↦
-      get_or_past (zeros n) k 0 (rw length-replicate h)
-]
+zeros-get_or n k = grind (arith, cases_lt, get_or-replicate, get_or_past, length-replicate)
 
 -- a table of zeros holds no number
 pub has-replicate : (n k : ℕ) → Has (zeros n) k → ⊥
-has-replicate n k h =
-    let clear : bit_at (get_or (zeros n) (k / 64) 0) (k % 64) ≡ 0 =
-    ap (λ (z : ℕ). bit_at z (k % 64)) (zeros-get_or n (k / 64)) ∙ bit_at-zero (k % 64) in
-    omega (arith, clear, eqb-true _ 1 h)
+has-replicate n k h = grind (arith, zeros-get_or, bit_at-zero, eqb-true)
 
 -- the bits of one word that another does not have
 abbrev pub IsWithout : ℕ → ℕ → ℕ → Type 0
@@ -95,29 +79,13 @@ and_not-without word other fits k low =
     )
 
 none_past : (words : List ℕ) (n : ℕ) → length words ≤ n / 64 → Has words n → ⊥
-none_past words n past has =
-    let clear : bit_at (get_or words (n / 64) 0) (n % 64) ≡ 0 =
-    ap (λ (word : ℕ). bit_at word (n % 64)) (get_or_past words (n / 64) 0 past) ∙ bit_at-zero (n % 64) in
-    omega (arith, clear, eqb-true _ 1 has)
+none_past words n past has = grind (arith, get_or_past, bit_at-zero, eqb-true)
 
 -- word by word, of two tables of as many words
 pub has-without : (result words others : List ℕ) → length result ≡ length words
     → ((i : ℕ) → i < length words → IsWithout (get_or result i 0) (get_or words i 0) (get_or others i 0))
     → (n : ℕ) → Has result n ↔ (Has words n × (Has others n → ⊥))
-has-without result words others long each n = elim (cases_lt (n / 64) (length words)) [
-  | inl within ↦
-      let low : n % 64 < 64 = omega arith in
-      let at = each (n / 64) within (n % 64) low in (
-        λ has. let both = at.0 (eqb-true _ 1 has) in
-            (eq-eqb _ 1 both.0, λ other. both.1 (eqb-true _ 1 other)),
-        λ both. eq-eqb _ 1 (at.1 (eqb-true _ 1 both.0, λ other. both.1 (eq-eqb _ 1 other))),
-      )
-  | inr past ↦
-      let past_too : length result ≤ n / 64 = omega (arith, long, past) in (
-        λ has. absurd (none_past result n past_too has),
-        λ both. absurd (none_past words n past both.0),
-      )
-]
+has-without result words others long each n = grind (arith, cases_lt, eqb-true, eq-eqb, none_past)
 
 -- a word without a bit
 abbrev pub HasNoBit : ℕ → Type 0
@@ -139,10 +107,7 @@ some_bit word fits some =
 -- a table whose words have no bit has no number
 pub none-from_words : (words : List ℕ) → ((i : ℕ) → i < length words → HasNoBit (get_or words i 0))
     → (n : ℕ) → Has words n → ⊥
-none-from_words words each n has = elim (cases_lt (n / 64) (length words)) [
-  | inl within ↦ let low : n % 64 < 64 = omega arith in each (n / 64) within (n % 64) low (eqb-true _ 1 has)
-  | inr past ↦ none_past words n past has
-]
+none-from_words words each n has = grind (arith, cases_lt, eqb-true, none_past)
 
 -- a bit of a word is a number of the table
 pub some-from_word : (words : List ℕ) (i : ℕ) → SomeBit (get_or words i 0) → (n : ℕ) × Has words n

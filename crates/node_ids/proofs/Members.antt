@@ -1,5 +1,5 @@
 -- The members of a set, one after another, and a set that is filled by a test.
-use Rattle.std.proofs.Common.{◌≡◌, ℕ, suc, ◌+◌, ◌-◌, ◌<◌, List, [], ◌∷◌, ◌++◌}
+use Rattle.std.proofs.Common.{◌≡◌, ℕ, ◌+◌, ◌-◌, ◌<◌, List, [], ◌∷◌, ◌++◌}
 use Rattle.std.proofs.Common.{Bool, cond, ◌&&◌, ltb, sym, ap, ◌∙◌}
 use Rattle.std.proofs.Common.{arith}
 use Rattle.std.specs.Prelude.{filter}
@@ -10,9 +10,7 @@ use Rattle.node_ids.specs.Sets.{has_number}
 
 -- the numbers from i on that are below n: i, and those after it
 pub range_front : (i n : ℕ) → i < n → range_with_len i (n - i) ≡ i ∷ range_with_len (i + 1) (n - (i + 1))
-range_front i n below =
-    let more : n - i ≡ suc (n - (i + 1)) = omega arith in
-    ap (range_with_len i) more
+range_front i n below = grind arith
 
 -- the step of a loop over the numbers that pass a test
 pub filter_range_more : (test : ℕ → Bool) (n : ℕ) →

@@ -1,3 +1,7 @@
+ghost use Rattle.std.specs.Prelude.{nat_lt};
+ghost use Rattle.std.proofs.Common.{refl};
+ghost use Rattle.std.proofs.lemmas.Bool.{lt-ltb, ltb-true};
+
 use crate::layout::Layout;
 
 /// A layout of so many nodes that are their own places: each number below `nodes` is a node.
@@ -7,10 +11,6 @@ pub struct Numbered {
 }
 
 impl Layout for Numbered {
-    ghost use Rattle.std.specs.Prelude.{nat_lt};
-    ghost use Rattle.std.proofs.Common.{refl};
-    ghost use Rattle.std.proofs.lemmas.Bool.{lt-ltb, ltb-true};
-
     type Node = usize;
 
     ghost node_count = { λ l. l.nodes };

@@ -1,7 +1,7 @@
 // Seven types of one form, written out: no macro may write an `impl` here, and one type over a kind would
 // give all numbers the width and the bound of the widest.
 
-ghost use Rattle.std.specs.Prelude.{◌≡◌, ◌<◌, ◌^◌};
+ghost use Rattle.std.specs.Prelude.{◌≡◌, ◌<◌, ◌^◌, ℕ};
 
 use std::marker::Model;
 
@@ -12,8 +12,6 @@ pub struct SplitNo {
 }
 
 impl Model for SplitNo {
-    ghost use Rattle.std.specs.Prelude.{ℕ};
-
     ghost Value = { ℕ };
 
     ghost view = { λ n. n.number };
@@ -45,8 +43,6 @@ pub struct WorkerNo {
 }
 
 impl Model for WorkerNo {
-    ghost use Rattle.std.specs.Prelude.{ℕ};
-
     ghost Value = { ℕ };
 
     ghost view = { λ n. n.number };
@@ -78,8 +74,6 @@ pub struct RackNo {
 }
 
 impl Model for RackNo {
-    ghost use Rattle.std.specs.Prelude.{ℕ};
-
     ghost Value = { ℕ };
 
     ghost view = { λ n. n.number };
@@ -111,8 +105,6 @@ pub struct CentreNo {
 }
 
 impl Model for CentreNo {
-    ghost use Rattle.std.specs.Prelude.{ℕ};
-
     ghost Value = { ℕ };
 
     ghost view = { λ n. n.number };
@@ -144,8 +136,6 @@ pub struct PartNo {
 }
 
 impl Model for PartNo {
-    ghost use Rattle.std.specs.Prelude.{ℕ};
-
     ghost Value = { ℕ };
 
     ghost view = { λ n. n.number };
@@ -177,8 +167,6 @@ pub struct DocNo {
 }
 
 impl Model for DocNo {
-    ghost use Rattle.std.specs.Prelude.{ℕ};
-
     ghost Value = { ℕ };
 
     ghost view = { λ n. n.number };
@@ -210,8 +198,6 @@ pub struct AttemptNo {
 }
 
 impl Model for AttemptNo {
-    ghost use Rattle.std.specs.Prelude.{ℕ};
-
     ghost Value = { ℕ };
 
     ghost view = { λ n. n.number };

@@ -1,4 +1,4 @@
-ghost use Rattle.std.specs.Prelude.{◌≡◌, ℕ, ◌*◌, ◌<◌, ◌⊎◌, ◌↔◌, ◌≤◌, IfOk, IsTrue, false, length};
+ghost use Rattle.std.specs.Prelude.{◌≡◌, ℕ, ◌*◌, ◌<◌, ◌⊎◌, ◌↔◌, ◌≤◌, IfOk, IsTrue, false, length, List};
 ghost use Rattle.node_ids.specs.Sets.{AreBelow, Has, HasPair, has_number, place_of_pair, with_number};
 ghost use Rattle.node_ids.specs.Sets.{with_pair};
 ghost use Rattle.node_ids.specs.Sets.{no_pairs, no_splits, no_workers};
@@ -59,8 +59,6 @@ pub struct WorkerSet {
 }
 
 impl Model for WorkerSet {
-    ghost use Rattle.std.specs.Prelude.{ℕ, List};
-
     ghost Value = { List ℕ };
 
     ghost view = { λ s. s.words };
@@ -134,8 +132,6 @@ pub struct SplitSet {
 }
 
 impl Model for SplitSet {
-    ghost use Rattle.std.specs.Prelude.{ℕ, List};
-
     ghost Value = { List ℕ };
 
     ghost view = { λ s. s.words };
@@ -184,8 +180,6 @@ pub struct PairSet {
 }
 
 impl Model for PairSet {
-    ghost use Rattle.std.specs.Prelude.{◌≡◌, ℕ, List, length};
-
     ghost Value = { List ℕ };
 
     ghost view = { λ s. s.words.items };

@@ -1,6 +1,6 @@
 -- The rows of a keyword, and the names and keys that they have.
 use Rattle.std.proofs.Common.{ℕ, List, [], ◌∷◌, ◌++◌, ◌≡◌, ◌≢◌, ◌<◌, ◌+◌, ◌∙◌, Bool, true, false, zero, suc}
-use Rattle.std.proofs.Common.{true≢false, ap, append-nil, arith, cond, get_or, length, map, refl, subst, sym}
+use Rattle.std.proofs.Common.{true≢false, ap, append-nil, arith, cond, get_or, length, map, subst, sym}
 use Rattle.std.proofs.Common.{take}
 use Rattle.std.specs.List.{All, AllPairs, Contains, filter}
 use Rattle.std.proofs.lemmas.List.{get_or-map, get_or-take, get_or_default, length-map, length-take}
@@ -12,7 +12,7 @@ use Rattle.text_lines.specs.Texts.{Word}
 use Rattle.line_shapes.specs.Keywords.{spelling_of}
 use Rattle.line_shapes.specs.Lines.{Statement}
 use Rattle.line_shapes.specs.declared.keyword.Keyword.{Keyword}
-use Rattle.line_rules.specs.Entering.{Key, entering_of, first_key, key_of, second_key}
+use Rattle.line_rules.specs.Entering.{Key, entering_of, key_of}
 use Rattle.line_rules.specs.Known.{HasRow, is_of, keys_of, rows_of}
 use Rattle.line_rules.specs.Rows.{IsKeyAt, IsRowAt}
 use Rattle.line_rules.specs.declared.entering.Entering.TheVariants.{Word as ByWord}
@@ -56,11 +56,7 @@ keyword_of k s is =
     sym (spelling_of-injective k s.keyword ((bytes_eq-Decides (spelling_of k) (spelling_of s.keyword)).0 is))
 
 pub is_of-other : (k : Keyword) (s : Statement) → (s.keyword ≡ k → ⊥) → is_of k s ≡ false
-is_of-other k s other = by (is_of k s) refl
-  where
-    by : (b : Bool) → is_of k s ≡ b → b ≡ false
-    by true is = absurd (other (keyword_of k s is))
-    by false is = refl
+is_of-other k s other = grind arith
 
 -- what a test of two keywords tells
 pub told_same : (j k : Keyword) (b : Bool) → b ≡ sameb the_type j k → b ≡ true → j ≡ k
@@ -105,9 +101,7 @@ no_word k = record { keyword = k; words = [] }
 
 pub key_by_word : (k : Keyword) → entering_of k ≡ ByWord → (s : Statement) → s.keyword ≡ k
     → key_of s ≡ (k, nth_word 0 s, [])
-key_by_word k by s same =
-    let entering : entering_of s.keyword ≡ ByWord = ap entering_of same ∙ by in
-    λ i. (same i, first_key (entering i) s.words, second_key (entering i) s.words)
+key_by_word k by s same = grind arith
 
 -- a name of a keyword is the key of a row
 pub named_row : (k : Keyword) → entering_of k ≡ ByWord → (rows : List Statement) (n : Word)

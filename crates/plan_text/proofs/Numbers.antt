@@ -1,7 +1,7 @@
 -- Names and their numbers, and the pairs that are barred.
 use Rattle.std.proofs.Common.{ℕ, List, [], ◌∷◌, ◌++◌, ◌≡◌, ◌≢◌, ◌<◌, ◌⊎◌, ◌∙◌, arith, Bool, true, false}
 use Rattle.std.proofs.Common.{true≢false, inl, inr, length, sym, ap, refl}
-use Rattle.std.specs.Prelude.{◌↔◌, IsTrue, unwrap_or}
+use Rattle.std.specs.Prelude.{◌↔◌, IsTrue}
 use Rattle.std.specs.List.{Contains, position_or_len, slice_index_or}
 use Rattle.std.specs.Str.{bytes_eq}
 use Rattle.std.proofs.lemmas.Bool.{cases_lt}
@@ -20,21 +20,12 @@ abbrev first : List Word → Word → ℕ
 first names name = position_or_len (bytes_eq name) names
 
 first_within : (names : List Word) (name : Word) → Contains names name → first names name < length names
-first_within names name (k, lt, is) =
-    let here : bytes_eq name (slice_index_or names k name) ≡ true = (bytes_eq-Decides name _).1 (sym is) in
-    elim (cases_lt k (first names name)) [
-      | inl less ↦ absurd (true≢false (sym here ∙ fails_before_first (bytes_eq name) names k name less))
-      | inr ge ↦ omega arith
-    ]
+first_within names name (k, lt, is) = grind (arith, bytes_eq-Decides, cases_lt, fails_before_first)
 
 number_is_first : (names : List Word) (name : Word) → Contains names name
     → number_in names name ≡ first names name
 number_is_first names name has =
-    let inside = first_within names name has in
-    ap (λ o. unwrap_or o 0)
-    (position_found (bytes_eq name) names (first names name) name inside
-    (λ k lt. fails_before_first (bytes_eq name) names k name lt)
-    (passes_at_first (bytes_eq name) names name inside))
+    grind (arith, first_within, position_found, fails_before_first, passes_at_first)
 
 pub number_within : (names : List Word) (name : Word) → Contains names name
     → number_in names name < length names
@@ -44,8 +35,7 @@ number_within names name has = rw (number_is_first names name has) (first_within
 pub name_of_number : (names : List Word) (name d : Word) → Contains names name
     → slice_index_or names (number_in names name) d ≡ name
 name_of_number names name d has =
-    let passes = passes_at_first (bytes_eq name) names d (first_within names name has) in
-    rw (number_is_first names name has) (sym ((bytes_eq-Decides name _).0 passes))
+    grind (arith, passes_at_first, first_within, number_is_first, bytes_eq-Decides)
 
 pub numbers_differ : (names : List Word) (a b : Word) → Contains names a → Contains names b
     → a ≢ b → number_in names a ≢ number_in names b
@@ -76,9 +66,7 @@ pub one_more_barred : (splits workers : List Word) (front : List Statement) (lin
 one_more_barred splits workers front line s w New Old step before = (
   λ new. elim (step.0 new) [
     | inl here ↦ (line, Contains-push front line, sym here.0, sym here.1)
-    | inr old ↦
-        let b = before.0 old in
-        (b.0, Contains-append_left front (line ∷ []) b.0 b.1, b.2, b.3)
+    | inr old ↦ grind (arith, Contains-append_left)
   ],
   λ b. step.1 (elim (Contains-push_cases front line b.0 b.1) [
     | inl has ↦ inr (before.1 (b.0, has, b.2, b.3))

@@ -36,10 +36,7 @@ mapped_more g f xs i d inside =
 
 small_split : (workers busy : List Word) (s : Statement) → IsTidySplit workers s
     → IsSmall (declared_split workers busy s)
-small_split workers busy s tidy = record {
-  bytes = tidy.bytes.most;
-  holders = omega (arith, length-map (tail_words s) (number_in workers), tidy.few_holders);
-}
+small_split workers busy s tidy = grind (arith, length-map)
 
 held_split : (n : ℕ) (workers busy : List Word) (s : Statement) → n ≡ length workers → IsTidySplit workers s
     → IsHeldWell n (declared_split workers busy s)
@@ -84,12 +81,7 @@ module _ (rows : List Statement) (tidy : AreTidy rows) where
 -- the place of a start's name is that of a line
 pub start_inside : (lines : List Statement) (name : Word) (place : ℕ)
     → position (λ n. bytes_eq name n) (names_in lines) ≡ Some place → place < length lines
-start_inside lines name place is =
-    omega (
-      arith,
-      (position-Some (λ n. bytes_eq name n) (names_in lines) place [] is).0,
-      length-map lines (nth_word 0),
-    )
+start_inside lines name place is = grind (arith, position-Some, length-map)
 
 -- what a line of the name found says
 module _ (rows : List KeyedLine) (names : List Word) (name : Word) (found : Option ℕ) (place : ℕ)
@@ -135,9 +127,4 @@ start_within workers lines tidy name = by (position (λ n. bytes_eq name n) (nam
 
 pub starts_within : (rows : List Statement) → AreTidy rows
     → All (λ start. IfSome start (λ w. w < length (names_of Worker rows))) (declared_starts rows)
-starts_within rows tidy =
-    let workers = names_of Worker rows in
-    All-map (λ start. IfSome start (λ w. w < length workers)) (start_at workers (rows_of Start rows))
-    (names_of Split rows)
-    (λ i d lt. start_within workers (rows_of Start rows) (tidy_starts rows tidy)
-    (slice_index_or (names_of Split rows) i d))
+starts_within rows tidy = search (arith, All-map, start_within, tidy_starts)

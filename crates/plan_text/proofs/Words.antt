@@ -32,10 +32,7 @@ tidy_worker : (rows : List Statement) (words : List Word) → IsTidyRow rows (li
 tidy_worker rows words row =
     let whole : 3 ≤ length words = row.whole in
     let slots = row.in_range 2 (omega arith) in
-    record {
-      rack = row_named Rack refl rows (get_or words 1 []) (row.known 1 (omega arith));
-      slots = record { number = slots.0; most = slots.2 };
-    }
+    grind (arith, row_named)
 
 tidy_split : (rows : List Statement) (words : List Word) → IsTidyRow rows (line Split words)
     → IsTidySplit (names_of Worker rows) (line Split words)
@@ -71,10 +68,7 @@ tidy_start rows words row =
 
 tidy_price : (rows : List Statement) (words : List Word) → IsTidyRow rows (line Price words)
     → IsTidyPrice (line Price words)
-tidy_price rows words row =
-    let whole : 2 ≤ length words = row.whole in
-    let amount = row.in_range 1 (omega arith) in
-    record { number = amount.0; most = amount.2 }
+tidy_price rows words row = grind arith
 
 module _ (rows : List Statement) (tidy : AreTidy rows) where
   pub tidy_workers : All (IsTidyWorker (names_of Rack rows)) (rows_of Worker rows)

@@ -1,6 +1,7 @@
 //! The nodes of the rack network.
-ghost use Rattle.std.specs.Prelude.{◌≡◌, ◌≤◌};
-ghost use Rattle.rack_network.specs.Layout.{clusters};
+ghost use Rattle.std.specs.Prelude.{◌≡◌, ◌≤◌, ◌+◌};
+ghost use Rattle.rack_network.specs.Layout.{clusters, is_node, node_of, place_of};
+ghost use Rattle.rack_network.specs.Places.{member_at, node_at_place, place_at, place_below};
 
 use node_ids::{CentreNo, Layout, RackNo, SplitNo, WorkerNo};
 
@@ -46,10 +47,6 @@ pub(crate) fn clusters(centres: usize) -> usize
 }
 
 impl Layout for RackLayout {
-    ghost use Rattle.std.specs.Prelude.{◌+◌};
-    ghost use Rattle.rack_network.specs.Layout.{clusters, is_node, node_of, place_of};
-    ghost use Rattle.rack_network.specs.Places.{member_at, node_at_place, place_at, place_below};
-
     type Node = RackNode;
 
     ghost node_count = { λ l. l.splits + clusters l.centres + l.centres + l.racks + l.workers + 2 };

@@ -1,5 +1,5 @@
 //! Sets of small numbers, whose members are found by rising number.
-ghost use Rattle.std.specs.Prelude.{◌≡◌, ℕ, ◌<◌, ◌⊎◌, ◌↔◌, IsTrue};
+ghost use Rattle.std.specs.Prelude.{◌≡◌, ℕ, ◌<◌, ◌⊎◌, ◌↔◌, IsTrue, List};
 ghost use Rattle.node_ids.specs.Sets.{Has};
 ghost use Rattle.rack_network.specs.Marks.{IsNext, IsNextBit};
 ghost use Rattle.rack_network.specs.declared.marks.TheConstants.{MAX_MARKS};
@@ -18,8 +18,6 @@ pub struct Marks {
 }
 
 impl Model for Marks {
-    ghost use Rattle.std.specs.Prelude.{ℕ, List};
-
     ghost Value = { List ℕ };
 
     ghost view = { λ m. m.words };

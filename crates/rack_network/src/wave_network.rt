@@ -1,7 +1,7 @@
 //! The rack network as one that each wave has.
 ghost use Rattle.std.specs.Prelude.{◌≡◌, ◌+◌, length, slice_index};
 ghost use Rattle.network_prices.specs.Ways.{deepest};
-ghost use Rattle.rack_network.specs.Racks.{above_centres, first_worker};
+ghost use Rattle.rack_network.specs.Racks.{above_centres, first_worker, rack_nodes, IsRackNetwork, IsSized};
 
 use crate::places::{first_centre, first_rack, first_worker};
 use crate::{RackLayout, build};
@@ -12,8 +12,6 @@ use std::alloc::{AllocError, Global};
 use wave_problem::Problem;
 
 impl WaveNetwork for RackLayout {
-    ghost use Rattle.rack_network.specs.Racks.{first_worker, rack_nodes, IsRackNetwork, IsSized};
-
     ghost first = { first_worker };
 
     ghost above = { λ wave. (rack_nodes wave).above };

@@ -1,18 +1,18 @@
 -- Commands of a text without a fault are not too many, none gives more counts than there may be workers, and
 -- the words of each keep to their places in view of all rows.
 use Rattle.std.proofs.Common.{ℕ, List, [], ◌∷◌, ◌++◌, ◌≡◌, ◌≤◌, ◌<◌, ◌∙◌, Option, Some, append-nil, arith}
-use Rattle.std.proofs.Common.{length, length-append, refl, subst, sym, ap, take}
+use Rattle.std.proofs.Common.{length, length-append, refl, subst, sym}
 use Rattle.std.specs.List.{All}
 use Rattle.std.proofs.lemmas.List.{length_push}
 use Rattle.std.proofs.lemmas.List.Elements.{All-append, All-cons, All-nil, All-weaker, filter-append}
-use Rattle.text_lines.specs.Texts.{Line, lines_of}
+use Rattle.text_lines.specs.Texts.{Line}
 use Rattle.line_shapes.specs.Lines.{Statement}
 use Rattle.line_shapes.specs.Places.{places_of}
 use Rattle.line_shapes.specs.declared.keyword.Keyword.{Keyword}
 use Rattle.line_shapes.specs.declared.keyword.Keyword.TheVariants as keyword
 use Rattle.line_rules.specs.Entering.{command_of, entered_of, entering_of, in_turn, most_of}
 use Rattle.line_rules.specs.Faults.{IsFewer, IsFit, IsComplete, counted_by}
-use Rattle.line_rules.specs.Known.{Known, entered, is_of, known_at, rows_of}
+use Rattle.line_rules.specs.Known.{Known, entered, rows_of}
 use Rattle.line_rules.specs.Reading.{AreFitLines, IsAllRead}
 use Rattle.line_rules.specs.declared.entering.Entering.{Entering}
 use Rattle.line_rules.specs.declared.entering.Entering.TheVariants.{InTurn}
@@ -44,13 +44,7 @@ workers_in k = length (rows_of keyword.Worker k.rows)
 
 workers_grow : (k : Known) (ss : List Statement) → workers_in k ≤ workers_in (names_after k ss)
 workers_grow k [] = omega arith
-workers_grow k (s ∷ ss) =
-    omega (
-      arith,
-      workers_grow (entered k s) ss,
-      ap length (filter-append (is_of keyword.Worker) k.rows (entered_of s)),
-      length-append (rows_of keyword.Worker k.rows) (rows_of keyword.Worker (entered_of s)),
-    )
+workers_grow k (s ∷ ss) = grind (arith, workers_grow (entered k s) ss, filter-append, length-append)
 
 module _ (n : ℕ) (k : Known) (s : Statement) (whole : length (places_of s.keyword) ≤ length s.words)
     (fit : IsFit k s) (few : workers_in k ≤ n) (bounded : AreBounded n k.rows k.commands) where
@@ -112,7 +106,4 @@ pub bounded-read : (purpose : Purpose) (text : List ℕ) (k : Known) → IsAllRe
 bounded-read purpose text k read =
     let same = known_after purpose read.statements ∙ sym read.known in
     let few : workers_in k ≤ 256 = (tidy-read purpose text k read).few_workers in
-    subst (λ (j : Known). AreBounded 256 j.rows j.commands) same
-    (bounded_after 256 (known_at purpose []) (take (length read.statements) (lines_of text)) read.statements
-    read.fit (subst (λ (j : Known). workers_in j ≤ 256) (sym same) few)
-    (record { few = omega arith; short = All-nil (IsShort 256); tidy = All-nil (IsTidyCommand []) }))
+    grind (arith, bounded_after, All-nil)

@@ -5,7 +5,7 @@ use Rattle.std.proofs.Common.{sym}
 use Rattle.std.specs.List.{AllPairs, Contains, enumerate_from, filter}
 use Rattle.std.specs.Str.{bytes_eq}
 use Rattle.std.specs.declared.alloc.Global.{Global}
-use Rattle.std.proofs.lemmas.Bool.{cases_eq, cases_lt}
+use Rattle.std.proofs.lemmas.Bool.{cases_eq}
 use Rattle.std.proofs.lemmas.List.{get_or-map, get_or-set_other, get_or-set_same, length-map, length-set}
 use Rattle.std.proofs.lemmas.List.{map-append, map-set, same_lists}
 use Rattle.std.proofs.lemmas.List.Elements.{filter-append}
@@ -47,11 +47,7 @@ documents_more lines line split b is =
 
 apart : (names : List Word) → AllPairs (λ a b. a ≢ b) names → (i j : ℕ) (d : Word) → i < length names
     → j < length names → i ≢ j → get_or names i d ≢ get_or names j d
-apart names differ i j d i_in j_in other same =
-    elim (cases_lt i j) [
-      | inl less ↦ differ i j d less j_in same
-      | inr ge ↦ differ j i d (omega (arith, ge, other)) i_in (sym same)
-    ]
+apart names differ i j d i_in j_in other same = grind arith
 
 pub documents_none : (names : List Word) → map (documents_of []) names ≡ replicate (length names) []
 documents_none [] = refl

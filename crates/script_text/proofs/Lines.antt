@@ -49,9 +49,7 @@ module _ (rows : List Statement) (tidy : AreTidy rows) where
 
 pub are_settings : (least most : ℕ) (lines : List Statement) → most ≤ 1000 → AreWithin least most lines
     → All IsSetting lines
-are_settings least most lines low within i d lt =
-    let here = within i d lt in
-    record { number = here.0; most = omega (arith, low, here.2) }
+are_settings least most lines low within i d lt = grind arith
 
 -- what is told is within the range, where the number that stands for an absent line is
 pub told_within : (least most n : ℕ) (lines : List Statement) → AreWithin least most lines

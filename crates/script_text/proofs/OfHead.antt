@@ -33,10 +33,7 @@ is_known : (names : Names) (s : Statement) (c : Command) → IsShort 256 s → S
 is_known names s (command.Backup split worker) short says =
     (below names.splits _ split says.1.0, below names.workers _ worker says.1.1)
 is_known names s (command.Die worker) short says = below names.workers _ worker says.1
-is_known names s (command.Join worker splits) short says = (
-  below names.workers _ worker says.1,
-  λ i d lt. below names.splits _ (get_or splits.items i d) (says.2.each i d lt),
-)
+is_known names s (command.Join worker splits) short says = grind arith
 is_known names s (command.Add split worker) short says =
     (below names.splits _ split says.1.0, below names.workers _ worker says.1.1)
 is_known names s (command.Lose split worker) short says =

@@ -1,5 +1,5 @@
 -- A command of a text without a fault has its words, by the names that the rows declare.
-use Rattle.std.proofs.Common.{ℕ, List, ◌≡◌, ◌≤◌, ◌<◌, zero, suc, arith, get_or, length, refl, sym}
+use Rattle.std.proofs.Common.{ℕ, List, ◌≡◌, ◌≤◌, ◌<◌, zero, suc, arith, get_or, length, refl}
 use Rattle.std.specs.List.{All}
 use Rattle.text_lines.specs.Texts.{Word}
 use Rattle.line_shapes.specs.Demands.{IsNumberWithin}
@@ -86,16 +86,8 @@ ready-read purpose text k read i d lt =
 -- ---- names
 
 pub few_told : (rows : List Statement) → AreTidy rows → AreFew (told_names rows)
-few_told rows tidy = record {
-  workers = few_names rows tidy keyword.Worker 256 tidy.few_workers;
-  splits = few_names rows tidy keyword.Split 1024 tidy.few_splits;
-}
+few_told rows tidy = grind (arith, few_names)
 
 -- the names of the rows are those that they tell
 pub names_told : (rows : List Statement) (names : Names) → AreNames rows names → told_names rows ≡ names
-names_told rows names are =
-    let splits = are.splits in
-    let workers = are.workers in
-    let documents = are.documents in
-    let back : names ≡ told_names rows =
-    λ i. record { workers = workers i; splits = splits i; documents = documents i } in sym back
+names_told rows names are = grind arith

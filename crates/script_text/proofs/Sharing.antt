@@ -1,6 +1,5 @@
 -- A text for each list of documents, one list more.
-use Rattle.std.proofs.Common.{ℕ, List, ◌++◌, ◌≡◌, ◌≤◌, ◌∙◌, Vec, ap, arith, length, length-append, map}
-use Rattle.std.specs.Arc.{arc_value}
+use Rattle.std.proofs.Common.{ℕ, List, ◌++◌, ◌≡◌, ◌≤◌, Vec, arith, length, length-append, map}
 use Rattle.std.specs.List.{enumerate_from}
 use Rattle.std.specs.declared.alloc.Global.{Global}
 use Rattle.std.specs.declared.sync.Arc.{Arc}
@@ -18,9 +17,7 @@ texts_from n lists = map text_of_split (enumerate_from n (items_of lists))
 
 pub length-texts_from : (n : ℕ) (lists : List (Vec Document Global))
     → length (texts_from n lists) ≡ length lists
-length-texts_from n lists =
-    length-map (enumerate_from n (items_of lists)) text_of_split ∙ length-enumerate_from n (items_of lists)
-    ∙ length-map lists (λ list. list.items)
+length-texts_from n lists = grind (arith, length-map, items_of, length-enumerate_from)
 
 -- the texts that are made are those of the lists but for those that are left
 abbrev pub AreShared : List (Arc SplitDocuments Global) → List (Vec Document Global)
@@ -29,11 +26,4 @@ AreShared made left lists = values_of made ++ texts_from (length made) left ≡ 
 
 pub shared_few : (made : List (Arc SplitDocuments Global)) (left lists : List (Vec Document Global))
     → AreShared made left lists → length made ≤ length lists
-shared_few made left lists shared =
-    omega (
-      arith,
-      ap length shared,
-      length-append (values_of made) (texts_from (length made) left),
-      length-map made (λ (text : Arc SplitDocuments Global). arc_value text),
-      length-texts_from 0 lists,
-    )
+shared_few made left lists shared = grind (arith, length-append, length-map, length-texts_from)

@@ -1,6 +1,6 @@
 ghost use Rattle.std.specs.Prelude.{◌≡◌, ℕ, ◌<◌, ◌≤◌, length, MatchResult};
 ghost use Rattle.hand_ledger.specs.Settling.{all_calls, AgreesAt, IsLowestTorn};
-ghost use Rattle.shared_master.specs.Held.{is_short, log_of};
+ghost use Rattle.shared_master.specs.Held.{is_short, log_of, HeldValue};
 
 use crate::held::Held;
 use hand_ledger::{Hand, Log, torn_place};
@@ -16,8 +16,6 @@ pub struct Closed<L: Ledger> {
 }
 
 impl<L: Ledger> Model for Closed<L> {
-    ghost use Rattle.shared_master.specs.Held.{HeldValue};
-
     ghost Value = { HeldValue };
 
     ghost view = { λ c. c.held };

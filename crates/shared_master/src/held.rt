@@ -11,6 +11,7 @@ ghost use Rattle.hand_ledger.specs.declared.making.HandError.{HandError};
 ghost use Rattle.shared_master.specs.Steps.{answered, call_of, HasCounts, IsAt, IsBarrier, IsHandedBack};
 ghost use Rattle.shared_master.specs.Steps.{IsKnownTo, IsLast, IsOwn, IsReduceStep, IsStep, NamesNext};
 ghost use Rattle.shared_master.specs.Steps.{plain_backup, plain_with, Replies, total_after};
+ghost use Rattle.shared_master.specs.Held.{HeldValue, IsStillSeen};
 
 use crate::calls::{PlainCall, plain_backup, plain_reduce, plain_with};
 use crate::sizes::Sizes;
@@ -42,9 +43,6 @@ pub(crate) struct Seen {
 }
 
 impl<L: Ledger> Model for Held<L> {
-    ghost use Rattle.std.specs.Prelude.{◌≡◌, length};
-    ghost use Rattle.shared_master.specs.Held.{HeldValue, IsStillSeen};
-
     ghost Value = { HeldValue };
 
     ghost view = { λ h. record { job = h.master; made = h.hands.made } };

@@ -8,6 +8,7 @@ ghost use Rattle.shared_master.specs.Steps.{AreDeadOf, IsHandedBack, IsKeptAs, I
 ghost use Rattle.shared_master.specs.Steps.{IsKeptSweep, IsKnownTo, call_of, plain_event, plain_with};
 ghost use Rattle.shared_master.specs.Steps.{Replies};
 ghost use Rattle.shared_master.specs.Waves.{TurnsAs, WavesAs};
+ghost use Rattle.shared_master.specs.declared.sizes.Sizes.{Sizes};
 
 use crate::calls::PlainCall;
 use crate::closed::Closed;
@@ -34,8 +35,6 @@ pub struct SharedMaster<L: Ledger> {
 }
 
 impl<L: Ledger> Model for SharedMaster<L> {
-    ghost use Rattle.shared_master.specs.declared.sizes.Sizes.{Sizes};
-
     ghost Value = { Sizes };
 
     ghost view = { λ s. s.sizes };

@@ -1,8 +1,8 @@
 -- The least paths to all nodes, which a search to no sink leaves.
 use Rattle.std.proofs.Common.{◌≡◌, ℕ, zero, suc, ◌+◌, ◌<◌, ◌≤◌, cond, leb, List, [], ◌∷◌, length, get_or}
-use Rattle.std.proofs.Common.{Bool, true, false, Option, Some, None, refl, sym, ap, ◌∙◌, subst, inl, inr}
+use Rattle.std.proofs.Common.{true, false, Option, Some, None, refl, sym, ap, ◌∙◌, subst}
 use Rattle.std.proofs.Common.{arith}
-use Rattle.std.proofs.lemmas.Bool.{cases_Bool, cases_lt, leb-true, leb-false, false≢true}
+use Rattle.std.proofs.lemmas.Bool.{cases_lt, false≢true}
 use Rattle.std.specs.Prelude.{slice_index, is_some}
 use Rattle.flow_network.specs.declared.arcs.ArcNo.{ArcNo}
 use Rattle.flow_network.specs.Flows.{IsResidual, IsPath, IsDistinct, tail_of, head_of}
@@ -25,9 +25,7 @@ pub get_or-paths : (arrivals : List Arrival) (distances : List ℕ) (i v : ℕ)
 get_or-paths arrivals [] i v = refl
 get_or-paths arrivals (d ∷ distances) i zero = let at : i ≡ i + 0 = omega arith in
     ap (λ w. found_at arrivals w d) at
-get_or-paths arrivals (d ∷ distances) i (suc v) = let at : suc i + v ≡ i + suc v = omega arith in
-    get_or-paths arrivals distances (suc i) v
-    ∙ ap (λ w. found_at arrivals w (distance_at distances v)) at
+get_or-paths arrivals (d ∷ distances) i (suc v) = grind (arith, get_or-paths arrivals distances (suc i) v)
 
 pub path_found : (arrivals : List Arrival) (distances : List ℕ) (v : ℕ)
     → get_or (paths_of distances arrivals) v None ≡ found_at arrivals v (distance_at distances v)
@@ -40,28 +38,15 @@ length-paths arrivals [] i = refl
 length-paths arrivals (d ∷ distances) i = ap suc (length-paths arrivals distances (suc i))
 
 pub reached_far : {X : Type 0} (x : X) (d : ℕ) → far ≤ d → cond (leb far d) None (Some x) ≡ None
-reached_far x d l = elim (cases_Bool (leb far d)) [
-  | inl t ↦ ap (λ b. cond b None (Some x)) t
-  | inr f ↦ absurd (let near = leb-false _ _ f in omega arith)
-]
+reached_far x d l = grind arith
 
 pub reached_near : {X : Type 0} (x : X) (d : ℕ) → d < far → cond (leb far d) None (Some x) ≡ Some x
-reached_near x d l = elim (cases_Bool (leb far d)) [
-  | inl t ↦ absurd (let past = leb-true _ _ t in omega arith)
-  | inr f ↦ ap (λ b. cond b None (Some x)) f
-]
+reached_near x d l = grind arith
 
 -- the distance that is found, and the path
 pub distance_found : (arrivals : List Arrival) (distances : List ℕ) (v : ℕ)
     → option_distance (get_or (paths_of distances arrivals) v None) ≡ reached_at (distance_at distances v)
-distance_found arrivals distances v =
-    ap option_distance (path_found arrivals distances v)
-    ∙ of_both (leb far (distance_at distances v)) (distance_at distances v) (trace_to arrivals v)
-  where
-    of_both : (b : Bool) (d : ℕ) (path : List ArcNo)
-        → option_distance (cond b None (Some (d, path))) ≡ cond b None (Some d)
-    of_both true d path = refl
-    of_both false d path = refl
+distance_found arrivals distances v = grind (arith, path_found)
 
 pub trace_found : (arrivals : List Arrival) (distances : List ℕ) (v : ℕ) → distance_at distances v < far
     → option_path (get_or (paths_of distances arrivals) v None) ≡ Some (trace_to arrivals v)
@@ -71,24 +56,13 @@ trace_found arrivals distances v near = ap option_path (path_found arrivals dist
 pub near_where_some : (arrivals : List Arrival) (distances : List ℕ) (v : ℕ)
     → is_some (option_distance (get_or (paths_of distances arrivals) v None)) ≡ true
     → distance_at distances v < far
-near_where_some arrivals distances v some = elim (cases_lt (distance_at distances v) far) [
-  | inl near ↦ near
-  | inr past ↦ absurd (false≢true (sym (ap is_some (distance_found arrivals distances v
-      ∙ reached_far (distance_at distances v) (distance_at distances v) past)) ∙ some))
-]
+near_where_some arrivals distances v some = grind (arith, cases_lt, false≢true, distance_found, reached_far)
 
 -- what is found of a node that was reached
 found_some : (arrivals : List Arrival) (v d c : ℕ) (path : List ArcNo)
     → found_at arrivals v d ≡ Some (c, path)
     → (d < far) × (d ≡ c) × (trace_to arrivals v ≡ path)
-found_some arrivals v d c path e = elim (cases_Bool (leb far d)) [
-  | inl t ↦ absurd (let q : None ≡ Some (c, path) = sym (reached_far (d, trace_to arrivals v) d
-      (leb-true _ _ t)) ∙ e in cc)
-  | inr f ↦ (let near = leb-false _ _ f in
-      let q : (d, trace_to arrivals v) ≡ (c, path) = (let r : Some (d, trace_to arrivals v) ≡ Some (c, path) =
-      sym (reached_near (d, trace_to arrivals v) d near) ∙ e in cc) in
-      (near, ap (λ (r : ℕ × List ArcNo). r.0) q, ap (λ (r : ℕ × List ArcNo). r.1) q))
-]
+found_some arrivals v d c path e = grind arith
 
 -- a search from which nothing is left
 module _ (n : ℕ) (p : Problem) (level count : ℕ) (t : Tables)

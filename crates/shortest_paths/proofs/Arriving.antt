@@ -1,6 +1,6 @@
 -- A node is reached on a shorter way.
 use Rattle.std.proofs.Common.{◌≡◌, ℕ, ◌+◌, ◌<◌, ◌≤◌, Bool, true, false, List, [], ◌∷◌, set}
-use Rattle.std.proofs.Common.{IsPermutation, refl, sym, ap, ◌∙◌, subst, inl, inr, arith, get_or-set_same}
+use Rattle.std.proofs.Common.{IsPermutation, refl, sym, ap, ◌∙◌, inl, inr, arith, get_or-set_same}
 use Rattle.std.proofs.Common.{get_or-set_other, length-set}
 use Rattle.std.proofs.lemmas.Bool.{cases_eq, false≢true}
 use Rattle.std.proofs.lemmas.List.Elements.{Contains-append_right}
@@ -185,22 +185,4 @@ pub covers : (p : Problem) (level : ℕ) (a : ArcNo) (rest : List ArcNo) (t : Ta
     → AreCovered p level (a ∷ rest) t
     → AreCovered p level rest
     (record t { distances = distances'; arrivals = arrivals'; queue = queue'; reached = reached' })
-covers p level a rest t distances' arrivals' queue' reached' falls kept now c = record {
-  on_stack = λ u s. (let old = c.on_stack u s in (old.0, kept u old.0 ∙ old.1));
-  cursors = c.cursors;
-  of_rest = λ b i. (let old = c.of_rest b (inr i) in (old.0, old.1, kept (tail_of p.arcs b) old.1 ∙ old.2));
-  covered = λ b r s.
-      (let same = kept (tail_of p.arcs b) s in let less = falls (head_of p.arcs b) in elim (c.covered b r s) [
-        | inl on ↦ inl (omega arith)
-        | inr more ↦ elim more [
-          | inr cursor ↦ inr (inr cursor)
-          | inl held ↦ elim held [
-            | inr old ↦ inr (inl old)
-            | inl e ↦ inl (let over = now (subst (IsResidual p.arcs p.flows) e r) in
-                let there = ap (λ q. distance_at distances' (head_of p.arcs q)) e in
-                let here = ap (λ q. distance_at t.distances (tail_of p.arcs q)) e in
-                let cost = ap (rc p) e in omega arith)
-          ]
-        ]
-      ]);
-}
+covers p level a rest t distances' arrivals' queue' reached' falls kept now c = grind arith

@@ -1,6 +1,5 @@
 -- What a search that ended leaves for its callers.
 use Rattle.std.proofs.Common.{◌≡◌, ℕ, ◌<◌, [], ◌∷◌, length, Option, Some, None, sym, subst, refl, arith}
-use Rattle.std.proofs.lemmas.Bool.{false≢true}
 use Rattle.std.specs.Prelude.{slice_index, IfSome, IsSome}
 use Rattle.shortest_paths.specs.Finding.{IsTotal, IsFinished}
 use Rattle.shortest_paths.specs.Search.{EndsSearch}
@@ -47,15 +46,4 @@ finds {p = p} count {t = t} {found = None} inside e =
     let r = e.1 in
     let end = ends_with_none p (length p.depths) e.0 count t r e.2 e.3 in
     let size = r.reached.size in
-    record {
-      total = end.1;
-      searched = end.0;
-      least = tt;
-      path = λ some. absurd (false≢true some);
-      size = size;
-      kept = record {
-        left = subst (λ n. IsLeft n t) (sym size) (is_left p (length p.depths) e.0 count [] [] t r);
-        sink_in = omega arith;
-        back = λ some. absurd (false≢true some);
-      };
-    }
+    grind arith

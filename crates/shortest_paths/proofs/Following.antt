@@ -1,5 +1,5 @@
 -- What entering and leaving make of the lists, and how they follow a path.
-use Rattle.std.proofs.Common.{◌≡◌, ℕ, zero, suc, ◌+◌, ◌-◌, ◌<◌, Bool, true, false, List, [], ◌∷◌, ◌++◌}
+use Rattle.std.proofs.Common.{◌≡◌, ℕ, ◌+◌, ◌-◌, ◌<◌, Bool, true, false, List, [], ◌∷◌, ◌++◌}
 use Rattle.std.proofs.Common.{length, get_or, set, length-set, refl, sym, ap, ◌∙◌, subst, inl, inr, ◌⊎◌}
 use Rattle.std.proofs.Common.{arith, get_or-set_same, get_or-set_other, Contains}
 use Rattle.std.specs.List.{IsDistinct, AllByRecursion, swap_remove}
@@ -14,6 +14,7 @@ use Rattle.std.proofs.lemmas.List.Sorted.{IsPermutation-sym, IsPermutation-to_fr
 use Rattle.std.proofs.lemmas.List.Sorted.{IsPermutation-swap_remove, Contains-permutation}
 use Rattle.std.proofs.lemmas.Map.Keys.{IsDistinct-IsPermutation, IsDistinct-cons, IsDistinct-tail}
 use Rattle.std.proofs.lemmas.Map.Keys.{IsDistinct-head}
+use Rattle.std.proofs.lemmas.Grind.{common_steps}
 use Rattle.flow_network.specs.declared.arcs.FlowArc.{FlowArc}
 use Rattle.flow_network.specs.declared.arcs.ArcNo.{ArcNo}
 use Rattle.flow_network.specs.declared.arcs.ArcNo.TheVariants.{Forward, Reverse}
@@ -30,13 +31,7 @@ apart k (x ∷ xs) n = (
 )
 
 not_among : (k : ℕ) (xs : List ℕ) → AllByRecursion (λ y. nat_eq k y ≡ false) xs → Contains xs k → ⊥
-not_among k xs all c = at k xs all c.0 c.1 c.2
-  where
-    at : (k : ℕ) (xs : List ℕ) → AllByRecursion (λ y. nat_eq k y ≡ false) xs → (i : ℕ) → i < length xs
-        → get_or xs i k ≡ k → ⊥
-    at k [] all i l e = absurd (omega arith)
-    at k (x ∷ xs) all zero l e = false≢true (sym all.0 ∙ eq-eqb k x (sym e))
-    at k (x ∷ xs) all (suc i) l e = at k xs all.1 i (omega arith) e
+not_among k xs all c = grind (arith, common_steps, false≢true, eq-eqb)
 
 -- a number that is not in a list stands once in the list with it
 pub distinct_more : (xs : List ℕ) (k : ℕ) → (Contains xs k → ⊥) → IsDistinct nat_eq xs
@@ -72,10 +67,7 @@ leaves_place xs i k l e d =
         sym (sym (ap (λ i. get_or (k ∷ []) i j) at) ∙ c.2)
 
 pub leaves_none : (xs : List ℕ) (k : ℕ) → (Contains xs k → ⊥) → IsDistinct nat_eq xs → Leaves xs k xs
-leaves_none xs k n d = record {
-  distinct = d;
-  members = λ j. ((λ c. (c, (λ same. n (subst (λ m. Contains xs m) same c)))), (λ c. c.0));
-}
+leaves_none xs k n d = grind arith
 
 pub leaves_at : (xs ys : List ℕ) (i k r v : ℕ) → i < length xs → v ≡ get_or xs i v → v ≡ k → r ≡ get_or xs i r
     → ys ≡ swap_remove xs i r → IsDistinct nat_eq xs → Leaves xs k ys
@@ -91,13 +83,7 @@ leaves_nowhere xs k n d = leaves_none xs k
 -- whether a path goes over an arc
 over_or_not : (k : ℕ) (path : List ArcNo) → GoesOver k path ⊎ (GoesOver k path → ⊥)
 over_or_not k [] = inr (λ n. n)
-over_or_not k (a ∷ path) = elim (cases_eq (arc_index a) k) [
-  | inl e ↦ inl (inl e)
-  | inr d ↦ elim (over_or_not k path) [
-    | inl o ↦ inl (inr o)
-    | inr n ↦ inr (λ s. elim s [ inl e ↦ d e | inr o ↦ n o ])
-  ]
-]
+over_or_not k (a ∷ path) = grind (arith, over_or_not k path)
 
 other_shifted : (flows : List ℕ) (a : ArcNo) (k : ℕ) → (arc_index a ≡ k → ⊥)
     → get_or (shifted flows a) k 0 ≡ get_or flows k 0
@@ -340,20 +326,12 @@ module _ (arcs : List FlowArc) (last : List ℕ) (rest : List ArcNo) (g : ArcLis
 -- what the code reads of the lists
 pub source_read : (v g : ArcLists) → v ≡ g → (x y : FlowArc) → x ≡ y → x.from < length g.is_source
     → (b : Bool) → b ≡ get_or v.is_source x.from b → source_at g y.from ≡ b
-source_read v g e x y f l b r =
-    let size = ap (λ (w : ArcLists). length w.is_source) e in
-    sym (ap (λ (z : FlowArc). source_at g z.from) f) ∙ sym (ap (λ (w : ArcLists). source_at w x.from) e)
-    ∙ sym (get_or_read v.is_source x.from b (omega arith) r false)
+source_read v g e x y f l b r = grind (arith, get_or_read)
 
 pub matched_read : (v g : ArcLists) → v ≡ g → (x y : FlowArc) → x ≡ y → x.to < length g.matched
     → (r : List ℕ) → r ≡ get_or v.matched x.to r → r ≡ matched_at g y.to
-matched_read v g e x y f l xs r =
-    let size = ap (λ (w : ArcLists). length w.matched) e in
-    get_or_read v.matched x.to xs (omega arith) r []
-    ∙ ap (λ (w : ArcLists). matched_at w x.to) e ∙ ap (λ (z : FlowArc). matched_at g z.to) f
+matched_read v g e x y f l xs r = grind (arith, get_or_read)
 
 pub after_read : (v g : ArcLists) → v ≡ g → (x y : FlowArc) → x ≡ y → (new : List ℕ)
     → record g { matched = set g.matched y.to new } ≡ record v { matched = set v.matched x.to new }
-after_read v g e x y f new =
-    ap (λ (w : ArcLists). record w { matched = set w.matched y.to new }) (sym e)
-    ∙ ap (λ (z : FlowArc). record v { matched = set v.matched z.to new }) (sym f)
+after_read v g e x y f new = grind arith

@@ -1,5 +1,5 @@
 -- Lists that are kept are the residual arcs by which a search goes on.
-use Rattle.std.proofs.Common.{◌≡◌, ℕ, zero, suc, ◌<◌, ◌≤◌, Bool, true, false, cond, List, [], ◌∷◌, ◌++◌}
+use Rattle.std.proofs.Common.{◌≡◌, ℕ, zero, suc, ◌<◌, ◌≤◌, Bool, true, false, List, [], ◌∷◌, ◌++◌}
 use Rattle.std.proofs.Common.{length, map, get_or, refl, sym, ap, ◌∙◌, subst, inl, inr, ◌⊎◌, arith}
 use Rattle.std.proofs.Common.{length-append, Contains, replicate, Option, None}
 use Rattle.std.specs.Cmp.{nat_eq_equiv}
@@ -44,15 +44,9 @@ back_held : (arcs : List FlowArc) (is_source : List Bool) (all : List ArcNo) (k 
 back_held arcs is_source [] k i s = absurd i
 back_held arcs is_source (Forward j ∷ all) k (inl e) s = absurd (let q : Reverse k ≡ Forward j = e in cc)
 back_held arcs is_source (Forward j ∷ all) k (inr i) s = back_held arcs is_source all k i s
-back_held arcs is_source (Reverse j ∷ all) k (inl e) s =
-    let same : k ≡ j = (let q : Reverse k ≡ Reverse j = e in cc) in
-    let on : get_or is_source (arc_at arcs j).from false ≡ true =
-    sym (ap (λ n. get_or is_source (arc_at arcs n).from false) same) ∙ s in
-    subst (λ b. Contains (cond b (j ∷ []) [] ++ back_numbers arcs is_source all) k) (sym on)
-    (0, omega arith, sym same)
+back_held arcs is_source (Reverse j ∷ all) k (inl e) s = grind arith
 back_held arcs is_source (Reverse j ∷ all) k (inr i) s =
-    Contains-append_right (cond (get_or is_source (arc_at arcs j).from false) (j ∷ []) [])
-    (back_numbers arcs is_source all) k (back_held arcs is_source all k i s)
+    grind (arith, back_held arcs is_source all k i s, Contains-append_right)
 
 none_in : (xs : List ℕ) → ((k : ℕ) → Contains xs k → ⊥) → xs ≡ []
 none_in [] n = refl
@@ -153,16 +147,7 @@ module _ (nodes : ℕ) (arcs : List FlowArc) (flows : List ℕ) (sink : ℕ) (g 
 pub sorted_stays : (nodes : ℕ) (arcs : List FlowArc) (sink : ℕ) (g : ArcLists) (matched : List (List ℕ))
     → length matched ≡ length g.matched → AreSorted nodes arcs sink g
     → AreSorted nodes arcs sink (record g { matched = matched })
-sorted_stays nodes arcs sink g matched size t = record {
-  sized = record {
-    sources = t.sized.sources;
-    sink_arcs = t.sized.sink_arcs;
-    inner = t.sized.inner;
-    matched = size ∙ t.sized.matched;
-  };
-  no_entry = t.no_entry;
-  listed = t.listed;
-}
+sorted_stays nodes arcs sink g matched size t = grind arith
 
 -- all residual arcs of each node in one list, and no source
 module _ (nodes : ℕ) (arcs : List FlowArc) (g : ArcLists) (are : AreArcs nodes arcs)

@@ -99,11 +99,5 @@ pub lowers_one : (depths distances : List ℕ) (v total : ℕ) → v < length de
     → total ≤ far
     → (w : ℕ) → get_or (set depths v (get_or depths v 0 + (total - distance_at distances v))) w 0
     + (total - distance_at (set distances v far) w) ≡ get_or depths w 0 + (total - distance_at distances w)
-lowers_one depths distances v total inside inside_too most w = elim (cases_eq w v) [
-  | inl e ↦ (let depth = get_or-set_same depths v (get_or depths v 0 + (total - distance_at distances v)) 0
-      inside in
-      let away = get_or-set_same distances v far far inside_too in rw e (omega arith))
-  | inr n ↦ (let depth = get_or-set_other depths v w (get_or depths v 0 + (total - distance_at distances v)) 0
-      n in
-      let same = get_or-set_other distances v w far far n in omega arith)
-]
+lowers_one depths distances v total inside inside_too most w =
+    grind (arith, cases_eq, get_or-set_same, get_or-set_other)

@@ -50,13 +50,7 @@ is_open {m = m} {q = q} {a = a} {room = room} state leaves at is seen some =
     let are = subst (λ n. AreArcs n p.arcs) (sym priced.size) priced.network.arcs_in in
     let fits = cost_fits (length p.depths) p.arcs (slice_index p.depths) a are r.listed
     (residual_cost p.arcs p.flows (slice_index p.depths) a priced.reduced r) in
-    record {
-      residual = r;
-      inside = rw at fits.3;
-      low = rw seen fits.0;
-      high = rw seen fits.1;
-      reduced = rw (seen, at, ← leaves) fits.2;
-    }
+    grind arith
 
 -- what is seen of a residual arc gives its reduced cost
 pub seen_cost : (arcs : List FlowArc) (flows : List ℕ) (h : ℕ → ℕ) (a : ArcNo) (node to r : ℕ)
@@ -207,10 +201,7 @@ pub next_arc_of : {L : Type 0} {node_count : L → ℕ} {m : Counted L} {q : Que
     → Searches node_count m q level [] (take (length xs - i) xs) s
     → Searches node_count m q level []
     (get_or xs (length xs - 1 - i) (Forward 0) ∷ take (length xs - (i + 1)) xs) s
-next_arc_of xs i l state = record {
-  may = state.may;
-  now = next_from_the_end xs i l state.now;
-}
+next_arc_of xs i l state = search (arith, next_from_the_end)
 
 -- the sink is entered next where a look at an arc to it found something to enter
 pub comes_of : {L : Type 0} {node_count : L → ℕ} {m : Counted L} {q : Query} {level : ℕ} {rest : List ArcNo}

@@ -1,7 +1,7 @@
 -- Lowering, tight arcs, pushes over them, and the lift of a source: each looks at one arc at a time.
 use Rattle.std.proofs.Common.{◌≡◌, ℕ, ◌+◌, ◌-◌, ◌<◌, ◌≤◌, List, [], ◌∷◌, length, get_or, ap, inl, inr, arith}
 use Rattle.std.proofs.Common.{get_or-set_other}
-use Rattle.std.proofs.lemmas.Bool.{cases_eq, cases_lt}
+use Rattle.std.proofs.lemmas.Bool.{cases_eq}
 use Rattle.flow_network.specs.declared.arcs.FlowArc.{FlowArc}
 use Rattle.flow_network.specs.declared.arcs.ArcNo.{ArcNo}
 use Rattle.flow_network.specs.declared.arcs.ArcNo.TheVariants.{Forward, Reverse}
@@ -13,10 +13,7 @@ use Rattle.shortest_paths.specs.Lowering.{lowered, IsCovered, IsTight, AreTight,
 lacks : (arcs : List FlowArc) (flows : List ℕ) (h d : ℕ → ℕ) (total : ℕ) → IsCovered arcs flows h d total
     → (a : ArcNo) → IsResidual arcs flows a
     → total - d (tail_of arcs a) ≤ (total - d (head_of arcs a)) + reduced_cost arcs h a
-lacks arcs flows h d total covered a r = elim (cases_lt (d (tail_of arcs a)) total) [
-  | inr far ↦ omega arith
-  | inl near ↦ elim (covered a r near) [ inl on ↦ omega arith | inr past ↦ omega arith ]
-]
+lacks arcs flows h d total covered a r = grind arith
 
 -- where each arc is covered, lowering leaves no residual arc negative
 pub lowering_law : (arcs : List FlowArc) (flows : List ℕ) (h d : ℕ → ℕ) (total : ℕ)
@@ -68,15 +65,7 @@ pub lift_law : (arcs : List FlowArc) (flows : List ℕ) (h h' : ℕ → ℕ) (s 
     → ((k : ℕ) → k < length arcs → (arc_at arcs k).from ≡ s → 0 < (arc_at arcs k).capacity
     → h' s ≤ (arc_at arcs k).cost + h (arc_at arcs k).to)
     → NoNegative arcs flows h'
-lift_law arcs flows h h' s none same closed unused own k l =
-    let to = same (arc_at arcs k).to (closed k l) in
-    let old = none k l in
-    elim (cases_eq (arc_at arcs k).from s) [
-      | inl e ↦ (let at = ap h' e in let zero = unused k l e in
-          ((λ room. (let most = own k l e (omega arith) in omega arith)), (λ unit. absurd (omega arith))))
-      | inr n ↦ (let from = same (arc_at arcs k).from n in
-          ((λ room. (let o = old.0 room in omega arith)), (λ unit. (let o = old.1 unit in omega arith))))
-    ]
+lift_law arcs flows h h' s none same closed unused own k l = grind arith
 
 -- each step of a path to a node within the total is tight once the depths are lowered
 pub steps_tight : (arcs : List FlowArc) (flows : List ℕ) (h d : ℕ
@@ -85,18 +74,11 @@ pub steps_tight : (arcs : List FlowArc) (flows : List ℕ) (h d : ℕ
     → AreTight arcs (lowered h d total) path × (d u ≤ d v)
 steps_tight arcs flows h d total [] u v none p steps within = (tt, rw p (omega arith))
 steps_tight arcs flows h d total (a ∷ path) u v none p steps within =
-    let rest = steps_tight arcs flows h d total path (head_of arcs a) v none p.2 steps.1 within in
-    let no_more = rest.1 in
-    let step = steps.0 in
-    let from : d (tail_of arcs a) ≡ d u = ap d p.1 in
-    ((tight_law arcs flows h d total a none p.0 steps.0 (omega arith), rest.0), omega arith)
+    grind (arith, steps_tight arcs flows h d total path (head_of arcs a) v none p.2 steps.1 within)
 
 -- and together they cost what the ends lie apart
 pub steps_cost : (arcs : List FlowArc) (flows : List ℕ) (h d : ℕ → ℕ) (path : List ArcNo) (u v : ℕ)
     → IsPath arcs flows path u v → AreSteps arcs h d path → d u + path_cost arcs h path ≡ d v
 steps_cost arcs flows h d [] u v p steps = let same = ap d p in omega arith
 steps_cost arcs flows h d (a ∷ path) u v p steps =
-    let rest = steps_cost arcs flows h d path (head_of arcs a) v p.2 steps.1 in
-    let step = steps.0 in
-    let from : d (tail_of arcs a) ≡ d u = ap d p.1 in
-    omega arith
+    grind (arith, steps_cost arcs flows h d path (head_of arcs a) v p.2 steps.1)

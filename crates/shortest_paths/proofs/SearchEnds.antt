@@ -46,24 +46,16 @@ EndsWithin-push : (arrivals : List Arrival) (p : Problem) (n m : ℕ) (path : Li
     → EndsWithin arrivals p m (path ++ a ∷ [])
 unfolding EndsWithin
 EndsWithin-push arrivals p n m [] a e w head tail = (head, tail, tt)
-EndsWithin-push arrivals p n m (b ∷ path) a e w head tail = (
-  (let old = w.0 in omega arith),
-  (let old = w.1 in omega arith),
-  EndsWithin-push arrivals p n m path a e
-      w.2 head tail,
-)
+EndsWithin-push arrivals p n m (b ∷ path) a e w head tail =
+    grind (arith, EndsWithin-push arrivals p n m path a e w.2 head tail)
 
 distinct-push : (arrivals : List Arrival) (p : Problem) (n : ℕ) (path : List ArcNo) (a : ArcNo)
     → n < (arrival_at arrivals (head_of p.arcs a)).arcs
     → EndsWithin arrivals p n path → IsDistinct path → IsDistinct (path ++ a ∷ [])
 unfolding EndsWithin
 distinct-push arrivals p n [] a m w d = (tt, tt)
-distinct-push arrivals p n (b ∷ path) a m w d = (
-  Lacks-push b a path d.0 (λ same.
-      absurd (let old = w.0 in let at = ap (λ c. (arrival_at arrivals (head_of p.arcs c)).arcs) same in
-      omega arith)),
-  distinct-push arrivals p n path a m w.2 d.1,
-)
+distinct-push arrivals p n (b ∷ path) a m w d =
+    grind (arith, distinct-push arrivals p n path a m w.2 d.1, Lacks-push)
 
 -- two residual arcs over one arc have its ends
 one_of_ends : (arcs : List FlowArc) (a b : ArcNo) → arc_index a ≡ arc_index b
@@ -78,16 +70,8 @@ once-push : (arrivals : List Arrival) (p : Problem) (n : ℕ) (path : List ArcNo
     → EndsWithin arrivals p n path → GoesOnce path → GoesOnce (path ++ a ∷ [])
 unfolding EndsWithin
 once-push arrivals p n [] a m w d = ((λ o. o), tt)
-once-push arrivals p n (b ∷ path) a m w d = (
-  (λ over. elim (GoesOver-push (arc_index b) a path over) [
-    | inl old ↦ d.0 old
-    | inr e ↦ elim (one_of_ends p.arcs a b e) [
-      | inl same ↦ (let old = w.0 in let at = ap (λ v. (arrival_at arrivals v).arcs) same in omega arith)
-      | inr same ↦ (let old = w.1 in let at = ap (λ v. (arrival_at arrivals v).arcs) same in omega arith)
-    ]
-  ]),
-  once-push arrivals p n path a m w.2 d.1,
-)
+once-push arrivals p n (b ∷ path) a m w d =
+    grind (arith, once-push arrivals p n path a m w.2 d.1, GoesOver-push, one_of_ends)
 
 AreSteps-push : (p : Problem) (d : ℕ → ℕ) (path : List ArcNo) (a : ArcNo)
     → AreSteps p.arcs (slice_index p.depths) d path → IsSearchStep p.arcs (slice_index p.depths) d a
@@ -236,10 +220,7 @@ module _ (p : Problem) (nodes level count : ℕ) (t : Tables) (s : IsSearching p
   )
 
 pub rest_listed : (nodes : ℕ) (t : Tables) → IsAtRest nodes t → ListsReached t.distances t.reached
-rest_listed nodes t rest = record {
-  inside = λ v o. absurd (nothing_in v (rw rest.none_listed at o));
-  all = λ v near. absurd (let away = rest.unreached v in omega arith);
-}
+rest_listed nodes t rest = grind arith
 
 -- only the start is reached
 module _ (p : Problem) (nodes count : ℕ) (t : Tables) (rest : IsAtRest nodes t) (a : Arrival)
@@ -315,16 +296,7 @@ module _ (p : Problem) (nodes count : ℕ) (t : Tables) (rest : IsAtRest nodes t
 -- after a search the nodes that were reached are listed
 pub is_left : (p : Problem) (nodes level count : ℕ) (entering : List ℕ) (rest : List ArcNo) (t : Tables)
     → IsSearching p nodes level count entering rest t → IsLeft nodes t
-is_left p nodes level count entering rest t s = record {
-  size = s.reached.size;
-  arrivals_size = s.reached.arrivals_size;
-  settled_size = s.reached.settled_size;
-  left_size = s.left_size;
-  left_matched_size = s.left_matched_size;
-  within = s.reached.within;
-  listed = s.listed;
-  marked = λ v m. (let low = s.reached.low v m in let top = s.reached.level_in in omega arith);
-}
+is_left p nodes level count entering rest t s = grind arith
 
 pub leads_back : (p : Problem) (nodes level : ℕ) (t : Tables)
     → AreReached p nodes level t.distances t.arrivals t.settled

@@ -306,10 +306,7 @@ entered_inside {v = v} {entering = entering} {t = t} s =
     let at = (s.waiting.next v (first_in v entering)).1 in
     let low = s.reached.level_in in
     let size = s.reached.size in
-    elim (cases_lt v (length t.distances)) [
-      | inl l ↦ omega arith
-      | inr past ↦ absurd (let away = get_or_past t.distances v far past in omega arith)
-    ]
+    grind (arith, cases_lt, get_or_past)
 
 -- a node that is no source was opened, and its arc to the sink comes first
 pub opened_with : {L : Type 0} {node_count : L → ℕ} {m : Counted L} {q : Query} {level : ℕ} {v : ℕ}
@@ -354,10 +351,7 @@ pub stack_inside : {p : Problem} {nodes level count : ℕ} {entering : List ℕ}
 stack_inside {t = t} {u = u} s on =
     let m = (s.covered.on_stack u on).0 in
     let size = s.reached.settled_size in
-    elim (cases_lt u (length t.settled)) [
-      | inl l ↦ omega arith
-      | inr past ↦ absurd (false≢true (sym (get_or_past t.settled u false past) ∙ m))
-    ]
+    grind (arith, cases_lt, false≢true, get_or_past)
 
 -- a node on top of the stack has a place in the tables, and cursors within its lists
 pub top_inside : {p : Problem} {nodes level count : ℕ} {t : Tables} (stack : List ℕ) {u : ℕ}

@@ -1,10 +1,9 @@
 -- The lists of each node's arcs, as they are made for a network without flow.
 use Rattle.std.proofs.Common.{◌≡◌, ℕ, ◌+◌, ◌<◌, ◌≤◌, Bool, cond, true, false, List, [], ◌∷◌, ◌++◌, length}
 use Rattle.std.proofs.Common.{get_or, set, Option, Some, None, refl, sym, ap, ◌∙◌, subst, inl, inr, ◌⊎◌}
-use Rattle.std.proofs.Common.{arith, eqb, length-append, Contains, replicate, get_or-set_same}
+use Rattle.std.proofs.Common.{arith, eqb, length-append, replicate, get_or-set_same}
 use Rattle.std.proofs.Common.{get_or-set_other}
 use Rattle.std.proofs.lemmas.Bool.{cases_eq, eq-eqb, ne_eqb, false≢true}
-use Rattle.std.proofs.lemmas.List.{get_or_read}
 use Rattle.std.proofs.lemmas.List.{append-nil, append_assoc}
 use Rattle.std.specs.Prelude.{is_some, not, nat_eq}
 use Rattle.std.specs.List.{IsDistinct}
@@ -23,11 +22,7 @@ use Rattle.shortest_paths.specs.Sorted.{LeadsToSource, AreSortedAt, AreListed, I
 -- a test says that there is none in the place
 pub none_read : (xs : List (Option ℕ)) (i : ℕ) (o : Option ℕ) (r : Bool) → i < length xs
     → o ≡ get_or xs i o → is_some o ≡ not r → r ≡ true → get_or xs i None ≡ None
-none_read xs i o r l read test found = sym (get_or_read xs i o l read None) ∙ none_of o r test found
-  where
-    none_of : (o : Option ℕ) (r : Bool) → is_some o ≡ not r → r ≡ true → o ≡ None
-    none_of None r e t = refl
-    none_of (Some x) r e t = absurd (false≢true (sym (e ∙ ap not t)))
+none_read xs i o r l read test found = grind arith
 
 in_last : (a b : ArcNo) (xs : List ArcNo) → IsIn a (xs ++ b ∷ []) → IsIn a xs ⊎ (a ≡ b)
 in_last a b xs i = elim (in_split a xs (b ∷ []) i) [
@@ -229,21 +224,12 @@ module _ (arcs some : List FlowArc) (is_source : List Bool) (sink n : ℕ) (sink
 
 sorted_none : (arcs : List FlowArc) (is_source : List Bool) (sink : ℕ)
     → AreSortedAt arcs is_source sink [] None []
-sorted_none arcs is_source sink = record {
-  own = λ a i. i;
-  each = λ a i. inl i;
-  leads = λ a i. absurd i;
-  few = omega arith;
-}
+sorted_none arcs is_source sink = grind arith
 
 -- before the first arc nothing is listed
 pub none_listed : (arcs : List FlowArc) (is_source : List Bool) (sink n : ℕ)
     → AreListed arcs is_source sink [] (replicate n None) (replicate n [])
-none_listed arcs is_source sink n = record {
-  sorted = λ v off. rw (replicated_at {X = Option ℕ} n v None, replicated_at {X = List ArcNo} n v [])
-      (sorted_none arcs is_source sink);
-  bare = λ v on. (replicated_at {X = Option ℕ} n v None, replicated_at {X = List ArcNo} n v []);
-}
+none_listed arcs is_source sink n = grind (arith, replicated_at, sorted_none)
 
 none_distinct : IsDistinct nat_eq []
 unfolding IsDistinct
@@ -252,11 +238,4 @@ none_distinct = tt
 -- without flow no source is matched
 pub none_matched : (arcs : List FlowArc) (flows : List ℕ) (n : ℕ) (g : ArcLists)
     → ((k : ℕ) → get_or flows k 0 ≡ 0) → g.matched ≡ replicate n [] → AreMatched arcs flows g
-none_matched arcs flows n g no_flow e = record {
-  distinct = λ v. subst (λ xs. IsDistinct nat_eq xs) (sym (none_at v)) none_distinct;
-  just = λ v k c. absurd (let n = subst (λ xs. Contains xs k) (none_at v) c in let l = n.1 in omega arith);
-  each = λ v k s f. absurd (let n = no_flow k in omega arith);
-}
-  where
-    none_at : (v : ℕ) → get_or g.matched v [] ≡ []
-    none_at v = ap (λ (s : List (List ℕ)). get_or s v []) e ∙ replicated_at n v []
+none_matched arcs flows n g no_flow e = grind (arith, none_distinct, replicated_at)

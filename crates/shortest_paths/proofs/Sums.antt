@@ -1,6 +1,6 @@
 -- Sums over marked nodes.
 use Rattle.std.proofs.Common.{◌≡◌, ℕ, zero, suc, ◌+◌, ◌<◌, ◌≤◌, Bool, true, false, cond, List, [], ◌∷◌}
-use Rattle.std.proofs.Common.{length, get_or, set, refl, sym, ap, ◌∙◌, arith}
+use Rattle.std.proofs.Common.{length, get_or, set, refl, ap, ◌∙◌, arith}
 use Rattle.std.proofs.lemmas.Bool.{false≢true}
 use Rattle.flow_network.specs.Leaving.{marked_sum}
 use Rattle.flow_network.proofs.Listed.{marked_sum-set}
@@ -17,16 +17,7 @@ marked_less : (marks : List Bool) (i u : ℕ) (f g : ℕ → ℕ) → get_or mar
     → f (i + u) ≡ g (i + u) + 1 → ((w : ℕ) → (w ≡ i + u → ⊥) → f w ≡ g w)
     → marked_sum marks i f ≡ marked_sum marks i g + 1
 marked_less [] i u f g m e s = absurd (false≢true m)
-marked_less (b ∷ marks) i zero f g m e s =
-    let rest : marked_sum marks (suc i) f ≡ marked_sum marks (suc i) g = marked_same marks (suc i) f g
-    (λ w l. s w (λ q. absurd (omega arith))) in
-    let at : i + 0 ≡ i = omega arith in
-    let here : f i ≡ g i + 1 = (rw at at e) in
-    rw (
-      ap (λ x. cond x (f i) 0 + marked_sum marks (suc i) f) m,
-      ap (λ x.
-          cond x (g i) 0 + marked_sum marks (suc i) g) m,
-    ) (omega arith)
+marked_less (b ∷ marks) i zero f g m e s = grind (arith, marked_same)
 marked_less (b ∷ marks) i (suc u) f g m e s =
     let at : i + suc u ≡ suc i + u = omega arith in
     let rest = marked_less marks (suc i) u f g m (rw at at e) (λ w n. s w (λ q. n (q ∙ at))) in
@@ -38,14 +29,7 @@ unmarked_same : (marks : List Bool) (i u : ℕ) (f g : ℕ → ℕ) → get_or m
     → ((w : ℕ) → (w ≡ i + u → ⊥) → f w ≡ g w)
     → marked_sum marks i f ≡ marked_sum marks i g
 unmarked_same [] i u f g m s = refl
-unmarked_same (b ∷ marks) i zero f g m s =
-    let rest : marked_sum marks (suc i) f ≡ marked_sum marks (suc i) g = marked_same marks (suc i) f g
-    (λ w l. s w (λ q. absurd (omega arith))) in
-    rw (
-      ap (λ x. cond x (f i) 0 + marked_sum marks (suc i) f) m,
-      ap (λ x.
-          cond x (g i) 0 + marked_sum marks (suc i) g) m,
-    ) (omega arith)
+unmarked_same (b ∷ marks) i zero f g m s = grind (arith, marked_same)
 unmarked_same (b ∷ marks) i (suc u) f g m s =
     let at : i + suc u ≡ suc i + u = omega arith in
     let rest = unmarked_same marks (suc i) u f g m (λ w n. s w (λ q. n (q ∙ at))) in
@@ -57,18 +41,13 @@ unmarked_same (b ∷ marks) i (suc u) f g m s =
 pub less_at : (marks : List Bool) (u : ℕ) (f g : ℕ → ℕ) → get_or marks u false ≡ true → f u ≡ g u + 1
     → ((w : ℕ) → (w ≡ u → ⊥) → f w ≡ g w)
     → marked_sum marks 0 f ≡ marked_sum marks 0 g + 1
-less_at marks u f g m e s =
-    let at : 0 + u ≡ u = omega arith in
-    marked_less marks 0 u f g m (ap f at ∙ e ∙ ap (λ w. g w + 1) (sym at)) (λ w n. s w (λ q. n (q ∙ sym at)))
+less_at marks u f g m e s = grind (arith, marked_less)
 
 -- a node is marked, and what is counted of it alone may change
 pub enter_at : (marks : List Bool) (u : ℕ) (f g : ℕ → ℕ) → u < length marks → get_or marks u false ≡ false
     → ((w : ℕ) → (w ≡ u → ⊥) → f w ≡ g w)
     → marked_sum (set marks u true) 0 g ≡ marked_sum marks 0 f + g u
-enter_at marks u f g l m s =
-    let at : 0 + u ≡ u = omega arith in
-    marked_sum-set marks 0 u g l m ∙ ap (λ n. marked_sum marks 0 g + n) (ap g at)
-    ∙ ap (λ n. n + g u) (sym (unmarked_same marks 0 u f g m (λ w n. s w (λ q. n (q ∙ sym at)))))
+enter_at marks u f g l m s = grind (arith, marked_sum-set, unmarked_same)
 
 -- no more nodes are marked than there are
 pub ones_le : (marks : List Bool) (i : ℕ) → marked_sum marks i (λ _. 1) ≤ length marks

@@ -1,10 +1,10 @@
 //! What a search found, and the tables that it is made over.
 ghost use Rattle.std.specs.Prelude.{◌≡◌, ℕ, ◌+◌, ◌*◌, ◌<◌, ◌≤◌, ◌^◌, length, slice_index, IfOk, IsSome};
 ghost use Rattle.std.specs.Prelude.{IfSome, MatchOption, None};
-ghost use Rattle.shortest_paths.specs.Finding.{IsTotal, total_of};
+ghost use Rattle.shortest_paths.specs.Finding.{IsTotal, total_of, Finding, IsFinished};
 ghost use Rattle.shortest_paths.specs.Lowering.{lowered};
-ghost use Rattle.shortest_paths.specs.Search.{MaySearch};
-ghost use Rattle.shortest_paths.specs.Searching.{distance_at};
+ghost use Rattle.shortest_paths.specs.Search.{MaySearch, tables};
+ghost use Rattle.shortest_paths.specs.Searching.{distance_at, IsAtRest, trace_to};
 ghost use Rattle.shortest_paths.specs.ToSink.{IsSearched, IsLeastCost, IsTrace};
 
 use crate::search::Search;
@@ -21,10 +21,6 @@ pub struct Buffers {
 }
 
 impl Model for Buffers {
-    ghost use Rattle.std.specs.Prelude.{ℕ, length};
-    ghost use Rattle.shortest_paths.specs.Search.{tables};
-    ghost use Rattle.shortest_paths.specs.Searching.{IsAtRest};
-
     ghost Value = { ℕ };
 
     ghost view = { λ t. length t.search.distances.items };
@@ -41,10 +37,6 @@ pub struct Found {
 }
 
 impl Model for Found {
-    ghost use Rattle.shortest_paths.specs.Finding.{Finding, IsFinished};
-    ghost use Rattle.shortest_paths.specs.Search.{tables};
-    ghost use Rattle.shortest_paths.specs.Searching.{trace_to};
-
     ghost Value = { Finding };
 
     ghost view = { λ f. record {

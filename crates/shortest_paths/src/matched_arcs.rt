@@ -1,5 +1,5 @@
 //! The arcs of the sources that are matched with one node.
-ghost use Rattle.std.specs.Prelude.{◌≡◌, [], ◌∷◌, ◌++◌, OnOk, nat_eq};
+ghost use Rattle.std.specs.Prelude.{◌≡◌, [], ◌∷◌, ◌++◌, OnOk, nat_eq, ℕ, List};
 ghost use Rattle.std.specs.List.{IsDistinct};
 ghost use Rattle.shortest_paths.specs.Matched.{Leaves};
 
@@ -13,8 +13,6 @@ pub struct MatchedArcs {
 }
 
 impl Model for MatchedArcs {
-    ghost use Rattle.std.specs.Prelude.{ℕ, List};
-
     ghost Value = { List ℕ };
 
     ghost view = { λ l. l.arcs.items };

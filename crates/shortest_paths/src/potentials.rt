@@ -1,6 +1,6 @@
 //! Potentials of nodes, none above 0.
 ghost use Rattle.std.specs.Prelude.{◌≡◌, ℕ, ◌+◌, ◌<◌, ◌≤◌, ◌^◌, length, replicate, slice_index, slice_set};
-ghost use Rattle.std.specs.Prelude.{pos, ◌≤ℤ◌, neg_ℤ, unsigned_abs, IfOk};
+ghost use Rattle.std.specs.Prelude.{pos, ◌≤ℤ◌, neg_ℤ, unsigned_abs, IfOk, List};
 
 use std::alloc::{AllocError, Global};
 use std::marker::Model;
@@ -13,8 +13,6 @@ pub struct Potentials {
 }
 
 impl Model for Potentials {
-    ghost use Rattle.std.specs.Prelude.{ℕ, List, ◌≤◌, ◌^◌, slice_index};
-
     ghost Value = { List ℕ };
 
     ghost view = { λ p. p.depths.items };

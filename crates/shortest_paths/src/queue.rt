@@ -1,8 +1,8 @@
 //! Nodes that wait for their turn, by distance.
 ghost use Rattle.std.specs.Prelude.{◌≡◌, ℕ, ◌+◌, ◌≤◌, List, [], ◌∷◌, ◌++◌, All, OnOk, IfSome, IfNone};
-ghost use Rattle.std.specs.Prelude.{IsPermutation, vec_len};
-ghost use Rattle.std.specs.BinaryHeap.{KeepsHeap, heap_items, heap_len, heap_capacity};
-ghost use Rattle.shortest_paths.specs.Order.{nearer};
+ghost use Rattle.std.specs.Prelude.{IsPermutation, vec_len, map};
+ghost use Rattle.std.specs.BinaryHeap.{KeepsHeap, heap_items, heap_len, heap_capacity, IsHeap};
+ghost use Rattle.shortest_paths.specs.Order.{nearer, pair_of};
 
 use std::alloc::{AllocError, Global};
 use std::cmp::Reverse;
@@ -20,10 +20,6 @@ pub struct Queue {
 }
 
 impl Model for Queue {
-    ghost use Rattle.std.specs.Prelude.{ℕ, List, map, ◌++◌, ◌+◌, ◌≤◌, vec_len};
-    ghost use Rattle.std.specs.BinaryHeap.{IsHeap, heap_items, heap_len, heap_capacity};
-    ghost use Rattle.shortest_paths.specs.Order.{nearer, pair_of};
-
     ghost Value = { List (ℕ × ℕ) };
 
     ghost view = { λ q. map pair_of (heap_items q.heap ++ q.fresh.items) };

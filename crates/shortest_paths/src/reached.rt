@@ -1,8 +1,10 @@
 //! What a search over all nodes found: the least distances from one node, with their paths.
 ghost use Rattle.std.specs.Prelude.{◌≡◌, ℕ, ◌*◌, ◌<◌, ◌≤◌, length, slice_index, slice_index_or, None, Some};
-ghost use Rattle.std.specs.Prelude.{IfOk, MatchOption};
+ghost use Rattle.std.specs.Prelude.{IfOk, MatchOption, List, Option};
 ghost use Rattle.flow_network.specs.Flows.{NoNegative};
 ghost use Rattle.shortest_paths.specs.Paths.{option_distance, option_path, AreLeastPaths};
+ghost use Rattle.flow_network.specs.declared.arcs.ArcNo.{ArcNo};
+ghost use Rattle.shortest_paths.specs.Finding.{paths_of, AreTracedBack};
 
 use crate::residual_arcs::ResidualArcs;
 use crate::search::Search;
@@ -19,10 +21,6 @@ pub struct Distances {
 }
 
 impl Model for Distances {
-    ghost use Rattle.std.specs.Prelude.{ℕ, List, Option};
-    ghost use Rattle.flow_network.specs.declared.arcs.ArcNo.{ArcNo};
-    ghost use Rattle.shortest_paths.specs.Finding.{paths_of, AreTracedBack};
-
     ghost Value = { List (Option (ℕ × List ArcNo)) };
 
     ghost view = { λ d. paths_of d.search.distances.items d.search.arrivals.items };

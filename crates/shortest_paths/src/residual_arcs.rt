@@ -6,6 +6,7 @@ ghost use Rattle.flow_network.specs.declared.arcs.ArcNo.{ArcNo};
 ghost use Rattle.flow_network.specs.Flows.{arc_at, arc_index, leaving_of, pushed};
 ghost use Rattle.flow_network.specs.Leaving.{IsIn};
 ghost use Rattle.shortest_paths.specs.Lists.{source_at, inner_at, matched_at, AreResidualArcs, AreSized};
+ghost use Rattle.shortest_paths.specs.Lists.{ArcLists};
 ghost use Rattle.shortest_paths.specs.Matched.{AreMatched, GoesOnce, IsFollowing};
 ghost use Rattle.shortest_paths.specs.Sorted.{AreSorted};
 
@@ -29,8 +30,6 @@ pub struct ResidualArcs {
 }
 
 impl Model for ResidualArcs {
-    ghost use Rattle.shortest_paths.specs.Lists.{ArcLists};
-
     ghost Value = { ArcLists };
 
     ghost view = { λ g. record {

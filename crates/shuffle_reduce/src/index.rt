@@ -4,6 +4,8 @@ ghost use Rattle.shuffle_reduce.specs.Merged.{AreSameTexts, HaveWord, PartView};
 ghost use Rattle.shuffle_reduce.specs.Gather.{values_of};
 ghost use Rattle.shuffle_reduce.specs.Indexed.{IsIndexOf, IsIndexOfDocuments, AreDocumentsOf, AreReady};
 ghost use Rattle.shuffle_reduce.specs.Indexed.{HasDouble, HasMissing};
+ghost use Rattle.word_map.specs.Entries.{EntryView};
+ghost use Rattle.shuffle_reduce.specs.declared.index.FinishError.TheVariants.{Memory};
 
 use crate::counts::{has_double, has_missing};
 use crate::gather::gathered_results;
@@ -21,9 +23,6 @@ pub struct Index {
 }
 
 impl Model for Index {
-    ghost use Rattle.std.specs.Prelude.{List};
-    ghost use Rattle.word_map.specs.Entries.{EntryView};
-
     ghost Value = { List EntryView };
 
     ghost view = { λ index. index.entries.items };
@@ -54,9 +53,6 @@ pub enum FinishError {
 }
 
 impl From<AllocError> for FinishError {
-    ghost use Rattle.std.specs.Prelude.{◌≡◌};
-    ghost use Rattle.shuffle_reduce.specs.declared.index.FinishError.TheVariants.{Memory};
-
     ghost from_gives = { λ _ e. e ≡ Memory };
 
     fn from(_: AllocError) -> FinishError {

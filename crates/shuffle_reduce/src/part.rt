@@ -1,5 +1,5 @@
 ghost use Rattle.std.specs.Prelude.{◌≡◌, ◌↔◌, ◌<◌, ◌≤◌, IfOk, IsTrue};
-ghost use Rattle.shuffle_reduce.specs.Merged.{IsPartOf, AreSameTexts, same_texts};
+ghost use Rattle.shuffle_reduce.specs.Merged.{IsPartOf, AreSameTexts, same_texts, PartView, IsPart};
 ghost use Rattle.word_map.specs.Entries.{AreEntries, pairs_of_index};
 ghost use Rattle.shuffle_reduce.specs.Gather.{AreOfPart, ArePairsOfRuns, texts_of_runs, values_of};
 
@@ -22,10 +22,6 @@ pub struct PartResult {
 }
 
 impl Model for PartResult {
-    ghost use Rattle.shuffle_reduce.specs.Merged.{PartView, IsPart};
-    ghost use Rattle.shuffle_reduce.specs.Gather.{values_of};
-    ghost use Rattle.word_map.specs.Entries.{AreEntries, pairs_of_index};
-
     ghost Value = { PartView };
 
     ghost view = { λ r. record {

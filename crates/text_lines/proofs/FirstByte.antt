@@ -12,19 +12,12 @@ position-first p xs None h =
     position_or_len_is p xs (length xs) 0 (omega arith) (λ k lt. false_from_ne_true _ (h k (omega arith) lt))
     (λ lt. absurd (omega (arith, lt))) in
     rw (at, le-ltb (length xs) (length xs) (omega arith)) refl
-position-first p xs (Some k) h =
-    let at : position_or_len p xs ≡ k =
-    position_or_len_is p xs k 0 (omega (arith, h.0.high))
-    (λ j lt. false_from_ne_true _ (h.0.before j (omega arith) lt)) (λ _. h.1) in
-    rw (at, lt-ltb k (length xs) h.0.high) refl
+position-first p xs (Some k) h = grind (arith, position_or_len_is, false_from_ne_true, lt-ltb)
 
 -- the first place that passes, told by all before it
 pub position-at : (p : ℕ → Bool) (xs : List ℕ) (k : ℕ) → k < length xs
     → ((j : ℕ) → j < k → p (get_or xs j 0) ≡ false) → p (get_or xs k 0) ≡ true → Some k ≡ position p xs
-position-at p xs k inside before passes =
-    let at : position_or_len p xs ≡ k =
-    position_or_len_is p xs k 0 (omega (arith, inside)) before (λ _. passes) in
-    rw (at, lt-ltb k (length xs) inside) refl
+position-at p xs k inside before passes = grind (arith, position_or_len_is, lt-ltb)
 
 pub position-nowhere : (p : ℕ → Bool) (xs : List ℕ) → ((j : ℕ) → j < length xs → p (get_or xs j 0) ≡ false)
     → None ≡ position p xs

@@ -1,11 +1,12 @@
 -- Piece by piece: what was read so far, and what was written so far.
 use Rattle.std.specs.Result.{IfErr, IfOk}
-use Rattle.std.proofs.Common.{Result, Ok, Err, ℕ, List, ◌≡◌, ◌++◌, ◌+◌, ◌≤◌, ◌∙◌, length, take, Option, Some}
+use Rattle.std.proofs.Common.{Result, Ok, Err, ℕ, List, ◌≡◌, ◌+◌, ◌≤◌, ◌∙◌, length, take, Option, Some}
 use Rattle.std.proofs.Common.{None, IfSome, sym, ap, subst, arith, append-nil, append_assoc, length-append}
 use Rattle.std.proofs.Common.{take_all, drop_of_length-le}
 use Rattle.std.proofs.lemmas.List.{take-append-le}
 use Rattle.std.specs.Io.KnownBytes.{Appends, Consumes, IsAtEnd, Keeps}
 use Rattle.std.proofs.KnownBytes.{Appends-trans, Consumes-trans}
+use Rattle.std.proofs.lemmas.Grind.{common_steps}
 use Rattle.text_lines.specs.Streams.{AppendsFront, ConsumesAtMost, Moves, Reads}
 
 -- a text as long as it may be is the front of the input
@@ -21,9 +22,7 @@ pub ended : (n : ℕ) (a b : Option (List ℕ)) (text : List ℕ) → Consumes a
     → length text ≤ n → IfSome a (λ xs. text ≡ take n xs)
 ended n None b text h end high = tt
 ended n (Some xs) None text h end high = absurd h
-ended n (Some xs) (Some ys) text h end high =
-    let all : xs ≡ text = h ∙ ap (λ l. text ++ l) end ∙ append-nil text in
-    sym (ap (take n) all ∙ take_all n text high)
+ended n (Some xs) (Some ys) text h end high = grind (arith, append-nil, take_all)
 
 pub more : (a b c : Option (List ℕ)) (old new : List ℕ) → Consumes a b old → Reads b c old new
     → Consumes a c new
@@ -31,20 +30,12 @@ more a b c old new h r = subst (Consumes a c) (sym r.grown) (Consumes-trans a b 
 
 pub at_most : (n k : ℕ) (a b c : Option (List ℕ)) (text : List ℕ) → Consumes a b text
     → ConsumesAtMost b c k → length text + k ≤ n → ConsumesAtMost a c n
-at_most n k a b c text h r fits = record {
-  bytes = text ++ r.bytes;
-  few = let few : length r.bytes ≤ k = r.few in rw (length-append text r.bytes) (omega arith);
-  consumed = Consumes-trans a b c text r.bytes h r.consumed;
-}
+at_most n k a b c text h r fits = grind (arith, length-append, Consumes-trans)
 
 -- what was written so far, and then a piece more
 pub moved_on : (old mid new : Option (List ℕ)) (text rest left : List ℕ)
     → Moves old mid text rest → Moves mid new rest left → Moves old new text left
-moved_on old mid new text rest left a b = record {
-  bytes = a.bytes ++ b.bytes;
-  whole = a.whole ∙ ap (λ l. a.bytes ++ l) b.whole ∙ sym (append_assoc a.bytes b.bytes left);
-  appended = Appends-trans old mid new a.bytes b.bytes a.appended b.appended;
-}
+moved_on old mid new text rest left a b = grind (arith, append_assoc, Appends-trans)
 
 pub Appends-kept : (a b c : Option (List ℕ)) (bs : List ℕ) → Appends a b bs → Keeps b c → Appends a c bs
 Appends-kept None b c bs p q = tt
@@ -56,18 +47,11 @@ Appends-kept (Some x) (Some y) (Some z) bs p q = q ∙ p
 pub moved_all : (old mid new : Option (List ℕ)) (text rest : List ℕ) → Moves old mid text rest
     → length rest ≡ 0 → Keeps mid new → Appends old new text
 moved_all old mid new text rest a empty kept =
-    let all : text ≡ a.bytes =
-    a.whole ∙ ap (λ l. a.bytes ++ l) (drop_of_length-le rest {i = 0} (omega arith)) ∙ append-nil a.bytes in
-    subst (Appends old new) (sym all) (Appends-kept old mid new a.bytes a.appended kept)
+    grind (arith, common_steps, drop_of_length-le, append-nil, Appends-kept)
 
 pub moved_front : (old mid new : Option (List ℕ)) (text rest : List ℕ) → Moves old mid text rest
     → Keeps mid new → AppendsFront old new text
-moved_front old mid new text rest a kept = record {
-  front = a.bytes;
-  rest = rest;
-  whole = a.whole;
-  appended = Appends-kept old mid new a.bytes a.appended kept;
-}
+moved_front old mid new text rest a kept = grind arith
 
 pub IfOk-from_any : {T E : Type 0} (r : Result T E) (P : T → Type 0) → ((x : T) → P x) → IfOk r P
 IfOk-from_any (Ok x) P h = h x

@@ -1,10 +1,10 @@
 -- Where a list is cut first, and the rest of its parts.
-use Rattle.std.proofs.Common.{ℕ, List, [], ◌∷◌, ◌≡◌, ◌+◌, ◌≤◌, ◌<◌, ◌∙◌, length, take, drop, Bool, true}
-use Rattle.std.proofs.Common.{false, not, ◌-◌, Some, None, ap, refl, arith, cond, length-drop, suc, take_all}
+use Rattle.std.proofs.Common.{ℕ, List, [], ◌∷◌, ◌≡◌, ◌+◌, ◌≤◌, ◌<◌, length, take, drop, Bool, true}
+use Rattle.std.proofs.Common.{false, not, ◌-◌, Some, None, refl, arith, cond, length-drop, suc, take_all}
 use Rattle.std.specs.List.{position, slice_split, position_or_len}
 use Rattle.std.specs.Prelude.{nat_lt}
 use Rattle.std.proofs.lemmas.List.Splits.{slice_split_first}
-use borrow.Author.Tests.{le-ltb, ltb-false, ltb-true}
+use borrow.Author.Tests.{ltb-false, ltb-true}
 
 chosen : (b : Bool) (n i : ℕ) → cond b (Some n) None ≡ Some i → (b ≡ true) × (n ≡ i)
 chosen true n i e = (refl, cc)
@@ -25,19 +25,13 @@ first_none p xs e = ltb-false _ _ (unchosen _ _ e)
 -- at the first place that passes
 pub cut_some : (p : ℕ → Bool) (xs : List ℕ) (i : ℕ) → position p xs ≡ Some i
     → slice_split p xs ≡ take i xs ∷ slice_split p (drop (i + 1) xs)
-cut_some p xs i e =
-    let at = first_at p xs i e in
-    slice_split_first p xs 0 at.0
-    ∙ ap (λ k. take k xs ∷ slice_split p (drop (k + 1) xs)) at.1
+cut_some p xs i e = grind (arith, first_at, slice_split_first)
 
 none_step : (b : Bool) (n m : ℕ)
     → cond (nat_lt (cond (not b) (1 + n) 0) (suc m)) (Some (cond (not b) (1 + n) 0)) None ≡ None
     → (b ≡ false) × (cond (nat_lt n m) (Some n) None ≡ None)
 none_step true n m e = absurd (omega (arith, ltb-false 0 (suc m) (unchosen (nat_lt 0 (suc m)) 0 e)))
-none_step false n m e =
-    let less : nat_lt (1 + n) (suc m) ≡ false = unchosen (nat_lt (1 + n) (suc m)) (1 + n) e in
-    let past : m ≤ n = omega (arith, ltb-false (1 + n) (suc m) less) in
-    (refl, ap (λ b. cond b (Some n) None) (le-ltb n m past))
+none_step false n m e = grind arith
 
 none_cons : (p : ℕ → Bool) (x : ℕ) (xs : List ℕ) → position p (x ∷ xs) ≡ None
     → (p x ≡ false) × (position p xs ≡ None)

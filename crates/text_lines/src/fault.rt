@@ -1,3 +1,6 @@
+ghost use Rattle.std.specs.Prelude.{◌≡◌};
+ghost use Rattle.text_lines.specs.Faults.{number_of_fault};
+
 /// What is wrong with a line of a text, or with the text as a whole.
 #[derive(Clone, Copy, Debug, PartialEq, Eq)]
 pub enum Fault {
@@ -40,9 +43,6 @@ pub struct TextFault {
 }
 
 impl Fault {
-    ghost use Rattle.std.specs.Prelude.{◌≡◌};
-    ghost use Rattle.text_lines.specs.Faults.{number_of_fault};
-
     /// The number by which the fault is told, 1 to 14.
     pub fn number(self) -> u8
         ensures { result ≡ number_of_fault self }

@@ -33,8 +33,6 @@ struct SeatOf<'a> {
 }
 
 impl<'a> thread::Promise<Seat> for SeatOf<'a> {
-    ghost use Rattle.std.specs.Prelude.{◌≡◌};
-
     ghost kept_by = { λ p s. (s.board ≡ p.board.now.board) × (s.worker ≡ p.worker) × (s.beats ≡ p.beats) };
 }
 

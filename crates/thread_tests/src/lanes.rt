@@ -137,8 +137,6 @@ fn reduce_order(alloc: Global, attempt: u32) -> Order {
 struct PassOf<'a>(&'a Lane);
 
 impl<'a> thread::Promise<Pass> for PassOf<'a> {
-    ghost use Rattle.std.specs.Prelude.{◌≡◌};
-
     ghost kept_by = { λ p s. s.lane ≡ p.0.now.lane };
 }
 

@@ -1,5 +1,7 @@
 ghost use Rattle.std.specs.Prelude.{◌≡◌};
-ghost use Rattle.tools.specs.Ending.{told};
+ghost use Rattle.std.specs.Option.{option_map};
+ghost use Rattle.tools.specs.Ending.{told, ending_of_asking, ending_of_check, ending_of_plan, message_of};
+ghost use Rattle.tools.specs.Ending.{status_of};
 
 use command_line::asked::AskError;
 use price_certificate::Condition;
@@ -49,11 +51,6 @@ pub struct Message {
 }
 
 impl Ending {
-    ghost use Rattle.std.specs.Prelude.{◌≡◌};
-    ghost use Rattle.std.specs.Option.{option_map};
-    ghost use Rattle.tools.specs.Ending.{ending_of_asking, ending_of_check, ending_of_plan};
-    ghost use Rattle.tools.specs.Ending.{message_of, status_of, told};
-
     /// The end of a program whose check ended so.
     pub fn of_check(end: Result<CheckEnd, ToolError>) -> Ending
         ensures { result ≡ ending_of_check end }

@@ -3,7 +3,8 @@ ghost use Rattle.std.specs.Prelude.{◌≡◌, length, IfOk};
 ghost use Rattle.wave_problem.specs.Assignment.{pairs_of, total, IsBest};
 ghost use Rattle.price_certificate.specs.Certificate.{claim, Certifies, HasOneSize};
 ghost use Rattle.flow_network.specs.declared.kinds.NetworkKind.{NetworkKind};
-ghost use Rattle.wave_planner.specs.Planned.{IsMadeOver, WasCertified};
+ghost use Rattle.wave_planner.specs.Planned.{IsMadeOver, WasCertified, Planned};
+ghost use Rattle.wave_planner.specs.PlannedView.{planned_of};
 
 use certificate_checker::{Certified, certify};
 use direct_network::DirectLayout;
@@ -26,9 +27,6 @@ pub struct Planned {
 }
 
 impl Model for Planned {
-    ghost use Rattle.wave_planner.specs.Planned.{Planned, WasCertified};
-    ghost use Rattle.wave_planner.specs.PlannedView.{planned_of};
-
     ghost Value = { Planned };
 
     ghost view = { planned_of };

@@ -1,6 +1,6 @@
 -- What tables of the live holders of a split tell of the least distance.
 use Rattle.std.proofs.Common.{◌≡◌, ℕ, ◌<◌, ◌≤◌, ◌↔◌, min, Bool, true, false, List, [], ◌∷◌, ◌++◌, length, map}
-use Rattle.std.proofs.Common.{fold, Some, refl, sym, ap, ◌∙◌, ◌⊎◌, inl, inr, arith, get_or, set, ◌||◌}
+use Rattle.std.proofs.Common.{fold, Some, refl, ap, ◌∙◌, ◌⊎◌, arith, get_or, set, ◌||◌}
 use Rattle.std.proofs.Common.{get_or-set_same, get_or-set_other, slice_index}
 use Rattle.std.specs.Prelude.{◌==◌, if◌then◌else◌}
 use Rattle.std.specs.List.{list_any}
@@ -12,7 +12,7 @@ use Rattle.std.proofs.lemmas.List.Folds.{list_any-append}
 use Rattle.node_ids.specs.Sets.{Has, has_number}
 use Rattle.rack_tree.specs.Tree.{Tree, centre_at, distance}
 use Rattle.rack_tree.specs.declared.TheConstants.{MAX_CENTRES, MAX_RACKS}
-use Rattle.rack_tree.proofs.Distances.{distance_by, steps_by}
+use Rattle.rack_tree.proofs.Distances.{steps_by}
 use Rattle.wave_problem.specs.SplitCosts.{Shows}
 use Rattle.wave_problem.specs.Sums.{least}
 use Rattle.wave_problem.specs.declared.split_costs.LiveHolders.{LiveHolders}
@@ -27,19 +27,7 @@ pub put_more : (old new live : List ℕ) (x : ℕ) → ((n : ℕ) → Has new n 
     ((w : ℕ) → has_number old w ≡ list_any (λ h. h == w) live) → (w : ℕ) → has_number new w ≡ list_any
     (λ h. h == w) (live ++ x ∷ [])
 put_more old new live x members shown w =
-    same_from_decides (has_number new w) (has_number old w || (x == w)) (members w) (
-      λ t. elim (or_cases (has_number old w) (x == w) t) [
-        | inl was ↦ inr was
-        | inr e ↦
-            inl (sym (eqb-true x w e))
-      ],
-      λ p. elim p [
-        | inl e ↦ or_right (has_number old w) (x == w) (eq-eqb x w (sym e))
-        | inr was ↦
-            or_left (has_number old w) (x == w) was
-      ],
-    )
-    ∙ ap (λ (b : Bool). b || (x == w)) (shown w) ∙ sym (list_any-push (λ h. h == w) live x)
+    grind (arith, same_from_decides, or_cases, eqb-true, or_right, eq-eqb, or_left, list_any-push)
 
 -- a table of the places of workers, by their racks or by their centres, after one was marked
 pub marked_more : (marks : List Bool) (place_of : ℕ → ℕ) (live : List ℕ) (x mark r : ℕ) → mark < length marks
@@ -48,20 +36,8 @@ pub marked_more : (marks : List Bool) (place_of : ℕ → ℕ) (live : List ℕ)
     get_or marks r false ≡ list_any (λ h. place_of h == r) live →
     get_or (set marks mark true) r false ≡ list_any (λ h. place_of h == r) (live ++ x ∷ [])
 marked_more marks place_of live x mark r inside here shown =
-    let pushed = list_any-push (λ h. place_of h == r) live x in
-    elim (cases_eq mark r) [
-      | inl e ↦
-          let marked : (place_of x == r) ≡ true = eq-eqb (place_of x) r (here ∙ e) in
-          let before : Bool = list_any (λ h. place_of h == r) live in
-          rw (sym e) (rw get_or-set_same refl) ∙ sym (or_right before (place_of x == r) marked)
-          ∙ sym pushed
-      | inr other ↦
-          let unmarked : (place_of x == r) ≡ false = ne_eqb (place_of x) r (λ e. other (sym here ∙ e)) in
-          let kept : get_or (set marks mark true) r false ≡ get_or marks r false =
-          get_or-set_other marks mark r true false (λ e. other (sym e)) in
-          kept ∙ shown ∙ sym (ap (λ (b : Bool). list_any (λ h. place_of h == r) live || b) unmarked
-          ∙ or-false (list_any (λ h. place_of h == r) live)) ∙ sym pushed
-    ]
+    grind (arith, list_any-push, cases_eq, eq-eqb, get_or-set_same, or_right, ne_eqb, get_or-set_other,
+      or-false)
 
 -- the steps from a worker of the tree to the nearest of a list of others, or 6 where the list is empty
 abbrev pub steps_to : Tree → ℕ → List ℕ → ℕ
@@ -87,12 +63,7 @@ nearer false false false false false false = refl
 
 steps_to-cons : (tree : Tree) (w h : ℕ) (live : List ℕ) → min (distance tree h w)
     (steps_to tree w live) ≡ steps_to tree w (h ∷ live)
-steps_to-cons tree w h live =
-    ap (λ (d : ℕ). min d (steps_to tree w live)) (distance_by tree h w)
-    ∙ nearer (h == w) (slice_index tree.rack_of h == slice_index tree.rack_of w)
-    (centre_at tree h == centre_at tree w) (list_any (λ h. h == w) live)
-    (list_any (λ h. slice_index tree.rack_of h == slice_index tree.rack_of w) live)
-    (list_any (λ h. centre_at tree h == centre_at tree w) live)
+steps_to-cons tree w h live = grind arith
 
 fold_near : (tree : Tree) (w x : ℕ) (live : List ℕ) → x ≤ 6 →
     fold min x (map (λ h. distance tree h w) live) ≡ min x (steps_to tree w live)
@@ -107,9 +78,7 @@ fold_near tree w x (h ∷ live) small =
 pub least_near : (tree : Tree) (w : ℕ) (live : List ℕ) → 0 < length live →
     least (map (λ h. distance tree h w) live) ≡ Some (steps_to tree w live)
 least_near tree w [] some = absurd (omega arith)
-least_near tree w (h ∷ live) some =
-    let small : distance tree h w ≤ 6 = omega arith in
-    ap Some (fold_near tree w (distance tree h w) live small ∙ steps_to-cons tree w h live)
+least_near tree w (h ∷ live) some = grind (arith, fold_near, steps_to-cons)
 
 -- which the three tables show
 pub steps_shown : (tree : Tree) (w rack centre : ℕ) (live : List ℕ) (one racks centres : Bool) →
@@ -117,12 +86,7 @@ pub steps_shown : (tree : Tree) (w rack centre : ℕ) (live : List ℕ) (one rac
     one ≡ list_any (λ h. h == w) live → racks ≡ list_any (λ h. slice_index tree.rack_of h == rack) live →
     centres ≡ list_any (λ h. centre_at tree h == centre) live →
     steps_to tree w live ≡ steps_by one racks centres
-steps_shown tree w rack centre live one racks centres r c here near by =
-    let far : list_any (λ h. centre_at tree h == centre_at tree w) live ≡ centres =
-    ap (λ (z : ℕ). list_any (λ h. centre_at tree h == z) live) c ∙ sym by in
-    let close : list_any (λ h. slice_index tree.rack_of h == slice_index tree.rack_of w) live ≡ racks =
-    ap (λ (z : ℕ). list_any (λ h. slice_index tree.rack_of h == z) live) r ∙ sym near in
-    rw (far, close, ← here) refl
+steps_shown tree w rack centre live one racks centres r c here near by = grind arith
 
 -- so the tables tell the least distance from a worker by what they show of it, of its rack and of its centre
 pub least_shown : (tree : Tree) (w rack centre : ℕ) (live : List ℕ) (tables : LiveHolders)
@@ -132,6 +96,4 @@ pub least_shown : (tree : Tree) (w rack centre : ℕ) (live : List ℕ) (tables 
     get_or tables.centres centre false ≡ centres →
     Some (steps_by one racks centres) ≡ least (map (λ h. distance tree h w) live)
 least_shown tree w rack centre live tables one racks centres some shown here there r c own near by =
-    sym (least_near tree w live some
-    ∙ ap Some (steps_shown tree w rack centre live one racks centres here there
-    (sym own ∙ shown.workers w) (sym near ∙ shown.racks rack r) (sym by ∙ shown.centres centre c)))
+    grind (arith, least_near, steps_shown)

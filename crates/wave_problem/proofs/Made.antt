@@ -1,5 +1,5 @@
 -- What the tests of a new problem show.
-use Rattle.std.proofs.Common.{ℕ, List, ◌≡◌, ◌+◌, ◌<◌, ◌≤◌, length, subst, sym, arith, inl, inr, ◌∙◌}
+use Rattle.std.proofs.Common.{ℕ, List, ◌≡◌, ◌+◌, ◌<◌, ◌≤◌, length, subst, sym, arith, inl, inr}
 use Rattle.std.specs.List.{slice_index_or}
 use Rattle.std.proofs.lemmas.Bool.{cases_lt}
 use Rattle.std.proofs.lemmas.List.{get_or_default}
@@ -10,9 +10,7 @@ use Rattle.wave_problem.specs.Wave.{AreHeldWell, AreSmall, IsHeldWell, IsWithinL
 at_place : (w : ℕ) (xs : List Split) (i k : ℕ) (x d : Split) → k ≡ i → i < length xs →
     x ≡ slice_index_or xs i x → IsHeldWell w x
     → IsHeldWell w (slice_index_or xs k d)
-at_place w xs i k x d same lt is held =
-    subst (λ j. IsHeldWell w (slice_index_or xs j d)) (sym same)
-    (subst (IsHeldWell w) (is ∙ get_or_default xs i x d lt) held)
+at_place w xs i k x d same lt is held = grind (arith, get_or_default)
 
 pub held_more : (w : ℕ) (xs : List Split) (i : ℕ) (x : Split) → i < length xs → x ≡ slice_index_or xs i x →
     IsHeldWell w x

@@ -1,7 +1,7 @@
 ghost use Rattle.std.specs.Prelude.{◌≡◌, ◌≢◌, ℕ, ◌<◌, ◌≤◌, ◌↔◌, length, All, AllPairs, IsTrue, false};
 ghost use Rattle.std.specs.Prelude.{slice_index_or};
 ghost use Rattle.wave_problem.specs.declared.TheConstants.{MAX_SLOTS};
-ghost use Rattle.wave_problem.specs.Wave.{AreHeldWell, AreSmall, AreSmallSplits, IsHeldWell, IsSmall};
+ghost use Rattle.wave_problem.specs.Wave.{AreHeldWell, AreSmall, AreSmallSplits, IsHeldWell, IsSmall, Split};
 
 use crate::{MAX_BYTES, MAX_HOLDERS, MAX_SLOTS, MAX_SPLITS};
 use node_ids::WorkerNo;
@@ -24,8 +24,6 @@ pub struct SplitLine {
 }
 
 impl Model for SplitLine {
-    ghost use Rattle.wave_problem.specs.Wave.{Split};
-
     ghost Value = { Split };
 
     ghost view = { λ s. record { bytes = s.bytes; pending = s.pending; holders = s.holders.items } };
@@ -53,8 +51,6 @@ pub struct SplitRef<'h> {
 }
 
 impl<'h> Model for SplitRef<'h> {
-    ghost use Rattle.wave_problem.specs.Wave.{Split};
-
     ghost Value = { Split };
 
     ghost view = { λ s. record { bytes = s.bytes; pending = s.pending; holders = s.holders.now } };

@@ -3,9 +3,10 @@ ghost use Rattle.std.specs.Prelude.{IsTrue, IfSome, slice_index};
 ghost use Rattle.rack_tree.specs.Tree.{centre_at, distance, Tree};
 ghost use Rattle.rack_tree.specs.declared.TheConstants.{MAX_CENTRES, MAX_DISTANCE, MAX_RACKS, MAX_WORKERS};
 ghost use Rattle.wave_problem.specs.declared.TheConstants.{MAX_BYTES};
-ghost use Rattle.wave_problem.specs.SplitCosts.{Shows};
+ghost use Rattle.wave_problem.specs.SplitCosts.{Shows, SplitOf};
 ghost use Rattle.wave_problem.specs.Sums.{least};
 ghost use Rattle.wave_problem.specs.Wave.{cost, least_distance, live_among, IsAdmissible, IsOpen};
+ghost use Rattle.wave_problem.specs.SplitCostsView.{split_of, IsGathered};
 
 use crate::problem::Problem;
 use node_ids::{CentreNo, RackNo, SplitNo, WorkerNo, WorkerSet};
@@ -83,11 +84,8 @@ pub struct SplitCosts<'a> {
 }
 
 impl<'a> Model for SplitCosts<'a> {
-    ghost use Rattle.wave_problem.specs.SplitCosts.{SplitOf};
-
     ghost Value = { SplitOf };
 
-    ghost use Rattle.wave_problem.specs.SplitCostsView.{split_of, IsGathered};
 
     ghost view = { split_of };
 

@@ -1,4 +1,5 @@
 ghost use Rattle.std.specs.Prelude.{◌≡◌};
+ghost use Rattle.word_map.specs.Entries.{EntryView};
 
 use crate::text::Text;
 use node_ids::DocNo;
@@ -16,8 +17,6 @@ pub struct Entry {
 }
 
 impl Model for Entry {
-    ghost use Rattle.word_map.specs.Entries.{EntryView};
-
     ghost Value = { EntryView };
 
     ghost view = { λ e. record { word = e.word; documents = e.documents.items } };

@@ -1,6 +1,6 @@
 ghost use Rattle.std.specs.Prelude.{◌≡◌, ◌<◌, ◌≤◌, length, vec_len, IfOk};
 ghost use Rattle.std.specs.Arc.{arc_value};
-ghost use Rattle.word_map.specs.Runs.{IsRunOf, IsRunFor, AreRunsOfText};
+ghost use Rattle.word_map.specs.Runs.{IsRunOf, IsRunFor, AreRunsOfText, RunView, IsRun, MapView};
 ghost use Rattle.word_map.specs.Entries.{AreEntries, pairs_of_index};
 ghost use Rattle.word_map.specs.Divided.{AreEntriesOfParts, AreRunEntries};
 
@@ -25,10 +25,6 @@ pub struct Run {
 }
 
 impl Model for Run {
-    ghost use Rattle.std.specs.Arc.{arc_value};
-    ghost use Rattle.word_map.specs.Runs.{RunView, IsRun};
-    ghost use Rattle.word_map.specs.Entries.{AreEntries, pairs_of_index};
-
     ghost Value = { RunView };
 
     ghost view = { λ r. record {
@@ -96,10 +92,6 @@ pub struct MapResult {
 }
 
 impl Model for MapResult {
-    ghost use Rattle.std.specs.Prelude.{length};
-    ghost use Rattle.std.specs.Arc.{arc_value};
-    ghost use Rattle.word_map.specs.Runs.{MapView, AreRunsOfText};
-
     ghost Value = { MapView };
 
     ghost view = { λ r. record { text = arc_value r.text; parts = length r.runs.items } };

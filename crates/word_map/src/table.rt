@@ -5,6 +5,7 @@ ghost use Rattle.std.specs.Ordering.{nat_cmp};
 ghost use Rattle.std.specs.HashMap.{keys};
 ghost use Rattle.word_map.specs.Texts.{Pair};
 ghost use Rattle.word_map.specs.Entries.{AreEntries, DocumentsRise, HavePair, pairs_of_entry, pairs_of_index};
+ghost use Rattle.word_map.specs.Entries.{EntryView};
 ghost use Rattle.word_map.specs.Table.{AddsPairs, Has, IsTable, views};
 
 use crate::distinct::sort_distinct;
@@ -24,10 +25,6 @@ pub struct WordTable<'a> {
 }
 
 impl<'a> Model for WordTable<'a> {
-    ghost use Rattle.std.specs.Prelude.{List};
-    ghost use Rattle.word_map.specs.Entries.{EntryView};
-    ghost use Rattle.word_map.specs.Table.{IsTable, views};
-
     ghost Value = { List EntryView };
 
     ghost view = { λ t. views t.table.entries };

@@ -1,20 +1,16 @@
 -- What every worker of a table keeps, it keeps after a sweep.
-use Rattle.std.proofs.Common.{◌≡◌, ℕ, ◌+◌, List, [], ◌∷◌, Bool, true, false, cond, ltb, length, min, ◌∙◌}
+use Rattle.std.proofs.Common.{◌≡◌, ℕ, ◌+◌, List, [], ◌∷◌, Bool, true, false, cond, ltb, length, min}
 use Rattle.std.proofs.Common.{arith}
-use Rattle.std.specs.Prelude.{slice_index}
-use Rattle.std.specs.List.{enumerate_from, AllByRecursion}
+use Rattle.std.specs.List.{AllByRecursion}
 use Rattle.std.proofs.lemmas.List.{length-map}
 use Rattle.std.proofs.lemmas.List.FromFn.{length-enumerate_from}
 use Rattle.std.proofs.lemmas.List.Elements.{All-from_recursion, recursion_from_All}
-use Rattle.worker_table.specs.Workers.{Workers, IsTable, IsWithin, heard, heard_from, swept}
+use Rattle.worker_table.specs.Workers.{Workers, IsTable, IsWithin, heard_from, swept}
 use Rattle.worker_table.specs.declared.Worker.{Worker}
 
 length-heard_from : (n limit : ℕ) (each : List Worker) (counts : List ℕ) →
     length (heard_from n limit each counts) ≡ length each
-length-heard_from n limit each counts =
-    length-map (enumerate_from n each)
-    (λ (place : ℕ × Worker). heard limit place.1 (slice_index counts place.0))
-    ∙ length-enumerate_from n each
+length-heard_from n limit each counts = grind (arith, length-map, length-enumerate_from)
 
 -- a live worker that has heard a higher count, or none
 within_beat : (limit : ℕ) (worker : Worker) (count : ℕ) (rises : Bool) → IsWithin limit worker →
@@ -38,16 +34,9 @@ within_heard limit worker count false within = within
 within_each : (n limit : ℕ) (each : List Worker) (counts : List ℕ) → AllByRecursion (IsWithin limit) each →
     AllByRecursion (IsWithin limit) (heard_from n limit each counts)
 within_each n limit [] counts within = tt
-within_each n limit (worker ∷ each) counts within = (
-  within_heard limit worker (slice_index counts n) worker.live within.0,
-  within_each (n + 1) limit each counts within.1,
-)
+within_each n limit (worker ∷ each) counts within =
+    grind (arith, within_each (n + 1) limit each counts within.1)
 
 pub table_swept : (t : Workers) (counts : List ℕ) → IsTable t → IsTable (swept t counts)
-table_swept t counts table = record {
-  few = omega (arith, table.few, length-heard_from 0 t.limit t.each counts);
-  limit = table.limit;
-  within =
-      All-from_recursion (IsWithin t.limit) (heard_from 0 t.limit t.each counts)
-      (within_each 0 t.limit t.each counts (recursion_from_All (IsWithin t.limit) t.each table.within));
-}
+table_swept t counts table =
+    grind (arith, length-heard_from, All-from_recursion, within_each, recursion_from_All)

@@ -13,7 +13,8 @@ ghost use Rattle.node_ids.specs.Sets.{has_number};
 ghost use Rattle.worker_table.specs.Workers.{IsTable, IsWithin, free_slots, fresh, has_free_slot, heard};
 ghost use Rattle.worker_table.specs.Workers.{heard_from, is_barred, is_live, is_silent, opening_workers};
 ghost use Rattle.worker_table.specs.Workers.{swept, taken_slots, with_bar, with_death, with_return};
-ghost use Rattle.worker_table.specs.Workers.{with_slot_given, with_slot_taken, worker_at};
+ghost use Rattle.worker_table.specs.Workers.{with_slot_given, with_slot_taken, worker_at, Workers};
+ghost use Rattle.worker_table.specs.View.{table_of};
 
 use node_ids::{PairSet, SplitNo, WorkerNo, WorkerSet};
 use std::alloc::{AllocError, Global};
@@ -39,11 +40,8 @@ pub struct WorkerTable {
 }
 
 impl Model for WorkerTable {
-    ghost use Rattle.worker_table.specs.Workers.{Workers, IsTable};
-
     ghost Value = { Workers };
 
-    ghost use Rattle.worker_table.specs.View.{table_of};
 
     ghost view = { table_of };
 

@@ -1,21 +1,16 @@
 -- The names and values that the lines of a head and a plan declare.
-use Rattle.std.proofs.Common.{zip, ℕ, List, [], ◌∷◌, ◌++◌, ◌≡◌, ◌≤◌, ◌<◌, ◌^◌, ◌∙◌, Option, Some}
-use Rattle.std.proofs.Common.{append-nil, ap, arith, get_or, length, map, refl, subst, sym}
+use Rattle.std.proofs.Common.{zip, ℕ, List, [], ◌∷◌, ◌++◌, ◌≡◌, ◌<◌, ◌^◌, ◌∙◌, Option, Some}
+use Rattle.std.proofs.Common.{append-nil, ap, arith, get_or, length, map, refl, sym}
 use Rattle.std.proofs.lemmas.Slice.Zip.{firsts-zip, seconds-zip}
-use Rattle.std.specs.Prelude.{◌↔◌}
 use Rattle.std.specs.List.{All}
 use Rattle.std.proofs.lemmas.List.{map-append}
 use Rattle.std.proofs.lemmas.List.Elements.{All-filter, All-head, All-map, All-tail, filter_passes}
-use Rattle.node_ids.specs.Sets.{HasPair}
 use Rattle.wave_problem.specs.Assignment.{start_of}
 use Rattle.wave_problem.specs.Wave.{Wave}
 use Rattle.price_certificate.specs.PriceList.{PriceList}
 use Rattle.text_lines.specs.Texts.{IsName, Word, number_of}
-use Rattle.line_shapes.specs.Demands.{MeetsDemand}
 use Rattle.line_shapes.specs.Lines.{Statement}
 use Rattle.line_shapes.specs.Places.{place_at, places_of}
-use Rattle.line_shapes.specs.declared.demand.Demand.TheVariants.{Name}
-use Rattle.line_shapes.specs.declared.place.Place.{Place}
 use Rattle.line_shapes.specs.declared.place.Place.TheVariants.{New}
 use Rattle.line_shapes.specs.declared.keyword.Keyword.{Keyword}
 use Rattle.line_shapes.specs.declared.keyword.Keyword.TheVariants.{Centre, Rack, Worker, Split, Barred, Dead}
@@ -23,8 +18,8 @@ use Rattle.line_shapes.specs.declared.keyword.Keyword.TheVariants.{Busy}
 use Rattle.line_rules.specs.Known.{is_of, rows_of}
 use Rattle.plan_text.specs.Names.{names_in, names_of, nth_word}
 use Rattle.plan_text.specs.Tidy.{AreTidy, IsTidyRow}
-use Rattle.plan_text.specs.Value.{IsBarred, MakesWave, price_at, prices_in, declared_split, start_at}
-use Rattle.plan_text.specs.Value.{declared_starts, declared_tree, declared_worker}
+use Rattle.plan_text.specs.Value.{MakesWave, price_at, prices_in, start_at}
+use Rattle.plan_text.specs.Value.{declared_starts}
 use Rattle.plan_text.proofs.Named.{keyword_of, named_row}
 use Rattle.plan_text.proofs.Tidy.{names_differ}
 use Rattle.written_plan.proofs.Heads.{AreApart, IsBare}
@@ -50,11 +45,7 @@ named_in k rows tidy named =
 -- the word of a new name is a name
 first_named : (k : Keyword) → place_at k 0 ≡ Some New → 0 < length (places_of k) → (rows : List Statement)
     → AreNamed k rows
-first_named k first some rows s same tidy =
-    let many : length (places_of k) ≤ length s.words =
-    subst (λ (i : Keyword). length (places_of i) ≤ length s.words) same tidy.whole in
-    let placed : place_at s.keyword 0 ≡ Some New = ap (λ (i : Keyword). place_at i 0) same ∙ first in
-    subst (λ (p : Option Place). MeetsDemand Name p (nth_word 0 s)) placed (tidy.named 0 (omega arith))
+first_named k first some rows s same tidy = grind arith
 
 pub head_names : (rows : List Statement) → AreTidy rows → AreApart rows
     → AreNames (names_of Split rows) (names_of Worker rows)
@@ -79,19 +70,7 @@ same_wave rows a b c w h =
     let dead = sym (rows-other Dead rows a b c (λ p ss. refl) (λ p ss. refl)) in
     let busy = sym (rows-other Busy rows a b c (λ p ss. refl) (λ p ss. refl)) in
     let barred = sym (rows-other Barred rows a b c (λ p ss. refl) (λ p ss. refl)) in
-    record {
-      tree = h.tree ∙ (λ i. declared_tree (names_in (centres i)) (racks i) (workers i));
-      workers = h.workers ∙ (λ i. map (declared_worker (names_in (dead i))) (workers i));
-      splits = h.splits ∙ (λ i. map (declared_split (names_in (workers i)) (names_in (busy i))) (splits i));
-      barred = λ s n few.
-          subst (λ (l : List Statement). HasPair w.barred s n
-          ↔ IsBarred (names_of Split all) (names_of Worker all) l s n) barred
-          (subst (λ (l : List Statement). HasPair w.barred s n
-          ↔ IsBarred (names_of Split all) (names_in l) (rows_of Barred rows) s n) workers
-          (subst (λ (l : List Statement). HasPair w.barred s n
-          ↔ IsBarred (names_in l) (names_of Worker rows) (rows_of Barred rows) s n) splits
-          (h.barred s n few)));
-    }
+    grind arith
 
 -- ---- the starts
 
@@ -147,13 +126,7 @@ pub prices-back : (priced : List Word) (amounts : List ℕ) (splits workers : Li
     → priced ≡ splits ++ workers → amounts ≡ prices.splits ++ prices.workers
     → priced_all priced amounts splits workers ≡ prices
 prices-back priced amounts splits workers prices names count more_count all_names all_amounts =
-    ap (λ ns. priced_all ns amounts splits workers) all_names
-    ∙ ap (λ ns. priced_all (splits ++ workers) ns splits workers) all_amounts
-    ∙ ap (λ ps. both_kinds ps (map (priced_at (splits ++ workers) (prices.splits ++ prices.workers)) workers))
-    (split_prices-back splits workers prices.splits prices.workers names count)
-    ∙ ap (both_kinds prices.splits)
-    (worker_prices-back splits workers prices.splits prices.workers names count
-    more_count)
+    grind (arith, priced_at, split_prices-back, worker_prices-back)
 
 amount_words : (b : List (Word × ℕ)) → All (λ a. a < 2 ^ 64) (map (λ p. p.1) b)
     → map (λ s. number_of (nth_word 1 s)) (map price_said b) ≡ map (λ p. p.1) b
@@ -166,9 +139,7 @@ amount_words (p ∷ ps) small =
 amounts_back : (names : List Word) (amounts : List ℕ) → length amounts ≡ length names
     → All (λ a. a < 2 ^ 64) amounts
     → map (λ s. number_of (nth_word 1 s)) (map price_said (zip names amounts)) ≡ amounts
-amounts_back names amounts count small =
-    let back = seconds-zip names amounts count in
-    amount_words (zip names amounts) (subst (All (λ a. a < 2 ^ 64)) (sym back) small) ∙ back
+amounts_back names amounts count small = grind (arith, seconds-zip, amount_words)
 
 pub prices-read_back : (rows : List Statement) (a : List (Word × Word)) (prices : PriceList) → IsBare rows
     → AreNames (names_of Split rows) (names_of Worker rows) →

@@ -13,18 +13,18 @@ use Rattle.line_shapes.specs.Places.{place_at}
 use Rattle.line_shapes.specs.declared.demand.Demand.TheVariants.{Name, Range}
 use Rattle.line_shapes.specs.declared.keyword.Keyword.{Keyword}
 use Rattle.line_shapes.specs.declared.keyword.Keyword.TheVariants.{Worker, Split, Plan, Start, Price, End}
-use Rattle.line_rules.specs.Faults.{HasItsPrice, IsFit, AreAllPriced, KeepsTo}
-use Rattle.line_rules.specs.Known.{HasRow, Known, entered, is_of, keys_of, rows_of}
+use Rattle.line_rules.specs.Faults.{HasItsPrice, IsFit, KeepsTo}
+use Rattle.line_rules.specs.Known.{HasRow, Known, entered, keys_of}
 use Rattle.line_rules.specs.Reading.{AreFitLines, IsFitLine}
 use Rattle.line_rules.specs.Sections.{section_of}
 use Rattle.line_rules.specs.declared.purpose.Purpose.{Purpose}
 use Rattle.line_rules.specs.declared.purpose.Purpose.TheVariants.{Checking}
 use Rattle.line_rules.specs.declared.rule.Rule.TheVariants as rule
 use Rattle.line_rules.specs.declared.section.Section.TheVariants.{Head, Body, Ended}
-use Rattle.plan_text.specs.Names.{names_in, names_of, nth_word}
+use Rattle.plan_text.specs.Names.{names_of}
 use Rattle.plan_text.proofs.Named.{named_row, row_named}
-use Rattle.written_plan.proofs.Words.{IsMade, both_of, line_of, made-end, made-plan, made-price, made-start}
-use Rattle.written_plan.proofs.Words.{none_of, number-decimal, number_of-decimal, said}
+use Rattle.written_plan.proofs.Words.{IsMade, both_of, line_of, made-price, made-start}
+use Rattle.written_plan.proofs.Words.{number-decimal, number_of-decimal, said}
 use Rattle.written_plan.proofs.Pairs.{AreNew, new-first, new-next, new-skip, price_said, price_text}
 use Rattle.written_plan.proofs.Pairs.{start_pairs, start_said, start_text}
 
@@ -39,9 +39,7 @@ pub record HasNames (rows : List Statement) (splits workers started priced : Lis
 
 pub names_of-append : (k : Keyword) (rows more : List Statement)
     → names_of k (rows ++ more) ≡ names_of k rows ++ names_of k more
-names_of-append k rows more =
-    ap names_in (filter-append (is_of k) rows more)
-    ∙ map-append (nth_word 0) (rows_of k rows) (rows_of k more)
+names_of-append k rows more = grind (arith, filter-append, map-append)
 
 -- with lines more that have these names
 module _ (rows more : List Statement) (splits workers started priced : List Word)
@@ -107,12 +105,7 @@ in_body k keyword begun stands =
 
 fit-line : (k : Known) (keyword : Keyword) (ws : List Word) → IsMade keyword ws → k.section ≢ Ended
     → IsFit k (said keyword ws) → IsFitLine k (line_of keyword ws) (said keyword ws)
-fit-line k keyword ws made going fit = record {
-  printable = made.printable;
-  not_ended = going;
-  says = made.says;
-  fit = fit;
-}
+fit-line k keyword ws made going fit = grind arith
 
 pub open-body : (k : Known) → IsBegun k → k.section ≢ Ended
 open-body k begun ended = let both : Body ≡ Ended = sym begun.body ∙ ended in cc
@@ -271,31 +264,8 @@ fit-prices k splits workers started priced (p ∷ ps) begun names h = (
 
 pub fit-plan : (k : Known) → k.purpose ≡ Checking → k.section ≡ Head → (HasRow k.rows Plan [] → ⊥)
     → IsFitLine k (codes "plan") (said Plan [])
-fit-plan k checking in_head once =
-    fit-line k Plan [] made-plan (λ ended. let both : Head ≡ Ended = sym in_head ∙ ended in cc) (record {
-      whole = tt;
-      may_stand = (ap (λ (p : Purpose). section_of p Plan) checking ∙ ap Some (sym in_head), tt);
-      named = none_of (λ i w. MeetsDemand Name (place_at Plan i) w);
-      known = none_of (λ i w. KeepsTo rule.Declared k.rows (place_at Plan i) w);
-      new = record { names = none_of (λ i w. KeepsTo rule.Free k.rows (place_at Plan i) w); first = tt };
-      in_range = none_of (λ i w. MeetsDemand Range (place_at Plan i) w);
-      within_limit = record { room = tt; few = tt };
-      tail_apart = tt;
-      once = once;
-      priced = tt;
-    })
+fit-plan k checking in_head once = grind arith
 
 pub fit-end : (k : Known) → IsBegun k → All (HasItsPrice k.rows) (keys_of k.rows)
     → IsFitLine k (codes "end") (said End [])
-fit-end k begun priced = fit-line k End [] made-end (open-body k begun) (record {
-  whole = tt;
-  may_stand = (in_body k End begun refl, tt);
-  named = none_of (λ i w. MeetsDemand Name (place_at End i) w);
-  known = none_of (λ i w. KeepsTo rule.Declared k.rows (place_at End i) w);
-  new = record { names = none_of (λ i w. KeepsTo rule.Free k.rows (place_at End i) w); first = tt };
-  in_range = none_of (λ i w. MeetsDemand Range (place_at End i) w);
-  within_limit = record { room = tt; few = tt };
-  tail_apart = tt;
-  once = tt;
-  priced = subst (λ (p : Purpose). AreAllPriced p k.rows) (sym begun.checking) priced;
-})
+fit-end k begun priced = grind arith

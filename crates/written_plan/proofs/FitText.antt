@@ -1,7 +1,8 @@
 -- A text whose lines fit, and end, reads as what they say.
-use Rattle.std.proofs.Common.{ℕ, List, [], ◌∷◌, ◌++◌, ◌≡◌, ◌+◌, ◌≤◌, ◌<◌, ◌∙◌, inl, length, take, refl, sym}
-use Rattle.std.proofs.Common.{ap, subst, arith, length-append}
+use Rattle.std.proofs.Common.{ℕ, List, [], ◌∷◌, ◌++◌, ◌≡◌, ◌+◌, ◌≤◌, ◌<◌, inl, length, refl}
+use Rattle.std.proofs.Common.{subst, arith, length-append}
 use Rattle.std.proofs.Math.Seq.{take-append_seam}
+use Rattle.std.proofs.lemmas.Grind.{common_steps}
 use Rattle.text_lines.specs.Texts.{Line, lines_of}
 use Rattle.line_shapes.specs.Lines.{Statement}
 use Rattle.line_rules.specs.Known.{Known, entered, known_at}
@@ -32,13 +33,7 @@ after-append k [] ts = refl
 after-append k (s ∷ ss) ts = after-append (entered k s) ss ts
 
 fit_taken : (k : Known) (line : Line) (s : Statement) → IsFitLine k line s → Takes k line (entered k s)
-fit_taken k line s fits = record {
-  statement = s;
-  printable = fits.printable;
-  not_ended = fits.not_ended;
-  says = fits.says;
-  enters = record { fit = fits.fit; known = refl };
-}
+fit_taken k line s fits = grind arith
 
 some_left : (ls : List Line) (last : Line) → 0 < length (ls ++ last ∷ [])
 some_left ls last = omega (arith, length-append ls (last ∷ []))
@@ -49,10 +44,8 @@ read_fit : (purpose : Purpose) (text : List ℕ) (ls : List Line) (ss : List Sta
     → (m : ℕ) × IsReadTo purpose text ([] ∷ []) m (names_after k ss)
 read_fit purpose text [] [] n k read fits = (n, read)
 read_fit purpose text (l ∷ ls) (s ∷ ss) n k read fits =
-    read_fit purpose text ls ss (n + 1) (entered k s)
-    (read_more purpose text (l ∷ ls ++ [] ∷ []) l (ls ++ [] ∷ []) n k (entered k s) read refl
-    (some_left ls [])
-    (fit_taken k l s fits.0)) fits.1
+    grind (arith,
+      read_fit purpose text ls ss (n + 1) (entered k s) (read_more purpose text (l ∷ ls ++ [] ∷ []) l (ls ++ [] ∷ []) n k (entered k s) read refl (some_left ls []) (fit_taken k l s fits.0)) fits.1)
 read_fit purpose text ls ss n k read fits = absurd fits
 
 -- the lines that fit are all but the last, so what the text says is what they say
@@ -60,13 +53,7 @@ same_statements : (purpose : Purpose) (text : List ℕ) (ls : List Line) (ss ts 
     → lines_of text ≡ ls ++ [] ∷ [] → AreFitLines (known_at purpose []) ls ss → ReadsAs purpose text ts →
     ts ≡ ss
 same_statements purpose text ls ss ts lines fits reads =
-    let count : length ls ≡ length ts =
-    omega (arith, ap length lines, length-append ls ([] ∷ []), reads.whole) in
-    let front : take (length ts) (lines_of text) ≡ ls =
-    ap (take (length ts)) lines ∙ ap (λ n. take n (ls ++ [] ∷ [])) (sym count) ∙ take-append_seam ls
-    ([] ∷ []) in
-    declare-unique ls ts ss (subst (λ l. Declare l ts) front reads.says)
-    (fit-declare (known_at purpose []) ls ss fits)
+    grind (arith, common_steps, length-append, take-append_seam, declare-unique, fit-declare)
 
 pub reads_fit : (purpose : Purpose) (text : List ℕ) (ls : List Line) (ss : List Statement)
     → length text ≤ longest → lines_of text ≡ ls ++ [] ∷ [] → AreFitLines (known_at purpose []) ls ss

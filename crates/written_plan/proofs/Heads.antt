@@ -1,36 +1,31 @@
 -- The head of a text to plan from: it fits a text to check as well, and its names are names, each once.
-use Rattle.std.proofs.Common.{ℕ, List, [], ◌∷◌, ◌++◌, ◌≡◌, ◌≢◌, ◌≤◌, ◌<◌, ◌∙◌, ◌⊎◌, Option, Some, Bool, inl}
-use Rattle.std.proofs.Common.{inr, ap, arith, codes, cond, length, refl, subst, suc, sym, zero}
+use Rattle.std.proofs.Common.{List, [], ◌∷◌, ◌++◌, ◌≡◌, ◌≢◌, ◌≤◌, ◌<◌, ◌∙◌, ◌⊎◌, Some, inl}
+use Rattle.std.proofs.Common.{inr, ap, arith, codes, length, refl, subst, suc, sym, zero}
 use Rattle.std.specs.List.{All, Contains}
+use Rattle.std.proofs.lemmas.Grind.{common_steps}
 use Rattle.std.proofs.lemmas.List.{map-append}
 use Rattle.std.proofs.lemmas.List.Elements.{All-cons, All-nil, Contains-append_cases, filter-append}
 use Rattle.text_lines.specs.Texts.{IsPrintable, Line, Word}
-use Rattle.line_shapes.specs.Demands.{MeetsDemand}
-use Rattle.line_shapes.specs.Lines.{Says, Statement, tail_words}
+use Rattle.line_shapes.specs.Lines.{Says, Statement}
 use Rattle.line_shapes.specs.Places.{place_at, places_of}
-use Rattle.line_shapes.specs.declared.demand.Demand.TheVariants.{Shape}
 use Rattle.line_shapes.specs.declared.keyword.Keyword.{Keyword}
 use Rattle.line_shapes.specs.declared.keyword.Keyword.TheVariants.{Worker, Split, Start, Price, End}
-use Rattle.line_shapes.specs.declared.place.Place.{Place}
 use Rattle.line_shapes.specs.declared.place.Place.TheVariants.{New}
-use Rattle.line_rules.specs.Entering.{Key, entered_by, entered_of, entering_of, follow_of, key_of, most_of}
-use Rattle.line_rules.specs.Faults.{AreAsMany, IsFewer, IsFit, IsFreeIn, IsPricedBefore, Keep, counted_by}
-use Rattle.line_rules.specs.Faults.{counted_of, follows}
+use Rattle.line_rules.specs.Entering.{Key, entered_of, entering_of, key_of}
+use Rattle.line_rules.specs.Faults.{IsFit, Keep, counted_by}
+use Rattle.line_rules.specs.Faults.{follows}
 use Rattle.line_rules.specs.declared.entering.Follow.{Follow}
 use Rattle.line_rules.specs.declared.entering.Follow.TheVariants.{Any}
-use Rattle.line_rules.specs.Known.{HasRow, IsTaken, Known, entered, is_of, keys_of, rows_of}
+use Rattle.line_rules.specs.Known.{HasRow, IsTaken, Known, entered, keys_of, rows_of}
 use Rattle.line_rules.specs.Reading.{AreFitLines, IsFitLine}
 use Rattle.line_rules.specs.Sections.{section_of}
 use Rattle.line_rules.specs.declared.entering.Entering.{Entering}
-use Rattle.line_rules.specs.declared.entering.Entering.TheVariants.{Nothing, InTurn, Word as ByWord}
+use Rattle.line_rules.specs.declared.entering.Entering.TheVariants.{Nothing, Word as ByWord}
 use Rattle.line_rules.specs.declared.purpose.Purpose.{Purpose}
 use Rattle.line_rules.specs.declared.purpose.Purpose.TheVariants.{Checking, Planning}
 use Rattle.line_rules.specs.declared.rule.Rule.TheVariants as rule
-use Rattle.line_rules.specs.declared.section.Section.{Section}
 use Rattle.line_rules.specs.declared.section.Section.TheVariants.{Head, Ended}
 use Rattle.line_rules.proofs.FitLines.{names_after}
-use Rattle.plan_text.specs.Names.{nth_word}
-use Rattle.plan_text.proofs.Named.{is_of-other, key_by_word}
 use Rattle.written_plan.proofs.HeadKinds.{IsOfHead, head_or_end}
 use Rattle.written_plan.proofs.Lines.{line-one_word}
 use Rattle.written_plan.proofs.Words.{said}
@@ -57,12 +52,7 @@ one_element x y (zero, lt, is) = is
 one_element x y (suc i, lt, is) = absurd (omega arith)
 
 row-entered : (s : Statement) (key : Key) → Contains (keys_of (entered_of s)) key → key_of s ≡ key
-row-entered s key = by (entering_of s.keyword)
-  where
-    by : (e : Entering) → Contains (keys_of (entered_by e s)) key → key_of s ≡ key
-    by Nothing h = absurd (let lt = h.1 in omega arith)
-    by InTurn h = absurd (let lt = h.1 in omega arith)
-    by e h = one_element (key_of s) key h
+row-entered s key = grind arith
 
 -- a row stood before, or is of this line
 row_cases : (rows : List Statement) (s : Statement) (k : Keyword) (n : Word) →
@@ -77,15 +67,7 @@ row_cases rows s k n h =
     ]
 
 rows_of-entered : (k : Keyword) (s : Statement) → (s.keyword ≡ k → ⊥) → rows_of k (entered_of s) ≡ []
-rows_of-entered k s other = by (entering_of s.keyword)
-  where
-    one : rows_of k (s ∷ []) ≡ []
-    one = ap (λ (b : Bool). cond b (s ∷ []) []) (is_of-other k s other)
-
-    by : (e : Entering) → rows_of k (entered_by e s) ≡ []
-    by Nothing = refl
-    by InTurn = refl
-    by e = one
+rows_of-entered k s other = grind arith
 
 -- nothing of a plan stands in the rows
 pub record IsBare (rows : List Statement) : Type 0 where
@@ -94,17 +76,11 @@ pub record IsBare (rows : List Statement) : Type 0 where
 
 none-more : (k : Keyword) (rows : List Statement) (s : Statement) → (s.keyword ≡ k → ⊥) → rows_of k rows ≡ []
     → rows_of k (rows ++ entered_of s) ≡ []
-none-more k rows s other none =
-    filter-append (is_of k) rows (entered_of s) ∙ ap (λ (l : List Statement). l ++ rows_of k (entered_of s))
-    none
-    ∙ rows_of-entered k s other
+none-more k rows s other none = grind (arith, filter-append, rows_of-entered)
 
 bare-entered : (rows : List Statement) (s : Statement) → IsOfHead s.keyword → IsBare rows
     → IsBare (rows ++ entered_of s)
-bare-entered rows s head bare = record {
-  no_starts = none-more Start rows s head.no_start bare.no_starts;
-  no_prices = none-more Price rows s head.no_price bare.no_prices;
-}
+bare-entered rows s head bare = grind (arith, none-more)
 
 -- no name is a split's and a worker's
 abbrev pub AreApart : List Statement → Type 0
@@ -114,14 +90,7 @@ AreApart rows = (n : Word) → HasRow rows Split n → HasRow rows Worker n → 
 new_name : (j : Keyword) → place_at j 0 ≡ Some New → entering_of j ≡ ByWord → 0 < length (places_of j)
     → (rows : List Statement) (s : Statement) (n : Word) → length (places_of s.keyword) ≤ length s.words
     → Keep rule.Free rows s → key_of s ≡ (j, n, []) → IsTaken rows n → ⊥
-new_name j first by some rows s n whole free key =
-    let same : s.keyword ≡ j = ap (λ (q : Key). q.0) key in
-    let name : nth_word 0 s ≡ n = ap (λ (q : Key). q.1) (sym (key_by_word j by s same) ∙ key) in
-    let many : length (places_of j) ≤ length s.words =
-    subst (λ (i : Keyword). length (places_of i) ≤ length s.words) same whole in
-    let placed : place_at s.keyword 0 ≡ Some New = ap (λ (i : Keyword). place_at i 0) same ∙ first in
-    subst (λ (w : Word). IsTaken rows w → ⊥) name
-    (subst (λ (p : Option Place). IsFreeIn rows p (nth_word 0 s)) placed (free 0 (omega arith)))
+new_name j first by some rows s n whole free key = grind arith
 
 apart-entered : (rows : List Statement) (s : Statement) → length (places_of s.keyword) ≤ length s.words
     → Keep rule.Free rows s → AreApart rows → AreApart (rows ++ entered_of s)
@@ -155,29 +124,7 @@ same_count k word e = refl
 
 fit-checking : (k : Known) (s : Statement) → k.purpose ≡ Planning → IsOfHead s.keyword → IsFit k s
     → IsFit (checking k) s
-fit-checking k s planning head fit = record {
-  whole = subst (λ (o : Option ℕ). AreAsMany o (length (tail_words s)))
-      (sym (same_follows k (follow_of s.keyword)))
-      fit.whole;
-  may_stand = (
-    head.same ∙ ap (λ (p : Purpose). section_of p s.keyword) (sym planning) ∙ fit.may_stand.0,
-    fit.may_stand.1,
-  );
-  named = fit.named;
-  known = fit.known;
-  new = fit.new;
-  in_range = fit.in_range;
-  within_limit = record {
-    room = subst (λ (most : Option ℕ). IsFewer most (counted_of (checking k) s.keyword))
-        (ap (λ (p : Purpose). most_of p s.keyword) planning ∙ head.limit)
-        (subst (IsFewer (most_of k.purpose s.keyword)) (sym (same_count k s.keyword (entering_of s.keyword)))
-        fit.within_limit.room);
-    few = fit.within_limit.few;
-  };
-  tail_apart = fit.tail_apart;
-  once = fit.once;
-  priced = subst (λ (after : Section). IsPricedBefore after (checking k)) (sym head.after) tt;
-}
+fit-checking k s planning head fit = grind arith
 
 -- ---- the whole head
 
@@ -193,19 +140,10 @@ pub record IsHeadAndEnd (k : Known) (ls : List Line) (ss : List Statement) : Typ
   pub apart : AreApart (names_after k head).rows
 
 no_words : (s : Statement) (line : Line) → s.keyword ≡ End → Says line s → s.words ≡ []
-no_words s line same says = by s.words refl
-  where
-    by : (ws : List Word) → s.words ≡ ws → s.words ≡ []
-    by [] is = is
-    by (w ∷ ws) is =
-        let inside : 0 < length s.words = subst (λ (l : List Word). 0 < length l) (sym is) (omega arith) in
-        absurd (subst (λ (k : Keyword). MeetsDemand Shape (place_at k 0) (nth_word 0 s)) same
-        (says.shape 0 inside))
+no_words s line same says = grind (arith, common_steps)
 
 end_said : (s : Statement) (line : Line) → s.keyword ≡ End → Says line s → s ≡ said End []
-end_said s line same says =
-    let none = no_words s line same says in
-    λ i. said (same i) (none i)
+end_said s line same says = grind (arith, no_words, said)
 
 end_line : (line : Line) → Says line (said End []) → line ≡ codes "end"
 end_line line says = line-one_word line (codes "end") says.spelled
@@ -264,12 +202,7 @@ head_and_end k (l ∷ ls) (s ∷ ss) planning bare apart going fit ended =
           (head_and_end (entered k s) ls ss planning (bare-entered k.rows s head bare)
           (apart-entered k.rows s fit.0.says.many fit.0.fit.new.names apart)
           (λ e. let both : Head ≡ Ended = sym head.after ∙ e in cc) fit.1 ended)
-      | inr last ↦
-          let e = end_said s l last fit.0.says in
-          let all : AreFitLines k (l ∷ ls) (said End [] ∷ ss) =
-          subst (λ (t : Statement). AreFitLines k (l ∷ ls) (t ∷ ss)) e fit in
-          subst (λ (t : Statement). IsHeadAndEnd k (l ∷ ls) (t ∷ ss)) (sym e)
-          (at_end k l ls ss planning bare apart all.0 all.1)
+      | inr last ↦ grind (arith, end_said, said, at_end)
     ]
 head_and_end k ls ss planning bare apart going fit ended = absurd fit
 

@@ -1,5 +1,5 @@
 -- A text and its last line, and the text with a plan behind its head.
-use Rattle.std.proofs.Common.{zip, ℕ, List, [], ◌∷◌, ◌++◌, ◌≡◌, ◌≢◌, ◌-◌, ◌∙◌, Option, codes, length, map}
+use Rattle.std.proofs.Common.{zip, ℕ, List, [], ◌∷◌, ◌++◌, ◌≡◌, ◌≢◌, ◌∙◌, Option, codes, length, map}
 use Rattle.std.proofs.Common.{take, drop, refl, sym, ap, arith}
 use Rattle.std.proofs.lemmas.List.{append_assoc, length-append, length-drop, take-append-drop, take_at}
 use Rattle.price_certificate.specs.PriceList.{PriceList}
@@ -48,9 +48,7 @@ all_lines purpose text ss reads =
 -- ---- the text
 
 without_last_line-joined : (front : List ℕ) → without_last_line (front ++ end_line) ≡ front
-without_last_line-joined front =
-    take_at front end_line (length (front ++ end_line) - length end_line)
-    (omega (arith, length-append front end_line))
+without_last_line-joined front = grind (arith, take_at, length-append)
 
 regroup : (h a b c : List ℕ) → h ++ codes "plan" ++ (10 ∷ (a ++ (b ++ c))) ++ end_line
     ≡ h ++ (codes "plan" ++ 10 ∷ (a ++ (b ++ (c ++ end_line))))
@@ -59,12 +57,7 @@ regroup h a b c = simp append_assoc
 joined-plan : (a : List (Word × Word)) (b c : List (Word × ℕ)) → joined (plan_texts a b c)
     ≡ codes "plan" ++ 10 ∷ (joined (map start_text a)
     ++ (joined (map price_text b) ++ (joined (map price_text c) ++ end_line)))
-joined-plan a b c =
-    ap (λ rest. codes "plan" ++ 10 ∷ rest)
-    (joined-append (map start_text a) (map price_text b ++ (map price_text c ++ codes "end" ∷ []))
-    ∙ ap (λ rest. joined (map start_text a) ++ rest)
-    (joined-append (map price_text b) (map price_text c ++ codes "end" ∷ [])
-    ∙ ap (λ rest. joined (map price_text b) ++ rest) (joined-append (map price_text c) (codes "end" ∷ []))))
+joined-plan a b c = grind (arith, joined-append, start_text, price_text, joined)
 
 -- the plan behind the head is lines put together as well
 pub text-with_plan : (text : List ℕ) (lines : List Line) (splits workers : List Word)
@@ -75,18 +68,5 @@ pub text-with_plan : (text : List ℕ) (lines : List Line) (splits workers : Lis
     ≡ joined (lines ++ plan_texts (start_pairs workers splits starts) (zip splits prices.splits)
     (zip workers prices.workers))
 text-with_plan text lines splits workers starts prices whole plan =
-    let a = start_pairs workers splits starts in
-    let b = zip splits prices.splits in
-    let c = zip workers prices.workers in
-    let head : without_last_line text ≡ joined lines =
-    ap without_last_line (whole ∙ joined-append lines (codes "end" ∷ []))
-    ∙ without_last_line-joined (joined lines) in
-    ap (λ h. h ++ codes "plan" ++ (10 ∷ lines_of_plan splits workers starts prices) ++ end_line) head
-    ∙ (λ i. joined lines ++ codes "plan" ++ (10 ∷
-    (start_lines-text splits workers starts plan.split_starts i
-    ++ (price_lines-text splits prices.splits plan.split_prices i
-    ++ price_lines-text workers prices.workers plan.worker_prices i))) ++ end_line)
-    ∙ regroup (joined lines) (joined (map start_text a)) (joined (map price_text b))
-    (joined (map price_text c))
-    ∙ ap (λ rest. joined lines ++ rest) (sym (joined-plan a b c))
-    ∙ sym (joined-append lines (plan_texts a b c))
+    grind (arith, start_pairs, joined, joined-append, without_last_line-joined, start_lines-text,
+      price_lines-text, regroup, start_text, price_text, joined-plan, plan_texts)

@@ -24,9 +24,8 @@ not_feed b h = grind (arith, nat_tests)
 pub lines_of-joined : (ls : List Line) → All (All IsPrintable) ls → lines_of (joined ls) ≡ ls ++ [] ∷ []
 lines_of-joined [] h = refl
 lines_of-joined (l ∷ ls) h =
-    slice_split_at (λ b. b == 10) l 10 (joined ls)
-    (All-weaker IsPrintable (λ b. (b == 10) ≡ false) not_feed l (All-head (All IsPrintable) l ls h)) refl
-    ∙ ap (λ rest. l ∷ rest) (lines_of-joined ls (All-tail (All IsPrintable) l ls h))
+    search (arith, lines_of-joined ls (All-tail (All IsPrintable) l ls h), slice_split_at, All-weaker,
+      not_feed, All-head, All-tail)
 
 join_feeds : (ls : List Line) → join_with_byte 10 (ls ++ [] ∷ []) ≡ joined ls
 join_feeds [] = refl
@@ -52,9 +51,7 @@ not_space b h = grind (arith, nat_tests)
 
 pub words_of-spaced : (w : Word) (ws : List Word) → All (All IsPlain) (w ∷ ws)
     → words_of (spaced (w ∷ ws)) ≡ w ∷ ws
-words_of-spaced w [] h =
-    slice_split_none (λ b. b == 32) w
-    (All-weaker IsPlain (λ b. (b == 32) ≡ false) not_space w (All-head (All IsPlain) w [] h))
+words_of-spaced w [] h = search (arith, slice_split_none, All-weaker, not_space, All-head)
 words_of-spaced w (v ∷ ws) h =
     slice_split_at (λ b. b == 32) w 32 (spaced (v ∷ ws))
     (All-weaker IsPlain (λ b. (b == 32) ≡ false) not_space w (All-head (All IsPlain) w (v ∷ ws) h)) refl

@@ -1,7 +1,6 @@
 -- The starts and prices of a plan as pairs, in the order of their lines.
 use Rattle.std.proofs.Common.{zip, ℕ, List, [], ◌∷◌, ◌++◌, ◌≡◌, ◌≢◌, ◌+◌, ◌<◌, ◌∙◌, Option, Some, None, inl}
 use Rattle.std.proofs.Common.{inr, codes, length, map, refl, sym, ap, subst, arith, get_or, suc, zero}
-use Rattle.std.proofs.Common.{add-one}
 use Rattle.std.specs.Fmt.{decimal}
 use Rattle.std.specs.List.{AllPairs, Contains, flat_map, range_with_len}
 use Rattle.std.proofs.lemmas.List.{append_assoc}
@@ -54,11 +53,7 @@ new-next taken x xs new = record {
 
 -- where none is taken
 pub new-none : (taken names : List Word) → taken ≡ [] → AllPairs (λ a b. a ≢ b) names → AreNew taken names
-new-none taken names none differ = record {
-  differ = differ;
-  apart = λ name old h. let old : Contains [] name = subst (λ ns. Contains ns name) none old in
-      absurd (let lt = old.1 in omega arith);
-}
+new-none taken names none differ = grind arith
 
 -- ---- the pairs
 
@@ -101,10 +96,7 @@ flat_pairs f xs ys = []
 flat_map-later : (f : ℕ → List ℕ) (a n : ℕ)
     → flat_map f (range_with_len (a + 1) n) ≡ flat_map (λ i. f (suc i)) (range_with_len a n)
 flat_map-later f a zero = refl
-flat_map-later f a (suc n) =
-    let more = flat_map-later f (a + 1) n in
-    let same : a + 1 ≡ suc a = add-one a in
-    λ i. f (same i) ++ more i
+flat_map-later f a (suc n) = grind (arith, flat_map-later f (a + 1) n)
 
 by_numbers : {X Y : Type 0} (f : X → Y → List ℕ) (d : X) (e : Y) (xs : List X) (ys : List Y)
     → length ys ≡ length xs
@@ -124,9 +116,7 @@ start_line-text s w rest = simp append_assoc
 starts-text : (workers ss : List Word) (os : List (Option ℕ))
     → flat_pairs (start_line workers) ss os ≡ joined (map start_text (start_pairs workers ss os))
 starts-text workers (s ∷ ss) (None ∷ os) = starts-text workers ss os
-starts-text workers (s ∷ ss) (Some w ∷ os) =
-    start_line-text s (name_of workers w) (flat_pairs (start_line workers) ss os)
-    ∙ ap (λ rest. start_text (s, name_of workers w) ++ 10 ∷ rest) (starts-text workers ss os)
+starts-text workers (s ∷ ss) (Some w ∷ os) = grind (arith, starts-text workers ss os, start_line-text)
 starts-text workers ss os = refl
 
 pub start_lines-text : (splits workers : List Word) (starts : List (Option ℕ)) → length starts ≡ length splits
@@ -141,9 +131,7 @@ price_line-text n a rest = simp append_assoc
 
 prices-text : (ns : List Word) (amounts : List ℕ)
     → flat_pairs price_line ns amounts ≡ joined (map price_text (zip ns amounts))
-prices-text (n ∷ ns) (a ∷ amounts) =
-    price_line-text n (decimal a) (flat_pairs price_line ns amounts)
-    ∙ ap (λ rest. price_text (n, a) ++ 10 ∷ rest) (prices-text ns amounts)
+prices-text (n ∷ ns) (a ∷ amounts) = grind (arith, prices-text ns amounts, price_line-text)
 prices-text ns amounts = refl
 
 pub price_lines-text : (names : List Word) (amounts : List ℕ) → length amounts ≡ length names

@@ -4,6 +4,7 @@ use Rattle.std.proofs.Common.{append-nil, append_assoc, arith, codes, get_or, le
 use Rattle.std.proofs.lemmas.Slice.Zip.{firsts-zip}
 use Rattle.std.specs.List.{All, AllPairs, Contains}
 use Rattle.std.proofs.lemmas.Grind.{flat_map-append}
+use Rattle.std.proofs.lemmas.Grind.{common_steps}
 use Rattle.std.proofs.lemmas.List.Elements.{All-contains_itself, All-weaker, Contains-append_cases}
 use Rattle.std.proofs.lemmas.List.Elements.{Contains-append_left, Contains-append_right, Contains-get_or}
 use Rattle.std.proofs.lemmas.List.Elements.{filter-append}
@@ -15,7 +16,7 @@ use Rattle.line_shapes.specs.declared.keyword.Keyword.{Keyword}
 use Rattle.line_shapes.specs.declared.keyword.Keyword.TheVariants.{Worker, Split, Plan, Start, Price, End}
 use Rattle.line_rules.specs.Entering.{Key, entered_by, entered_of, entering_of, key_of}
 use Rattle.line_rules.specs.Faults.{HasItsPrice}
-use Rattle.line_rules.specs.Known.{HasRow, Known, entered, is_of, keys_of, rows_of}
+use Rattle.line_rules.specs.Known.{HasRow, Known, entered, keys_of, rows_of}
 use Rattle.line_rules.specs.Reading.{AreFitLines}
 use Rattle.line_rules.specs.declared.section.Section.TheVariants.{Head, Body}
 use Rattle.line_rules.specs.declared.entering.Entering.{Entering}
@@ -29,7 +30,6 @@ use Rattle.written_plan.proofs.Entered.{HasNames, IsBegun, are_prices, are_start
 use Rattle.written_plan.proofs.Entered.{fit-prices, fit-starts, has_price, names-priced, names-started}
 use Rattle.written_plan.proofs.Entered.{with_rows}
 use Rattle.written_plan.proofs.FitText.{fit-append}
-use Rattle.written_plan.proofs.Heads.{one_element}
 use Rattle.written_plan.proofs.HeadKinds.{priced_kinds}
 use Rattle.written_plan.proofs.Pairs.{AreNew, new-none, price_said, price_text, start_pairs, start_said}
 use Rattle.written_plan.proofs.Pairs.{start_text}
@@ -75,9 +75,7 @@ names-map : {X : Type 0} (f : X → Statement) (g : X → Word) → ((x : X) →
     (xs : List X)
     → names_in (map f xs) ≡ map g xs
 names-map f g same [] = refl
-names-map f g same (x ∷ xs) =
-    ap (λ (w : Word). w ∷ names_in (map f xs)) (same x)
-    ∙ ap (λ (ws : List Word). g x ∷ ws) (names-map f g same xs)
+names-map f g same (x ∷ xs) = grind (arith, names-map f g same xs)
 
 pub start_names : (a : List (Word × Word)) → names_in (map start_said a) ≡ map (λ p. p.0) a
 start_names a = names-map start_said (λ p. p.0) (λ p. refl) a
@@ -89,19 +87,13 @@ names-starts : (rows : List Statement) (splits workers started priced : List Wor
     → HasNames rows splits workers started priced
     → HasNames (rows ++ map start_said a) splits workers (started ++ map (λ p. p.0) a) priced
 names-starts rows splits workers started priced a h =
-    names-started rows (map start_said a) splits workers started priced h (map (λ p. p.0) a)
-    (ap names_in (no_name Split start_said (λ x ss. refl) a))
-    (ap names_in (no_name Worker start_said (λ x ss. refl) a))
-    (ap names_in (start_rows a) ∙ start_names a) (ap names_in (no_name Price start_said (λ x ss. refl) a))
+    grind (arith, common_steps, names-started, start_said, no_name, start_rows, start_names)
 
 names-prices : (rows : List Statement) (splits workers started priced : List Word) (b : List (Word × ℕ))
     → HasNames rows splits workers started priced
     → HasNames (rows ++ map price_said b) splits workers started (priced ++ map (λ p. p.0) b)
 names-prices rows splits workers started priced b h =
-    names-priced rows (map price_said b) splits workers started priced h (map (λ p. p.0) b)
-    (ap names_in (no_name Split price_said (λ x ss. refl) b))
-    (ap names_in (no_name Worker price_said (λ x ss. refl) b))
-    (ap names_in (no_name Start price_said (λ x ss. refl) b)) (ap names_in (price_rows b) ∙ price_names b)
+    grind (arith, common_steps, names-priced, price_said, no_name, price_rows, price_names)
 
 -- ---- what is known after them
 
@@ -285,9 +277,7 @@ not_entered k none n (s ∷ ss) h =
     ]
   where
     row : (e : Entering) → entering_of s.keyword ≡ e → e ≢ Nothing → Contains (key_of s ∷ []) (k, n, []) → ⊥
-    row e is some has =
-        let same : s.keyword ≡ k = ap (λ (q : Key). q.0) (one_element (key_of s) (k, n, []) has) in
-        some (sym is ∙ ap entering_of same ∙ none)
+    row e is some has = grind arith
 
     of : (e : Entering) → entering_of s.keyword ≡ e → Contains (keys_of (entered_by e s)) (k, n, []) → ⊥
     of Nothing is has = absurd (let lt = has.1 in omega arith)
@@ -297,9 +287,7 @@ not_entered k none n (s ∷ ss) h =
 rows-map : {X : Type 0} (f : X → Statement) → ((x : X) → entered_of (f x) ≡ f x ∷ []) → (xs : List X)
     → rows_in (map f xs) ≡ map f xs
 rows-map f one [] = refl
-rows-map f one (x ∷ xs) =
-    ap (λ (l : List Statement). l ++ rows_in (map f xs)) (one x)
-    ∙ ap (λ (l : List Statement). f x ∷ l) (rows-map f one xs)
+rows-map f one (x ∷ xs) = grind (arith, rows-map f one xs)
 
 -- all rows of a plan
 abbrev pub plan_rows : List (Word × Word) → List (Word × ℕ) → List (Word × ℕ) → List Statement
@@ -310,19 +298,7 @@ rows-append ss ts = flat_map-append entered_of ss ts
 
 pub rows-plan : (head : List Statement) (a : List (Word × Word)) (b c : List (Word × ℕ))
     → rows_in (head ++ plan_said a b c) ≡ rows_in head ++ plan_rows a b c
-rows-plan head a b c =
-    let starts = map start_said a in
-    let ps = map price_said b in
-    let qs = map price_said c in
-    let last : rows_in (qs ++ said End [] ∷ []) ≡ qs =
-    rows-append qs (said End [] ∷ []) ∙ append-nil (rows_in qs) ∙ rows-map price_said (λ x. refl) c in
-    let prices : rows_in (ps ++ (qs ++ said End [] ∷ [])) ≡ ps ++ qs =
-    rows-append ps (qs ++ said End [] ∷ [])
-    ∙ (λ i. rows-map price_said (λ x. refl) b i ++ last i) in
-    rows-append head (plan_said a b c)
-    ∙ ap (λ (l : List Statement). rows_in head ++ l)
-    (rows-append starts (ps ++ (qs ++ said End [] ∷ []))
-    ∙ (λ i. rows-map start_said (λ x. refl) a i ++ prices i))
+rows-plan head a b c = grind (arith, start_said, price_said, said, rows-append, append-nil, rows-map)
 
 pub rows-end : (head : List Statement) → rows_in (head ++ said End [] ∷ []) ≡ rows_in head
 rows-end head = rows-append head (said End [] ∷ []) ∙ append-nil (rows_in head)
@@ -331,11 +307,7 @@ rows-end head = rows-append head (said End [] ∷ []) ∙ append-nil (rows_in he
 rows-split : (k : Keyword) (rows : List Statement) (a : List (Word × Word)) (b c : List (Word × ℕ))
     → rows_of k (rows ++ plan_rows a b c) ≡ rows_of k rows ++ (rows_of k (map start_said a)
     ++ (rows_of k (map price_said b) ++ rows_of k (map price_said c)))
-rows-split k rows a b c =
-    filter-append (is_of k) rows (plan_rows a b c) ∙ ap (λ (l : List Statement). rows_of k rows ++ l)
-    (filter-append (is_of k) (map start_said a) (map price_said b ++ map price_said c)
-    ∙ ap (λ (l : List Statement). rows_of k (map start_said a) ++ l)
-    (filter-append (is_of k) (map price_said b) (map price_said c)))
+rows-split k rows a b c = grind (arith, filter-append, start_said, price_said)
 
 -- rows of another keyword
 pub rows-other : (k : Keyword) (rows : List Statement) (a : List (Word × Word)) (b c : List (Word × ℕ))
@@ -343,23 +315,15 @@ pub rows-other : (k : Keyword) (rows : List Statement) (a : List (Word × Word))
     → ((p : Word × ℕ) (ss : List Statement) → rows_of k (price_said p ∷ ss) ≡ rows_of k ss)
     → rows_of k (rows ++ plan_rows a b c) ≡ rows_of k rows
 rows-other k rows a b c no_start no_price =
-    rows-split k rows a b c
-    ∙ (λ i. rows_of k rows ++ (no_name k start_said no_start a i
-    ++ (no_name k price_said no_price b i ++ no_name k price_said no_price c i)))
-    ∙ append-nil (rows_of k rows)
+    grind (arith, rows-split, no_name, start_said, price_said, append-nil)
 
 pub rows-start : (rows : List Statement) (a : List (Word × Word)) (b c : List (Word × ℕ)) →
     rows_of Start rows ≡ []
     → rows_of Start (rows ++ plan_rows a b c) ≡ map start_said a
 rows-start rows a b c none =
-    rows-split Start rows a b c
-    ∙ (λ i. none i ++ (start_rows a i ++ (no_name Start price_said (λ x ss. refl) b i
-    ++ no_name Start price_said (λ x ss. refl) c i)))
-    ∙ append-nil (map start_said a)
+    grind (arith, rows-split, start_rows, no_name, price_said, append-nil, start_said)
 
 pub rows-price : (rows : List Statement) (a : List (Word × Word)) (b c : List (Word × ℕ)) →
     rows_of Price rows ≡ []
     → rows_of Price (rows ++ plan_rows a b c) ≡ map price_said b ++ map price_said c
-rows-price rows a b c none =
-    rows-split Price rows a b c
-    ∙ (λ i. none i ++ (no_name Price start_said (λ x ss. refl) a i ++ (price_rows b i ++ price_rows c i)))
+rows-price rows a b c none = grind (arith, rows-split, no_name, start_said, price_rows)

@@ -1,7 +1,6 @@
 -- The starts and prices that the lines of a plan declare are those that they were made from.
-use Rattle.std.proofs.Common.{ℕ, List, [], ◌∷◌, ◌++◌, ◌≡◌, ◌≢◌, ◌<◌, ◌∙◌, Option, Some, None, inl, inr, true}
+use Rattle.std.proofs.Common.{ℕ, List, [], ◌∷◌, ◌++◌, ◌≡◌, ◌≢◌, ◌<◌, ◌∙◌, Option, Some, None, inl, inr}
 use Rattle.std.proofs.Common.{false, length, map, refl, sym, ap, subst, arith, get_or, suc, unwrap_or}
-use Rattle.std.proofs.Common.{Decides}
 use Rattle.std.specs.List.{AllPairs, Contains, position}
 use Rattle.std.specs.Option.{option_map}
 use Rattle.std.specs.Str.{bytes_eq}
@@ -11,26 +10,19 @@ use Rattle.std.proofs.lemmas.List.Sums.{position_or_len_is}
 use Rattle.std.proofs.lemmas.Slice.Eq.{bytes_eq-Decides}
 use Rattle.text_lines.specs.Texts.{Word, name_of}
 use Rattle.plan_text.specs.Value.{beside, number_in}
-use borrow.Author.Tests.{le-ltb, lt-ltb}
+use borrow.Author.Tests.{le-ltb}
 use Rattle.written_plan.proofs.Pairs.{AreNew, new-first, new-gone, new-next, new-skip, start_pairs}
 use Rattle.written_plan.proofs.Pairs.{started_are_splits}
 
 -- ---- the place of a name
 
 differs : (name other : Word) → (name ≡ other → ⊥) → bytes_eq name other ≡ false
-differs name other apart = elim (bytes_eq name other) as (λ b. Decides b (name ≡ other) → b ≡ false) [
-  | true ↦ λ decides. absurd (apart (decides.0 refl))
-  | false ↦ λ decides. refl
-] (bytes_eq-Decides name other)
+differs name other apart = grind (arith, bytes_eq-Decides)
 
 -- at the first of the names that is the name
 pub position_at : (name : Word) (names : List Word) (i : ℕ) → i < length names → get_or names i [] ≡ name
     → ((k : ℕ) → k < i → get_or names k [] ≡ name → ⊥) → position (λ n. bytes_eq name n) names ≡ Some i
-position_at name names i inside here before =
-    let at = position_or_len_is (λ n. bytes_eq name n) names i [] (omega arith)
-    (λ k lt. differs name (get_or names k []) (λ e. before k lt (sym e)))
-    (λ lt. (bytes_eq-Decides name (get_or names i [])).1 (sym here)) in
-    rw (at, lt-ltb i (length names) inside) refl
+position_at name names i inside here before = grind (arith, position_or_len_is, differs, bytes_eq-Decides)
 
 pub position_none : (name : Word) (names : List Word) → (Contains names name → ⊥)
     → position (λ n. bytes_eq name n) names ≡ None
@@ -44,9 +36,7 @@ position_none name names none =
 -- of names of which none stands twice, each has the number that it stands at
 pub number_of_name : (names : List Word) (w : ℕ) → AllPairs (λ a b. a ≢ b) names → w < length names
     → number_in names (name_of names w) ≡ w
-number_of_name names w differ inside =
-    let at = position_at (name_of names w) names w inside refl (λ k lt e. differ k w [] lt inside e) in
-    rw at refl
+number_of_name names w differ inside = grind (arith, position_at)
 
 -- ---- what stands beside a name
 

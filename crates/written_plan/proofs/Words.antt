@@ -1,5 +1,5 @@
 -- Words that a line can be put together from: names, numbers, and given words.
-use Rattle.std.proofs.Common.{ℕ, List, [], ◌∷◌, ◌≡◌, ◌<◌, ◌^◌, ◌∙◌, inl, inr, length, codes, ap, arith, rules}
+use Rattle.std.proofs.Common.{ℕ, List, [], ◌∷◌, ◌≡◌, ◌<◌, ◌^◌, ◌∙◌, length, codes, arith, rules}
 use Rattle.std.proofs.Common.{◌≤◌, refl, get_or, suc, zero}
 use Rattle.std.specs.Fmt.{decimal}
 use Rattle.std.specs.List.{All}
@@ -29,12 +29,7 @@ pub plain-name : (w : Word) → IsName w → All IsPlain w
 plain-name w h = All-weaker IsNameByte IsPlain plain_byte w h.3
 
 lone_zero : (n : ℕ) → n < 2 ^ 64 → get_or (decimal n) 0 0 ≡ 48 → length (decimal n) ≡ 1
-lone_zero n small zero_first = elim (cases_lt 0 n) [
-  | inl more ↦ absurd (omega (arith, first_decimal n more small))
-  | inr none ↦
-      let none : n ≡ 0 = omega arith in
-      ap (λ m. length (decimal m)) none ∙ ap length (decimal_digit 0 (omega arith))
-]
+lone_zero n small zero_first = grind (arith, cases_lt, first_decimal, decimal_digit)
 
 pub number-decimal : (n : ℕ) → n < 2 ^ 64 → IsNumber (decimal n)
 number-decimal n small = (digits_decimal numerals n small, decimal_nonempty n small, lone_zero n small)
@@ -111,9 +106,7 @@ made_of_two k a b cut few first p q s t =
 
 made_of_none : (k : Keyword) → ((line : Line) → words_in k line ≡ words_of line) → length (places_of k) ≤ 0
     → All IsPlain (spelling_of k) → IsMade k []
-made_of_none k cut few first =
-    made k [] cut (All-cons (All IsPlain) (spelling_of k) [] first (All-nil (All IsPlain))) few
-    (none_of (λ i v. MeetsDemand Shape (place_at k i) v))
+made_of_none k cut few first = grind arith
 
 pub made-start : (split worker : Word) → IsName split → IsName worker → IsMade Start (split ∷ worker ∷ [])
 made-start split worker s w =
