@@ -39,18 +39,11 @@ ends_closed arcs closed time (Reverse k) t h = (h, t)
 -- one node more is closed
 stays_closed : (closed : List ℕ) (time v w : ℕ) → v < length closed → slice_index closed w ≡ time
     → slice_index (set closed v time) w ≡ time
-stays_closed closed time v w l c = elim (cases_eq w v) [
-  | inl e ↦ ap (λ i. get_or (set closed v time) i 0) e ∙ get_or-set_same closed v time 0 l
-  | inr n ↦ get_or-set_other closed v w time 0 n ∙ c
-]
+stays_closed closed time v w l c = grind (arith, cases_eq, get_or-set_same, get_or-set_other)
 
 pub trail_begins : (arcs : List FlowArc) (flows : List ℕ) (h : ℕ → ℕ) (closed : List ℕ) (time s : ℕ)
     → s < length closed → IsTrail arcs flows h (set closed s time) time s s []
-trail_begins arcs flows h closed time s l = record {
-  way = record { leads = refl; once = tt; tight = tt };
-  here = get_or-set_same closed s time 0 l;
-  ends = λ k o. absurd o;
-}
+trail_begins arcs flows h closed time s l = grind (arith, get_or-set_same)
 
 pub trail_goes_on : {arcs : List FlowArc} {flows : List ℕ} {h : ℕ → ℕ} {closed : List ℕ} {time s v : ℕ}
     {path : List ArcNo} {a : ArcNo} → IsTrail arcs flows h closed time s v path

@@ -1,5 +1,5 @@
 -- The order in which units are shipped may be any.
-use Rattle.std.proofs.Common.{◌≡◌, ℕ, zero, suc, ◌+◌, ◌*◌, ◌<◌, Bool, true, false, List, [], ◌∷◌, ◌++◌}
+use Rattle.std.proofs.Common.{◌≡◌, ℕ, zero, suc, ◌+◌, ◌<◌, Bool, true, false, List, [], ◌∷◌, ◌++◌}
 use Rattle.std.proofs.Common.{length, get_or, set, take, drop, map, replicate, refl, sym, ap, ◌∙◌, subst, inl}
 use Rattle.std.proofs.Common.{inr, arith, get_or-set_same, get_or-set_other, Contains}
 use Rattle.std.specs.Prelude.{nat_eq}
@@ -82,24 +82,7 @@ pub order_shipped : {arcs : List FlowArc} {xs ys : List ℕ} {sink : ℕ} {flows
     → IsPermutation xs ys → HasShipped arcs ys sink (length ys) flows h
     → HasShipped arcs xs sink (length xs) flows h
 order_shipped {xs = xs} {ys = ys} {sink = sink} p t =
-    let size = length_permutation xs ys p in
-    record {
-      sizes = t.sizes;
-      reduced = t.reduced;
-      at_sink = t.at_sink;
-      depth = λ v. (let old = t.depth v in omega arith);
-      few = λ j. (let old = t.few j in omega arith);
-      untouched = λ k c l. absurd (omega arith);
-      unused = λ k j c l m f. absurd (omega arith);
-      balance = λ w.
-          (let old = t.balance w in
-          let all = ap (times_in w) (take-length xs) in
-          let all_ys = ap (times_in w) (take-length ys) in
-          let same = times_in-permutation w xs ys p in
-          let units : length ys * unit_at sink w ≡ length xs * unit_at sink w =
-          ap (λ n. n * unit_at sink w) size in
-          omega arith);
-    }
+    grind (arith, length_permutation, take-length, times_in-permutation)
 
 -- the order in which units are shipped may be any
 pub order_law : (nodes : ℕ) (arcs : List FlowArc) (sources order : List ℕ) (sink : ℕ) (flows : List ℕ)
@@ -135,10 +118,7 @@ unset (suc n) zero = refl
 unset (suc n) (suc v) = unset n v
 
 pub marks_none : (n : ℕ) → AreMarked [] (replicate n false)
-marks_none n v = (
-  (λ t. absurd (false≢true (sym (unset n v) ∙ t))),
-  (λ c. absurd (let l = c.1 in omega arith)),
-)
+marks_none n v = grind (arith, false≢true, unset)
 
 pub marks_more : (xs : List ℕ) (marks : List Bool) (s : ℕ) → s < length marks → AreMarked xs marks
     → AreMarked (xs ++ s ∷ []) (set marks s true)
@@ -175,6 +155,4 @@ module _ {nodes : ℕ} {arcs : List FlowArc} {sources : List ℕ} {sink : ℕ} (
 pub sources_in : {nodes : ℕ} {arcs : List FlowArc} {sources : List ℕ} {sink : ℕ} →
     CanShip nodes arcs sources sink
     → (k : ℕ) → k < length sources → get_or sources k 0 < nodes
-sources_in can k l =
-    let w = can.paths k l in let inside = (can.arcs_in w.out w.out_in).from_in in let e = w.leaves in
-    omega arith
+sources_in can k l = grind arith

@@ -26,44 +26,24 @@ use Rattle.augmenting_paths.specs.Shipping.{times_in, CanShip, HasShipped, IsLif
 use Rattle.augmenting_paths.specs.Shipping.{IsShipment, IsCheapest}
 use Rattle.augmenting_paths.specs.NextUnit.{HasFoundNext}
 use Rattle.augmenting_paths.specs.TightPath.{IsTightPath}
-use Rattle.augmenting_paths.proofs.TightPath.{distinct_once, same_tight}
+use Rattle.augmenting_paths.proofs.TightPath.{distinct_once}
 
 -- a unit over an arc raises no other flow, and its own by at most one
 raise : (flows : List ℕ) (a : ArcNo) (j : ℕ) → get_or (shifted flows a) j 0 ≤ get_or flows j 0 + 1
-raise flows (Forward i) j = elim (cases_eq j i) [
-  | inr n ↦ rw (get_or-set_other flows i j (get_or flows i 0 + 1) 0 n) (omega arith)
-  | inl e ↦ rw e (elim (cases_lt i (length flows)) [
-    | inl l ↦ rw (get_or-set_same flows i (get_or flows i 0 + 1) 0 l) (omega arith)
-    | inr l ↦ rw (set_past flows i (get_or flows i 0 + 1) l) (omega arith)
-  ])
-]
-raise flows (Reverse i) j = elim (cases_eq j i) [
-  | inr n ↦ rw (get_or-set_other flows i j (get_or flows i 0 - 1) 0 n) (omega arith)
-  | inl e ↦ rw e (elim (cases_lt i (length flows)) [
-    | inl l ↦ rw (get_or-set_same flows i (get_or flows i 0 - 1) 0 l) (omega arith)
-    | inr l ↦ rw (set_past flows i (get_or flows i 0 - 1) l) (omega arith)
-  ])
-]
+raise flows (Forward i) j = grind (arith, cases_eq, get_or-set_other, cases_lt, get_or-set_same, set_past)
+raise flows (Reverse i) j = grind (arith, cases_eq, get_or-set_other, cases_lt, get_or-set_same, set_past)
 
 no_raise : (flows : List ℕ) (a : ArcNo) (j : ℕ) → (Forward j ≡ a → ⊥) →
     get_or (shifted flows a) j 0 ≤ get_or flows j 0
 no_raise flows (Forward i) j n =
     rw (get_or-set_other flows i j (get_or flows i 0 + 1) 0 (λ e. n (ap Forward e))) (omega arith)
-no_raise flows (Reverse i) j n = elim (cases_eq j i) [
-  | inr d ↦ rw (get_or-set_other flows i j (get_or flows i 0 - 1) 0 d) (omega arith)
-  | inl e ↦ rw e (elim (cases_lt i (length flows)) [
-    | inl l ↦ rw (get_or-set_same flows i (get_or flows i 0 - 1) 0 l) (omega arith)
-    | inr l ↦ rw (set_past flows i (get_or flows i 0 - 1) l) (omega arith)
-  ])
-]
+no_raise flows (Reverse i) j n =
+    grind (arith, cases_eq, get_or-set_other, cases_lt, get_or-set_same, set_past)
 
 pub not_raised : (path : List ArcNo) (flows : List ℕ) (j : ℕ) → Lacks (Forward j) path →
     get_or (pushed path flows) j 0 ≤ get_or flows j 0
 not_raised [] flows j n = omega arith
-not_raised (a ∷ path) flows j n =
-    let rest = not_raised path (shifted flows a) j n.1 in
-    let first = no_raise flows a j n.0 in
-    omega arith
+not_raised (a ∷ path) flows j n = grind (arith, not_raised path (shifted flows a) j n.1, no_raise)
 
 same_arc : (a : ArcNo) (j : ℕ) → (Forward j ≡ a) ⊎ (Forward j ≡ a → ⊥)
 same_arc (Forward i) j = elim (cases_eq j i) [ inl e ↦ inl (ap Forward e) | inr n ↦ inr (λ q. n (cc)) ]
@@ -72,12 +52,8 @@ same_arc (Reverse i) j = inr (λ q. cc)
 pub raised_once : (path : List ArcNo) (flows : List ℕ) (j : ℕ) → IsDistinct path →
     get_or (pushed path flows) j 0 ≤ get_or flows j 0 + 1
 raised_once [] flows j d = omega arith
-raised_once (a ∷ path) flows j d = elim (same_arc a j) [
-  | inl e ↦ (let here : Lacks (Forward j) path = subst (λ b. Lacks b path) (sym e) d.0 in
-      let rest = not_raised path (shifted flows a) j here in let first = raise flows a j in omega arith)
-  | inr n ↦ (let rest = raised_once path (shifted flows a) j d.1 in let first = no_raise flows a j n in
-      omega arith)
-]
+raised_once (a ∷ path) flows j d =
+    grind (arith, raised_once path (shifted flows a) j d.1, same_arc, not_raised, raise, no_raise)
 
 pub length-pushed : (path : List ArcNo) (flows : List ℕ) → length (pushed path flows) ≡ length flows
 length-pushed [] flows = refl
@@ -107,21 +83,7 @@ same_found : (arcs : List FlowArc) (sources : List ℕ) (sink count : ℕ) (flow
     (h h' : ℕ → ℕ)
     → ((v : ℕ) → h' v ≡ h v)
     → HasFoundNext arcs sources sink count flows h path → HasFoundNext arcs sources sink count flows h' path
-same_found arcs sources sink count flows path h h' same t = record {
-  h = t.h;
-  state = t.state;
-  reduced = λ k l. (let a = same (arc_at arcs k).from in let b = same (arc_at arcs k).to in
-      let old = t.reduced k l in
-      ((λ room. (let o = old.0 room in omega arith)), (λ unit. (let o = old.1 unit in omega arith))));
-  at_sink = same sink ∙ t.at_sink;
-  depth = λ v. (let a = same v in let old = t.depth v in omega arith);
-  untouched = λ k c l. same (get_or sources k 0) ∙ t.untouched k c l;
-  way = record {
-    leads = t.way.leads;
-    once = t.way.once;
-    tight = same_tight arcs h h' same path t.way.tight;
-  };
-}
+same_found arcs sources sink count flows path h h' same t = grind arith
 
 path_ends : (arcs : List FlowArc) (flows : List ℕ) (a : ArcNo) (path : List ArcNo) (u v : ℕ) →
     IsPath arcs flows (a ∷ path) u v → path_end arcs (a ∷ path) ≡ v
@@ -382,20 +344,8 @@ outflow_zero (a ∷ arcs) (f ∷ flows) w z = let rest = outflow_zero arcs flows
 pub begin_state : (arcs : List FlowArc) {sources : List ℕ} {sink : ℕ} (flows : List ℕ) (h : ℕ → ℕ) →
     length flows ≡ length arcs
     → ((k : ℕ) → get_or flows k 0 ≡ 0) → ((v : ℕ) → h v ≡ 0) → HasShipped arcs sources sink 0 flows h
-begin_state arcs {sources = sources} {sink = sink} flows h size none zero_depth = record {
-  sizes = size;
-  reduced = λ k l. (
-    (λ room. (let a = zero_depth (arc_at arcs k).from in omega arith)),
-    (λ unit. absurd (let n = none k in omega arith)),
-  );
-  at_sink = zero_depth sink;
-  depth = λ v. (let z = zero_depth v in omega arith);
-  few = λ j. (let z = none j in omega arith);
-  untouched = λ k c l. zero_depth (get_or sources k 0);
-  unused = λ k j c l m f. none j;
-  balance = λ w. (let i = inflow_zero arcs flows w none in let o = outflow_zero arcs flows w none in
-      omega arith);
-}
+begin_state arcs {sources = sources} {sink = sink} flows h size none zero_depth =
+    grind (arith, inflow_zero, outflow_zero)
 
 pub zeros : (n v : ℕ) → get_or (replicate {A = ℕ} n 0) v 0 ≡ 0
 zeros zero v = let z : 0 ≡ 0 = refl in z
@@ -423,15 +373,7 @@ length-indices f (x ∷ xs) = ap suc (length-indices f xs)
 pub shipment : (nodes : ℕ) (arcs : List FlowArc) (sources : List ℕ) (sink count : ℕ) (flows : List ℕ) (h : ℕ
     → ℕ) → count ≡ length sources → WithinCapacities arcs flows
     → HasShipped arcs sources sink count flows h → IsShipment arcs sources sink flows
-shipment nodes arcs sources sink count flows h e within t = record {
-  sizes = t.sizes;
-  within = within;
-  balance = λ w. (let old = t.balance w in
-      let all : take count sources ≡ sources = ap (λ n. take n sources) e ∙ take-length sources in
-      let same : times_in w (take count sources) ≡ times_in w sources = ap (times_in w) all in
-      let units : count * unit_at sink w ≡ length sources * unit_at sink w = ap (λ n. n * unit_at sink w) e in
-      omega arith);
-}
+shipment nodes arcs sources sink count flows h e within t = grind (arith, take-length)
 
 pub cheapest : (nodes : ℕ) (arcs : List FlowArc) (sources : List ℕ) (sink count : ℕ) (flows : List ℕ) (h : ℕ
     → ℕ) → count ≡ length sources → AreArcs nodes arcs

@@ -28,11 +28,7 @@ can_ship_from nodes arcs sources sink are starts paths = record {
 
 pub starts_of : {nodes : ℕ} {arcs : List FlowArc} {sources : List ℕ} {sink : ℕ} →
     CanShip nodes arcs sources sink → AreSources arcs sources sink
-starts_of can = λ k l. record {
-  not_sink = can.not_sink k l;
-  no_entry = λ e. can.no_entry k e.0 l e.1 e.2;
-  first = λ j m e. (let same = can.distinct j k (omega arith) l e in absurd (omega arith));
-}
+starts_of can = grind arith
 
 -- one node more, and all of them
 pub members_more : {X : Type 0} (test : X → Bool) (xs : List X) (i : ℕ) (x : X) → i < length xs →

@@ -1,7 +1,7 @@
 -- A path is made arc by arc, as one goes down.
 use Rattle.std.proofs.Common.{◌≡◌, ℕ, ◌-◌, ◌<◌, cond, eqb, List, [], ◌∷◌, ◌++◌, length, get_or, Option}
 use Rattle.std.proofs.Common.{Some, None}
-use Rattle.std.proofs.lemmas.Bool.{cases_eq, eq-eqb, ne_eqb}
+use Rattle.std.proofs.lemmas.Bool.{eq-eqb, ne_eqb}
 use Rattle.std.proofs.Common.{map, refl, sym, ap, subst, inl, inr, ◌⊎◌, arith}
 use Rattle.flow_network.specs.declared.arcs.FlowArc.{FlowArc}
 use Rattle.flow_network.specs.declared.arcs.ArcNo.{ArcNo}
@@ -30,11 +30,7 @@ distinct_once (a ∷ path) once = (lacks_of a path once.0, distinct_once path on
 pub same_tight : (arcs : List FlowArc) (h h' : ℕ → ℕ) → ((v : ℕ) → h' v ≡ h v) → (path : List ArcNo)
     → AreTight arcs h path → AreTight arcs h' path
 same_tight arcs h h' same [] t = tt
-same_tight arcs h h' same (a ∷ path) t = (
-  (let from = same (arc_at arcs (arc_index a)).from in let to = same (arc_at arcs (arc_index a)).to in
-      let old = t.0 in omega arith),
-  same_tight arcs h h' same path t.1,
-)
+same_tight arcs h h' same (a ∷ path) t = grind (arith, same_tight arcs h h' same path t.1)
 
 -- one arc more
 pub GoesOver-push : (k : ℕ) (a : ArcNo) (path : List ArcNo) → GoesOver k (path ++ a ∷ [])
@@ -61,11 +57,8 @@ AreTight-push arcs h (b ∷ path) a t e = (t.0, AreTight-push arcs h path a t.1 
 pub tight_push : (arcs : List FlowArc) (flows : List ℕ) (h : ℕ → ℕ) (s v : ℕ) (path : List ArcNo) (a : ArcNo)
     → IsTightPath arcs flows h s v path → IsResidual arcs flows a → IsTight arcs h a → tail_of arcs a ≡ v
     → (GoesOver (arc_index a) path → ⊥) → IsTightPath arcs flows h s (head_of arcs a) (path ++ a ∷ [])
-tight_push arcs flows h s v path a way residual tight from n = record {
-  leads = IsPath-append arcs flows path (a ∷ []) s v _ way.leads (residual, from, refl);
-  once = GoesOnce-push a path n way.once;
-  tight = AreTight-push arcs h path a way.tight tight;
-}
+tight_push arcs flows h s v path a way residual tight from n =
+    grind (arith, IsPath-append, GoesOnce-push, AreTight-push)
 
 -- one arc less
 pub GoesOver-before : (k : ℕ) (a : ArcNo) (path : List ArcNo) → GoesOver k path → GoesOver k (path ++ a ∷ [])
@@ -99,11 +92,7 @@ last_residual arcs flows (b ∷ path) a u v p = last_residual arcs flows path a 
 
 pub tight_pop : (arcs : List FlowArc) (flows : List ℕ) (h : ℕ → ℕ) (s v : ℕ) (path : List ArcNo) (a : ArcNo)
     → IsTightPath arcs flows h s v (path ++ a ∷ []) → IsTightPath arcs flows h s (tail_of arcs a) path
-tight_pop arcs flows h s v path a way = record {
-  leads = IsPath-pop arcs flows path a s v way.leads;
-  once = GoesOnce-pop a path way.once;
-  tight = AreTight-pop arcs h path a way.tight;
-}
+tight_pop arcs flows h s v path a way = grind (arith, IsPath-pop, GoesOnce-pop, AreTight-pop)
 
 -- one arc further down
 module _ (arcs : List FlowArc) (flows : List ℕ) (h : ℕ → ℕ) (sink s v : ℕ) (path : List ArcNo) (k : ℕ)
@@ -125,9 +114,7 @@ module _ (arcs : List FlowArc) (flows : List ℕ) (h : ℕ → ℕ) (sink s v : 
 pub way_begins : {arcs : List FlowArc} {flows : List ℕ} {h : ℕ → ℕ} {sink k : ℕ}
     → LeadsDown arcs flows h sink k
     → GoesDown arcs flows h sink (arc_at arcs k).from (arc_at arcs k).to (Forward k ∷ [])
-way_begins {arcs} {flows} {h} {sink} {k} on =
-    goes_on arcs flows h sink (arc_at arcs k).from (arc_at arcs k).from [] k
-    (record { leads = refl; once = tt; tight = tt }) (λ j o. absurd o) on refl
+way_begins {arcs} {flows} {h} {sink} {k} on = grind arith
 
 pub way_goes_on : {arcs : List FlowArc} {flows : List ℕ} {h : ℕ → ℕ} {sink s v : ℕ} {path : List ArcNo}
     {k : ℕ} → GoesDown arcs flows h sink s v path → (v ≡ sink → ⊥) → LeadsDown arcs flows h sink k
@@ -163,7 +150,4 @@ pub comes_nearer : (arcs : List FlowArc) (nodes sink v k : ℕ) → v < nodes �
     → cond (eqb (arc_at arcs k).to sink) 0 (nodes - (arc_at arcs k).to) < cond (eqb v sink) 0 (nodes - v)
 comes_nearer arcs nodes sink v k inside further from (inl e) =
     rw (ne_eqb v sink further, eq-eqb (arc_at arcs k).to sink e) (omega arith)
-comes_nearer arcs nodes sink v k inside further from (inr l) = elim (cases_eq (arc_at arcs k).to sink) [
-  | inl e ↦ rw (ne_eqb v sink further, eq-eqb (arc_at arcs k).to sink e) (omega arith)
-  | inr n ↦ rw (ne_eqb v sink further, ne_eqb (arc_at arcs k).to sink n) (omega arith)
-]
+comes_nearer arcs nodes sink v k inside further from (inr l) = grind arith

@@ -1,17 +1,16 @@
 -- Each step keeps the rule of the board.
-use Rattle.std.proofs.Common.{◌≡◌, ◌≢◌, ℕ, zero, suc, ◌+◌, ◌*◌, ◌%◌, ◌^◌, ◌<◌, ◌≤◌, ◌==◌, Bool, true, false}
+use Rattle.std.proofs.Common.{◌≡◌, ◌≢◌, ℕ, ◌+◌, ◌*◌, ◌%◌, ◌^◌, ◌<◌, ◌≤◌, ◌==◌, Bool, true, false}
 use Rattle.std.proofs.Common.{cond, List, [], ◌∷◌, ◌++◌, length, length-append, set, slice_index, refl}
-use Rattle.std.proofs.Common.{sym, ap, ◌∙◌, subst, ⊎_elim, arith, get_or-set_same, get_or-set_other}
+use Rattle.std.proofs.Common.{sym, ap, ◌∙◌, subst, arith, get_or-set_same, get_or-set_other}
 use Rattle.std.proofs.Math.Nat.{mod-eq_of_lt}
 use Rattle.std.proofs.lemmas.Bool.Decides.{nat_tests}
+use Rattle.std.proofs.lemmas.Grind.{common_steps}
 use Rattle.std.proofs.lemmas.List.{append-nil, length-set, set-get_or}
 use Rattle.std.proofs.lemmas.List.Elements.{All-nil, All-cons, All-head, All-tail, All-append, All-map}
 use Rattle.std.proofs.lemmas.List.Elements.{All-weaker}
 use Rattle.std.proofs.lemmas.List.Sums.{sum_by-cons, sum_by-append, sum_by-le-sum_by}
 use Rattle.std.specs.List.{sum_by, All}
-use mathlib.Core.Option.{none, some, some-injective, some-ne-none}
-use mathlib.Core.Logic.{dite}
-use native.Mathlib.Decide.{ℕ_discrete}
+use mathlib.Core.Option.{none, some, some-injective}
 use lib.ListN.{get_elem?}
 use Rattle.atomic_table.specs.Table.{Me, step, keeps, Allows, Splits, Joins}
 use Rattle.atomic_table.proofs.Lists.{at_set, set_here, set_else, set_again}
@@ -38,23 +37,8 @@ up_to f words k = sum_by f (down_from (slice_index words k))
 abbrev pub AreRising : List ℕ → List ℕ → Type 0
 AreRising words words' = (k : ℕ) → slice_index words k ≤ slice_index words' k
 
-within_rises : (words words' : List ℕ) (xs : List Look) → AreRising words words' → AreWithin words xs
-    → AreWithin words' xs
-within_rises words words' xs rises h =
-    All-weaker (λ (x : Look). x.beats ≤ slice_index words x.worker)
-    (λ (x : Look). x.beats ≤ slice_index words' x.worker)
-    (λ x le. omega (arith, rises x.worker)) xs h
-
 fits_rises : (words words' : List ℕ) (v : View) → AreRising words words' → Fits words v → Fits words' v
-fits_rises words words' v rises h = record {
-  small = h.small;
-  told = All-weaker (λ (t : Tally). All (λ n. n ≤ slice_index words t.worker) t.told)
-      (λ (t : Tally). All (λ n. n ≤ slice_index words' t.worker) t.told)
-      (λ t le. All-weaker (λ n. n ≤ slice_index words t.worker) (λ n. n ≤ slice_index words' t.worker)
-      (λ n most. omega (arith, rises t.worker)) t.told le)
-      v.tallies h.told;
-  seen = within_rises words words' v.looks rises h.seen;
-}
+fits_rises words words' v rises h = grind arith
 
 -- one view changes, and maybe the words
 pub keep : (words words' : List ℕ) (views : List View) (id : ℕ) (v w : View) → AreCounted words views
@@ -73,19 +57,8 @@ keep words words' views id v w h at len rises same made sums told fits =
         h.sums k (omega arith),
         sums k (omega arith),
       );
-      told = λ k lt f.
-          omega (
-            arith,
-            sum_by-set (told_worth k f) views id v w at,
-            h.told k (omega arith) f,
-            told k (omega arith) f,
-          );
-      made = λ u e. ⊎_elim
-          (λ (x : (0 ≡ id) × (w ≡ u)).
-          let was : get_elem? views 0 ≡ some v = ap (λ i. get_elem? views i) x.0 ∙ at in
-          omega (arith, seats, same, made, h.made v was, ap (λ (y : View). y.made) x.1))
-          (λ (x : (0 ≢ id) × (get_elem? views 0 ≡ some u)). omega (arith, seats, same, h.made u x.1))
-          (at_set views id 0 w u e);
+      told = grind (arith, sum_by-set);
+      made = grind (arith, seats, at_set);
       limit = omega (arith, seats, same, h.limit);
       each = each_set (Fits words') views id w
           (λ j u _ e. fits_rises words words' u rises (h.each j u e)) fits;
@@ -120,14 +93,10 @@ told_else k w n told f ne = grind (arith, nat_tests)
 
 -- a seat without a beat adds nothing
 no_beats : (k w : ℕ) → beats_of k (tally w 0 [] ∷ []) ≡ 0
-no_beats k w = dite (ℕ_discrete k w)
-    (λ e. subst (λ x. beats_of k (tally x 0 [] ∷ []) ≡ 0) e (beats_here k 0 []))
-    (λ ne. beats_else k w 0 [] ne)
+no_beats k w = grind arith
 
 not_told : (k w : ℕ) (f : ℕ → ℕ) → told_of k f (tally w 0 [] ∷ []) ≡ 0
-not_told k w f = dite (ℕ_discrete k w)
-    (λ e. subst (λ x. told_of k f (tally x 0 [] ∷ []) ≡ 0) e (told_here k 0 [] f))
-    (λ ne. told_else k w 0 [] f ne)
+not_told k w f = grind arith
 
 -- a worker's beats are among all
 part : (b : Bool) (n : ℕ) → cond b n 0 ≤ n
@@ -135,9 +104,7 @@ part true n = omega arith
 part false n = omega arith
 
 beats_within : (k : ℕ) (ts : List Tally) → beats_of k ts ≤ sum_by (λ t. t.beats) ts
-beats_within k ts =
-    sum_by-le-sum_by (λ (t : Tally). cond (t.worker == k) t.beats 0) (λ (t : Tally). t.beats) ts
-    (λ t. part (t.worker == k) t.beats)
+beats_within k ts = grind (arith, sum_by-le-sum_by, part)
 
 small_sum : (ts : List Tally) → All (λ t. t.beats ≤ 2 ^ 40) ts → sum_by (λ t. t.beats) ts ≤ length ts * 2 ^ 40
 small_sum [] h = omega arith
@@ -163,10 +130,7 @@ bounded words views k h lt =
 at_word : (words : List ℕ) (i n k : ℕ) → i < length words
     → (k ≡ i → slice_index (set words i n) k ≡ n)
     × (k ≢ i → slice_index (set words i n) k ≡ slice_index words k)
-at_word words i n k lt = (
-  (λ e. subst (λ x. slice_index (set words i n) x ≡ n) (sym e) (get_or-set_same words i n 0 lt)),
-  (λ ne. get_or-set_other words i k n 0 ne),
-)
+at_word words i n k lt = grind (arith, get_or-set_same, get_or-set_other)
 
 both_are : (m : Me ℕ View) (v : View) → m.0 ≡ v → m.1 ≡ [] → (v, []) ≡ m
 both_are m v e f = λ k. (sym e k, sym f k)
@@ -174,51 +138,19 @@ both_are m v e f = λ k. (sym e k, sym f k)
 -- one word is raised by one
 rises_by_one : (words : List ℕ) (i : ℕ) → i < length words
     → AreRising words (set words i (slice_index words i + 1))
-rises_by_one words i here k =
-    let n = slice_index words i + 1 in
-    dite (ℕ_discrete k i)
-    (λ e. omega (arith, (at_word words i n k here).0 e, ap (λ j. slice_index words j) e))
-    (λ ne. omega (arith, (at_word words i n k here).1 ne))
+rises_by_one words i here k = grind (arith, at_word)
 
 -- the seat's count and the word rise together
 sums_rise : (words : List ℕ) (i n m : ℕ) (old new : List ℕ) → i < length words → m ≡ slice_index words i + 1
     → (k : ℕ) → slice_index (set words i m) k + worth k (seated i n old)
     ≡ slice_index words k + worth k (seated i (n + 1) new)
-sums_rise words i n m old new here is k = dite (ℕ_discrete k i)
-    (λ e.
-    let t = (at_word words i m i here).0 refl in
-    subst (λ j. slice_index (set words i m) j + worth j (seated i n old)
-    ≡ slice_index words j + worth j (seated i (n + 1) new))
-    (sym e) (omega (arith, t, is, beats_here i n old, beats_here i (n + 1) new)))
-    (λ ne. omega (
-      arith,
-      (at_word words i m k here).1 ne,
-      beats_else k i n old ne,
-      beats_else k i (n + 1) new ne,
-    ))
+sums_rise words i n m old new here is k = grind (arith, at_word, beats_here, beats_else)
 
 -- and the seat is told the number that comes to those up to the word
 told_rises : (words : List ℕ) (i n m : ℕ) (old : List ℕ) → i < length words → m ≡ slice_index words i + 1
     → (k : ℕ) (f : ℕ → ℕ) → up_to f (set words i m) k + told_worth k f (seated i n old)
     ≡ up_to f words k + told_worth k f (seated i (n + 1) (m ∷ old))
-told_rises words i n m old here is k f = dite (ℕ_discrete k i)
-    (λ e.
-    let t : up_to f (set words i m) i ≡ f m + up_to f words i =
-    ap (λ x. sum_by f (down_from x)) ((at_word words i m i here).0 refl) ∙ last (slice_index words i) m is in
-    subst
-    (λ j. up_to f (set words i m) j + told_worth j f (seated i n old)
-    ≡ up_to f words j + told_worth j f (seated i (n + 1) (m ∷ old)))
-    (sym e)
-    (omega (arith, t, told_here i n old f, told_here i (n + 1) (m ∷ old) f, sum_by-cons f m old)))
-    (λ ne.
-    let t = ap (λ x. sum_by f (down_from x)) ((at_word words i m k here).1 ne) in
-    omega (arith, t, told_else k i n old f ne, told_else k i (n + 1) (m ∷ old) f ne))
-  where
-    last : (x y : ℕ) → y ≡ x + 1 → sum_by f (down_from y) ≡ f y + sum_by f (down_from x)
-    last x y e =
-        let s : y ≡ suc x = omega (arith, e) in
-        subst (λ z. sum_by f (down_from z) ≡ f z + sum_by f (down_from x)) (sym s)
-        (sum_by-cons f (suc x) (down_from x))
+told_rises words i n m old here is k f = grind (arith, at_word, told_here, sum_by-cons, told_else)
 
 beats : (id i n slots : ℕ) (told : List ℕ) → i < 256 → n < 2 ^ 40
     → Allows Rule slots id (seated i n told, []) i (λ k. (k + 1) % 2 ^ 64)
@@ -274,9 +206,7 @@ stays : (words : List ℕ) (views : List View) (id i : ℕ) (v w : View) → Are
     → get_elem? views id ≡ some v
     → w.tallies ≡ v.tallies → w.made ≡ v.made → AreWithin words w.looks
     → AreCounted (set words i (slice_index words i)) (set views id w)
-stays words views id i v w h at tallies made seen =
-    subst (λ ws. AreCounted ws (set views id w)) (sym (set-get_or words i 0))
-    (learns words views id v w h at tallies made seen)
+stays words views id i v w h at tallies made seen = search (arith, set-get_or, learns)
 
 looks : (id i slots : ℕ) (xs : List Look)
     → Allows Rule slots id (reading xs, []) i (λ n. n) (Looks (step slots i 0 0 none) (reading xs, []))
@@ -425,9 +355,7 @@ told_seen words v h = of v.tallies h.told
     of : (ts : List Tally) → All (λ t. All (λ n. n ≤ slice_index words t.worker) t.told) ts
         → AreWithin words (shown ts)
     of [] all = none_seen words
-    of (t ∷ ts) all =
-        All-map (λ (x : Look). x.beats ≤ slice_index words x.worker) (λ n. look t.worker n) t.told
-        (All-head (λ (x : Tally). All (λ n. n ≤ slice_index words x.worker) x.told) t ts all)
+    of (t ∷ ts) all = search (arith, All-map, All-head)
 
 -- a view takes in what a reader knows
 pub hears : (id : ℕ) (v : View) (other : ℕ) (xs : List Look)
@@ -468,24 +396,9 @@ joins other next made w n told ts s h at apart there =
     let longer : seats_in both ≡ seats_in v + 1 = length-append ts one in
     record {
       width = h.width;
-      sums = λ k lt.
-          let taken = sum_by-set (worth k) s.views 0 v both at in
-          let given = sum_by-set (worth k) views' other u spent there in
-          omega (
-            arith,
-            h.sums k lt,
-            taken,
-            given,
-            sum_by-append (λ (t : Tally). cond (t.worker == k) t.beats 0) ts one,
-          );
-      told = λ k lt f.
-          let taken = sum_by-set (told_worth k f) s.views 0 v both at in
-          let given = sum_by-set (told_worth k f) views' other u spent there in
-          let more = sum_by-append (λ (t : Tally). cond (t.worker == k) (sum_by f t.told) 0) ts one in
-          omega (arith, h.told k lt f, taken, given, more);
-      made = λ x e.
-          let same = some-injective both x (sym first ∙ e) in
-          omega (arith, h.made v at, seats1, seats2, longer, ap (λ (y : View). y.made) same);
+      sums = grind (arith, sum_by-set, sum_by-append);
+      told = grind (arith, sum_by-set, sum_by-append);
+      made = grind arith;
       limit = omega (arith, h.limit, seats1, seats2, longer);
       each = each_set (Fits words) views' other spent
           (λ j x _ e. each_set (Fits words) s.views 0 both (λ i y _ a. h.each i y a)
@@ -511,18 +424,10 @@ joins_as id v other u next made w n told ts z e f =
     (λ k. (sym z k, sym e k, sym f k)) (joins other next made w n told ts)
 
 no_worth : (k : ℕ) (v : View) → seats_in v ≡ 0 → worth k v ≡ 0
-no_worth k v e = none_of v.tallies e
-  where
-    none_of : (ts : List Tally) → length ts ≡ 0 → beats_of k ts ≡ 0
-    none_of [] e = refl
-    none_of (t ∷ ts) e = absurd (omega arith)
+no_worth k v e = grind (arith, common_steps)
 
 no_told : (k : ℕ) (f : ℕ → ℕ) (v : View) → seats_in v ≡ 0 → told_worth k f v ≡ 0
-no_told k f v e = none_of v.tallies e
-  where
-    none_of : (ts : List Tally) → length ts ≡ 0 → told_of k f ts ≡ 0
-    none_of [] e = refl
-    none_of (t ∷ ts) e = absurd (omega arith)
+no_told k f v e = grind (arith, common_steps)
 
 -- The maker never has more than was made. Where it has all, each word is the sum of what it has, and what
 -- that was told are the numbers up to the word; and what it saw is within the words
@@ -535,39 +440,11 @@ pub record Gathered (words : List ℕ) (ts : List Tally) (xs : List Look) (made 
 pub gathered : (words : List ℕ) (views : List View) (ts : List Tally) (xs : List Look) (next made : ℕ)
     → AreCounted words views
     → get_elem? views 0 ≡ some (making ts xs next made) → Gathered words ts xs made
-gathered words views ts xs next made h at =
-    let v = making ts xs next made in
-    let has = term_within seats_in views 0 v at in record {
-      few = omega (arith, h.made v at, has);
-      sums = λ le k lt.
-          let all : sum_by seats_in views ≡ length ts = omega (arith, h.made v at, has) in
-          h.sums k (omega (arith, h.width))
-          ∙ sum_alone (worth k) seats_in views (λ i u _ e. no_worth k u e) 0 v at all;
-      told = λ le k lt f.
-          let all : sum_by seats_in views ≡ length ts = omega (arith, h.made v at, has) in
-          sym (sum_alone (told_worth k f) seats_in views (λ i u _ e. no_told k f u e) 0 v at all)
-          ∙ h.told k (omega (arith, h.width)) f;
-      seen = (h.each 0 v at).seen;
-    }
+gathered words views ts xs next made h at = grind (arith, term_within, sum_alone, no_worth, no_told)
 
 pub begins : (ws : List ℕ) → length ws ≡ 256 → ((k : ℕ) → k < 256 → slice_index ws k ≡ 0)
     → AreCounted ws (making [] [] 0 0 ∷ [])
-begins ws len zeros = record {
-  width = len;
-  sums = λ k lt. zeros k (omega arith);
-  told = λ k lt f. ap (λ n. sum_by f (down_from n)) (sym (zeros k (omega arith)));
-  made = λ v e. let same = some-injective (making [] [] 0 0) v e in ap (λ (y : View). y.made) same;
-  limit = omega arith;
-  each = one;
-}
-  where
-    one : (id : ℕ) (v : View) → get_elem? (making [] [] 0 0 ∷ []) id ≡ some v → Fits ws v
-    one zero v e = subst (Fits ws) (some-injective (making [] [] 0 0) v e) record {
-      small = no_tallies (λ t. t.beats ≤ 2 ^ 40);
-      told = no_tallies (λ t. All (λ k. k ≤ slice_index ws t.worker) t.told);
-      seen = none_seen ws;
-    }
-    one (suc id) v e = absurd (some-ne-none v (sym e))
+begins ws len zeros = grind arith
 
 -- what the one seat of a view was told
 pub told_head : (n : ℕ) (v : View) (w m : ℕ) (told : List ℕ) → v ≡ seated w m told

@@ -1,6 +1,6 @@
 -- A table of the loads of all workers, split after split.
 use Rattle.std.proofs.Common.{◌≡◌, ℕ, ◌+◌, ◌<◌, ◌≤◌, true, false, List, length, take, get_or, set, cond, Bool}
-use Rattle.std.proofs.Common.{Option, Some, inl, inr, sym, ap, subst, arith, get_or-set_same}
+use Rattle.std.proofs.Common.{Option, Some, arith, get_or-set_same}
 use Rattle.std.proofs.Common.{get_or-set_other}
 use Rattle.std.specs.Prelude.{◌==◌}
 use Rattle.std.proofs.lemmas.Bool.{cases_eq, eq-eqb, ne_eqb}
@@ -10,22 +10,7 @@ use Rattle.wave_problem.proofs.Pairs.{load_at}
 -- one more at a place
 one_more : (loads : List ℕ) (v w : ℕ) → v < length loads →
     get_or (set loads v (get_or loads v 0 + 1)) w 0 ≡ get_or loads w 0 + cond (v == w) 1 0
-one_more loads v w inside = elim (cases_eq v w) [
-  | inl e ↦
-      let counted : ℕ = cond (v == w) 1 0 in
-      let one : counted ≡ 1 = ap (λ (b : Bool). cond b 1 0) (eq-eqb v w e) in
-      let here : get_or (set loads v (get_or loads v 0 + 1)) v 0 ≡ get_or loads v 0 + 1 =
-      get_or-set_same loads v (get_or loads v 0 + 1) 0 inside in
-      let there : get_or (set loads v (get_or loads v 0 + 1)) w 0 ≡ get_or loads w 0 + 1 =
-      subst (λ (z : ℕ). get_or (set loads v (get_or loads v 0 + 1)) z 0 ≡ get_or loads z 0 + 1) e here in
-      omega (arith, one, there)
-  | inr other ↦
-      let counted : ℕ = cond (v == w) 1 0 in
-      let none : counted ≡ 0 = ap (λ (b : Bool). cond b 1 0) (ne_eqb v w other) in
-      let there : get_or (set loads v (get_or loads v 0 + 1)) w 0 ≡ get_or loads w 0 =
-      get_or-set_other loads v w (get_or loads v 0 + 1) 0 (λ e. other (sym e)) in
-      omega (arith, none, there)
-]
+one_more loads v w inside = grind (arith, cases_eq, eq-eqb, get_or-set_same, ne_eqb, get_or-set_other)
 
 count-le : (b : Bool) → cond b 1 0 ≤ 1
 count-le true = omega arith
@@ -41,9 +26,4 @@ pub loads_more : (starts : List (Option ℕ)) (loads : List ℕ) (i v place w : 
     place ≡ v → place < length loads → get_or loads w 0 ≡ load (pairs_of (take i starts)) w →
     get_or (set loads place (get_or loads place 0 + 1)) w 0 ≡ load (pairs_of (take (i + 1) starts)) w
 loads_more starts loads i v place w o within here started same inside counted =
-    let more = load_at starts i v w o within here started in
-    let one = one_more loads place w inside in
-    let at_place : ℕ = cond (place == w) 1 0 in
-    let at_worker : ℕ = cond (v == w) 1 0 in
-    let tie : at_place ≡ at_worker = ap (λ (z : ℕ). cond (z == w) 1 0) same in
-    omega (arith, more, one, tie, counted)
+    grind (arith, load_at, one_more)

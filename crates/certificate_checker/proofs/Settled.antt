@@ -6,7 +6,6 @@ use Rattle.std.specs.List.{list_any}
 use Rattle.std.specs.Option.{option_map}
 use Rattle.std.proofs.lemmas.Bool.{cases_Bool, eqb-true, false≢true, or_cases}
 use Rattle.std.proofs.lemmas.List.Elements.{All-head, All-tail}
-use Rattle.rack_tree.specs.Tree.{centre_at}
 use Rattle.wave_problem.specs.Wave.{Wave, cost, live_holders, split_at, worker_at, IsUsable}
 use Rattle.wave_problem.proofs.Bound.{live_known}
 use Rattle.wave_problem.proofs.Gathered.{least_near, steps_to}
@@ -64,11 +63,6 @@ settled claim floors s low far near w admissible =
                 let rack = ap (slice_index floors.racks)
                 (eqb-true (slice_index wave.tree.rack_of f.0) (slice_index wave.tree.rack_of w) f.3) in
                 omega (arith, n.0, rack, low.racks w known usable, paid 2 (rw (apart, two) refl))
-            | inr off ↦ elim
-                (cases_Bool (list_any (λ h. centre_at wave.tree h == centre_at wave.tree w) live)) [
-                  | inl near_by ↦
-                      omega (arith, far, low.all w known usable, paid 4 (rw (apart, off, near_by) refl))
-                  | inr away ↦ omega (arith, far, low.all w known usable, paid 6 (rw (apart, off, away) refl))
-                ]
+            | inr off ↦ grind arith
           ]
     ]

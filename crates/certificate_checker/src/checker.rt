@@ -41,7 +41,6 @@ pub(crate) struct Checker<'a> {
 impl<'a> Model for Checker<'a> {
     ghost Value = { Claim };
 
-
     ghost view = { claim_of };
 
     ghost invariant = { IsSound };

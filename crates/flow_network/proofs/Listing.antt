@@ -73,5 +73,13 @@ pub flow_with_arc : (nodes : ℕ) (arcs : List FlowArc) (flows : List ℕ) (leav
     (a : FlowArc) → IsFlow nodes arcs flows leaving → IsArc nodes a → length arcs < 1048576
     → IsFlow nodes (arcs ++ a ∷ []) (flows ++ 0 ∷ []) (with_arc leaving a.from a.to (length arcs))
 flow_with_arc nodes arcs flows leaving a f one room =
-    grind (arith, common_steps, length-append, arcs_push, within_push, length-with_arc, with_arc-at,
-      leaving_from-push)
+    grind (
+      arith,
+      common_steps,
+      length-append,
+      arcs_push,
+      within_push,
+      length-with_arc,
+      with_arc-at,
+      leaving_from-push,
+    )

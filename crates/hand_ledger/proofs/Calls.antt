@@ -1,13 +1,13 @@
 -- The calls that lists of entries, counts and starts stand for.
 use Rattle.std.proofs.Common.{◌≡◌, ℕ, zero, suc, ◌+◌, ◌-◌, ◌≤◌, List, [], ◌∷◌, ◌++◌, length, take, drop}
-use Rattle.std.proofs.Common.{get_or, Option, ◌<◌, ◌&&◌, nat_lt, nat_le, Bool, true, false, Some}
+use Rattle.std.proofs.Common.{get_or, ◌<◌, ◌&&◌, nat_lt, nat_le, Bool, true, false, Some}
 use Rattle.std.proofs.Common.{refl, sym, ap, subst, ◌∙◌, arith, sum_by}
 use Rattle.std.specs.Prelude.{slice_get}
-use Rattle.std.specs.Option.{option_map_or}
 use Rattle.std.proofs.lemmas.List.{drop-drop, take-append-le, drop-append-le, take_all, drop_at, length-drop}
 use Rattle.std.proofs.lemmas.List.{length-take-le, length-append, append_assoc, take_more}
 use Rattle.std.proofs.lemmas.List.Elements.{All-push}
 use Rattle.std.proofs.lemmas.Bool.Decides.{nat_tests}
+use Rattle.std.proofs.lemmas.Grind.{common_steps}
 use Rattle.std.proofs.lemmas.List.Sums.{sum_by-cons, sum_by_push, sum_by_more}
 use Rattle.master_state.specs.declared.events.Event.{Event}
 use Rattle.master_state.specs.declared.states.Limits.{Limits}
@@ -41,10 +41,12 @@ pub calls_more : (es : List Entry) (e : Entry) (cs : List (List ℕ)) (ss : List
     ≡ calls_of es cs ss ++ call_of e (drop (counts_taken es) cs) (drop (starts_taken es) ss) ∷ []
 calls_more [] e cs ss = refl
 calls_more (x ∷ es) e cs ss =
-    ap (λ calls. call_of x cs ss ∷ calls)
-    (calls_more es e (drop (counts_in x.event) cs) (drop (starts_in x.event) ss)
-    ∙ (λ k. calls_of es (drop (counts_in x.event) cs) (drop (starts_in x.event) ss)
-    ++ call_of e (taken_on counts_of x es cs k) (taken_on starts_of x es ss k) ∷ []))
+    grind (
+      arith,
+      calls_more es e (drop (counts_in x.event) cs) (drop (starts_in x.event) ss),
+      common_steps,
+      taken_on,
+    )
 
 -- the first one's part of what all take, and that of the others
 taken_parts : {X : Type 0} (f : Entry → ℕ) (x : Entry) (es : List Entry) (xs : List X) →
@@ -62,10 +64,12 @@ calls_same (x ∷ es) cs more ss others c s =
     let m = starts_in x.event in
     let few = taken_parts counts_of x es cs c in
     let short = taken_parts starts_of x es ss s in
-    (λ k. kept x.place x.event (take-append-le n cs more few.0 k) (take-append-le m ss others short.0 k)
-    ∷ calls_of es (drop-append-le n cs more few.0 k) (drop-append-le m ss others short.0 k))
-    ∙ ap (λ calls. call_of x cs ss ∷ calls)
-    (calls_same es (drop n cs) more (drop m ss) others few.1 short.1)
+    grind (
+      arith,
+      calls_same es (drop n cs) more (drop m ss) others few.1 short.1,
+      take-append-le,
+      drop-append-le,
+    )
 
 -- what comes after the first elements, and all of it
 taken_back : {X : Type 0} (n : ℕ) (first back : List X) (k : ℕ) → k ≡ length first → length back ≡ n →
@@ -79,13 +83,7 @@ pub calls_kept : (es : List Entry) (e : Entry) (cs more : List (List ℕ)) (ss o
     length more ≡ counts_in e.event → length others ≡ starts_in e.event →
     calls_of (es ++ e ∷ []) (cs ++ more) (ss ++ others)
     ≡ calls_of es cs ss ++ kept e.place e.event more others ∷ []
-calls_kept es e cs more ss others c s m o =
-    calls_more es e (cs ++ more) (ss ++ others)
-    ∙ (λ k. calls_same es cs more ss others (omega arith) (omega arith) k
-    ++ kept e.place e.event
-    (taken_back (counts_in e.event) cs more (counts_taken es) c m k)
-    (taken_back (starts_in e.event) ss others (starts_taken es) s o k)
-    ∷ [])
+calls_kept es e cs more ss others c s m o = grind (arith, calls_more, calls_same, taken_back)
 
 pub length-calls : (es : List Entry) (cs : List (List ℕ)) (ss : List Start) →
     length (calls_of es cs ss) ≡ length es
@@ -131,10 +129,7 @@ by_last : (P : List Kept → Type 0) (es : List Entry) (n : ℕ) (e : Entry) (cs
     ((call next : Kept) (calls : List Kept) → P (next ∷ calls) → P (call ∷ next ∷ calls)) →
     P (calls_of es cs ss)
 by_last P [] n e cs ss len at alone more = absurd cc
-by_last P (x ∷ []) zero e cs ss len at alone more =
-    let same : e ≡ x = cc in
-    subst (λ (z : Entry). P (call_of z cs ss ∷ [])) same
-    (alone (take (counts_in e.event) cs) (take (starts_in e.event) ss))
+by_last P (x ∷ []) zero e cs ss len at alone more = grind arith
 by_last P (x ∷ []) (suc n) e cs ss len at alone more = absurd (omega arith)
 by_last P (x ∷ y ∷ es) zero e cs ss len at alone more = absurd (omega arith)
 by_last P (x ∷ y ∷ es) (suc n) e cs ss len at alone more =
@@ -164,11 +159,7 @@ pub calls_step : (before : List Kept) (es : List Entry) (i : ℕ) (e : Entry) (c
     (before ++ calls_of (take i es) cs ss)
     ++ call_of e (drop (counts_taken (take i es)) cs) (drop (starts_taken (take i es)) ss) ∷ []
     ≡ before ++ calls_of (take (i + 1) es) cs ss
-calls_step before es i e cs ss lt is =
-    append_assoc before (calls_of (take i es) cs ss) _
-    ∙ ap (λ l. before ++ l) (sym (ap (λ l. calls_of l cs ss)
-    (take_more es i e lt ∙ ap (λ (x : Entry). take i es ++ x ∷ []) (sym is))
-    ∙ calls_more (take i es) e cs ss))
+calls_step before es i e cs ss lt is = grind (arith, common_steps, append_assoc, take_more, calls_more)
 
 -- a hand by its parts
 abbrev pub hand_from : List Kept → Limits → Bool → Bool → HandValue
@@ -182,10 +173,7 @@ pub room_is : {es : List Entry} {cs : List (List ℕ)} {ss : List Start} {room :
     && nat_le (length ss + s) room.attempts)
     ≡ has_room hand c s
 room_is {es = es} {cs = cs} {ss = ss} {room = room} c s view lists =
-    let taken = taken-calls es cs ss lists.counts_are lists.starts_are in
-    (λ k. nat_lt (sym (length-calls es cs ss) k) room.events && nat_le (sym taken.0 k + c) room.sweeps
-    && nat_le (sym taken.1 k + s) room.attempts)
-    ∙ ap (λ (v : HandValue). has_room v c s) view
+    grind (arith, taken-calls, nat_lt, length-calls, nat_le)
 
 pub three_true : (a b c d e f : ℕ) → (nat_lt a b && nat_le c d && nat_le e f) ≡ true →
     (a < b) × (c ≤ d) × (e ≤ f)
@@ -215,21 +203,13 @@ pub kept_more : {es : List Entry} {cs : List (List ℕ)} {ss : List Start} {room
     (length es < room.events) × (length cs + counts_in e.event ≤ room.sweeps)
     × (length ss + starts_in e.event ≤ room.attempts) →
     AreKept es cs ss room → AreKept (es ++ e ∷ []) (cs ++ more) (ss ++ others) room
-kept_more {es = es} {cs = cs} {ss = ss} e more others m o place fits old = record {
-  places = All-push (λ (x : Entry). IsPlace x.place) es e old.places place;
-  counts_are = taken_more counts_of es e cs more old.counts_are m;
-  starts_are = taken_more starts_of es e ss others old.starts_are o;
-  few_events = omega (arith, length-append es (e ∷ []), fits.0);
-  few_counts = omega (arith, length-append cs more, fits.1);
-  few_starts = omega (arith, length-append ss others, fits.2);
-}
+kept_more {es = es} {cs = cs} {ss = ss} e more others m o place fits old =
+    grind (arith, common_steps, All-push, taken_more, length-append)
 
 -- the call at the place of an event
 pub call_there : (log : LogValue) (place : ℕ) (event : Event) → event_at log.history place ≡ Some event →
     call_at log place ≡ kept place event (counts_at log event) (starts_at log event) ∷ []
-call_there log place event at =
-    ap (λ (o : Option Event). option_map_or (λ e. kept place e (counts_at log e) (starts_at log e) ∷ []) o
-    []) at
+call_there log place event at = grind arith
 
 -- the starts of the first call
 abbrev pub first_starts : List Kept → List Start
@@ -241,11 +221,4 @@ pub length-all_calls : {hands others : List HandValue} {hand : HandValue} (es : 
     (cs : List (List ℕ)) (ss : List Start) →
     hands ≡ hand ∷ others → calls_of es cs ss ≡ hand.calls →
     length (all_calls hands) ≡ length es + length (all_calls others)
-length-all_calls {others = others} {hand = hand} es cs ss is its =
-    omega (
-      arith,
-      ap (λ hs. length (all_calls hs)) is,
-      length-append hand.calls (all_calls others),
-      ap length its,
-      length-calls es cs ss,
-    )
+length-all_calls {others = others} {hand = hand} es cs ss is its = grind (arith, length-append, length-calls)

@@ -1,20 +1,19 @@
 -- What a table of places says of calls.
 use Rattle.std.proofs.Common.{◌≡◌, ℕ, zero, suc, ◌+◌, ◌<◌, ◌≤◌, Bool, List, [], ◌∷◌, length, get_or, All}
-use Rattle.std.proofs.Common.{IsTrue, Option, Some, None, refl, sym, ap, subst, ◌∙◌, arith, ◌↔◌}
+use Rattle.std.proofs.Common.{IsTrue, Option, Some, None, refl, sym, ap, ◌∙◌, arith, ◌↔◌}
 use Rattle.std.specs.Option.{option_map_or}
 use Rattle.std.specs.Prelude.{slice_get}
 use Rattle.std.proofs.lemmas.List.{get_or_default}
 use Rattle.std.proofs.lemmas.Option.{slice_get_past}
 use Rattle.std.proofs.lemmas.Bool.Decides.{nat_tests}
 use Rattle.std.proofs.Math.Decide.{dec_le}
-use native.Mathlib.Decide.{ℕ_discrete}
 use Rattle.master_state.specs.declared.events.Event.{Event}
 use Rattle.hand_ledger.specs.declared.marks.Found.{Found}
 use Rattle.hand_ledger.specs.declared.marks.Found.TheVariants.{Nowhere, Once, Wrong}
 use Rattle.hand_ledger.specs.declared.marks.TheConstants.{PLACES}
-use Rattle.hand_ledger.specs.Hands.{Kept, kept, HandValue}
+use Rattle.hand_ledger.specs.Hands.{Kept, HandValue}
 use Rattle.hand_ledger.specs.Marks.{Describes, Marks, wanted, IsRight, IsAsWanted, IsFirstWrong}
-use Rattle.hand_ledger.specs.Settling.{LogValue, counts_at, starts_at, at_place, call_at, all_calls}
+use Rattle.hand_ledger.specs.Settling.{LogValue, at_place, call_at, all_calls}
 use Rattle.hand_ledger.specs.Settling.{AreTrue, AgreesAt, IsLowestTorn}
 
 -- one at each place of the history, and none elsewhere
@@ -26,9 +25,7 @@ just_one f (x ∷ xs) (suc k) lt = just_one f xs k (omega arith)
 
 pub no_call : (log : LogValue) (place : ℕ) → length log.history < place → call_at log place ≡ []
 no_call log zero past = absurd (omega arith)
-no_call log (suc k) past =
-    ap (λ (o : Option Event). option_map_or (λ event. kept (suc k) event (counts_at log event)
-    (starts_at log event) ∷ []) o []) (slice_get_past log.history k (omega arith))
+no_call log (suc k) past = grind (arith, slice_get_past)
 
 -- what was found is right where the calls are those that are wanted, and nowhere else
 once_is : (f : Found) (calls ws : List Kept) → length ws ≡ 1 → Describes f calls ws →
@@ -60,9 +57,7 @@ told_at log calls f (suc k) says = elim (dec_le (suc k) (length log.history)) [
       (once_is f (at_place (suc k) calls) (call_at log (suc k)) (just_one _ log.history k within) says)
   | no past ↦
       let none = no_call log (suc k) (omega arith) in
-      rw (wanted_past (length log.history) (suc k) (omega arith), none)
-      (nowhere_is f (at_place (suc k) calls)
-      (subst (λ (l : List Kept). Describes f (at_place (suc k) calls) l) none says))
+      grind arith
 ]
 
 module _ (log : LogValue) (short notes : Bool) (hands : List HandValue) (found : List Found)
@@ -104,18 +99,10 @@ module _ (log : LogValue) (short notes : Bool) (hands : List HandValue) (found :
 -- a table in which nothing was found
 pub marks_none : (log : LogValue) (found : List Found) →
     ((place : ℕ) (d : Found) → place < PLACES → get_or found place d ≡ Nowhere) → Marks log [] found
-marks_none log found none = record {
-  each = λ place d lt. subst (λ (f : Found). Describes f [] (call_at log place)) (sym (none place d lt)) refl;
-  past = λ place le. refl;
-}
+marks_none log found none = grind arith
 
 -- one place on
 pub right_more : (events : ℕ) (notes : Bool) (found : List Found) (n : ℕ) → n < length found →
     IsAsWanted events notes (get_or found n Nowhere) n → ((p : ℕ) → p < n → IsRight events notes found p) →
     (p : ℕ) → p < n + 1 → IsRight events notes found p
-right_more events notes found n within here before p lt d = elim (ℕ_discrete p n) [
-  | yes e ↦
-      subst (λ q. IsAsWanted events notes (get_or found q d) q) (sym e)
-      (subst (λ (f : Found). IsAsWanted events notes f n) (get_or_default found n Nowhere d within) here)
-  | no other ↦ before p (omega arith) d
-]
+right_more events notes found n within here before p lt d = grind (arith, get_or_default)

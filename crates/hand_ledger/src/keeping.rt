@@ -38,7 +38,6 @@ pub struct Hand<L: Ledger> {
 impl<L: Ledger> Model for Hand<L> {
     ghost Value = { HandValue };
 
-
     ghost view = { λ h. record {
       calls = calls_of h.entries.items h.counts.items h.starts.items;
       room = h.room;

@@ -1,5 +1,5 @@
-ghost use Rattle.std.specs.Prelude.{◌≡◌, ◌<◌, [], IfOk, length, replicate, slice_set, List, map};
-ghost use Rattle.job_run.specs.Given.{runs_at, Runs};
+ghost use Rattle.std.specs.Prelude.{◌≡◌, ◌<◌, [], IfOk, length, replicate, slice_set};
+ghost use Rattle.job_run.specs.Given.{runs_at};
 
 use node_ids::PartNo;
 use std::alloc::{AllocError, Global};
@@ -14,6 +14,9 @@ pub struct GivenRuns {
 }
 
 impl Model for GivenRuns {
+    ghost use Rattle.std.specs.Prelude.{List, map};
+    ghost use Rattle.job_run.specs.Given.{Runs};
+
     ghost Value = { List Runs };
 
     ghost view = { λ given. map (λ runs. runs.items) given.of_parts.items };

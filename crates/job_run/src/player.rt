@@ -2,7 +2,6 @@ ghost use Rattle.std.specs.Prelude.{◌≡◌, Err, IfOk, OnOk, length, string_b
 ghost use Rattle.job_run.specs.Reports.{IsReport, opening_job};
 ghost use Rattle.job_run.specs.Playing.{PerformedAll};
 ghost use Rattle.job_run.specs.Rooms.{IsScriptFor, RunsOut, setup_for};
-ghost use Rattle.job_run.specs.declared.player.PlayError.TheVariants.{Memory};
 
 use crate::ending::add_end;
 use crate::given::GivenRuns;
@@ -33,6 +32,9 @@ pub enum PlayError {
 }
 
 impl From<AllocError> for PlayError {
+    ghost use Rattle.std.specs.Prelude.{◌≡◌};
+    ghost use Rattle.job_run.specs.declared.player.PlayError.TheVariants.{Memory};
+
     ghost from_gives = { λ _ e. e ≡ Memory };
 
     fn from(_: AllocError) -> PlayError {

@@ -4,7 +4,7 @@ ghost use Rattle.script_text.specs.Heads.{IsFitHead};
 ghost use Rattle.script_text.specs.Scripts.{IsOfHead};
 ghost use Rattle.job_run.specs.Reports.{IsReport};
 ghost use Rattle.job_run.specs.Rooms.{RunsOut, setup_for};
-ghost use Rattle.job_run.specs.PlayAnswer.{AreEnds, PlayAnswer, RunsOutIn, cluster_in, want_of};
+ghost use Rattle.job_run.specs.PlayAnswer.{AreEnds, PlayAnswer, RunsOutIn, cluster_in};
 ghost use Rattle.job_run.specs.OneAnswer.{one_play_answer};
 
 use crate::clusters::cluster_of;
@@ -82,6 +82,9 @@ impl<'a, O: ScriptObserver> Command for Player<'a, O> {
 }
 
 impl From<PlayError> for NoAnswer {
+    ghost use Rattle.std.specs.Prelude.{◌≡◌};
+    ghost use Rattle.job_run.specs.PlayAnswer.{want_of};
+
     ghost from_gives = { λ error result. result ≡ want_of error };
 
     fn from(error: PlayError) -> Self {

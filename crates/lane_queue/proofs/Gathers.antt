@@ -1,9 +1,8 @@
 -- All passes in one, the last first, and what is taken with it.
-use Rattle.std.proofs.Common.{◌≡◌, ℕ, ◌&&◌, true, List, [], ◌∷◌, ◌++◌, length, refl, sym, ap, ◌∙◌, subst}
+use Rattle.std.proofs.Common.{◌≡◌, ℕ, true, List, [], ◌∷◌, ◌++◌, length, refl, ap, ◌∙◌, subst}
 use Rattle.std.proofs.Common.{arith, append_assoc, length-append}
 use Rattle.std.proofs.lemmas.List.{append-nil}
 use Rattle.std.proofs.lemmas.List.Sums.{sum_by-append}
-use Rattle.std.specs.List.{sum_by}
 use Rattle.crossbeam_queue.specs.Fifo.{Held}
 use Rattle.view_sums.proofs.Sums.{sum_by-one}
 use Rattle.lane_queue.specs.declared.order.Order.{Order}
@@ -11,7 +10,6 @@ use Rattle.lane_queue.specs.declared.view.View.{View}
 use Rattle.lane_queue.specs.Orders.{is_alone}
 use Rattle.lane_queue.specs.Lanes.{PassValue, Knows, puts_of, takes_of, depths_of, one_each, AreWhole}
 use Rattle.lane_queue.specs.Steps.{hand, both, depth_of, Totals}
-use Rattle.lane_queue.proofs.Parts.{undivided}
 
 -- what the passes know together
 abbrev pub gathered : List PassValue → View
@@ -23,21 +21,13 @@ alone_none (x ∷ xs) = refl
 
 pub first : (v : View) (x : PassValue) → v ≡ hand v.puts v.takes (depth_of v.depths ∷ []) true
     → v.puts ≡ x.puts → v.takes ≡ x.takes → depth_of v.depths ≡ x.depth → v ≡ gathered (x ∷ [])
-first v x e p t d =
-    let puts = p ∙ sym (append-nil x.puts) in
-    let takes = t ∙ sym (append-nil x.takes) in
-    let one : (is_alone x.puts [] && is_alone x.takes []) && true ≡ true =
-    ap (λ b. (b && is_alone x.takes []) && true) (alone_none x.puts)
-    ∙ ap (λ b. b && true) (alone_none x.takes) in
-    e ∙ (λ k. hand (puts k) (takes k) (d k ∷ []) (sym one k))
+first v x e p t d = grind (arith, append-nil, alone_none)
 
 pub next : (v w : View) (x : PassValue) (cs : List PassValue)
     → v ≡ hand v.puts v.takes (depth_of v.depths ∷ []) true
     → v.puts ≡ x.puts → v.takes ≡ x.takes → depth_of v.depths ≡ x.depth → w ≡ gathered cs
     → both v w ≡ gathered (x ∷ cs)
-next v w x cs e p t d f =
-    let is : v ≡ hand x.puts x.takes (x.depth ∷ []) true = e ∙ (λ k. hand (p k) (t k) (d k ∷ []) true) in
-    λ k. both (is k) (f k)
+next v w x cs e p t d f = grind arith
 
 pub moved : (all zs ys cs : List PassValue) (x : PassValue) → all ≡ zs ++ cs → zs ≡ ys ++ x ∷ []
     → all ≡ ys ++ x ∷ cs
@@ -51,9 +41,7 @@ empty_list (x ∷ xs) e = absurd (omega arith)
 pub knows : (v : View) (x : PassValue) (items : List Order)
     → v ≡ hand v.puts v.takes (depth_of v.depths ∷ []) true
     → v.puts ≡ x.puts → v.takes ≡ x.takes → depth_of v.depths ≡ x.depth → Totals v items → Knows x items
-knows v x items e p t d s z =
-    let is : v ≡ hand x.puts x.takes (x.depth ∷ []) true = e ∙ (λ k. hand (p k) (t k) (d k ∷ []) true) in
-    (subst (λ u. Totals u items) is s (undivided x.depth z)).in_turn refl
+knows v x items e p t d s z = grind arith
 
 -- the view, after so much was taken
 abbrev pub further : View → List Order → View
@@ -61,15 +49,7 @@ further v left = hand v.puts (v.takes ++ left) v.depths v.ordered
 
 ends : (v : View) (left items : List Order) → Totals (further v left) items
     → (AreWhole v.depths → length items ≡ 0) → Totals v left
-ends v left items t none whole =
-    let is : items ≡ [] = empty_list items (none whole) in
-    let told = t whole in record {
-      as_often = λ h. omega (arith, told.as_often h, sum_by-append h v.takes left, ap (sum_by h) is);
-      in_turn = λ o. told.in_turn o ∙ ap (λ l. (v.takes ++ left) ++ l) is ∙ append-nil (v.takes ++ left);
-    }
-
-pub ends_empty : (v w : View) (left : List Order) → w ≡ further v left → Held 0 (Totals w) → Totals v left
-ends_empty v w left e f = ends v left f.0 (subst (λ x. Totals x f.0) e f.2) (λ _. f.1)
+ends v left items t none whole = grind (arith, empty_list, sum_by-append, append-nil)
 
 pub ends_full : (v w : View) (left : List Order) (count : ℕ) → w ≡ further v left → length left ≡ count
     → Held count (Totals v) → ((items : List Order) × Totals w items) → Totals v left
@@ -93,15 +73,3 @@ ends_full v w left count e len held last =
       len,
       held.1,
     ))
-
-pub begins_further : (v : View) (left : List Order) → left ≡ [] → v ≡ further v left
-begins_further v left e =
-    let takes = sym (append-nil v.takes) ∙ ap (λ l. v.takes ++ l) (sym e) in
-    λ k. hand v.puts (takes k) v.depths v.ordered
-
-pub takes_further : (v w u : View) (left new : List Order) (x : Order) → w ≡ further v left
-    → u ≡ hand w.puts (w.takes ++ x ∷ []) w.depths w.ordered → new ≡ left ++ x ∷ [] → u ≡ further v new
-takes_further v w u left new x e f g =
-    let takes = append_assoc v.takes left (x ∷ []) ∙ ap (λ l. v.takes ++ l) (sym g) in
-    f ∙ (λ k. hand (e k).puts ((e k).takes ++ x ∷ []) (e k).depths (e k).ordered)
-    ∙ (λ k. hand v.puts (takes k) v.depths v.ordered)

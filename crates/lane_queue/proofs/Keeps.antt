@@ -1,5 +1,5 @@
 -- Each step keeps the rule of the lane.
-use Rattle.std.proofs.Common.{◌≡◌, ◌≢◌, ℕ, zero, suc, ◌+◌, ◌-◌, ◌*◌, ◌^◌, ◌<◌, Bool, true, false, ◌&&◌, List}
+use Rattle.std.proofs.Common.{◌≡◌, ◌≢◌, ℕ, zero, suc, ◌+◌, ◌*◌, ◌^◌, ◌<◌, Bool, true, false, ◌&&◌, List}
 use Rattle.std.proofs.Common.{[], ◌∷◌, ◌++◌, length, set, refl, sym, ap, ◌∙◌, subst, ⊎_elim, arith}
 use Rattle.std.proofs.Common.{append_assoc}
 use Rattle.std.proofs.lemmas.Nat.{pow-add}
@@ -13,7 +13,6 @@ use Rattle.view_sums.proofs.Sums.{sum_by-set, sum_alone, sum_scaled, sum_by-one}
 use Rattle.view_sums.proofs.Each.{each_set, each_snoc}
 use Rattle.lane_queue.specs.declared.order.Order.{Order}
 use Rattle.lane_queue.specs.declared.view.View.{View}
-use Rattle.lane_queue.specs.Orders.{is_alone}
 use Rattle.lane_queue.specs.Rule.{weight, Fits, Balanced}
 use Rattle.lane_queue.specs.Steps.{hand, putting, taking, deeper, both, Totals}
 use Rattle.lane_queue.proofs.Subs.{sub_longer, sub_both, sub_whole, sub_alone}
@@ -153,10 +152,7 @@ forks port v items views h at =
       line = h.line;
       puts = λ f. omega (arith, h.puts f, forked (λ (u : View). sum_by f u.puts) refl refl);
       takes = λ f. omega (arith, h.takes f, forked (λ (u : View). sum_by f u.takes) refl refl);
-      whole =
-          let changed = sum_by-set (weight more) views port v left at in
-          let added = sum_by-append (weight more) (set views port left) (right ∷ []) in
-          omega (arith, h.whole, twice, mine, half, power, changed, added);
+      whole = grind (arith, sum_by-set, sum_by-append);
       each = each_snoc (Fits h.sent h.got more) (set views port left) right
           (each_set (Fits h.sent h.got more) views port left
           (λ i y _ a.
@@ -176,23 +172,7 @@ none_both (x ∷ xs) ys e = absurd (cc e)
 
 joined : (sent got : List Order) (depth : ℕ) (v w : View) → Fits sent got depth v → Fits sent got depth w
     → Fits sent got depth (both v w)
-joined sent got depth v w a b = record {
-  subs = λ o.
-      let both = and_both (is_alone v.puts w.puts && is_alone v.takes w.takes) (v.ordered && w.ordered) o in
-      let apart = and_both (is_alone v.puts w.puts) (is_alone v.takes w.takes) both.0 in
-      let in_order = and_both v.ordered w.ordered both.1 in
-      let here = a.subs in_order.0 in
-      let there = b.subs in_order.1 in (
-        sub_alone v.puts w.puts sent apart.0 here.0 there.0,
-        sub_alone v.takes w.takes got apart.1 here.1 there.1,
-      );
-  within = within_both depth v.depths w.depths a.within b.within;
-  spent = λ e.
-      let none = none_both v.depths w.depths e in
-      let p = a.spent none.0 in
-      let q = b.spent none.1 in
-      ((λ k. p.0 k ++ q.0 k), (λ k. p.1 k ++ q.1 k));
-}
+joined sent got depth v w a b = grind (arith, and_both, sub_alone, within_both, none_both)
 
 pub merges : (port : ℕ) (v : View) (other : ℕ) (w : View)
     → Merges Balanced port v other w (both v w) (hand [] [] [] true)
@@ -218,15 +198,9 @@ merges port v other w items views h at apart there =
       got = h.got;
       depth = h.depth;
       line = h.line;
-      puts = λ f.
-          let all = sum_by-append f v.puts w.puts in
-          omega (arith, h.puts f, merged (λ (x : View). sum_by f x.puts) all refl);
-      takes = λ f.
-          let all = sum_by-append f v.takes w.takes in
-          omega (arith, h.takes f, merged (λ (x : View). sum_by f x.takes) all refl);
-      whole =
-          let parts = sum_by-append (λ d. 2 ^ (h.depth - d)) v.depths w.depths in
-          omega (arith, h.whole, merged (weight h.depth) parts refl);
+      puts = grind (arith, sum_by-append);
+      takes = grind (arith, sum_by-append);
+      whole = grind (arith, sum_by-append);
       each = each_set (Fits h.sent h.got h.depth) views' other spent
           (λ j x _ e. each_set (Fits h.sent h.got h.depth) views port u (λ i y _ a. h.each i y a)
           (joined h.sent h.got h.depth v w (h.each port v at) (h.each other w was)) j x e)

@@ -2,6 +2,7 @@
 use Rattle.std.proofs.Common.{◌≡◌, ℕ, ◌+◌, ◌-◌, ◌*◌, ◌/◌, ◌^◌, ◌<◌, ◌≤◌, List, [], ◌∷◌, ◌++◌, length, refl}
 use Rattle.std.proofs.Common.{sym, ap, ◌∙◌, arith, mul_comm}
 use Rattle.std.proofs.lemmas.Nat.{pow-add, pow_pos}
+use Rattle.std.proofs.lemmas.Grind.{common_steps}
 use Rattle.std.proofs.Math.Nat.{mul-div_cancel_left}
 use Rattle.std.proofs.lemmas.List.Sums.{sum_by-append, sum_by-cons, sum_by_push}
 use Rattle.std.specs.List.{sum_by}
@@ -39,19 +40,13 @@ whole_at depth ds within w =
 -- only no parts come to nothing
 pub no_parts : (most : ℕ) (ds : List ℕ) → sum_by (λ d. 2 ^ (most - d)) ds ≡ 0 → ds ≡ []
 no_parts most [] e = refl
-no_parts most (d ∷ ds) e =
-    let pos = pow_pos (most - d) in
-    absurd (omega (arith, sum_by-cons (λ x. 2 ^ (most - x)) d ds))
+no_parts most (d ∷ ds) e = grind (arith, common_steps, pow_pos, sum_by-cons)
 
 -- each halved, and counted in halves
 pub deeper_sum : (most : ℕ) (ds : List ℕ)
     → sum_by (λ d. 2 ^ (most + 1 - d)) (deeper ds) ≡ sum_by (λ d. 2 ^ (most - d)) ds
 deeper_sum most [] = refl
-deeper_sum most (d ∷ ds) =
-    let same : most + 1 - (d + 1) ≡ most - d = omega arith in
-    let fs = sum_by-cons (λ e. 2 ^ (most + 1 - e)) (d + 1) (deeper ds) in
-    let gs = sum_by-cons (λ e. 2 ^ (most - e)) d ds in
-    omega (arith, ap (λ n. 2 ^ n) same, deeper_sum most ds, fs, gs)
+deeper_sum most (d ∷ ds) = grind (arith, deeper_sum most ds, common_steps, sum_by-cons)
 
 pub deeper_within : (most : ℕ) (ds : List ℕ) → AreAtMost most ds → AreAtMost (most + 1) (deeper ds)
 deeper_within most [] h = tt
@@ -70,25 +65,13 @@ pub not_deeper : (ds : List ℕ) → deeper ds ≡ [] → ds ≡ []
 not_deeper [] e = refl
 not_deeper (d ∷ ds) e = absurd (omega (arith, ap length e))
 
--- the part of a pass that was never shared is the whole
-pub undivided : (d : ℕ) → d ≡ 0 → AreWhole (d ∷ [])
-undivided d e = record {
-  most = 0;
-  within = (omega arith, tt);
-  sum =
-      ap (λ n. sum_by (λ x. 2 ^ (0 - x)) (n ∷ [])) e;
-}
-
 within_shared : (most : ℕ) (before after : List ℕ) (d : ℕ) → AreAtMost most (before ++ d ∷ after)
     → (d ≤ most) × AreAtMost (most + 1) (before ++ (d + 1) ∷ (after ++ (d + 1) ∷ []))
 within_shared most [] after d h =
     let le : d ≤ most = h.0 in
     let more : d + 1 ≤ most + 1 = omega arith in
     (le, (more, within_both (most + 1) after ((d + 1) ∷ []) (within_more most after h.1) (more, tt)))
-within_shared most (b ∷ bs) after d h =
-    let here : b ≤ most = h.0 in
-    let rest = within_shared most bs after d h.1 in
-    (rest.0, (omega arith, rest.1))
+within_shared most (b ∷ bs) after d h = grind (arith, within_shared most bs after d h.1)
 
 -- where a pass is shared, the passes with the new one are as whole as before
 pub shared_whole : (before after : List ℕ) (d : ℕ) → AreWhole (before ++ d ∷ after)
@@ -110,8 +93,4 @@ shared_whole before after d w =
     let new = sum_by-append f before ((d + 1) ∷ (after ++ (d + 1) ∷ [])) in
     let new_rest = sum_by-cons f (d + 1) (after ++ (d + 1) ∷ []) in
     let last = sum_by_push f after (d + 1) in
-    record {
-      most = m + 1;
-      within = within.1;
-      sum = omega (arith, was, up, two, one, old, old_rest, new, new_rest, last);
-    }
+    grind arith

@@ -1,9 +1,9 @@
 -- For callers: a lane with two passes, the second by `share`, one of which puts while the other takes.
-use Rattle.std.proofs.Common.{◌≡◌, ◌&&◌, true, List, [], ◌∷◌, ◌++◌, length, refl, sym, ap, ◌∙◌, subst, arith}
+use Rattle.std.proofs.Common.{◌≡◌, List, [], ◌∷◌, ◌++◌, length, refl, sym, ap, ◌∙◌, subst, arith}
 use Rattle.std.proofs.Common.{length-append}
 use Rattle.std.proofs.lemmas.List.{append-nil}
 use Rattle.lane_queue.specs.declared.order.Order.{Order}
-use Rattle.lane_queue.specs.Orders.{is_alone, Settles}
+use Rattle.lane_queue.specs.Orders.{Settles}
 use Rattle.lane_queue.specs.Lanes.{PassValue, puts_of, takes_of, depths_of, one_each, AreWhole}
 use Rattle.lane_queue.proofs.Gathers.{alone_none, empty_list}
 
@@ -17,17 +17,7 @@ pub settles_two : (p q : PassValue) (left : List Order) → p.depth ≡ 1 → q.
     → (AreWhole (depths_of (p ∷ q ∷ []))
     → Settles (one_each (p ∷ q ∷ [])) (puts_of (p ∷ q ∷ [])) (takes_of (p ∷ q ∷ [])) left)
     → p.puts ≡ q.takes ++ left
-settles_two p q left d e t u told =
-    let whole : AreWhole (depths_of (p ∷ q ∷ [])) = subst AreWhole (λ i. sym d i ∷ sym e i ∷ []) two_halves in
-    let puts : is_alone p.puts (q.puts ++ []) ≡ true = ap (λ l. is_alone p.puts (l ++ [])) u
-    ∙ alone_none p.puts in
-    let takes : is_alone p.takes (q.takes ++ []) ≡ true = ap (λ l. is_alone l (q.takes ++ [])) t in
-    let one : one_each (p ∷ q ∷ []) ≡ true =
-    λ i. (puts i && takes i) && ((alone_none q.puts i && alone_none q.takes i) && true) in
-    let put : p.puts ++ (q.puts ++ []) ≡ p.puts = ap (λ l. p.puts ++ (l ++ [])) u ∙ append-nil p.puts in
-    let taken : (p.takes ++ (q.takes ++ [])) ++ left ≡ q.takes ++ left =
-    ap (λ l. (l ++ (q.takes ++ [])) ++ left) t ∙ ap (λ l. l ++ left) (append-nil q.takes) in
-    sym put ∙ (told whole).in_turn one ∙ taken
+settles_two p q left d e t u told = grind (arith, two_halves, alone_none, append-nil)
 
 -- where as many were taken as were put, they are those that were put
 pub takes_all : (ps : List PassValue) (p q : PassValue) (left : List Order) → ps ≡ p ∷ q ∷ []

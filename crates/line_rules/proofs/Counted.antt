@@ -1,5 +1,5 @@
 -- The counts of the rows of the keywords that have a limit.
-use Rattle.std.proofs.Common.{ℕ, List, ◌++◌, ◌≡◌, ◌+◌, ◌<◌, ◌≤◌, length, ap, refl, arith, length-append}
+use Rattle.std.proofs.Common.{ℕ, List, ◌++◌, ◌≡◌, ◌+◌, ◌<◌, ◌≤◌, length, refl, arith, length-append}
 use Rattle.std.proofs.lemmas.List.Elements.{filter-append}
 use Rattle.text_lines.specs.Texts.{Word}
 use Rattle.line_shapes.specs.Lines.{Statement}
@@ -8,7 +8,7 @@ use Rattle.line_shapes.specs.declared.keyword.Keyword.TheVariants.{Problem, Cent
 use Rattle.line_rules.specs.Counts.{AreCounts, count_in, one_if}
 use Rattle.line_rules.specs.Entering.{entered_of, most_of, most_workers}
 use Rattle.line_rules.specs.Faults.{IsFewer, counted_of}
-use Rattle.line_rules.specs.Known.{Known, is_of, rows_of}
+use Rattle.line_rules.specs.Known.{Known, rows_of}
 use Rattle.line_rules.specs.declared.counts.Counts.{Counts}
 use Rattle.line_rules.specs.declared.purpose.Purpose.{Purpose}
 use Rattle.line_rules.specs.declared.purpose.Purpose.TheVariants.{Checking}
@@ -38,15 +38,7 @@ adds_one k words = (refl, refl, refl, refl, refl)
 
 one_more : (k : Keyword) (rows : List Statement) (s : Statement) (old new : ℕ) → old ≡ length (rows_of k rows)
     → new ≡ old + one_if k s.keyword → AddsOne k s → new ≡ length (rows_of k (rows ++ entered_of s))
-one_more k rows s old new was is adds =
-    omega (
-      arith,
-      was,
-      is,
-      adds,
-      ap length (filter-append (is_of k) rows (entered_of s)),
-      length-append (rows_of k rows) (rows_of k (entered_of s)),
-    )
+one_more k rows s old new was is adds = grind (arith, filter-append, length-append)
 
 pub counts_more : (c d : Counts) (rows : List Statement) (s : Statement) → AreCounts c rows
     → d.centres ≡ c.centres + one_if Centre s.keyword
@@ -55,12 +47,4 @@ pub counts_more : (c d : Counts) (rows : List Statement) (s : Statement) → Are
     → d.splits ≡ c.splits + one_if Split s.keyword
     → d.documents ≡ c.documents + one_if Doc s.keyword
     → AreCounts d (rows ++ entered_of s)
-counts_more c d rows s h centres racks workers splits documents =
-    let adds = adds_one s.keyword s.words in
-    record {
-      centres = one_more Centre rows s c.centres d.centres h.centres centres adds.0;
-      racks = one_more Rack rows s c.racks d.racks h.racks racks adds.1;
-      workers = one_more Worker rows s c.workers d.workers h.workers workers adds.2;
-      splits = one_more Split rows s c.splits d.splits h.splits splits adds.3;
-      documents = one_more Doc rows s c.documents d.documents h.documents documents adds.4;
-    }
+counts_more c d rows s h centres racks workers splits documents = grind (arith, adds_one, one_more)

@@ -21,7 +21,7 @@ use Rattle.line_rules.specs.Entering.{Key, key_of}
 use Rattle.line_rules.specs.Known.{HasRow, keys_of}
 use Rattle.line_rules.specs.Rows.{AreTabled, HasKeyMore, IsKeyAt, IsRowAt, IsTabled, TextKey, first_by}
 use Rattle.line_rules.specs.Rows.{key_in}
-use denote.Enum.Bare.{sameb, same_true, true_same}
+use denote.Enum.Bare.{sameb}
 
 -- ---- keys
 
@@ -29,17 +29,7 @@ abbrev pub same_key : Key → Key → Bool
 same_key p q = (sameb the_type p.0 q.0 && bytes_eq p.1 q.1) && bytes_eq p.2 q.2
 
 pub same_key-Decides : (p q : Key) → Decides (same_key p q) (p ≡ q)
-same_key-Decides p q =
-    by (sameb the_type p.0 q.0) (bytes_eq p.1 q.1) (bytes_eq p.2 q.2)
-    (same_true the_type tt p.0 q.0, true_same the_type p.0 q.0) (bytes_eq-Decides p.1 q.1)
-    (bytes_eq-Decides p.2 q.2)
-  where
-    by : (a b c : Bool) → Decides a (p.0 ≡ q.0) → Decides b (p.1 ≡ q.1) → Decides c (p.2 ≡ q.2)
-        → Decides ((a && b) && c) (p ≡ q)
-    by true true true k l m = (λ h. λ i. (k.0 refl i, l.0 refl i, m.0 refl i), λ h. refl)
-    by true true false k l m = (λ h. cc, λ h. m.1 (ap (λ r. r.2) h))
-    by true false c k l m = (λ h. cc, λ h. l.1 (ap (λ r. r.1) h))
-    by false b c k l m = (λ h. cc, λ h. k.1 (ap (λ r. r.0) h))
+same_key-Decides p q = grind (arith, bytes_eq-Decides)
 
 -- the key of the row at a place
 pub key_at : (rows : List Statement) (i : ℕ) (s : Statement) → i < length rows → IsRowAt rows i s
@@ -121,9 +111,7 @@ key_put_first firsts new others word k second grown none empty =
         λ h. elim h [
           | inl first ↦ elim (first_cases e q.1 firsts q.0 first.1) [
             | inl old ↦ inl (inl (first.0, old))
-            | inr same ↦
-                let last : q.2 ≡ second = first.0 ∙ sym empty in
-                inr (λ i. (same.1 i, same.0 i, last i))
+            | inr same ↦ grind arith
           ]
           | inr other ↦ inl (inr other)
         ],
@@ -145,14 +133,7 @@ key_put_first firsts new others word k second grown none empty =
 entry_same : (firsts : Firsts) (word : Bor (List ℕ)) (k : Keyword) → first_by firsts word.now ≡ Some k
     → insert_entry same_word firsts word k ≡ firsts
 entry_same [] word k is = absurd (none-some k is)
-entry_same (x ∷ firsts) word k is = by (bytes_eq word.now x.0.now) (entry_same firsts word k) is
-  where
-    by : (b : Bool) → (first_by firsts word.now ≡ Some k → insert_entry same_word firsts word k ≡ firsts)
-        → cond b (Some x.1) (first_by firsts word.now) ≡ Some k
-        → (if b then (x.0, k) ∷ firsts else x ∷ insert_entry same_word firsts word k) ≡ x ∷ firsts
-    by true rest is =
-        ap (λ (v : Keyword). (x.0, v) ∷ firsts) (sym (same_Some _ _ is))
-    by false rest is = ap (λ l. x ∷ l) (rest is)
+entry_same (x ∷ firsts) word k is = grind (arith, entry_same firsts word k)
 
 -- the first table once a word was entered, where it was not by another keyword
 pub key_entered : (firsts new : Firsts) (others : List TextKey) (word : Bor (List ℕ)) (k v : Keyword)
@@ -164,37 +145,14 @@ key_entered firsts new others word k v grown value same last =
   where
     by : (o : Option Keyword) → first_by firsts word.now ≡ o → v ≡ unwrap_or o k
         → HasKeyMore firsts others (k, word.now, []) new others
-    by None none value =
-        key_put_first firsts new others word k []
-        (grown ∙ last none ∙ ap (λ (j : Keyword). firsts ++ (word, j) ∷ []) same) none refl
-    by (Some j) some value =
-        let found : first_by firsts word.now ≡ Some k = some ∙ ap Some (sym value ∙ same) in
-        let kept : new ≡ firsts =
-        grown ∙ ap (insert_entry same_word firsts word) same ∙ entry_same firsts word k found in
-        subst (λ (l : Firsts). HasKeyMore firsts others (k, word.now, []) l others) (sym kept) (record {
-          keys = λ q. (
-            λ h. inl h,
-            λ h. elim h [
-              | inl old ↦ old
-              | inr at ↦ subst (IsTabled firsts others) (sym at) (inl (refl, found))
-            ],
-          );
-          kept = λ w some. some;
-          word = λ _. is_some_at _ k found;
-        })
+    by None none value = grind (arith, key_put_first)
+    by (Some j) some value = grind (arith, entry_same, is_some_at)
 
 -- and where it was by another
 pub entered_before : (firsts new : Firsts) (word : Bor (List ℕ)) (k v : Keyword)
     → new ≡ insert_entry same_word firsts word v → v ≡ unwrap_or (first_by firsts word.now) k → (v ≡ k → ⊥)
     → (new ≡ firsts) × IsSome (first_by firsts word.now)
-entered_before firsts new word k v grown value other = by (first_by firsts word.now) refl value
-  where
-    by : (o : Option Keyword) → first_by firsts word.now ≡ o → v ≡ unwrap_or o k
-        → (new ≡ firsts) × IsSome (first_by firsts word.now)
-    by None none value = absurd (other value)
-    by (Some j) some value =
-        let found : first_by firsts word.now ≡ Some v = some ∙ ap Some (sym value) in
-        (grown ∙ entry_same firsts word v found, is_some_at _ v found)
+entered_before firsts new word k v grown value other = grind (arith, entry_same, is_some_at)
 
 -- ---- the second table
 

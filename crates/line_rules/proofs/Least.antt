@@ -23,14 +23,8 @@ past_known k s whole named known g h = omega arith
 
 pub least_unknown : (k : Known) (s : Statement) → IsComplete k s → MayStand k s → IsNamed s
     → (Keep rule.Declared k.rows s → ⊥) → IsLeastOf (Fails k s) Unknown
-least_unknown k s whole may_stand named fails = record {
-  applies = (whole, may_stand, fails);
-  least = λ g h. past_names k s whole named g h;
-}
+least_unknown k s whole may_stand named fails = grind arith
 
 pub least_repeated : (k : Known) (s : Statement) → IsComplete k s → MayStand k s → IsNamed s
     → Keep rule.Declared k.rows s → (IsNew k.rows s → ⊥) → IsLeastOf (Fails k s) Repeated
-least_repeated k s whole may_stand named known fails = record {
-  applies = (whole, may_stand, fails);
-  least = λ g h. past_known k s whole named known g h;
-}
+least_repeated k s whole may_stand named known fails = grind arith

@@ -63,10 +63,7 @@ lowest g = omega arith
 -- a line that says nothing has the lowest fault of all
 pub nothing_least : (k : Known) (line : Line) → IsLegible k line → SaysNothing line
     → IsLeastOf (LineHas k line) Shape
-nothing_least k line sound nothing = record {
-  applies = (sound, λ s says whole. nothing s says);
-  least = λ g h. lowest g;
-}
+nothing_least k line sound nothing = grind arith
 
 -- the least error of what the line says is the line's
 pub error_of_line : (k : Known) (line : Line) (s : Statement) → IsLegible k line → Says line s

@@ -57,11 +57,7 @@ last_line : (words ws : Words) (k : Keyword) (start end : ℕ) → start ≡ len
     → end ≡ length words + length ws
     → statement_at (words ++ ws) (record { keyword = k; start = start; end = end })
     ≡ record { keyword = k; words = map (λ w. w.now) ws }
-last_line words ws k start end starts ends =
-    let count : end - start ≡ length ws = omega (arith, starts, ends) in
-    ap (λ l. let s : Statement = record { keyword = k; words = map (λ w. w.now) l } in s)
-    (ap₂ (λ n m. take n (drop m (words ++ ws))) count starts
-    ∙ ap (take (length ws)) (drop-append_seam words ws) ∙ take_all (length ws) ws (omega arith))
+last_line words ws k start end starts ends = grind (arith, drop-append_seam, take_all)
 
 module _ (words ws new : Words) (ps more : List LinePlace) (p : LinePlace) (grown : new ≡ words ++ ws)
     (put : more ≡ ps ++ p ∷ []) (starts : p.start ≡ length words) (ends : p.end ≡ length words + length ws)

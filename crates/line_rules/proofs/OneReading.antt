@@ -1,8 +1,8 @@
 -- A text is read in one way: it says one list of statements, or it has one least fault.
-use Rattle.std.proofs.Common.{ℕ, List, [], ◌∷◌, ◌≡◌, ◌≤◌, ◌<◌, ◌+◌, ◌⊎◌, ◌∙◌, inl, inr, length, take, refl}
-use Rattle.std.proofs.Common.{sym, ap, subst, arith}
+use Rattle.std.proofs.Common.{ℕ, List, [], ◌∷◌, ◌≡◌, ◌≤◌, ◌<◌, ◌+◌, ◌⊎◌, ◌∙◌, inl, inr, length, refl}
+use Rattle.std.proofs.Common.{sym, ap, arith}
 use Rattle.std.specs.Prelude.{◌==◌, if◌then◌else◌}
-use Rattle.text_lines.specs.Texts.{Line, lines_of}
+use Rattle.text_lines.specs.Texts.{Line}
 use Rattle.text_lines.specs.Faults.{number_of_fault}
 use Rattle.text_lines.specs.declared.fault.Fault.{Fault}
 use Rattle.text_lines.specs.declared.fault.Fault.TheVariants.{Shape, Misnamed, Unknown, Repeated, OutOfRange}
@@ -26,19 +26,14 @@ declare-unique (l ∷ ls) [] (t ∷ ts) ha (inr hb) = declare-unique ls [] (t �
 declare-unique (l ∷ ls) (s ∷ ss) [] (inl ha) hb = absurd (hb.0 s ha.0)
 declare-unique (l ∷ ls) (s ∷ ss) [] (inr ha) hb = declare-unique ls (s ∷ ss) [] ha.1 hb.1
 declare-unique (l ∷ ls) (s ∷ ss) (t ∷ ts) (inl ha) (inl hb) =
-    let first = says-unique l s t ha.0 hb.0 in
-    let more = declare-unique ls ss ts ha.1 hb.1 in
-    cc
+    grind (arith, declare-unique ls ss ts ha.1 hb.1, says-unique)
 declare-unique (l ∷ ls) (s ∷ ss) (t ∷ ts) (inl ha) (inr hb) = absurd (hb.0 s ha.0)
 declare-unique (l ∷ ls) (s ∷ ss) (t ∷ ts) (inr ha) (inl hb) = absurd (ha.0 t hb.0)
 declare-unique (l ∷ ls) (s ∷ ss) (t ∷ ts) (inr ha) (inr hb) = declare-unique ls (s ∷ ss) (t ∷ ts) ha.1 hb.1
 
 pub reads-unique : (purpose : Purpose) (text : List ℕ) (ss ts : List Statement) → ReadsAs purpose text ss
     → ReadsAs purpose text ts → ss ≡ ts
-reads-unique purpose text ss ts a b =
-    let count : length ts ≡ length ss = omega (arith, a.whole, b.whole) in
-    declare-unique (take (length ss) (lines_of text)) ss ts a.says
-    (subst (λ n. Declare (take n (lines_of text)) ts) count b.says)
+reads-unique purpose text ss ts a b = grind (arith, declare-unique)
 
 -- ---- the fault
 

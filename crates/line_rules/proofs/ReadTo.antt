@@ -36,15 +36,7 @@ pub record IsReadTo (purpose : Purpose) (text : List ℕ) (left : List Line) (n 
 
 pub read_none : (purpose : Purpose) (text : List ℕ) (k : Known) → k ≡ known_at purpose []
     → IsReadTo purpose text (lines_of text) 0 k
-read_none purpose text k known = record {
-  before = [];
-  count = refl;
-  says = tt;
-  fit = tt;
-  rest = refl;
-  known = known;
-  faultless = λ j g lt h. absurd (omega arith);
-}
+read_none purpose text k known = grind arith
 
 -- ---- lists
 
@@ -80,10 +72,7 @@ some_line text = omega (arith, length-slice_split (λ b. b == 10) text)
 -- a fault of line n is one of the line that is left first
 first_has : (purpose : Purpose) (text : List ℕ) (left : List Line) (n : ℕ) (k : Known)
     → IsReadTo purpose text left n k → (g : Fault) → Applies purpose text n g → FirstHas k left g
-first_has purpose text left n k read g applies =
-    let same : applies.0 ≡ read.before = declare-unique _ _ _ applies.1 read.says in
-    rw (read.known, read.rest)
-    (subst (λ b. FirstHas (known_at purpose b) (drop n (lines_of text)) g) same applies.2)
+first_has purpose text left n k read g applies = grind (arith, declare-unique)
 
 line_has : (purpose : Purpose) (text : List ℕ) (left : List Line) (line : Line) (after : List Line)
     (n : ℕ) (k : Known)
@@ -114,12 +103,7 @@ more_faultless purpose text left line after n k new read split more takes j g lt
 -- a line that is taken fits after the lines before it
 taken_fits : (k new : Known) (line : Line) → (takes : Takes k line new)
     → IsFitLine k line takes.statement
-taken_fits k new line takes = record {
-  printable = takes.printable;
-  not_ended = takes.not_ended;
-  says = takes.says;
-  fit = takes.enters.fit;
-}
+taken_fits k new line takes = grind arith
 
 pub read_more : (purpose : Purpose) (text : List ℕ) (left : List Line) (line : Line) (after : List Line)
     (n : ℕ) (k new : Known)
@@ -134,9 +118,7 @@ read_more purpose text left line after n k new read split more takes =
       before = read.before ++ s ∷ [];
       count = omega (arith, length-append read.before (s ∷ []), read.count);
       says = rw (take_one n (lines_of text) after line cut) (declare-step _ _ line s read.says takes.says);
-      fit = rw (take_one n (lines_of text) after line cut)
-          (fit-step (known_at purpose []) _ read.before line s read.fit
-          (subst (λ names. IsFitLine names line s) (sym here) (taken_fits k new line takes)));
+      fit = grind (arith, take_one, fit-step, taken_fits);
       rest = sym (drop_one n (lines_of text) after line cut);
       known = takes.enters.known ∙ ap (λ old. entered old s) read.known
           ∙ sym (known_at-step purpose read.before s);

@@ -1,6 +1,6 @@
 -- The keys of rows: none is a command's, and what was declared is named; so the names of a line that uses
 -- declared ones are names.
-use Rattle.std.proofs.Common.{ℕ, List, [], ◌∷◌, ◌++◌, ◌≡◌, ◌≢◌, ◌<◌, Option, Some, length, get_or, inl, inr}
+use Rattle.std.proofs.Common.{ℕ, List, [], ◌∷◌, ◌++◌, ◌≡◌, ◌≢◌, ◌<◌, Option, Some, length, get_or}
 use Rattle.std.proofs.Common.{refl, subst, sym, arith}
 use Rattle.std.specs.List.{All}
 use Rattle.std.proofs.lemmas.List.{map-append}
@@ -17,7 +17,7 @@ use Rattle.line_shapes.specs.declared.place.Place.TheVariants.{New, Used}
 use Rattle.line_rules.specs.declared.entering.Entering.{Entering}
 use Rattle.line_rules.specs.declared.entering.Entering.TheVariants.{Nothing, InTurn, Word as ByWord}
 use Rattle.line_rules.specs.Entered.{AreFit, AreSound, HasName, IsFitIn, IsSound}
-use Rattle.line_rules.specs.Entering.{entered_by, entered_of, entering_of, first_key, key_of}
+use Rattle.line_rules.specs.Entering.{entered_by, entered_of, entering_of, key_of}
 use Rattle.line_rules.specs.Faults.{IsDeclaredIn, Keep}
 use Rattle.line_rules.specs.Known.{HasRow, IsDeclared, keys_of}
 use Rattle.line_rules.specs.declared.rule.Rule.TheVariants.{Declared}
@@ -35,12 +35,7 @@ first_named s named new some =
     subst (λ place. IsNamedIn place (get_or s.words 0 [])) new (named 0 (some_words s.words some))
 
 key_sound : (s : Statement) → IsNamed s → entering_of s.keyword ≢ InTurn → IsSound (key_of s)
-key_sound s named entered = record {
-  entered = entered;
-  named = λ by new.
-      subst (λ e. 0 < length (first_key e s.words) → IsName (first_key e s.words)) (sym by)
-      (first_named s named new);
-}
+key_sound s named entered = grind (arith, first_named)
 
 entered_sound : (s : Statement) → IsNamed s → (e : Entering) → entering_of s.keyword ≡ e
     → All IsSound (keys_of (entered_by e s))
@@ -65,10 +60,7 @@ row_named rows k w sound by new there some =
 
 declared_named : (rows : List Statement) (kind : Kind) (w : Word) → AreSound rows → IsDeclared rows kind w
     → 0 < length w → IsName w
-declared_named rows Priced w sound there some = elim there [
-  | inl split ↦ row_named rows _ w sound refl refl split some
-  | inr worker ↦ row_named rows _ w sound refl refl worker some
-]
+declared_named rows Priced w sound there some = grind arith
 declared_named rows kind w sound there some = row_named rows _ w sound refl refl there some
 
 named_in : (rows : List Statement) (place : Option Place) (w : Word) → AreSound rows

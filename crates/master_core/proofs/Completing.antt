@@ -1,26 +1,23 @@
 -- A master after the result of a split or a part.
-use Rattle.std.proofs.Common.{◌≡◌, ◌≢◌, ℕ, ◌-◌, ◌==◌, List, [], ◌∷◌, length, map, Bool, false, not, Option}
-use Rattle.std.proofs.Common.{Some, None, refl, ap, ◌∙◌, sym, arith, inl, inr, All}
-use Rattle.std.specs.Prelude.{slice_get}
+use Rattle.std.proofs.Common.{◌≡◌, ◌≢◌, ℕ, ◌-◌, List, [], ◌∷◌, map, Bool, false, not, Option}
+use Rattle.std.proofs.Common.{Some, None, refl, ap, ◌∙◌, sym, arith, All}
 use Rattle.std.specs.Option.{option_map, option_map_or}
 use Rattle.std.proofs.lemmas.Bool.{cases_eq, eqb-true, ne_eqb, not-false, or_parts}
 use Rattle.std.proofs.lemmas.Option.{same_Some, none-some}
 use Rattle.node_ids.specs.Updates.{updated}
 use Rattle.node_ids.proofs.Updating.{length-updated, get-updated_same, get-updated_other}
 use Rattle.word_map.specs.Runs.{MapView}
-use Rattle.word_map.specs.Texts.{same_text}
 use Rattle.word_map.proofs.TextLemmas.{Decides-same_text}
 use Rattle.shuffle_reduce.specs.Merged.{PartView}
-use Rattle.worker_table.specs.declared.Worker.{Worker}
-use Rattle.worker_table.specs.Workers.{Workers, taken_slots, with_slot_given}
+use Rattle.worker_table.specs.Workers.{Workers, with_slot_given}
 use Rattle.master_state.specs.declared.answers.Why.TheVariants.{OldAttempt, WrongInput, HistoryFull}
 use Rattle.master_state.specs.declared.states.Attempt.{Attempt}
 use Rattle.master_state.specs.declared.states.Work.TheVariants as works
 use Rattle.master_state.specs.declared.states.SplitState.{SplitState}
 use Rattle.master_state.specs.declared.states.SplitState.TheVariants as states
-use Rattle.master_state.specs.States.{Setup, State, worker_of}
+use Rattle.master_state.specs.States.{Setup, State}
 use Rattle.master_state.specs.Refusals.{MapDone, PartDone, first_true, is_full, is_wrong_map}
-use Rattle.master_state.specs.Refusals.{is_wrong_part, refusal, split_text}
+use Rattle.master_state.specs.Refusals.{is_wrong_part, refusal}
 use Rattle.master_state.specs.Tests.{attempts_of, split_at}
 use Rattle.master_state.specs.Changes.{done_by, part_done_by, with_map_done, with_part_done}
 use Rattle.master_state.specs.Tidy.{IsTidy}
@@ -64,20 +61,12 @@ pub part_done_is : {setup : Setup} {s : State} {a r w : ℕ} → IsTidy setup s 
       workers = with_slot_given s.workers w;
       parts = updated (part_done_by a) s.parts r;
     }
-part_done_is {setup = setup} {s = s} {a = a} {r = r} {w = w} tidy run =
-    let on : worker_of s a ≡ w = ap worker_in run.start in
-    rw (on, part_done_at setup s a r w tidy run.start) refl
+part_done_is {setup = setup} {s = s} {a = a} {r = r} {w = w} tidy run = grind (arith, worker_in, part_done_at)
 
 -- what a split runs takes slots, of two workers where it runs two
 two_taken : (t : Workers) (one other : Attempt) → TakesSlot t one → TakesSlot t other →
     one.worker ≢ other.worker → AreTaken t (one ∷ other ∷ [])
-two_taken t one other first second apart =
-    let table = with_slot_given t one.worker in
-    let same : taken_slots table other.worker ≡ taken_slots t other.worker =
-    taken_given t one.worker other.worker ∙ rw (ne_eqb one.worker other.worker apart) (omega arith) in
-    let many : length table.each ≡ length t.each =
-    length-updated (λ (worker : Worker). record worker { taken = worker.taken - 1 }) t.each one.worker in
-    (first.known, first.taken, (omega (arith, many, second.known), omega (arith, same, second.taken), tt))
+two_taken t one other first second apart = grind (arith, taken_given, ne_eqb, length-updated)
 
 all_taken : (t : Workers) (state : SplitState) → All (TakesSlot t) (attempts_of state) →
     ((a b : Attempt) → state ≡ states.Running a (Some b) → a.worker ≢ b.worker) →
@@ -98,15 +87,7 @@ split_taken setup s split tidy =
 -- a result that is not wrong is of its split
 pub of_split : (setup : Setup) (split : ℕ) (result : MapView) → is_wrong_map setup split result ≡ false →
     IsOfSplit setup split result
-of_split setup split result right =
-    let tests = or_parts (not (same_text result.text (split_text setup split)))
-    (not (result.parts == setup.cluster.parts)) right in
-    record {
-      text = (Decides-same_text result.text (split_text setup split)).0
-          (not-false (same_text result.text (split_text setup split)) tests.0);
-      parts = eqb-true result.parts setup.cluster.parts
-          (not-false (result.parts == setup.cluster.parts) tests.1);
-    }
+of_split setup split result right = grind (arith, or_parts, Decides-same_text, not-false, eqb-true)
 
 -- a split that is done shows as done, and keeps the result of its split
 pub shown-done_at : (attempt : Attempt) (result : MapView) (entries : List SplitEntry) (k : ℕ) →
@@ -127,15 +108,8 @@ new_result one attempt made result (Some entry) e = sym (ap (kept_in made) (same
 pub made_done : (setup : Setup) (one : Attempt) (made : MapView) (entries : List SplitEntry) (k : ℕ) →
     IsOfSplit setup k made → AreOfSplits setup entries →
     AreOfSplits setup (updated (λ _. Done one made) entries k)
-made_done setup one made entries k of were split attempt result found = elim (cases_eq split k) [
-  | inl here ↦
-      let same : result ≡ made = new_result one attempt made result (slice_get entries k)
-      (sym (get-updated_same (λ _. Done one made) entries k)
-      ∙ ap (slice_get (updated (λ _. Done one made) entries k)) (sym here) ∙ found) in
-      rw (same, here) of
-  | inr other ↦ were split attempt result
-      (sym (get-updated_other (λ _. Done one made) entries k split other) ∙ found)
-]
+made_done setup one made entries k of were split attempt result found =
+    grind (arith, cases_eq, new_result, get-updated_same, get-updated_other)
 
 -- why a result is refused that is of an attempt that runs, by what its tests say
 three_reasons : (old wrong full p q : Bool) → old ≡ false → wrong ≡ p → full ≡ q →

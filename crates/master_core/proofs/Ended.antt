@@ -151,6 +151,4 @@ module _ {m : Inside} {j : Job} {a k w : ℕ} (was : IsMaster m) (is : job_of m 
 -- the end of an attempt drops no result
 pub made_ended : {m : Inside} (a split : ℕ) → IsMaster m →
     AreOfSplits (setup_of m) (updated (entry_without (is_numbered a)) m.splits.items split)
-made_ended {m = m} a split was =
-    made_updated (setup_of m) (entry_without (is_numbered a)) m.splits.items split
-    (end_makes_none (is_numbered a)) was.made
+made_ended {m = m} a split was = search (arith, made_updated, end_makes_none)

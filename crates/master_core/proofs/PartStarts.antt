@@ -1,19 +1,18 @@
 -- A master after the start of a part.
-use Rattle.std.proofs.Common.{◌≡◌, ℕ, ◌<◌, ◌||◌, List, [], ◌∷◌, ◌++◌, length, true, false, not, refl}
-use Rattle.std.proofs.Common.{sym, ap, ◌∙◌, arith, subst}
-use Rattle.std.specs.List.{list_all, list_any}
+use Rattle.std.proofs.Common.{◌≡◌, ℕ, ◌<◌, List, [], ◌∷◌, ◌++◌, length, true, false, refl}
+use Rattle.std.proofs.Common.{arith}
+use Rattle.std.specs.List.{list_all}
 use Rattle.std.proofs.lemmas.Bool.{or_parts, not-false}
 use Rattle.std.proofs.lemmas.List.{length-map}
 use Rattle.std.proofs.lemmas.List.FromFn.{length-range_with_len}
 use Rattle.node_ids.specs.Updates.{updated}
-use Rattle.word_map.specs.Texts.{SplitDocuments}
-use Rattle.worker_table.specs.Workers.{Workers, free_slots, has_free_slot, with_slot_taken}
+use Rattle.worker_table.specs.Workers.{Workers, free_slots, with_slot_taken}
 use Rattle.master_state.specs.declared.states.Start.{Start}
 use Rattle.master_state.specs.declared.states.Work.TheVariants as works
 use Rattle.master_state.specs.declared.states.PartState.{PartState}
 use Rattle.master_state.specs.declared.states.PartState.TheVariants as part
 use Rattle.master_state.specs.States.{State, next_attempt}
-use Rattle.master_state.specs.Tests.{is_done, part_is_pending, next_part, next_worker}
+use Rattle.master_state.specs.Tests.{is_done, next_part, next_worker}
 use Rattle.master_state.specs.Refusals.{is_not_reducible}
 use Rattle.master_state.specs.Changes.{with_reduce_started}
 use Rattle.master_state.specs.Jobs.{Job}
@@ -21,7 +20,6 @@ use Rattle.master_state.proofs.Lists.{any_inside, any_found}
 use Rattle.master_state.proofs.Slots.{nobody, live-inside}
 use Rattle.master_state.proofs.Starting.{free_parts}
 use Rattle.master_core.specs.declared.master.Master.TheInside.{Inside}
-use Rattle.master_tables.specs.Entries.{shown_as}
 use Rattle.master_core.specs.Inside.{state_of, job_of, IsMaster}
 
 -- what a state has of which a part may start
@@ -33,18 +31,7 @@ pub record IsReducible (s : State) : Type 0 where
 
 pub reducible_from : (s : State) → is_not_reducible s ≡ false → IsReducible s
 reducible_from s ready =
-    let workers = or_parts (not (list_all is_done s.splits) || not (list_any part_is_pending s.parts))
-    (not (list_any has_free_slot s.workers.each)) ready in
-    let parts = or_parts (not (list_all is_done s.splits)) (not (list_any part_is_pending s.parts))
-    workers.0 in
-    let some = not-false (list_any has_free_slot s.workers.each) workers.1 in
-    let slot = free_parts s.workers (next_worker s) (any_found has_free_slot s.workers.each nobody some) in
-    record {
-      done = not-false (list_all is_done s.splits) parts.0;
-      part = any_inside part_is_pending s.parts (not-false (list_any part_is_pending s.parts) parts.1);
-      worker = live-inside s.workers (next_worker s) slot.0;
-      free = omega (arith, slot.1);
-    }
+    grind (arith, or_parts, not-false, free_parts, any_found, nobody, any_inside, live-inside)
 
 -- the part and the worker of the next start, in a master's tables
 pub record IsNextIn (m : Inside) (r w : ℕ) : Type 0 where
@@ -58,21 +45,7 @@ pub record IsNextIn (m : Inside) (r w : ℕ) : Type 0 where
 
 pub next_in : {m : Inside} {j : Job} {r w : ℕ} → IsMaster m → job_of m ≡ j →
     is_not_reducible j.state ≡ false → r ≡ next_part j.state → w ≡ next_worker j.state → IsNextIn m r w
-next_in {m = m} {r = r} {w = w} was is may_start at on =
-    let ready : is_not_reducible (state_of m) ≡ false =
-    ap (λ (i : Job). is_not_reducible i.state) is ∙ may_start in
-    let part_is : r ≡ next_part (state_of m) = at ∙ ap (λ (i : Job). next_part i.state) (sym is) in
-    let worker_is : w ≡ next_worker (state_of m) = on ∙ ap (λ (i : Job). next_worker i.state) (sym is) in
-    let may = reducible_from (state_of m) ready in
-    record {
-      ready = ready;
-      part_is = part_is;
-      worker_is = worker_is;
-      known = omega (arith, part_is, may.part, was.kept.tidy.parts);
-      part = omega (arith, part_is, may.part);
-      worker = omega (arith, worker_is, may.worker);
-      free = subst (λ (v : ℕ). 0 < free_slots m.workers v) (sym worker_is) may.free;
-    }
+next_in {m = m} {r = r} {w = w} was is may_start at on = grind (arith, reducible_from)
 
 -- the tables after the start make the state after the call
 pub reduce_started_is : (s : State) {workers : Workers} {parts : List PartState} {starts : List Start}
@@ -86,11 +59,4 @@ reduce_started_is s number at on taken ran told =
 
 -- there is an entry for each text
 pub entry_of_each : {m : Inside} → IsMaster m → length m.splits.items ≡ length m.cluster.texts
-entry_of_each {m = m} was = omega (
-  arith,
-  was.kept.tidy.splits,
-  length-map m.splits.items shown_as,
-  ap length was.kept.whole.texts,
-  length-map m.cluster.texts (λ (text : SplitDocuments). text.split),
-  length-range_with_len 0 (length m.cluster.splits),
-)
+entry_of_each {m = m} was = grind (arith, length-map, length-range_with_len)

@@ -2,7 +2,7 @@
 use Rattle.std.proofs.Common.{◌≡◌, ℕ, zero, suc, ◌+◌, ◌<◌, ◌≤◌, ◌==◌, List, [], ◌∷◌, length, cond}
 use Rattle.std.proofs.Common.{if◌then◌else◌, ltb, Bool, true, false, refl, sym, ap, ◌∙◌, arith, inl, inr, All}
 use Rattle.std.specs.Prelude.{count_by, slice_index_or, vec_capacity, vec_len}
-use Rattle.std.proofs.lemmas.Bool.{false≢true, cases_eq, cases_lt, eq-eqb, ne_eqb, lt-ltb, le-ltb}
+use Rattle.std.proofs.lemmas.Bool.{false≢true, cases_eq, cases_lt, eq-eqb, lt-ltb}
 use Rattle.std.proofs.lemmas.List.{get_or_past}
 use Rattle.std.proofs.lemmas.List.Sums.{sum_by-cons, get_or-le-sum_by}
 use Rattle.shuffle_reduce.specs.Merged.{PartView}
@@ -25,40 +25,16 @@ abbrev count_below : ℕ → List PartView → ℕ
 count_below n results = count_by (λ result. ltb result.part n) results
 
 one_more_below : (r n : ℕ) → one_if (ltb r (suc n)) ≡ one_if (ltb r n) + one_if (r == n)
-one_more_below r n = elim (cases_lt r n) [
-  | inl less ↦ rw (
-    lt-ltb r (suc n) (omega (arith, less)),
-    lt-ltb r n less,
-    ne_eqb r n (λ e. absurd (omega (arith, less, e))),
-  ) refl
-  | inr past ↦ elim (cases_eq r n) [
-    | inl same ↦ rw (lt-ltb r (suc n) (omega (arith, same)), le-ltb r n past, eq-eqb r n same) refl
-    | inr other ↦ rw (le-ltb r (suc n) (omega (arith, past, other)), le-ltb r n past, ne_eqb r n other) refl
-  ]
-]
+one_more_below r n = grind arith
 
 count_more : (n : ℕ) (results : List PartView) →
     count_below (suc n) results ≡ count_below n results + count_of results n
 count_more n [] = refl
-count_more n (result ∷ results) =
-    omega (
-      arith,
-      sum_by-cons (λ (x : PartView). one_if (ltb x.part (suc n))) result results,
-      sum_by-cons (λ (x : PartView). one_if (ltb x.part n)) result results,
-      sum_by-cons (λ (x : PartView). one_if (x.part == n)) result results,
-      one_more_below result.part n,
-      count_more n results,
-    )
+count_more n (result ∷ results) = search (arith, count_more n results, sum_by-cons, one_more_below)
 
 count_none : (results : List PartView) → count_below 0 results ≡ 0
 count_none [] = refl
-count_none (result ∷ results) =
-    omega (
-      arith,
-      sum_by-cons (λ (x : PartView). one_if (ltb x.part 0)) result results,
-      ap one_if (le-ltb result.part 0 (omega arith)),
-      count_none results,
-    )
+count_none (result ∷ results) = grind (arith, count_none results)
 
 -- one of each at most are no more than there are parts, and fewer where one has none
 at_most : (results : List PartView) → ((r : ℕ) → count_of results r ≤ 1) → (n : ℕ) →
@@ -111,9 +87,7 @@ in_parts setup s results are k d l =
     let done = done_where (part_is_done (part_at s r)) (count_of results r) (are.one_each r) some in
     elim (cases_lt r (length s.parts)) [
       | inl inside ↦ inside
-      | inr past ↦
-          let pending = ap part_is_done (get_or_past s.parts r part.Pending past) in
-          absurd (false≢true (sym pending ∙ done))
+      | inr past ↦ grind (arith, get_or_past, false≢true)
     ]
 
 pub few_results : (setup : Setup) (s : State) (results : List PartView) (r : ℕ) → AreResults setup s results →

@@ -46,8 +46,17 @@ held_with : (workers : Workers) (w : ℕ) (holders : List ℕ) → is_live worke
     list_any (λ h. h == w) holders ≡ false →
     are_eight holders ≡ false → AreHolders workers holders → AreHolders workers (holders ++ w ∷ [])
 held_with workers w holders lives none few held =
-    grind (arith, common_steps, length-append, leb-false, AllPairs-append, none_is, All-append, All-cons,
-      All-nil)
+    grind (
+      arith,
+      common_steps,
+      length-append,
+      leb-false,
+      AllPairs-append,
+      none_is,
+      All-append,
+      All-cons,
+      All-nil,
+    )
 
 pub tidy_lose : (setup : Setup) (s : State) (split w : ℕ) → IsTidy setup s →
     refusal setup s (Lose split w) ≡ None →

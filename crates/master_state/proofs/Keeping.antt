@@ -71,8 +71,18 @@ pending_not_done part.Done e = absurd (false≢true e)
 done_reduce : (setup : Setup) (s : State) (r : ℕ) → refusal setup s ReduceStart ≡ None →
     part_is_done (part_at (after s ReduceStart) r) ≡ part_is_done (part_at s r)
 done_reduce setup s r allowed =
-    grind (arith, none_applies, or_parts, not-false, cases_eq, at-updated_same, any_inside,
-      pending_not_done, any_found, at-updated_other)
+    grind (
+      arith,
+      none_applies,
+      or_parts,
+      not-false,
+      cases_eq,
+      at-updated_same,
+      any_inside,
+      pending_not_done,
+      any_found,
+      at-updated_other,
+    )
 
 ended : (b : Bool) (a : Attempt) → (b || false) ≡ true →
     part_is_done (cond b part.Done (part.Running a)) ≡ true

@@ -44,8 +44,18 @@ tidy_sweep setup s counts tidy allowed =
     let room = sweep_left setup s (none_applies (reasons setup s (Sweep counts)) allowed).0 in
     let lives : (w : ℕ) → is_live s.workers w ≡ true →
     is_live table w ≡ true = λ w live. live_swept s.workers counts w ∙ live in
-    search (arith, tidy_counted, tidy_all_died, tidy_tables, fit_swept, fit_of, taken_swept, held_kept,
-      length-append, events_all_died)
+    search (
+      arith,
+      tidy_counted,
+      tidy_all_died,
+      tidy_tables,
+      fit_swept,
+      fit_of,
+      taken_swept,
+      held_kept,
+      length-append,
+      events_all_died,
+    )
 
 -- the holders of each split of the set with w after them, the first split having the number n
 abbrev returned_from : ℕ → List ℕ → ℕ → List (List ℕ) → List (List ℕ)
@@ -67,8 +77,20 @@ held_more : (workers : Workers) (w : ℕ) (holders : List ℕ) → is_live worke
     are_eight holders ≡ false → AreHolders workers holders →
     AreHolders (with_return workers w) (holders ++ w ∷ [])
 held_more workers w holders dead inside few held =
-    grind (arith, common_steps, length-append, leb-false, AllPairs-append, off_dead, All-append, All-weaker,
-      live_return_other, All-cons, live_return, All-nil)
+    grind (
+      arith,
+      common_steps,
+      length-append,
+      leb-false,
+      AllPairs-append,
+      off_dead,
+      All-append,
+      All-weaker,
+      live_return_other,
+      All-cons,
+      live_return,
+      All-nil,
+    )
 
 held_same : (workers : Workers) (w : ℕ) (holders : List ℕ) → AreHolders workers holders →
     AreHolders (with_return workers w) holders

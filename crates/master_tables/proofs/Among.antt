@@ -1,6 +1,6 @@
 -- Workers of a set.
-use Rattle.std.proofs.Common.{◌≡◌, ℕ, ◌+◌, ◌-◌, ◌<◌, List, [], ◌∷◌, ◌++◌, cond, ltb, Bool, true, false, ◌||◌}
-use Rattle.std.proofs.Common.{◌&&◌, ◌⊎◌, ◌↔◌, ◌==◌, inl, inr, refl, ap, sym, ◌∙◌, arith}
+use Rattle.std.proofs.Common.{◌≡◌, ℕ, ◌+◌, ◌-◌, ◌<◌, List, Bool, true, false, ◌||◌}
+use Rattle.std.proofs.Common.{◌⊎◌, ◌↔◌, ◌==◌, refl, arith}
 use Rattle.std.specs.Prelude.{filter, fold}
 use Rattle.std.specs.List.{list_any, range_with_len}
 use Rattle.std.proofs.Math.Bool.{or-false}
@@ -8,7 +8,7 @@ use Rattle.std.proofs.lemmas.Bool.{cases_eq, eq-eqb, ne_eqb, lt-ltb, and_from, o
 use Rattle.std.proofs.lemmas.Bool.Decides.{same_from_decides}
 use Rattle.std.proofs.lemmas.List.{append-nil}
 use Rattle.std.proofs.lemmas.List.Folds.{list_any-append}
-use Rattle.node_ids.specs.Sets.{Has, has_number}
+use Rattle.node_ids.specs.Sets.{Has}
 use Rattle.node_ids.proofs.Members.{filter_range_more, range_front}
 use Rattle.master_tables.specs.Ends.{has_worker}
 
@@ -22,42 +22,18 @@ HasJust test n set = (w : ℕ) → has_worker set w ≡ among (filter test (rang
 
 more_put : (test : ℕ → Bool) (n w : ℕ) → test n ≡ true →
     among (filter test (range_with_len 0 (n + 1))) w ≡ (among (filter test (range_with_len 0 n)) w || w == n)
-more_put test n w passes =
-    let front = filter test (range_with_len 0 n) in
-    ap (λ (all : List ℕ). among all w)
-    (filter_range_more test n ∙ ap (λ (b : Bool). front ++ cond b (n ∷ []) []) passes)
-    ∙ list_any-append (λ other. w == other) front (n ∷ [])
-    ∙ ap (λ (b : Bool). among front w || b) (or-false (w == n))
+more_put test n w passes = grind (arith, filter_range_more, list_any-append, or-false)
 
 -- the next one passes, and is put in
 pub just_put : (test : ℕ → Bool) (n : ℕ) (old new : List ℕ) → HasJust test n old → test n ≡ true → n < 256 →
     ((k : ℕ) → Has new k ↔ ((k ≡ n) ⊎ Has old k)) → HasJust test (n + 1) new
 just_put test n old new just passes small put w =
-    let before = among (filter test (range_with_len 0 n)) w in
-    elim (cases_eq w n) [
-      | inl here ↦
-          and_from (ltb w 256) (has_number new w) (lt-ltb w 256 (omega (arith, small, here)))
-          ((put w).1 (inl here))
-          ∙ sym (more_put test n w passes ∙ or_right before (w == n) (eq-eqb w n here))
-      | inr other ↦
-          let same : has_number new w ≡ has_number old w =
-          same_from_decides (has_number new w) (has_number old w) (
-            λ has. elim ((put w).0 has) [ inl here ↦ absurd (other here) | inr was ↦ was ],
-            λ was. (put w).1 (inr was),
-          )
-          (λ has. has, λ has. has) in
-          ap (λ (b : Bool). ltb w 256 && b) same ∙ just w
-          ∙ sym (more_put test n w passes ∙ ap (λ (b : Bool). before || b) (ne_eqb w n other)
-          ∙ or-false before)
-    ]
+    grind (arith, cases_eq, and_from, lt-ltb, more_put, or_right, eq-eqb, same_from_decides, ne_eqb, or-false)
 
 -- the next one does not
 pub just_skip : (test : ℕ → Bool) (n : ℕ) (set : List ℕ) → HasJust test n set → test n ≡ false →
     HasJust test (n + 1) set
-just_skip test n set just fails w =
-    let front = filter test (range_with_len 0 n) in
-    just w ∙ sym (ap (λ (all : List ℕ). among all w)
-    (filter_range_more test n ∙ ap (λ (b : Bool). front ++ cond b (n ∷ []) []) fails ∙ append-nil front))
+just_skip test n set just fails w = grind (arith, filter_range_more, append-nil)
 
 -- the next one passes, and its step comes before the others, or it does not
 pub step_next : {S : Type 0} (step : S → ℕ → S) (s : S) (test : ℕ → Bool) (i n : ℕ) → i < n → test i ≡ true →

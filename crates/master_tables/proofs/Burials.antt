@@ -33,17 +33,13 @@ without_running test (one ∷ other ∷ more ∷ rest) few = absurd (omega (arit
 
 few_left : (test : Attempt → Bool) (attempts : List Attempt) → length attempts ≤ 2 →
     length (filter (λ a. not (test a)) attempts) ≤ 2
-few_left test attempts few =
-    let stays : Attempt → Bool = λ a. not (test a) in
-    omega (arith, few, length-filter stays attempts, count_by-le-length stays attempts)
+few_left test attempts few = grind (arith, length-filter, count_by-le-length)
 
 left_both : (p q either : Attempt → Bool) → ((a : Attempt) → either a ≡ (p a || q a)) →
     (attempts : List Attempt) → length attempts ≤ 2 →
     without_attempts q (running (filter (λ a. not (p a)) attempts))
     ≡ running (filter (λ a. not (either a)) attempts)
-left_both p q either same attempts few =
-    without_running q (filter (λ a. not (p a)) attempts) (few_left p attempts few)
-    ∙ ap running (filter-both p q either same attempts)
+left_both p q either same attempts few = grind (arith, without_running, few_left, filter-both)
 
 -- what runs is not done, and no death makes it so
 death_running : (stays : Bool) (test : Attempt → Bool) (attempts : List Attempt) →
@@ -63,12 +59,8 @@ deaths_both : (stays : Bool) (p q either : Attempt → Bool) → ((a : Attempt) 
     (split : SplitState) →
     after_deaths stays q (after_deaths stays p split) ≡ after_deaths stays either split
 deaths_both stays p q either same Pending = refl
-deaths_both stays p q either same (Running one None) =
-    death_running stays q (filter (λ a. not (p a)) (one ∷ []))
-    ∙ left_both p q either same (one ∷ []) (omega arith)
-deaths_both stays p q either same (Running one (Some other)) =
-    death_running stays q (filter (λ a. not (p a)) (one ∷ other ∷ []))
-    ∙ left_both p q either same (one ∷ other ∷ []) (omega arith)
+deaths_both stays p q either same (Running one None) = grind arith
+deaths_both stays p q either same (Running one (Some other)) = grind arith
 deaths_both stays p q either same (Done attempt) =
     rw (same attempt) (done_both stays (p attempt) (q attempt) q attempt refl)
 
@@ -152,12 +144,7 @@ died_before s w dead later test same =
 -- deaths one after another change each table once
 pub all_died : (s : State) (dead : List ℕ) (test : ℕ → Bool) → ((w : ℕ) → test w ≡ among dead w) →
     fold died s dead ≡ buried s test dead
-all_died s [] test none =
-    let holders = map-nothing (filter (λ h. not (test h))) (filter-none test none) s.holders in
-    let splits = map-nothing (after_deaths (all_parts_done s) (λ attempt. test attempt.worker))
-    (spares test none (all_parts_done s)) s.splits in
-    let parts = map-nothing (part_without (λ attempt. test attempt.worker)) (spares_part test none) s.parts in
-    (λ k. with_tables s s.workers (sym holders k) (sym splits k) (sym parts k))
+all_died s [] test none = grind (arith, map-nothing, filter-none, after_deaths, spares, spares_part)
 all_died s (w ∷ dead) test same =
     all_died (died s w) dead (among dead) (λ v. refl) ∙ died_before s w dead (among dead) test same
 

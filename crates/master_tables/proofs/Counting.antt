@@ -1,9 +1,10 @@
 -- Counts over the front of a list, by one element more.
-use Rattle.std.proofs.Common.{◌≡◌, ℕ, ◌+◌, ◌<◌, List, [], ◌∷◌, ◌++◌, length, map, take, get_or}
+use Rattle.std.proofs.Common.{◌≡◌, ℕ, ◌+◌, ◌<◌, List, length, map, take, get_or}
 use Rattle.std.proofs.Common.{refl, sym, ap, ◌∙◌, arith, length-append, Bool, true, false}
 use Rattle.std.specs.Prelude.{flat_map}
 use Rattle.std.specs.List.{list_all}
 use Rattle.std.proofs.lemmas.Grind.{flat_map-append}
+use Rattle.std.proofs.lemmas.Grind.{common_steps}
 use Rattle.std.proofs.lemmas.List.{append-nil, get_or-map, length-map, take_more}
 use Rattle.std.proofs.lemmas.List.Folds.{list_all_more, list_all_at}
 
@@ -11,10 +12,7 @@ pub length_more : {X Y : Type 0} (f : X → List Y) (xs : List X) (i : ℕ) (x :
     x ≡ get_or xs i x →
     length (flat_map f (take (i + 1) xs)) ≡ length (flat_map f (take i xs)) + length (f x)
 length_more f xs i x inside at =
-    ap (λ ys. length (flat_map f ys)) (take_more xs i x inside ∙ ap (λ y. take i xs ++ y ∷ []) (sym at))
-    ∙ ap length (flat_map-append f (take i xs) (x ∷ []))
-    ∙ length-append (flat_map f (take i xs)) (f x ++ [])
-    ∙ ap (λ ys. length (flat_map f (take i xs)) + length ys) (append-nil (f x))
+    grind (arith, common_steps, take_more, flat_map-append, length-append, append-nil)
 
 -- an element of a list that was changed throughout
 pub changed_at : {X Y : Type 0} (f : X → Y) (xs : List X) (i : ℕ) (x : X) → i < length xs →

@@ -150,7 +150,5 @@ made_updated setup change entries k none made split attempt result found =
 pub updated-kept : {X : Type 0} (change : X → X) (xs : List X) (n : ℕ) (x : X) → x ≡ get_or xs n x →
     x ≡ change x → updated change xs n ≡ xs
 updated-kept change [] n x at same = refl
-updated-kept change (y ∷ ys) zero x at same =
-    let kept : change y ≡ y = cc in
-    ap (λ z. z ∷ ys) kept
+updated-kept change (y ∷ ys) zero x at same = cc
 updated-kept change (y ∷ ys) (suc n) x at same = ap (λ rest. y ∷ rest) (updated-kept change ys n x at same)

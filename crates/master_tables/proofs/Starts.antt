@@ -1,7 +1,8 @@
 -- The starts of a plan, made one after another in the tables of a master.
 use Rattle.std.proofs.Common.{◌≡◌, ℕ, ◌+◌, ◌<◌, List, [], ◌∷◌, ◌++◌, length, map, None, refl, sym}
-use Rattle.std.proofs.Common.{ap, ◌∙◌, arith, subst}
+use Rattle.std.proofs.Common.{arith, subst}
 use Rattle.std.specs.Prelude.{slice_index_or}
+use Rattle.std.proofs.lemmas.Grind.{common_steps}
 use Rattle.node_ids.specs.Updates.{updated}
 use Rattle.worker_table.specs.Workers.{Workers, free_slots, with_slot_taken}
 use Rattle.master_state.specs.declared.states.Start.{Start}
@@ -46,24 +47,11 @@ setup_with attempts = record {
 are_starts_of : (t : Workers) (splits : List SplitState) (starts : List Start) (pairs : List (ℕ × ℕ)) →
     MayStart t splits pairs →
     AreStarts (setup_with (length starts + length pairs)) (state_with t splits starts) pairs
-are_starts_of t splits starts pairs may = record {
-  pending = may.pending;
-  known = may.known;
-  once = may.once;
-  live = may.live;
-  free = may.free;
-  room = omega arith;
-}
+are_starts_of t splits starts pairs may = grind arith
 
 pub may_start_of : (setup : Setup) (s : State) (pairs : List (ℕ × ℕ)) → AreStarts setup s pairs →
     MayStart s.workers s.splits pairs
-may_start_of setup s pairs starts = record {
-  pending = starts.pending;
-  known = starts.known;
-  once = starts.once;
-  live = starts.live;
-  free = starts.free;
-}
+may_start_of setup s pairs starts = grind arith
 
 -- the worker of the first start has a free slot
 pub first_slot : (t : Workers) (splits : List SplitState) (k v : ℕ) (pairs : List (ℕ × ℕ)) →
@@ -86,13 +74,7 @@ pub started_next : (s : State) (t next : Workers) (entries later : List SplitEnt
     record s { workers = next; splits = map shown_as later; starts = told }
     ≡ split_started (record s { workers = t; splits = map shown_as entries; starts = starts }) k v
 started_next s t next entries later starts told k v pending taken ran more =
-    let now : State = record s { workers = t; splits = map shown_as entries; starts = starts } in
-    let shown : map shown_as later ≡ updated (λ _. shown_as (run_by (length starts + 1) v))
-    (map shown_as entries) k =
-    ap (map shown_as) ran
-    ∙ shown-updated (λ _. run_by (length starts + 1) v) (λ _. shown_as (run_by (length starts + 1) v))
-    (λ entry. refl) entries k in
-    rw (taken, shown, more) (sym (pending_started now k v pending))
+    grind (arith, common_steps, shown-updated, pending_started)
 
 -- and the others may start then
 pub others_may_start : (t next : Workers) (entries later : List SplitEntry) (starts : List Start) (k v : ℕ)

@@ -1,10 +1,10 @@
 -- Changes made one after another, and all at once.
 use Rattle.std.proofs.Common.{◌≡◌, ℕ, zero, suc, ◌<◌, ◌≤◌, List, [], ◌∷◌, length, map, cond, not, Bool, true}
-use Rattle.std.proofs.Common.{false, ◌||◌, ◌==◌, get_or, set, inl, inr, Option, Some, None, refl, ap, sym}
-use Rattle.std.proofs.Common.{◌∙◌, arith}
+use Rattle.std.proofs.Common.{false, ◌||◌, ◌==◌, get_or, set, Option, Some, None, refl, ap}
+use Rattle.std.proofs.Common.{arith}
 use Rattle.std.specs.Prelude.{filter, find, slice_index_or}
 use Rattle.std.specs.List.{list_any}
-use Rattle.std.proofs.lemmas.Bool.{cases_eq, eq-eqb, ne_eqb, or_left, or_right, false≢true}
+use Rattle.std.proofs.lemmas.Bool.{or_right, false≢true}
 use Rattle.std.proofs.lemmas.List.Sums.{length-filter, count_by-le-length}
 use Rattle.node_ids.specs.Updates.{updated}
 use Rattle.node_ids.proofs.Updating.{updated_at}
@@ -20,10 +20,7 @@ passes_neither q false q_here x rest both here same = rw (here, same) refl
 pub filter-both : {X : Type 0} (p q either : X → Bool) → ((x : X) → either x ≡ (p x || q x)) → (xs : List X) →
     filter (λ x. not (q x)) (filter (λ x. not (p x)) xs) ≡ filter (λ x. not (either x)) xs
 filter-both p q either same [] = refl
-filter-both p q either same (x ∷ xs) =
-    rw (same x)
-    (passes_neither q (p x) (q x) x (filter (λ y. not (p y)) xs) (filter (λ y. not (either y)) xs) refl
-    (filter-both p q either same xs))
+filter-both p q either same (x ∷ xs) = grind (arith, filter-both p q either same xs)
 
 -- a test that nothing passes
 pub filter-none : {X : Type 0} (test : X → Bool) → ((x : X) → test x ≡ false) → (xs : List X) →
@@ -103,9 +100,7 @@ find-none test (x ∷ xs) found = find_none_step test (test x) x xs refl found (
 find_some_step : (test : ℕ → Bool) (b : Bool) (x y : ℕ) (rest : Option ℕ) (more : Bool) → test x ≡ b →
     cond b (Some x) rest ≡ Some y → (rest ≡ Some y → (more ≡ true) × (test y ≡ true)) →
     ((x == y || more) ≡ true) × (test y ≡ true)
-find_some_step test true x y rest more here found inner =
-    let same : x ≡ y = cc in
-    (or_left (x == y) more (eq-eqb x y same), ap test (sym same) ∙ here)
+find_some_step test true x y rest more here found inner = grind arith
 find_some_step test false x y rest more here found inner =
     (or_right (x == y) more (inner found).0, (inner found).1)
 
@@ -113,9 +108,7 @@ find_some_step test false x y rest more here found inner =
 pub find-some : (test : ℕ → Bool) (xs : List ℕ) (y : ℕ) → find test xs ≡ Some y →
     (list_any (λ x. x == y) xs ≡ true) × (test y ≡ true)
 find-some test [] y found = cc
-find-some test (x ∷ xs) y found =
-    find_some_step test (test x) x y (find test xs) (list_any (λ k. k == y) xs) refl found
-    (find-some test xs y)
+find-some test (x ∷ xs) y found = grind (arith, find-some test xs y)
 
 length_less : (b any : Bool) (x : ℕ) (xs ys : List ℕ) → length ys ≤ length xs →
     (any ≡ true → length ys < length xs) → (b || any) ≡ true →
@@ -128,17 +121,11 @@ pub length-without : (xs : List ℕ) (y : ℕ) → list_any (λ x. x == y) xs �
     length (filter (λ x. not (x == y)) xs) < length xs
 length-without [] y has = absurd (false≢true has)
 length-without (x ∷ xs) y has =
-    let rest = filter (λ k. not (k == y)) xs in
-    length_less (x == y) (list_any (λ k. k == y) xs) x xs rest
-    (omega (arith, length-filter (λ k. not (k == y)) xs, count_by-le-length (λ k. not (k == y)) xs))
-    (length-without xs y) has
+    grind (arith, length-without xs y, length_less, length-filter, count_by-le-length)
 
 -- what passes a test passes it also where it is named
 passes_too : (test : ℕ → Bool) (y : ℕ) → test y ≡ true → (x : ℕ) → test x ≡ (x == y || test x)
-passes_too test y passes x = elim (cases_eq x y) [
-  | inl here ↦ ap test here ∙ passes ∙ sym (or_left (x == y) (test x) (eq-eqb x y here))
-  | inr other ↦ sym (ap (λ (b : Bool). b || test x) (ne_eqb x y other))
-]
+passes_too test y passes x = grind arith
 
 -- without one that passes, and then without all that do
 pub filter-after : (test : ℕ → Bool) (y : ℕ) → test y ≡ true → (xs : List ℕ) →

@@ -1,6 +1,6 @@
 -- The lines of the splits, each made of what stands at its place.
-use Rattle.std.proofs.Common.{◌≡◌, ℕ, zero, suc, ◌<◌, List, [], ◌∷◌, length, map, drop, get_or, refl, sym, ap}
-use Rattle.std.proofs.Common.{◌∙◌, arith}
+use Rattle.std.proofs.Common.{◌≡◌, ℕ, zero, suc, ◌<◌, List, [], ◌∷◌, length, map, drop, get_or, refl}
+use Rattle.std.proofs.Common.{arith}
 use Rattle.std.specs.Prelude.{slice_index_or}
 use Rattle.std.proofs.lemmas.List.{length-map}
 use Rattle.wave_problem.specs.Wave.{Split, Wave, IsAdmissible}
@@ -39,10 +39,7 @@ pub seen_at : (seen : Wave) (splits : List Split) (entries : List SplitEntry) (l
     entry ≡ get_or entries i entry → holders ≡ holders_of lists n →
     line ≡ split_line split (shown_as entry) holders → wave.split_at seen n ≡ line
 seen_at seen splits entries lists i n split line entry holders of place inside a b at here held line_is =
-    ap (λ (lines : List Split). slice_index_or lines n no_split) of
-    ∙ ap (λ (k : ℕ). slice_index_or (split_lines splits (map shown_as entries) lists) k no_split) place
-    ∙ line_at splits entries lists i split entry inside a b at here
-    ∙ ap (split_line split (shown_as entry)) (ap (holders_of lists) (sym place) ∙ sym held) ∙ sym line_is
+    grind (arith, no_split, line_at)
 
 -- a split that may start is one of them
 pub split_among : (seen : Wave) (splits : List Split) (entries : List SplitEntry) (lists : List (List ℕ))
@@ -50,10 +47,4 @@ pub split_among : (seen : Wave) (splits : List Split) (entries : List SplitEntry
     length entries ≡ length splits → length lists ≡ length splits → IsAdmissible seen split w →
     split < length splits
 split_among seen splits entries lists split w of a b admissible =
-    let states = map shown_as entries in
-    omega (
-      arith,
-      pending_known seen split admissible.pending,
-      ap (λ (lines : List Split). length lines) of,
-      length-lines splits states lists (length-map entries shown_as ∙ a) b,
-    )
+    grind (arith, pending_known, length-lines, length-map)

@@ -1,7 +1,8 @@
 -- Arcs that stand in a list, and one more at its end.
 use Rattle.std.proofs.Common.{◌≡◌, ℕ, zero, suc, ◌-◌, ◌<◌, ◌≤◌, List, [], ◌∷◌, ◌++◌, length, get_or, refl}
-use Rattle.std.proofs.Common.{sym, ap, ◌∙◌, subst, inl, inr, arith}
+use Rattle.std.proofs.Common.{◌∙◌, arith}
 use Rattle.std.proofs.lemmas.Bool.{cases_lt}
+use Rattle.std.proofs.lemmas.Grind.{common_steps}
 use Rattle.std.proofs.lemmas.List.{get_or_append_left, get_or_push, length-append, get_or-append_right}
 use Rattle.flow_network.specs.declared.arcs.FlowArc.{FlowArc}
 use Rattle.flow_network.specs.Flow.{Flow}
@@ -12,16 +13,7 @@ use Rattle.network_prices.specs.Building.{IsEmptyWithin, IsAdded}
 -- an arc that stands, by its number
 pub arc_standing : (arcs : List FlowArc) (a : FlowArc) → HasArc arcs a →
     (k : ℕ) × IsArcFrom arcs k a.from a.to a.capacity a.cost
-arc_standing arcs a stands = (
-  stands.0,
-  record {
-    listed = stands.1;
-    from_is = ap (λ (b : FlowArc). b.from) stands.2;
-    to_is = ap (λ (b : FlowArc). b.to) stands.2;
-    capacity_is = ap (λ (b : FlowArc). b.capacity) stands.2;
-    cost_is = ap (λ (b : FlowArc). b.cost) stands.2;
-  },
-)
+arc_standing arcs a stands = grind arith
 
 pub at_old : (arcs : List FlowArc) (a : FlowArc) (k : ℕ) → k < length arcs →
     arc_at (arcs ++ a ∷ []) k ≡ arc_at arcs k
@@ -41,13 +33,7 @@ stands_new arcs a = let size = length-append arcs (a ∷ []) in (length arcs, om
 pub each_push : (P : FlowArc → Type 0) (arcs : List FlowArc) (a : FlowArc) →
     ((k : ℕ) → k < length arcs → P (arc_at arcs k)) → P a
     → (k : ℕ) → k < length (arcs ++ a ∷ []) → P (arc_at (arcs ++ a ∷ []) k)
-each_push P arcs a old new k l =
-    let size = length-append arcs (a ∷ []) in
-    elim (cases_lt k (length arcs)) [
-      | inl m ↦ subst P (sym (at_old arcs a k m)) (old k m)
-      | inr m ↦ (let last : length arcs ≡ k = omega arith in
-          subst P (sym (at_new arcs a) ∙ ap (arc_at (arcs ++ a ∷ [])) last) new)
-    ]
+each_push P arcs a old new k l = grind (arith, common_steps, length-append, cases_lt, at_old, at_new)
 
 -- no arc carries a unit yet
 no_more : (i : ℕ) → get_or {A = ℕ} (0 ∷ []) i 0 ≡ 0
@@ -55,20 +41,12 @@ no_more zero = refl
 no_more (suc i) = refl
 
 zero_push : (flows : List ℕ) → ((k : ℕ) → get_or flows k 0 ≡ 0) → (k : ℕ) → get_or (flows ++ 0 ∷ []) k 0 ≡ 0
-zero_push flows z k = elim (cases_lt k (length flows)) [
-  | inl l ↦ get_or_append_left flows (0 ∷ []) 0 k l ∙ z k
-  | inr l ↦ get_or-append_right flows (0 ∷ []) (length flows) k 0 refl l ∙ no_more (k - length flows)
-]
+zero_push flows z k = grind (arith, cases_lt, get_or_append_left, get_or-append_right, no_more)
 
 pub add_empty : {L : Type 0} (sized : L → Type 0) (limit next : ℕ) (a : FlowArc) (old new : Flow L) →
     limit < next → IsEmptyWithin sized limit old
     → IsAdded a old new → IsEmptyWithin sized next new
-add_empty sized limit next a old new less e added = record {
-  layout = subst sized (sym added.0) e.layout;
-  arc_limit = (let size = ap (λ (z : List FlowArc). length z) added.1 in
-      let more = length-append old.arcs (a ∷ []) in let limited = e.arc_limit in omega arith);
-  empty = subst (λ (z : List ℕ). (k : ℕ) → get_or z k 0 ≡ 0) (sym added.2) (zero_push old.flows e.empty);
-}
+add_empty sized limit next a old new less e added = grind (arith, length-append, zero_push)
 
 pub more_room : {L : Type 0} (sized : L → Type 0) (limit next : ℕ) (network : Flow L) → limit ≤ next →
     IsEmptyWithin sized limit network → IsEmptyWithin sized next network

@@ -49,13 +49,7 @@ some_start n w (Some v ∷ rest) l = elim (cases_eq v w) [
 ]
 
 usable_or_not : (wave : Wave) (w : ℕ) → IsUsable wave w ⊎ (IsUsable wave w → ⊥)
-usable_or_not wave w = elim (cases_Bool (worker_at wave w).live) [
-  | inl t ↦ elim (cases_lt 0 (worker_at wave w).free) [
-    | inl l ↦ inl (t, l)
-    | inr n ↦ inr (λ u. let l = u.1 in absurd (omega arith))
-  ]
-  | inr f ↦ inr (λ u. let t = u.0 in (cc))
-]
+usable_or_not wave w = grind arith
 
 module _ (wave : Wave) (nodes : WaveNodes) (arcs : List FlowArc) (flows : List ℕ) (starts : List (Option ℕ))
     (network : IsWaveNetwork wave nodes arcs) (shipped : IsShipped wave nodes arcs flows)

@@ -1,11 +1,11 @@
 -- What a flow costs, node by node.
 use Rattle.std.proofs.Common.{◌≡◌, ℕ, zero, suc, ◌+◌, ◌*◌, ◌<◌, ◌≤◌, cond, eqb, ltb, List, [], ◌∷◌, length}
 use Rattle.std.proofs.Common.{get_or, refl, ap, inl, inr, arith}
-use Rattle.std.proofs.lemmas.Bool.{cases_lt, cases_eq, eq-eqb, ne_eqb, lt-ltb, le-ltb}
+use Rattle.std.proofs.lemmas.Bool.{cases_lt, cases_eq, eq-eqb, lt-ltb, le-ltb}
 use Rattle.flow_network.specs.declared.arcs.FlowArc.{FlowArc}
 use Rattle.flow_network.specs.Flows.{arc_at, outflow}
 use Rattle.flow_network.specs.Laws.{flow_cost}
-use Rattle.network_prices.proofs.Sums.{part_more, outflow-ge}
+use Rattle.network_prices.proofs.Sums.{outflow-ge}
 
 -- what the arcs cost that leave a node, and those that leave nodes below n
 abbrev pub spent_at : List FlowArc → List ℕ → ℕ → ℕ
@@ -28,10 +28,7 @@ pub spent_more : (n : ℕ) (arcs : List FlowArc) (flows : List ℕ)
     → spent (suc n) arcs flows ≡ spent n arcs flows + spent_at arcs flows n
 spent_more n [] flows = refl
 spent_more n (a ∷ arcs) [] = refl
-spent_more n (a ∷ arcs) (f ∷ flows) =
-    let rest = spent_more n arcs flows in
-    let part = part_more a.from n (f * a.cost) in
-    omega arith
+spent_more n (a ∷ arcs) (f ∷ flows) = grind (arith, spent_more n arcs flows)
 
 -- the other arcs are free of cost
 pub spent_all : (n : ℕ) (arcs : List FlowArc) (flows : List ℕ)
@@ -70,10 +67,7 @@ spent_nothing (a ∷ arcs) (f ∷ flows) v none = elim (cases_eq a.from v) [
       let free : f * a.cost ≡ 0 * a.cost = ap (λ (z : ℕ). z * a.cost) (let idle : f ≡ 0 = omega arith in
       idle) in
       rw (eq-eqb a.from v e) (omega arith))
-  | inr n ↦
-      (let all : 0 + outflow arcs flows v ≡ 0 = rw (ne_eqb a.from v n) at none in
-      let rest = spent_nothing arcs flows v (omega arith) in
-      rw (ne_eqb a.from v n) (omega arith))
+  | inr n ↦ grind (arith, spent_nothing arcs flows v (omega arith))
 ]
 
 pub spent_one : (arcs : List FlowArc) (flows : List ℕ) (v k : ℕ) → length flows ≡ length arcs →
@@ -82,23 +76,10 @@ pub spent_one : (arcs : List FlowArc) (flows : List ℕ) (v k : ℕ) → length 
     spent_at arcs flows v ≡ (arc_at arcs k).cost
 spent_one [] flows v k sizes one l from unit = absurd (omega arith)
 spent_one (a ∷ arcs) [] v k sizes one l from unit = absurd (omega arith)
-spent_one (a ∷ arcs) (f ∷ flows) v zero sizes one l from unit =
-    let all : f + outflow arcs flows v ≡ 1 = rw (eq-eqb a.from v from) at one in
-    let rest = spent_nothing arcs flows v (omega arith) in
-    let own : f * a.cost ≡ 1 * a.cost = ap (λ (z : ℕ). z * a.cost) (let single : f ≡ 1 = omega arith in
-    single) in
-    rw (eq-eqb a.from v from) (omega arith)
+spent_one (a ∷ arcs) (f ∷ flows) v zero sizes one l from unit = grind (arith, eq-eqb, spent_nothing)
 spent_one (a ∷ arcs) (f ∷ flows) v (suc k) sizes one l from unit =
     let some = outflow-ge arcs flows v k (omega arith) (omega arith) from in
     elim (cases_eq a.from v) [
-      | inl e ↦
-          (let all : f + outflow arcs flows v ≡ 1 = rw (eq-eqb a.from v e) at one in
-          let rest = spent_one arcs flows v k (omega arith) (omega arith) (omega arith) from unit in
-          let free : f * a.cost ≡ 0 * a.cost = ap (λ (z : ℕ). z * a.cost) (let idle : f ≡ 0 = omega arith in
-          idle) in
-          rw (eq-eqb a.from v e) (omega arith))
-      | inr n ↦
-          (let all : 0 + outflow arcs flows v ≡ 1 = rw (ne_eqb a.from v n) at one in
-          let rest = spent_one arcs flows v k (omega arith) (omega arith) (omega arith) from unit in
-          rw (ne_eqb a.from v n) (omega arith))
+      | inl e ↦ grind (arith, spent_one arcs flows v k (omega arith) (omega arith) (omega arith) from unit)
+      | inr n ↦ grind (arith, spent_one arcs flows v k (omega arith) (omega arith) (omega arith) from unit)
     ]

@@ -46,9 +46,7 @@ load_is wave base n w (p ∷ places) (Some v ∷ starts) size k each =
     elim (cases_eq v w) [
       | inl e ↦ (let a = ap {B = ℕ} (λ (b : Bool). cond b 1 0) (eq-eqb v w e) in
           let b = ap {B = ℕ} (λ (b : Bool). cond b 1 0) (eq-eqb p (base + w) (omega arith)) in omega arith)
-      | inr d ↦ (let a = ap {B = ℕ} (λ (b : Bool). cond b 1 0) (ne_eqb v w d) in
-          let b = ap {B = ℕ} (λ (b : Bool). cond b 1 0) (ne_eqb p (base + w) (λ q. d (omega arith))) in
-          omega arith)
+      | inr d ↦ grind arith
     ]
 
 module _ (wave : Wave) (arcs : List FlowArc) (flows : List ℕ) (first : List ℕ)
@@ -259,9 +257,7 @@ pub starts_more : (wave : Wave) (base : ℕ) (places : List ℕ) (starts : List 
     → ((k : ℕ) → k < s → IsStart wave base (get_or places k 0) (start_of starts k)) → (k : ℕ) → k < s + 1 →
     IsStart wave base (get_or places k 0) (start_of (set starts s o) k)
 starts_more wave base places starts s o l here before k m = elim (cases_eq k s) [
-  | inl e ↦ subst (λ (x : ℕ). IsStart wave base (get_or places x 0) (start_of (set starts s o) x)) (sym e)
-      (subst (λ (x : Option ℕ). IsStart wave base (get_or places s 0) x)
-      (sym (get_or-set_same starts s o None l)) here)
+  | inl e ↦ grind (arith, get_or-set_same)
   | inr d ↦ subst (λ (x : Option ℕ). IsStart wave base (get_or places k 0) x)
       (sym (get_or-set_other starts s k o None d)) (before k (omega arith))
 ]

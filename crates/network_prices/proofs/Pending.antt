@@ -1,6 +1,6 @@
 -- The pending splits, each of which sends one unit to the sink.
 use Rattle.std.proofs.Common.{◌≡◌, ℕ, zero, suc, ◌+◌, ◌*◌, ◌<◌, ◌≤◌, Bool, true, false, cond, List, [], ◌∷◌}
-use Rattle.std.proofs.Common.{◌++◌, length, get_or, refl, sym, ap, ◌∙◌, subst, inl, inr, arith}
+use Rattle.std.proofs.Common.{◌++◌, length, get_or, refl, sym, ap, subst, inl, inr, arith}
 use Rattle.std.proofs.lemmas.Bool.{cases_Bool, cases_lt, cases_eq, eq-eqb, ne_eqb, false≢true}
 use Rattle.std.proofs.lemmas.List.{get_or_append_left, get_or_push, length-append}
 use Rattle.flow_network.specs.declared.arcs.FlowArc.{FlowArc}
@@ -28,41 +28,39 @@ pub times_past : (wave : Wave) (n v : ℕ) → n ≤ v → times_in v (pending_b
 times_past wave zero v l = refl
 times_past wave (suc n) v l =
     let before = times_past wave n v (omega arith) in
-    elim (cases_Bool (split_at wave n).pending) [
-      | inl t ↦ (let off : unit_at n v ≡ 0 = ap (λ (b : Bool). cond b 1 0) (ne_eqb n v (λ e. omega arith)) in
-          ap (times_in v) (pending-more wave n t) ∙ times_in-push v (pending_below wave n) n ∙ omega arith)
-      | inr f ↦ ap (times_in v) (pending-same wave n f) ∙ before
-    ]
+    grind (arith, cases_Bool, ne_eqb, pending-more, times_in-push, pending-same)
 
 pub times_pending : (wave : Wave) (n v : ℕ) → v < n → (split_at wave v).pending ≡ true →
     times_in v (pending_below wave n) ≡ 1
 times_pending wave zero v l p = absurd (omega arith)
 times_pending wave (suc n) v l p = elim (cases_eq n v) [
-  | inl e ↦ (let on : unit_at n v ≡ 1 = ap (λ (b : Bool). cond b 1 0) (eq-eqb n v e) in
-      let before = times_past wave n v (omega arith) in
-      let here : (split_at wave n).pending ≡ true = ap (λ (z : ℕ). (split_at wave z).pending) e ∙ p in
-      ap (times_in v) (pending-more wave n here) ∙ times_in-push v (pending_below wave n) n ∙ omega arith)
-  | inr q ↦ (let before = times_pending wave n v (omega arith) p in
-      let off : unit_at n v ≡ 0 = ap (λ (b : Bool). cond b 1 0) (ne_eqb n v q) in
-      elim (cases_Bool (split_at wave n).pending) [
-        | inl t ↦ ap (times_in v) (pending-more wave n t) ∙ times_in-push v (pending_below wave n) n
-            ∙ omega arith
-        | inr f ↦ ap (times_in v) (pending-same wave n f) ∙ before
-      ])
+  | inl e ↦ grind (arith, eq-eqb, times_past, pending-more, times_in-push)
+  | inr q ↦
+      grind (
+        arith,
+        times_pending wave n v (omega arith) p,
+        ne_eqb,
+        cases_Bool,
+        pending-more,
+        times_in-push,
+        pending-same,
+      )
 ]
 
 times_other : (wave : Wave) (n v : ℕ) → (split_at wave v).pending ≡ false →
     times_in v (pending_below wave n) ≡ 0
 times_other wave zero v f = refl
 times_other wave (suc n) v f =
-    let before = times_other wave n v f in
-    elim (cases_Bool (split_at wave n).pending) [
-      | inl t ↦ (let apart : n ≡ v → ⊥ =
-          λ e. false≢true (sym f ∙ sym (ap (λ (z : ℕ). (split_at wave z).pending) e) ∙ t) in
-          let off : unit_at n v ≡ 0 = ap (λ (b : Bool). cond b 1 0) (ne_eqb n v apart) in
-          ap (times_in v) (pending-more wave n t) ∙ times_in-push v (pending_below wave n) n ∙ omega arith)
-      | inr g ↦ ap (times_in v) (pending-same wave n g) ∙ before
-    ]
+    grind (
+      arith,
+      times_other wave n v f,
+      cases_Bool,
+      false≢true,
+      ne_eqb,
+      pending-more,
+      times_in-push,
+      pending-same,
+    )
 
 -- each source is a pending split, and they rise
 pub source_in : (wave : Wave) (n k : ℕ) → k < length (pending_below wave n) →
@@ -81,9 +79,7 @@ source_in wave (suc n) k l = elim (cases_Bool (split_at wave n).pending) [
       subst (λ (z : List ℕ). (get_or z k 0 < suc n) × ((split_at wave (get_or z k 0)).pending ≡ true))
       (sym more)
       (elim (cases_lt k (length (pending_below wave n))) [
-        | inl m ↦ (let before = source_in wave n k m in let less = before.0 in
-            subst (λ (v : ℕ). (v < suc n) × ((split_at wave v).pending ≡ true))
-            (sym (get_or_append_left (pending_below wave n) (n ∷ []) 0 k m)) (omega arith, before.1))
+        | inl m ↦ grind (arith, source_in wave n k m, get_or_append_left)
         | inr m ↦ subst (λ (v : ℕ). (v < suc n) × ((split_at wave v).pending ≡ true))
             (sym (get_or_push (pending_below wave n) n 0 k (omega arith))) (omega arith, t)
       ]))
@@ -116,12 +112,15 @@ pending_mono wave m zero l = let same = ap (λ (k : ℕ). length (pending_below 
     (let e : m ≡ 0 = omega arith in e) in omega arith
 pending_mono wave m (suc n) l = elim (cases_eq m (suc n)) [
   | inl e ↦ (let same = ap (λ (k : ℕ). length (pending_below wave k)) e in omega arith)
-  | inr d ↦ (let before = pending_mono wave m n (omega arith) in
-      elim (cases_Bool (split_at wave n).pending) [
-        | inl t ↦ (let more = ap (λ (z : List ℕ). length z) (pending-more wave n t) in
-            let size = length-append (pending_below wave n) (n ∷ []) in omega arith)
-        | inr f ↦ (let same = ap (λ (z : List ℕ). length z) (pending-same wave n f) in omega arith)
-      ])
+  | inr d ↦
+      grind (
+        arith,
+        pending_mono wave m n (omega arith),
+        cases_Bool,
+        pending-more,
+        length-append,
+        pending-same,
+      )
 ]
 
 -- count units at one node alone

@@ -3,6 +3,7 @@ use Rattle.std.proofs.Common.{◌≡◌, ℕ, zero, suc, ◌+◌, ◌<◌, Bool,
 use Rattle.std.proofs.Common.{ap, inl, inr, ◌⊎◌, arith}
 use Rattle.std.specs.Prelude.{◌==◌}
 use Rattle.std.proofs.lemmas.Bool.{eq-eqb, ne_eqb}
+use Rattle.std.proofs.lemmas.Grind.{common_steps}
 use Rattle.std.proofs.lemmas.List.Sums.{sum_by-cons}
 use Rattle.flow_network.specs.declared.arcs.FlowArc.{FlowArc}
 use Rattle.flow_network.specs.Flows.{arc_at}
@@ -19,12 +20,8 @@ standing_none (x ∷ xs) v n =
 
 pub standing_some : (xs : List ℕ) (v i : ℕ) → i < length xs → get_or xs i 0 ≡ v → 0 < standing xs v
 standing_some [] v i l e = absurd (omega arith)
-standing_some (x ∷ xs) v zero l e =
-    let sum = sum_by-cons (λ (place : ℕ). cond (place == v) 1 0) x xs in
-    let here = ap {B = ℕ} (λ (b : Bool). cond b 1 0) (eq-eqb x v e) in omega arith
-standing_some (x ∷ xs) v (suc i) l e =
-    let sum = sum_by-cons (λ (place : ℕ). cond (place == v) 1 0) x xs in
-    let rest = standing_some xs v i (omega arith) e in omega arith
+standing_some (x ∷ xs) v zero l e = grind (arith, common_steps, sum_by-cons, eq-eqb)
+standing_some (x ∷ xs) v (suc i) l e = grind (arith, common_steps, sum_by-cons)
 
 -- each number from m on stands once
 pub standing_from : (xs : List ℕ) (m i v : ℕ) → ((k : ℕ) → k < length xs → get_or xs k 0 ≡ m + k) →

@@ -41,12 +41,8 @@ use Rattle.network_prices.proofs.Certified.{flow_is_assignment, prices_certify}
 one_way : (arcs : List FlowArc) (sources sink v : ℕ) (xs ys : List ℕ) → IsWay arcs sources sink (v ∷ xs)
     → IsWay arcs sources sink (v ∷ ys) → length xs ≡ length ys
 one_way arcs sources sink v [] [] a b = refl
-one_way arcs sources sink v [] (y ∷ ys) a b =
-    let fed = b.1 in let low = a.1 fed.feed fed.listed fed.to_is in
-    let from = fed.from_is in let inner = fed.inner in absurd (omega arith)
-one_way arcs sources sink v (x ∷ xs) [] a b =
-    let fed = a.1 in let low = b.1 fed.feed fed.listed fed.to_is in
-    let from = fed.from_is in let inner = fed.inner in absurd (omega arith)
+one_way arcs sources sink v [] (y ∷ ys) a b = grind arith
+one_way arcs sources sink v (x ∷ xs) [] a b = grind arith
 one_way arcs sources sink v (x ∷ xs) (y ∷ ys) a b =
     let fed = b.1 in
     elim (a.1.entered fed.feed fed.listed fed.to_is) [
@@ -769,6 +765,4 @@ cheapest_costs wave nodes arcs flows starts network cheapest plan =
 pub certified : (wave : Wave) (nodes : WaveNodes) (network : List FlowArc → Type 0) (starts : List (Option ℕ))
     (prices : PriceList) → ((arcs : List FlowArc) → network arcs → IsWaveNetwork wave nodes arcs)
     → IsReadOff wave nodes network starts prices → Certifies (claim wave starts prices)
-certified wave nodes network starts prices is read =
-    prices_certify wave nodes read.arcs read.flows read.depths starts prices (is read.arcs read.over)
-    read.cheapest.shipment read.reduced read.at_sink read.plan read.priced
+certified wave nodes network starts prices is read = search (arith, prices_certify)

@@ -21,11 +21,7 @@ between u x y a (inr e) = elim (cases_lt a.to x)
 -- what stands before the next row stands before a place of this one, or past it
 past : (u v x : ℕ) (a : FlowArc) → v ≡ u + 1 → IsBefore a v 0 → IsBefore a u x ⊎ ((a.from ≡ u) × (x ≤ a.to))
 past u v x a next (inr e) = absurd (let none = e.1 in omega arith)
-past u v x a next (inl l) = elim (cases_lt a.from u) [
-  | inl m ↦ inl (inl m)
-  | inr m ↦ elim (cases_lt a.to x)
-      [ inl k ↦ inl (inr (omega arith, k)) | inr k ↦ inr (omega arith, omega arith) ]
-]
+past u v x a next (inl l) = grind arith
 
 -- the arcs of a row to the n nodes from base on are those of some numbers
 pub record IsRow {D : Type 0} (wanted : D → Type 0) (arc : D → FlowArc) (u base n : ℕ) (own : ℕ → D)
@@ -37,9 +33,7 @@ pub record IsRow {D : Type 0} (wanted : D → Type 0) (arc : D → FlowArc) (u b
 number_of : {D : Type 0} {wanted : D → Type 0} {arc : D → FlowArc} {u base n : ℕ} {own : ℕ → D}
     {holds : ℕ → Type 0} → IsRow wanted arc u base n own holds → (e : D) → wanted e → (arc e).from ≡ u
     → (arc e).to < base + n → (i : ℕ) × holds i × (e ≡ own i) × ((arc e).to ≡ base + i)
-number_of {D} {wanted} {arc} row e want from high =
-    let o = row.only e want from high in
-    (o.0, o.1, o.2, ap (λ (d : D). (arc d).to) o.2 ∙ (row.here o.0 o.1).2)
+number_of {D} {wanted} {arc} row e want from high = grind arith
 
 module _ {D L : Type 0} {wanted : D → Type 0} {arc : D → FlowArc} {sized : L → Type 0} where
   -- the arc d is the only one between two places of its row
@@ -157,11 +151,5 @@ outroom-row {D} {wanted} {arc} {arcs} {u} {base} {n} {own} {holds} rows row insi
     (λ i l. record {
       some = λ k m from to. let o = own_arc k m from in
           let at = o.2 in let same : o.0 ≡ i = omega arith in o.4 ∙ ap f same;
-      none = λ more. let at = row.here i (some i l more) in
-          let stands = rows.complete (own i) at.0 in (
-            stands.0,
-            stands.1,
-            ap (λ (a : FlowArc). a.from) stands.2 ∙ at.1,
-            ap (λ (a : FlowArc). a.to) stands.2 ∙ at.2,
-          );
+      none = grind arith;
     })

@@ -1,7 +1,7 @@
 -- Sums of flows and of capacities at a node, against single arcs.
 use Rattle.std.proofs.Common.{◌≡◌, ℕ, zero, suc, ◌+◌, ◌<◌, ◌≤◌, cond, eqb, ltb, List, []}
 use Rattle.std.proofs.Common.{◌∷◌, length, get_or, refl, ap, inl, inr, arith}
-use Rattle.std.proofs.lemmas.Bool.{cases_lt, cases_eq, eq-eqb, ne_eqb, lt-ltb, le-ltb}
+use Rattle.std.proofs.lemmas.Bool.{cases_eq, eq-eqb, ne_eqb, lt-ltb, le-ltb}
 use Rattle.flow_network.specs.declared.arcs.FlowArc.{FlowArc}
 use Rattle.flow_network.specs.Flows.{arc_at, inflow, outflow}
 use Rattle.flow_network.specs.Laws.{outroom}
@@ -69,27 +69,13 @@ given_none (a ∷ arcs) (f ∷ flows) = let rest = given_none arcs flows in
     rw (le-ltb a.from 0 (omega arith)) (omega arith)
 
 pub part_more : (u n f : ℕ) → cond (ltb u (suc n)) f 0 ≡ cond (ltb u n) f 0 + cond (eqb u n) f 0
-part_more u n f = elim (cases_lt u n) [
-  | inl l ↦ rw (lt-ltb u n l, lt-ltb u (suc n) (omega arith), ne_eqb u n (λ e. omega arith)) (omega arith)
-  | inr past ↦ elim (cases_eq u n) [
-    | inl e ↦ rw (le-ltb u n (omega arith), lt-ltb u (suc n) (omega arith), eq-eqb u n e) (omega arith)
-    | inr d ↦ rw (
-      le-ltb u n (omega arith),
-      le-ltb u (suc n) (let apart : u ≡ n → ⊥ = d in
-          omega arith),
-      ne_eqb u n d,
-    ) (omega arith)
-  ]
-]
+part_more u n f = grind arith
 
 pub given_more : (n : ℕ) (arcs : List FlowArc) (flows : List ℕ) →
     given (suc n) arcs flows ≡ given n arcs flows + outflow arcs flows n
 given_more n [] flows = refl
 given_more n (a ∷ arcs) [] = refl
-given_more n (a ∷ arcs) (f ∷ flows) =
-    let rest = given_more n arcs flows in
-    let part = part_more a.from n f in
-    omega arith
+given_more n (a ∷ arcs) (f ∷ flows) = grind (arith, given_more n arcs flows)
 
 -- a node that is fed by nodes below n alone has no more than what those give, and what they give elsewhere
 -- besides

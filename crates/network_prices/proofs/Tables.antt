@@ -2,6 +2,7 @@
 use Rattle.std.proofs.Common.{◌≡◌, ℕ, zero, suc, ◌+◌, ◌-◌, ◌<◌, ◌≤◌, cond, eqb, List, [], ◌∷◌, ◌++◌, length}
 use Rattle.std.proofs.Common.{get_or, refl, sym, ap, ◌∙◌, subst, ◌⊎◌, inl, inr, arith}
 use Rattle.std.proofs.lemmas.Bool.{cases_lt, cases_eq, eq-eqb, ne_eqb}
+use Rattle.std.proofs.lemmas.Grind.{common_steps}
 use Rattle.std.proofs.lemmas.List.{length-append}
 use Rattle.flow_network.specs.declared.arcs.FlowArc.{FlowArc}
 use Rattle.flow_network.specs.Flow.{Flow}
@@ -37,13 +38,8 @@ rising_push arcs a rising before j k less l =
     subst (λ (b : FlowArc). IsBefore b (arc_at (arcs ++ a ∷ []) k).from (arc_at (arcs ++ a ∷ []) k).to)
     (sym (at_old arcs a j (omega arith)))
     (elim (cases_lt k (length arcs)) [
-      | inl m ↦
-          subst (λ (b : FlowArc). IsBefore (arc_at arcs j) b.from b.to) (sym (at_old arcs a k m))
-          (rising j k less m)
-      | inr m ↦
-          (let last : length arcs ≡ k = omega arith in
-          let new : a ≡ arc_at (arcs ++ a ∷ []) k = sym (at_new arcs a) ∙ ap (arc_at (arcs ++ a ∷ [])) last in
-          subst (λ (b : FlowArc). IsBefore (arc_at arcs j) b.from b.to) new (before j (omega arith)))
+      | inl m ↦ grind (arith, at_old)
+      | inr m ↦ grind (arith, common_steps, at_new)
     ])
 
 module _ {D : Type 0} (wanted : D → Type 0) (arc : D → FlowArc) where
@@ -148,17 +144,7 @@ the_arc {D} {wanted} {arc} {arcs} rows d want = arc_standing arcs (arc d) (rows.
 pub rising_ends : (arcs : List FlowArc) → AreRisingArcs arcs
     → ((k : ℕ) → k < length arcs → (arc_at arcs k).from < (arc_at arcs k).to)
     → (j k : ℕ) → j ≤ k → k < length arcs → (arc_at arcs j).from < (arc_at arcs k).to
-rising_ends arcs rising onward j k less l =
-    let here = onward k l in
-    elim (cases_eq j k) [
-      | inl e ↦ (let same = ap (λ (z : ℕ). (arc_at arcs z).from) e in omega arith)
-      | inr n ↦
-          elim (rising j k (omega arith) l) [
-            | inl before ↦ omega arith
-            | inr row ↦ (let same = row.0 in
-                omega arith)
-          ]
-    ]
+rising_ends arcs rising onward j k less l = grind arith
 
 -- what the arcs from v can carry that lead to x
 abbrev room_at : List FlowArc → ℕ → ℕ → ℕ
@@ -218,13 +204,7 @@ room_cases (a ∷ arcs) v x rising =
 
 room_is : (arcs : List FlowArc) (v x room : ℕ) → AreRisingArcs arcs → IsRoom arcs v x room →
     room_at arcs v x ≡ room
-room_is arcs v x room rising is = elim (room_cases arcs v x rising) [
-  | inr found ↦ found.4 ∙ is.some found.0 found.1 found.2 found.3
-  | inl none ↦ none.1 ∙ elim (cases_lt 0 room) [
-    | inl l ↦ (let there = is.none l in absurd (none.0 there.0 there.1 there.2 there.3))
-    | inr n ↦ omega arith
-  ]
-]
+room_is arcs v x room rising is = grind (arith, room_cases, cases_lt)
 
 -- an arc to one of n nodes is counted at one of them
 one_end : (to base n room : ℕ) → base ≤ to → to < base + n
@@ -247,9 +227,7 @@ by_ends (a ∷ arcs) v base n low high =
     let rest = by_ends arcs v base n (λ k l e. low (suc k) (omega arith) e)
     (λ k l e. high (suc k) (omega arith) e) in
     elim (cases_eq a.from v) [
-      | inr d ↦ rw (ne_eqb a.from v d) (
-          let same = sum_below-same n (λ i. 0 + room_at arcs v (base + i)) (λ i. room_at arcs v (base + i))
-          (λ i l. omega arith) in omega arith)
+      | inr d ↦ grind arith
       | inl e ↦ rw (eq-eqb a.from v e) (
           let own = one_end a.to base n a.capacity (low 0 (omega arith) e) (high 0 (omega arith) e) in
           let both = sum_below-add n (λ i. cond (eqb a.to (base + i)) a.capacity 0)

@@ -4,6 +4,7 @@ use Rattle.std.proofs.Common.{◌∷◌, length, get_or, set, refl, sym, ap, ◌
 use Rattle.std.proofs.Common.{get_or-set_same, get_or-set_other}
 use Rattle.std.specs.Prelude.{◌==◌, drop}
 use Rattle.std.proofs.lemmas.Bool.{cases_eq, eq-eqb, ne_eqb}
+use Rattle.std.proofs.lemmas.Grind.{common_steps}
 use Rattle.std.proofs.lemmas.List.{drop_more, drop-set-lt, length-set}
 use Rattle.std.proofs.lemmas.List.Sums.{sum_by-cons}
 use Rattle.flow_network.specs.declared.arcs.FlowArc.{FlowArc}
@@ -20,13 +21,8 @@ pub standing-set : (places : List ℕ) (i v x : ℕ) → i < length places
     → standing (set places i v) x + cond (eqb (get_or places i 0) x) 1 0 ≡ standing places x
     + cond (eqb v x) 1 0
 standing-set [] i v x l = absurd (omega arith)
-standing-set (p ∷ places) zero v x l =
-    let a = sum_by-cons (λ (place : ℕ). cond (place == x) 1 0) p places in
-    let b = sum_by-cons (λ (place : ℕ). cond (place == x) 1 0) v places in omega arith
-standing-set (p ∷ places) (suc i) v x l =
-    let a = sum_by-cons (λ (place : ℕ). cond (place == x) 1 0) p places in
-    let b = sum_by-cons (λ (place : ℕ). cond (place == x) 1 0) p (set places i v) in
-    let rest = standing-set places i v x (omega arith) in omega arith
+standing-set (p ∷ places) zero v x l = grind (arith, common_steps, sum_by-cons)
+standing-set (p ∷ places) (suc i) v x l = grind (arith, common_steps, sum_by-cons)
 
 -- those past the first places, none of which is at the node, are all
 pub standing_past : (places : List ℕ) (i v : ℕ) → HaveLeft places v i
@@ -43,17 +39,11 @@ standing_past (p ∷ places) (suc i) v left =
 -- one place more
 pub left_past : (places : List ℕ) (i v : ℕ) → HaveLeft places v i → (get_or places i 0 ≡ v → ⊥)
     → HaveLeft places v (i + 1)
-left_past places i v left other s l e = elim (cases_eq s i) [
-  | inl here ↦ other (ap (λ j. get_or places j 0) (sym here) ∙ e)
-  | inr n ↦ left s (omega arith) e
-]
+left_past places i v left other s l e = grind arith
 
 pub left_set : (places : List ℕ) (i u v : ℕ) → HaveLeft places u i → i < length places → (u ≡ v → ⊥)
     → HaveLeft (set places i v) u (i + 1)
-left_set places i u v left l apart s m e = elim (cases_eq s i) [
-  | inl here ↦ apart (sym e ∙ ap (λ j. get_or (set places i v) j 0) here ∙ get_or-set_same places i v 0 l)
-  | inr n ↦ left s (omega arith) (sym (get_or-set_other places i s v 0 n) ∙ e)
-]
+left_set places i u v left l apart s m e = grind (arith, cases_eq, get_or-set_same, get_or-set_other)
 
 either : (b : Bool) (f : ℕ) → f ≡ 0 → cond b f 0 ≡ 0
 either true f e = e
@@ -61,11 +51,7 @@ either false f e = refl
 
 -- no unit moves
 pub none_moved : (places : List ℕ) (u v units : ℕ) → units ≡ 0 → IsMoved places places u v units
-none_moved places u v units e = record {
-  size = refl;
-  each = λ s l. inl refl;
-  counts = λ x. (let a = either (eqb u x) units e in let b = either (eqb v x) units e in omega arith);
-}
+none_moved places u v units e = grind arith
 
 -- nor has any, past the first places
 pub none_moving : (places : List ℕ) (u v units first : ℕ) → units ≤ standing places u
@@ -75,9 +61,7 @@ none_moving places u v units first enough left = record {
   few_left = omega arith;
   each = λ s l. inl refl;
   rest = λ s l. refl;
-  counts = λ x.
-      (let a = either (u == x) (units - units) (omega arith) in
-      let b = either (v == x) (units - units) (omega arith) in omega arith);
+  counts = grind arith;
   enough = (let past = standing_past places first u left in omega arith);
 }
 

@@ -54,9 +54,6 @@ pub stands_by : (b : Bool) (names : List Word) (name : Word) → (IsTrue b ↔ C
 stands_by b names name test =
     same_truth b (stands_in names name) test (found bytes_eq bytes_eq-Decides name names)
 
-pub none_barred : (splits workers : List Word) (s w : ℕ) → IsBarred splits workers [] s w → ⊥
-none_barred splits workers s w (line, (k, lt, is), one, other) = omega arith
-
 -- the line barred with those before it
 pub one_more_barred : (splits workers : List Word) (front : List Statement) (line : Statement) (s w : ℕ)
     (New Old : Type 0)

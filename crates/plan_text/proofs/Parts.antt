@@ -1,10 +1,10 @@
 -- Lists that are mapped twice, and the parts that the rows of a text without a fault make.
-use Rattle.std.proofs.Common.{ℕ, List, [], ◌∷◌, ◌++◌, ◌≡◌, ◌≢◌, ◌<◌, ◌≤◌, ◌+◌, ◌∙◌, Option, Some, None}
-use Rattle.std.proofs.Common.{IfSome, length, take, map, subst, sym, ap, refl, arith}
+use Rattle.std.proofs.Common.{ℕ, List, [], ◌≡◌, ◌≢◌, ◌<◌, ◌≤◌, ◌∙◌, Option, Some, None}
+use Rattle.std.proofs.Common.{IfSome, length, map, subst, sym, ap, refl, arith}
 use Rattle.std.specs.List.{All, Contains, position, slice_index_or}
 use Rattle.std.specs.Option.{option_map}
 use Rattle.std.specs.Str.{bytes_eq}
-use Rattle.std.proofs.lemmas.List.{get_or-map, length-map, map-append, map_more}
+use Rattle.std.proofs.lemmas.List.{get_or-map, length-map}
 use Rattle.std.proofs.lemmas.List.Elements.{All-map}
 use Rattle.std.proofs.lemmas.List.Quantifiers.{position-Some}
 use Rattle.line_shapes.specs.Lines.{Statement, tail_words}
@@ -28,11 +28,6 @@ All-unmap P f ys h k d lt = subst P (get_or-map f ys k d (f d) lt) (h k (f d) (r
 -- a row to stand past the last
 abbrev pub no_row : KeyedLine
 no_row = record { keyword = Problem; words = record { ref_ptr = (0, 0); now = [] } }
-
-pub mapped_more : {X Y Z : Type 0} (g : Y → Z) (f : X → Y) (xs : List X) (i : ℕ) (d : X) → i < length xs
-    → map g (map f (take (i + 1) xs)) ≡ map g (map f (take i xs)) ++ g (f (slice_index_or xs i d)) ∷ []
-mapped_more g f xs i d inside =
-    ap (map g) (map_more f xs i d inside) ∙ map-append g (map f (take i xs)) (f (slice_index_or xs i d) ∷ [])
 
 small_split : (workers busy : List Word) (s : Statement) → IsTidySplit workers s
     → IsSmall (declared_split workers busy s)

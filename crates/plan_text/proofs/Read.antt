@@ -5,11 +5,10 @@ use Rattle.line_shapes.specs.Lines.{Statement}
 use Rattle.line_rules.specs.Known.{Known, known_at}
 use Rattle.line_rules.specs.Reading.{AreFitLines, IsAllRead}
 use Rattle.line_rules.specs.declared.purpose.Purpose.{Purpose}
-use Rattle.line_rules.specs.declared.purpose.Purpose.TheVariants.{Checking, Planning}
+use Rattle.line_rules.specs.declared.purpose.Purpose.TheVariants.{Planning}
 use Rattle.line_rules.proofs.OneReading.{reads-unique}
-use Rattle.plan_text.specs.Reading.{HasFitLines, IsProblemOf, IsReadingOf, MakesPlan, MakesProblem}
+use Rattle.plan_text.specs.Reading.{HasFitLines, IsProblemOf, MakesProblem}
 use Rattle.plan_text.specs.Tidy.{AreTidy}
-use Rattle.plan_text.specs.declared.built.PlanText.{PlanText}
 use Rattle.plan_text.specs.declared.built.ProblemText.{ProblemText}
 use Rattle.plan_text.proofs.Tidy.{tidy-read}
 
@@ -22,16 +21,6 @@ module _ (purpose : Purpose) (text : List ℕ) (k : Known) (read : IsAllRead pur
   all_fit ss reads =
       subst (λ (ts : List Statement). AreFitLines (known_at purpose []) (take (length ts) (lines_of text)) ts)
       (reads-unique purpose text read.statements ss read.reads reads) read.fit
-
-pub reading_of : (text : List ℕ) (k : Known) (rows : List Statement) (v : PlanText) →
-    IsAllRead Checking text k
-    → rows ≡ k.rows → MakesPlan rows v → IsReadingOf text v
-reading_of text k rows v read same makes = record {
-  statements = read.statements;
-  reads = read.reads;
-  declares = subst (λ (r : List Statement). MakesPlan r v) (same ∙ ap (λ (j : Known). j.rows) read.known)
-      makes;
-}
 
 pub problem_of : (text : List ℕ) (k : Known) (rows : List Statement) (v : ProblemText) →
     IsAllRead Planning text k

@@ -29,25 +29,13 @@ barring c barred = record c { wave = record c.wave { barred = barred } }
 
 holds-same : (c : Claim) (x y : List ℕ) → HaveSamePairs x y → (d : Condition) → Holds (barring c x) d
     → Holds (barring c y) d
-holds-same c x y same (Allowed s w) h = λ started.
-    let may = h started in
-    let back = in_other y x (have_same_pairs-sym x y same) s w in
-    (may.0, λ barred. may.1 (back barred))
-holds-same c x y same (Priced s w) h = λ admissible. h (record {
-  pending = admissible.pending;
-  held = admissible.held;
-  live = admissible.live;
-  has_slot = admissible.has_slot;
-  not_barred = λ barred. admissible.not_barred (in_other x y same s w barred);
-})
+holds-same c x y same (Allowed s w) h = grind (arith, in_other, have_same_pairs-sym)
+holds-same c x y same (Priced s w) h = grind (arith, in_other)
 holds-same c x y same d h = h
 
 first_failure-same : (c : Claim) (x y : List ℕ) → HaveSamePairs x y → (d : Condition)
     → IsFirstFailure (barring c x) d → IsFirstFailure (barring c y) d
-first_failure-same c x y same d first = record {
-  fails = λ h. first.fails (holds-same c y x (have_same_pairs-sym x y same) d h);
-  earlier_hold = λ e below. holds-same c x y same e (first.earlier_hold e below);
-}
+first_failure-same c x y same d first = grind (arith, holds-same, have_same_pairs-sym)
 
 -- the same condition is the first that fails
 pub first_failures-equal : (c : Claim) (x y : List ℕ) → HaveSamePairs x y → (d e : Condition)

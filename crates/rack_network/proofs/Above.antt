@@ -1,7 +1,7 @@
 -- The nodes above holders, by their numbers from the cluster's on.
 use Rattle.std.proofs.Common.{◌≡◌, ℕ, zero, suc, ◌+◌, ◌-◌, ◌<◌, ◌≤◌, Bool, true, List, length, get_or}
-use Rattle.std.proofs.Common.{Some, None, refl, sym, ap, ◌∙◌, subst, ◌⊎◌, inl, inr, ◌↔◌, arith}
-use Rattle.std.proofs.lemmas.Bool.{cases_lt, cases_eq}
+use Rattle.std.proofs.Common.{Some, None, refl, sym, subst, ◌⊎◌, inl, inr, ◌↔◌, arith}
+use Rattle.std.proofs.lemmas.Bool.{cases_lt}
 use Rattle.std.specs.Prelude.{IsTrue}
 use Rattle.node_ids.specs.Sets.{Has}
 use Rattle.wave_problem.specs.Wave.{Wave, split_at, worker_at, worker_in}
@@ -18,16 +18,7 @@ use Rattle.rack_network.proofs.Levels.{among_kept, holder_live, holder_place}
 pub above_more : (wave : Wave) (holders old new : List ℕ) (i h : ℕ) → get_or holders i 0 ≡ h
     → AreAbove wave holders i old → ((n : ℕ) → Has new n ↔ (IsAbove wave h n ⊎ Has old n))
     → AreAbove wave holders (i + 1) new
-above_more wave holders old new i h at are added n = (
-  λ has. elim ((added n).0 has) [
-    | inl own ↦ (i, omega arith, subst (λ (g : ℕ). IsAbove wave g n) (sym at) own)
-    | inr was ↦ (let j = (are n).0 was in let l = j.1 in (j.0, omega arith, j.2))
-  ],
-  λ j. (added n).1 (let l = j.1 in elim (cases_eq j.0 i) [
-    | inl e ↦ inl (subst (λ (g : ℕ). IsAbove wave g n) (ap (λ (k : ℕ). get_or holders k 0) e ∙ at) j.2)
-    | inr o ↦ inr ((are n).1 (j.0, omega arith, j.2))
-  ]),
-)
+above_more wave holders old new i h at are added n = grind arith
 
 -- The node with a number, if it is above a holder: its level and which holder that is.
 pub record IsReached (wave : Wave) (s n : ℕ) : Type 0 where

@@ -1,7 +1,7 @@
 -- How many arcs there are at most: holders that are passed, workers of racks, racks of centres; and a
 -- centre's slots.
 use Rattle.std.proofs.Common.{◌≡◌, ℕ, zero, suc, ◌+◌, ◌*◌, ◌<◌, ◌≤◌, Bool, true, false, cond, eqb, ltb, List}
-use Rattle.std.proofs.Common.{[], ◌∷◌, length, get_or, refl, ap, ◌∙◌, inl, inr, arith}
+use Rattle.std.proofs.Common.{[], ◌∷◌, length, get_or, refl, ap, inl, inr, arith}
 use Rattle.std.proofs.lemmas.Bool.{cases_lt, cases_eq, lt-ltb, le-ltb, eq-eqb}
 use Rattle.wave_problem.specs.Sums.{sum_below}
 use Rattle.wave_problem.specs.Wave.{Wave}
@@ -14,50 +14,26 @@ use Rattle.rack_network.specs.Build.{passed, passed_by, in_places, in_place}
 pub passed-le : (wave : Wave) (level place : ℕ) (holders : List ℕ)
     → passed wave level place holders ≤ length holders
 passed-le wave level place [] = omega arith
-passed-le wave level place (h ∷ holders) =
-    let rest = passed-le wave level place holders in
-    elim (cases_lt (node_above wave level h) place) [
-      | inl l ↦ rw (lt-ltb (node_above wave level h) place l) (omega arith)
-      | inr m ↦ rw (le-ltb (node_above wave level h) place (omega arith)) (omega arith)
-    ]
+passed-le wave level place (h ∷ holders) = grind (arith, passed-le wave level place holders)
 
 passed-mono : (wave : Wave) (level x y : ℕ) (holders : List ℕ) → x ≤ y
     → passed wave level x holders ≤ passed wave level y holders
 passed-mono wave level x y [] l = omega arith
-passed-mono wave level x y (h ∷ holders) l =
-    let rest = passed-mono wave level x y holders l in
-    elim (cases_lt (node_above wave level h) x) [
-      | inl a ↦ rw (lt-ltb (node_above wave level h) x a, lt-ltb (node_above wave level h) y (omega arith))
-          (omega arith)
-      | inr b ↦ rw (le-ltb (node_above wave level h) x (omega arith)) (omega arith)
-    ]
+passed-mono wave level x y (h ∷ holders) l = grind (arith, passed-mono wave level x y holders l)
 
 -- one more where a holder's node is passed
 pub passed-more : (wave : Wave) (level x y i : ℕ) (holders : List ℕ) → x ≤ y → i < length holders
     → x ≤ node_above wave level (get_or holders i 0) → node_above wave level (get_or holders i 0) < y
     → passed wave level x holders < passed wave level y holders
 passed-more wave level x y i [] l m low high = absurd (omega arith)
-passed-more wave level x y zero (h ∷ holders) l m low high =
-    let rest = passed-mono wave level x y holders l in
-    rw (le-ltb (node_above wave level h) x low, lt-ltb (node_above wave level h) y high) (omega arith)
+passed-more wave level x y zero (h ∷ holders) l m low high = grind (arith, passed-mono, le-ltb, lt-ltb)
 passed-more wave level x y (suc i) (h ∷ holders) l m low high =
     let rest = passed-more wave level x y i holders l (omega arith) low high in
-    elim (cases_lt (node_above wave level h) x) [
-      | inl a ↦ rw (lt-ltb (node_above wave level h) x a, lt-ltb (node_above wave level h) y (omega arith))
-          (omega arith)
-      | inr b ↦ rw (le-ltb (node_above wave level h) x (omega arith)) (omega arith)
-    ]
+    grind arith
 
 pub passed_by-le : (wave : Wave) (place : ℕ) (holders : List ℕ)
     → passed_by wave place holders ≤ 4 * length holders
-passed_by-le wave place holders =
-    omega (
-      arith,
-      passed-le wave 0 place holders,
-      passed-le wave 1 place holders,
-      passed-le wave 2 place holders,
-      passed-le wave 3 place holders,
-    )
+passed_by-le wave place holders = grind (arith, passed-le)
 
 pub passed_by-more : (wave : Wave) (level x y i : ℕ) (holders : List ℕ) → level < 4 → x ≤ y
     → i < length holders → x ≤ node_above wave level (get_or holders i 0)
@@ -128,9 +104,7 @@ cond-add false false x y = refl
 pub by_racks : (wave : Wave) (tree : IsTree wave) (c m : ℕ) → m ≤ length wave.workers
     → sum_below (length wave.tree.centre_of) (λ r. cond (eqb (centre_of wave r) c) (slots_below wave m r) 0)
     ≡ slots_within wave m c
-by_racks wave tree c zero l =
-    sum_below-same (length wave.tree.centre_of) _ (λ _. 0) (λ r k. cond_none (eqb (centre_of wave r) c))
-    ∙ sum_below-zero (length wave.tree.centre_of)
+by_racks wave tree c zero l = search (arith, sum_below-same, cond_none, sum_below-zero)
 by_racks wave tree c (suc m) l =
     let rest = by_racks wave tree c m (omega arith) in
     let part = sum_below-same (length wave.tree.centre_of)

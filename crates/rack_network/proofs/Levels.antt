@@ -27,12 +27,7 @@ fold-le_each f (y ∷ ys) a x among = elim among [
 
 pub least-le : (f : ℕ → ℕ) (xs : List ℕ) (x d : ℕ) → IsAmong x xs → least (map f xs) ≡ Some d → d ≤ f x
 least-le f [] x d among e = absurd among
-least-le f (y ∷ ys) x d among e =
-    let is : fold min (f y) (map f ys) ≡ d = cc in
-    elim among [
-      | inl s ↦ (let low = fold-le (map f ys) (f y) in let same = ap f s in omega arith)
-      | inr r ↦ (let low = fold-le_each f ys (f y) x r in omega arith)
-    ]
+least-le f (y ∷ ys) x d among e = grind (arith, fold-le, fold-le_each)
 
 min_is : (a b : ℕ) → (min a b ≡ a) ⊎ (min a b ≡ b)
 min_is a b = elim (cases_lt a b) [ inl l ↦ inl (omega arith) | inr n ↦ inr (omega arith) ]
@@ -40,10 +35,7 @@ min_is a b = elim (cases_lt a b) [ inl l ↦ inl (omega arith) | inr n ↦ inr (
 fold_is : (f : ℕ → ℕ) (xs : List ℕ) (a : ℕ) → (fold min a (map f xs) ≡ a)
     ⊎ ((x : ℕ) × IsAmong x xs × (fold min a (map f xs) ≡ f x))
 fold_is f [] a = inl refl
-fold_is f (y ∷ ys) a = elim (fold_is f ys (min a (f y))) [
-  | inr r ↦ inr (r.0, inr r.1, r.2)
-  | inl e ↦ elim (min_is a (f y)) [ inl p ↦ inl (e ∙ p) | inr q ↦ inr (y, inl refl, e ∙ q) ]
-]
+fold_is f (y ∷ ys) a = grind (arith, fold_is f ys (min a (f y)))
 
 pub least_is : (f : ℕ → ℕ) (xs : List ℕ) → 0 < length xs → (x : ℕ) × IsAmong x xs
     × (least (map f xs) ≡ Some (f x))
@@ -78,13 +70,7 @@ cost_at wave s w d e = ap (λ (o : Option ℕ). unwrap_or (option_map (λ d. (sp
 
 pub cost-le : (wave : Wave) (s w h : ℕ) → IsAmong h (live_holders wave s)
     → unwrap_or (cost wave s w) 0 ≤ (split_at wave s).bytes * distance wave.tree h w
-cost-le wave s w h among =
-    let best = least_is (λ h. distance wave.tree h w) (live_holders wave s) (holder_held wave s h among) in
-    let near = least-le (λ h. distance wave.tree h w) (live_holders wave s) h (distance wave.tree best.0 w)
-    among best.2 in
-    let is = cost_at wave s w (distance wave.tree best.0 w) best.2 in
-    let scaled = mul-le-mul_left (split_at wave s).bytes near in
-    omega arith
+cost-le wave s w h among = grind (arith, least_is, holder_held, least-le, cost_at, mul-le-mul_left)
 
 pub cost_is : (wave : Wave) (s w : ℕ) → 0 < length (live_holders wave s)
     → (h : ℕ) × IsAmong h (live_holders wave s)

@@ -15,9 +15,7 @@ bit_at-shr word from i = ap (λ (n : ℕ). n % 2)
     (div-div-eq-div-mul word (2 ^ from) (2 ^ i) ∙ ap (λ (n : ℕ). word / n) (sym (pow-add 2 from i)))
 
 bit_from : (word from k : ℕ) → from ≤ k → bit_at word k ≡ bit_at (word / 2 ^ from) (k - from)
-bit_from word from k l =
-    ap (bit_at word) (let is : k ≡ from + (k - from) = omega arith in is)
-    ∙ sym (bit_at-shr word from (k - from))
+bit_from word from k l = grind (arith, bit_at-shr)
 
 pub no_bit : (word from : ℕ) → word / 2 ^ from ≡ 0 → IsNextBit word from 64
 no_bit word from none = record {

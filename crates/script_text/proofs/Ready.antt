@@ -14,14 +14,12 @@ use Rattle.line_rules.specs.declared.entering.Entering.TheVariants.{InTurn, Word
 use Rattle.line_rules.specs.declared.purpose.Purpose.{Purpose}
 use Rattle.line_rules.specs.declared.rule.Rule.TheVariants as rule
 use Rattle.plan_text.specs.Names.{names_of}
-use Rattle.plan_text.specs.Tidy.{AreTidy, IsTidyRow}
+use Rattle.plan_text.specs.Tidy.{IsTidyRow}
 use Rattle.plan_text.proofs.Named.{row_named}
-use Rattle.plan_text.proofs.Words.{few_names, line}
+use Rattle.plan_text.proofs.Words.{line}
 use Rattle.script_text.specs.Commands.{word_at}
-use Rattle.script_text.specs.Naming.{AreNames}
-use Rattle.script_text.specs.Ready.{AreFew, HasName, HasNumber, HasWords, HaveNames, HavePair, IsWholeCommand}
+use Rattle.script_text.specs.Ready.{HasName, HasNumber, HasWords, HaveNames, HavePair, IsWholeCommand}
 use Rattle.script_text.specs.Ready.{told_names}
-use Rattle.script_text.specs.declared.script.Names.{Names}
 use Rattle.script_text.proofs.Bounds.{bounded-read}
 
 -- ---- the words of each shape
@@ -84,10 +82,3 @@ ready-read purpose text k read i d lt =
     has_words k.rows s.keyword s.words command.in_turn command.tidy
 
 -- ---- names
-
-pub few_told : (rows : List Statement) → AreTidy rows → AreFew (told_names rows)
-few_told rows tidy = grind (arith, few_names)
-
--- the names of the rows are those that they tell
-pub names_told : (rows : List Statement) (names : Names) → AreNames rows names → told_names rows ≡ names
-names_told rows names are = grind arith

@@ -15,7 +15,7 @@ use Rattle.master_state.specs.declared.events.Event.{Event}
 use Rattle.master_state.specs.declared.events.Event.TheVariants as events
 use Rattle.master_state.specs.declared.states.Start.{Start}
 use Rattle.master_state.specs.declared.states.Work.TheVariants as works
-use Rattle.master_state.specs.States.{Setup, State}
+use Rattle.master_state.specs.States.{State}
 use Rattle.master_state.specs.Tests.{next_part, next_worker}
 use Rattle.master_state.specs.Tidy.{IsStartOf}
 use Rattle.master_state.specs.Jobs.{Job, Answers, AnswersBackup, AnswersReduce, AnswersWith}
@@ -69,9 +69,7 @@ at_end history event =
 
 pub is_at : (old : Job) (call : Call) (given : Answer) (new : Job) → Takes old call given new →
     IsAt new.history given (event_of old.state call)
-is_at old call (Accepted place) new accepted =
-    (λ k. event_at (accepted.next.history k) (accepted.next.place_is k))
-    ∙ at_end old.history (event_of old.state call)
+is_at old call (Accepted place) new accepted = grind (arith, at_end)
 is_at old call (Ignored why) new same = tt
 
 -- what a hand keeps of an event that was read where the answer says is that of the call
@@ -79,10 +77,7 @@ entered_is : (old : Job) (hand : HandValue) (call : Call) (given told : Answer) 
     (after : HandValue) → Takes old call given new → told ≡ given →
     ((event : Event) → IsAt new.history told event → after ≡ answered hand event [] told) →
     after ≡ answered hand (event_of old.state call) [] given
-entered_is old hand call given told new after took is entered =
-    let keeps : (event : Event) → IsAt new.history given event → after ≡ answered hand event [] given =
-    subst (λ t. (event : Event) → IsAt new.history t event → after ≡ answered hand event [] t) is entered in
-    keeps (event_of old.state call) (is_at old call given new took)
+entered_is old hand call given told new after took is entered = grind (arith, is_at)
 
 -- a step that reached the master
 pub stepped : {sizes : Sizes} {inside old : Job} {hand : HandValue} {call : Call} {given told : Answer}
@@ -134,11 +129,7 @@ reached_of sizes old hand n place new (inr reached) = reached
 next_of : (sizes : Sizes) (old : Job) (hand : HandValue) (call : Call) (counts : List (List ℕ))
     (given : Answer) (new : Job) →
     IsBehind sizes old hand (length counts) given new (Takes old call given new) → IsNextOf hand counts given
-next_of sizes old hand call counts (Accepted place) new is =
-    let reached = reached_of sizes old hand (length counts) place new is in (
-      omega (arith, last_within old.history hand.calls reached.0.0.stands, reached.1.next.place_is),
-      reached.0.1,
-    )
+next_of sizes old hand call counts (Accepted place) new is = grind (arith, reached_of, last_within)
 next_of sizes old hand call counts (Ignored why) new is = tt
 
 mapped : {A B X Y : Type 0} → (X → Y) → A ⊎ (B × X) → A ⊎ (B × Y)
@@ -197,18 +188,7 @@ reply_of sizes old hand place reply new is kept then =
     All-right (IsStartOf new.setup) old.state.starts (start ∷ [])
     (subst (λ (l : List Start). All (IsStartOf new.setup) l) starts then.tidy.known) 0 start (omega arith) in
     let part : next_part old.state < new.setup.cluster.parts = known.work in
-    record {
-      kept = kept;
-      replied = told;
-      part = omega (arith, told.part, part, ap (λ (s : Setup). s.cluster.parts) done.next.setup);
-      worker = omega (
-        arith,
-        told.worker,
-        known.worker,
-        ap (λ (s : Setup). length s.cluster.slots) done.next.setup,
-        reached.0.0.workers,
-      );
-    }
+    grind arith
 
 pub replies : (given : ReduceAnswer) {sizes : Sizes} {old : Job} {hand : HandValue} {new : Job}
     {after : HandValue} → IsReduceStep sizes old hand given new after → IsKept old → IsKept new →

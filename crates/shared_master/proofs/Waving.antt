@@ -32,16 +32,7 @@ both_first false b is = absurd cc
 pub wave_kept : (sizes : Sizes) (old : Job) (hand : HandValue) (plan : List (Option ℕ)) (prices : PriceList)
     (shared : SharedWave) (new : Job) (after : HandValue) →
     IsSharedWave sizes old hand plan prices shared new after → IsKeptWave sizes hand shared after
-wave_kept sizes old hand plan prices shared new after wave =
-    let starts : length shared.starts.items ≡ length (pairs_of plan) =
-    wave.count ∙ wave.committed.change.count_is in
-    record {
-      hand_is = wave.hand_is;
-      above = omega (arith, last_within old.history hand.calls wave.own.stands, wave.committed.next.place_is);
-      room = ap (has_room hand 0) starts ∙ both_first (has_room hand 0 (length (pairs_of plan))) _ wave.room;
-      count = wave.count;
-      maps = wave.maps;
-    }
+wave_kept sizes old hand plan prices shared new after wave = grind (arith, last_within, both_first)
 
 -- the start of a pair
 abbrev started : ℕ × ℕ → Start
@@ -52,16 +43,12 @@ all_started : (s : State) (pairs : List (ℕ × ℕ)) →
     (fold (λ (now : State) pair. split_started now pair.0 pair.1) s pairs).starts
     ≡ s.starts ++ map started pairs
 all_started s [] = sym (append-nil s.starts)
-all_started s (pair ∷ pairs) =
-    all_started (split_started s pair.0 pair.1) pairs
-    ∙ append_assoc s.starts (started pair ∷ []) (map started pairs)
+all_started s (pair ∷ pairs) = grind (arith, all_started (split_started s pair.0 pair.1) pairs, append_assoc)
 
 length-started : (s : State) (pairs : List (ℕ × ℕ)) →
     length (fold (λ (now : State) pair. split_started now pair.0 pair.1) s pairs).starts
     ≡ length s.starts + length pairs
-length-started s pairs =
-    ap length (all_started s pairs) ∙ length-append s.starts (map started pairs)
-    ∙ ap (λ n. length s.starts + n) (length-map pairs started)
+length-started s pairs = grind (arith, all_started, length-append, length-map)
 
 -- those that a master keeps as its cluster's are map starts within the sizes beside the lock
 all_maps : (sizes : Sizes) (setup : Setup) (pairs : List (ℕ × ℕ)) →
@@ -95,26 +82,12 @@ map_starts sizes old hand plan wave new own committed kept =
 
 pub first_within : (old : Job) (plan : List (Option ℕ)) (wave : Wave) (new : Job) →
     IsCommitted old plan wave new → wave.first - 1 ≤ length new.state.starts
-first_within old plan wave new committed =
-    omega (
-      arith,
-      committed.change.first_is,
-      ap (λ (s : State). length s.starts) committed.change.leads,
-      length-started old.state (pairs_of plan),
-    )
+first_within old plan wave new committed = grind (arith, length-started)
 
 pub starts_counted : (old : Job) (plan : List (Option ℕ)) (wave : Wave) (new : Job) →
     IsCommitted old plan wave new →
     length (drop (wave.first - 1) new.state.starts) ≡ wave.count
-starts_counted old plan wave new committed =
-    omega (
-      arith,
-      committed.change.first_is,
-      committed.change.count_is,
-      ap (λ (s : State). length s.starts) committed.change.leads,
-      length-started old.state (pairs_of plan),
-      length-drop (wave.first - 1) new.state.starts,
-    )
+starts_counted old plan wave new committed = grind (arith, length-started, length-drop)
 
 -- a plan that was committed under the lock, with its starts
 pub shared_wave : (sizes : Sizes) (inside old : Job) (hand : HandValue) (plan : List (Option ℕ))

@@ -20,7 +20,7 @@ use Rattle.flow_network.specs.declared.arcs.ArcNo.{ArcNo}
 use Rattle.flow_network.specs.declared.arcs.ArcNo.TheVariants.{Forward, Reverse}
 use Rattle.flow_network.specs.Flows.{arc_at, arc_index, shifted, pushed}
 use Rattle.shortest_paths.specs.Lists.{ArcLists, source_at, matched_at}
-use Rattle.shortest_paths.specs.Matched.{IsOfSource, AreMatched, IsFollowing, GoesOver, GoesOnce, Leaves}
+use Rattle.shortest_paths.specs.Matched.{IsOfSource, AreMatched, IsFollowing, GoesOver, Leaves}
 
 -- a number that is not in a list differs from each member
 apart : (k : ℕ) (xs : List ℕ) → (Contains xs k → ⊥) → AllByRecursion (λ y. nat_eq k y ≡ false) xs
@@ -80,11 +80,6 @@ pub leaves_nowhere : (xs : List ℕ) (k : ℕ) → ((j : ℕ) → j < length xs 
 leaves_nowhere xs k n d = leaves_none xs k
     (λ c. n c.0 c.1 (get_or_default xs c.0 0 k c.1 ∙ c.2)) d
 
--- whether a path goes over an arc
-over_or_not : (k : ℕ) (path : List ArcNo) → GoesOver k path ⊎ (GoesOver k path → ⊥)
-over_or_not k [] = inr (λ n. n)
-over_or_not k (a ∷ path) = grind (arith, over_or_not k path)
-
 other_shifted : (flows : List ℕ) (a : ArcNo) (k : ℕ) → (arc_index a ≡ k → ⊥)
     → get_or (shifted flows a) k 0 ≡ get_or flows k 0
 other_shifted flows (Forward i) k n = get_or-set_other flows i k (get_or flows i 0 + 1) 0 (λ e. n (sym e))
@@ -96,15 +91,6 @@ other_pushed : (path : List ArcNo) (flows : List ℕ) (k : ℕ) → (GoesOver k 
 other_pushed [] flows k n = refl
 other_pushed (a ∷ path) flows k n =
     other_pushed path (shifted flows a) k (λ o. n (inr o)) ∙ other_shifted flows a k (λ e. n (inl e))
-
-pub following_begins : (arcs : List FlowArc) (flows last : List ℕ) (path : List ArcNo) (g : ArcLists)
-    → last ≡ pushed path flows → GoesOnce path → AreMatched arcs flows g → IsFollowing arcs last path g
-following_begins arcs flows last path g e once t =
-    record { flows = flows; rest_is = e; once = once; matched = t }
-
-pub following_ends : (arcs : List FlowArc) (last : List ℕ) (g : ArcLists) → IsFollowing arcs last [] g
-    → AreMatched arcs last g
-following_ends arcs last g t = subst (λ (f : List ℕ). AreMatched arcs f g) (sym t.rest_is) t.matched
 
 module _ (arcs : List FlowArc) (last : List ℕ) (a : ArcNo) (rest : List ArcNo) (g : ArcLists)
     (t : IsFollowing arcs last (a ∷ rest) g) where

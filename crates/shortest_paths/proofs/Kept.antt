@@ -143,12 +143,6 @@ module _ (nodes : ℕ) (arcs : List FlowArc) (flows : List ℕ) (sink : ℕ) (g 
         ]);
   }
 
--- what is sorted does not depend on which sources are matched
-pub sorted_stays : (nodes : ℕ) (arcs : List FlowArc) (sink : ℕ) (g : ArcLists) (matched : List (List ℕ))
-    → length matched ≡ length g.matched → AreSorted nodes arcs sink g
-    → AreSorted nodes arcs sink (record g { matched = matched })
-sorted_stays nodes arcs sink g matched size t = grind arith
-
 -- all residual arcs of each node in one list, and no source
 module _ (nodes : ℕ) (arcs : List FlowArc) (g : ArcLists) (are : AreArcs nodes arcs)
     (sources : g.is_source ≡ replicate nodes false) (sink_arcs : g.sink_arcs ≡ replicate nodes None)

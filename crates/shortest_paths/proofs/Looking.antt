@@ -1,5 +1,5 @@
 -- A look at an arc of a search, by what the code reads, and what it asks.
-use Rattle.std.proofs.Common.{◌≡◌, ℕ, zero, suc, ◌+◌, ◌*◌, ◌^◌, ◌<◌, ◌≤◌, ℤ, List, [], ◌∷◌, length, get_or}
+use Rattle.std.proofs.Common.{◌≡◌, ℕ, ◌+◌, ◌*◌, ◌^◌, ◌<◌, ◌≤◌, ℤ, List, [], ◌∷◌, length, get_or}
 use Rattle.std.proofs.Common.{◌-◌, take, set, IsPermutation, Option, Some, None, refl, sym, ap, ◌∙◌, subst}
 use Rattle.std.proofs.Common.{inl, inr, arith}
 use Rattle.std.proofs.lemmas.Bool.{cases_lt}
@@ -59,12 +59,6 @@ pub seen_cost : (arcs : List FlowArc) (flows : List ℕ) (h : ℕ → ℕ) (a : 
     → r ≡ reduced_cost arcs h a
 seen_cost arcs flows h a node to r none residual leaves at e =
     reduced_is arcs h a r (residual_cost arcs flows h a none residual) (rw (at, ← leaves) at e)
-
-pub reads_distance : (distances : List ℕ) (v : ℕ) → v < length distances
-    → get_or distances v 0 ≡ distance_at distances v
-reads_distance [] v l = absurd (omega arith)
-reads_distance (d ∷ ds) zero l = refl
-reads_distance (d ∷ ds) (suc v) l = reads_distance ds v (omega arith)
 
 abbrev arrives : ArcNo → ℕ → ℕ → Arrival
 arrives a node n = record { arc = a; before = node; arcs = n }

@@ -7,7 +7,7 @@ use Rattle.flow_network.specs.declared.arcs.ArcNo.{ArcNo}
 use Rattle.flow_network.specs.declared.arcs.ArcNo.TheVariants.{Forward, Reverse}
 use Rattle.flow_network.specs.Flows.{arc_at, tail_of, head_of, IsResidual, IsPath, NoNegative, reduced_cost}
 use Rattle.flow_network.specs.Flows.{path_cost, pushed, shifted}
-use Rattle.shortest_paths.specs.Lowering.{lowered, IsCovered, IsTight, AreTight, IsSearchStep, AreSteps}
+use Rattle.shortest_paths.specs.Lowering.{lowered, IsCovered, AreTight, AreSteps}
 
 -- the end of a covered arc lacks no less of the total than its start does, but for the arc's cost
 lacks : (arcs : List FlowArc) (flows : List ℕ) (h d : ℕ → ℕ) (total : ℕ) → IsCovered arcs flows h d total
@@ -30,15 +30,6 @@ lowering_law arcs flows h d total none covered k l = (
       let old = (none k l).1 unit in
       omega arith),
 )
-
--- a step to a node within the total is tight afterwards
-pub tight_law : (arcs : List FlowArc) (flows : List ℕ) (h d : ℕ → ℕ) (total : ℕ) (a : ArcNo)
-    → NoNegative arcs flows h → IsResidual arcs flows a → IsSearchStep arcs h d a → d (head_of arcs a) ≤ total
-    → IsTight arcs (lowered h d total) a
-tight_law arcs flows h d total (Forward k) none r step within =
-    let old = (none k r.listed).0 (let some = r.room in omega arith) in omega arith
-tight_law arcs flows h d total (Reverse k) none r step within =
-    let old = (none k r.listed).1 r.room in omega arith
 
 -- a unit over tight arcs leaves no residual arc negative
 pub push_law : (arcs : List FlowArc) (flows : List ℕ) (h : ℕ → ℕ) (path : List ArcNo)

@@ -1,6 +1,6 @@
 -- The other moves of a search: a node is taken from the queue, an arc is looked at; and each move by what
 -- the code reads.
-use Rattle.std.proofs.Common.{◌≡◌, ℕ, zero, suc, ◌+◌, ◌-◌, ◌*◌, ◌<◌, ◌≤◌, true, false, List, [], ◌∷◌}
+use Rattle.std.proofs.Common.{◌≡◌, ℕ, ◌+◌, ◌-◌, ◌*◌, ◌<◌, ◌≤◌, true, false, List, [], ◌∷◌}
 use Rattle.std.proofs.Common.{◌++◌, length, map, get_or, set, take, All, Contains, IsPermutation, Option}
 use Rattle.std.proofs.Common.{Some, None, refl, sym, ap, ◌∙◌, subst, inl, inr, ◌⊎◌, arith, length-append}
 use Rattle.std.proofs.lemmas.Bool.{cases_lt, cases_Bool, false≢true}
@@ -8,7 +8,7 @@ use Rattle.std.proofs.lemmas.List.{get_or_past, take_more}
 use Rattle.std.proofs.lemmas.List.Elements.{Contains-append_right, Contains-push, All-contains}
 use Rattle.std.proofs.lemmas.List.Sorted.{Contains-permutation, IsPermutation-sym}
 use Rattle.std.specs.Option.{option_to_list}
-use Rattle.std.specs.Prelude.{slice_index, slice_get}
+use Rattle.std.specs.Prelude.{slice_index}
 use Rattle.flow_network.specs.declared.arcs.FlowArc.{FlowArc}
 use Rattle.flow_network.specs.declared.arcs.ArcNo.{ArcNo}
 use Rattle.flow_network.specs.declared.arcs.ArcNo.TheVariants.{Forward, Reverse}
@@ -419,21 +419,6 @@ popped_by {p = p} {nodes = nodes} {level = level} {count = count} {t = t} front 
 popped_by {t = t} front stack u (Some v) e f none none_matched s =
     let same : u ≡ v = last_same front stack u v (sym e ∙ f) in
     popped _ _ _ _ [] [] t stack v f (rw (← same) none) (rw (← same) none_matched) s
-
-top_at : (xs : List ℕ) (v n : ℕ) → suc n ≡ length xs → Some v ≡ slice_get xs n
-    → (front : List ℕ) × (xs ≡ front ++ v ∷ [])
-top_at [] v n l e = absurd (omega arith)
-top_at (x ∷ []) v zero l e = ([], (let q : Some v ≡ Some x = e in let r : x ≡ v = cc in ap (λ y. y ∷ []) r))
-top_at (x ∷ []) v (suc n) l e = absurd (omega arith)
-top_at (x ∷ (y ∷ ys)) v zero l e = absurd (omega arith)
-top_at (x ∷ (y ∷ ys)) v (suc n) l e = let r = top_at (y ∷ ys) v n (omega arith) e in
-    (x ∷ r.0, ap (λ zs. x ∷ zs) r.1)
-
--- the last of a list
-pub top_of : (xs : List ℕ) (v : ℕ) → Some v ≡ slice_get xs (length xs - 1)
-    → (front : List ℕ) × (xs ≡ front ++ v ∷ [])
-top_of [] v e = absurd (let q : Some v ≡ None = e in cc)
-top_of (x ∷ xs) v e = top_at (x ∷ xs) v (length (x ∷ xs) - 1) (omega arith) e
 
 -- of the arcs that are still to be looked at, the last is taken
 pub from_the_end : {p : Problem} {nodes level count : ℕ} {entering : List ℕ} (a : ArcNo) (rest : List ArcNo)

@@ -3,10 +3,9 @@ use Rattle.std.proofs.Common.{◌≡◌, ℕ, ◌+◌, ◌<◌, ◌≤◌, List,
 use Rattle.std.proofs.lemmas.Bool.{cases_lt}
 use Rattle.flow_network.specs.declared.arcs.FlowArc.{FlowArc}
 use Rattle.flow_network.specs.declared.arcs.ArcNo.{ArcNo}
-use Rattle.flow_network.specs.Flows.{tail_of, head_of, IsPath, NoNegative, reduced_cost, path_cost, pushed}
-use Rattle.shortest_paths.specs.Lowering.{lowered, IsCovered}
-use Rattle.shortest_paths.specs.ToSink.{far, IsLeastCost, IsSearched, IsTrace}
-use Rattle.shortest_paths.proofs.Lowering.{lowering_law, push_law, steps_tight}
+use Rattle.flow_network.specs.Flows.{tail_of, head_of, IsPath, reduced_cost, path_cost}
+use Rattle.shortest_paths.specs.Lowering.{IsCovered}
+use Rattle.shortest_paths.specs.ToSink.{far, IsLeastCost, IsSearched}
 
 -- a path that goes on from a node within m comes to the sink within m and its cost
 no_less : (arcs : List FlowArc) (flows : List ℕ) (h d : ℕ → ℕ) (sink : ℕ) → IsCovered arcs flows h d (d sink)
@@ -37,13 +36,3 @@ searched_is_least arcs flows h start sink d t =
           record { path = way.0; leads = way.1; cost = way.2; least = least }),
       least,
     )
-
--- a unit over the trace leaves no residual arc negative under the lowered depths
-pub unit_over_trace : (arcs : List FlowArc) (flows : List ℕ) (h d : ℕ → ℕ) (start sink : ℕ)
-    (path : List ArcNo)
-    → NoNegative arcs flows h → IsCovered arcs flows h d (d sink) → IsTrace arcs flows h start sink d path
-    → NoNegative arcs (pushed path flows) (lowered h d (d sink))
-unit_over_trace arcs flows h d start sink path none covered t =
-    push_law arcs flows (lowered h d (d sink)) path
-    (steps_tight arcs flows h d (d sink) path start sink none t.leads t.steps (omega arith)).0
-    (lowering_law arcs flows h d (d sink) none covered)

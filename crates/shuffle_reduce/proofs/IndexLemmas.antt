@@ -35,9 +35,7 @@ found p (x ∷ xs) h = found_at p x xs (p x) refl (found p xs) h
 same_pairs : (xs ys : List SplitDocuments) (pair : Pair) →
     ((text : SplitDocuments) → Contains xs text → Contains ys text) → IsPairOfTexts xs pair →
     IsPairOfTexts ys pair
-same_pairs xs ys pair same any =
-    let m = member_from_any (λ text. IsPairOf text.documents pair) xs any in
-    any_from_member (λ text. IsPairOf text.documents pair) ys m.0 (same m.0 m.1) m.2
+same_pairs xs ys pair same any = search (arith, member_from_any, any_from_member)
 
 -- a word of a result's texts is one of the texts that it covers
 pub word_of_covered : (texts : List SplitDocuments) (results : List PartView) →
@@ -132,12 +130,7 @@ pub part_in_range : (results : List PartView) (parts part : ℕ) →
     All (λ (one : PartView). one.parts ≡ parts) results →
     0 < count_by (λ (one : PartView). one.part == part) results → part < parts
 part_in_range results parts part in_range same some =
-    let m = member_from_any (λ (one : PartView). (one.part == part) ≡ true) results
-    (found (λ (one : PartView). one.part == part) results (λ none. absurd (omega arith))) in
-    let low = All-contains (λ (one : PartView). one.part < one.parts) results m.0 in_range m.1 in
-    let of_parts = All-contains (λ (one : PartView). one.parts ≡ parts) results m.0 same m.1 in
-    let part_is = eqb-true m.0.part part m.2 in
-    omega (arith, low, of_parts, part_is)
+    grind (arith, member_from_any, found, All-contains, eqb-true)
 
 -- what holds of the elements up to one, and of that one
 pub all_more : {X : Type 0} (P : X → Type 0) (xs : List X) (i : ℕ) {x : X} → i < length xs →

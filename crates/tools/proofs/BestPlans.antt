@@ -1,7 +1,7 @@
 -- What is said of a plan of the problem that was read is said of the text, and a check of what is written
 -- certifies it.
 use Rattle.std.proofs.Common.{ℕ, zero, suc, List, [], ◌∷◌, ◌++◌, Option, Bool, ◌≡◌, ◌<◌, ◌≤◌, ◌^◌, ◌∙◌}
-use Rattle.std.proofs.Common.{length, slice_index, refl, sym, subst, arith, true, false}
+use Rattle.std.proofs.Common.{length, slice_index, sym, subst, arith, true, false}
 use Rattle.std.specs.List.{All}
 use Rattle.std.proofs.lemmas.List.{append-nil}
 use Rattle.std.proofs.lemmas.List.Elements.{All-cons, All-nil}
@@ -16,9 +16,9 @@ use Rattle.plan_text.specs.Names.{splits}
 use Rattle.line_rules.specs.declared.purpose.Purpose.TheVariants.{Planning}
 use Rattle.plan_text.specs.Reading.{HasFitLines, IsProblemOf}
 use Rattle.plan_text.specs.Value as value
-use Rattle.plan_text.specs.Report.{certified_line, lines_of_plan, price_lines, start_lines, wave_line}
+use Rattle.plan_text.specs.Report.{certified_line, price_lines, start_lines, wave_line}
 use Rattle.plan_text.specs.declared.built.ProblemText.{ProblemText}
-use Rattle.written_plan.specs.Joined.{IsWritable, ReadsBack, with_plan}
+use Rattle.written_plan.specs.Joined.{IsWritable, ReadsBack}
 use Rattle.written_plan.proofs.ReadBack.{written_plan_reads_back}
 use Rattle.tools.specs.CheckAnswer.{AnswersRead, SaysCertified}
 use Rattle.tools.specs.PlanAnswer.{ChecksAgain, PlansProblem, PlansRead, SaysPlanned, asked_prices, plan_cost}
@@ -34,18 +34,7 @@ certified_text : (text : List ℕ) (wave : Wave) (starts : List (Option ℕ)) (p
     → ReadsBack text wave starts prices
     → SaysCertified (claim wave starts prices) (line_on (claim wave starts prices))
     → AnswersRead text Certified (line_on (claim wave starts prices))
-certified_text text wave starts prices back says =
-    let ss = back.statements in
-    let said : List ℕ = line_on (claim wave starts prices) in
-    let same : claim wave starts prices ≡ claim wave (value.starts ss) (value.prices ss) =
-    λ i. claim wave (sym back.same_starts i) (sym back.same_prices i) in
-    record {
-      statements = ss;
-      wave = wave;
-      reads = back.reads;
-      declared = back.declared;
-      judges = subst (λ (c : Claim). SaysCertified c said) same says;
-    }
+certified_text text wave starts prices back says = grind arith
 
 checks_again : (text : List ℕ) (v : ProblemText) (starts : List (Option ℕ)) (prices : PriceList)
     (with_prices : Bool)
@@ -54,9 +43,7 @@ checks_again : (text : List ℕ) (v : ProblemText) (starts : List (Option ℕ)) 
     → SaysPlanned with_prices (claim v.problem starts prices) v.splits v.workers lines
     → ChecksAgain text (claim v.problem starts prices) v.splits v.workers
 checks_again text v starts prices with_prices lines read fit sized says short =
-    certified_text (with_plan text (lines_of_plan v.splits v.workers starts prices)) v.problem starts prices
-    (written_plan_reads_back text v starts prices read fit sized short)
-    (record { certifies = says.certifies; best = says.best; said = refl })
+    search (arith, certified_text, written_plan_reads_back)
 
 pub plans_read : (text : List ℕ) (v : ProblemText) (with_prices : Bool) (lines : List ℕ) → IsProblemOf text v
     → HasFitLines Planning text
@@ -67,18 +54,7 @@ plans_read text v with_prices lines read fit plans =
     checks_again text v plans.starts plans.prices with_prices lines read fit plans.sized plans.says in
     let splits_are = read.declares.splits in
     let workers_are = read.declares.workers in
-    record {
-      statements = read.statements;
-      wave = v.problem;
-      starts = plans.starts;
-      prices = plans.prices;
-      reads = read.reads;
-      declared = read.declares.wave;
-      says = subst (λ w. SaysPlanned with_prices c (splits read.statements) w lines) workers_are
-          (subst (λ s. SaysPlanned with_prices c s v.workers lines) splits_are plans.says);
-      checks = subst (λ w. ChecksAgain text c (splits read.statements) w) workers_are
-          (subst (λ s. ChecksAgain text c s v.workers) splits_are again);
-    }
+    grind arith
 
 -- ---- a plan that was made for a problem
 
@@ -133,13 +109,5 @@ pub plans_problem : (with_prices : Bool) (ss ws : List Word) (c : Claim) (plan_w
     → lines ≡ (wave_line (plan_count c) (plan_cost c) ++ start_lines ss ws c.starts)
     ++ asked_prices with_prices ss ws c.prices
     → PlansProblem c.wave ss ws with_prices lines
-plans_problem asked ss ws c n lines as_splits as_workers sized certifies best small said = record {
-  starts = c.starts;
-  prices = c.prices;
-  sized = plan_for_names ss ws c n as_splits as_workers sized certifies small;
-  says = record {
-    certifies = certifies;
-    best = best;
-    said = said;
-  };
-}
+plans_problem asked ss ws c n lines as_splits as_workers sized certifies best small said =
+    grind (arith, plan_for_names)

@@ -1,9 +1,9 @@
 -- The set of barred pairs, one pair after another.
-use Rattle.std.proofs.Common.{ℕ, List, [], ◌∷◌, ◌≡◌, ◌<◌, ◌∙◌, ap, arith, inl, inr, length, refl, sym}
+use Rattle.std.proofs.Common.{ℕ, List, [], ◌∷◌, ◌≡◌, ◌<◌, ◌∙◌, arith, inl, inr, length, refl}
 use Rattle.std.specs.Prelude.{All, fold, ◌↔◌, ◌⊎◌}
 use Rattle.std.proofs.lemmas.List.{length-replicate, length-set}
-use Rattle.std.proofs.lemmas.List.Elements.{All-head, All-tail, Contains-append_cases, Contains-append_left}
-use Rattle.std.proofs.lemmas.List.Elements.{Contains-append_right, Contains-push, Contains-push_cases}
+use Rattle.std.proofs.lemmas.List.Elements.{All-head, All-tail, Contains-append_left}
+use Rattle.std.proofs.lemmas.List.Elements.{Contains-append_right, Contains-push}
 use Rattle.node_ids.specs.Sets.{HasPair, no_pairs, place_of_pair, with_pair}
 use Rattle.node_ids.proofs.Bits.{has-replicate, has-set}
 use Rattle.wave_arrays.specs.declared.rows.PairRow.{PairRow}
@@ -29,47 +29,22 @@ listed_first pair rest s w e f =
 has_one_more : (set : List ℕ) (pair : PairRow) (s w : ℕ) → length set ≡ 4096 → IsPairKnown 1024 256 pair →
     w < 256 → HasPair (with_pair set pair.split pair.worker) s w
     ↔ (((s ≡ pair.split) × (w ≡ pair.worker)) ⊎ HasPair set s w)
-has_one_more set pair s w size known lt =
-    let split = known.split in
-    let worker = known.worker in
-    let one = has-set set (place_of_pair pair.split pair.worker) (place_of_pair s w) (omega arith) in (
-      λ new. elim (one.0 new) [ inl here ↦ inl (omega arith, omega arith) | inr old ↦ inr old ],
-      λ given. one.1 (elim given [ inl here ↦ inl (omega (arith, here.0, here.1)) | inr old ↦ inr old ]),
-    )
+has_one_more set pair s w size known lt = grind (arith, has-set)
 
 has_all : (set : List ℕ) (pairs : List PairRow) (s w : ℕ) → length set ≡ 4096 →
     All (IsPairKnown 1024 256) pairs → w < 256 → HasPair (with_all set pairs) s w
     ↔ (IsListed pairs s w ⊎ HasPair set s w)
-has_all set [] s w size known lt = (
-  λ old. inr old,
-  λ given. elim given [ inl listed ↦ absurd (none_listed s w listed) | inr old ↦ old ],
-)
+has_all set [] s w size known lt = grind arith
 has_all set (pair ∷ rest) s w size known lt =
     let one = has_one_more set pair s w size (All-head (IsPairKnown 1024 256) pair rest known) lt in
     let all = has_all (with_pair set pair.split pair.worker) rest s w (length-set _ _ _ ∙ size)
     (All-tail (IsPairKnown 1024 256) pair rest known) lt in (
       λ new. elim (all.0 new) [
         | inl later ↦ inl (Contains-append_right (pair ∷ []) rest _ later)
-        | inr had ↦
-            elim (one.0 had) [
-              | inl here ↦ inl (listed_first pair rest s w here.0 here.1)
-              | inr old ↦ inr old
-            ]
+        | inr had ↦ grind arith
       ],
       λ given. all.1 (elim given [
-        | inl listed ↦
-            elim (Contains-append_cases (pair ∷ []) rest _ listed) [
-              | inl first ↦
-                  elim (Contains-push_cases [] pair _ first) [
-                    | inl none ↦ absurd (none_listed s w none)
-                    | inr is ↦
-                        inr (one.1 (inl (
-                          sym (ap (λ (p : PairRow). p.split) is),
-                          sym (ap (λ (p : PairRow). p.worker) is),
-                        )))
-                  ]
-              | inr later ↦ inl later
-            ]
+        | inl listed ↦ grind arith
         | inr old ↦ inr (one.1 (inr old))
       ]),
     )

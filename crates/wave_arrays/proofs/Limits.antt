@@ -1,5 +1,5 @@
 -- The wave that rows make keeps to the limits.
-use Rattle.std.proofs.Common.{ℕ, List, ◌≡◌, ◌≢◌, ◌<◌, ◌≤◌, ◌+◌, ◌-◌, ◌∙◌, arith, drop, length, map, min, sym}
+use Rattle.std.proofs.Common.{ℕ, List, ◌≢◌, ◌<◌, ◌≤◌, ◌-◌, ◌∙◌, arith, length, map, sym}
 use Rattle.std.specs.Prelude.{All, AllPairs}
 use Rattle.std.proofs.lemmas.List.{length-map, length-take}
 use Rattle.std.proofs.lemmas.List.Elements.{All-map}
@@ -12,12 +12,7 @@ use Rattle.wave_arrays.specs.Rows.{AreFit, IsSplitFit, split_of, tree_in, wave_i
 
 few_holders : (holders : List ℕ) (row : SplitRow) → IsSplitFit (length holders) row
     → length (split_of holders row).holders ≤ 8
-few_holders holders row fit =
-    let size : length (split_of holders row).holders
-    ≡ min ((row.first_holder + row.holder_count) - row.first_holder)
-    (length (drop row.first_holder holders)) =
-    length-take ((row.first_holder + row.holder_count) - row.first_holder) (drop row.first_holder holders) in
-    omega (arith, fit.few, size)
+few_holders holders row fit = grind (arith, length-take)
 
 pub within_limits : (rows : WaveRows) → AreFit rows → IsWithinLimits (wave_in rows)
 within_limits rows fit =

@@ -36,8 +36,17 @@ pub marked_more : (marks : List Bool) (place_of : ℕ → ℕ) (live : List ℕ)
     get_or marks r false ≡ list_any (λ h. place_of h == r) live →
     get_or (set marks mark true) r false ≡ list_any (λ h. place_of h == r) (live ++ x ∷ [])
 marked_more marks place_of live x mark r inside here shown =
-    grind (arith, list_any-push, cases_eq, eq-eqb, get_or-set_same, or_right, ne_eqb, get_or-set_other,
-      or-false)
+    grind (
+      arith,
+      list_any-push,
+      cases_eq,
+      eq-eqb,
+      get_or-set_same,
+      or_right,
+      ne_eqb,
+      get_or-set_other,
+      or-false,
+    )
 
 -- the steps from a worker of the tree to the nearest of a list of others, or 6 where the list is empty
 abbrev pub steps_to : Tree → ℕ → List ℕ → ℕ

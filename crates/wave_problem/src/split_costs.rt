@@ -86,7 +86,6 @@ pub struct SplitCosts<'a> {
 impl<'a> Model for SplitCosts<'a> {
     ghost Value = { SplitOf };
 
-
     ghost view = { split_of };
 
     ghost invariant = { IsGathered };

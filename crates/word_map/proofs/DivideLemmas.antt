@@ -1,6 +1,6 @@
 -- Room for one more part, one more entry in its part, and what the entries of a part are.
-use Rattle.std.proofs.Common.{◌≡◌, ◌≢◌, ℕ, ◌<◌, Bool, true, false, cond, List, [], ◌∷◌, ◌++◌, length}
-use Rattle.std.proofs.Common.{get_or, set, map, ⊎_elim, sym, ap, ◌∙◌, subst, arith, append_assoc}
+use Rattle.std.proofs.Common.{◌≡◌, ℕ, ◌<◌, Bool, cond, List, [], ◌∷◌, ◌++◌, length}
+use Rattle.std.proofs.Common.{get_or, set, map, sym, ap, ◌∙◌, subst, arith, append_assoc}
 use Rattle.std.proofs.Common.{Vec, eqb, eq-eqb}
 use Rattle.std.specs.Prelude.{◌↔◌, ◌==◌, Any, Contains}
 use Rattle.std.specs.declared.alloc.Global.{Global}
@@ -14,7 +14,7 @@ use Rattle.word_map.specs.declared.text.Document.{Document}
 use Rattle.word_map.specs.Words.{part_of}
 use Rattle.word_map.specs.Texts.{Pair, IsPairOf, in_lower_case}
 use Rattle.word_map.specs.Tokens.{AreRunsOf, IsRunOfDocument}
-use Rattle.word_map.specs.Entries.{EntryView, AreEntries, pairs_of_index, WordIsBelow, DocumentsRise}
+use Rattle.word_map.specs.Entries.{EntryView, AreEntries, pairs_of_index}
 use Rattle.word_map.specs.Divided.{AreDivided, AreEntriesOfParts, AreRunEntries, own_entries}
 use Rattle.word_map.proofs.PairLemmas.{any_from_member, member_from_any, Contains-from_filter}
 use Rattle.word_map.proofs.PairLemmas.{Contains-filter, pairs_of_lower}
@@ -40,27 +40,8 @@ pub divided_more : (left entries : List EntryView) (parts : ℕ)
     (now : Vec EntryView Global) → AreDividedBut (entry ∷ left) entries parts divided →
     part ≡ part_of entry.word parts → part < parts → was ≡ get_or divided part was →
     now.items ≡ was.items ++ entry ∷ [] → AreDividedBut left entries parts (set divided part now)
-divided_more left entries parts divided {entry} {part} {was} now before own low was_is now_is = record {
-  count = simp length-set before.count;
-  each = λ k d below.
-      ⊎_elim
-      (λ (same : (eqb (part_of entry.word parts) k ≡ true) × (part_of entry.word parts ≡ k)).
-      let k_is : part ≡ k = own ∙ same.1 in
-      let in_range : part < length divided = omega (arith, before.count) in
-      ap (λ n. (get_or (set divided part now) n d).items ++ own_entries k parts left) (sym k_is)
-      ∙ ap (λ v. v.items ++ own_entries k parts left) (get_or-set_same divided part now d in_range)
-      ∙ ap (λ es. es ++ own_entries k parts left) now_is
-      ∙ append_assoc was.items (entry ∷ []) (own_entries k parts left)
-      ∙ ap (λ es. was.items ++ es) (sym (own_first k parts entry left true same.0))
-      ∙ ap (λ v. v.items ++ own_entries k parts (entry ∷ left)) (was_is ∙ ap (λ n. get_or divided n was) k_is)
-      ∙ before.each k was below)
-      (λ (other : (eqb (part_of entry.word parts) k ≡ false) × (part_of entry.word parts ≢ k)).
-      let k_not : k ≢ part = (λ e. other.1 (sym own ∙ sym e)) in
-      ap (λ v. v.items ++ own_entries k parts left) (get_or-set_other divided part k now d k_not)
-      ∙ ap (λ es. (get_or divided k d).items ++ es) (sym (own_first k parts entry left false other.0))
-      ∙ before.each k d below)
-      (eqb_tells (part_of entry.word parts) k);
-}
+divided_more left entries parts divided {entry} {part} {was} now before own low was_is now_is =
+    grind (arith, length-set, get_or-set_same, append_assoc, own_first, get_or-set_other, eqb_tells)
 
 -- the pairs of the entries of a part are those whose words belong to it
 pub pairs_of_own : (part parts : ℕ) (entries : List EntryView) (pair : Pair) →
@@ -85,13 +66,7 @@ pairs_of_own part parts entries pair = (
 -- the entries of a part are entries
 own_are_entries : (part parts : ℕ) (entries : List EntryView) → AreEntries entries →
     AreEntries (own_entries part parts entries)
-own_are_entries part parts entries are = record {
-  words = AllPairs-filter WordIsBelow (λ (e : EntryView). part_of e.word parts == part) entries are.words;
-  documents =
-      All-filter (λ (e : EntryView). part_of e.word parts == part) DocumentsRise entries are.documents;
-  some = All-filter (λ (e : EntryView). part_of e.word parts == part)
-      (λ (e : EntryView). 0 < length e.documents) entries are.some;
-}
+own_are_entries part parts entries are = search (arith, AllPairs-filter, All-filter)
 
 -- the entries of the text in lower case, divided, are those of the documents for each part
 pub entries_of_parts : {documents lower : List Document} (table entries : List EntryView)

@@ -1,5 +1,5 @@
 -- The pairs of entries: which they are, and that they rise.
-use Rattle.std.proofs.Common.{◌≡◌, ℕ, suc, ◌<◌, List, [], ◌∷◌, ◌++◌, length, map, get_or, sym, refl, ap, ◌∙◌}
+use Rattle.std.proofs.Common.{◌≡◌, ℕ, suc, ◌<◌, List, [], ◌∷◌, ◌++◌, length, map, get_or, sym, refl, ap}
 use Rattle.std.proofs.Common.{⊎_elim, subst, arith}
 use Rattle.std.specs.Prelude.{Contains, Any, All, AllPairs}
 use Rattle.std.specs.List.{AllByRecursion}
@@ -9,6 +9,7 @@ use Rattle.std.specs.Ordering.{nat_cmp, ordering_then}
 use Rattle.std.specs.declared.cmp.Ordering.{Ordering}
 use Rattle.std.specs.declared.cmp.Ordering.TheVariants.{Less}
 use Rattle.std.proofs.lemmas.Cmp.{nat_list_cmp_total, tied_itself}
+use Rattle.std.proofs.lemmas.Grind.{common_steps}
 use Rattle.std.proofs.lemmas.List.Elements.{All-append, All-from_recursion, recursion_from_All, All-contains}
 use Rattle.std.proofs.lemmas.List.Elements.{Contains-get_or, Contains-push, Contains-push_cases}
 use Rattle.std.proofs.lemmas.List.Elements.{Contains-append_left, Contains-append_right}
@@ -32,12 +33,7 @@ own_from_pair e p h =
     (ap (λ (q : Pair). q.word) m.2, subst (Contains e.documents) (ap (λ (q : Pair). q.document) m.2) m.1)
 
 pub pair_of_own : (e : EntryView) (p : Pair) → HasPair p e → Contains (pairs_of_entry e) p
-pair_of_own e p h =
-    let m = member_from_any (λ (q : Pair). q ≡ p) (pairs_of_entry e)
-    (any_map (pair_of e.word) (λ (q : Pair). q ≡ p) e.documents
-    (any_from_member (λ (d : ℕ). pair_of e.word d ≡ p) e.documents p.document h.1
-    (same_pair {p = pair_of e.word p.document} {q = p} h.0 refl))) in
-    subst (Contains (pairs_of_entry e)) m.2 m.1
+pair_of_own e p h = grind (arith, common_steps, member_from_any, any_map, any_from_member, same_pair)
 
 module _ {X : Type 0} where
   pub first_is_there : (x : X) (xs : List X) → Contains (x ∷ xs) x
@@ -93,11 +89,7 @@ sorted_append R (x ∷ xs) ys rising rises below = (
 pairs_above : (w : List ℕ) (d : ℕ) (ds : List ℕ) → AllByRecursion (λ n. nat_cmp d n ≡ Less) ds →
     AllByRecursion (λ q. pair_cmp (pair_of w d) q ≡ Less) (map (pair_of w) ds)
 pairs_above w d [] above = tt
-pairs_above w d (n ∷ ds) above = (
-  ap (λ o. ordering_then o (nat_cmp d n)) (tied_itself nat_list_cmp_total w)
-      ∙ above.0,
-  pairs_above w d ds above.1,
-)
+pairs_above w d (n ∷ ds) above = grind (arith, pairs_above w d ds above.1, tied_itself, nat_list_cmp_total)
 
 pairs_rise : (w : List ℕ) (ds : List ℕ) → IsStrictlySortedBy nat_cmp ds →
     IsStrictlySortedBy pair_cmp (map (pair_of w) ds)

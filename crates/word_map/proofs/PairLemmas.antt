@@ -8,6 +8,7 @@ use Rattle.std.specs.List.{drop-map, take-map}
 use Rattle.std.proofs.Math.ListN.{get_or-map}
 use Rattle.std.proofs.lemmas.Bool.{false≢true}
 use Rattle.std.proofs.lemmas.Bool.Decides.{nat_tests}
+use Rattle.std.proofs.lemmas.Grind.{common_steps}
 use Rattle.std.proofs.lemmas.List.{take_more, length-map}
 use Rattle.std.proofs.lemmas.List.Elements.{Contains-push, Contains-push_cases, Contains-append_left}
 use Rattle.std.proofs.lemmas.List.Elements.{Contains-append_right, Contains-append_cases}
@@ -125,13 +126,7 @@ run_of_lower text {start} {stop} run = record {
 
 run_in_lower : (text : List ℕ) {start stop : ℕ} → IsLongestRun text start stop →
     IsLongestRun (map to_ascii_lowercase text) start stop
-run_in_lower text {start} {stop} run = record {
-  nonempty = run.nonempty;
-  within = omega (arith, run.within, length_lower text);
-  letters = λ place low high. letter_at_lower text place ∙ run.letters place low high;
-  none_before = λ place is. letter_at_lower text place ∙ run.none_before place is;
-  none_after = λ inside. letter_at_lower text stop ∙ run.none_after (omega (arith, length_lower text));
-}
+run_in_lower text {start} {stop} run = grind (arith, length_lower, letter_at_lower)
 
 slice_of_lower : (text : List ℕ) (start stop : ℕ) → slice_range (map to_ascii_lowercase text) start stop
     ≡ map to_ascii_lowercase (slice_range text start stop)
@@ -149,13 +144,7 @@ word_from_run text word h = record {
 }
 
 pub run_from_word : (text word : List ℕ) → IsWordOf text word → IsRunIn (map to_ascii_lowercase text) word
-run_from_word text word h = record {
-  start = h.start;
-  stop = h.stop;
-  run = run_in_lower text h.run;
-  is =
-      h.lower ∙ sym (slice_of_lower text h.start h.stop);
-}
+run_from_word text word h = search (arith, run_in_lower, slice_of_lower)
 
 -- an element of a mapped list comes from one of the list
 pub any_from_map : {X Y : Type 0} (f : X → Y) (P : Y → Type 0) (xs : List X) → Any P (map f xs) →
@@ -177,16 +166,15 @@ pub any_map : {X Y : Type 0} (f : X → Y) (P : Y → Type 0) (xs : List X) → 
     Any P (map f xs)
 any_map f P [] h = absurd (omega (arith, h.2))
 any_map f P (x ∷ xs) h =
-    let m = member_from_any (λ x. P (f x)) (x ∷ xs) h in
-    ⊎_elim
-    (λ (first : Contains (x ∷ []) m.0). ⊎_elim (λ none. absurd (omega (arith, none.1)))
-    (λ (same : x ≡ m.0). any_from_member P (f x ∷ map f xs) (f x)
-    (Contains-append_left (f x ∷ []) (map f xs) (f x) (Contains-push [] (f x)))
-    (subst (λ y. P (f y)) (sym same) m.2)) (Contains-push_cases [] x m.0 first))
-    (λ rest. let n =
-    member_from_any P (map f xs) (any_map f P xs (any_from_member (λ x. P (f x)) xs m.0 rest m.2)) in
-    any_from_member P (f x ∷ map f xs) n.0 (Contains-append_right (f x ∷ []) (map f xs) n.0 n.1) n.2)
-    (Contains-append_cases (x ∷ []) xs m.0 m.1)
+    grind (
+      arith,
+      common_steps,
+      Contains-append_left,
+      Contains-push,
+      Contains-push_cases,
+      Contains-append_right,
+      Contains-append_cases,
+    )
 
 -- the runs of the documents in lower case are the pairs of the documents
 pub pairs_of_lower : (documents : List Document) (pair : Pair) →

@@ -1,6 +1,6 @@
 -- Longest runs of letters: two that overlap are one, and what one more run adds.
-use Rattle.std.proofs.Common.{◌≡◌, ℕ, ◌+◌, ◌-◌, ◌<◌, ◌≤◌, true, false, List, length, get_or, inl, inr, ◌⊎◌}
-use Rattle.std.proofs.Common.{⊎_elim, sym, ap, ◌∙◌, subst, arith}
+use Rattle.std.proofs.Common.{◌≡◌, ℕ, ◌+◌, ◌-◌, ◌<◌, ◌≤◌, true, false, List, length, inl, inr, ◌⊎◌}
+use Rattle.std.proofs.Common.{⊎_elim, sym, ap, ◌∙◌, arith}
 use Rattle.std.specs.Prelude.{◌↔◌, Contains, slice_range}
 use Rattle.std.proofs.lemmas.Bool.{cases_lt, false≢true}
 use Rattle.std.proofs.lemmas.Bool.Decides.{nat_tests}
@@ -50,30 +50,12 @@ pub record BeginsRun (text : List ℕ) (place : ℕ) : Type 0 where
 -- what begins at such a place and goes on to where its letters end is a longest run
 pub run_from_span : {text : List ℕ} {start stop : ℕ} → BeginsRun text start → start < length text →
     IsSpan text true start stop → IsLongestRun text start stop
-run_from_span {text} {start} {stop} begins inside span = record {
-  nonempty = ⊎_elim (λ h. h) (λ h. let same : stop ≡ start = omega (arith, span.order) in
-      absurd (both text start (begins.letter inside) (ap (letter_at text) (sym same)
-      ∙ span.ends (omega arith)))) (cases_lt start stop);
-  within = span.within;
-  letters = span.same;
-  none_before = begins.none_before inside;
-  none_after = span.ends;
-}
+run_from_span {text} {start} {stop} begins inside span = grind arith
 
 -- after the bytes that are no letters a run begins
 pub begins_after : {text : List ℕ} {start stop next : ℕ} → IsLongestRun text start stop →
     IsSpan text false stop next → BeginsRun text next
-begins_after {text} {start} {stop} {next} run gap = record {
-  within = gap.within;
-  letter = gap.ends;
-  none_before = λ inside prior is.
-      ⊎_elim
-      (λ (h : prior < stop). let same : stop ≡ next = omega (arith, gap.order) in
-      absurd (both text next (gap.ends inside) (subst (λ n. letter_at text n ≡ false) same
-      (run.none_after (omega arith)))))
-      (λ h. gap.same prior h (omega arith))
-      (cases_lt prior stop);
-}
+begins_after {text} {start} {stop} {next} run gap = grind arith
 
 -- up to the next run's start there is one more run
 pub one_more_run : {text : List ℕ} {start stop next c d : ℕ} → IsLongestRun text start stop →
@@ -113,14 +95,7 @@ same_pair w d = λ i. record { word = w i; document = d i }
 -- no run ends before the first one begins
 pub adds_none : {old : List Pair} {bytes : List ℕ} {document next : ℕ} → IsSpan bytes false 0 next →
     AddsRunsBefore old old bytes document next
-adds_none {old} {bytes} {document} {next} gap = record {
-  exact = λ pair. (
-    (λ h. inl h),
-    ⊎_elim (λ h. h) (λ h. absurd (both bytes h.1.start (h.1.run.letters h.1.start
-        (omega arith) h.1.run.nonempty) (gap.same h.1.start (omega arith)
-        (omega (arith, h.1.low, h.1.run.nonempty))))),
-  );
-}
+adds_none {old} {bytes} {document} {next} gap = grind arith
 
 -- one more run
 pub adds_one_more : {old new newer : List Pair} {bytes : List ℕ} {document start stop next : ℕ} →
@@ -220,10 +195,4 @@ letter_is_ascii b = grind (arith, nat_tests)
 -- a run ends between characters
 pub boundary_after_run : {text : List ℕ} {start stop : ℕ} → IsUtf8 text → IsLongestRun text start stop →
     IsCharBoundary text stop
-boundary_after_run {text} {start} {stop} utf8 run =
-    let last : stop - 1 + 1 ≡ stop = omega (arith, run.nonempty) in
-    let inside : stop - 1 < length text = omega (arith, run.nonempty, run.within) in
-    let letter : letter_at text (stop - 1) ≡ true = run.letters (stop - 1) (omega (arith, run.nonempty))
-    (omega (arith, run.nonempty)) in
-    subst (IsCharBoundary text) last (IsCharBoundary-after_ascii text (stop - 1) utf8 inside
-    (letter_is_ascii (get_or text (stop - 1) 0) letter))
+boundary_after_run {text} {start} {stop} utf8 run = grind (arith, IsCharBoundary-after_ascii, letter_is_ascii)

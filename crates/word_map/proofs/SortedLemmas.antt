@@ -1,6 +1,6 @@
 -- The entries of a table whose words are in order.
 use Rattle.std.proofs.Common.{◌≡◌, ℕ, ◌+◌, ◌<◌, List, [], ◌∷◌, ◌++◌, length, get_or, map, Some, sym, refl, ap}
-use Rattle.std.proofs.Common.{take, drop, ◌∙◌, subst, arith, append-nil, append_assoc, inl, inr, ◌⊎◌, ⊎_elim}
+use Rattle.std.proofs.Common.{◌∙◌, subst, arith, append-nil, append_assoc, inl, inr, ◌⊎◌, ⊎_elim}
 use Rattle.std.proofs.Math.Seq.{take-length, drop-length}
 use Rattle.std.specs.Prelude.{◌↔◌, Contains, All, AllPairs, IsSorted, IsSome, nat_eq}
 use Rattle.std.specs.List.{IsDistinct, refill}
@@ -23,6 +23,7 @@ use Rattle.std.proofs.lemmas.List.Elements.{Contains-append_cases}
 use Rattle.std.proofs.lemmas.Map.Keys.{Less-from_sorted, apart_from_distinct, sorted_from_all_adjacent}
 use Rattle.std.proofs.lemmas.Map.Lookups.{exact_bytes}
 use Rattle.std.proofs.lemmas.Slice.Eq.{bytes_eq-Decides}
+use Rattle.std.proofs.lemmas.Grind.{common_steps}
 use Rattle.word_map.specs.Texts.{Pair}
 use Rattle.word_map.specs.Entries.{EntryView, AreEntries, DocumentsRise, WordIsBelow, pairs_of_entry}
 use Rattle.word_map.specs.Entries.{HavePair, pairs_of_index}
@@ -40,9 +41,7 @@ words_rise words sorted apart = sorted_from_all_adjacent nat_list_cmp_total word
         slice_cmp nat_cmp (get_or words k []) (get_or words (k + 1) []) ≡ r →
         slice_cmp nat_cmp (get_or words k []) (get_or words (k + 1) []) ≡ Less
     by k low Less is = is
-    by k low Equal is = absurd (false≢true (sym (apart_from_distinct (pointwise nat_eq) words k
-        (k + 1) [] apart (omega arith) low) ∙ (bytes_eq-Decides (get_or words k [])
-        (get_or words (k + 1) [])).1 (exact_bytes (get_or words k []) (get_or words (k + 1) []) is)))
+    by k low Equal is = grind (arith, false≢true, apart_from_distinct, bytes_eq-Decides, exact_bytes)
     by k low Greater is =
         let back : slice_cmp nat_cmp (get_or words (k + 1) []) (get_or words k []) ≡ Less =
         nat_list_cmp_total.antisymm (get_or words (k + 1) []) (get_or words k [])
@@ -82,13 +81,7 @@ table_has_pair m is some = by m.entries (entries_have_some m is) some
 
 pub made_none : {S : Type 0} (m : HashMap (List ℕ) (SmallVec ℕ) S) → IsTable m →
     AreMade m.entries m.entries []
-made_none m is = record {
-  words = refl;
-  documents = All-nil DocumentsRise;
-  some = All-nil (λ (e : EntryView). 0 < length e.documents);
-  left_some = entries_have_some m is;
-  same = λ pair. ((λ h. ⊎_elim (λ none. absurd (omega (arith, none.1))) (λ all. all) h), (λ h. inr h));
-}
+made_none m is = grind (arith, All-nil, entries_have_some)
 
 -- the pairs of the entry, and those of the entry of the table that it was made of
 same_own : (entry was : EntryView) → entry.word ≡ was.word →
@@ -107,9 +100,7 @@ pub made_more : (table left : List (List ℕ × SmallVec ℕ)) (made : List Entr
     entry.word ≡ word → DocumentsRise entry → ((n : ℕ) →
     Contains entry.documents n ↔ Contains documents.items n) → AreMade table left (made ++ entry ∷ [])
 made_more table left made word documents entry before is rises same = record {
-  words = ap (λ ws. ws ++ keys_of left) (map_push made entry)
-      ∙ append_assoc (map (λ (e : EntryView). e.word) made) (entry.word ∷ []) (keys_of left)
-      ∙ ap (λ w. map (λ (e : EntryView). e.word) made ++ w ∷ keys_of left) is ∙ before.words;
+  words = grind (arith, map_push, append_assoc);
   documents = All-push DocumentsRise made entry before.documents rises;
   some = All-push (λ (e : EntryView). 0 < length e.documents) made entry before.some has_some;
   left_some = All-rest (λ (e : List ℕ × SmallVec ℕ). 0 < length e.1.items) (word, documents) left
@@ -177,10 +168,7 @@ made_all table made sorted apart all = record { words = words; documents = all.d
         let long : length (map (λ (e : EntryView). e.word) made) ≡ length made = simp length-map in
         let less = Less-from_sorted (slice_cmp nat_cmp)
         (map (λ (e : EntryView). e.word) made) i j d.word rise low (omega arith) in
-        subst (λ w. slice_cmp nat_cmp w (get_or made j d).word ≡ Less)
-        (get_or-map (λ (e : EntryView). e.word) made i d)
-        (subst (λ w. slice_cmp nat_cmp (get_or (map (λ (e : EntryView). e.word) made) i d.word) w ≡ Less)
-        (get_or-map (λ (e : EntryView). e.word) made j d) less)
+        grind (arith, common_steps, get_or-map)
 
 pub pairs_of_made : (table : List (List ℕ × SmallVec ℕ)) (made : List EntryView) → AreMade table [] made →
     (pair : Pair) → Contains (pairs_of_index made) pair ↔ Contains (pairs_of_index (views table)) pair
@@ -191,9 +179,4 @@ pairs_of_made table made all pair = (
 
 -- what is written over a whole list is what is there
 pub refill_same : {X : Type 0} (xs ws : List X) → length ws ≡ length xs → refill (length xs) xs ws ≡ ws
-refill_same xs ws long =
-    ap (λ n. take (length xs) (ws ++ drop n xs)) long
-    ∙ ap (λ left. take (length xs) (ws ++ left)) (drop-length xs)
-    ∙ ap (take (length xs)) (append-nil ws)
-    ∙ ap (λ n. take n ws) (sym long)
-    ∙ take-length ws
+refill_same xs ws long = grind (arith, drop-length, append-nil, take-length)

@@ -94,12 +94,7 @@ adds_more entries i entry {old} {new} {newer} inside is before adds =
     }
 
 pub adds_none : (old : List EntryView) → AddsPairs old old (Contains [])
-adds_none old = record {
-  exact = λ pair. (
-    (λ h. inl h),
-    (λ h. ⊎_elim (λ o. o) (λ none. absurd (omega (arith, none.1))) h),
-  );
-}
+adds_none old = grind arith
 
 -- the pairs of an entry are its word with its documents
 pub adds_entry : (entry : EntryView) {old new : List EntryView} →
@@ -137,16 +132,7 @@ documents_more m n word was is numbers at updates more w k = by (pointwise nat_e
               (λ (this : (w ≡ word) × Contains numbers k).
               Contains-append_right was.items numbers k this.1) h)),
         )
-    by false e =
-        let kept : documents_of n w ≡ documents_of m w =
-        ap (λ o. option_map_or (λ (d : SmallVec ℕ). d.items) o [])
-        (updates.0 w ∙ ap (λ b. cond b (Some is) (get (pointwise nat_eq) m w)) e) in (
-          (λ h. inl (subst (λ ds. Contains ds k) kept h)),
-          (λ h. ⊎_elim
-              (λ o. subst (λ ds. Contains ds k) (sym kept) o)
-              (λ (this : (w ≡ word) × Contains numbers k). absurd
-              (false≢true (sym e ∙ (bytes_eq-Decides word w).1 (sym this.0)))) h),
-        )
+    by false e = grind (arith, false≢true, bytes_eq-Decides)
 
 pairs_of_permutation : (xs ys : List EntryView) → IsPermutation xs ys → (pair : Pair) →
     Contains (pairs_of_index xs) pair → Contains (pairs_of_index ys) pair
@@ -159,13 +145,7 @@ pairs_of_permutation xs ys moved pair h =
 pub pairs_of_reordered : (xs ys : List (List ℕ × SmallVec ℕ)) → IsPermutation xs ys → (pair : Pair) →
     Contains (pairs_of_index (views xs)) pair ↔ Contains (pairs_of_index (views ys)) pair
 pairs_of_reordered xs ys moved pair =
-    let shown : IsPermutation (views xs) (views ys) = IsPermutation-map
-    (λ (e : List ℕ × SmallVec ℕ). let v : EntryView =
-    record { word = e.0; documents = e.1.items } in v) xs ys moved in (
-      pairs_of_permutation (views xs) (views ys) shown pair,
-      pairs_of_permutation (views ys) (views xs)
-          (IsPermutation-sym (views xs) (views ys) shown) pair,
-    )
+    search (arith, IsPermutation-map, pairs_of_permutation, IsPermutation-sym)
 
 -- a table without words shows no entries
 pub no_entries : (entries : List (List ℕ × SmallVec ℕ)) → length entries ≡ 0 → views entries ≡ []

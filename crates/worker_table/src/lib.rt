@@ -42,7 +42,6 @@ pub struct WorkerTable {
 impl Model for WorkerTable {
     ghost Value = { Workers };
 
-
     ghost view = { table_of };
 
     ghost invariant = { λ t. IsTable (table_of t) };

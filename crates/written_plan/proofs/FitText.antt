@@ -44,8 +44,10 @@ read_fit : (purpose : Purpose) (text : List ℕ) (ls : List Line) (ss : List Sta
     → (m : ℕ) × IsReadTo purpose text ([] ∷ []) m (names_after k ss)
 read_fit purpose text [] [] n k read fits = (n, read)
 read_fit purpose text (l ∷ ls) (s ∷ ss) n k read fits =
-    grind (arith,
-      read_fit purpose text ls ss (n + 1) (entered k s) (read_more purpose text (l ∷ ls ++ [] ∷ []) l (ls ++ [] ∷ []) n k (entered k s) read refl (some_left ls []) (fit_taken k l s fits.0)) fits.1)
+    read_fit purpose text ls ss (n + 1) (entered k s)
+    (read_more purpose text (l ∷ ls ++ [] ∷ []) l (ls ++ [] ∷ []) n k (entered k s) read refl
+    (some_left ls [])
+    (fit_taken k l s fits.0)) fits.1
 read_fit purpose text ls ss n k read fits = absurd fits
 
 -- the lines that fit are all but the last, so what the text says is what they say

@@ -68,5 +68,17 @@ pub text-with_plan : (text : List ℕ) (lines : List Line) (splits workers : Lis
     ≡ joined (lines ++ plan_texts (start_pairs workers splits starts) (zip splits prices.splits)
     (zip workers prices.workers))
 text-with_plan text lines splits workers starts prices whole plan =
-    grind (arith, start_pairs, joined, joined-append, without_last_line-joined, start_lines-text,
-      price_lines-text, regroup, start_text, price_text, joined-plan, plan_texts)
+    grind (
+      arith,
+      start_pairs,
+      joined,
+      joined-append,
+      without_last_line-joined,
+      start_lines-text,
+      price_lines-text,
+      regroup,
+      start_text,
+      price_text,
+      joined-plan,
+      plan_texts,
+    )

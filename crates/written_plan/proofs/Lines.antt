@@ -24,8 +24,15 @@ not_feed b h = grind (arith, nat_tests)
 pub lines_of-joined : (ls : List Line) → All (All IsPrintable) ls → lines_of (joined ls) ≡ ls ++ [] ∷ []
 lines_of-joined [] h = refl
 lines_of-joined (l ∷ ls) h =
-    search (arith, lines_of-joined ls (All-tail (All IsPrintable) l ls h), slice_split_at, All-weaker,
-      not_feed, All-head, All-tail)
+    search (
+      arith,
+      lines_of-joined ls (All-tail (All IsPrintable) l ls h),
+      slice_split_at,
+      All-weaker,
+      not_feed,
+      All-head,
+      All-tail,
+    )
 
 join_feeds : (ls : List Line) → join_with_byte 10 (ls ++ [] ∷ []) ≡ joined ls
 join_feeds [] = refl
