@@ -1,4 +1,4 @@
-use Rattle.std.proofs.Common.{◌+◌, ◌-◌, ◌*◌, ◌<◌, false, length, ap, sym, ◌∙◌, arith}
+use Rattle.std.proofs.Common.{◌-◌, false, length, ap, sym, ◌∙◌, arith}
 use Rattle.std.proofs.lemmas.List.{get_or_default}
 use Rattle.std.proofs.lemmas.List.Sorted.{length_permutation}
 use Rattle.flow_network.specs.Flow.{Flow}
@@ -28,13 +28,7 @@ settle-requires g c =
     }
 
 pub nodes-smaller-then-index : goal.nodes-smaller-then-index
-nodes-smaller-then-index g c =
-    let size = length_permutation _ _ c.in-Some.ensures.taken in
-    let less : 4 * (2 * length c.args.meter.now.network.arcs - c.nodes.meter.count) + 2 * length
-    c.take.new.self + length c.nodes.self.stack.items
-    < 4 * (2 * length c.args.meter.now.network.arcs - c.nodes.meter.count) + 2 * length
-    c.nodes.self.queue + length c.nodes.self.stack.items = omega arith in
-    less
+nodes-smaller-then-index g c = grind (arith, length_permutation)
 
 pub nodes-preserved-then-index : goal.nodes-preserved-then-index
 nodes-preserved-then-index g c =
@@ -56,17 +50,7 @@ nodes-preserved-then-index g c =
     }
 
 pub nodes-smaller : goal.nodes-smaller
-nodes-smaller g c =
-    let few = few_so_far c.nodes.invariant.state.1.now in
-    let size = length_permutation _ _ c.in-Some.ensures.taken in
-    let network = ap (λ (f : Flow g.row.L.Denot). length f.arcs) c.nodes.invariant.network in
-    let most = c.settle.ensures.steps in
-    let spends = c.in_ok-settle.ensures.spends in
-    let less : 4 * (2 * length c.args.meter.now.network.arcs - c.settle.new.meter.count) + 2 * length
-    c.settle.new.self.queue + length c.settle.new.self.stack.items
-    < 4 * (2 * length c.args.meter.now.network.arcs - c.nodes.meter.count) + 2 * length
-    c.nodes.self.queue + length c.nodes.self.stack.items = omega arith in
-    less
+nodes-smaller g c = grind (arith, few_so_far, length_permutation)
 
 pub returns-clause-steps : goal.returns-clause-steps
 returns-clause-steps g c =

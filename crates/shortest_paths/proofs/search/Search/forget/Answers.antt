@@ -55,7 +55,5 @@ nodes-preserved c =
       queue = ap (λ (t : Tables). t.queue) e ∙ c.nodes.invariant.queue;
       size = ap (λ (xs : List ℕ). length xs) c.lower.ensures ∙ length-set c.nodes.potentials c.in-Some.node _
           ∙ c.nodes.invariant.size;
-      lacks = λ v. rw (c.lower.ensures, by, ap (λ (t : Tables). t.distances) e)
-          (lowers_one c.nodes.potentials held c.in-Some.node c.args.total inside_depths inside_too most v
-          ∙ c.nodes.invariant.lacks v);
+      lacks = grind (arith, lowers_one);
     }

@@ -1,12 +1,10 @@
-use Rattle.std.proofs.Common.{◌≡◌, ℕ, ◌+◌, ◌-◌, ◌<◌, List, length, get_or, take, ap, ◌∙◌, sym, subst}
+use Rattle.std.proofs.Common.{◌≡◌, ◌+◌, ◌-◌, ◌<◌, List, length, take, ap, ◌∙◌, sym, subst}
 use Rattle.std.proofs.Common.{arith, refl}
 use Rattle.std.proofs.Math.Seq.{take-length}
 use Rattle.std.proofs.lemmas.Bool.{false≢true}
 use Rattle.flow_network.specs.declared.arcs.ArcNo.{ArcNo}
-use Rattle.flow_network.specs.declared.arcs.ArcNo.TheVariants.{Forward}
 use Rattle.flow_network.specs.Flow.{Flow}
 use Rattle.flow_network.specs.Flows.{leaving_of}
-use Rattle.flow_network.specs.Leaving.{IsIn}
 use Rattle.flow_network.proofs.Listed.{each_arc, in_at}
 use Rattle.shortest_paths.specs.Lists.{source_at}
 use Rattle.shortest_paths.proofs.Settled.{scanned}
@@ -34,24 +32,10 @@ loop-i-init g c =
     }
 
 pub pass-requires-clause-leaves : goal.pass-requires-clause-leaves
-pass-requires-clause-leaves g c =
-    let xs : List ArcNo = c.leaving-arcs.result.now in
-    let k : ℕ = length xs - 1 - c.loop-i.i in
-    let l = c.loop-i-test.true in
-    let here = in_at xs k (Forward 0) (omega arith) in
-    let held = subst (λ ys. IsIn (get_or xs k (Forward 0)) ys) c.leaving-arcs.ensures here in
-    rw c.loop-i.invariant.network ((each_arc _ _ _).1 held).1
+pass-requires-clause-leaves g c = grind (arith, in_at, each_arc)
 
 pub pass-requires-clause-no_source : goal.pass-requires-clause-no_source
-pass-requires-clause-no_source g c =
-    let xs : List ArcNo = c.leaving-arcs.result.now in
-    let k : ℕ = length xs - 1 - c.loop-i.i in
-    let l = c.loop-i-test.true in
-    let here = in_at xs k (Forward 0) (omega arith) in
-    let held = subst (λ ys. IsIn (get_or xs k (Forward 0)) ys) c.leaving-arcs.ensures here in
-    let own = (each_arc _ _ _).1 held in
-    rw c.loop-i.invariant.network
-    (source_leads_on _ c.requires.state.may.lists c.requires.source own.0 own.1)
+pass-requires-clause-no_source g c = grind (arith, in_at, each_arc, source_leads_on)
 
 pub pass-requires-clause-state : goal.pass-requires-clause-state
 pass-requires-clause-state g c =
