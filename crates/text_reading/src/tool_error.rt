@@ -1,7 +1,3 @@
-ghost use Rattle.std.specs.Prelude.{◌≡◌};
-ghost use Rattle.text_reading.specs.Running.{error_of_answering};
-ghost use Rattle.text_reading.specs.Streams.{error_of_reading};
-
 use std::alloc::AllocError;
 use text_lines::{ReadError, TextFault, WriteError};
 use thiserror::Error;
@@ -38,7 +34,10 @@ pub enum NoAnswer {
 }
 
 impl From<AllocError> for NoAnswer {
-    ghost from_gives = { λ _ result. result ≡ NoAnswer.Memory };
+    ghost use Rattle.std.specs.Prelude.{◌≡◌};
+    ghost use Rattle.text_reading.specs.declared.tool_error.NoAnswer.TheVariants.{Memory};
+
+    ghost from_gives = { λ _ result. result ≡ Memory };
 
     fn from(_: AllocError) -> Self {
         NoAnswer::Memory
@@ -46,6 +45,9 @@ impl From<AllocError> for NoAnswer {
 }
 
 impl From<NoAnswer> for ToolError {
+    ghost use Rattle.std.specs.Prelude.{◌≡◌};
+    ghost use Rattle.text_reading.specs.Running.{error_of_answering};
+
     ghost from_gives = { λ error result. result ≡ error_of_answering error };
 
     fn from(error: NoAnswer) -> Self {
@@ -57,7 +59,10 @@ impl From<NoAnswer> for ToolError {
 }
 
 impl From<AllocError> for ToolError {
-    ghost from_gives = { λ _ result. result ≡ ToolError.Memory };
+    ghost use Rattle.std.specs.Prelude.{◌≡◌};
+    ghost use Rattle.text_reading.specs.declared.tool_error.ToolError.TheVariants.{Memory};
+
+    ghost from_gives = { λ _ result. result ≡ Memory };
 
     fn from(_: AllocError) -> Self {
         ToolError::Memory
@@ -65,6 +70,9 @@ impl From<AllocError> for ToolError {
 }
 
 impl From<ReadError> for ToolError {
+    ghost use Rattle.std.specs.Prelude.{◌≡◌};
+    ghost use Rattle.text_reading.specs.Streams.{error_of_reading};
+
     ghost from_gives = { λ error result. result ≡ error_of_reading error };
 
     fn from(error: ReadError) -> Self {
@@ -76,7 +84,10 @@ impl From<ReadError> for ToolError {
 }
 
 impl From<WriteError> for ToolError {
-    ghost from_gives = { λ _ result. result ≡ ToolError.Write };
+    ghost use Rattle.std.specs.Prelude.{◌≡◌};
+    ghost use Rattle.text_reading.specs.declared.tool_error.ToolError.TheVariants.{Write};
+
+    ghost from_gives = { λ _ result. result ≡ Write };
 
     fn from(_: WriteError) -> Self {
         ToolError::Write
