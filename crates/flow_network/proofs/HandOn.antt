@@ -7,7 +7,7 @@ use Rattle.flow_network.specs.Flows.{arc_at, inflow, outflow}
 use Rattle.flow_network.specs.Laws.{EnoughWait}
 
 -- no arc leads to the node
-inflow_none : (arcs : List FlowArc) (flows : List ℕ) (u : ℕ) →
+pub inflow_none : (arcs : List FlowArc) (flows : List ℕ) (u : ℕ) →
     ((i : ℕ) → i < length arcs → (arc_at arcs i).to ≡ u → ⊥) → inflow arcs flows u ≡ 0
 inflow_none [] flows u n = refl
 inflow_none (a ∷ arcs) [] u n = refl

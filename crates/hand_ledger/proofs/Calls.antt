@@ -114,11 +114,11 @@ taken-calls (x ∷ es) cs ss c s =
       ),
       omega (
         arith,
+        sum_by-cons (λ (call : Kept). length call.starts) (call_of x cs ss) rest,
+        length-take-le m ss short.0,
+        length-drop m ss,
         short.0,
         after.1,
-        length-drop m ss,
-        length-take-le m ss short.0,
-        sum_by-cons (λ (call : Kept). length call.starts) (call_of x cs ss) rest,
       ),
     )
 

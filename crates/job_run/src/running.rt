@@ -2,9 +2,9 @@ ghost use Rattle.std.specs.Prelude.{◌≡◌, ◌≢◌, ◌≤◌, ◌++◌, L
 ghost use Rattle.std.specs.Prelude.{false, [], if◌then◌else◌};
 ghost use Rattle.text_reading.specs.Running.{AnyLines, HasRun, NoText, WroteItsAnswer, outcome};
 ghost use Rattle.report_lines.specs.Lines.{index_lines};
+ghost use Rattle.script_text.specs.Scripts.{IsOfHead, IsTarget};
 ghost use Rattle.script_text.specs.Heads.{IsFitHead};
 ghost use Rattle.master_state.specs.States.{Setup};
-ghost use Rattle.script_text.specs.Scripts.{IsOfHead, IsTarget};
 ghost use Rattle.job_threads.specs.Outcomes.{IsRecordOf};
 ghost use Rattle.job_run.specs.PlayAnswer.{AreEnds, cluster_in};
 ghost use Rattle.job_run.specs.RunAnswer.{HasTextsNamed, RunAnswer, TellsEnd, TellsJob, TellsRun, done_lines};

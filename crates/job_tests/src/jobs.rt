@@ -88,24 +88,7 @@ fn texts_of(rt: &impl Abort, alloc: Global, rows: &[SplitRow<'_>]) -> Option<Vec
     Some(texts)
 }
 
-// The cluster of one rack of workers with these slots.
-fn cluster_of(
-    rt: &impl Abort,
-    alloc: Global,
-    slots: &[u8],
-    rows: &[SplitRow<'_>],
-    parts: usize,
-    silence: u32,
-) -> Option<Cluster> {
-    assert!(rt; parts >= 1 && silence >= 1);
-    let tree = rack_of(rt, alloc, slots.len())?;
-    let lines = lines_of(alloc, rows)?;
-    let texts = texts_of(rt, alloc, rows)?;
-    assert!(rt; lines.len() == rows.len());
-    Cluster::new(alloc, tree, slots, lines, texts, parts, silence).ok()
-}
-
-/// Such a job of at most 32 workers.
+/// A job of one rack of at most 32 workers with these slots.
 pub fn job_of(
     rt: &impl Abort,
     alloc: Global,
@@ -121,7 +104,12 @@ pub fn job_of(
     assert!(rt;
         limits.events <= 65_536 && limits.attempts <= 1_000_000 && limits.sweeps <= limits.events
     );
-    let cluster = cluster_of(rt, alloc, slots, rows, parts, silence)?;
+    assert!(rt; parts >= 1 && silence >= 1);
+    let tree = rack_of(rt, alloc, slots.len())?;
+    let lines = lines_of(alloc, rows)?;
+    let texts = texts_of(rt, alloc, rows)?;
+    assert!(rt; lines.len() == rows.len());
+    let cluster = Cluster::new(alloc, tree, slots, lines, texts, parts, silence).ok()?;
     assert!(rt; cluster.slots().len() <= 32);
     Some(Job {
         cluster,

@@ -49,10 +49,10 @@ held_with workers w holders lives none few held =
     grind (
       arith,
       common_steps,
+      none_is,
       length-append,
       leb-false,
       AllPairs-append,
-      none_is,
       All-append,
       All-cons,
       All-nil,

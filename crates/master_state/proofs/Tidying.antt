@@ -18,10 +18,10 @@ pub record HasSizes (setup : Setup) (s : State) : Type 0 where
   pub holders : length s.holders ≡ length setup.cluster.splits
   pub splits : length s.splits ≡ length setup.cluster.splits
   pub parts : length s.parts ≡ setup.cluster.parts
+  pub known : All (IsStartOf setup) s.starts
   pub events : s.events ≤ setup.limits.events
   pub attempts : length s.starts ≤ setup.limits.attempts
   pub sweeps : length s.sweeps ≤ setup.limits.sweeps
-  pub known : All (IsStartOf setup) s.starts
 
 -- the starts tell of each attempt what it runs
 pub record IsTold (s : State) : Type 0 where

@@ -4,7 +4,7 @@ ghost use Rattle.std.specs.Prelude.{◌≡◌};
 use crate::jobs::{Call, Shape, SplitRow, answer, end};
 use crate::refusals::{is_as_before, one_master};
 use crate::seen::{Shown, seen};
-use crate::shared_masters::{AMPLE, list_of, settles, share};
+use crate::shared_masters::{AMPLE, list_of, make_master, settles};
 use master_state::Answer;
 use node_ids::{SplitNo, WorkerNo};
 use shared_master::{Hand, HandError, SharedMaster, WaveError};
@@ -60,8 +60,8 @@ fn assert_settles<L: Ledger>(
 fn call_by_either<L: Ledger, R: Wait + Abort>(rt: &R, alloc: Global, blank: Blank)
     requires { (blank.name ≡ L.name) × (blank.parts ≡ L.parts) × (blank.parts ≡ 4096) }
 {
-    let made: Option<SharedMaster<L>> = share(rt, alloc, blank, (2, 0), &ROWS, AMPLE);
-    if let Some(shared) = made {
+    if let Some(master) = make_master(rt, alloc, (2, 0), &ROWS, AMPLE) {
+        let shared: SharedMaster<L> = SharedMaster::new(blank, master);
         let hands = sweep_by_either(rt, alloc, &shared);
         assert_settles(rt, shared, hands);
     }
@@ -105,8 +105,8 @@ fn plan_by_one<L: Ledger, R: Wait + Abort>(
 fn plan_twice<L: Ledger, R: Wait + Abort>(rt: &R, alloc: Global, blank: Blank)
     requires { (blank.name ≡ L.name) × (blank.parts ≡ L.parts) × (blank.parts ≡ 4096) }
 {
-    let made: Option<SharedMaster<L>> = share(rt, alloc, blank, (2, 0), &ROWS, AMPLE);
-    if let Some(shared) = made {
+    if let Some(master) = make_master(rt, alloc, (2, 0), &ROWS, AMPLE) {
+        let shared: SharedMaster<L> = SharedMaster::new(blank, master);
         let hands = plan_by_one(rt, alloc, &shared);
         assert_settles(rt, shared, hands);
     }
@@ -167,8 +167,8 @@ fn seen_after(rt: &impl Abort, alloc: Global, calls: usize) -> Option<Shown> {
 fn compare_with_one_thread<L: Ledger, R: Wait + Abort>(rt: &R, alloc: Global, blank: Blank)
     requires { (blank.name ≡ L.name) × (blank.parts ≡ L.parts) × (blank.parts ≡ 4096) }
 {
-    let made: Option<SharedMaster<L>> = share(rt, alloc, blank, (2, 0), &ROWS, AMPLE);
-    if let Some(shared) = made {
+    if let Some(master) = make_master(rt, alloc, (2, 0), &ROWS, AMPLE) {
+        let shared: SharedMaster<L> = SharedMaster::new(blank, master);
         let calls = call_until_refused(rt, alloc, &shared);
         let before = seen_after(rt, alloc, calls);
         is_as_before(rt, alloc, shared.into_master().master(), before);

@@ -2,12 +2,13 @@ ghost use Rattle.std.specs.Prelude.{◌≡◌, ◌<◌, length, vec_len, IsTrue}
 ghost use Rattle.hand_ledger.specs.Settling.{all_calls};
 
 use crate::jobs::SplitRow;
-use crate::shared_masters::{AMPLE, hand_of, list_of, shared_of, wave_of};
+use crate::shared_masters::{AMPLE, hand_of, list_of, share, wave_of};
 use master_core::Master;
 use master_state::{Answer, Limits, Why};
 use shared_master::{Closed, Hand, HandError, SharedMaster, Torn, settle};
 use std::alloc::Global;
 use std::marker::Brand;
+use std::ops::Range;
 use std::process::Abort;
 use std::sync::Wait;
 use std::sync::ledger::{Blank, Ledger};
@@ -30,36 +31,22 @@ fn sweep_place<L: Ledger, R: Wait>(
     }
 }
 
-// The place of a call of a thread: every fourth is a wave, and the others are sweeps.
-fn call_once<L: Ledger, R: Wait>(
-    rt: &R,
-    alloc: Global,
-    shared: &SharedMaster<L>,
-    hand: &mut Hand<L>,
-    call: u64,
-) -> Option<u32> {
-    if call % 4 == 0 {
-        let wave = wave_of(rt, alloc, shared, hand)?;
-        Some(wave.place)
-    } else {
-        sweep_place(rt, shared, hand, call)
-    }
-}
-
-// A hundred calls of a thread, of which each is accepted; the counts of sweeps tell them apart. The place of
-// the first.
+// Calls of a thread, of which each is accepted: every fourth is a wave, and the others are sweeps, whose counts
+// tell them apart. The place of the first.
 fn call_often<L: Ledger, R: Wait>(
     rt: &R,
     alloc: Global,
     shared: &SharedMaster<L>,
     hand: &mut Hand<L>,
-    mark: u64,
-) -> Option<u32>
-    requires { mark < 1000 }
-{
+    calls: Range<u64>,
+) -> Option<u32> {
     let mut first = None;
-    for call in 0..100u64 {
-        let place = call_once(rt, alloc, shared, hand, 1000 * mark + call)?;
+    for call in calls {
+        let place = if call % 4 == 0 {
+            wave_of(rt, alloc, shared, hand)?.place
+        } else {
+            sweep_place(rt, shared, hand, call)?
+        };
         first = first.or(Some(place));
     }
     first
@@ -76,8 +63,8 @@ fn call_in_two_threads<L: Ledger + Send + Sync, R: Threads + Wait + Abort + Sync
 ) -> u32 {
     let (first, second) = thread::join(
         rt,
-        || call_often(rt, alloc, shared, one, 1),
-        || call_often(rt, alloc, shared, two, 2),
+        || call_often(rt, alloc, shared, one, 1000..1100),
+        || call_often(rt, alloc, shared, two, 2000..2100),
     );
     assert!(rt; first.is_some());
     second.expect(rt, "a call was ignored")
@@ -165,7 +152,7 @@ fn settle_two_hands<L: Ledger + Send + Sync, R: Threads + Wait + Abort + Sync>(
 )
     requires { (blank.name ≡ L.name) × (blank.parts ≡ L.parts) × (blank.parts ≡ 4096) }
 {
-    let shared: SharedMaster<L> = shared_of(rt, alloc, blank, (2, 0), &TWO_SPLITS, AMPLE);
+    let shared: SharedMaster<L> = share(rt, alloc, blank, (2, 0), &TWO_SPLITS, AMPLE);
     let mut one = hand_of(rt, alloc, &shared);
     let mut two = hand_of(rt, alloc, &shared);
     let lowest = call_in_two_threads(rt, alloc, &shared, &mut one, &mut two);
@@ -225,7 +212,7 @@ fn why_no_other<L: Ledger, R: Wait + Abort>(
 fn ask_for_too_many<L: Ledger, R: Wait + Abort>(rt: &R, alloc: Global, blank: Blank)
     requires { (blank.name ≡ L.name) × (blank.parts ≡ L.parts) × (blank.parts ≡ 4096) }
 {
-    let shared: SharedMaster<L> = shared_of(rt, alloc, blank, (1, 0), &[], NO_ROOM);
+    let shared: SharedMaster<L> = share(rt, alloc, blank, (1, 0), &[], NO_ROOM);
     let hands = make_all_hands(rt, alloc, &shared);
     assert!(rt; hands.len() == 4095);
     assert_eq!(rt; why_no_other(rt, alloc, &shared, hands), HandError::Limit);

@@ -3,7 +3,7 @@ ghost use Rattle.std.specs.Prelude.{◌≡◌};
 
 use crate::jobs::{AMPLE, Call, Row, Shape, SplitRow, answers, last_glance, played};
 use crate::shared_masters;
-use crate::shared_masters::{hand_of, list_of, settles, shared_of, wave_of};
+use crate::shared_masters::{hand_of, join, list_of, made_of, settles, share, wave_of};
 use master_state::{Answer, AnswerWith, Why};
 use node_ids::{AttemptNo, SplitNo, SplitSet, WorkerNo};
 use shared_master::{Hand, SharedMaster};
@@ -12,7 +12,6 @@ use std::marker::Brand;
 use std::process::Abort;
 use std::sync::Wait;
 use std::sync::ledger::{Blank, Ledger};
-use word_map::MapResult;
 
 // Two workers with a slot each, of which the first holds the one split.
 const ONE_SPLIT: [SplitRow<'static>; 1] = [(5, &[0], "one")];
@@ -76,11 +75,6 @@ fn late_results_are_ignored(rt: HostRuntime) {
     assert_eq!(rt; last_glance(job).1, 2);
 }
 
-// What is made of the split, if these are its words.
-fn made_of(rt: &impl Abort, alloc: Global, words: &str) -> MapResult {
-    shared_masters::made_of(alloc, SplitNo::new(0), words).expect(rt, "no result")
-}
-
 // A result of these words is handed in: the answer, and whether it came back.
 fn hand_in<L: Ledger, R: Wait + Abort>(
     rt: &R,
@@ -90,40 +84,24 @@ fn hand_in<L: Ledger, R: Wait + Abort>(
     attempt: u32,
     words: &str,
 ) -> (Answer, bool) {
-    let made = made_of(rt, alloc, words);
+    let made = made_of(rt, alloc, SplitNo::new(0), words);
     match shared.map_done(rt, hand, AttemptNo::new(attempt), made) {
         AnswerWith::Accepted(place) => (Answer::Accepted(place), false),
         AnswerWith::Ignored(why, back) => {
-            let is_same = back.text().is_same(made_of(rt, alloc, words).text());
+            let again = made_of(rt, alloc, SplitNo::new(0), words);
+            let is_same = back.text().is_same(again.text());
             (Answer::Ignored(why), is_same)
         }
     }
 }
 
-fn join<L: Ledger, R: Wait + Abort>(
-    rt: &R,
-    shared: &SharedMaster<L>,
-    hand: &mut Hand<L>,
-    worker: WorkerNo,
-    split: Option<u16>,
-) -> Answer {
+// The split, where it is held.
+fn set_of(split: Option<u16>) -> SplitSet {
     let mut set = SplitSet::new();
     if split.is_some() {
         set.put(SplitNo::new(0));
     }
-    let sizes = shared.sizes();
-    assert!(rt; worker.index() < sizes.workers && set.are_below(sizes.splits));
-    shared.join(rt, hand, worker, &set)
-}
-
-fn die<L: Ledger, R: Wait + Abort>(
-    rt: &R,
-    shared: &SharedMaster<L>,
-    hand: &mut Hand<L>,
-    worker: WorkerNo,
-) -> Answer {
-    assert!(rt; worker.index() < shared.sizes().workers);
-    shared.die(rt, hand, worker)
+    set
 }
 
 // What the call of a hand is answered.
@@ -141,8 +119,13 @@ fn answer_by_hand<L: Ledger, R: Wait + Abort>(
         Call::Done(attempt) => hand_in(rt, alloc, shared, hand, attempt, "one").0,
         Call::Fail(attempt) => shared.map_failed(rt, hand, AttemptNo::new(attempt)),
         Call::Withdraw(attempt) => shared.withdraw(rt, hand, AttemptNo::new(attempt)),
-        Call::Die(worker) => die(rt, shared, hand, WorkerNo::new(worker)),
-        Call::Join(worker, split) => join(rt, shared, hand, WorkerNo::new(worker), split),
+        Call::Die(worker) => {
+            assert!(rt; (worker as usize) < shared.sizes().workers);
+            shared.die(rt, hand, WorkerNo::new(worker))
+        }
+        Call::Join(worker, split) => {
+            join(rt, shared, hand, WorkerNo::new(worker), &set_of(split))
+        }
         _ => panic!(rt; "{call:?}"),
     }
 }
@@ -177,7 +160,7 @@ fn lie_by_hand<L: Ledger, R: Wait + Abort>(
 fn settle_by_hand<L: Ledger, R: Wait + Abort>(rt: &R, alloc: Global, blank: Blank, lies: bool)
     requires { (blank.name ≡ L.name) × (blank.parts ≡ L.parts) × (blank.parts ≡ 4096) }
 {
-    let shared: SharedMaster<L> = shared_of(
+    let shared: SharedMaster<L> = share(
         rt,
         alloc,
         blank,

@@ -1,7 +1,7 @@
 ghost use Rattle.std.specs.Prelude.{◌≡◌, ◌<◌};
 
 use crate::jobs::SplitRow;
-use crate::shared_masters::{AMPLE, hand_of, shared_of, wave_of};
+use crate::shared_masters::{AMPLE, hand_of, join, share, wave_of};
 use block_map::CopyOrder;
 use master_state::{Answer, Event, Why};
 use node_ids::{AttemptNo, SplitNo, SplitSet, WorkerNo};
@@ -15,18 +15,6 @@ use std::sync::ledger::{Blank, Ledger};
 // One split, on the first of the workers.
 const ROWS: [SplitRow<'static>; 1] = [(5, &[0], "one")];
 
-// A worker comes back without a split.
-fn join<L: Ledger, R: Wait + Abort>(
-    rt: &R,
-    shared: &SharedMaster<L>,
-    hand: &mut Hand<L>,
-    worker: WorkerNo,
-) -> Answer {
-    let (none, sizes) = (SplitSet::new(), shared.sizes());
-    assert!(rt; worker.index() < sizes.workers && none.are_below(sizes.splits));
-    shared.join(rt, hand, worker, &none)
-}
-
 // The calls that change where a split lies and which workers live, each accepted.
 fn call_of_workers<L: Ledger, R: Wait + Abort>(
     rt: &R,
@@ -39,7 +27,7 @@ fn call_of_workers<L: Ledger, R: Wait + Abort>(
         shared.add(rt, hand, s, b),
         shared.lose(rt, hand, s, b),
         shared.die(rt, hand, b),
-        join(rt, shared, hand, b),
+        join(rt, shared, hand, b, &SplitSet::new()),
     ];
     let wanted = [
         Answer::Accepted(1),
@@ -76,7 +64,7 @@ fn call_of_attempts<L: Ledger, R: Wait + Abort>(
 fn call_by_numbers<L: Ledger, R: Wait + Abort>(rt: &R, alloc: Global, blank: Blank)
     requires { (blank.name ≡ L.name) × (blank.parts ≡ L.parts) × (blank.parts ≡ 4096) }
 {
-    let shared: SharedMaster<L> = shared_of(rt, alloc, blank, (2, 0), &ROWS, AMPLE);
+    let shared: SharedMaster<L> = share(rt, alloc, blank, (2, 0), &ROWS, AMPLE);
     let mut hand = hand_of(rt, alloc, &shared);
     call_of_workers(rt, &shared, &mut hand);
     call_of_attempts(rt, alloc, &shared, &mut hand);
@@ -91,7 +79,7 @@ fn calls_by_numbers_come_one_after_another(rt: HostRuntime) {
 fn order_copies<L: Ledger, R: Wait + Abort>(rt: &R, alloc: Global, blank: Blank)
     requires { (blank.name ≡ L.name) × (blank.parts ≡ L.parts) × (blank.parts ≡ 4096) }
 {
-    let shared: SharedMaster<L> = shared_of(rt, alloc, blank, (2, 1), &ROWS, AMPLE);
+    let shared: SharedMaster<L> = share(rt, alloc, blank, (2, 1), &ROWS, AMPLE);
     let orders = shared.copy_orders(rt, alloc, 2).expect(rt, "no memory");
     let order = CopyOrder {
         split: SplitNo::new(0),

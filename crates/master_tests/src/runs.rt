@@ -3,7 +3,7 @@ ghost use Rattle.std.specs.Prelude.{◌≡◌, ◌<◌};
 
 use crate::jobs::SplitRow;
 use crate::shared_jobs::reduce_one;
-use crate::shared_masters::{made_of, settles, shared_of, wave_of};
+use crate::shared_masters::{join, made_of, settles, share, wave_of};
 use master_state::Limits;
 use node_ids::{AttemptNo, SplitNo, SplitSet, WorkerNo};
 use shared_master::{Hand, SharedMaster};
@@ -37,14 +37,14 @@ fn next(seed: u64) -> u64 {
         .wrapping_add(1_442_695_040_888_963_407)
 }
 
-// A call of a split and a worker.
-fn call_of_pair<L: Ledger, R: Wait>(
+// A call of a kind, of a split and a worker or of an attempt.
+fn call_of<L: Ledger, R: Wait>(
     rt: &R,
     shared: &SharedMaster<L>,
     hand: &mut Hand<L>,
+    (kind, attempt): (u64, AttemptNo),
     split: SplitNo,
     worker: WorkerNo,
-    kind: u64,
 )
     requires split { split < shared.now.splits }
     requires worker { worker < shared.now.workers }
@@ -59,57 +59,19 @@ fn call_of_pair<L: Ledger, R: Wait>(
         2 => {
             shared.backup(rt, hand, split, worker);
         }
-        _ => {
+        3 => {
             shared.die(rt, hand, worker);
         }
-    }
-}
-
-// A worker comes back without a split.
-fn come_back<L: Ledger, R: Wait>(
-    rt: &R,
-    shared: &SharedMaster<L>,
-    hand: &mut Hand<L>,
-    worker: WorkerNo,
-) {
-    let (none, sizes) = (SplitSet::new(), shared.sizes());
-    if worker.index() < sizes.workers && none.are_below(sizes.splits) {
-        shared.join(rt, hand, worker, &none);
-    }
-}
-
-// A call of an attempt alone.
-fn call_of_attempt<L: Ledger, R: Wait>(
-    rt: &R,
-    shared: &SharedMaster<L>,
-    hand: &mut Hand<L>,
-    attempt: AttemptNo,
-    kind: u64,
-) {
-    match kind {
-        0 => {
+        4 => {
             shared.withdraw(rt, hand, attempt);
         }
-        1 => {
+        5 => {
             shared.map_failed(rt, hand, attempt);
         }
         _ => {
             shared.part_failed(rt, hand, attempt);
         }
     }
-}
-
-// Hands in what the split makes.
-fn hand_in<L: Ledger, R: Wait + Abort>(
-    rt: &R,
-    alloc: Global,
-    shared: &SharedMaster<L>,
-    hand: &mut Hand<L>,
-    split: SplitNo,
-    attempt: AttemptNo,
-) {
-    let made = made_of(alloc, split, "one two").expect(rt, "no result");
-    shared.map_done(rt, hand, attempt, made);
 }
 
 // The call that a number draws, of those that take no memory.
@@ -124,9 +86,11 @@ fn call_without_memory<L: Ledger, R: Wait + Abort>(
     let worker = WorkerNo::new((draw / 32 % 3) as u16);
     assert!(rt; split.index() < shared.sizes().splits && worker.index() < shared.sizes().workers);
     match kind {
-        0..=3 => call_of_pair(rt, shared, hand, split, worker, kind),
-        4..=5 => come_back(rt, shared, hand, worker),
-        _ => call_of_attempt(rt, shared, hand, attempt, kind % 3),
+        0..=3 => call_of(rt, shared, hand, (kind, attempt), split, worker),
+        4..=5 => {
+            join(rt, shared, hand, worker, &SplitSet::new());
+        }
+        _ => call_of(rt, shared, hand, (4 + kind % 3, attempt), split, worker),
     }
 }
 
@@ -137,14 +101,14 @@ fn split_and_attempt(draw: u64) -> (SplitNo, AttemptNo) {
     (split, attempt)
 }
 
-// The call that a number draws.
+// The call that a player's number draws.
 fn call<L: Ledger, R: Wait + Abort>(
     rt: &R,
     alloc: Global,
     shared: &SharedMaster<L>,
-    hand: &mut Hand<L>,
-    draw: u64,
+    player: &mut Player<L>,
 ) {
+    let (draw, hand) = (player.seed >> 33, &mut player.hand);
     match draw % 16 {
         0..=8 => call_without_memory(rt, shared, hand, draw),
         9 => {
@@ -155,7 +119,8 @@ fn call<L: Ledger, R: Wait + Abort>(
         }
         12..=13 => {
             let (split, attempt) = split_and_attempt(draw);
-            hand_in(rt, alloc, shared, hand, split, attempt);
+            let made = made_of(rt, alloc, split, "one two");
+            shared.map_done(rt, hand, attempt, made);
         }
         _ => assert!(rt; wave_of(rt, alloc, shared, hand).is_some()),
     }
@@ -166,14 +131,13 @@ fn play<L: Ledger, R: Wait + Abort>(
     rt: &R,
     alloc: Global,
     shared: &SharedMaster<L>,
-    player: Player<L>,
+    mut player: Player<L>,
 ) -> Hand<L> {
-    let Player { mut hand, mut seed } = player;
     for _ in 0..8u32 {
-        call(rt, alloc, shared, &mut hand, seed >> 33);
-        seed = next(seed);
+        call(rt, alloc, shared, &mut player);
+        player.seed = next(player.seed);
     }
-    hand
+    player.hand
 }
 
 // Four hands, each with a number of its own.
@@ -202,7 +166,7 @@ fn run<L: Ledger + Send + Sync, R: Threads + Wait + Abort + Sync>(
 )
     requires { (blank.name ≡ L.name) × (blank.parts ≡ L.parts) × (blank.parts ≡ 4096) }
 {
-    let shared: SharedMaster<L> = shared_of(rt, alloc, blank, (2, 1), &ROWS, ROOM);
+    let shared: SharedMaster<L> = share(rt, alloc, blank, (2, 1), &ROWS, ROOM);
     let players = players_of(rt, alloc, &shared, seed);
     let hands = thread::map_vec(rt, players, &|player| play(rt, alloc, &shared, player)).expect(
         rt,

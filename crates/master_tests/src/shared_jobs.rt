@@ -1,7 +1,7 @@
 ghost use Rattle.std.specs.Prelude.{◌≡◌};
 
 use crate::jobs::SplitRow;
-use crate::shared_masters::{AMPLE, hand_of, list_of, made_of, settled, shared_of, wave_of};
+use crate::shared_masters::{AMPLE, hand_of, list_of, made_of, settled, share, wave_of};
 use master_core::Master;
 use master_state::{AnswerWith, BackupAnswer, Event, ReduceAnswer, Reply, Why};
 use node_ids::{AttemptNo, SplitNo, WorkerNo};
@@ -12,6 +12,7 @@ use std::marker::Brand;
 use std::process::Abort;
 use std::sync::Wait;
 use std::sync::ledger::{Blank, Ledger};
+use word_map::MapResult;
 
 // One split, on the first of two workers.
 const ROWS: [SplitRow<'static>; 1] = [(5, &[0], "one two")];
@@ -37,16 +38,9 @@ fn start_twice<L: Ledger, R: Wait + Abort>(
     );
 }
 
-// What an attempt of the split is answered.
-fn hand_in<L: Ledger, R: Wait + Abort>(
-    rt: &R,
-    alloc: Global,
-    shared: &SharedMaster<L>,
-    hand: &mut Hand<L>,
-    attempt: u32,
-) -> Result<u32, Why> {
-    let made = made_of(alloc, SplitNo::new(0), "one two").expect(rt, "no result");
-    match shared.map_done(rt, hand, AttemptNo::new(attempt), made) {
+// What a result is answered, which does not come back.
+fn place_of(answer: AnswerWith<MapResult>) -> Result<u32, Why> {
+    match answer {
         AnswerWith::Accepted(place) => Ok(place),
         AnswerWith::Ignored(why, _) => Err(why),
     }
@@ -83,8 +77,11 @@ fn run_a_job<L: Ledger, R: Wait + Abort>(
     hand: &mut Hand<L>,
 ) {
     start_twice(rt, alloc, shared, hand);
-    let second = hand_in(rt, alloc, shared, hand, 2);
-    let first = hand_in(rt, alloc, shared, hand, 1);
+    let (one, two) = (AttemptNo::new(1), AttemptNo::new(2));
+    let made = made_of(rt, alloc, SplitNo::new(0), "one two");
+    let same = made_of(rt, alloc, SplitNo::new(0), "one two");
+    let second = place_of(shared.map_done(rt, hand, two, made));
+    let first = place_of(shared.map_done(rt, hand, one, same));
     let reducible = shared.glance(rt).reducible;
     assert_eq!(rt;
         (second, first, reducible),
@@ -107,7 +104,7 @@ fn results_in(settled: Option<Master>) -> Option<usize> {
 fn settle_a_job<L: Ledger, R: Wait + Abort>(rt: &R, alloc: Global, blank: Blank)
     requires { (blank.name ≡ L.name) × (blank.parts ≡ L.parts) × (blank.parts ≡ 4096) }
 {
-    let shared: SharedMaster<L> = shared_of(rt, alloc, blank, (2, 0), &ROWS, AMPLE);
+    let shared: SharedMaster<L> = share(rt, alloc, blank, (2, 0), &ROWS, AMPLE);
     let mut hand = hand_of(rt, alloc, &shared);
     run_a_job(rt, alloc, &shared, &mut hand);
     let hands = list_of(alloc, hand).expect(rt, "no list");

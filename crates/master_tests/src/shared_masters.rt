@@ -3,8 +3,8 @@ ghost use Rattle.std.specs.Prelude.{◌≡◌, [], IfSome};
 
 use crate::jobs::{Shape, SplitRow, make_cluster, text_of};
 use master_core::Master;
-use master_state::{Limits, Wave};
-use node_ids::SplitNo;
+use master_state::{Answer, Limits, Wave};
+use node_ids::{SplitNo, SplitSet, WorkerNo};
 use shared_master::{Hand, Settled, SharedMaster, settle};
 use std::alloc::Global;
 use std::process::Abort;
@@ -46,23 +46,8 @@ pub fn make_master(
     Master::new(alloc, cluster, limits).ok()
 }
 
-/// Such a master, shared.
+/// Such a master, where there is memory, shared.
 pub fn share<L: Ledger>(
-    rt: &impl Abort,
-    alloc: Global,
-    blank: Blank,
-    racks: Racks,
-    rows: &[SplitRow<'_>],
-    limits: Limits,
-) -> Option<SharedMaster<L>>
-    requires { (blank.name ≡ L.name) × (blank.parts ≡ L.parts) × (blank.parts ≡ 4096) }
-{
-    let master = make_master(rt, alloc, racks, rows, limits)?;
-    Some(SharedMaster::new(blank, master))
-}
-
-/// Such a master, where there is memory.
-pub fn shared_of<L: Ledger>(
     rt: &impl Abort,
     alloc: Global,
     blank: Blank,
@@ -72,7 +57,8 @@ pub fn shared_of<L: Ledger>(
 ) -> SharedMaster<L>
     requires { (blank.name ≡ L.name) × (blank.parts ≡ L.parts) × (blank.parts ≡ 4096) }
 {
-    share(rt, alloc, blank, racks, rows, limits).expect(rt, "no master")
+    let master = make_master(rt, alloc, racks, rows, limits).expect(rt, "no master");
+    SharedMaster::new(blank, master)
 }
 
 /// A hand with ample room.
@@ -85,9 +71,23 @@ pub fn hand_of<L: Ledger, R: Wait + Abort>(
 }
 
 /// What a split's words make.
-pub fn made_of(alloc: Global, split: SplitNo, words: &str) -> Option<MapResult> {
-    let text = text_of(alloc, split, words)?;
-    map_split(alloc, Arc::new(alloc, text).ok()?, 2).ok()
+pub fn made_of(rt: &impl Abort, alloc: Global, split: SplitNo, words: &str) -> MapResult {
+    let text = text_of(alloc, split, words).expect(rt, "no text");
+    let text = Arc::new(alloc, text).ok().expect(rt, "no memory");
+    map_split(alloc, text, 2).ok().expect(rt, "no result")
+}
+
+/// A worker comes back with these splits.
+pub fn join<L: Ledger, R: Wait + Abort>(
+    rt: &R,
+    shared: &SharedMaster<L>,
+    hand: &mut Hand<L>,
+    worker: WorkerNo,
+    splits: &SplitSet,
+) -> Answer {
+    let sizes = shared.sizes();
+    assert!(rt; worker.index() < sizes.workers && splits.are_below(sizes.splits));
+    shared.join(rt, hand, worker, splits)
 }
 
 /// A list of one hand.

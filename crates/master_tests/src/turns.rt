@@ -1,7 +1,7 @@
 ghost use Rattle.std.specs.Prelude.{◌≡◌};
 
 use crate::jobs::SplitRow;
-use crate::shared_masters::{AMPLE, hand_of, list_of_both, made_of, settles, shared_of, wave_of};
+use crate::shared_masters::{AMPLE, hand_of, list_of_both, made_of, settles, share, wave_of};
 use master_state::{Answer, AnswerWith, Start, Wave, Work};
 use node_ids::{AttemptNo, SplitNo, WorkerNo};
 use shared_master::{Between, Hand, SharedMaster, SharedWave};
@@ -117,12 +117,12 @@ fn call_in_turns<L: Ledger, R: Wait + Abort>(
 fn plan_beside<L: Ledger + Send + Sync, R: Threads + Wait + Abort + Sync>(
     rt: &R,
     alloc: Global,
+    turns: u32,
     shared: &SharedMaster<L>,
     one: &mut Hand<L>,
     two: &mut Hand<L>,
-    turns: u32,
 ) -> (SharedWave, u32) {
-    let made = made_of(alloc, SplitNo::new(0), "one").expect(rt, "no result");
+    let made = made_of(rt, alloc, SplitNo::new(0), "one");
     let meeting = Meeting {
         solved: Mutex::new(0),
         called: Mutex::new(0),
@@ -166,14 +166,14 @@ fn expect(rt: &impl Abort, shared: SharedWave, place: u32) {
 fn plan_in_turns<L: Ledger + Send + Sync, R: Threads + Wait + Abort + Sync>(
     rt: &R,
     alloc: Global,
+    (turns, place, solved): (u32, u32, u32),
     shared: &SharedMaster<L>,
     one: &mut Hand<L>,
     two: &mut Hand<L>,
-    (turns, place, solved): (u32, u32, u32),
 ) {
     assert!(rt; wave_of(rt, alloc, shared, one).is_some());
     assert!(rt; change_holder(rt, shared, one, true));
-    let (wave, often) = plan_beside(rt, alloc, shared, one, two, turns);
+    let (wave, often) = plan_beside(rt, alloc, turns, shared, one, two);
     expect(rt, wave, place);
     assert_eq!(rt; often, solved);
 }
@@ -187,10 +187,10 @@ fn wave_in_turns<L: Ledger + Send + Sync, R: Threads + Wait + Abort + Sync>(
 )
     requires { (blank.name ≡ L.name) × (blank.parts ≡ L.parts) × (blank.parts ≡ 4096) }
 {
-    let shared: SharedMaster<L> = shared_of(rt, alloc, blank, (2, 0), &ROWS, AMPLE);
+    let shared: SharedMaster<L> = share(rt, alloc, blank, (2, 0), &ROWS, AMPLE);
     let mut one = hand_of(rt, alloc, &shared);
     let mut two = hand_of(rt, alloc, &shared);
-    plan_in_turns(rt, alloc, &shared, &mut one, &mut two, wanted);
+    plan_in_turns(rt, alloc, wanted, &shared, &mut one, &mut two);
     let hands = list_of_both(alloc, one, two).expect(rt, "no memory");
     assert!(rt; settles(shared, hands));
 }

@@ -13,7 +13,8 @@ use Rattle.network_prices.specs.Pending.{pending_below, pending_splits}
 use Rattle.network_prices.specs.Ways.{IsInner}
 use Rattle.network_prices.specs.Networks.{WaveNodes}
 use Rattle.network_prices.specs.Prices.{IsShipped}
-use Rattle.network_prices.proofs.Sums.{inflow_none, given, given_none, given_more, inflow-given_two}
+use Rattle.flow_network.proofs.HandOn.{inflow_none}
+use Rattle.network_prices.proofs.Sums.{given, given_none, given_more, inflow-given_two}
 
 -- how often a node is among the pending splits
 pub pending-more : (wave : Wave) (n : ℕ) → (split_at wave n).pending ≡ true →

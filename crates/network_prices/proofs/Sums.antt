@@ -47,15 +47,6 @@ outroom-ge_two (a ∷ arcs) v (suc i) zero l m p q n =
 outroom-ge_two (a ∷ arcs) v (suc i) (suc j) l m p q n =
     let rest = outroom-ge_two arcs v i j (omega arith) (omega arith) p q (λ s. n (ap suc s)) in omega arith
 
--- no arc leads to the node
-pub inflow_none : (arcs : List FlowArc) (flows : List ℕ) (v : ℕ) →
-    ((i : ℕ) → i < length arcs → (arc_at arcs i).to ≡ v → ⊥) → inflow arcs flows v ≡ 0
-inflow_none [] flows v n = refl
-inflow_none (a ∷ arcs) [] v n = refl
-inflow_none (a ∷ arcs) (f ∷ flows) v n =
-    let rest = inflow_none arcs flows v (λ i l e. n (suc i) (omega arith) e) in
-    rw (ne_eqb a.to v (λ e. n 0 (omega arith) e)) (omega arith)
-
 -- what the arcs carry that leave nodes below n
 abbrev pub given : ℕ → List FlowArc → List ℕ → ℕ
 given n [] flows = 0

@@ -1,10 +1,10 @@
 //! Plans a wave over a network that each wave has.
 ghost use Rattle.std.specs.Prelude.{◌≡◌, ◌+◌, ◌<◌, ◌≤◌, length, map, true, IfOk};
 ghost use Rattle.wave_problem.specs.declared.TheConstants.{MAX_SPLITS};
-ghost use Rattle.price_certificate.specs.Certificate.{claim, Certifies, HasOneSize};
 ghost use Rattle.augmenting_paths.specs.Shipping.{AreMembers};
 ghost use Rattle.network_prices.specs.Layers.{nodes_from};
 ghost use Rattle.network_prices.specs.Pending.{pending_splits};
+ghost use Rattle.price_certificate.specs.Certificate.{claim, Certifies, HasOneSize};
 ghost use Rattle.network_prices.specs.Prices.{IsReadOff};
 
 use crate::{WaveNetwork, plan_of, prices_of};

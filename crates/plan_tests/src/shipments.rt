@@ -212,9 +212,9 @@ fn note(best: &mut [Option<i64>; NODES], paths: &[Walk]) {
 fn by_paths(
     rt: &impl Abort,
     alloc: Global,
+    from: usize,
     network: &Network<Numbered>,
     potentials: &Potentials,
-    from: usize,
 ) -> [Option<i64>; NODES] {
     let mut best = [None; NODES];
     let mut paths = [Walk::at(from)].to_vec(alloc).expect(rt, "no memory");
@@ -252,7 +252,7 @@ fn assert_searches(
     seed: u64,
 ) {
     for node in 0..NODES {
-        let slow = by_paths(rt, alloc, network, potentials, node);
+        let slow = by_paths(rt, alloc, node, network, potentials);
         let fast = by_search(rt, alloc, network, potentials, node);
         assert_eq!(rt; fast, slow, "seed {seed}, node {node}");
     }

@@ -66,11 +66,11 @@ module _ (wave : Wave) (arcs : List FlowArc) (network : IsRackNetwork wave arcs)
   to_rack : (r : ℕ) → r < length wave.tree.centre_of → (d : RackArc) → IsWanted wave d
       → (arc_of wave d).to ≡ rack_node wave r
       → FromAbove (centre_node wave (centre_of wave r)) (arc_of wave d)
+  to_rack r k (Branch q) d t =
+      inr (ap (λ (x : ℕ). centre_node wave (centre_of wave x)) (let same : q ≡ r = omega arith in same), refl)
   to_rack r k (Pair s v) d t = inl (pending_known wave s d.0.pending)
   to_rack r k (Reach s level h) d t = inl (pending_known wave s d.pending)
   to_rack r k (Trunk c) d t = absurd (let known = d.1 in omega arith)
-  to_rack r k (Branch q) d t =
-      inr (ap (λ (x : ℕ). centre_node wave (centre_of wave x)) (let same : q ≡ r = omega arith in same), refl)
   to_rack r k _ d t = absurd (omega arith)
 
   abbrev FromTop : FlowArc → Type 0

@@ -77,10 +77,10 @@ module _ (n : ℕ) (p : Problem) (level count : ℕ) (t : Tables)
       let b = s.reached.bounded (tail_of p.arcs a) near in
       let arcs = b.0 in
       let most = b.1 in
-      let ones = ones_le t.settled 0 in
       let marks = s.reached.settled_size in
       let size = priced.size in
       let limit = priced.network.node_limit in
+      let ones = ones_le t.settled 0 in
       let least = residual_cost p.arcs p.flows (slice_index p.depths) a priced.reduced r in
       let cost = reduced_bound p.arcs n (slice_index p.depths) a priced.network.arcs_in r.listed least in
       let from = priced.deep (tail_of p.arcs a) in

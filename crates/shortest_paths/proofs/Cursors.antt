@@ -171,9 +171,6 @@ popped p nodes level count entering rest t stack u e none none_matched s =
     record {
       left_size = s.left_size;
       left_matched_size = s.left_matched_size;
-      reached = s.reached;
-      listed = s.listed;
-      waiting = s.waiting;
       covered = record {
         on_stack = λ w o. c.on_stack w (was w o);
         cursors = λ w o. c.cursors w (was w o);
@@ -190,6 +187,9 @@ popped p nodes level count entering rest t stack u e none none_matched s =
           ]
         ];
       };
+      reached = s.reached;
+      listed = s.listed;
+      waiting = s.waiting;
       looks = s.looks;
       sink_left = s.sink_left;
     }

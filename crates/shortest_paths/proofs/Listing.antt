@@ -39,9 +39,12 @@ reached_first distances listed v x inside t = record {
 -- the last node of the list is forgotten
 module _ (nodes : ℕ) (t : Tables) (left : IsLeft nodes t) (rest : List ℕ) (v : ℕ)
     (last : t.reached ≡ rest ++ v ∷ []) where
-  pub last_inside : v < nodes
+  pub last_inside : (v < length t.distances) × (v < length t.settled)
   last_inside =
-      let l = left.listed.inside v (rw last (Contains-push rest v)) in let size = left.size in omega arith
+      let inside = left.listed.inside v (rw last (Contains-push rest v)) in
+      let size = left.size in
+      let marks = left.settled_size in
+      (inside, omega arith)
 
   pub forgets : IsLeft nodes (record t {
     distances = set t.distances v far;
@@ -50,12 +53,10 @@ module _ (nodes : ℕ) (t : Tables) (left : IsLeft nodes t) (rest : List ℕ) (v
   })
   forgets =
       let inside = last_inside in
-      let size = left.size in
-      let size_settled = left.settled_size in
       let here : distance_at (set t.distances v far) v ≡ far = get_or-set_same t.distances v far far
-      (omega arith) in
+      inside.0 in
       let unset : get_or (set t.settled v false) v false ≡ false =
-      get_or-set_same t.settled v false false (omega arith) in
+      get_or-set_same t.settled v false false inside.1 in
       record {
         size = length-set t.distances v far ∙ left.size;
         arrivals_size = left.arrivals_size;

@@ -428,11 +428,6 @@ from_the_end a rest s =
     let size = length-append rest (a ∷ []) in
     let old = s.looks in
     record {
-      left_size = s.left_size;
-      left_matched_size = s.left_matched_size;
-      reached = s.reached;
-      listed = s.listed;
-      waiting = s.waiting;
       covered = record {
         on_stack = s.covered.on_stack;
         cursors = s.covered.cursors;
@@ -442,6 +437,11 @@ from_the_end a rest s =
           | inr more ↦ elim more [ inl held ↦ inr (inl (in_front_of b held)) | inr cursor ↦ inr (inr cursor) ]
         ];
       };
+      left_size = s.left_size;
+      left_matched_size = s.left_matched_size;
+      reached = s.reached;
+      listed = s.listed;
+      waiting = s.waiting;
       looks = omega arith;
       sink_left = s.sink_left;
     }

@@ -142,12 +142,12 @@ pub record IsAtRest (nodes : ℕ) (t : Tables) : Type 0 where
 -- what is forgotten after a search: the nodes that were reached are listed, and the settled ones are among
 -- them
 pub record IsLeft (nodes : ℕ) (t : Tables) : Type 0 where
+  pub within : (v : ℕ) → distance_at t.distances v ≤ far
   pub size : length t.distances ≡ nodes
   pub arrivals_size : length t.arrivals ≡ nodes
   pub settled_size : length t.settled ≡ nodes
   pub left_size : length t.left ≡ nodes
   pub left_matched_size : length t.left_matched ≡ nodes
-  pub within : (v : ℕ) → distance_at t.distances v ≤ far
   pub listed : ListsReached t.distances t.reached
   pub marked : (v : ℕ) → is_settled t.settled v ≡ true → distance_at t.distances v < far
 

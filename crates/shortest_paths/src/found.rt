@@ -31,9 +31,9 @@ impl Model for Buffers {
 /// The distances of a search, with a path to its sink.
 #[derive(Drop)]
 pub struct Found {
+    total: Option<u64>,
     search: Search,
     sink: usize,
-    total: Option<u64>,
 }
 
 impl Model for Found {

@@ -8,14 +8,12 @@ use std::marker::Model;
 
 /// The arcs of the sources whose units go to one node.
 #[derive(Drop)]
-pub struct MatchedArcs {
-    arcs: Vec<u32>,
-}
+pub struct MatchedArcs(Vec<u32>);
 
 impl Model for MatchedArcs {
     ghost Value = { List ℕ };
 
-    ghost view = { λ l. l.arcs.items };
+    ghost view = { λ l. l.0.items };
 }
 
 impl MatchedArcs {
@@ -23,23 +21,21 @@ impl MatchedArcs {
     pub fn new(alloc: Global) -> MatchedArcs
         ensures { result ≡ [] }
     {
-        MatchedArcs {
-            arcs: Vec::new(alloc),
-        }
+        MatchedArcs(Vec::new(alloc))
     }
 
     /// The numbers of the arcs, counted from 0 as in the network.
     pub fn all(&self) -> &[u32]
         ensures { result.now ≡ self.now }
     {
-        &self.arcs
+        &self.0
     }
 
     /// One arc more.
     pub fn enter(&mut self, arc: u32) -> Result<(), AllocError>
         ensures { OnOk result (self.new ≡ self.old ++ arc ∷ []) }
     {
-        self.arcs.push(arc)?;
+        self.0.push(arc)?;
         Ok(())
     }
 
@@ -47,9 +43,9 @@ impl MatchedArcs {
     pub fn leave(&mut self, arc: u32)
         ensures { IsDistinct nat_eq self.old → Leaves self.old arc self.new }
     {
-        for i in 0..self.arcs.len() {
-            if self.arcs[i] == arc {
-                self.arcs.swap_remove(i);
+        for i in 0..self.0.len() {
+            if self.0[i] == arc {
+                self.0.swap_remove(i);
                 return;
             }
         }

@@ -8,16 +8,14 @@ use std::marker::Model;
 /// One potential for each node, from -2^52 to 0. They are kept as depths below 0, so that all are natural
 /// numbers, and contracts see these.
 #[derive(Drop)]
-pub struct Potentials {
-    depths: Vec<u64>,
-}
+pub struct Potentials(Vec<u64>);
 
 impl Model for Potentials {
     ghost Value = { List ℕ };
 
-    ghost view = { λ p. p.depths.items };
+    ghost view = { λ p. p.0.items };
 
-    ghost invariant = { λ p. (v : ℕ) → slice_index p.depths.items v ≤ 2 ^ 52 };
+    ghost invariant = { λ p. (v : ℕ) → slice_index p.0.items v ≤ 2 ^ 52 };
 }
 
 impl Potentials {
@@ -25,9 +23,7 @@ impl Potentials {
     pub fn new(alloc: Global, nodes: usize) -> Result<Potentials, AllocError>
         ensures { IfOk result (λ p. p ≡ replicate nodes 0) }
     {
-        Ok(Potentials {
-            depths: vec![in alloc; 0; nodes]?,
-        })
+        Ok(Potentials(vec![in alloc; 0; nodes]?))
     }
 
     /// The potential of a node, by its index.
@@ -35,7 +31,7 @@ impl Potentials {
         requires { node < length self.now }
         ensures { result ≡ neg_ℤ (pos (slice_index self.now node)) }
     {
-        -(self.depths[node] as i64)
+        -(self.0[node] as i64)
     }
 
     /// Sets the potential of a node.
@@ -45,7 +41,7 @@ impl Potentials {
         requires high { value ≤ℤ pos 0 }
         ensures { self.new ≡ slice_set self.old node (unsigned_abs value) }
     {
-        self.depths[node] = value.unsigned_abs();
+        self.0[node] = value.unsigned_abs();
     }
 
     /// Lowers the potential of a node.
@@ -54,7 +50,7 @@ impl Potentials {
         requires low { slice_index self.old node + by ≤ 2 ^ 52 }
         ensures { self.new ≡ slice_set self.old node (slice_index self.old node + by) }
     {
-        self.depths[node] += by;
+        self.0[node] += by;
     }
 
     /// How far each potential lies below 0, by the indices of the nodes.
@@ -62,6 +58,6 @@ impl Potentials {
         ensures depths { result.now ≡ self.now }
         ensures most { (v : ℕ) → slice_index self.now v ≤ 2 ^ 52 }
     {
-        &self.depths
+        &self.0
     }
 }

@@ -1,6 +1,6 @@
 use job_run::{PlayEnd, fits, play_script};
 use master_core::Cluster;
-use script_text::{Head, read_script};
+use script_text::read_script;
 use std::alloc::Global;
 
 const HEAD: &str = "script 1\nrack r\nworker a r 1\nsplit s 10 a\ndoc d s The cat\nbegin\n";
@@ -10,15 +10,19 @@ fn cluster_of(alloc: Global, text: &str) -> Option<Cluster> {
     let Ok(read) = read_script(alloc, text.as_bytes()) else {
         return None;
     };
-    let Head {
-        tree,
+    let head = read.head;
+    let slots = head.slots.as_slice();
+    let (parts, silence) = (head.parts, head.silence);
+    Cluster::new(
+        alloc,
+        head.tree,
         slots,
-        splits,
-        texts,
+        head.splits,
+        head.texts,
         parts,
         silence,
-    } = read.head;
-    Cluster::new(alloc, tree, slots.as_slice(), splits, texts, parts, silence).ok()
+    )
+    .ok()
 }
 
 // How a script ends on a cluster that it fits, and its report.

@@ -13,11 +13,11 @@ pub add-requires-clause-room : goal.add-requires-clause-room
 add-requires-clause-room c =
     let wave = c.args.problem.now in
     let racks : ℕ = length wave.tree.centre_of in
-    let limit = c.loop-i.invariant.frame.arc_limit in
     let few = c.know_sizes.ensures in
+    let some = few.racks in
+    let limit = c.loop-i.invariant.frame.arc_limit in
     let splits = few.splits in
     let centres = few.centres in
-    let some = few.racks in
     let count = c.racks-i-end.ensures.count in
     let tree = ap (λ (t : Tree). length t.centre_of) c.tree-tree.ensures.tree in
     let up = place-mono (centre_of wave) c.args.centre c.loop-i.i racks (omega arith) in
@@ -27,9 +27,9 @@ add-requires-clause-room c =
 
 pub loop-i-preserved : goal.loop-i-preserved
 loop-i-preserved c =
-    let wave = c.args.problem.now in
     let d : ℕ = c.args.centre in
     let rack : ℕ = c.new-rack.result in
+    let wave = c.args.problem.now in
     let same : rack ≡ c.loop-i.i = omega arith in
     let limit : ℕ = trunk_arcs wave + in_places (centre_of wave) (length wave.tree.centre_of) d in
     let now : ℕ = limit + in_place (centre_of wave) c.loop-i.i d in
@@ -59,13 +59,11 @@ returns c =
     let limit : ℕ = trunk_arcs wave + in_places (centre_of wave) racks d in
     let count = c.racks-i-end.ensures.count in
     let tree = ap (λ (t : Tree). length t.centre_of) c.tree-tree.ensures.tree in
-    let end : c.loop-i.i ≡ racks = omega arith in
     let whole = places_more (centre_of wave) d racks in
+    let end : c.loop-i.i ≡ racks = omega arith in
     record {
-      built = row_close (branches wave c.requires.tree d c.requires.centre) (centre_node wave (d + 1))
-          (limit + in_place (centre_of wave) racks d)
-          (trunk_arcs wave + in_places (centre_of wave) racks (d + 1)) c.loop-i.network (omega arith)
-          (omega arith) (branches_inside wave c.requires.tree d c.requires.centre)
+      built = row_close (branches wave c.requires.tree d c.requires.centre) _ _ _ _ (omega arith) (omega arith)
+          (branches_inside wave c.requires.tree d c.requires.centre)
           (subst (λ (i : ℕ). IsBuilt wave (centre_node wave d) (rack_node wave i)
           (limit + in_place (centre_of wave) i d) c.loop-i.network) end c.loop-i.invariant);
     }

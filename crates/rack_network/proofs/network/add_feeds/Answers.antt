@@ -25,8 +25,8 @@ add-requires-clause-room c =
 
 pub loop-i-preserved : goal.loop-i-preserved
 loop-i-preserved c =
-    let wave = c.args.problem.now in
     let r : ℕ = c.args.rack in
+    let wave = c.args.problem.now in
     let worker : ℕ = c.new-worker.result in
     let same : worker ≡ c.loop-i.i = omega arith in
     let limit : ℕ = branch_arcs wave + in_places (rack_of wave) (length wave.workers) r in
@@ -56,10 +56,8 @@ returns c =
     let end : c.loop-i.i ≡ length wave.workers = omega arith in
     let whole = places_more (rack_of wave) r workers in
     record {
-      built = row_close (feeds wave c.requires.tree r c.requires.rack) (rack_node wave (r + 1))
-          (limit + in_place (rack_of wave) workers r)
-          (branch_arcs wave + in_places (rack_of wave) workers (r + 1)) c.loop-i.network (omega arith)
-          (omega arith) (feeds_inside wave c.requires.tree r c.requires.rack)
+      built = row_close (feeds wave c.requires.tree r c.requires.rack) _ _ _ _ (omega arith) (omega arith)
+          (feeds_inside wave c.requires.tree r c.requires.rack)
           (subst (λ (i : ℕ). IsBuilt wave (rack_node wave r) (worker_node wave i)
           (limit + in_place (rack_of wave) i r) c.loop-i.network) end c.loop-i.invariant);
     }

@@ -34,26 +34,26 @@ pub overflow_add-number : goal.overflow_add-number
 overflow_add-number c =
     let wave = c.args.problem.now in
     let s : ℕ = c.args.split in
+    let one = clusters-le wave.tree.centres in
     let is = next_is wave s c.loop-next.number c.in-Some.next _ _ c.requires.pending c.requires.no_bars
     c.holders-holders.ensures.holders c.marks_above-marks.ensures c.in-Some.ensures in
     let node = is.node in
-    let in_row = (reach_in wave c.requires.tree s is.level _ is.reach).1 in
-    let one = clusters-le wave.tree.centres in
     let few = c.know_sizes.ensures in
     let centres = few.centres in
     let racks = few.racks in
     let workers = few.workers in
+    let in_row = (reach_in wave c.requires.tree s is.level _ is.reach).1 in
     omega arith
 
 pub loop-next-smaller : goal.loop-next-smaller
 loop-next-smaller c =
+    let past = (c.in-Some.ensures.found c.in-Some.next refl).0 in
     let wave = c.args.problem.now in
     let s : ℕ = c.args.split in
     let is = next_is wave s c.loop-next.number c.in-Some.next _ _ c.requires.pending c.requires.no_bars
     c.holders-holders.ensures.holders c.marks_above-marks.ensures c.in-Some.ensures in
-    let node = is.node in
     let in_row = (reach_in wave c.requires.tree s is.level _ is.reach).1 in
-    let past = (c.in-Some.ensures.found c.in-Some.next refl).0 in
+    let node = is.node in
     omega arith
 
 pub loop-next-preserved : goal.loop-next-preserved

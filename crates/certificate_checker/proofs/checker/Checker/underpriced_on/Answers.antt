@@ -38,8 +38,8 @@ returns-clause-one_each g c =
 
 pub returns-clause-first : goal.returns-clause-first
 returns-clause-first g c =
-    let claim = c.args.self.now in
     let ends = c.into_par_iter.ensures in
+    let claim = c.args.self.now in
     let n = length claim.wave.splits in
     let whole : c.splits.result - 0 ≡ n = omega (arith, c.splits.ensures.count) in
     IfOk-then c.collect.result _ _ c.collect.ensures (λ v h.

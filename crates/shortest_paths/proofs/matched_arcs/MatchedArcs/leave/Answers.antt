@@ -7,9 +7,9 @@ use Rattle.shortest_paths.proofs.matched_arcs.MatchedArcs.leave.Goals as goal
 
 pub returns-then-index-arc : goal.returns-then-index-arc
 returns-then-index-arc c = λ d.
-    let xs : List ℕ = c.loop-i.self-inside.arcs.items in
+    let xs : List ℕ = c.loop-i.self-inside.0.items in
     let same : xs ≡ c.args.self.now = c.loop-i.invariant.same in
-    let size : length xs ≡ length c.self.inside.arcs.items = ap length (same ∙ sym c.self.view_is) in
+    let size : length xs ≡ length c.self.inside.0.items = ap length (same ∙ sym c.self.view_is) in
     let end = c.len-i-end.ensures in
     let left = c.loop-i-test.true in
     subst (λ (ys : List ℕ). Leaves ys c.args.arc c.swap_remove.new.self.items) same
@@ -19,7 +19,7 @@ returns-then-index-arc c = λ d.
 
 pub returns : goal.returns
 returns c = λ d.
-    let same : c.loop-i.self-inside.arcs.items ≡ c.args.self.now = c.loop-i.invariant.same in
+    let same : c.loop-i.self-inside.0.items ≡ c.args.self.now = c.loop-i.invariant.same in
     let size = ap length c.self.view_is in
     let end = c.len-i-end.ensures in
     let past = c.loop-i-test.false in

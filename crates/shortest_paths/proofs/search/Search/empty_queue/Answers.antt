@@ -1,4 +1,4 @@
-use Rattle.std.proofs.Common.{◌-◌, false, length, ap, sym, ◌∙◌, arith}
+use Rattle.std.proofs.Common.{false, length, ap, sym, ◌∙◌, arith}
 use Rattle.std.proofs.lemmas.List.{get_or_default}
 use Rattle.std.proofs.lemmas.List.Sorted.{length_permutation}
 use Rattle.flow_network.specs.Flow.{Flow}
@@ -16,9 +16,8 @@ pub settle-requires : goal.settle-requires
 settle-requires g c =
     let s = c.nodes.invariant.state.1 in
     let inside = entry_inside s.now c.in-Some.ensures.taken in
-    let size = s.now.reached.settled_size in
     let mark = c.index.ensures ∙ get_or_default c.nodes.self.settled.items c.in-Some.node c.index.result.now
-    false (omega arith) in
+    false (let size = s.now.reached.settled_size in omega arith) in
     record {
       state = record {
         may = s.may;
@@ -34,9 +33,8 @@ pub nodes-preserved-then-index : goal.nodes-preserved-then-index
 nodes-preserved-then-index g c =
     let s = c.nodes.invariant.state.1 in
     let inside = entry_inside s.now c.in-Some.ensures.taken in
-    let size = s.now.reached.settled_size in
     let mark = c.index.ensures ∙ get_or_default c.nodes.self.settled.items c.in-Some.node c.index.result.now
-    false (omega arith) in
+    false (let size = s.now.reached.settled_size in omega arith) in
     record {
       network = c.nodes.invariant.network;
       empty = c.nodes.invariant.empty;

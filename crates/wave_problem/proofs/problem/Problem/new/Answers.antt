@@ -28,6 +28,13 @@ invariant_of-result c = within _ _ _ _ _
     (moved_held _ _ _ _ (c.workers-count.ensures.count ∙ sym c.requires) c.deref-3.ensures.value
     (c.are_held_well.ensures.0 c.if-not-are_held_well.false))
 
+pub returns-in-Ok-clause-holder : goal.returns-in-Ok-clause-holder
+returns-in-Ok-clause-holder c = (
+  λ wrong. cc,
+  λ given. absurd (given.1 (moved_held _ _ _ _ (c.workers-count.ensures.count ∙ sym c.requires)
+      c.deref-3.ensures.value (c.are_held_well.ensures.0 c.if-not-are_held_well.false))),
+)
+
 pub returns-in-Ok-clause-sound : goal.returns-in-Ok-clause-sound
 returns-in-Ok-clause-sound c = (
   moved_small _ _ _ _ c.deref.ensures.value c.deref-2.ensures.value
@@ -36,26 +43,17 @@ returns-in-Ok-clause-sound c = (
       (c.are_held_well.ensures.0 c.if-not-are_held_well.false),
 )
 
-pub returns-in-Ok-clause-holder : goal.returns-in-Ok-clause-holder
-returns-in-Ok-clause-holder c = (
-  λ wrong. cc,
-  λ given. absurd (given.1 (moved_held _ _ _ _ (c.workers-count.ensures.count
-      ∙ sym c.requires) c.deref-3.ensures.value
-      (c.are_held_well.ensures.0 c.if-not-are_held_well.false))),
-)
-
-pub returns-in-Err-clause-holder : goal.returns-in-Err-clause-holder
-returns-in-Err-clause-holder c = (
-  λ wrong. cc,
-  λ given. absurd (given.1 (moved_held _ _ _ _ (c.workers-count.ensures.count
-      ∙ sym c.requires) c.deref-3.ensures.value
-      (c.are_held_well.ensures.0 c.if-not-are_held_well.false))),
-)
-
 pub returns-in-Err-clause-memory : goal.returns-in-Err-clause-memory
 returns-in-Err-clause-memory c given = (
   moved_small _ _ _ _ c.deref.ensures.value c.deref-2.ensures.value
       (c.are_small.ensures.0 c.if-not-are_small.false),
   moved_held _ _ _ _ (c.workers-count.ensures.count ∙ sym c.requires) c.deref-3.ensures.value
       (c.are_held_well.ensures.0 c.if-not-are_held_well.false),
+)
+
+pub returns-in-Err-clause-holder : goal.returns-in-Err-clause-holder
+returns-in-Err-clause-holder c = (
+  λ wrong. cc,
+  λ given. absurd (given.1 (moved_held _ _ _ _ (c.workers-count.ensures.count ∙ sym c.requires)
+      c.deref-3.ensures.value (c.are_held_well.ensures.0 c.if-not-are_held_well.false))),
 )
