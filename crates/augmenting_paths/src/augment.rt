@@ -85,7 +85,6 @@ fn ship_all<L: Layout>(
     ensures arcs { network.new.arcs ≡ network.old.arcs }
     ensures layout { network.new.layout ≡ network.old.layout }
 {
-    network.limits();
     let nodes = network.layout().size();
     let order = shipping_order(alloc, network, sources, sink)?;
     let marks = marked(alloc, nodes, sources)?;
@@ -247,7 +246,6 @@ fn push<L: Layout>(
     ensures arcs { network.new.arcs ≡ network.old.arcs }
     ensures layout { network.new.layout ≡ network.old.layout }
 {
-    network.limits();
     network.push(&shipping.path);
     shipping.lists.follow(network, &shipping.path)?;
     Ok(shipping)
@@ -280,7 +278,6 @@ fn least_depth<L: Layout>(network: &Network<L>, depths: &[u64], node: usize) -> 
         → 0 < (arc_at network.now.arcs k).capacity
         → result ≤ (arc_at network.now.arcs k).cost + slice_index depths.now (arc_at network.now.arcs k).to }
 {
-    network.limits();
     let mut least = u64::MAX;
     let meter = Meter::new(network);
     for arc in leaving(&meter, node) {

@@ -56,7 +56,6 @@ pub fn shipping_order<L: Layout>(
 fn costs_of<L: Layout>(alloc: Global, network: &Network<L>) -> Result<Vec<Costs>, AllocError>
     ensures { IfOk result (λ c. length c.items ≡ L.node_count network.now.layout) }
 {
-    network.limits();
     let none = Costs { most: 0, next: 0 };
     let mut costs = vec![in alloc; none; network.layout().size()]?;
     for arc in network.all_arcs() {

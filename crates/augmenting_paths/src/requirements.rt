@@ -50,7 +50,6 @@ fn can_ship_over<L: Layout>(
     ensures { IfOk result (λ b. IsTrue b ↔ CanShip (L.node_count network.now.layout) network.now.arcs
         (map (L.index_of network.now.layout) sources.now) (L.index_of network.now.layout sink)) }
 {
-    network.limits();
     let end = network.layout().index(sink);
     let starts = indices(alloc, network.layout(), sources)?;
     let arcs = network.all_arcs();

@@ -1,7 +1,7 @@
 //! A path over which a unit costs nothing more, by a search that goes depth first over tight arcs.
 ghost use Rattle.std.specs.Prelude.{◌≡◌, ℕ, ◌+◌, ◌<◌, ◌≤◌, length, slice_index, slice_set, IfOk, IfSome};
 ghost use Rattle.std.specs.Prelude.{IsTrue};
-ghost use Rattle.flow_network.specs.Flows.{arc_index, tail_of};
+ghost use Rattle.flow_network.specs.Flows.{arc_index, tail_of, AreArcs};
 ghost use Rattle.flow_network.specs.Leaving.{IsIn};
 ghost use Rattle.shortest_paths.specs.Search.{MaySearch};
 ghost use Rattle.augmenting_paths.specs.TightPath.{FindsTight};
@@ -55,7 +55,6 @@ impl Trail {
         ensures nodes { HasNodes (length query.now.potentials.now) self.new }
         ensures tight { IfOk result (FindsTight network.now query.now path.new.items) }
     {
-        network.limits();
         path.clear();
         self.enter(query.start);
         let mut top = query.start;
@@ -197,7 +196,6 @@ impl Trail {
         ensures { IsTrue result → IsOpenArc network.now.arcs network.now.flows (slice_index potentials.now)
             self.now.closed.items self.now.time arc }
     {
-        network.limits();
         let arcs = network.all_arcs();
         let depths = potentials.depths();
         match arc {
@@ -220,10 +218,10 @@ impl Trail {
 // Opens the nodes to which the arcs of a path lead.
 fn open_ends<L: Layout>(closed: &mut [usize], network: &Network<L>, path: &[ArcNo])
     requires size { length closed.old ≡ L.node_count network.now.layout }
+    requires arcs { AreArcs (L.node_count network.now.layout) network.now.arcs }
     requires path { (a : ArcNo) → IsIn a path.now → arc_index a < length network.now.arcs }
     ensures { length closed.new ≡ length closed.old }
 {
-    network.limits();
     for arc in path {
         closed[network.view(*arc).to] = 0;
     }

@@ -21,7 +21,6 @@ pub fn walk_down<L: Layout>(
     requires { MaySearch L.node_count network.now query.now }
     ensures { IfOk result (FindsTight network.now query.now path.new.items) }
 {
-    network.limits();
     let meter = Meter::new(network);
     let arcs = leaving(&meter, query.start);
     for i in 0..arcs.len() {
@@ -44,7 +43,6 @@ fn walk_over<L: Layout>(
     requires own { IsOf network.now.arcs query.now.start first }
     ensures { IfOk result (FindsTight network.now query.now path.new.items) }
 {
-    network.limits();
     let ArcNo::Forward(own) = first else {
         return Ok(false);
     };
@@ -106,7 +104,6 @@ fn is_open<L: Layout>(network: &Network<L>, potentials: &Potentials, number: usi
     ensures { IsTrue result
         → IsTightArc network.now.arcs network.now.flows (slice_index potentials.now) number }
 {
-    network.limits();
     let arc = network.all_arcs()[number];
     let depths = potentials.depths();
     // (the price first: of a source that has not shipped all arcs have room)

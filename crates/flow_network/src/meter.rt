@@ -47,12 +47,14 @@ impl<'a, L: Layout> Meter<'a, L> {
 
     /// The numbering of the nodes.
     pub fn layout(&self) -> &'a L
-        ensures { result.now ≡ self.now.network.layout }
+        ensures value { result.now ≡ self.now.network.layout }
+        ensures limits { IsNetwork (L.node_count self.now.network.layout) self.now.network.arcs
+            self.now.network.flows }
     {
         self.network.layout()
     }
 
-    /// What holds of every network.
+    /// What holds of every network, as `layout` tells it too.
     pub fn limits(&self)
         ensures { IsNetwork (L.node_count self.now.network.layout) self.now.network.arcs
             self.now.network.flows }

@@ -64,7 +64,8 @@ impl<L: Layout> Network<L> {
 
     /// The numbering of the nodes.
     pub fn layout(&self) -> &L
-        ensures { result.now ≡ self.now.layout }
+        ensures value { result.now ≡ self.now.layout }
+        ensures limits { IsNetwork (L.node_count self.now.layout) self.now.arcs self.now.flows }
     {
         &self.layout
     }
@@ -97,7 +98,8 @@ impl<L: Layout> Network<L> {
 
     /// The arcs, by their numbers.
     pub fn all_arcs(&self) -> &[FlowArc]
-        ensures { result.now ≡ self.now.arcs }
+        ensures value { result.now ≡ self.now.arcs }
+        ensures limits { IsNetwork (L.node_count self.now.layout) self.now.arcs self.now.flows }
     {
         &self.arcs
     }
@@ -170,7 +172,7 @@ impl<L: Layout> Network<L> {
         gained as i64 - given as i64
     }
 
-    /// What holds of every network.
+    /// What holds of every network, as `layout` tells it too.
     pub fn limits(&self)
         ensures { IsNetwork (L.node_count self.now.layout) self.now.arcs self.now.flows }
     {

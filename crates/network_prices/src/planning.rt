@@ -1,6 +1,7 @@
 //! Plans a wave over a network that each wave has.
 ghost use Rattle.std.specs.Prelude.{◌≡◌, ◌+◌, ◌<◌, ◌≤◌, length, map, true, IfOk};
 ghost use Rattle.wave_problem.specs.declared.TheConstants.{MAX_SPLITS};
+ghost use Rattle.flow_network.specs.Flows.{AreArcs};
 ghost use Rattle.augmenting_paths.specs.Shipping.{AreMembers};
 ghost use Rattle.network_prices.specs.Layers.{nodes_from};
 ghost use Rattle.network_prices.specs.Pending.{pending_splits};
@@ -28,7 +29,6 @@ pub fn priced_plan<N: WaveNetwork>(
     ensures certifies { IfOk result (λ pair. Certifies (claim problem.now pair.0.starts pair.1)) }
 {
     let mut network = N::build(alloc, problem)?;
-    network.limits();
     N::is_wave_network();
     let sources = pending_nodes(alloc, problem, &network)?;
     let sink = last_node(&network);
@@ -66,6 +66,7 @@ fn last_node<L: Layout>(network: &Network<L>) -> L::Node
     requires { 0 < L.node_count network.now.layout }
     ensures member { L.is_member network.now.layout result ≡ true }
     ensures last { L.index_of network.now.layout result + 1 ≡ L.node_count network.now.layout }
+    ensures arcs { AreArcs (L.node_count network.now.layout) network.now.arcs }
 {
     let layout = network.layout();
     layout.node(layout.size() - 1)

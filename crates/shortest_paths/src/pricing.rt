@@ -12,7 +12,6 @@ pub fn has_no_negative<L: Layout>(network: &Network<L>, potentials: &Potentials)
     requires { length potentials.now ≡ L.node_count network.now.layout }
     ensures { IsTrue result ↔ NoNegative network.now.arcs network.now.flows (slice_index potentials.now) }
 {
-    network.limits();
     are_priced(network.all_arcs(), network.all_flows(), potentials.depths())
 }
 

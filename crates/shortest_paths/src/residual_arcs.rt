@@ -57,7 +57,6 @@ impl ResidualArcs {
         ensures matched { IfOk result (λ g. AreMatched network.now.arcs network.now.flows g) }
         ensures sources { IfOk result (λ g. g.is_source ≡ is_source.items) }
     {
-        network.limits();
         let sorted = sort_arcs(alloc, network, &is_source, sink)?;
         let matched = none_matched(alloc, network.layout().size())?;
         let SortedArcs { sink_arcs, inner } = sorted;
@@ -76,7 +75,6 @@ impl ResidualArcs {
             → AreResidualArcs meter.now.network.arcs flows sink g) }
         ensures none { IfOk result (λ g. (v : ℕ) → source_at g v ≡ false) }
     {
-        meter.limits();
         let nodes = meter.layout().size();
         Ok(ResidualArcs {
             is_source: vec![in alloc; false; nodes]?,
@@ -134,7 +132,6 @@ impl ResidualArcs {
             → GoesOnce path.now → AreMatched network.now.arcs flows self.old
             → AreMatched network.now.arcs network.now.flows self.new) }
     {
-        network.limits();
         for arc in path {
             let (ends, flow) = carried(network, *arc);
             self.follow_arc(*arc, ends, flow)?;
@@ -219,8 +216,9 @@ fn carried<L: Layout>(network: &Network<L>, arc: ArcNo) -> (FlowArc, u64)
     requires { arc_index arc < length network.now.arcs }
     ensures arc { result.0 ≡ arc_at network.now.arcs (arc_index arc) }
     ensures units { result.1 ≡ slice_index network.now.flows (arc_index arc) }
+    ensures from { result.0.from < L.node_count network.now.layout }
+    ensures to { result.0.to < L.node_count network.now.layout }
 {
-    network.limits();
     let k = number(arc);
     (network.all_arcs()[k], network.all_flows()[k])
 }

@@ -115,7 +115,6 @@ pub fn sort_arcs<L: Layout>(
     ensures listed { IfOk result (λ w.
         AreListed network.now.arcs is_source.now sink network.now.arcs w.sink_arcs.items w.inner.items) }
 {
-    network.limits();
     let arcs = network.all_arcs();
     let mut sorted = SortedArcs::none(alloc, is_source.len())?;
     for k in 0..arcs.len() {

@@ -19,7 +19,7 @@ lesser_depth-least-requires-clause-listed g c =
     let held = subst (λ (xs : List ArcNo). IsIn (get_or c.leaving-arc-items.result.now c.loop-arc.arc-index
     (Forward 0)) xs)
     same here in
-    rw c.all_arcs.ensures ((each_arc c.args.network.now.arcs c.args.node _).1 held).0
+    rw c.all_arcs.ensures.value ((each_arc c.args.network.now.arcs c.args.node _).1 held).0
 
 pub loop-arc-preserved : goal.loop-arc-preserved
 loop-arc-preserved g c = λ k i room.
@@ -32,7 +32,7 @@ loop-arc-preserved g c = λ k i room.
     ap (λ (xs : List ArcNo). take (c.loop-arc.arc-index + 1) xs) (sym same)
     ∙ take_more c.leaving-arc-items.result.now c.loop-arc.arc-index (Forward 0) c.loop-arc-test.true
     ∙ ap (λ (xs : List ArcNo). take c.loop-arc.arc-index xs ++ arc ∷ []) same in
-    let way = rw c.all_arcs.ensures at c.lesser_depth-least.ensures.arc in
+    let way = rw c.all_arcs.ensures.value at c.lesser_depth-least.ensures.arc in
     elim (in_split (Forward k) (take c.loop-arc.arc-index (leaving_of c.args.network.now.arcs c.args.node))
     (arc ∷ [])
     (subst (λ (xs : List ArcNo). IsIn (Forward k) xs) more i)) [

@@ -13,12 +13,12 @@ shipping_order-requires g c = sources_in c.requires.can
 pub marked-requires : goal.marked-requires
 marked-requires g c =
     let nodes : c.size-nodes.result ≡ g.L.Layout.node_count c.args.network.now.layout =
-    c.size-nodes.ensures ∙ ap (λ l. g.L.Layout.node_count l) c.layout.ensures in
+    c.size-nodes.ensures ∙ ap (λ l. g.L.Layout.node_count l) c.layout.ensures.value in
     rw nodes (sources_in c.requires.can)
 
 pub new-requires-2-clause-size : goal.new-requires-2-clause-size
 new-requires-2-clause-size g c =
-    c.in_ok-marks.ensures.size ∙ c.size-nodes.ensures ∙ ap (λ l. g.L.Layout.node_count l) c.layout.ensures
+    c.in_ok-marks.ensures.size ∙ c.size-nodes.ensures ∙ ap (λ l. g.L.Layout.node_count l) c.layout.ensures.value
 
 pub new-requires-2-clause-no_entry : goal.new-requires-2-clause-no_entry
 new-requires-2-clause-no_entry g c = ends_unmarked _ c.requires.can c.in_ok-marks.ensures.marks
@@ -26,7 +26,7 @@ new-requires-2-clause-no_entry g c = ends_unmarked _ c.requires.can c.in_ok-mark
 pub loop-count-init : goal.loop-count-init
 loop-count-init g c =
     let nodes : c.size-nodes.result ≡ g.L.Layout.node_count c.args.network.now.layout =
-    c.size-nodes.ensures ∙ ap (λ l. g.L.Layout.node_count l) c.layout.ensures in
+    c.size-nodes.ensures ∙ ap (λ l. g.L.Layout.node_count l) c.layout.ensures.value in
     record {
       arcs = refl;
       layout = refl;
@@ -42,7 +42,7 @@ loop-count-init g c =
               ∙ sink_unmarked _ c.requires.can c.in_ok-marks.ensures.marks;
         };
       };
-      state = begin_state _ _ _ c.limits.ensures.sizes c.requires.no_flow
+      state = begin_state _ _ _ c.layout.ensures.limits.sizes c.requires.no_flow
           (λ v. ap (λ p. get_or p v 0) c.in_ok-new.ensures ∙ zeros c.size-nodes.result v);
     }
 

@@ -13,8 +13,7 @@ bounds-closed-view g c =
     let arc = get_or c.args.path.now c.loop-arc.arc-index (Forward 0) in
     let listed = c.requires.path arc
     (in_at c.args.path.now c.loop-arc.arc-index (Forward 0) c.loop-arc-test.true) in
-    let inside = head_in (g.L.Layout.node_count c.args.network.now.layout) c.args.network.now.arcs arc
-    c.limits.ensures.arcs_in listed in
+    let inside = head_in _ c.args.network.now.arcs arc c.requires.arcs listed in
     let size = c.requires.size in
     let same = c.loop-arc.invariant in
     rw c.view.ensures.to (omega arith)

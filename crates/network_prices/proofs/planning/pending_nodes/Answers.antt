@@ -15,7 +15,7 @@ loop-i-preserved g c =
     elim c.if-is_pending.branch [
       | then-is_pending+in_ok-push w ↦
           (let same : w.node.result ≡ g.L.Layout.node_at layout i =
-          w.node.ensures ∙ ap (λ l. g.L.Layout.node_at l i) c.layout-layout.ensures in
+          w.node.ensures ∙ ap (λ l. g.L.Layout.node_at l i) c.layout-layout.ensures.value in
           let here = ap (g.L.Layout.index_of layout) same ∙ g.met.L.Layout.index_of_node layout i known in
           let member = ap (g.L.Layout.is_member layout) same ∙ g.met.L.Layout.node_is_member layout i known in
           let pending : (split_at wave i).pending ≡ true = search rules in

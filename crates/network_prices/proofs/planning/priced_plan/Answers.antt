@@ -28,7 +28,7 @@ saturate-requires-clause-can g c =
     rw (places, sink) (can_ship wave
     (nodes_from wave (g.N.WaveNetwork.first wave) (g.N.WaveNetwork.above wave))
     c.in_ok-network.network.arcs (g.N.Layout.node_count layout)
-    (c.is_wave_network.ensures.network wave _ c.in_ok-network.ensures.arcs) c.limits.ensures.arcs_in)
+    (c.is_wave_network.ensures.network wave _ c.in_ok-network.ensures.arcs) c.last_node-sink.ensures.arcs)
 
 pub plan_of-requires-clause-shipped : goal.plan_of-requires-clause-shipped
 plan_of-requires-clause-shipped g c =

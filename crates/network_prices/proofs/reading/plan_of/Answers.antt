@@ -14,5 +14,5 @@ returns-clause-read g c =
     (λ plan. IsPlanOf wave (nodes_from wave (g.N.WaveNetwork.first wave) above) c.args.network.now.arcs
     c.args.network.now.flows plan.starts)
     (λ plan read. (let here = read above in
-    rw (c.first-first.ensures.place, c.all_arcs.ensures, c.all_flows.ensures) at here))
+    rw (c.first-first.ensures.place, c.all_arcs.ensures.value, c.all_flows.ensures) at here))
     c.read_plan.ensures.read

@@ -13,10 +13,13 @@ pub open_ends-requires-clause-path : goal.open_ends-requires-clause-path
 open_ends-requires-clause-path g c = λ a i. path_listed _ _ _ _ _ c.loop-turn.invariant.trail.way.leads a
     (subst (λ (xs : List ArcNo). IsIn a xs) c.deref.ensures.value i)
 
+pub open_ends-requires-clause-arcs : goal.open_ends-requires-clause-arcs
+open_ends-requires-clause-arcs g c = c.requires.may.priced.network.arcs_in
+
 pub tail-top-requires : goal.tail-top-requires
 tail-top-requires g c =
     let way = rw c.in-Some-pop.ensures.items at c.loop-turn.invariant.trail.way.leads in
-    rw c.all_arcs.ensures (last_residual _ _ c.pop.new.self.items c.in-Some-pop.arc _ _ way).listed
+    rw c.all_arcs.ensures.value (last_residual _ _ c.pop.new.self.items c.in-Some-pop.arc _ _ way).listed
 
 pub loop-turn-preserved : goal.loop-turn-preserved
 loop-turn-preserved g c =
@@ -26,7 +29,7 @@ loop-turn-preserved g c =
     elim c.match-next.branch [
       | in-Some+in_ok-push-in-Some w ↦
           let on = w.in-Some.ensures.goes_on in
-          let inside = head_in _ c.args.network.now.arcs w.in-Some.arc c.limits.ensures.arcs_in
+          let inside = head_in _ c.args.network.now.arcs w.in-Some.arc c.requires.may.priced.network.arcs_in
           on.open_arc.residual.listed in
           record {
             nodes = rw w.self-is (record {
@@ -49,20 +52,20 @@ loop-turn-preserved g c =
           }
       | in-None+in-Some-pop w ↦
           let trail = rw w.in-Some-pop.ensures.items at old.trail in
-          let inside = tail_in _ c.args.network.now.arcs w.in-Some-pop.arc c.limits.ensures.arcs_in
+          let inside = tail_in _ c.args.network.now.arcs w.in-Some-pop.arc c.requires.may.priced.network.arcs_in
           (last_residual _ _ w.pop.new.self.items w.in-Some-pop.arc _ _ trail.way.leads).listed in
           record {
             nodes = rw w.self-is (record {
               closed = same ∙ old.nodes.closed;
               left = c.next.ensures.size ∙ old.nodes.left;
             });
-            inside = rw (w.top-is, w.tail-top.ensures, w.all_arcs.ensures) (omega arith);
+            inside = rw (w.top-is, w.tail-top.ensures, w.all_arcs.ensures.value) (omega arith);
             trail = rw (
               w.self-is,
               w.path-is,
               w.top-is,
               w.tail-top.ensures,
-              w.all_arcs.ensures,
+              w.all_arcs.ensures.value,
               c.next.ensures.left,
             ) (trail_goes_back w.pop.new.self.items _ trail);
           }

@@ -14,21 +14,12 @@ carried-flow-requires g c =
 
 pub follow_arc-requires-clause-from : goal.follow_arc-requires-clause-from
 follow_arc-requires-clause-from g c =
-    let here = c.requires.path _ (in_at c.args.path.now c.loop-arc.arc-index (Forward 0)
-    c.loop-arc-test.true) in
-    let limit = (c.limits.ensures.arcs_in _ here).from_in in
     let lists = ap (λ (w : ArcLists). length w.is_source) c.loop-arc.invariant.lists in
-    let nodes = c.requires.sources in
-    rw c.carried-flow.ensures.arc (omega arith)
+    omega (arith, c.carried-flow.ensures.from, c.requires.sources)
 
 pub follow_arc-requires-clause-to : goal.follow_arc-requires-clause-to
 follow_arc-requires-clause-to g c =
-    let here = c.requires.path _ (in_at c.args.path.now c.loop-arc.arc-index (Forward 0)
-    c.loop-arc-test.true) in
-    let limit = (c.limits.ensures.arcs_in _ here).to_in in
-    let lists = c.loop-arc.invariant.size in
-    let nodes = c.requires.matched in
-    rw c.carried-flow.ensures.arc (omega arith)
+    omega (arith, c.carried-flow.ensures.to, c.loop-arc.invariant.size, c.requires.matched)
 
 pub loop-arc-preserved : goal.loop-arc-preserved
 loop-arc-preserved g c =
