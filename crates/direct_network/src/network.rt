@@ -93,13 +93,12 @@ fn add_pairs(
 
 // Adds the arcs that leave workers.
 fn add_workers(network: &mut Network<DirectLayout>, problem: &Problem) -> Result<(), AllocError>
-    requires { IsBuilt problem.now (length problem.now.splits) 0
+    requires few { length problem.now.splits ≤ MAX_SPLITS }
+    requires built { IsBuilt problem.now (length problem.now.splits) 0
         (257 * length problem.now.splits) network.old }
     ensures { OnOk result (IsBuilt problem.now (worker_node problem.now (length problem.now.workers)) 0
         (257 * length problem.now.splits + length problem.now.workers) network.new) }
 {
-    // (there are few splits)
-    let _splits = problem.splits();
     for i in 0..problem.workers() {
         add(
             network,

@@ -1,6 +1,8 @@
 -- The rack network of a wave: its nodes by their places, and its arcs.
 use Rattle.std.specs.Prelude.{ℕ, ◌≡◌, ◌+◌, ◌*◌, ◌<◌, ◌==◌, nat_lt, true, cond, List, [], ◌∷◌, length}
-use Rattle.std.specs.Prelude.{unwrap_or, slice_index}
+use Rattle.std.specs.Prelude.{◌≤◌, unwrap_or, slice_index}
+use Rattle.rack_tree.specs.declared.TheConstants.{MAX_CENTRES, MAX_RACKS, MAX_WORKERS}
+use Rattle.wave_problem.specs.declared.TheConstants.{MAX_SPLITS}
 use Rattle.node_ids.specs.Sets.{HasPair}
 use Rattle.wave_problem.specs.Wave.{Wave, IsAdmissible, split_at, worker_at, live_holders, cost, reward}
 use Rattle.wave_problem.specs.Sums.{sum_below}
@@ -58,8 +60,12 @@ rack_of wave w = slice_index wave.tree.rack_of w
 abbrev pub centre_of : Wave → ℕ → ℕ
 centre_of wave r = slice_index wave.tree.centre_of r
 
--- each worker stands in one of the racks, each rack in one of the centres
+-- each worker stands in one of the racks, each rack in one of the centres, and there are few of all
 pub record IsTree (wave : Wave) : Type 0 where
+  pub few_splits : length wave.splits ≤ MAX_SPLITS
+  pub few_centres : wave.tree.centres ≤ MAX_CENTRES
+  pub few_racks : length wave.tree.centre_of ≤ MAX_RACKS
+  pub few_workers : length wave.workers ≤ MAX_WORKERS
   pub racks : (w : ℕ) → w < length wave.workers → rack_of wave w < length wave.tree.centre_of
   pub centres : (r : ℕ) → r < length wave.tree.centre_of → centre_of wave r < wave.tree.centres
 

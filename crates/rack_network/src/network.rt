@@ -2,7 +2,6 @@
 ghost use Rattle.std.specs.Prelude.{◌≡◌, ℕ, ◌+◌, ◌*◌, ◌<◌, ◌≤◌, ◌^◌, ◌∷◌, ◌++◌, ◌↔◌, ◌⊎◌, [], true, length};
 ghost use Rattle.std.specs.Prelude.{All, IfOk, IsTrue, OnOk, slice_index};
 ghost use Rattle.node_ids.specs.Sets.{Has};
-ghost use Rattle.rack_tree.specs.declared.TheConstants.{MAX_CENTRES, MAX_RACKS, MAX_WORKERS};
 ghost use Rattle.wave_problem.specs.Wave.{reward as reward_in, split_at, IsUsable};
 ghost use Rattle.wave_problem.specs.declared.TheConstants.{MAX_HOLDERS, MAX_SPLITS};
 ghost use Rattle.network_prices.specs.Building.{IsAdded};
@@ -59,6 +58,7 @@ fn know_tree(problem: &Problem)
 
 // Takes the memory for about as many arcs as there will be, and for about as many at each node above splits.
 fn make_room_for_all(network: &mut Network<RackLayout>, problem: &Problem) -> Result<(), AllocError>
+    requires tree { IsTree problem.now }
     requires layout { IsSized problem.now network.old.layout }
     ensures { network.new ≡ network.old }
 {
@@ -101,26 +101,16 @@ fn make_room_from(
     nodes: usize,
     arcs: usize,
 ) -> Result<(), AllocError>
+    requires tree { IsTree problem.now }
     requires layout { IsSized problem.now network.old.layout }
     requires nodes { first + nodes ≤ unstarted_node problem.now + 2 }
     ensures { network.new ≡ network.old }
 {
-    know_sizes(problem);
     for i in 0..nodes {
         let node = network.layout().node(first + i);
         network.make_room(node, arcs)?;
     }
     Ok(())
-}
-
-// That there are few of each.
-fn know_sizes(problem: &Problem)
-    ensures splits { length problem.now.splits ≤ MAX_SPLITS }
-    ensures centres { problem.now.tree.centres ≤ MAX_CENTRES }
-    ensures racks { length problem.now.tree.centre_of ≤ MAX_RACKS }
-    ensures workers { length problem.now.workers ≤ MAX_WORKERS }
-{
-    problem.limits();
 }
 
 // Adds the rows of the splits.
@@ -192,11 +182,10 @@ fn make_room(
 
 // Whether a pair of the split is barred.
 fn has_bars(problem: &Problem, split: SplitNo) -> bool
-    requires { split < length problem.now.splits }
+    requires split { split < length problem.now.splits }
+    requires tree { IsTree problem.now }
     ensures { IsTrue result ↔ HasBars problem.now split }
 {
-    // (there are few of them)
-    let _workers = problem.workers();
     if problem.bars(split).is_empty() {
         return false;
     }
@@ -259,7 +248,6 @@ fn add_reaches(
     ensures built { OnOk result (IsBuilt problem.now split (unstarted_node problem.now) (257 * split + 256)
         network.new) }
 {
-    know_sizes(problem);
     let holders = problem.holders(split);
     let marks = marks_above(problem, holders, levels);
     let bytes = problem.bytes(split);
@@ -283,6 +271,7 @@ fn add_reach(
     number: usize,
     cost: u64,
 ) -> Result<(), AllocError>
+    requires tree { IsTree problem.now }
     requires split { split < length problem.now.splits }
     requires node { cluster_node problem.now + number < unstarted_node problem.now }
     requires layout { IsSized problem.now network.old.layout }
@@ -292,7 +281,6 @@ fn add_reach(
     ensures { OnOk result ((h : ℕ) → cluster_node problem.now + number ≡ node_above problem.now level h
         → IsAdded (arc_of problem.now (RackArc.Reach split level h)) network.old network.new) }
 {
-    know_sizes(problem);
     let node = problem.splits() + number;
     append(
         network,
@@ -314,6 +302,7 @@ fn add_wait(
     levels: &LevelStarts,
     reward: u64,
 ) -> Result<(), AllocError>
+    requires tree { IsTree problem.now }
     requires split { split < length problem.now.splits }
     requires layout { IsSized problem.now network.old.layout }
     requires levels { AreStarts problem.now levels.now }
@@ -322,7 +311,6 @@ fn add_wait(
     requires room { length network.old.arcs < MAX_ARCS }
     ensures { OnOk result (IsAdded (arc_of problem.now (RackArc.Wait split)) network.old network.new) }
 {
-    know_sizes(problem);
     let node = problem.splits() + levels.workers + problem.workers();
     append(
         network,
@@ -380,7 +368,6 @@ fn mark_above(marks: &mut Marks, problem: &Problem, holder: WorkerNo, levels: &L
     requires levels { AreStarts problem.now levels.now }
     ensures { (n : ℕ) → Has marks.new n ↔ (IsAbove problem.now holder n ⊎ Has marks.old n) }
 {
-    know_sizes(problem);
     let tree = problem.tree();
     let live = problem.is_live(holder);
     let rack = tree.rack_of(holder);
@@ -416,7 +403,6 @@ fn add_trunk_row(network: &mut Network<RackLayout>, problem: &Problem) -> Result
     ensures built { OnOk result (IsBuilt problem.now (centre_node problem.now 0) 0 (trunk_arcs problem.now)
         network.new) }
 {
-    know_sizes(problem);
     for i in 0..problem.tree().centres() {
         add(network, problem, RackArc::Trunk(CentreNo::new(i as u8)), 0)?;
     }
@@ -453,7 +439,6 @@ fn add_branches(
         + in_places (centre_of problem.now) (length problem.now.tree.centre_of) (centre + 1))
         network.new) }
 {
-    know_sizes(problem);
     let tree = problem.tree();
     for i in 0..tree.racks() {
         let rack = RackNo::new(i as u16);
@@ -492,7 +477,6 @@ fn add_feeds(
         (branch_arcs problem.now + in_places (rack_of problem.now) (length problem.now.workers) (rack + 1))
         network.new) }
 {
-    know_sizes(problem);
     for i in 0..problem.workers() {
         let worker = WorkerNo::new(i as u16);
         if takes_from(problem, rack, worker) {
@@ -517,7 +501,6 @@ fn add_slots(network: &mut Network<RackLayout>, problem: &Problem) -> Result<(),
     ensures built { OnOk result (IsBuilt problem.now (worker_node problem.now (length problem.now.workers)) 0
         (feed_arcs problem.now + length problem.now.workers) network.new) }
 {
-    know_sizes(problem);
     for i in 0..problem.workers() {
         add(network, problem, RackArc::Slot(WorkerNo::new(i as u16)), 0)?;
     }

@@ -13,11 +13,11 @@ pub add-requires-clause-room : goal.add-requires-clause-room
 add-requires-clause-room c =
     let wave = c.args.problem.now in
     let racks : ℕ = length wave.tree.centre_of in
-    let few = c.know_sizes.ensures in
-    let some = few.racks in
+    let few = c.requires.tree in
+    let some = few.few_racks in
     let limit = c.loop-i.invariant.frame.arc_limit in
-    let splits = few.splits in
-    let centres = few.centres in
+    let splits = few.few_splits in
+    let centres = few.few_centres in
     let count = c.racks-i-end.ensures.count in
     let tree = ap (λ (t : Tree). length t.centre_of) c.tree-tree.ensures.tree in
     let up = place-mono (centre_of wave) c.args.centre c.loop-i.i racks (omega arith) in

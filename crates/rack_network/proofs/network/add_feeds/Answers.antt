@@ -12,10 +12,10 @@ pub add-requires-clause-room : goal.add-requires-clause-room
 add-requires-clause-room c =
     let wave = c.args.problem.now in
     let limit = c.loop-i.invariant.frame.arc_limit in
-    let few = c.know_sizes.ensures in
-    let splits = few.splits in
-    let centres = few.centres in
-    let racks = few.racks in
+    let few = c.requires.tree in
+    let splits = few.few_splits in
+    let centres = few.few_centres in
+    let racks = few.few_racks in
     let workers = c.workers-i-end.ensures.most in
     let count = c.workers-i-end.ensures.count in
     let up = place-mono (rack_of wave) c.args.rack c.loop-i.i (length wave.workers) (omega arith) in

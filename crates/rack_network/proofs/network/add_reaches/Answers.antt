@@ -38,10 +38,10 @@ overflow_add-number c =
     let is = next_is wave s c.loop-next.number c.in-Some.next _ _ c.requires.pending c.requires.no_bars
     c.holders-holders.ensures.holders c.marks_above-marks.ensures c.in-Some.ensures in
     let node = is.node in
-    let few = c.know_sizes.ensures in
-    let centres = few.centres in
-    let racks = few.racks in
-    let workers = few.workers in
+    let few = c.requires.tree in
+    let centres = few.few_centres in
+    let racks = few.few_racks in
+    let workers = few.few_workers in
     let in_row = (reach_in wave c.requires.tree s is.level _ is.reach).1 in
     omega arith
 
