@@ -54,14 +54,6 @@ impl<'a, L: Layout> Meter<'a, L> {
         self.network.layout()
     }
 
-    /// What holds of every network, as `layout` tells it too.
-    pub fn limits(&self)
-        ensures { IsNetwork (L.node_count self.now.network.layout) self.now.network.arcs
-            self.now.network.flows }
-    {
-        self.network.limits();
-    }
-
     /// The residual arcs that leave a node, of those with no room too.
     pub fn arcs_from(&self, node: L::Node) -> &'a [ArcNo]
         requires { L.is_member self.now.network.layout node ≡ true }

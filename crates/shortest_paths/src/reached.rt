@@ -46,10 +46,9 @@ pub fn find<L: Layout>(
     ensures network { meter.new.network ≡ meter.old.network }
     ensures steps { meter.new.count ≤ 2 * length meter.old.network.arcs }
 {
-    meter.limits();
     let nodes = potentials.depths().len();
     let arcs = ResidualArcs::all(alloc, meter)?;
-    let mut search = Search::new(alloc, nodes)?;
+    let mut search = Search::new(alloc, meter.layout().size())?;
     let query = Query {
         potentials,
         lists: &arcs,

@@ -7,7 +7,7 @@ invariant_of-result g c =
     let size = ap length c.depths-nodes.ensures.depths in
     let past : length c.args.potentials.now ≤ length c.depths-nodes.result.now = omega arith in
     (finds_all _ _ past (record {
-      network = c.limits.ensures;
+      network = c.layout.ensures.limits;
       size = c.requires.nodes;
       deep = c.depths-nodes.ensures.most;
       reduced = c.requires.reduced;
@@ -18,7 +18,7 @@ returns-clause-size g c =
     let size = ap length c.depths-nodes.ensures.depths in
     let past : length c.args.potentials.now ≤ length c.depths-nodes.result.now = omega arith in
     (finds_all _ _ past (record {
-      network = c.limits.ensures;
+      network = c.layout.ensures.limits;
       size = c.requires.nodes;
       deep = c.depths-nodes.ensures.most;
       reduced = c.requires.reduced;
@@ -29,7 +29,7 @@ returns-clause-least g c =
     let size = ap length c.depths-nodes.ensures.depths in
     let past : length c.args.potentials.now ≤ length c.depths-nodes.result.now = omega arith in
     (finds_all _ _ past (record {
-      network = c.limits.ensures;
+      network = c.layout.ensures.limits;
       size = c.requires.nodes;
       deep = c.depths-nodes.ensures.most;
       reduced = c.requires.reduced;
