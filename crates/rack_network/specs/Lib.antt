@@ -1,6 +1,7 @@
--- the network: its nodes and its arcs
+-- what is claimed: the network, its nodes and its arcs
 pub mod Layout
 pub mod Places
 pub mod Racks
+-- for private clauses: what is marked of a split, and how far the network is built
 pub mod Marks
 pub mod Build
