@@ -11,15 +11,9 @@ pub(crate) fn cluster_of(alloc: Global, head: Head) -> Result<Cluster, AllocErro
     requires { IsFitHead head }
     ensures { IfOk result (λ cluster. cluster ≡ cluster_in head) }
 {
-    match Cluster::new(
-        alloc,
-        head.tree,
-        head.slots.as_slice(),
-        head.splits,
-        head.texts,
-        head.parts,
-        head.silence,
-    ) {
+    let (tree, splits, texts) = (head.tree, head.splits, head.texts);
+    let (slots, parts, silence) = (head.slots, head.parts, head.silence);
+    match Cluster::new(alloc, tree, slots.as_slice(), splits, texts, parts, silence) {
         Ok(cluster) => Ok(cluster),
         Err(ClusterError::Memory) => Err(AllocError),
         Err(ClusterError::Limit) => unreachable!(),

@@ -11,18 +11,9 @@ fn cluster_of(alloc: Global, text: &str) -> Option<Cluster> {
         return None;
     };
     let head = read.head;
-    let slots = head.slots.as_slice();
-    let (parts, silence) = (head.parts, head.silence);
-    Cluster::new(
-        alloc,
-        head.tree,
-        slots,
-        head.splits,
-        head.texts,
-        parts,
-        silence,
-    )
-    .ok()
+    let (tree, splits, texts) = (head.tree, head.splits, head.texts);
+    let (slots, parts, silence) = (head.slots, head.parts, head.silence);
+    Cluster::new(alloc, tree, slots.as_slice(), splits, texts, parts, silence).ok()
 }
 
 // How a script ends on a cluster that it fits, and its report.
