@@ -42,7 +42,8 @@ fn call_of<L: Ledger, R: Wait>(
     rt: &R,
     shared: &SharedMaster<L>,
     hand: &mut Hand<L>,
-    (kind, attempt): (u64, AttemptNo),
+    kind: u64,
+    attempt: AttemptNo,
     split: SplitNo,
     worker: WorkerNo,
 )
@@ -86,11 +87,11 @@ fn call_without_memory<L: Ledger, R: Wait + Abort>(
     let worker = WorkerNo::new((draw / 32 % 3) as u16);
     assert!(rt; split.index() < shared.sizes().splits && worker.index() < shared.sizes().workers);
     match kind {
-        0..=3 => call_of(rt, shared, hand, (kind, attempt), split, worker),
+        0..=3 => call_of(rt, shared, hand, kind, attempt, split, worker),
         4..=5 => {
             join(rt, shared, hand, worker, &SplitSet::new());
         }
-        _ => call_of(rt, shared, hand, (4 + kind % 3, attempt), split, worker),
+        _ => call_of(rt, shared, hand, 4 + kind % 3, attempt, split, worker),
     }
 }
 
