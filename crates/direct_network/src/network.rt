@@ -8,7 +8,7 @@ ghost use Rattle.direct_network.specs.declared.arcs.TheConstants.{MAX_ARCS};
 ghost use Rattle.direct_network.specs.Direct.{arc_of, worker_node, IsDirect, IsSized, IsWanted};
 ghost use Rattle.direct_network.specs.Build.{IsBuilt};
 
-use crate::{DirectArc, DirectLayout};
+use crate::{DirectArc, DirectLayout, DirectNode};
 use flow_network::{NetError, Network};
 use node_ids::{SplitNo, WorkerNo};
 use std::alloc::{AllocError, Global};
@@ -27,10 +27,48 @@ pub fn build(alloc: Global, problem: &Problem) -> Result<Network<DirectLayout>, 
         workers: problem.workers() as u16,
     };
     let mut network = Network::new(alloc, layout)?;
+    let (splits, workers) = (problem.splits(), problem.workers());
+    network.reserve(splits * (workers + 1) + workers + 1)?;
+    make_room_for_workers(&mut network, problem)?;
     add_splits(&mut network, problem)?;
     add_workers(&mut network, problem)?;
     add(&mut network, problem, DirectArc::Rest, 0)?;
     Ok(network)
+}
+
+// Takes the memory for the lists of the workers' arcs at once.
+fn make_room_for_workers(
+    network: &mut Network<DirectLayout>,
+    problem: &Problem,
+) -> Result<(), AllocError>
+    requires { IsSized problem.now network.old.layout }
+    ensures { network.new ≡ network.old }
+{
+    let splits = unbarred_splits(problem);
+    for i in 0..problem.workers() {
+        network.make_room(DirectNode::Worker(WorkerNo::new(i as u16)), splits + 1)?;
+    }
+    Ok(())
+}
+
+// How many splits may start on every worker with a slot.
+fn unbarred_splits(problem: &Problem) -> usize
+    ensures { result ≤ MAX_SPLITS }
+{
+    let mut count = 0;
+    for i in 0..problem.splits() {
+        if is_unbarred(problem, SplitNo::new(i as u16)) {
+            count += 1;
+        }
+    }
+    count
+}
+
+// Whether a split is pending, and none of its pairs is barred.
+fn is_unbarred(problem: &Problem, split: SplitNo) -> bool
+    requires { split < length problem.now.splits }
+{
+    problem.is_pending(split) && problem.bars(split).is_empty()
 }
 
 // Adds the arcs that leave splits.
@@ -60,6 +98,12 @@ fn add_split(
     requires built { IsBuilt problem.now split 0 (257 * split) network.old }
     ensures built { OnOk result (IsBuilt problem.now (split + 1) 0 (257 * split + 257) network.new) }
 {
+    let arcs = if is_unbarred(problem, split) {
+        problem.workers() + 1
+    } else {
+        0
+    };
+    network.make_room(DirectNode::Split(split), arcs)?;
     add_pairs(network, problem, split)?;
     if problem.is_pending(split) {
         add(network, problem, DirectArc::Wait(split), reward)?;

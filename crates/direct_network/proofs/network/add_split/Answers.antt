@@ -2,6 +2,9 @@ use Rattle.std.proofs.Common.{◌+◌, ◌*◌, sym, ◌∙◌, arith}
 use Rattle.direct_network.proofs.Rows.{wait_step}
 use Rattle.direct_network.proofs.network.add_split.Goals as goal
 
+pub add_pairs-requires-clause-built : goal.add_pairs-requires-clause-built
+add_pairs-requires-clause-built c = rw c.make_room.ensures c.requires.built
+
 pub returns-in_ok-add : goal.returns-in_ok-add
 returns-in_ok-add c = record {
   built =
