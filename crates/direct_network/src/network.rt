@@ -51,7 +51,7 @@ fn make_room_for_workers(
     Ok(())
 }
 
-// How many splits may start on every worker with a slot.
+// How many splits are pending without a barred pair.
 fn unbarred_splits(problem: &Problem) -> usize
     ensures { result ≤ MAX_SPLITS }
 {

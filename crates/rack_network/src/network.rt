@@ -49,7 +49,7 @@ pub fn build(alloc: Global, problem: &Problem) -> Result<Network<RackLayout>, Al
     Ok(network)
 }
 
-// That the tree says where each worker and each rack stands.
+// That the tree says where each worker and each rack stands, and that there are few of all.
 fn know_tree(problem: &Problem)
     ensures { IsTree problem.now }
 {

@@ -18,7 +18,8 @@ marked-requires g c =
 
 pub new-requires-2-clause-size : goal.new-requires-2-clause-size
 new-requires-2-clause-size g c =
-    c.in_ok-marks.ensures.size ∙ c.size-nodes.ensures ∙ ap (λ l. g.L.Layout.node_count l) c.layout.ensures.value
+    c.in_ok-marks.ensures.size ∙ c.size-nodes.ensures
+    ∙ ap (λ l. g.L.Layout.node_count l) c.layout.ensures.value
 
 pub new-requires-2-clause-no_entry : goal.new-requires-2-clause-no_entry
 new-requires-2-clause-no_entry g c = ends_unmarked _ c.requires.can c.in_ok-marks.ensures.marks

@@ -62,7 +62,8 @@ returns c =
     let whole = places_more (centre_of wave) d racks in
     let end : c.loop-i.i ≡ racks = omega arith in
     record {
-      built = row_close (branches wave c.requires.tree d c.requires.centre) _ _ _ _ (omega arith) (omega arith)
+      built = row_close (branches wave c.requires.tree d c.requires.centre) _ _ _ _ (omega arith)
+          (omega arith)
           (branches_inside wave c.requires.tree d c.requires.centre)
           (subst (λ (i : ℕ). IsBuilt wave (centre_node wave d) (rack_node wave i)
           (limit + in_place (centre_of wave) i d) c.loop-i.network) end c.loop-i.invariant);

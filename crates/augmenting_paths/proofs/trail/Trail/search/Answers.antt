@@ -52,7 +52,8 @@ loop-turn-preserved g c =
           }
       | in-None+in-Some-pop w ↦
           let trail = rw w.in-Some-pop.ensures.items at old.trail in
-          let inside = tail_in _ c.args.network.now.arcs w.in-Some-pop.arc c.requires.may.priced.network.arcs_in
+          let inside = tail_in _ c.args.network.now.arcs w.in-Some-pop.arc
+          c.requires.may.priced.network.arcs_in
           (last_residual _ _ w.pop.new.self.items w.in-Some-pop.arc _ _ trail.way.leads).listed in
           record {
             nodes = rw w.self-is (record {
