@@ -10,8 +10,8 @@ pub record AreFloors (claim : Claim) (floors : Floors) (n : ℕ) : Type 0 where
   pub places : length floors.racks ≡ MAX_RACKS
   pub small : floors.all ≤ reward claim.wave
   pub small_racks : (r : ℕ) → slice_index floors.racks r ≤ reward claim.wave
-  pub all : (w : ℕ) → w < n → IsUsable claim.wave w → floors.all ≤ worker_price claim.prices w
-  pub racks : (w : ℕ) → w < n → IsUsable claim.wave w
+  pub all : (w : ℕ) → w < n → IsUsable claim.wave.workers w → floors.all ≤ worker_price claim.prices w
+  pub racks : (w : ℕ) → w < n → IsUsable claim.wave.workers w
       → slice_index floors.racks (slice_index claim.wave.tree.rack_of w) ≤ worker_price claim.prices w
 
 -- by the floors no worker further than a rack from a holder is priced too low with s

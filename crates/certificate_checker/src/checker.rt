@@ -401,7 +401,7 @@ impl<'a> Checker<'a> {
 
     fn is_usable(&self, worker: WorkerNo) -> bool
         requires { worker < length self.now.wave.workers }
-        ensures { IsTrue result ↔ IsUsable self.now.wave worker }
+        ensures { IsTrue result ↔ IsUsable self.now.wave.workers worker }
     {
         self.problem.is_live(worker) && self.problem.free(worker) > 0
     }

@@ -44,7 +44,7 @@ module _ (wave : Wave) (arcs : List FlowArc) (direct : IsDirect wave arcs) where
   no_split (Pair s w) want = omega arith
   no_split _ want = omega arith
 
-  is_sound : (s w k : ℕ) → IsUsable wave w → k < length arcs → (arc_at arcs k).from ≡ s
+  is_sound : (s w k : ℕ) → IsUsable wave.workers w → k < length arcs → (arc_at arcs k).from ≡ s
       → IsAmong (arc_at arcs k).to (way_of (direct_nodes wave) w)
       → IsAdmissible wave s w × (unwrap_or (cost wave s w) 0 ≤ (arc_at arcs k).cost)
   is_sound s w k u l from (inr none) = absurd none
@@ -116,8 +116,8 @@ module _ (wave : Wave) (arcs : List FlowArc) (direct : IsDirect wave arcs) where
     slots = λ w u. slot_room w (live_known wave w u.0);
   }
     where
-      apart_from : (w : ℕ) → IsUsable wave w → IsAmong (unstarted_node wave) (way_of (direct_nodes wave) w)
-          → ⊥
+      apart_from : (w : ℕ) → IsUsable wave.workers w
+          → IsAmong (unstarted_node wave) (way_of (direct_nodes wave) w) → ⊥
       apart_from w u (inl e) = let known = live_known wave w u.0 in omega arith
       apart_from w u (inr none) = none
 

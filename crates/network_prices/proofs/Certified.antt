@@ -48,7 +48,7 @@ some_start n w (Some v ∷ rest) l = elim (cases_eq v w) [
       )) in (suc found.0, found.1))
 ]
 
-usable_or_not : (wave : Wave) (w : ℕ) → IsUsable wave w ⊎ (IsUsable wave w → ⊥)
+usable_or_not : (wave : Wave) (w : ℕ) → IsUsable wave.workers w ⊎ (IsUsable wave.workers w → ⊥)
 usable_or_not wave w = grind arith
 
 module _ (wave : Wave) (nodes : WaveNodes) (arcs : List FlowArc) (flows : List ℕ) (starts : List (Option ℕ))
@@ -79,7 +79,7 @@ module _ (wave : Wave) (nodes : WaveNodes) (arcs : List FlowArc) (flows : List �
       let one = own_one s p in omega arith
 
   -- a worker that a split starts on is usable
-  usable : (s w : ℕ) → start_of starts s ≡ Some w → IsUsable wave w
+  usable : (s w : ℕ) → start_of starts s ≡ Some w → IsUsable wave.workers w
   usable s w e = elim (usable_or_not wave w) [
     | inl u ↦ u
     | inr n ↦
@@ -91,8 +91,8 @@ module _ (wave : Wave) (nodes : WaveNodes) (arcs : List FlowArc) (flows : List �
         absurd (not_there s w n (plan.known s w e) known c.0 at))
   ]
     where
-      not_there : (s w : ℕ) → (IsUsable wave w → ⊥) → w < length wave.workers → s < length wave.splits →
-          (path : List ℕ) → CameFrom arcs flows path s (nodes.worker w) → ⊥
+      not_there : (s w : ℕ) → (IsUsable wave.workers w → ⊥) → w < length wave.workers →
+          s < length wave.splits → (path : List ℕ) → CameFrom arcs flows path s (nodes.worker w) → ⊥
       not_there s w n l k [] came = let inner = network.known w in absurd (omega arith)
       not_there s w n l k (i ∷ path) came = network.closed w i l n came.0 came.2
 
@@ -313,7 +313,7 @@ module _ (wave : Wave) (nodes : WaveNodes) (arcs : List FlowArc) (flows : List �
 
     -- another start of a split that starts is worth no more, and one of a split that does not no more than
     -- the reward
-    worth_of_offer : (s w k : ℕ) → IsUsable wave w → IsOffer arcs s (way_of nodes w) (price s w) k
+    worth_of_offer : (s w k : ℕ) → IsUsable wave.workers w → IsOffer arcs s (way_of nodes w) (price s w) k
         → (arc_at arcs k).cost + h (arc_at arcs k).to ≤ price s w + worker_price prices w
     worth_of_offer s w k u offer =
         let same = priced.usable w u in
@@ -373,7 +373,7 @@ module _ (wave : Wave) (nodes : WaveNodes) (arcs : List FlowArc) (flows : List �
         reward wave ≤ split_price prices s + worker_price prices w + price s w
     priced_at_all s w None e a =
         let offer = network.complete s w a in
-        let u : IsUsable wave w = (a.live, a.has_slot) in
+        let u : IsUsable wave.workers w = (a.live, a.has_slot) in
         let most = worth_of_offer s w offer.0 u offer.1 in
         let c = plan.came s a.pending in
         let at : CameFrom arcs flows c.0 s nodes.unstarted =
@@ -382,7 +382,7 @@ module _ (wave : Wave) (nodes : WaveNodes) (arcs : List FlowArc) (flows : List �
         omega arith
     priced_at_all s w (Some v) e a =
         let offer = network.complete s w a in
-        let u : IsUsable wave w = (a.live, a.has_slot) in
+        let u : IsUsable wave.workers w = (a.live, a.has_slot) in
         let most = worth_of_offer s w offer.0 u offer.1 in
         let own = worth s v e in let by = own.1 in let bound = own.2 in
         let less = no_cheaper s own.0 offer.0 a.pending by.listed offer.1.listed by.from_is offer.1.from_is

@@ -86,7 +86,7 @@ record Carries (wave : Wave) (nodes : WaveNodes) (arcs : List FlowArc)
   pub shipped : IsShipped wave nodes arcs flows
   pub waits : (s : ℕ) → (split_at wave s).pending ≡ true → times_started pairs s ≡ 0
       → WaitsAt wave nodes arcs flows s
-  pub loads : (w : ℕ) → IsUsable wave w → outflow arcs flows (nodes.worker w) ≡ load pairs w
+  pub loads : (w : ℕ) → IsUsable wave.workers w → outflow arcs flows (nodes.worker w) ≡ load pairs w
   pub rests : outflow arcs flows nodes.unstarted ≡ get_or flows network.rest.0 0
   pub costs : CostsAsMuch wave arcs flows pairs
 
@@ -98,7 +98,7 @@ record AllWait (wave : Wave) (nodes : WaveNodes) (arcs : List FlowArc)
   pub unused : (s k : ℕ) → n ≤ s → s < length wave.splits → k < length arcs → (arc_at arcs k).from ≡ s →
       get_or flows k 0 ≡ 0
   pub waits : (s : ℕ) → (split_at wave s).pending ≡ true → s < n → WaitsAt wave nodes arcs flows s
-  pub loads : (w : ℕ) → IsUsable wave w → outflow arcs flows (nodes.worker w) ≡ 0
+  pub loads : (w : ℕ) → IsUsable wave.workers w → outflow arcs flows (nodes.worker w) ≡ 0
   pub rests : outflow arcs flows nodes.unstarted ≡ get_or flows network.rest.0 0
   pub resting : get_or flows network.rest.0 0 ≡ length (pending_below wave n)
   pub costs : flow_cost arcs flows ≡ reward wave * length (pending_below wave n)
@@ -109,7 +109,7 @@ module _ (wave : Wave) (nodes : WaveNodes) (arcs : List FlowArc)
   splits = length wave.splits
 
   -- an arc from a usable worker's node leads to the sink, if it has any room
-  leads_on : (w k : ℕ) → IsUsable wave w → k < length arcs → (arc_at arcs k).from ≡ nodes.worker w
+  leads_on : (w k : ℕ) → IsUsable wave.workers w → k < length arcs → (arc_at arcs k).from ≡ nodes.worker w
       → 0 < (arc_at arcs k).capacity → (arc_at arcs k).to ≡ nodes.sink
   leads_on w k u l from some =
       let slot = network.slot w u in let is = slot.1 in
@@ -123,7 +123,7 @@ module _ (wave : Wave) (nodes : WaveNodes) (arcs : List FlowArc)
       (s w : ℕ)
       (may : IsAdmissible wave s w) (fresh : times_started pairs s ≡ 0)
       (room : load pairs w < (worker_at wave w).free) where
-    abbrev u : IsUsable wave w
+    abbrev u : IsUsable wave.workers w
     u = (may.live, may.has_slot)
 
     even : (v : ℕ) → IsInner splits nodes.sink v → inflow arcs flows v ≡ outflow arcs flows v
@@ -439,7 +439,7 @@ module _ (wave : Wave) (nodes : WaveNodes) (arcs : List FlowArc)
     load_more : (x : ℕ) → load ((s, w) ∷ pairs) x ≡ unit_at w x + load pairs x
     load_more x = sum_by-cons (λ (pair : ℕ × ℕ). cond (pair.1 == x) 1 0) (s, w) pairs
 
-    not_above : (x : ℕ) → IsUsable wave x → IsAmong (nodes.worker x) (nodes.above w) → ⊥
+    not_above : (x : ℕ) → IsUsable wave.workers x → IsAmong (nodes.worker x) (nodes.above w) → ⊥
     not_above x usable on = climb (nodes.above w) (nodes.worker w) (network.ways w u)
         (let slot = network.slot w u in let is = slot.1 in let own = is.capacity_is in let some = u.1 in
         (let more = network.slots w u in omega arith)) on

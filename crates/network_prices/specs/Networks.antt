@@ -46,12 +46,12 @@ pub record IsWaveNetwork (wave : Wave) (nodes : WaveNodes) (arcs : List FlowArc)
   pub past_splits : length wave.splits ≤ nodes.sink
   pub no_entry : (k : ℕ) → k < length arcs → length wave.splits ≤ (arc_at arcs k).to
   pub free : (k : ℕ) → k < length arcs → length wave.splits ≤ (arc_at arcs k).from → (arc_at arcs k).cost ≡ 0
-  pub ways : (w : ℕ) → IsUsable wave w → IsWay arcs (length wave.splits) nodes.sink (way_of nodes w)
-  pub closed : (w k : ℕ) → w < length wave.workers → (IsUsable wave w → ⊥) → k < length arcs
+  pub ways : (w : ℕ) → IsUsable wave.workers w → IsWay arcs (length wave.splits) nodes.sink (way_of nodes w)
+  pub closed : (w k : ℕ) → w < length wave.workers → (IsUsable wave.workers w → ⊥) → k < length arcs
       → (arc_at arcs k).to ≡ nodes.worker w → ⊥
   pub known : (w : ℕ) → length wave.splits ≤ nodes.worker w
   pub own : (v w : ℕ) → nodes.worker v ≡ nodes.worker w → v ≡ w
-  pub sound : (s w k : ℕ) → s < length wave.splits → IsUsable wave w → k < length arcs
+  pub sound : (s w k : ℕ) → s < length wave.splits → IsUsable wave.workers w → k < length arcs
       → (arc_at arcs k).from ≡ s → IsAmong (arc_at arcs k).to (way_of nodes w)
       → IsAdmissible wave s w × (unwrap_or (cost wave s w) 0 ≤ (arc_at arcs k).cost)
   pub complete : (s w : ℕ) → IsAdmissible wave s w
@@ -62,8 +62,8 @@ pub record IsWaveNetwork (wave : Wave) (nodes : WaveNodes) (arcs : List FlowArc)
       → ((arc_at arcs k).from < length wave.splits) × ((arc_at arcs k).cost ≡ reward wave)
   pub rest : (k : ℕ) × (room : ℕ) × IsArcFrom arcs k nodes.unstarted nodes.sink room 0
       × (length (pending_splits wave) ≤ room)
-  pub apart : (w : ℕ) → IsUsable wave w → IsAmong nodes.unstarted (way_of nodes w) → ⊥
+  pub apart : (w : ℕ) → IsUsable wave.workers w → IsAmong nodes.unstarted (way_of nodes w) → ⊥
   pub rest_inner : IsInner (length wave.splits) nodes.sink nodes.unstarted
-  pub slot : (w : ℕ) → IsUsable wave w
+  pub slot : (w : ℕ) → IsUsable wave.workers w
       → (k : ℕ) × IsArcFrom arcs k (nodes.worker w) nodes.sink (worker_at wave w).free 0
-  pub slots : (w : ℕ) → IsUsable wave w → outroom arcs (nodes.worker w) ≡ (worker_at wave w).free
+  pub slots : (w : ℕ) → IsUsable wave.workers w → outroom arcs (nodes.worker w) ≡ (worker_at wave w).free

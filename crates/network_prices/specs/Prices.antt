@@ -40,8 +40,8 @@ pub record ArePricesOf (wave : Wave) (nodes : WaveNodes) (h : ℕ → ℕ) (star
     (prices : PriceList) : Type 0 where
   pub split_size : length prices.splits ≡ length wave.splits
   pub worker_size : length prices.workers ≡ length wave.workers
-  pub usable : (w : ℕ) → IsUsable wave w → worker_price prices w ≡ deepest h (way_of nodes w)
-  pub unusable : (w : ℕ) → (IsUsable wave w → ⊥) → worker_price prices w ≡ 0
+  pub usable : (w : ℕ) → IsUsable wave.workers w → worker_price prices w ≡ deepest h (way_of nodes w)
+  pub unusable : (w : ℕ) → (IsUsable wave.workers w → ⊥) → worker_price prices w ≡ 0
   pub started : (s w : ℕ) → start_of starts s ≡ Some w →
       split_price prices s ≡ reward wave - (worker_price prices w + unwrap_or (cost wave s w) 0)
   pub unstarted : (s : ℕ) → start_of starts s ≡ None → split_price prices s ≡ 0

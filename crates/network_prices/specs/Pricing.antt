@@ -7,8 +7,8 @@ use Rattle.network_prices.specs.Networks.{WaveNodes, way_of}
 
 -- of a slot of w: how deep the deepest node on the way up from a usable worker's lies; else nothing
 pub record IsSlotPrice (wave : Wave) (nodes : WaveNodes) (h : ℕ → ℕ) (w price : ℕ) : Type 0 where
-  pub usable : IsUsable wave w → price ≡ deepest h (way_of nodes w)
-  pub unusable : (IsUsable wave w → ⊥) → price ≡ 0
+  pub usable : IsUsable wave.workers w → price ≡ deepest h (way_of nodes w)
+  pub unusable : (IsUsable wave.workers w → ⊥) → price ≡ 0
 
 -- of the split s: what its start leaves of the reward, if it starts
 pub record IsSplitPrice (wave : Wave) (workers : List ℕ) (starts : List (Option ℕ))

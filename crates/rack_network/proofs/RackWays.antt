@@ -114,9 +114,9 @@ module _ (wave : Wave) (arcs : List FlowArc) (network : IsRackNetwork wave arcs)
 
   -- a worker to which an arc leads is usable
   usable_there : (w : ℕ) → w < length wave.workers → (d : RackArc) → IsWanted wave d
-      → (arc_of wave d).to ≡ worker_node wave w → IsUsable wave w
+      → (arc_of wave d).to ≡ worker_node wave w → IsUsable wave.workers w
   usable_there w k (Pair s v) d t =
-      subst (IsUsable wave) (let same : v ≡ w = omega arith in same) (d.0.live, d.0.has_slot)
+      subst (IsUsable wave.workers) (let same : v ≡ w = omega arith in same) (d.0.live, d.0.has_slot)
   usable_there w k (Reach s level h) d t =
       let at = reach_at wave network.tree s level h d in
       let low = at.0 in let high = at.1 in
@@ -125,10 +125,10 @@ module _ (wave : Wave) (arcs : List FlowArc) (network : IsRackNetwork wave arcs)
       (omega arith) (omega arith) (omega arith) (omega arith) (omega arith) in
       let own : node_above wave 0 h ≡ worker_node wave w =
       ap (λ (m : ℕ). node_above wave m h) zero_level ∙ t in
-      subst (IsUsable wave) (let same : h ≡ w = omega arith in same)
+      subst (IsUsable wave.workers) (let same : h ≡ w = omega arith in same)
       (holder_live wave s h d.holder, d.has_slot (sym zero_level))
   usable_there w k (Trunk c) d t = absurd (let known = d.1 in omega arith)
-  usable_there w k (Feed v) d t = subst (IsUsable wave) (let same : v ≡ w = omega arith in same) d
+  usable_there w k (Feed v) d t = subst (IsUsable wave.workers) (let same : v ≡ w = omega arith in same) d
   usable_there w k _ d t = absurd (omega arith)
 
   -- an arc of a split to a node of a worker's way
@@ -136,7 +136,7 @@ module _ (wave : Wave) (arcs : List FlowArc) (network : IsRackNetwork wave arcs)
   IsSound s w a = a.from ≡ s → IsAmong a.to (way_of (rack_nodes wave) w)
       → IsAdmissible wave s w × (unwrap_or (cost wave s w) 0 ≤ a.cost)
 
-  is_sound : (s w : ℕ) → s < length wave.splits → IsUsable wave w → (d : RackArc) → IsWanted wave d
+  is_sound : (s w : ℕ) → s < length wave.splits → IsUsable wave.workers w → (d : RackArc) → IsWanted wave d
       → IsSound s w (arc_of wave d)
   is_sound s w k u (Pair t v) d split among =
       let on = own_level wave network.tree 0 v w (omega arith) (live_known wave v d.0.live)
@@ -183,10 +183,10 @@ module _ (wave : Wave) (arcs : List FlowArc) (network : IsRackNetwork wave arcs)
       (ap (λ (a : FlowArc). a.to) is, ap (λ (a : FlowArc). a.capacity) is)))
       (f.0, slot.listed, slot.from_is, slot.to_is)
 
-  live_slots : (w : ℕ) → IsUsable wave w → slots_of wave w ≡ (worker_at wave w).free
+  live_slots : (w : ℕ) → IsUsable wave.workers w → slots_of wave w ≡ (worker_at wave w).free
   live_slots w u = ap (λ (b : Bool). cond b (worker_at wave w).free 0) u.0
 
-  some_slots : (w : ℕ) → 0 < slots_of wave w → IsUsable wave w
+  some_slots : (w : ℕ) → 0 < slots_of wave w → IsUsable wave.workers w
   some_slots w l = elim (cases_Bool (worker_at wave w).live) [
     | inl live ↦ (live, rw live at l)
     | inr dead ↦ absurd (let none = rw dead at l in omega arith)
@@ -251,7 +251,7 @@ module _ (wave : Wave) (arcs : List FlowArc) (network : IsRackNetwork wave arcs)
         entered = entered;
       }
 
-  fed_worker : (w : ℕ) → IsUsable wave w
+  fed_worker : (w : ℕ) → IsUsable wave.workers w
       → IsFed arcs (length wave.splits) (rack_node wave (rack_of wave w)) (worker_node wave w)
   fed_worker w u =
       let known = live_known wave w u.0 in
@@ -295,7 +295,7 @@ module _ (wave : Wave) (arcs : List FlowArc) (network : IsRackNetwork wave arcs)
       inner : IsInner (length wave.splits) (sink_node wave) (centre_node wave c)
       inner = record { no_source = omega arith; no_sink = λ e. omega arith }
 
-  way_up : (w : ℕ) → IsUsable wave w
+  way_up : (w : ℕ) → IsUsable wave.workers w
       → IsWay arcs (length wave.splits) (sink_node wave) (way_of (rack_nodes wave) w)
   way_up w u =
       let known = live_known wave w u.0 in
@@ -372,8 +372,8 @@ module _ (wave : Wave) (arcs : List FlowArc) (network : IsRackNetwork wave arcs)
     no_entry = each_arc network.rows (λ a. length wave.splits ≤ a.to) no_split;
     free = each_arc network.rows (λ a. length wave.splits ≤ a.from → a.cost ≡ 0) is_free;
     ways = way_up;
-    closed = λ w k known n l t. n (each_arc network.rows (λ a. a.to ≡ worker_node wave w → IsUsable wave w)
-        (usable_there w known) k l t);
+    closed = λ w k known n l t. n (each_arc network.rows
+        (λ a. a.to ≡ worker_node wave w → IsUsable wave.workers w) (usable_there w known) k l t);
     known = λ w. omega arith;
     own = λ v w e. omega arith;
     sound = λ s w k known u. each_arc network.rows (IsSound s w) (is_sound s w known u) k;

@@ -201,7 +201,7 @@ module _ (wave : Wave) (tree : IsTree wave) where
   -- the row of a rack
   module _ (r : ℕ) (known : r < length wave.tree.centre_of) where
     own_feed : (e : RackArc) → IsWanted wave e → (arc_of wave e).from ≡ rack_node wave r
-        → (w : ℕ) × (IsUsable wave w × (rack_of wave w ≡ r)) × (e ≡ Feed w)
+        → (w : ℕ) × (IsUsable wave.workers w × (rack_of wave w ≡ r)) × (e ≡ Feed w)
     own_feed (Pair q w) want from = absurd (let split = pending_known wave q want.0.pending in omega arith)
     own_feed (Reach q level h) want from =
         absurd (let split = pending_known wave q want.pending in omega arith)
@@ -211,7 +211,7 @@ module _ (wave : Wave) (tree : IsTree wave) where
     own_feed _ want from = absurd (omega arith)
 
     pub feeds : Row (rack_node wave r) (first_worker wave) (length wave.workers) Feed
-        (λ w. IsUsable wave w × (rack_of wave w ≡ r))
+        (λ w. IsUsable wave.workers w × (rack_of wave w ≡ r))
     feeds = record {
       here = λ w own. (own.0, ap (rack_node wave) own.1, refl);
       only = λ e want from high. own_feed e want from;

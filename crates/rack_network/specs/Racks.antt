@@ -167,7 +167,7 @@ IsWanted wave (Reach s level h) = IsReach wave s level h
 IsWanted wave (Wait s) = (split_at wave s).pending ≡ true
 IsWanted wave (Trunk c) = (1 < wave.tree.centres) × (c < wave.tree.centres)
 IsWanted wave (Branch r) = r < length wave.tree.centre_of
-IsWanted wave (Feed w) = IsUsable wave w
+IsWanted wave (Feed w) = IsUsable wave.workers w
 IsWanted wave (Slot w) = w < length wave.workers
 IsWanted wave Rest = Unit {0}
 

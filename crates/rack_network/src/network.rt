@@ -489,7 +489,7 @@ fn add_feeds(
 // Whether a worker of the rack can take a split.
 fn takes_from(problem: &Problem, rack: RackNo, worker: WorkerNo) -> bool
     requires { worker < length problem.now.workers }
-    ensures { IsTrue result ↔ (IsUsable problem.now worker × (rack_of problem.now worker ≡ rack)) }
+    ensures { IsTrue result ↔ (IsUsable problem.now.workers worker × (rack_of problem.now worker ≡ rack)) }
 {
     problem.tree().rack_of(worker) == rack && problem.is_live(worker) && problem.free(worker) > 0
 }

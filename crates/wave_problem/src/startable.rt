@@ -2,7 +2,7 @@ ghost use Rattle.std.specs.Prelude.{◌≡◌, ℕ, ◌<◌, ◌≤◌, ◌↔�
 ghost use Rattle.node_ids.specs.Sets.{Has, HasPair};
 ghost use Rattle.rack_tree.specs.declared.TheConstants.{MAX_WORKERS};
 ghost use Rattle.wave_problem.specs.declared.TheConstants.{MAX_SPLITS};
-ghost use Rattle.wave_problem.specs.Wave.{split_at, AreFree, IsAdmissible, IsFree, Wave};
+ghost use Rattle.wave_problem.specs.Wave.{split_at, AreFree, IsAdmissible, IsUsable, Wave};
 
 use crate::lines::{SplitRef, WorkerLine};
 use crate::problem::any_live;
