@@ -1,13 +1,12 @@
 -- What a command does to a job: nothing, a wave, or one call of the master.
 use Rattle.std.proofs.Common.{◌≡◌, ◌≢◌, ◌⊎◌, ◌≤◌, inl, inr, ℕ, List, Option, Some, None, refl, arith, cond}
-use Rattle.master_state.specs.declared.answers.Answer.{Answer}
 use Rattle.master_state.specs.declared.states.Start.{Start}
 use Rattle.master_state.specs.declared.states.Work.{Work}
 use Rattle.master_state.specs.declared.states.Work.TheVariants as works
 use Rattle.master_state.specs.States.{start_of}
 use Rattle.master_state.specs.Refusals.{Call, MapDone, MapFailed, Withdraw, Die, Join, Add, Lose, Sweep}
 use Rattle.master_state.specs.Refusals.{ReduceStart, PartDone, PartFailed, Backup}
-use Rattle.master_state.specs.Jobs.{Job, Answers}
+use Rattle.master_state.specs.Jobs.{Job, Answers, Plain}
 use Rattle.script_text.specs.declared.script.Names.{Names}
 use Rattle.script_text.specs.declared.script.Command.{Command}
 use Rattle.script_text.specs.declared.script.Command.TheVariants as command
@@ -23,7 +22,7 @@ started_by call = 0
 -- one call, with its answer, which starts no more than the command may
 pub record IsCalled (old new : Job) (c : Command) : Type 0 where
   pub call : Call
-  pub given : Answer
+  pub given : Plain
   pub answers : Answers old call given new
   pub no_reduce : c ≢ command.Reduce → call ≢ ReduceStart
   pub starts : started_by call ≤ cond {A = ℕ} (starts_one c) 1 0
@@ -32,7 +31,7 @@ abbrev pub IsDone : Names → Job → Job → Command → List ℕ → Type 0
 IsDone names old new c out =
     (new ≡ old) ⊎ (((c ≡ command.Wave) × Waves names old out new) ⊎ IsCalled old new c)
 
-called : (old new : Job) (c : Command) (call : Call) (after : Answer → List ℕ) (out : List ℕ)
+called : (old new : Job) (c : Command) (call : Call) (after : Plain → List ℕ) (out : List ℕ)
     → (c ≢ command.Reduce → call ≢ ReduceStart) → started_by call ≤ cond {A = ℕ} (starts_one c) 1 0
     → IsTold old call after out new → IsCalled old new c
 called old new c call after out no_reduce starts told = record {

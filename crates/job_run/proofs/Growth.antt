@@ -12,7 +12,6 @@ use Rattle.std.proofs.lemmas.Slice.Zip.{length-zip}
 use Rattle.wave_problem.specs.Assignment.{IsBest, pairs_from, pairs_of}
 use Rattle.wave_problem.proofs.Bound.{pending_known}
 use Rattle.worker_table.specs.Workers.{swept, is_silent}
-use Rattle.master_state.specs.declared.answers.Answer.{Answer}
 use Rattle.master_state.specs.declared.answers.Answer.TheVariants as answer
 use Rattle.master_state.specs.declared.states.Start.{Start}
 use Rattle.master_state.specs.declared.states.Work.{Work}
@@ -21,7 +20,7 @@ use Rattle.master_state.specs.States.{Cluster, Setup, State}
 use Rattle.master_state.specs.Refusals.{Call, has_no_room, is_full, Sweep, ReduceStart, Backup}
 use Rattle.master_state.specs.Steps.{problem_of, split_line}
 use Rattle.master_state.specs.Changes.{after, died, split_started}
-use Rattle.master_state.specs.Jobs.{Job, Answers}
+use Rattle.master_state.specs.Jobs.{Job, Answers, Plain}
 use Rattle.script_text.specs.declared.script.Names.{Names}
 use Rattle.script_text.specs.declared.script.Command.{Command}
 use Rattle.script_text.specs.declared.script.Command.TheVariants as command
@@ -94,12 +93,12 @@ adds_same old new count same =
     ap (λ (j : Job). length j.state.starts) same in
     record { events = omega (arith, events); starts = omega (arith, starts) }
 
-adds_answered : (old new : Job) (call : Call) (given : Answer) → Answers old call given new →
+adds_answered : (old new : Job) (call : Call) (given : Plain) → Answers old call given new →
     Adds old.state new.state (started_by call)
-adds_answered old new call (answer.Accepted place) answers =
+adds_answered old new call (answer.Accepted place rest) answers =
     subst (λ (s : State). Adds old.state s (started_by call)) (sym answers.change.leads)
     (adds_after old.state call)
-adds_answered old new call (answer.Ignored why) answers = adds_same old new (started_by call) answers.same
+adds_answered old new call (answer.Ignored why rest) answers = adds_same old new (started_by call) answers.same
 
 -- rising pairs of splits below n are no more than n
 rising_few : (n k : ℕ) (plan : List (Option ℕ)) → All (λ (pair : ℕ × ℕ). pair.0 < n) (pairs_from k plan) →

@@ -71,7 +71,7 @@ runs_given job table (suc a) r w holds start =
 pub old_split : (job : Job) (a split w : ℕ) (state : SplitState) → IsKept job →
     start_of job.state a ≡ Some (record { work = works.Split split; worker = w }) →
     slice_get job.state.splits split ≡ Some state → runs a state ≡ false →
-    HandsSplit job a split (answer.Ignored OldAttempt) job
+    HandsSplit job a split (answer.Ignored OldAttempt tt) job
 old_split job a split w state kept start here none =
     let at : split_at job.state split ≡ state =
     get_or_from_slice_get job.state.splits split state Pending here in
@@ -88,7 +88,7 @@ old_split job a split w state kept start here none =
 pub old_part : (job : Job) (a r w : ℕ) (state : PartState) → IsKept job →
     start_of job.state a ≡ Some (record { work = works.Part r; worker = w }) →
     slice_get job.state.parts r ≡ Some state → part_runs a state ≡ false →
-    HandsPart job a r (answer.Ignored OldAttempt) job
+    HandsPart job a r (answer.Ignored OldAttempt tt) job
 old_part job a r w state kept start here none =
     let at : part_at job.state r ≡ state =
     get_or_from_slice_get job.state.parts r state part.Pending here in

@@ -5,14 +5,13 @@ use Rattle.std.specs.List.{range_with_len}
 use Rattle.std.proofs.lemmas.List.Elements.{All-push}
 use Rattle.wave_problem.specs.Assignment.{pairs_of}
 use Rattle.worker_table.specs.Workers.{swept, is_silent}
-use Rattle.master_state.specs.declared.answers.Answer.{Answer}
 use Rattle.master_state.specs.declared.answers.Answer.TheVariants as answer
 use Rattle.master_state.specs.declared.states.Start.{Start}
 use Rattle.master_state.specs.declared.states.Work.TheVariants as works
 use Rattle.master_state.specs.States.{Setup, State}
 use Rattle.master_state.specs.Refusals.{Call, Sweep, ReduceStart, Backup}
 use Rattle.master_state.specs.Changes.{after, died, split_started}
-use Rattle.master_state.specs.Jobs.{Job, Answers}
+use Rattle.master_state.specs.Jobs.{Job, Answers, Plain}
 use Rattle.script_text.specs.declared.script.Names.{Names}
 use Rattle.script_text.specs.declared.script.Command.{Command}
 use Rattle.script_text.specs.declared.script.Command.TheVariants as command
@@ -66,14 +65,14 @@ keeps_same old new same = record {
   have = λ table have. subst (λ (j : Job). Have old.setup table j.state.starts) (sym same) have;
 }
 
-keeps_answered : (old new : Job) (call : Call) (given : Answer) → call ≢ ReduceStart →
+keeps_answered : (old new : Job) (call : Call) (given : Plain) → call ≢ ReduceStart →
     Answers old call given new → Keeps old new
-keeps_answered old new call (answer.Accepted place) other answers = record {
+keeps_answered old new call (answer.Accepted place rest) other answers = record {
   setup = answers.next.setup;
   have = λ table have. subst (λ (s : State). Have old.setup table s.starts) (sym answers.change.leads)
       (have_after old.setup table old.state call other have);
 }
-keeps_answered old new call (answer.Ignored why) other answers = keeps_same old new answers.same
+keeps_answered old new call (answer.Ignored why rest) other answers = keeps_same old new answers.same
 
 keeps_wave : (names : Names) (old new : Job) (out : List ℕ) → Waves names old out new → Keeps old new
 keeps_wave names old new out waves = record {
@@ -107,17 +106,17 @@ pub holds_runs : {names : Names} {target : ℕ} {old new : Job} {c : Command} {b
 holds_runs {names} {target} {old} {new} {c} table done other holds =
     holds_kept table (keeps names target old new c done.out other done.performs) holds
 
-pub holds_answered : {old new : Job} {call : Call} {after : Answer → List ℕ} {before now : List ℕ}
+pub holds_answered : {old new : Job} {call : Call} {after : Plain → List ℕ} {before now : List ℕ}
     (table : List Runs) → IsAnswered old call after before now new → call ≢ ReduceStart →
     HoldsRuns table old → HoldsRuns table new
 holds_answered {old} {new} {call} {after} table answered other holds =
     let told = answered.is_told in
     holds_kept table (keeps_answered old new call told.answer other told.answers) holds
 
-told_setup : (old new : Job) (call : Call) (given : Answer) → Answers old call given new →
+told_setup : (old new : Job) (call : Call) (given : Plain) → Answers old call given new →
     new.setup ≡ old.setup
-told_setup old new call (answer.Accepted place) answers = answers.next.setup
-told_setup old new call (answer.Ignored why) answers = ap (λ (j : Job). j.setup) answers.same
+told_setup old new call (answer.Accepted place rest) answers = answers.next.setup
+told_setup old new call (answer.Ignored why rest) answers = ap (λ (j : Job). j.setup) answers.same
 
 pub performs_setup : (names : Names) (target : ℕ) (old new : Job) (c : Command) (out : List ℕ) →
     Performs names target old c out new → new.setup ≡ old.setup

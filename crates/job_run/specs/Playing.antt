@@ -1,15 +1,14 @@
 -- Lines that are written after what stood there.
 use Rattle.std.specs.Prelude.{ℕ, ◌≡◌, List, ◌++◌}
-use Rattle.master_state.specs.declared.answers.Answer.{Answer}
 use Rattle.master_state.specs.Refusals.{Call}
-use Rattle.master_state.specs.Jobs.{Job}
+use Rattle.master_state.specs.Jobs.{Job, Plain}
 use Rattle.script_text.specs.declared.script.Names.{Names}
 use Rattle.script_text.specs.declared.script.Command.{Command}
 use Rattle.job_run.specs.Reports.{IsTold, Performs, PerformsAll, EndsReport}
 use Rattle.job_run.specs.declared.player.PlayEnd.{PlayEnd}
 
 -- the answer to a call
-pub record IsAnswered (old : Job) (call : Call) (after : Answer → List ℕ) (before now : List ℕ) (new : Job)
+pub record IsAnswered (old : Job) (call : Call) (after : Plain → List ℕ) (before now : List ℕ) (new : Job)
     : Type 0 where
   pub out : List ℕ
   pub is_told : IsTold old call after out new

@@ -11,7 +11,6 @@ use Rattle.shuffle_reduce.specs.Merged.{PartView, AreSameTexts}
 use Rattle.shuffle_reduce.specs.Indexed.{IsIndexOf}
 use Rattle.block_map.specs.declared.CopyOrder.{CopyOrder}
 use Rattle.block_map.specs.Copies.{AreCopies, holdings}
-use Rattle.master_state.specs.declared.answers.Answer.{Answer}
 use Rattle.master_state.specs.declared.answers.Answer.TheVariants as answer
 use Rattle.master_state.specs.declared.answers.Wave.{Wave}
 use Rattle.master_state.specs.declared.answers.Why.TheVariants.{OldAttempt}
@@ -23,7 +22,7 @@ use Rattle.master_state.specs.Tests.{all_parts_done, next_part, next_worker}
 use Rattle.master_state.specs.Refusals.{Call, MapDone, MapFailed, Withdraw, Die, Join, Add, Lose, Sweep}
 use Rattle.master_state.specs.Refusals.{ReduceStart, PartDone, PartFailed, Backup, has_no_room, split_text}
 use Rattle.master_state.specs.Steps.{IsLegal, problem_of}
-use Rattle.master_state.specs.Jobs.{Job, Answers, IsCommitted, died_in}
+use Rattle.master_state.specs.Jobs.{Job, Answers, IsCommitted, died_in, Plain}
 use Rattle.script_text.specs.Commands.{IsKnownIn}
 use Rattle.script_text.specs.declared.script.Names.{Names}
 use Rattle.script_text.specs.declared.script.Script.{Script}
@@ -36,19 +35,19 @@ use Rattle.job_run.specs.declared.player.PlayEnd.{PlayEnd}
 use Rattle.job_run.specs.declared.player.PlayEnd.TheVariants as finish
 
 -- the line of an answer, and what follows it where the call was accepted
-abbrev pub told : Answer → List ℕ → List ℕ
-told (answer.Accepted place) after = accepted_line place ++ after
-told (answer.Ignored why) after = ignored_line why
+abbrev pub told : Plain → List ℕ → List ℕ
+told (answer.Accepted place rest) after = accepted_line place ++ after
+told (answer.Ignored why rest) after = ignored_line why
 
 -- the call is answered as the machine says, and told so
-pub record IsTold (old : Job) (call : Call) (after : Answer → List ℕ) (out : List ℕ)
+pub record IsTold (old : Job) (call : Call) (after : Plain → List ℕ) (out : List ℕ)
     (new : Job) : Type 0 where
-  pub answer : Answer
+  pub answer : Plain
   pub answers : Answers old call answer new
   pub out_is : out ≡ told answer (after answer)
 
 -- no line follows that of the answer
-abbrev pub alone : Answer → List ℕ
+abbrev pub alone : Plain → List ℕ
 alone answer = []
 
 -- the attempt was never started
@@ -116,7 +115,7 @@ abbrev pub set_of : List ℕ → List ℕ
 set_of splits = fold with_number no_splits splits
 
 -- those who died, by number
-abbrev pub deaths : Names → Job → List ℕ → Answer → List ℕ
+abbrev pub deaths : Names → Job → List ℕ → Plain → List ℕ
 deaths names old counts answer =
     lines_of_those (died_in old counts answer) (dead_line names.workers) (numbers_of names.workers)
 

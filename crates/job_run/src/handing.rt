@@ -4,12 +4,12 @@ ghost use Rattle.master_state.specs.declared.states.Work.TheVariants as works;
 ghost use Rattle.script_text.specs.declared.script.Names.{Names};
 ghost use Rattle.script_text.specs.declared.script.Command.TheVariants as command;
 ghost use Rattle.job_run.specs.Given.{AreRunsFor, HoldsRuns};
-ghost use Rattle.job_run.specs.Handing.{HandsPart, HandsSplit, IsStartedFor, answer_from};
+ghost use Rattle.job_run.specs.Handing.{HandsPart, HandsSplit, IsStartedFor};
 ghost use Rattle.job_run.specs.Playing.{Performed};
 
 use crate::given::GivenRuns;
 use master_core::Master;
-use master_state::{Answer, AnswerWith, PartState, SplitState, Why, Work};
+use master_state::{Answer, PartState, SplitState, Why, Work};
 use node_ids::{AttemptNo, PartNo, SplitNo};
 use report_lines::{add_answer, add_ignored};
 use shuffle_reduce::merge;
@@ -58,11 +58,11 @@ fn hand_split(
 {
     master.is_kept();
     if !split_runs(&master.state(split), attempt) {
-        return Ok(Answer::Ignored(Why::OldAttempt));
+        return Ok(Answer::Ignored(Why::OldAttempt, ()));
     }
     let text = Arc::try_clone(&master.texts()[split.index()])?;
     let made = map_split(alloc, text, master.cluster().parts())?;
-    Ok(answer_from(master.map_done(attempt, made)))
+    Ok(master.map_done(attempt, made).plain())
 }
 
 // Merges the runs that the part was given, if it runs the attempt, and hands in what is made.
@@ -79,10 +79,10 @@ fn hand_part(
 {
     master.is_kept();
     if !part_runs(&master.part_state(part), attempt) {
-        return Ok(Answer::Ignored(Why::OldAttempt));
+        return Ok(Answer::Ignored(Why::OldAttempt, ()));
     }
     let made = merge(alloc, master.cluster().parts(), part, given.of(part))?;
-    Ok(answer_from(master.part_done(attempt, made)))
+    Ok(master.part_done(attempt, made).plain())
 }
 
 // Whether the split runs the attempt.
@@ -105,16 +105,6 @@ fn part_runs(part: &PartState, attempt: AttemptNo) -> bool
         PartState::Pending => false,
         PartState::Running(one) => one.number == attempt,
         PartState::Done => false,
-    }
-}
-
-// The answer without the value that came back.
-fn answer_from<R: Drop>(answer: AnswerWith<R>) -> Answer
-    ensures { result ≡ answer_from answer }
-{
-    match answer {
-        AnswerWith::Accepted(place) => Answer::Accepted(place),
-        AnswerWith::Ignored(why, _) => Answer::Ignored(why),
     }
 }
 

@@ -12,7 +12,7 @@ use crate::player::PlayError;
 use crate::tables::{counts_of, set_of};
 use crate::waves::wave;
 use master_core::Master;
-use master_state::{Answer, BackupAnswer, ReduceAnswer, Why};
+use master_state::{Answer, Why};
 use node_ids::{SplitNo, WorkerNo};
 use report_lines::{
     add_accepted, add_answer, add_backup, add_copies, add_dead, add_ignored, add_reduce,
@@ -67,11 +67,11 @@ fn backup(
         (string_bytes lines.old) (string_bytes lines.new) master.new) }
 {
     match master.backup(split, worker) {
-        BackupAnswer::Accepted(place, attempt) => {
+        Answer::Accepted(place, attempt) => {
             add_accepted(lines, place)?;
             add_backup(lines, &names.splits, &names.workers, attempt, split, worker)
         }
-        BackupAnswer::Ignored(why) => add_ignored(lines, why),
+        Answer::Ignored(why, ()) => add_ignored(lines, why),
     }
 }
 
@@ -106,11 +106,11 @@ fn sweep(
 {
     let swept = master.sweep(&counts_of(counts));
     match swept.answer {
-        Answer::Accepted(place) => {
+        Answer::Accepted(place, ()) => {
             add_accepted(lines, place)?;
             add_dead(lines, &names.workers, &swept.dead)
         }
-        Answer::Ignored(why) => add_ignored(lines, why),
+        Answer::Ignored(why, ()) => add_ignored(lines, why),
     }
 }
 
@@ -129,7 +129,7 @@ fn reduce(
 {
     master.is_kept();
     match master.reduce_start(alloc) {
-        ReduceAnswer::Accepted(place, reply) => {
+        Answer::Accepted(place, reply) => {
             add_accepted(lines, place)?;
             add_reduce(
                 lines,
@@ -141,8 +141,8 @@ fn reduce(
             given.put(reply.part, reply.runs);
             Ok(())
         }
-        ReduceAnswer::Ignored(why) if why == Why::Memory => Err(AllocError),
-        ReduceAnswer::Ignored(why) => add_ignored(lines, why),
+        Answer::Ignored(why, ()) if why == Why::Memory => Err(AllocError),
+        Answer::Ignored(why, ()) => add_ignored(lines, why),
     }
 }
 

@@ -1,3 +1,4 @@
 pub mod Finished
 mod Looking
 mod Returning
+mod Telling

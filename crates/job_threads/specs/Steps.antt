@@ -12,12 +12,11 @@ use Rattle.lane_queue.specs.Lanes.{PassValue}
 use Rattle.lane_queue.specs.Orders.{attempt_of}
 use Rattle.master_state.specs.declared.answers.Answer.{Answer}
 use Rattle.master_state.specs.declared.answers.Answer.TheVariants.{Accepted, Ignored}
-use Rattle.master_state.specs.declared.answers.BackupAnswer.{BackupAnswer}
-use Rattle.master_state.specs.declared.answers.BackupAnswer.TheVariants as backup
 use Rattle.master_state.specs.declared.answers.Why.{Why}
 use Rattle.master_state.specs.declared.answers.Why.TheVariants.{HistoryFull, StrangeHand, WrongInput}
 use Rattle.master_state.specs.declared.events.Event.{Event}
 use Rattle.master_state.specs.declared.events.Event.TheVariants as events
+use Rattle.master_state.specs.Jobs.{Plain}
 use Rattle.hand_ledger.specs.Hands.{HandValue}
 use Rattle.shared_master.specs.Steps.{IsKeptAs, IsKeptBackup}
 use Rattle.job_threads.specs.Holdings.{changed_at}
@@ -32,29 +31,29 @@ judged_why HistoryFull place = Err ends.HistoryFull
 judged_why StrangeHand place = Err (ends.Torn place)
 judged_why why place = Ok tt
 
-abbrev pub judged : Answer → ℕ → Result (Unit {0}) RunError
-judged (Accepted n) place = Ok tt
-judged (Ignored why) place = judged_why why place
+abbrev pub judged : Plain → ℕ → Result (Unit {0}) RunError
+judged (Accepted n rest) place = Ok tt
+judged (Ignored why rest) place = judged_why why place
 
 -- What a worker tells of an attempt: that it failed, where nothing was made; else that it is done, and where
 -- the master has no use for what was made, that it failed.
-pub record IsDone (done : Event) (hand : HandValue) (given : Answer) (after : HandValue) : Type 0 where
+pub record IsDone (done : Event) (hand : HandValue) (given : Plain) (after : HandValue) : Type 0 where
   pub kept : IsKeptAs hand done [] given after
-  pub useful : given ≢ Ignored WrongInput
+  pub useful : given ≢ Ignored WrongInput tt
 
-pub record IsOfNoUse (done failed : Event) (hand : HandValue) (given : Answer) (after : HandValue)
+pub record IsOfNoUse (done failed : Event) (hand : HandValue) (given : Plain) (after : HandValue)
     : Type 0 where
   pub between : HandValue
-  pub refused : IsKeptAs hand done [] (Ignored WrongInput) between
+  pub refused : IsKeptAs {T = Unit {0}} {B = Unit {0}} hand done [] (Ignored WrongInput tt) between
   pub told : IsKeptAs between failed [] given after
 
-abbrev pub Tells : Event → Event → Bool → HandValue → Answer → HandValue → Type 0
+abbrev pub Tells : Event → Event → Bool → HandValue → Plain → HandValue → Type 0
 Tells done failed false hand given after = IsKeptAs hand failed [] given after
 Tells done failed true hand given after =
     IsDone done hand given after ⊎ IsOfNoUse done failed hand given after
 
 -- the same of an order
-abbrev pub TellsOf : Order → Bool → HandValue → Answer → HandValue → Type 0
+abbrev pub TellsOf : Order → Bool → HandValue → Plain → HandValue → Type 0
 TellsOf (order.Map a text) made hand given after =
     Tells (events.MapDone a) (events.MapFailed a) made hand given after
 TellsOf (order.Reduce a part runs) made hand given after =
@@ -63,7 +62,7 @@ TellsOf (order.Reduce a part runs) made hand given after =
 -- a worker tells of its order once, or it does not
 abbrev pub Performs : Order → HandValue → HandValue → Type 0
 Performs given before after =
-    (after ≡ before) ⊎ ((made : Bool) × (answer : Answer) × TellsOf given made before answer after)
+    (after ≡ before) ⊎ ((made : Bool) × (answer : Plain) × TellsOf given made before answer after)
 
 -- a pass that put an order more
 abbrev pub with_put : Order → PassValue → PassValue
@@ -75,7 +74,7 @@ IsSent w given true lanes hand new_lanes after =
     (new_lanes ≡ changed_at (with_put given) lanes w) × (after ≡ hand)
 IsSent w given false lanes hand new_lanes after =
     (new_lanes ≡ lanes)
-    × ((answer : Answer) × IsKeptAs hand (events.Withdraw (attempt_of given)) [] answer after)
+    × ((answer : Plain) × IsKeptAs hand (events.Withdraw (attempt_of given)) [] answer after)
 
 -- a map attempt of a split was sent so, with the split's text
 pub record IsMapSent
@@ -86,12 +85,12 @@ pub record IsMapSent
   pub order : IsSent w (order.Map a text) sent lanes hand new_lanes after
 
 -- a second attempt was asked for: which attempt it is, where it started
-abbrev pub attempt_in : BackupAnswer → Option ℕ
-attempt_in (backup.Accepted place a) = Some a
-attempt_in (backup.Ignored why) = None
+abbrev pub attempt_in : Answer ℕ (Unit {0}) → Option ℕ
+attempt_in (Accepted place a) = Some a
+attempt_in (Ignored why rest) = None
 
 pub record IsAnswered (split w : ℕ) (attempt : Option ℕ) (before after : HandValue) : Type 0 where
-  pub answer : BackupAnswer
+  pub answer : Answer ℕ (Unit {0})
   pub kept : IsKeptBackup before split w answer after
   pub told : attempt ≡ attempt_in answer
 
@@ -100,14 +99,14 @@ IsAsked split w attempt before after =
     ((attempt ≡ None) × (after ≡ before)) ⊎ IsAnswered split w attempt before after
 
 -- A call that changes what a worker holds: where it was accepted, its holding is changed too.
-abbrev pub changed_if : Answer → (Holding → Holding) → List Holding → ℕ → List Holding
-changed_if (Accepted place) change workers w = changed_at change workers w
-changed_if (Ignored why) change workers w = workers
+abbrev pub changed_if : Plain → (Holding → Holding) → List Holding → ℕ → List Holding
+changed_if (Accepted place rest) change workers w = changed_at change workers w
+changed_if (Ignored why rest) change workers w = workers
 
 pub record IsToldOf
     (event : Event) (change : Holding → Holding) (w : ℕ) (workers : List Holding) (hand : HandValue)
     (new_workers : List Holding) (after : HandValue) : Type 0 where
-  pub answer : Answer
+  pub answer : Plain
   pub told : IsKeptAs hand event [] answer after
   pub known : new_workers ≡ changed_if answer change workers w
 

@@ -84,8 +84,8 @@ pub(crate) fn judge<L: Ledger>(answer: Answer, hand: &Hand<L>) -> Result<(), Run
     ensures { result ≡ judged answer (last_place hand.now.calls) }
 {
     match answer {
-        Answer::Accepted(_) => Ok(()),
-        Answer::Ignored(why) => judge_why(why, hand),
+        Answer::Accepted(_, ()) => Ok(()),
+        Answer::Ignored(why, ()) => judge_why(why, hand),
     }
 }
 

@@ -7,7 +7,7 @@ use crate::common::{Common, judge, judge_why};
 use crate::gate::Gate;
 use crate::outcome::RunError;
 use lane_queue::Order;
-use master_state::{BackupAnswer, Glance, ReduceAnswer, Start, Why, Work};
+use master_state::{Answer, Glance, Start, Why, Work};
 use node_ids::{AttemptNo, SplitNo, WorkerNo};
 use shared_master::{SharedWave, WaveError};
 use std::alloc::Global;
@@ -150,12 +150,12 @@ impl<L: Ledger> Caller<L> {
         requires { IsTrue _glance.now.reducible }
     {
         match common.shared.reduce_start(rt, alloc, &mut self.hand) {
-            ReduceAnswer::Accepted(_, reply) => {
+            Answer::Accepted(_, reply) => {
                 let order = Order::Reduce(reply.attempt, reply.part, reply.runs);
                 self.send(rt, common, reply.worker, order)
             }
-            ReduceAnswer::Ignored(Why::Memory) => Err(RunError::Memory),
-            ReduceAnswer::Ignored(why) => {
+            Answer::Ignored(Why::Memory, ()) => Err(RunError::Memory),
+            Answer::Ignored(why, ()) => {
                 judge_why(why, &self.hand)?;
                 Ok(false)
             }
@@ -209,8 +209,8 @@ impl<L: Ledger> Caller<L> {
             return Ok(None);
         }
         match common.shared.backup(rt, &mut self.hand, split, worker) {
-            BackupAnswer::Accepted(_, attempt) => Ok(Some(attempt)),
-            BackupAnswer::Ignored(why) => {
+            Answer::Accepted(_, attempt) => Ok(Some(attempt)),
+            Answer::Ignored(why, ()) => {
                 judge_why(why, &self.hand)?;
                 Ok(None)
             }

@@ -103,7 +103,7 @@ impl<L: Ledger> Caller<L> {
             return Err(RunError::Torn(0));
         }
         let answer = common.shared.add(rt, &mut self.hand, split, worker);
-        if let Answer::Accepted(_) = answer {
+        if let Answer::Accepted(_, ()) = answer {
             self.holdings.add(split, worker);
         }
         judge(answer, &self.hand)
@@ -159,7 +159,7 @@ impl<L: Ledger> Caller<L> {
             return Err(RunError::Torn(0));
         }
         let answer = common.shared.join(rt, &mut self.hand, worker, &set);
-        if let Answer::Accepted(_) = answer {
+        if let Answer::Accepted(_, ()) = answer {
             self.holdings.take_back(worker, set);
         }
         judge(answer, &self.hand)

@@ -11,7 +11,7 @@ use crate::gate::Gate;
 use crate::lanes::LaneEnd;
 use crate::outcome::RunError;
 use lane_queue::Order;
-use master_state::{Answer, AnswerWith, Why};
+use master_state::{Answer, Why};
 use node_ids::{AttemptNo, PartNo, WorkerNo};
 use shared_master::Hand;
 use shuffle_reduce::{PartResult, are_of_part, merge};
@@ -155,6 +155,7 @@ fn reduced<L: Ledger, G: Gate>(
 }
 
 // Tells the master what became of a map attempt.
+#[tactic(auto, using(crate::proofs::Telling::kept_plainly))]
 fn tell_map<L: Ledger, G: Gate, R: Wait>(
     rt: &R,
     common: &Common<'_, L, G>,
@@ -169,13 +170,13 @@ fn tell_map<L: Ledger, G: Gate, R: Wait>(
         return common.shared.map_failed(rt, hand, attempt);
     };
     match common.shared.map_done(rt, hand, attempt, made) {
-        AnswerWith::Accepted(place) => Answer::Accepted(place),
-        AnswerWith::Ignored(Why::WrongInput, _) => common.shared.map_failed(rt, hand, attempt),
-        AnswerWith::Ignored(why, _) => Answer::Ignored(why),
+        Answer::Ignored(Why::WrongInput, _) => common.shared.map_failed(rt, hand, attempt),
+        answer => answer.plain(),
     }
 }
 
 // The same of a reduce attempt.
+#[tactic(auto, using(crate::proofs::Telling::kept_plainly))]
 fn tell_reduce<L: Ledger, G: Gate, R: Wait>(
     rt: &R,
     common: &Common<'_, L, G>,
@@ -190,8 +191,7 @@ fn tell_reduce<L: Ledger, G: Gate, R: Wait>(
         return common.shared.part_failed(rt, hand, attempt);
     };
     match common.shared.part_done(rt, hand, attempt, made) {
-        AnswerWith::Accepted(place) => Answer::Accepted(place),
-        AnswerWith::Ignored(Why::WrongInput, _) => common.shared.part_failed(rt, hand, attempt),
-        AnswerWith::Ignored(why, _) => Answer::Ignored(why),
+        Answer::Ignored(Why::WrongInput, _) => common.shared.part_failed(rt, hand, attempt),
+        answer => answer.plain(),
     }
 }

@@ -1,5 +1,5 @@
 -- A master after the result of a split or a part.
-use Rattle.std.proofs.Common.{◌≡◌, ◌≢◌, ℕ, ◌-◌, List, [], ◌∷◌, map, Bool, false, not, Option}
+use Rattle.std.proofs.Common.{◌≡◌, ◌≢◌, ℕ, List, [], ◌∷◌, map, Bool, false, Option}
 use Rattle.std.proofs.Common.{Some, None, refl, ap, ◌∙◌, sym, arith, All}
 use Rattle.std.specs.Option.{option_map, option_map_or}
 use Rattle.std.proofs.lemmas.Bool.{cases_eq, eqb-true, ne_eqb, not-false, or_parts}

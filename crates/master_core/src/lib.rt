@@ -17,6 +17,6 @@ mod reducing;
 pub use cluster::{Cluster, ClusterError};
 pub use master::Master;
 pub use master_state::{
-    Answer, AnswerWith, Attempt, BackupAnswer, CommitError, Event, Glance, Limits, PartState,
-    ReduceAnswer, Reply, SplitState, Start, Swept, Wave, Why, Work,
+    Answer, Attempt, CommitError, Event, Glance, Limits, PartState, Reply, SplitState, Start,
+    Swept, Wave, Why, Work,
 };

@@ -12,13 +12,7 @@ use Rattle.shuffle_reduce.specs.Gather.{AreOfPart, texts_of_runs}
 use Rattle.shuffle_reduce.specs.Indexed.{count_of}
 use Rattle.worker_table.specs.Workers.{swept, is_silent}
 use Rattle.master_state.specs.declared.answers.Answer.{Answer}
-use Rattle.master_state.specs.declared.answers.Answer.TheVariants as answer
-use Rattle.master_state.specs.declared.answers.AnswerWith.{AnswerWith}
-use Rattle.master_state.specs.declared.answers.AnswerWith.TheVariants as handed
-use Rattle.master_state.specs.declared.answers.BackupAnswer.{BackupAnswer}
-use Rattle.master_state.specs.declared.answers.BackupAnswer.TheVariants as backup
-use Rattle.master_state.specs.declared.answers.ReduceAnswer.{ReduceAnswer}
-use Rattle.master_state.specs.declared.answers.ReduceAnswer.TheVariants as reduced
+use Rattle.master_state.specs.declared.answers.Answer.TheVariants.{Accepted, Ignored}
 use Rattle.master_state.specs.declared.answers.Reply.{Reply}
 use Rattle.master_state.specs.declared.answers.Glance.{Glance}
 use Rattle.master_state.specs.declared.answers.Why.{Why}
@@ -80,21 +74,32 @@ pub record IsIgnored (old : Job) (call : Call) (why : Why) (new : Job) : Type 0 
   pub refused : refusal old.setup old.state call ≡ Some why
   pub same : new ≡ old
 
+-- an answer with nothing beside its place or its reason, and what any other is without that
+abbrev pub Plain : Type 0
+Plain = Answer (Unit {0}) (Unit {0})
+
+abbrev pub plain : {T B : Type 0} → Answer T B → Plain
+plain (Accepted place told) = Accepted place tt
+plain (Ignored why back) = Ignored why tt
+
 -- what an answer says of a call
-abbrev pub Answers : Job → Call → Answer → Job → Type 0
-Answers old call (answer.Accepted place) new = IsAccepted old call place new
-Answers old call (answer.Ignored why) new = IsIgnored old call why new
+abbrev pub Answers : {T B : Type 0} → Job → Call → Answer T B → Job → Type 0
+Answers old call (Accepted place told) new = IsAccepted old call place new
+Answers old call (Ignored why back) new = IsIgnored old call why new
 
--- the same of a call that was handed a value, which comes back where the call was ignored
-abbrev pub AnswersWith : {R : Type 0} → Job → Call → R → AnswerWith R → Job → Type 0
-AnswersWith old call given (handed.Accepted place) new = IsAccepted old call place new
-AnswersWith old call given (handed.Ignored why back) new = (back ≡ given) × IsIgnored old call why new
+-- what was handed in comes back where the call was ignored
+abbrev pub GivesBack : {T B : Type 0} → B → Answer T B → Type 0
+GivesBack given (Accepted place told) = Unit {0}
+GivesBack given (Ignored why back) = back ≡ given
 
--- the answer names the attempt that was started
-abbrev pub AnswersBackup : Job → ℕ → ℕ → BackupAnswer → Job → Type 0
-AnswersBackup old split w (backup.Accepted place a) new =
-    (a ≡ next_attempt old.state) × IsAccepted old (Backup split w) place new
-AnswersBackup old split w (backup.Ignored why) new = IsIgnored old (Backup split w) why new
+-- what is told of an accepted call is so
+abbrev pub Tells : {T B : Type 0} → (T → Type 0) → Answer T B → Type 0
+Tells IsSo (Accepted place told) = IsSo told
+Tells IsSo (Ignored why back) = Unit {0}
+
+-- the attempt that was started is the next one
+abbrev pub TellsNext : Job → Answer ℕ (Unit {0}) → Type 0
+TellsNext old given = Tells (λ a. a ≡ next_attempt old.state) given
 
 -- the reply has the attempt, the part and the worker, and the run of each text for the part
 pub record IsReply (old : Job) (reply : Reply) : Type 0 where
@@ -105,21 +110,19 @@ pub record IsReply (old : Job) (reply : Reply) : Type 0 where
   pub texts : texts_of_runs reply.runs.items ≡ old.setup.cluster.texts
 
 -- want of memory is answered only where there is no other reason
-abbrev pub AnswersReduce : Job → ReduceAnswer → Job → Type 0
-AnswersReduce old (reduced.Accepted place reply) new =
-    IsReply old reply × IsAccepted old ReduceStart place new
-AnswersReduce old (reduced.Ignored why) new =
+abbrev pub AnswersReduce : Job → Answer Reply (Unit {0}) → Job → Type 0
+AnswersReduce old (Accepted place reply) new = IsReply old reply × IsAccepted old ReduceStart place new
+AnswersReduce old (Ignored why back) new =
     IsIgnored old ReduceStart why new
     ⊎ ((why ≡ Memory) × (refusal old.setup old.state ReduceStart ≡ None) × (new ≡ old))
 
 -- whether the worker died in a sweep that was answered so
-abbrev pub died_in : Job → List ℕ → Answer → ℕ → Bool
-died_in old counts (answer.Accepted place) w = is_silent (swept old.state.workers counts) w
-died_in old counts (answer.Ignored why) w = false
+abbrev pub died_in : {T B : Type 0} → Job → List ℕ → Answer T B → ℕ → Bool
+died_in old counts (Accepted place told) w = is_silent (swept old.state.workers counts) w
+died_in old counts (Ignored why back) w = false
 
 -- the answer to a sweep, and the set of those that died
-pub record AnswersSweep (old : Job) (counts : List ℕ) (given : Answer) (dead : List ℕ) (new : Job)
-    : Type 0 where
+pub record AnswersSweep (old : Job) (counts : List ℕ) (given : Plain) (dead : List ℕ) (new : Job) : Type 0 where
   pub answer : Answers old (Sweep counts) given new
   pub dead_are : (w : ℕ) → has_number dead w ≡ died_in old counts given w
 

@@ -1,3 +1,6 @@
+ghost use Rattle.std.specs.Prelude.{◌≡◌};
+ghost use Rattle.master_state.specs.Jobs.{plain};
+
 use node_ids::{AttemptNo, PartNo, WorkerNo, WorkerSet};
 use price_certificate::Condition;
 use std::sync::Arc;
@@ -29,18 +32,24 @@ pub enum Why {
     Barred = 13,
 }
 
-/// The answer to a call: its place in the history, from 1, or why it was ignored.
-#[derive(Clone, Copy, Debug, PartialEq, Eq)]
-pub enum Answer {
-    Accepted(u32),
-    Ignored(Why),
+/// The answer to a call: its place in the history, from 1, and what it tells beside; or why it was ignored, and
+/// what comes back of what it was handed.
+#[derive(Clone, Copy, Debug, PartialEq, Eq, Drop)]
+pub enum Answer<T = (), B = ()> {
+    Accepted(u32, T),
+    Ignored(Why, B),
 }
 
-/// The answer to a call that was handed a value, which comes back where the call was ignored.
-#[derive(Drop)]
-pub enum AnswerWith<R: Drop> {
-    Accepted(u32),
-    Ignored(Why, R),
+impl<T, B> Answer<T, B> {
+    /// The answer with nothing beside its place or its reason.
+    pub fn plain(&self) -> Answer
+        ensures { result ≡ plain self.now }
+    {
+        match self {
+            Answer::Accepted(place, _) => Answer::Accepted(*place, ()),
+            Answer::Ignored(why, _) => Answer::Ignored(*why, ()),
+        }
+    }
 }
 
 /// The answer to a sweep, and who died.
@@ -57,20 +66,6 @@ pub struct Reply {
     pub part: PartNo,
     pub worker: WorkerNo,
     pub runs: Vec<Arc<Run>>,
-}
-
-/// The answer to a reduce start.
-#[derive(Drop)]
-pub enum ReduceAnswer {
-    Accepted(u32, Reply),
-    Ignored(Why),
-}
-
-/// The answer to a backup: its place, and the attempt that was started.
-#[derive(Clone, Copy, Debug, PartialEq, Eq)]
-pub enum BackupAnswer {
-    Accepted(u32, AttemptNo),
-    Ignored(Why),
 }
 
 /// A wave that was committed.

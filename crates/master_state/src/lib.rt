@@ -11,8 +11,6 @@ pub mod events;
 pub mod laws;
 pub mod states;
 
-pub use answers::{
-    Answer, AnswerWith, BackupAnswer, CommitError, Glance, ReduceAnswer, Reply, Swept, Wave, Why,
-};
+pub use answers::{Answer, CommitError, Glance, Reply, Swept, Wave, Why};
 pub use events::Event;
 pub use states::{Attempt, Limits, PartState, SplitState, Start, Work};

@@ -42,7 +42,7 @@ fn sweep_by_either<L: Ledger, R: Wait + Abort>(
     let second = make_hand(rt, alloc, shared);
     let mut hand = first.or(second).expect(rt, "neither was made");
     let told = shared.sweep(rt, &mut hand, &[1; 256]).answer;
-    assert_eq!(rt; told, Answer::Accepted(1));
+    assert_eq!(rt; told, Answer::Accepted(1, ()));
     list_of(alloc, hand)
 }
 
@@ -121,7 +121,10 @@ fn a_refused_wave_changes_nothing(rt: HostRuntime) {
 fn add_holder<L: Ledger, R: Wait + Abort>(rt: &R, shared: &SharedMaster<L>, hand: &mut Hand<L>) {
     let (split, worker) = (SplitNo::new(1), WorkerNo::new(0));
     assert!(rt; split.index() < shared.sizes().splits && worker.index() < shared.sizes().workers);
-    assert_eq!(rt; shared.add(rt, hand, split, worker), Answer::Accepted(2));
+    assert_eq!(rt;
+        shared.add(rt, hand, split, worker),
+        Answer::Accepted(2, ())
+    );
 }
 
 // The calls of a hand until an allocation is refused.

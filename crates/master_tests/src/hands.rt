@@ -26,8 +26,8 @@ fn sweep_place<L: Ledger, R: Wait>(
     count: u64,
 ) -> Option<u32> {
     match shared.sweep(rt, hand, &[count; 256]).answer {
-        Answer::Accepted(place) => Some(place),
-        Answer::Ignored(_) => None,
+        Answer::Accepted(place, ()) => Some(place),
+        Answer::Ignored(_, ()) => None,
     }
 }
 
@@ -71,7 +71,7 @@ fn call_in_two_threads<L: Ledger + Send + Sync, R: Threads + Wait + Abort + Sync
 }
 
 fn is_full<L: Ledger, R: Wait>(rt: &R, shared: &SharedMaster<L>, hand: &mut Hand<L>) -> bool {
-    shared.sweep(rt, hand, &[0; 256]).answer == Answer::Ignored(Why::HistoryFull)
+    shared.sweep(rt, hand, &[0; 256]).answer == Answer::Ignored(Why::HistoryFull, ())
 }
 
 fn is_full_for_both<L: Ledger, R: Wait>(

@@ -1,6 +1,6 @@
 use crate::jobs::{
-    AMPLE, Call, Job, Shape, answer_of, answers, commit, end, last_glance, make_shaped, planned,
-    played, text_of,
+    AMPLE, Call, Job, Shape, answers, commit, end, last_glance, make_shaped, planned, played,
+    text_of,
 };
 use crate::seen::seen;
 use block_map::CopyOrder;
@@ -30,17 +30,17 @@ fn a_death_and_the_rest_of_the_job(rt: HostRuntime) {
         &ONE_SPLIT,
         AMPLE,
         &[
-            (Call::Wave, Answer::Accepted(1)),
-            (Call::Done(1), Answer::Accepted(2)),
-            (Call::Add(0, 1), Answer::Accepted(3)),
-            (Call::Die(0), Answer::Accepted(4)),
-            (Call::Wave, Answer::Accepted(5)),
-            (Call::Done(2), Answer::Accepted(6)),
-            (Call::Reduce, Answer::Accepted(7)),
-            (Call::Reduce, Answer::Ignored(Why::NotReady)),
-            (Call::Done(3), Answer::Accepted(8)),
-            (Call::Reduce, Answer::Accepted(9)),
-            (Call::Done(4), Answer::Accepted(10)),
+            (Call::Wave, Answer::Accepted(1, ())),
+            (Call::Done(1), Answer::Accepted(2, ())),
+            (Call::Add(0, 1), Answer::Accepted(3, ())),
+            (Call::Die(0), Answer::Accepted(4, ())),
+            (Call::Wave, Answer::Accepted(5, ())),
+            (Call::Done(2), Answer::Accepted(6, ())),
+            (Call::Reduce, Answer::Accepted(7, ())),
+            (Call::Reduce, Answer::Ignored(Why::NotReady, ())),
+            (Call::Done(3), Answer::Accepted(8, ())),
+            (Call::Reduce, Answer::Accepted(9, ())),
+            (Call::Done(4), Answer::Accepted(10, ())),
         ],
     );
     let (glance, results) = last_glance(job);
@@ -69,22 +69,22 @@ fn a_sweep_takes_two_of_three(rt: HostRuntime) {
         &THREE_WORKERS,
         AMPLE,
         &[
-            (Call::Wave, Answer::Accepted(1)),
-            (Call::Add(0, 2), Answer::Accepted(2)),
-            (Call::Done(2), Answer::Accepted(3)),
-            (Call::Sweep(1), Answer::Accepted(4)),
-            (Call::Sweep(1), Answer::Accepted(5)),
-            (Call::Sweep(1), Answer::Accepted(6)),
-            (Call::Backup(0, 2), Answer::Accepted(7)),
-            (Call::Die(0), Answer::Accepted(8)),
-            (Call::Join(0, Some(1)), Answer::Accepted(9)),
-            (Call::Sweep(1), Answer::Accepted(10)),
-            (Call::Done(3), Answer::Ignored(Why::OldAttempt)),
-            (Call::Lose(0, 2), Answer::Ignored(Why::NotHolder)),
-            (Call::Lose(1, 1), Answer::Ignored(Why::NotHolder)),
-            (Call::Die(2), Answer::Ignored(Why::DeadWorker)),
-            (Call::Wave, Answer::Accepted(11)),
-            (Call::Done(4), Answer::Accepted(12)),
+            (Call::Wave, Answer::Accepted(1, ())),
+            (Call::Add(0, 2), Answer::Accepted(2, ())),
+            (Call::Done(2), Answer::Accepted(3, ())),
+            (Call::Sweep(1), Answer::Accepted(4, ())),
+            (Call::Sweep(1), Answer::Accepted(5, ())),
+            (Call::Sweep(1), Answer::Accepted(6, ())),
+            (Call::Backup(0, 2), Answer::Accepted(7, ())),
+            (Call::Die(0), Answer::Accepted(8, ())),
+            (Call::Join(0, Some(1)), Answer::Accepted(9, ())),
+            (Call::Sweep(1), Answer::Accepted(10, ())),
+            (Call::Done(3), Answer::Ignored(Why::OldAttempt, ())),
+            (Call::Lose(0, 2), Answer::Ignored(Why::NotHolder, ())),
+            (Call::Lose(1, 1), Answer::Ignored(Why::NotHolder, ())),
+            (Call::Die(2), Answer::Ignored(Why::DeadWorker, ())),
+            (Call::Wave, Answer::Accepted(11, ())),
+            (Call::Done(4), Answer::Accepted(12, ())),
         ],
     );
     let (glance, _) = last_glance(job);
@@ -125,9 +125,9 @@ fn a_full_history_is_told(rt: HostRuntime) {
         alloc,
         &mut job,
         &[
-            (Call::Sweep(1), Answer::Ignored(Why::HistoryFull)),
-            (Call::Add(0, 1), Answer::Accepted(1)),
-            (Call::Lose(0, 1), Answer::Ignored(Why::HistoryFull)),
+            (Call::Sweep(1), Answer::Ignored(Why::HistoryFull, ())),
+            (Call::Add(0, 1), Answer::Accepted(1, ())),
+            (Call::Lose(0, 1), Answer::Ignored(Why::HistoryFull, ())),
         ],
     );
     end(job);
@@ -144,12 +144,17 @@ const TWO_SPLITS: Shape<'static> = Shape {
 // Split 0 runs on worker 0, which holds split 1 too, whose best start is a plan of before split 0 was done.
 fn with_an_old_plan(rt: &impl Abort, alloc: Global) -> (Job, Planned) {
     let before = [
-        (Call::Wave, Answer::Accepted(1)),
-        (Call::Add(1, 0), Answer::Accepted(2)),
+        (Call::Wave, Answer::Accepted(1, ())),
+        (Call::Add(1, 0), Answer::Accepted(2, ())),
     ];
     let mut job = played(rt, alloc, &TWO_SPLITS, AMPLE, &before);
     let old = planned(alloc, &job).expect(rt, "no plan");
-    answers(rt, alloc, &mut job, &[(Call::Done(1), Answer::Accepted(3))]);
+    answers(
+        rt,
+        alloc,
+        &mut job,
+        &[(Call::Done(1), Answer::Accepted(3, ()))],
+    );
     (job, old)
 }
 
@@ -243,9 +248,9 @@ fn a_copy_and_a_failure(rt: HostRuntime) {
     let mut job = make_shaped(&rt, alloc, &FAR, AMPLE).expect(&rt, "no master");
     assert_order(&rt, alloc, &job.master);
     let rows = [
-        (Call::Wave, Answer::Accepted(1)),
-        (Call::Fail(1), Answer::Accepted(2)),
-        (Call::Wave, Answer::Accepted(3)),
+        (Call::Wave, Answer::Accepted(1, ())),
+        (Call::Fail(1), Answer::Accepted(2, ())),
+        (Call::Wave, Answer::Accepted(3, ())),
     ];
     answers(&rt, alloc, &mut job, &rows);
     assert_second_wave(&rt, &job.master);
@@ -261,9 +266,9 @@ fn made_of(alloc: Global, words: &str) -> Option<MapResult> {
 // Hands in what is made of another text, and then of the attempt's own.
 fn hand_in_both(rt: &impl Abort, alloc: Global, job: &mut Job) {
     let made = made_of(alloc, "onf").expect(rt, "no result");
-    let told = answer_of(job.master.map_done(AttemptNo::new(1), made));
-    assert_eq!(rt; told, Answer::Ignored(Why::WrongInput));
-    answers(rt, alloc, job, &[(Call::Done(1), Answer::Accepted(2))]);
+    let told = job.master.map_done(AttemptNo::new(1), made).plain();
+    assert_eq!(rt; told, Answer::Ignored(Why::WrongInput, ()));
+    answers(rt, alloc, job, &[(Call::Done(1), Answer::Accepted(2, ()))]);
 }
 
 fn is_done(rt: &impl Abort, master: &Master, split: SplitNo) -> bool {
@@ -273,7 +278,7 @@ fn is_done(rt: &impl Abort, master: &Master, split: SplitNo) -> bool {
 
 #[test]
 fn a_result_of_another_text_comes_back(rt: HostRuntime) {
-    let wave = [(Call::Wave, Answer::Accepted(1))];
+    let wave = [(Call::Wave, Answer::Accepted(1, ()))];
     let mut job = played(&rt, rt.alloc(), &ONE_SPLIT, AMPLE, &wave);
     hand_in_both(&rt, rt.alloc(), &mut job);
     assert!(rt; is_done(&rt, &job.master, SplitNo::new(0)));

@@ -4,9 +4,7 @@ ghost use Rattle.std.specs.List.{range_with_len};
 ghost use Rattle.shuffle_reduce.specs.Gather.{values_of};
 
 use master_core::{Cluster, ClusterError, Master};
-use master_state::{
-    Answer, AnswerWith, BackupAnswer, CommitError, Glance, Limits, ReduceAnswer, Wave, Why, Work,
-};
+use master_state::{Answer, CommitError, Glance, Limits, Wave, Why, Work};
 use node_ids::{AttemptNo, CentreNo, DocNo, PartNo, SplitNo, SplitSet, WorkerNo};
 use price_certificate::Condition;
 use rack_tree::{RackTree, TreeError};
@@ -257,7 +255,7 @@ pub fn commit(
 fn wave(rt: &impl Abort, alloc: Global, job: &mut Job) -> Option<Answer> {
     let planned = planned(alloc, job)?;
     match commit(rt, alloc, job, &planned) {
-        Ok(wave) => Some(Answer::Accepted(wave.place)),
+        Ok(wave) => Some(Answer::Accepted(wave.place, ())),
         Err(CommitError::Stale(condition)) => no_answer(condition),
         Err(_) => None,
     }
@@ -286,7 +284,7 @@ fn done_split(
     assert!(rt; split.index() < job.master.texts().len());
     let text = Arc::try_clone(&job.master.texts()[split.index()]).ok()?;
     let made = map_split(alloc, text, job.master.cluster().parts()).ok()?;
-    Some(answer_of(job.master.map_done(attempt, made)))
+    Some(job.master.map_done(attempt, made).plain())
 }
 
 fn done_part(
@@ -299,31 +297,23 @@ fn done_part(
     let parts = job.master.cluster().parts();
     assert!(rt; part.index() < parts && are_of_part(job.runs.as_slice(), part, parts));
     let made = merge(alloc, parts, part, job.runs.as_slice()).ok()?;
-    Some(answer_of(job.master.part_done(attempt, made)))
-}
-
-/// Whether a result was accepted, without the result.
-pub fn answer_of<R: Drop>(answer: AnswerWith<R>) -> Answer {
-    match answer {
-        AnswerWith::Accepted(place) => Answer::Accepted(place),
-        AnswerWith::Ignored(why, _) => Answer::Ignored(why),
-    }
+    Some(job.master.part_done(attempt, made).plain())
 }
 
 fn fail(job: &mut Job, attempt: AttemptNo) -> Answer {
     match job.master.map_failed(attempt) {
-        Answer::Ignored(Why::OldAttempt) => job.master.part_failed(attempt),
+        Answer::Ignored(Why::OldAttempt, ()) => job.master.part_failed(attempt),
         answer => answer,
     }
 }
 
 fn reduce(alloc: Global, job: &mut Job) -> Answer {
     match job.master.reduce_start(alloc) {
-        ReduceAnswer::Accepted(place, reply) => {
+        Answer::Accepted(place, reply) => {
             job.runs = reply.runs;
-            Answer::Accepted(place)
+            Answer::Accepted(place, ())
         }
-        ReduceAnswer::Ignored(why) => Answer::Ignored(why),
+        Answer::Ignored(why, ()) => Answer::Ignored(why, ()),
     }
 }
 
@@ -349,9 +339,6 @@ fn of_pair(rt: &impl Abort, job: &mut Job, call: Call, split: SplitNo, worker: W
     match call {
         Call::Add(_, _) => job.master.add(split, worker),
         Call::Lose(_, _) => job.master.lose(split, worker),
-        _ => match job.master.backup(split, worker) {
-            BackupAnswer::Accepted(place, _) => Answer::Accepted(place),
-            BackupAnswer::Ignored(why) => Answer::Ignored(why),
-        },
+        _ => job.master.backup(split, worker).plain(),
     }
 }

@@ -4,7 +4,7 @@ ghost use Rattle.std.specs.Prelude.{◌≡◌};
 use crate::jobs::{AMPLE, Call, Row, Shape, SplitRow, answers, last_glance, played};
 use crate::shared_masters;
 use crate::shared_masters::{hand_of, join, list_of, made_of, settles, share, wave_of};
-use master_state::{Answer, AnswerWith, Why};
+use master_state::{Answer, Why};
 use node_ids::{AttemptNo, SplitNo, SplitSet, WorkerNo};
 use shared_master::{Hand, SharedMaster};
 use std::alloc::Global;
@@ -16,50 +16,50 @@ use std::sync::ledger::{Blank, Ledger};
 // Two workers with a slot each, of which the first holds the one split.
 const ONE_SPLIT: [SplitRow<'static>; 1] = [(5, &[0], "one")];
 
-const OLD: Answer = Answer::Ignored(Why::OldAttempt);
+const OLD: Answer = Answer::Ignored(Why::OldAttempt, ());
 
 // Attempts of the split that are done, lost, failed and withdrawn. Worker 0 comes back with the split, on
 // which it fails, and worker 1 without it.
 const LATE: [Row; 21] = [
-    (Call::Wave, Answer::Accepted(1)),
-    (Call::Done(1), Answer::Accepted(2)),
+    (Call::Wave, Answer::Accepted(1, ())),
+    (Call::Done(1), Answer::Accepted(2, ())),
     (Call::Done(1), OLD),
-    (Call::Die(0), Answer::Accepted(3)),
+    (Call::Die(0), Answer::Accepted(3, ())),
     (Call::Done(1), OLD),
-    (Call::Join(0, Some(0)), Answer::Accepted(4)),
+    (Call::Join(0, Some(0)), Answer::Accepted(4, ())),
     (Call::Done(1), OLD),
-    (Call::Wave, Answer::Accepted(5)),
-    (Call::Fail(2), Answer::Accepted(6)),
+    (Call::Wave, Answer::Accepted(5, ())),
+    (Call::Fail(2), Answer::Accepted(6, ())),
     (Call::Done(2), OLD),
-    (Call::Wave, Answer::Accepted(7)),
-    (Call::Withdraw(3), Answer::Accepted(8)),
+    (Call::Wave, Answer::Accepted(7, ())),
+    (Call::Withdraw(3), Answer::Accepted(8, ())),
     (Call::Done(3), OLD),
-    (Call::Wave, Answer::Accepted(9)),
-    (Call::Die(1), Answer::Accepted(10)),
+    (Call::Wave, Answer::Accepted(9, ())),
+    (Call::Die(1), Answer::Accepted(10, ())),
     (Call::Done(4), OLD),
-    (Call::Join(1, None), Answer::Accepted(11)),
+    (Call::Join(1, None), Answer::Accepted(11, ())),
     (Call::Done(4), OLD),
-    (Call::Wave, Answer::Accepted(12)),
-    (Call::Done(5), Answer::Accepted(13)),
+    (Call::Wave, Answer::Accepted(12, ())),
+    (Call::Done(5), Answer::Accepted(13, ())),
     (Call::Done(4), OLD),
 ];
 
 // The same of attempts of the parts, once the split is done on worker 1.
 const LATE_PARTS: [Row; 14] = [
-    (Call::Reduce, Answer::Accepted(14)),
-    (Call::Done(6), Answer::Accepted(15)),
+    (Call::Reduce, Answer::Accepted(14, ())),
+    (Call::Done(6), Answer::Accepted(15, ())),
     (Call::Done(6), OLD),
-    (Call::Reduce, Answer::Accepted(16)),
-    (Call::Withdraw(7), Answer::Accepted(17)),
+    (Call::Reduce, Answer::Accepted(16, ())),
+    (Call::Withdraw(7), Answer::Accepted(17, ())),
     (Call::Done(7), OLD),
-    (Call::Reduce, Answer::Accepted(18)),
-    (Call::Fail(8), Answer::Accepted(19)),
+    (Call::Reduce, Answer::Accepted(18, ())),
+    (Call::Fail(8), Answer::Accepted(19, ())),
     (Call::Done(8), OLD),
-    (Call::Reduce, Answer::Accepted(20)),
-    (Call::Die(0), Answer::Accepted(21)),
+    (Call::Reduce, Answer::Accepted(20, ())),
+    (Call::Die(0), Answer::Accepted(21, ())),
     (Call::Done(9), OLD),
-    (Call::Reduce, Answer::Accepted(22)),
-    (Call::Done(10), Answer::Accepted(23)),
+    (Call::Reduce, Answer::Accepted(22, ())),
+    (Call::Done(10), Answer::Accepted(23, ())),
 ];
 
 #[test]
@@ -86,11 +86,11 @@ fn hand_in<L: Ledger, R: Wait + Abort>(
 ) -> (Answer, bool) {
     let made = made_of(rt, alloc, SplitNo::new(0), words);
     match shared.map_done(rt, hand, AttemptNo::new(attempt), made) {
-        AnswerWith::Accepted(place) => (Answer::Accepted(place), false),
-        AnswerWith::Ignored(why, back) => {
+        Answer::Accepted(place, ()) => (Answer::Accepted(place, ()), false),
+        Answer::Ignored(why, back) => {
             let again = made_of(rt, alloc, SplitNo::new(0), words);
             let is_same = back.text().is_same(again.text());
-            (Answer::Ignored(why), is_same)
+            (Answer::Ignored(why, ()), is_same)
         }
     }
 }
@@ -115,6 +115,7 @@ fn answer_by_hand<L: Ledger, R: Wait + Abort>(
     match call {
         Call::Wave => Answer::Accepted(
             wave_of(rt, alloc, shared, hand).expect(rt, "no wave").place,
+            (),
         ),
         Call::Done(attempt) => hand_in(rt, alloc, shared, hand, attempt, "one").0,
         Call::Fail(attempt) => shared.map_failed(rt, hand, AttemptNo::new(attempt)),
@@ -152,8 +153,8 @@ fn lie_by_hand<L: Ledger, R: Wait + Abort>(
     assert!(rt; wave_of(rt, alloc, shared, hand).is_some());
     let lie = hand_in(rt, alloc, shared, hand, 1, "onf");
     let truth = hand_in(rt, alloc, shared, hand, 1, "one");
-    let wrong = Answer::Ignored(Why::WrongInput);
-    assert_eq!(rt; (lie, truth.0), ((wrong, true), Answer::Accepted(2)));
+    let wrong = Answer::Ignored(Why::WrongInput, ());
+    assert_eq!(rt; (lie, truth.0), ((wrong, true), Answer::Accepted(2, ())));
 }
 
 // Both are calls of a hand, which settles alone.

@@ -30,10 +30,10 @@ fn call_of_workers<L: Ledger, R: Wait + Abort>(
         join(rt, shared, hand, b, &SplitSet::new()),
     ];
     let wanted = [
-        Answer::Accepted(1),
-        Answer::Accepted(2),
-        Answer::Accepted(3),
-        Answer::Accepted(4),
+        Answer::Accepted(1, ()),
+        Answer::Accepted(2, ()),
+        Answer::Accepted(3, ()),
+        Answer::Accepted(4, ()),
     ];
     assert_eq!(rt; told, wanted);
 }
@@ -46,14 +46,14 @@ fn call_of_attempts<L: Ledger, R: Wait + Abort>(
     hand: &mut Hand<L>,
 ) {
     let one = AttemptNo::new(1);
-    let old = Answer::Ignored(Why::OldAttempt);
+    let old = Answer::Ignored(Why::OldAttempt, ());
     assert!(rt; wave_of(rt, alloc, shared, hand).is_some());
     let told = [
         shared.withdraw(rt, hand, one),
         shared.map_failed(rt, hand, one),
         shared.part_failed(rt, hand, one),
     ];
-    let wanted = [Answer::Accepted(6), old, old];
+    let wanted = [Answer::Accepted(6, ()), old, old];
     let last = (Some(Event::Withdraw(one)), 6);
     assert_eq!(rt;
         (told, hand.last(), hand.last_place()),

@@ -3,7 +3,7 @@ use crate::jobs;
 use crate::jobs::{AMPLE, Call, Job, Shape, answer, end, make_cluster, make_master, planned};
 use crate::seen::{Shown, seen};
 use master_core::{ClusterError, Master};
-use master_state::{CommitError, ReduceAnswer, Why};
+use master_state::{Answer, CommitError, Why};
 use std::alloc::Global;
 use std::process::Abort;
 
@@ -110,11 +110,11 @@ fn a_refused_commit_of_an_old_plan_changes_nothing(rt: HostRuntime) {
 fn reduce(rt: &impl Abort, alloc: Global, job: &mut Job) -> Option<u32> {
     let before = seen(alloc, &job.master).ok();
     match job.master.reduce_start(alloc) {
-        ReduceAnswer::Accepted(place, reply) => {
+        Answer::Accepted(place, reply) => {
             assert_eq!(rt; reply.runs.len(), 1);
             Some(place)
         }
-        ReduceAnswer::Ignored(why) => {
+        Answer::Ignored(why, ()) => {
             assert_eq!(rt; why, Why::Memory);
             is_as_before(rt, alloc, &job.master, before);
             None

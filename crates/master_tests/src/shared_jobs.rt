@@ -3,7 +3,7 @@ ghost use Rattle.std.specs.Prelude.{◌≡◌};
 use crate::jobs::SplitRow;
 use crate::shared_masters::{AMPLE, hand_of, list_of, made_of, settled, share, wave_of};
 use master_core::Master;
-use master_state::{AnswerWith, BackupAnswer, Event, ReduceAnswer, Reply, Why};
+use master_state::{Answer, Event, Reply, Why};
 use node_ids::{AttemptNo, SplitNo, WorkerNo};
 use shared_master::{Hand, SharedMaster};
 use shuffle_reduce::{PartResult, are_of_part, merge};
@@ -28,10 +28,7 @@ fn start_twice<L: Ledger, R: Wait + Abort>(
     let wave = wave_of(rt, alloc, shared, hand).expect(rt, "no wave");
     assert!(rt; b.index() < shared.sizes().workers && s.index() < shared.sizes().splits);
     let answer = shared.backup(rt, hand, s, b);
-    let backup = (
-        BackupAnswer::Accepted(2, two),
-        Some(Event::Backup(two, s, b)),
-    );
+    let backup = (Answer::Accepted(2, two), Some(Event::Backup(two, s, b)));
     assert_eq!(rt;
         (wave.place, wave.count, answer, hand.last()),
         (1, 1, backup.0, backup.1)
@@ -39,10 +36,10 @@ fn start_twice<L: Ledger, R: Wait + Abort>(
 }
 
 // What a result is answered, which does not come back.
-fn place_of(answer: AnswerWith<MapResult>) -> Result<u32, Why> {
+fn place_of(answer: Answer<(), MapResult>) -> Result<u32, Why> {
     match answer {
-        AnswerWith::Accepted(place) => Ok(place),
-        AnswerWith::Ignored(why, _) => Err(why),
+        Answer::Accepted(place, ()) => Ok(place),
+        Answer::Ignored(why, _) => Err(why),
     }
 }
 
@@ -53,13 +50,13 @@ pub fn reduce_one<L: Ledger, R: Wait + Abort>(
     shared: &SharedMaster<L>,
     hand: &mut Hand<L>,
 ) -> Option<u32> {
-    let ReduceAnswer::Accepted(_, reply) = shared.reduce_start(rt, alloc, hand) else {
+    let Answer::Accepted(_, reply) = shared.reduce_start(rt, alloc, hand) else {
         return None;
     };
     let made = made_of_part(rt, alloc, &reply);
     match shared.part_done(rt, hand, reply.attempt, made) {
-        AnswerWith::Accepted(place) => Some(place),
-        AnswerWith::Ignored(_, _) => None,
+        Answer::Accepted(place, ()) => Some(place),
+        Answer::Ignored(_, _) => None,
     }
 }
 

@@ -2,7 +2,7 @@ ghost use Rattle.std.specs.Prelude.{◌≡◌};
 
 use crate::jobs::SplitRow;
 use crate::shared_masters::{AMPLE, hand_of, list_of_both, made_of, settles, share, wave_of};
-use master_state::{Answer, AnswerWith, Start, Wave, Work};
+use master_state::{Answer, Start, Wave, Work};
 use node_ids::{AttemptNo, SplitNo, WorkerNo};
 use shared_master::{Between, Hand, SharedMaster, SharedWave};
 use std::alloc::Global;
@@ -57,11 +57,7 @@ fn put<R: Wait>(rt: &R, number: &Mutex<u32>, value: u32) {
 }
 
 fn is_accepted(answer: Answer) -> bool {
-    matches!(answer, Answer::Accepted(_))
-}
-
-fn is_taken(answer: AnswerWith<MapResult>) -> bool {
-    matches!(answer, AnswerWith::Accepted(_))
+    matches!(answer, Answer::Accepted(_, ()))
 }
 
 // Worker a gets split s, or loses it. Whether it was accepted.
@@ -106,7 +102,7 @@ fn call_in_turns<L: Ledger, R: Wait + Abort>(
     made: MapResult,
 ) -> bool {
     let is_first = is_reached(rt, &meeting.solved, 1);
-    let is_done = is_taken(shared.map_done(rt, hand, AttemptNo::new(1), made));
+    let is_done = is_accepted(shared.map_done(rt, hand, AttemptNo::new(1), made).plain());
     let is_changed = turns != 3 || change_twice(rt, shared, hand, meeting);
     put(rt, &meeting.called, 4);
     is_first & is_done & is_changed

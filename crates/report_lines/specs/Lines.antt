@@ -43,9 +43,9 @@ accepted_line place = codes "accepted " ++ decimal place ++ 10 ∷ []
 abbrev pub ignored_line : Why → List ℕ
 ignored_line why = codes "ignored " ++ decimal (number_of_reason why) ++ 10 ∷ []
 
-abbrev pub answer_line : Answer → List ℕ
-answer_line (answer.Accepted place) = accepted_line place
-answer_line (answer.Ignored why) = ignored_line why
+abbrev pub answer_line : {T B : Type 0} → Answer T B → List ℕ
+answer_line (answer.Accepted place told) = accepted_line place
+answer_line (answer.Ignored why back) = ignored_line why
 
 -- ---- what follows the line of an accepted call; workers, splits and documents stand by their names
 

@@ -16,8 +16,8 @@ pub fn add_answer(lines: &mut String, answer: Answer) -> Result<(), AllocError>
     ensures { OnOk result (string_bytes lines.new ≡ string_bytes lines.old ++ answer_line answer) }
 {
     match answer {
-        Answer::Accepted(place) => add_accepted(lines, place),
-        Answer::Ignored(why) => add_ignored(lines, why),
+        Answer::Accepted(place, ()) => add_accepted(lines, place),
+        Answer::Ignored(why, ()) => add_ignored(lines, why),
     }
 }
 

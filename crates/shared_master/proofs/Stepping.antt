@@ -4,12 +4,6 @@ use Rattle.std.proofs.Common.{List, [], ◌∷◌, length, Some, All, sym, ap, s
 use Rattle.std.proofs.lemmas.Option.{slice_get_within}
 use Rattle.master_state.specs.declared.answers.Answer.{Answer}
 use Rattle.master_state.specs.declared.answers.Answer.TheVariants.{Accepted, Ignored}
-use Rattle.master_state.specs.declared.answers.AnswerWith.{AnswerWith}
-use Rattle.master_state.specs.declared.answers.AnswerWith.TheVariants as handed
-use Rattle.master_state.specs.declared.answers.BackupAnswer.{BackupAnswer}
-use Rattle.master_state.specs.declared.answers.BackupAnswer.TheVariants as backup
-use Rattle.master_state.specs.declared.answers.ReduceAnswer.{ReduceAnswer}
-use Rattle.master_state.specs.declared.answers.ReduceAnswer.TheVariants as reduced
 use Rattle.master_state.specs.declared.answers.Reply.{Reply}
 use Rattle.master_state.specs.declared.events.Event.{Event}
 use Rattle.master_state.specs.declared.events.Event.TheVariants as events
@@ -18,8 +12,8 @@ use Rattle.master_state.specs.declared.states.Work.TheVariants as works
 use Rattle.master_state.specs.States.{State}
 use Rattle.master_state.specs.Tests.{next_part, next_worker}
 use Rattle.master_state.specs.Tidy.{IsStartOf}
-use Rattle.master_state.specs.Jobs.{Job, Answers, AnswersBackup, AnswersReduce, AnswersWith}
-use Rattle.master_state.specs.Jobs.{IsAccepted, IsKept, event_of}
+use Rattle.master_state.specs.Jobs.{Job, Answers, AnswersReduce, IsAccepted, IsKept, Plain, TellsNext}
+use Rattle.master_state.specs.Jobs.{event_of}
 use Rattle.master_state.specs.Refusals.{Call, Backup, ReduceStart}
 use Rattle.master_state.proofs.Lists.{All-right, slice_get-push}
 use Rattle.hand_ledger.specs.Hands.{HandValue, Kept, kept, last_place}
@@ -27,38 +21,25 @@ use Rattle.hand_ledger.specs.Settling.{LastStands, event_at}
 use Rattle.shared_master.specs.declared.calls.PlainCall.{PlainCall}
 use Rattle.shared_master.specs.declared.calls.PlainCall.TheVariants as plain
 use Rattle.shared_master.specs.declared.sizes.Sizes.{Sizes}
-use Rattle.shared_master.specs.Steps.{answered, IsAt, IsBarrier, IsBehind, IsHandedBack, IsKeptAs}
+use Rattle.shared_master.specs.Steps.{answered, IsAt, IsBarrier, IsBehind, IsKeptAs}
 use Rattle.shared_master.specs.Steps.{IsKeptBackup, IsKeptReduce, IsNextOf, IsReplyOf}
-use Rattle.shared_master.specs.Steps.{IsReduceStep, IsStep, NamesNext, Replies, plain_backup, plain_reduce}
-use Rattle.shared_master.specs.Steps.{call_of, plain_event, plain_with}
+use Rattle.shared_master.specs.Steps.{IsReduceStep, IsStep, Replies, call_of, plain_event}
 
 -- the call was accepted, or the master is unchanged
-abbrev pub Takes : Job → Call → Answer → Job → Type 0
-Takes old call (Accepted place) new = IsAccepted old call place new
-Takes old call (Ignored why) new = new ≡ old
+abbrev pub Takes : {T B : Type 0} → Job → Call → Answer T B → Job → Type 0
+Takes old call (Accepted place told) new = IsAccepted old call place new
+Takes old call (Ignored why back) new = new ≡ old
 
-pub takes : (old : Job) (call : Call) (given : Answer) (new : Job) → Answers old call given new →
-    Takes old call given new
-takes old call (Accepted place) new accepted = accepted
-takes old call (Ignored why) new ignored = ignored.same
+pub takes : {T B : Type 0} (old : Job) (call : Call) (given : Answer T B) (new : Job) →
+    Answers old call given new → Takes old call given new
+takes old call (Accepted place told) new accepted = accepted
+takes old call (Ignored why back) new ignored = ignored.same
 
--- an answer with more is that of a plain one
-pub answers_with : {R : Type 0} (old : Job) (call : Call) (made : R) (given : AnswerWith R) (new : Job) →
-    AnswersWith old call made given new → Answers old call (plain_with given) new × IsHandedBack made given
-answers_with old call made (handed.Accepted place) new accepted = (accepted, tt)
-answers_with old call made (handed.Ignored why back) new ignored = (ignored.1, ignored.0)
-
-pub answers_backup : (old : Job) (split w : ℕ) (given : BackupAnswer) (new : Job) →
-    AnswersBackup old split w given new →
-    Answers old (Backup split w) (plain_backup given) new × NamesNext old given
-answers_backup old split w (backup.Accepted place a) new accepted = (accepted.1, accepted.0)
-answers_backup old split w (backup.Ignored why) new ignored = (ignored, tt)
-
-pub takes_reduce : (old : Job) (given : ReduceAnswer) (new : Job) → AnswersReduce old given new →
-    Takes old ReduceStart (plain_reduce given) new
-takes_reduce old (reduced.Accepted place reply) new accepted = accepted.1
-takes_reduce old (reduced.Ignored why) new (inl ignored) = ignored.same
-takes_reduce old (reduced.Ignored why) new (inr memory) = memory.2
+pub takes_reduce : (old : Job) (given : Answer Reply (Unit {0})) (new : Job) →
+    AnswersReduce old given new → Takes old ReduceStart given new
+takes_reduce old (Accepted place reply) new accepted = accepted.1
+takes_reduce old (Ignored why back) new (inl ignored) = ignored.same
+takes_reduce old (Ignored why back) new (inr memory) = memory.2
 
 -- the last event of a history
 at_end : (history : List Event) (event : Event) →
@@ -67,44 +48,34 @@ at_end history event =
     let next : length history + 1 ≡ suc (length history) = omega arith in
     ap (event_at (history ++ event ∷ [])) next ∙ slice_get-push history event
 
-pub is_at : (old : Job) (call : Call) (given : Answer) (new : Job) → Takes old call given new →
-    IsAt new.history given (event_of old.state call)
-is_at old call (Accepted place) new accepted = grind (arith, at_end)
-is_at old call (Ignored why) new same = tt
-
--- what a hand keeps of an event that was read where the answer says is that of the call
-entered_is : (old : Job) (hand : HandValue) (call : Call) (given told : Answer) (new : Job)
-    (after : HandValue) → Takes old call given new → told ≡ given →
-    ((event : Event) → IsAt new.history told event → after ≡ answered hand event [] told) →
-    after ≡ answered hand (event_of old.state call) [] given
-entered_is old hand call given told new after took is entered = grind (arith, is_at)
+pub is_at : {T B : Type 0} (old : Job) (call : Call) (given : Answer T B) (new : Job) →
+    Takes old call given new → IsAt new.history given (event_of old.state call)
+is_at old call (Accepted place told) new accepted = grind (arith, at_end)
+is_at old call (Ignored why back) new same = tt
 
 -- a step that reached the master
-pub stepped : {sizes : Sizes} {inside old : Job} {hand : HandValue} {call : Call} {given told : Answer}
-    {new : Job} {after : HandValue} → inside ≡ old → IsBarrier sizes old hand 0 0 None →
-    Answers inside call given new → told ≡ given →
-    ((event : Event) → IsAt new.history told event → after ≡ answered hand event [] told) →
+pub stepped : {T B : Type 0} {sizes : Sizes} {inside old : Job} {hand : HandValue} {call : Call}
+    {given : Answer T B} {new : Job} {after : HandValue} → inside ≡ old →
+    IsBarrier sizes old hand 0 0 None → Answers inside call given new →
+    ((event : Event) → IsAt new.history given event → after ≡ answered hand event [] given) →
     IsStep sizes old hand call [] given new after
-stepped {old = old} {hand = hand} {call = call} {given = given} {told = told} {new = new} same barrier is
-    told_is entered =
+stepped {old = old} {call = call} {given = given} {new = new} same barrier is entered =
     let reached : Answers old call given new = subst (λ j. Answers j call given new) same is in
     record {
       answer = inr (barrier, reached);
-      hand_is = entered_is old hand call given told new _ (takes old call given new reached) told_is entered;
+      hand_is = entered _ (is_at old call given new (takes old call given new reached));
     }
 
-pub stepped_reduce : {sizes : Sizes} {inside old : Job} {hand : HandValue} {given : ReduceAnswer}
-    {told : Answer} {new : Job} {after : HandValue} → inside ≡ old → IsBarrier sizes old hand 0 0 None →
-    AnswersReduce inside given new → told ≡ plain_reduce given →
-    ((event : Event) → IsAt new.history told event → after ≡ answered hand event [] told) →
+pub stepped_reduce : {sizes : Sizes} {inside old : Job} {hand : HandValue} {given : Answer Reply (Unit {0})}
+    {new : Job} {after : HandValue} → inside ≡ old → IsBarrier sizes old hand 0 0 None →
+    AnswersReduce inside given new →
+    ((event : Event) → IsAt new.history given event → after ≡ answered hand event [] given) →
     IsReduceStep sizes old hand given new after
-stepped_reduce {old = old} {hand = hand} {given = given} {told = told} {new = new} same barrier is told_is
-    entered =
+stepped_reduce {old = old} {given = given} {new = new} same barrier is entered =
     let reached : AnswersReduce old given new = subst (λ j. AnswersReduce j given new) same is in
     record {
       answer = inr (barrier, reached);
-      hand_is = entered_is old hand ReduceStart (plain_reduce given) told new _
-          (takes_reduce old given new reached) told_is entered;
+      hand_is = entered _ (is_at old ReduceStart given new (takes_reduce old given new reached));
     }
 
 -- what the caller sees of it
@@ -120,24 +91,26 @@ last_within history (call ∷ []) stands = event_within history call.place call.
 last_within history (call ∷ next ∷ calls) stands = last_within history (next ∷ calls) stands
 
 -- an accepted call reached the master
-reached_of : {X : Type 0} (sizes : Sizes) (old : Job) (hand : HandValue) (n place : ℕ) (new : Job) →
-    IsBehind sizes old hand n (Accepted place) new X → IsBarrier sizes old hand n 0 None × X
-reached_of sizes old hand n place new (inl ignored) = absurd (cc ignored.2)
-reached_of sizes old hand n place new (inr reached) = reached
+reached_of : {T B X : Type 0} (sizes : Sizes) (old : Job) (hand : HandValue) (n place : ℕ) (told : T)
+    (new : Job) → IsBehind {B = B} sizes old hand n (Accepted place told) new X →
+    IsBarrier sizes old hand n 0 None × X
+reached_of sizes old hand n place told new (inl ignored) = absurd (cc ignored.3)
+reached_of sizes old hand n place told new (inr reached) = reached
 
 -- and is the next of its hand
-next_of : (sizes : Sizes) (old : Job) (hand : HandValue) (call : Call) (counts : List (List ℕ))
-    (given : Answer) (new : Job) →
+next_of : {T B : Type 0} (sizes : Sizes) (old : Job) (hand : HandValue) (call : Call)
+    (counts : List (List ℕ)) (given : Answer T B) (new : Job) →
     IsBehind sizes old hand (length counts) given new (Takes old call given new) → IsNextOf hand counts given
-next_of sizes old hand call counts (Accepted place) new is = grind (arith, reached_of, last_within)
-next_of sizes old hand call counts (Ignored why) new is = tt
+next_of sizes old hand call counts (Accepted place told) new is = grind (arith, reached_of, last_within)
+next_of sizes old hand call counts (Ignored why back) new is = tt
 
 mapped : {A B X Y : Type 0} → (X → Y) → A ⊎ (B × X) → A ⊎ (B × Y)
 mapped f (inl ignored) = inl ignored
 mapped f (inr reached) = inr (reached.0, f reached.1)
 
-pub kept_as : {sizes : Sizes} {old : Job} {hand : HandValue} {call : Call} {counts : List (List ℕ)}
-    {given : Answer} {new : Job} {after : HandValue} → IsStep sizes old hand call counts given new after →
+pub kept_as : {T B : Type 0} {sizes : Sizes} {old : Job} {hand : HandValue} {call : Call}
+    {counts : List (List ℕ)} {given : Answer T B} {new : Job} {after : HandValue} →
+    IsStep sizes old hand call counts given new after →
     IsKeptAs hand (event_of old.state call) counts given after
 kept_as {sizes = sizes} {old = old} {hand = hand} {call = call} {counts = counts} {given = given} {new = new}
     step = record {
@@ -145,40 +118,40 @@ kept_as {sizes = sizes} {old = old} {hand = hand} {call = call} {counts = counts
       next = next_of sizes old hand call counts given new (mapped (takes old call given new) step.answer);
     }
 
-pub kept_plain : (call : PlainCall) {sizes : Sizes} {old : Job} {hand : HandValue} {given : Answer}
+pub kept_plain : (call : PlainCall) {sizes : Sizes} {old : Job} {hand : HandValue} {given : Plain}
     {new : Job} {after : HandValue} → IsStep sizes old hand (call_of call) [] given new after →
     IsKeptAs hand (plain_event call) [] given after
 kept_plain (plain.Add split w) step = kept_as step
 kept_plain call step = kept_as step
 
-pub kept_backup : (given : BackupAnswer) {sizes : Sizes} {old : Job} {hand : HandValue} {split w : ℕ}
-    {new : Job} {after : HandValue} →
-    IsStep sizes old hand (Backup split w) [] (plain_backup given) new after → NamesNext old given →
-    IsKeptBackup hand split w given after
-kept_backup (backup.Accepted place a) {hand = hand} {split = split} {w = w} {after = after} step names =
-    subst (λ n. IsKeptAs hand (events.Backup n split w) [] (Accepted place) after) (sym names) (kept_as step)
-kept_backup (backup.Ignored why) step names = step.hand_is
+pub kept_backup : (given : Answer ℕ (Unit {0})) {sizes : Sizes} {old : Job} {hand : HandValue} {split w : ℕ}
+    {new : Job} {after : HandValue} → IsStep sizes old hand (Backup split w) [] given new after →
+    TellsNext old given → IsKeptBackup hand split w given after
+kept_backup (Accepted place a) {hand = hand} {split = split} {w = w} {after = after} step names =
+    subst (λ n. IsKeptAs {B = Unit {0}} hand (events.Backup n split w) [] (Accepted place a) after)
+    (sym names) (kept_as step)
+kept_backup (Ignored why back) step names = step.hand_is
 
-pub kept_reduce : (given : ReduceAnswer) {sizes : Sizes} {old : Job} {hand : HandValue} {new : Job}
-    {after : HandValue} → IsReduceStep sizes old hand given new after → IsKeptReduce hand given after
-kept_reduce (reduced.Accepted place reply) {sizes = sizes} {old = old} {hand = hand} {new = new}
-    {after = after} step =
-    let told = (reached_of sizes old hand 0 place new step.answer).1.0 in
+pub kept_reduce : (given : Answer Reply (Unit {0})) {sizes : Sizes} {old : Job} {hand : HandValue}
+    {new : Job} {after : HandValue} → IsReduceStep sizes old hand given new after →
+    IsKeptReduce hand given after
+kept_reduce (Accepted place reply) {sizes = sizes} {old = old} {hand = hand} {new = new} {after = after} step =
+    let told = (reached_of sizes old hand 0 place reply new step.answer).1.0 in
     let event : event_of old.state ReduceStart ≡ events.ReduceStart reply.attempt reply.part reply.worker =
     (λ k. events.ReduceStart (sym told.attempt k) (sym told.part k) (sym told.worker k)) in
-    subst (λ e. IsKeptAs hand e [] (Accepted place) after) event (record {
+    subst (λ e. IsKeptAs {B = Unit {0}} hand e [] (Accepted place reply) after) event (record {
       hand_is = step.hand_is;
-      next = next_of sizes old hand ReduceStart [] (Accepted place) new
-          (mapped (takes_reduce old (reduced.Accepted place reply) new) step.answer);
+      next = next_of sizes old hand ReduceStart [] (Accepted place reply) new
+          (mapped (takes_reduce old (Accepted place reply) new) step.answer);
     })
-kept_reduce (reduced.Ignored why) step = step.hand_is
+kept_reduce (Ignored why back) step = step.hand_is
 
 -- the reply of an accepted reduce start names a part and a worker of the master
 reply_of : (sizes : Sizes) (old : Job) (hand : HandValue) (place : ℕ) (reply : Reply) (new : Job) →
-    IsBehind sizes old hand 0 (Accepted place) new (AnswersReduce old (reduced.Accepted place reply) new) →
-    IsKept old → IsKept new → IsReplyOf sizes old reply
+    IsBehind {B = Unit {0}} sizes old hand 0 (Accepted place reply) new
+    (AnswersReduce old (Accepted place reply) new) → IsKept old → IsKept new → IsReplyOf sizes old reply
 reply_of sizes old hand place reply new is kept then =
-    let reached = reached_of sizes old hand 0 place new is in
+    let reached = reached_of sizes old hand 0 place reply new is in
     let told = reached.1.0 in
     let done = reached.1.1 in
     let start : Start = record { work = works.Part (next_part old.state); worker = next_worker old.state } in
@@ -190,9 +163,9 @@ reply_of sizes old hand place reply new is kept then =
     let part : next_part old.state < new.setup.cluster.parts = known.work in
     grind arith
 
-pub replies : (given : ReduceAnswer) {sizes : Sizes} {old : Job} {hand : HandValue} {new : Job}
+pub replies : (given : Answer Reply (Unit {0})) {sizes : Sizes} {old : Job} {hand : HandValue} {new : Job}
     {after : HandValue} → IsReduceStep sizes old hand given new after → IsKept old → IsKept new →
     Replies sizes given
-replies (reduced.Accepted place reply) {sizes = sizes} {old = old} {hand = hand} {new = new} step kept then =
+replies (Accepted place reply) {sizes = sizes} {old = old} {hand = hand} {new = new} step kept then =
     (old, reply_of sizes old hand place reply new step.answer kept then)
-replies (reduced.Ignored why) step kept then = tt
+replies (Ignored why back) step kept then = tt

@@ -3,20 +3,14 @@ use Rattle.std.specs.Prelude.{ℕ, ◌≡◌, ◌+◌, ◌<◌, ◌⊎◌, true,
 use Rattle.node_ids.specs.Sets.{Has, has_number}
 use Rattle.master_state.specs.declared.answers.Answer.{Answer}
 use Rattle.master_state.specs.declared.answers.Answer.TheVariants.{Accepted, Ignored}
-use Rattle.master_state.specs.declared.answers.AnswerWith.{AnswerWith}
-use Rattle.master_state.specs.declared.answers.AnswerWith.TheVariants as handed
-use Rattle.master_state.specs.declared.answers.BackupAnswer.{BackupAnswer}
-use Rattle.master_state.specs.declared.answers.BackupAnswer.TheVariants as backup
-use Rattle.master_state.specs.declared.answers.ReduceAnswer.{ReduceAnswer}
-use Rattle.master_state.specs.declared.answers.ReduceAnswer.TheVariants as reduced
 use Rattle.master_state.specs.declared.answers.Reply.{Reply}
 use Rattle.master_state.specs.declared.answers.Swept.{Swept}
 use Rattle.master_state.specs.declared.answers.Why.{Why}
 use Rattle.master_state.specs.declared.answers.Why.TheVariants.{HistoryFull, StrangeHand}
 use Rattle.master_state.specs.declared.events.Event.{Event}
 use Rattle.master_state.specs.declared.events.Event.TheVariants as events
-use Rattle.master_state.specs.States.{next_attempt}
-use Rattle.master_state.specs.Jobs.{Job, Answers, AnswersReduce, IsKept, IsReply, died_in, event_of}
+use Rattle.master_state.specs.Jobs.{Job, Answers, AnswersReduce, IsKept, IsReply, Plain, Tells, died_in}
+use Rattle.master_state.specs.Jobs.{event_of}
 use Rattle.master_state.specs.Refusals.{Call, MapFailed, Withdraw, Die, Join, Add, Lose, ReduceStart}
 use Rattle.master_state.specs.Refusals.{PartFailed, Backup}
 use Rattle.hand_ledger.specs.Hands.{HandValue, counts_in, has_room, kept, last_place, noted, starts_in}
@@ -56,19 +50,6 @@ plain_event (plain.MapFailed a) = events.MapFailed a
 plain_event (plain.Withdraw a) = events.Withdraw a
 plain_event (plain.PartFailed a) = events.PartFailed a
 
--- the place or the reason in an answer that has more
-abbrev pub plain_with : {R : Type 0} → AnswerWith R → Answer
-plain_with (handed.Accepted place) = Accepted place
-plain_with (handed.Ignored why back) = Ignored why
-
-abbrev pub plain_backup : BackupAnswer → Answer
-plain_backup (backup.Accepted place a) = Accepted place
-plain_backup (backup.Ignored why) = Ignored why
-
-abbrev pub plain_reduce : ReduceAnswer → Answer
-plain_reduce (reduced.Accepted place reply) = Accepted place
-plain_reduce (reduced.Ignored why) = Ignored why
-
 -- The hand is this master's: the sizes beside the lock are the master's, and the hand's last call stands in
 -- the history at its place.
 pub record IsOwn (sizes : Sizes) (job : Job) (hand : HandValue) : Type 0 where
@@ -85,64 +66,56 @@ IsBarrier sizes job hand counts starts (Some why) =
     ⊎ (IsOwn sizes job hand × (has_room hand counts starts ≡ false) × (why ≡ HistoryFull))
 
 -- A call with so many counts does not reach the master, which is unchanged then, or it does.
-abbrev pub IsBehind : Sizes → Job → HandValue → ℕ → Answer → Job → Type 0 → Type 0
-IsBehind sizes old hand counts given new Reached =
-    ((why : Why) × IsBarrier sizes old hand counts 0 (Some why) × (given ≡ Ignored why) × (new ≡ old))
+abbrev pub IsBehind : {T B : Type 0} → Sizes → Job → HandValue → ℕ → Answer T B → Job → Type 0 → Type 0
+IsBehind {B = B} sizes old hand counts given new Reached =
+    ((why : Why) × (back : B) × IsBarrier sizes old hand counts 0 (Some why) × (given ≡ Ignored why back)
+    × (new ≡ old))
     ⊎ (IsBarrier sizes old hand counts 0 None × Reached)
 
 -- the hand after the answer to a call with this event and these counts
-abbrev pub answered : HandValue → Event → List (List ℕ) → Answer → HandValue
-answered hand event counts (Accepted place) = with_call hand (kept place event counts [])
-answered hand event counts (Ignored why) = noted hand (has_room hand (length counts) 0) why
+abbrev pub answered : {T B : Type 0} → HandValue → Event → List (List ℕ) → Answer T B → HandValue
+answered hand event counts (Accepted place told) = with_call hand (kept place event counts [])
+answered hand event counts (Ignored why back) = noted hand (has_room hand (length counts) 0) why
 
 -- what a call with these counts does under the lock to the master and to the hand
-pub record IsStep
-    (sizes : Sizes) (old : Job) (hand : HandValue) (call : Call) (counts : List (List ℕ)) (given : Answer)
-    (new : Job) (after : HandValue) : Type 0 where
+pub record IsStep {T B : Type 0}
+    (sizes : Sizes) (old : Job) (hand : HandValue) (call : Call) (counts : List (List ℕ))
+    (given : Answer T B) (new : Job) (after : HandValue) : Type 0 where
   pub answer : IsBehind sizes old hand (length counts) given new (Answers old call given new)
   pub hand_is : after ≡ answered hand (event_of old.state call) counts given
 
 -- the same of a reduce start, whose answer may be want of memory
 pub record IsReduceStep
-    (sizes : Sizes) (old : Job) (hand : HandValue) (given : ReduceAnswer) (new : Job) (after : HandValue)
-    : Type 0 where
-  pub answer : IsBehind sizes old hand 0 (plain_reduce given) new (AnswersReduce old given new)
-  pub hand_is : after ≡ answered hand (event_of old.state ReduceStart) [] (plain_reduce given)
-
--- what was handed in comes back where the call was ignored
-abbrev pub IsHandedBack : {R : Type 0} → R → AnswerWith R → Type 0
-IsHandedBack made (handed.Accepted place) = Unit {0}
-IsHandedBack made (handed.Ignored why back) = back ≡ made
-
--- the attempt that was answered is the next one
-abbrev pub NamesNext : Job → BackupAnswer → Type 0
-NamesNext old (backup.Accepted place a) = a ≡ next_attempt old.state
-NamesNext old (backup.Ignored why) = Unit {0}
+    (sizes : Sizes) (old : Job) (hand : HandValue) (given : Answer Reply (Unit {0})) (new : Job)
+    (after : HandValue) : Type 0 where
+  pub answer : IsBehind sizes old hand 0 given new (AnswersReduce old given new)
+  pub hand_is : after ≡ answered hand (event_of old.state ReduceStart) [] given
 
 -- an accepted call stands above the hand's last one, and the hand had room for it
-abbrev pub IsNextOf : HandValue → List (List ℕ) → Answer → Type 0
-IsNextOf hand counts (Accepted place) =
+abbrev pub IsNextOf : {T B : Type 0} → HandValue → List (List ℕ) → Answer T B → Type 0
+IsNextOf hand counts (Accepted place told) =
     (last_place hand.calls < place) × (has_room hand (length counts) 0 ≡ true)
-IsNextOf hand counts (Ignored why) = Unit {0}
+IsNextOf hand counts (Ignored why back) = Unit {0}
 
 -- what the caller sees: the event is kept at the place that was answered, or only the notes may change
-pub record IsKeptAs
-    (hand : HandValue) (event : Event) (counts : List (List ℕ)) (given : Answer) (after : HandValue)
+pub record IsKeptAs {T B : Type 0}
+    (hand : HandValue) (event : Event) (counts : List (List ℕ)) (given : Answer T B) (after : HandValue)
     : Type 0 where
   pub hand_is : after ≡ answered hand event counts given
   pub next : IsNextOf hand counts given
 
 -- a backup is kept with the attempt that was answered
-abbrev pub IsKeptBackup : HandValue → ℕ → ℕ → BackupAnswer → HandValue → Type 0
-IsKeptBackup hand split w (backup.Accepted place a) after =
-    IsKeptAs hand (events.Backup a split w) [] (Accepted place) after
-IsKeptBackup hand split w (backup.Ignored why) after = after ≡ noted hand (has_room hand 0 0) why
+abbrev pub IsKeptBackup : HandValue → ℕ → ℕ → Answer ℕ (Unit {0}) → HandValue → Type 0
+IsKeptBackup hand split w (Accepted place a) after =
+    IsKeptAs {B = Unit {0}} hand (events.Backup a split w) [] (Accepted place a) after
+IsKeptBackup hand split w (Ignored why back) after = after ≡ noted hand (has_room hand 0 0) why
 
 -- a reduce start with the attempt, the part and the worker of its reply
-abbrev pub IsKeptReduce : HandValue → ReduceAnswer → HandValue → Type 0
-IsKeptReduce hand (reduced.Accepted place reply) after =
-    IsKeptAs hand (events.ReduceStart reply.attempt reply.part reply.worker) [] (Accepted place) after
-IsKeptReduce hand (reduced.Ignored why) after = after ≡ noted hand (has_room hand 0 0) why
+abbrev pub IsKeptReduce : HandValue → Answer Reply (Unit {0}) → HandValue → Type 0
+IsKeptReduce hand (Accepted place reply) after =
+    IsKeptAs {B = Unit {0}} hand (events.ReduceStart reply.attempt reply.part reply.worker) []
+    (Accepted place reply) after
+IsKeptReduce hand (Ignored why back) after = after ≡ noted hand (has_room hand 0 0) why
 
 -- a reply of a master that the lock kept: its part is one of the master's, and its worker one of those whose
 -- number stands beside the lock
@@ -153,12 +126,11 @@ pub record IsReplyOf (sizes : Sizes) (job : Job) (reply : Reply) : Type 0 where
   pub worker : reply.worker < sizes.workers
 
 -- an accepted reduce start has such a reply
-abbrev pub Replies : Sizes → ReduceAnswer → Type 0
-Replies sizes (reduced.Accepted place reply) = (job : Job) × IsReplyOf sizes job reply
-Replies sizes (reduced.Ignored why) = Unit {0}
+abbrev pub Replies : Sizes → Answer Reply (Unit {0}) → Type 0
+Replies sizes given = Tells (λ reply. (job : Job) × IsReplyOf sizes job reply) given
 
 -- a sweep with its counts, by the place that these have among all sweeps
-abbrev pub IsKeptSweep : HandValue → List ℕ → Answer → HandValue → Type 0
+abbrev pub IsKeptSweep : HandValue → List ℕ → Plain → HandValue → Type 0
 IsKeptSweep hand counts given after = (n : ℕ) × IsKeptAs hand (events.Sweep n) (counts ∷ []) given after
 
 -- those that died in a sweep that was answered so are those of a master that the lock kept
@@ -168,22 +140,22 @@ AreDeadOf counts swept =
     × ((w : ℕ) → has_number swept.dead w ≡ died_in job counts swept.answer w)
 
 -- an accepted call has the last place of the history
-abbrev pub IsLast : List Event → Answer → Type 0
-IsLast history (Accepted place) = (0 < place) × (place ≡ length history)
-IsLast history (Ignored why) = Unit {0}
+abbrev pub IsLast : {T B : Type 0} → List Event → Answer T B → Type 0
+IsLast history (Accepted place told) = (0 < place) × (place ≡ length history)
+IsLast history (Ignored why back) = Unit {0}
 
 -- the event stands at the place that was answered, if one was
-abbrev pub IsAt : List Event → Answer → Event → Type 0
-IsAt history (Accepted place) event = event_at history place ≡ Some event
-IsAt history (Ignored why) event = Unit {0}
+abbrev pub IsAt : {T B : Type 0} → List Event → Answer T B → Event → Type 0
+IsAt history (Accepted place told) event = event_at history place ≡ Some event
+IsAt history (Ignored why back) event = Unit {0}
 
 -- the event that stands there has so many counts, and no starts
-abbrev pub HasCounts : List Event → Answer → ℕ → Type 0
-HasCounts history (Accepted place) n =
+abbrev pub HasCounts : {T B : Type 0} → List Event → Answer T B → ℕ → Type 0
+HasCounts history (Accepted place told) n =
     (event : Event) → event_at history place ≡ Some event → (counts_in event ≡ n) × (starts_in event ≡ 0)
-HasCounts history (Ignored why) n = Unit {0}
+HasCounts history (Ignored why back) n = Unit {0}
 
 -- the total of the book after an answer
-abbrev pub total_after : ℕ → Answer → ℕ
-total_after total (Accepted place) = total + 1
-total_after total (Ignored why) = total
+abbrev pub total_after : {T B : Type 0} → ℕ → Answer T B → ℕ
+total_after total (Accepted place told) = total + 1
+total_after total (Ignored why back) = total

@@ -1,10 +1,9 @@
-ghost use Rattle.std.specs.Prelude.{◌≡◌};
 ghost use Rattle.master_state.specs.Jobs.{Answers};
 ghost use Rattle.master_state.specs.Refusals.{IsKnown};
-ghost use Rattle.shared_master.specs.Steps.{call_of, plain_backup, plain_reduce, plain_with};
+ghost use Rattle.shared_master.specs.Steps.{call_of};
 
 use master_core::Master;
-use master_state::{Answer, AnswerWith, BackupAnswer, ReduceAnswer};
+use master_state::Answer;
 use node_ids::{AttemptNo, SplitNo, SplitSet, WorkerNo};
 
 // A call that hands in numbers alone, and is answered by a place or a reason alone.
@@ -34,35 +33,5 @@ impl PlainCall {
             PlainCall::Withdraw(attempt) => master.withdraw(*attempt),
             PlainCall::PartFailed(attempt) => master.part_failed(*attempt),
         }
-    }
-}
-
-// The place or the reason in an answer that may hand a value back.
-pub(crate) fn plain_with<R: Drop>(answer: &AnswerWith<R>) -> Answer
-    ensures { result ≡ plain_with answer.now }
-{
-    match answer {
-        AnswerWith::Accepted(place) => Answer::Accepted(*place),
-        AnswerWith::Ignored(why, _) => Answer::Ignored(*why),
-    }
-}
-
-// That of an answer to a backup.
-pub(crate) fn plain_backup(answer: &BackupAnswer) -> Answer
-    ensures { result ≡ plain_backup answer.now }
-{
-    match answer {
-        BackupAnswer::Accepted(place, _) => Answer::Accepted(*place),
-        BackupAnswer::Ignored(why) => Answer::Ignored(*why),
-    }
-}
-
-// That of an answer to a reduce start.
-pub(crate) fn plain_reduce(answer: &ReduceAnswer) -> Answer
-    ensures { result ≡ plain_reduce answer.now }
-{
-    match answer {
-        ReduceAnswer::Accepted(place, _) => Answer::Accepted(*place),
-        ReduceAnswer::Ignored(why) => Answer::Ignored(*why),
     }
 }

@@ -60,8 +60,6 @@ impl<L: Ledger> Closed<L> {
     fn torn_place(&self, hands: &[Hand<L>]) -> Option<u32>
         ensures { IsLowestTorn (log_of self.now.job) (is_short self.now.job) hands.now result }
     {
-        // (how long the history is)
-        let _events = self.held.master.events();
         let log = Log::new(
             self.held.master.history(),
             self.held.master.starts(),

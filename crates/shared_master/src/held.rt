@@ -2,23 +2,22 @@ ghost use Rattle.std.specs.Prelude.{◌≡◌, ℕ, ◌+◌, ◌<◌, ◌≤◌,
 ghost use Rattle.std.specs.Prelude.{OnOk, Err};
 ghost use Rattle.node_ids.specs.Sets.{has_number};
 ghost use Rattle.block_map.specs.Copies.{AreCopies, holdings};
-ghost use Rattle.master_state.specs.Jobs.{died_in, IsGlance, IsKept};
+ghost use Rattle.master_state.specs.Jobs.{died_in, GivesBack, IsGlance, IsKept, TellsNext};
 ghost use Rattle.master_state.specs.Refusals.{Call};
 ghost use Rattle.master_state.specs.declared.events.Event.{Event};
 ghost use Rattle.hand_ledger.specs.Hands.{has_room, new_hand, noted};
 ghost use Rattle.hand_ledger.specs.Settling.{all_calls};
 ghost use Rattle.hand_ledger.specs.declared.making.HandError.{HandError};
-ghost use Rattle.shared_master.specs.Steps.{answered, call_of, HasCounts, IsAt, IsBarrier, IsHandedBack};
-ghost use Rattle.shared_master.specs.Steps.{IsKnownTo, IsLast, IsOwn, IsReduceStep, IsStep, NamesNext};
-ghost use Rattle.shared_master.specs.Steps.{plain_backup, plain_with, Replies, total_after};
+ghost use Rattle.shared_master.specs.Steps.{answered, call_of, HasCounts, IsAt, IsBarrier, IsKnownTo};
+ghost use Rattle.shared_master.specs.Steps.{IsLast, IsOwn, IsReduceStep, IsStep, Replies, total_after};
 ghost use Rattle.shared_master.specs.Held.{HeldValue, IsStillSeen};
 
-use crate::calls::{PlainCall, plain_backup, plain_reduce, plain_with};
+use crate::calls::PlainCall;
 use crate::sizes::Sizes;
 use block_map::CopyOrder;
 use hand_ledger::{Hand, HandError, Hands};
 use master_core::Master;
-use master_state::{Answer, AnswerWith, BackupAnswer, Glance, Limits, ReduceAnswer, Swept, Why};
+use master_state::{Answer, Glance, Limits, Reply, Swept, Why};
 use node_ids::{AttemptNo, SplitNo, WorkerNo, WorkerSet};
 use shuffle_reduce::PartResult;
 use std::alloc::{AllocError, Global};
@@ -138,10 +137,10 @@ impl<L: Ledger> Held<L> {
     {
         if let Some(why) = self.why_not(sizes, hand, 0) {
             ignore(hand, 0, why);
-            return Answer::Ignored(why);
+            return Answer::Ignored(why, ());
         }
         let answer = call.ask(&mut self.master);
-        enter(&self.master, &mut self.hands, hand, &[], answer);
+        enter(&self.master, &mut self.hands, hand, &[], &answer);
         answer
     }
 
@@ -151,19 +150,18 @@ impl<L: Ledger> Held<L> {
         hand: &mut Hand<L>,
         attempt: AttemptNo,
         made: MapResult,
-    ) -> AnswerWith<MapResult>
-        ensures step { IsStep sizes self.old.job hand.old (Call.MapDone attempt made) [] (plain_with result)
+    ) -> Answer<(), MapResult>
+        ensures step { IsStep sizes self.old.job hand.old (Call.MapDone attempt made) [] result
             self.new.job hand.new }
-        ensures back { IsHandedBack made result }
+        ensures back { GivesBack made result }
         ensures made { self.new.made ≡ self.old.made }
     {
         if let Some(why) = self.why_not(sizes, hand, 0) {
             ignore(hand, 0, why);
-            return AnswerWith::Ignored(why, made);
+            return Answer::Ignored(why, made);
         }
         let answer = self.master.map_done(attempt, made);
-        let plain = plain_with(&answer);
-        enter(&self.master, &mut self.hands, hand, &[], plain);
+        enter(&self.master, &mut self.hands, hand, &[], &answer);
         answer
     }
 
@@ -173,19 +171,18 @@ impl<L: Ledger> Held<L> {
         hand: &mut Hand<L>,
         attempt: AttemptNo,
         made: PartResult,
-    ) -> AnswerWith<PartResult>
-        ensures step { IsStep sizes self.old.job hand.old (Call.PartDone attempt made) [] (plain_with result)
+    ) -> Answer<(), PartResult>
+        ensures step { IsStep sizes self.old.job hand.old (Call.PartDone attempt made) [] result
             self.new.job hand.new }
-        ensures back { IsHandedBack made result }
+        ensures back { GivesBack made result }
         ensures made { self.new.made ≡ self.old.made }
     {
         if let Some(why) = self.why_not(sizes, hand, 0) {
             ignore(hand, 0, why);
-            return AnswerWith::Ignored(why, made);
+            return Answer::Ignored(why, made);
         }
         let answer = self.master.part_done(attempt, made);
-        let plain = plain_with(&answer);
-        enter(&self.master, &mut self.hands, hand, &[], plain);
+        enter(&self.master, &mut self.hands, hand, &[], &answer);
         answer
     }
 
@@ -195,21 +192,20 @@ impl<L: Ledger> Held<L> {
         hand: &mut Hand<L>,
         split: SplitNo,
         worker: WorkerNo,
-    ) -> BackupAnswer
+    ) -> Answer<AttemptNo>
         requires split { split < sizes.splits }
         requires worker { worker < sizes.workers }
-        ensures step { IsStep sizes self.old.job hand.old (Call.Backup split worker) [] (plain_backup result)
+        ensures step { IsStep sizes self.old.job hand.old (Call.Backup split worker) [] result
             self.new.job hand.new }
-        ensures attempt { NamesNext self.old.job result }
+        ensures attempt { TellsNext self.old.job result }
         ensures made { self.new.made ≡ self.old.made }
     {
         if let Some(why) = self.why_not(sizes, hand, 0) {
             ignore(hand, 0, why);
-            return BackupAnswer::Ignored(why);
+            return Answer::Ignored(why, ());
         }
         let answer = self.master.backup(split, worker);
-        let plain = plain_backup(&answer);
-        enter(&self.master, &mut self.hands, hand, &[], plain);
+        enter(&self.master, &mut self.hands, hand, &[], &answer);
         answer
     }
 
@@ -218,20 +214,19 @@ impl<L: Ledger> Held<L> {
         alloc: Global,
         sizes: Sizes,
         hand: &mut Hand<L>,
-    ) -> ReduceAnswer
+    ) -> Answer<Reply>
         ensures step { IsReduceStep sizes self.old.job hand.old result self.new.job hand.new }
         ensures reply { Replies sizes result }
         ensures made { self.new.made ≡ self.old.made }
     {
         if let Some(why) = self.why_not(sizes, hand, 0) {
             ignore(hand, 0, why);
-            return ReduceAnswer::Ignored(why);
+            return Answer::Ignored(why, ());
         }
         self.master.is_kept();
         let answer = self.master.reduce_start(alloc);
         self.master.is_kept();
-        let plain = plain_reduce(&answer);
-        enter(&self.master, &mut self.hands, hand, &[], plain);
+        enter(&self.master, &mut self.hands, hand, &[], &answer);
         answer
     }
 
@@ -246,7 +241,7 @@ impl<L: Ledger> Held<L> {
         if let Some(why) = self.why_not(sizes, hand, 1) {
             ignore(hand, 1, why);
             return Swept {
-                answer: Answer::Ignored(why),
+                answer: Answer::Ignored(why, ()),
                 dead: WorkerSet::new(),
             };
         }
@@ -256,7 +251,7 @@ impl<L: Ledger> Held<L> {
             &mut self.hands,
             hand,
             &[*counts],
-            swept.answer,
+            &swept.answer,
         );
         swept
     }
@@ -302,28 +297,26 @@ fn ignore<L: Ledger>(hand: &mut Hand<L>, counts: usize, why: Why)
 }
 
 // Keeps the event of an accepted call in the hand, with its counts; or notes why the call was ignored.
-fn enter<L: Ledger>(
+fn enter<L: Ledger, T, B>(
     master: &Master,
     hands: &mut Hands<L>,
     hand: &mut Hand<L>,
     counts: &[[u64; 256]],
-    answer: Answer,
+    answer: &Answer<T, B>,
 )
-    requires place { IsLast master.now.history answer }
-    requires counts { HasCounts master.now.history answer (length counts.now) }
+    requires place { IsLast master.now.history answer.now }
+    requires counts { HasCounts master.now.history answer.now (length counts.now) }
     requires room { has_room hand.old (length counts.now) 0 ≡ true }
-    ensures hand { (event : Event) → IsAt master.now.history answer event
-        → hand.new ≡ answered hand.old event counts.now answer }
-    ensures total { hands.new.total ≡ total_after hands.old.total answer }
+    ensures hand { (event : Event) → IsAt master.now.history answer.now event
+        → hand.new ≡ answered hand.old event counts.now answer.now }
+    ensures total { hands.new.total ≡ total_after hands.old.total answer.now }
     ensures made { hands.new.made ≡ hands.old.made }
 {
     match answer {
-        Answer::Accepted(place) => {
-            // (how long the history is)
-            let _events = master.events();
-            let event = &master.history()[place as usize - 1];
-            hand.keep(hands, place, event, counts, &[]);
+        Answer::Accepted(place, _) => {
+            let event = &master.history()[*place as usize - 1];
+            hand.keep(hands, *place, event, counts, &[]);
         }
-        Answer::Ignored(why) => ignore(hand, counts.len(), why),
+        Answer::Ignored(why, _) => ignore(hand, counts.len(), *why),
     }
 }

@@ -1,12 +1,11 @@
 ghost use Rattle.std.specs.Prelude.{◌≡◌, ◌<◌, ◌≤◌, [], length, IfOk};
 ghost use Rattle.block_map.specs.Copies.{AreCopies, holdings};
 ghost use Rattle.master_state.specs.declared.events.Event.{Event};
-ghost use Rattle.master_state.specs.Jobs.{IsGlance, IsKept, Job};
+ghost use Rattle.master_state.specs.Jobs.{GivesBack, IsGlance, IsKept, Job};
 ghost use Rattle.master_state.specs.Refusals.{Call};
 ghost use Rattle.hand_ledger.specs.Hands.{new_hand};
-ghost use Rattle.shared_master.specs.Steps.{AreDeadOf, IsHandedBack, IsKeptAs, IsKeptBackup, IsKeptReduce};
-ghost use Rattle.shared_master.specs.Steps.{IsKeptSweep, IsKnownTo, call_of, plain_event, plain_with};
-ghost use Rattle.shared_master.specs.Steps.{Replies};
+ghost use Rattle.shared_master.specs.Steps.{AreDeadOf, IsKeptAs, IsKeptBackup, IsKeptReduce, IsKeptSweep};
+ghost use Rattle.shared_master.specs.Steps.{IsKnownTo, Replies, call_of, plain_event};
 ghost use Rattle.shared_master.specs.Waves.{TurnsAs, WavesAs};
 ghost use Rattle.shared_master.specs.declared.sizes.Sizes.{Sizes};
 
@@ -18,7 +17,7 @@ use crate::waves::{Between, Nothing, SharedWave, Uncommitted, WaveError, solve};
 use block_map::CopyOrder;
 use hand_ledger::{Hand, HandError, Hands};
 use master_core::Master;
-use master_state::{Answer, AnswerWith, BackupAnswer, Glance, Limits, ReduceAnswer, Swept};
+use master_state::{Answer, Glance, Limits, Reply, Swept};
 use node_ids::{AttemptNo, SplitNo, SplitSet, WorkerNo};
 use shuffle_reduce::PartResult;
 use std::alloc::{AllocError, Global};
@@ -176,9 +175,9 @@ impl<L: Ledger> SharedMaster<L> {
         hand: &mut Hand<L>,
         attempt: AttemptNo,
         made: MapResult,
-    ) -> AnswerWith<MapResult>
-        ensures kept { IsKeptAs hand.old (Event.MapDone attempt) [] (plain_with result) hand.new }
-        ensures back { IsHandedBack made result }
+    ) -> Answer<(), MapResult>
+        ensures kept { IsKeptAs hand.old (Event.MapDone attempt) [] result hand.new }
+        ensures back { GivesBack made result }
     {
         self.lock.lock(rt).map_done(self.sizes, hand, attempt, made)
     }
@@ -190,9 +189,9 @@ impl<L: Ledger> SharedMaster<L> {
         hand: &mut Hand<L>,
         attempt: AttemptNo,
         made: PartResult,
-    ) -> AnswerWith<PartResult>
-        ensures kept { IsKeptAs hand.old (Event.PartDone attempt) [] (plain_with result) hand.new }
-        ensures back { IsHandedBack made result }
+    ) -> Answer<(), PartResult>
+        ensures kept { IsKeptAs hand.old (Event.PartDone attempt) [] result hand.new }
+        ensures back { GivesBack made result }
     {
         self.lock
             .lock(rt)
@@ -206,7 +205,7 @@ impl<L: Ledger> SharedMaster<L> {
         hand: &mut Hand<L>,
         split: SplitNo,
         worker: WorkerNo,
-    ) -> BackupAnswer
+    ) -> Answer<AttemptNo>
         requires split { split < self.now.splits }
         requires worker { worker < self.now.workers }
         ensures { IsKeptBackup hand.old split worker result hand.new }
@@ -215,7 +214,7 @@ impl<L: Ledger> SharedMaster<L> {
     }
 
     /// `Master::reduce_start` under the lock.
-    pub fn reduce_start<R: Wait>(&self, rt: &R, alloc: Global, hand: &mut Hand<L>) -> ReduceAnswer
+    pub fn reduce_start<R: Wait>(&self, rt: &R, alloc: Global, hand: &mut Hand<L>) -> Answer<Reply>
         ensures kept { IsKeptReduce hand.old result hand.new }
         ensures reply { Replies self.now result }
     {

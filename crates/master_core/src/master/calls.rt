@@ -1,16 +1,14 @@
 //! The calls of a master but for its waves: each is an event of the history, or is ignored.
 ghost use Rattle.std.specs.Prelude.{◌≡◌, ◌<◌, length};
 ghost use Rattle.master_state.specs.Refusals.{Call, IsKnown, IsPair, is_not_backable, refusal};
-ghost use Rattle.master_state.specs.Jobs.{Answers, AnswersBackup, AnswersReduce, AnswersSweep, AnswersWith};
+ghost use Rattle.master_state.specs.Jobs.{Answers, AnswersReduce, AnswersSweep, GivesBack, TellsNext};
 ghost use Rattle.master_core.specs.Attempts.{IsFound, part_end, split_end};
 
 use crate::attempts::{End, Found, free_slot};
 use crate::inputs::{is_wrong_map, is_wrong_part};
 use crate::master::Master;
 use crate::reducing::{NextPart, runs_of};
-use master_state::{
-    Answer, AnswerWith, Attempt, BackupAnswer, Event, ReduceAnswer, Reply, Swept, Why, Work,
-};
+use master_state::{Answer, Attempt, Event, Reply, Swept, Why, Work};
 use master_tables::backups::{has_free_slot, is_any_live, run_attempt, takes_backup};
 use master_tables::completions::{finish_part, finish_split, give_slots};
 use master_tables::deaths::{bury, bury_all};
@@ -27,18 +25,18 @@ use word_map::MapResult;
 impl Master {
     /// Starts the lowest pending part on the lowest live worker with a free slot, and answers with all that
     /// the worker needs. Memory is taken for the list of runs alone, and before anything changes.
-    pub fn reduce_start(&mut self, alloc: Global) -> ReduceAnswer
+    pub fn reduce_start(&mut self, alloc: Global) -> Answer<Reply>
         ensures { AnswersReduce self.old result self.new }
     {
         let Some(next) = self.next_reduce() else {
-            return ReduceAnswer::Ignored(Why::NotReady);
+            return Answer::Ignored(Why::NotReady, ());
         };
         let NextPart { part, worker } = next;
         if self.has_no_room(1) {
-            return ReduceAnswer::Ignored(Why::HistoryFull);
+            return Answer::Ignored(Why::HistoryFull, ());
         }
         let Ok(runs) = runs_of(alloc, &self.cluster, &self.splits, part) else {
-            return ReduceAnswer::Ignored(Why::Memory);
+            return Answer::Ignored(Why::Memory, ());
         };
         let attempt = AttemptNo::new(self.starts.len() as u32 + 1);
         let started = Attempt {
@@ -59,7 +57,7 @@ impl Master {
             worker,
             runs,
         };
-        ReduceAnswer::Accepted(place, reply)
+        Answer::Accepted(place, reply)
     }
 
     /// Makes a live worker the last holder of a split.
@@ -69,10 +67,13 @@ impl Master {
         ensures { Answers self.old (Call.Add split worker) result self.new }
     {
         if let Some(why) = self.why_not_add(split, worker) {
-            return Answer::Ignored(why);
+            return Answer::Ignored(why, ());
         }
         add_holder(&mut self.holders, split, worker);
-        Answer::Accepted(record_event(&mut self.history, Event::Add(split, worker)))
+        Answer::Accepted(
+            record_event(&mut self.history, Event::Add(split, worker)),
+            (),
+        )
     }
 
     fn why_not_add(&self, split: SplitNo, worker: WorkerNo) -> Option<Why>
@@ -100,10 +101,13 @@ impl Master {
         ensures { Answers self.old (Call.Lose split worker) result self.new }
     {
         if let Some(why) = self.why_not_lose(split, worker) {
-            return Answer::Ignored(why);
+            return Answer::Ignored(why, ());
         }
         drop_holder(&mut self.holders, split, worker);
-        Answer::Accepted(record_event(&mut self.history, Event::Lose(split, worker)))
+        Answer::Accepted(
+            record_event(&mut self.history, Event::Lose(split, worker)),
+            (),
+        )
     }
 
     fn why_not_lose(&self, split: SplitNo, worker: WorkerNo) -> Option<Why>
@@ -125,11 +129,14 @@ impl Master {
         ensures { Answers self.old (Call.Join worker set.now) result self.new }
     {
         if let Some(why) = self.why_not_join(worker, set) {
-            return Answer::Ignored(why);
+            return Answer::Ignored(why, ());
         }
         self.workers.join(worker);
         self.holders.add_to_all(worker, set);
-        Answer::Accepted(record_event(&mut self.history, Event::Join(worker, *set)))
+        Answer::Accepted(
+            record_event(&mut self.history, Event::Join(worker, *set)),
+            (),
+        )
     }
 
     fn why_not_join(&self, worker: WorkerNo, set: &SplitSet) -> Option<Why>
@@ -153,7 +160,7 @@ impl Master {
         ensures { Answers self.old (Call.Die worker) result self.new }
     {
         if let Some(why) = self.why_not_die(worker) {
-            return Answer::Ignored(why);
+            return Answer::Ignored(why, ());
         }
         bury(
             &mut self.workers,
@@ -162,7 +169,7 @@ impl Master {
             &mut self.parts,
             worker,
         );
-        Answer::Accepted(record_event(&mut self.history, Event::Die(worker)))
+        Answer::Accepted(record_event(&mut self.history, Event::Die(worker)), ())
     }
 
     fn why_not_die(&self, worker: WorkerNo) -> Option<Why>
@@ -184,7 +191,7 @@ impl Master {
     {
         match self.find(attempt) {
             Found::Split(found) => self.end_split(found, attempt, End::Failed),
-            Found::Part(_) | Found::Nowhere => Answer::Ignored(Why::OldAttempt),
+            Found::Part(_) | Found::Nowhere => Answer::Ignored(Why::OldAttempt, ()),
         }
     }
 
@@ -194,7 +201,7 @@ impl Master {
     {
         match self.find(attempt) {
             Found::Part(found) => self.end_part(found, attempt, End::Failed),
-            Found::Split(_) | Found::Nowhere => Answer::Ignored(Why::OldAttempt),
+            Found::Split(_) | Found::Nowhere => Answer::Ignored(Why::OldAttempt, ()),
         }
     }
 
@@ -205,7 +212,7 @@ impl Master {
         match self.find(attempt) {
             Found::Split(found) => self.end_split(found, attempt, End::Withdrawn),
             Found::Part(found) => self.end_part(found, attempt, End::Withdrawn),
-            Found::Nowhere => Answer::Ignored(Why::OldAttempt),
+            Found::Nowhere => Answer::Ignored(Why::OldAttempt, ()),
         }
     }
 
@@ -215,11 +222,11 @@ impl Master {
         ensures { Answers self.old (split_end end attempt) result self.new }
     {
         if self.has_no_place() {
-            return Answer::Ignored(Why::HistoryFull);
+            return Answer::Ignored(Why::HistoryFull, ());
         }
         end_attempt(&mut self.splits, found.split, attempt);
         free_slot(&mut self.workers, found, end);
-        Answer::Accepted(record_event(&mut self.history, end.of_split(attempt)))
+        Answer::Accepted(record_event(&mut self.history, end.of_split(attempt)), ())
     }
 
     // Ends the attempt that a part runs.
@@ -228,20 +235,21 @@ impl Master {
         ensures { Answers self.old (part_end end attempt) result self.new }
     {
         if self.has_no_place() {
-            return Answer::Ignored(Why::HistoryFull);
+            return Answer::Ignored(Why::HistoryFull, ());
         }
         end_part_attempt(&mut self.parts, found.part, attempt);
         self.workers.give_slot(found.worker);
-        Answer::Accepted(record_event(&mut self.history, end.of_part(attempt)))
+        Answer::Accepted(record_event(&mut self.history, end.of_part(attempt)), ())
     }
 
     /// Makes the split done by the first of its attempts that is, and keeps what it made.
-    pub fn map_done(&mut self, attempt: AttemptNo, made: MapResult) -> AnswerWith<MapResult>
-        ensures { AnswersWith self.old (Call.MapDone attempt made) made result self.new }
+    pub fn map_done(&mut self, attempt: AttemptNo, made: MapResult) -> Answer<(), MapResult>
+        ensures answer { Answers self.old (Call.MapDone attempt made) result self.new }
+        ensures back { GivesBack made result }
     {
         match self.find(attempt) {
             Found::Split(found) => self.finish_split(found, attempt, made),
-            Found::Part(_) | Found::Nowhere => AnswerWith::Ignored(Why::OldAttempt, made),
+            Found::Part(_) | Found::Nowhere => Answer::Ignored(Why::OldAttempt, made),
         }
     }
 
@@ -250,15 +258,16 @@ impl Master {
         found: RunningSplit,
         attempt: AttemptNo,
         made: MapResult,
-    ) -> AnswerWith<MapResult>
+    ) -> Answer<(), MapResult>
         requires { IsFound self.old.state attempt (Found.Split found) }
-        ensures { AnswersWith self.old (Call.MapDone attempt made) made result self.new }
+        ensures answer { Answers self.old (Call.MapDone attempt made) result self.new }
+        ensures back { GivesBack made result }
     {
         if is_wrong_map(&self.cluster, found.split, &made) {
-            return AnswerWith::Ignored(Why::WrongInput, made);
+            return Answer::Ignored(Why::WrongInput, made);
         }
         if self.has_no_place() {
-            return AnswerWith::Ignored(Why::HistoryFull, made);
+            return Answer::Ignored(Why::HistoryFull, made);
         }
         let winner = Attempt {
             number: attempt,
@@ -266,16 +275,17 @@ impl Master {
         };
         give_slots(&mut self.workers, &self.splits[found.split.index()]);
         finish_split(&mut self.splits, found.split, winner, made);
-        AnswerWith::Accepted(record_event(&mut self.history, Event::MapDone(attempt)))
+        Answer::Accepted(record_event(&mut self.history, Event::MapDone(attempt)), ())
     }
 
     /// Makes a part done, and keeps its result after those before it.
-    pub fn part_done(&mut self, attempt: AttemptNo, made: PartResult) -> AnswerWith<PartResult>
-        ensures { AnswersWith self.old (Call.PartDone attempt made) made result self.new }
+    pub fn part_done(&mut self, attempt: AttemptNo, made: PartResult) -> Answer<(), PartResult>
+        ensures answer { Answers self.old (Call.PartDone attempt made) result self.new }
+        ensures back { GivesBack made result }
     {
         match self.find(attempt) {
             Found::Part(found) => self.finish_part(found, attempt, made),
-            Found::Split(_) | Found::Nowhere => AnswerWith::Ignored(Why::OldAttempt, made),
+            Found::Split(_) | Found::Nowhere => Answer::Ignored(Why::OldAttempt, made),
         }
     }
 
@@ -284,20 +294,24 @@ impl Master {
         found: RunningPart,
         attempt: AttemptNo,
         made: PartResult,
-    ) -> AnswerWith<PartResult>
+    ) -> Answer<(), PartResult>
         requires { IsFound self.old.state attempt (Found.Part found) }
-        ensures { AnswersWith self.old (Call.PartDone attempt made) made result self.new }
+        ensures answer { Answers self.old (Call.PartDone attempt made) result self.new }
+        ensures back { GivesBack made result }
     {
         if is_wrong_part(&self.cluster, found.part, &made) {
-            return AnswerWith::Ignored(Why::WrongInput, made);
+            return Answer::Ignored(Why::WrongInput, made);
         }
         if self.has_no_place() {
-            return AnswerWith::Ignored(Why::HistoryFull, made);
+            return Answer::Ignored(Why::HistoryFull, made);
         }
         finish_part(&mut self.parts, found.part, attempt);
         self.workers.give_slot(found.worker);
         record_result(&mut self.results, made);
-        AnswerWith::Accepted(record_event(&mut self.history, Event::PartDone(attempt)))
+        Answer::Accepted(
+            record_event(&mut self.history, Event::PartDone(attempt)),
+            (),
+        )
     }
 
     /// Lets each live worker hear the count of its beats, and marks those dead who have been silent too long.
@@ -306,7 +320,7 @@ impl Master {
     {
         if self.has_no_sweep() {
             return Swept {
-                answer: Answer::Ignored(Why::HistoryFull),
+                answer: Answer::Ignored(Why::HistoryFull, ()),
                 dead: WorkerSet::new(),
             };
         }
@@ -320,24 +334,25 @@ impl Master {
         );
         let place = record_counts(&mut self.sweeps, counts);
         Swept {
-            answer: Answer::Accepted(record_event(&mut self.history, Event::Sweep(place))),
+            answer: Answer::Accepted(record_event(&mut self.history, Event::Sweep(place)), ()),
             dead,
         }
     }
 
     /// Starts a second attempt of a split that runs one, on another worker.
-    pub fn backup(&mut self, split: SplitNo, worker: WorkerNo) -> BackupAnswer
+    pub fn backup(&mut self, split: SplitNo, worker: WorkerNo) -> Answer<AttemptNo>
         requires { IsPair self.old.setup split worker }
-        ensures { AnswersBackup self.old split worker result self.new }
+        ensures answer { Answers self.old (Call.Backup split worker) result self.new }
+        ensures attempt { TellsNext self.old result }
     {
         if let Some(why) = self.why_not_backup(split, worker) {
-            return BackupAnswer::Ignored(why);
+            return Answer::Ignored(why, ());
         }
         let number = record_start(&mut self.starts, Work::Split(split), worker);
         run_attempt(&mut self.splits, split, Attempt { number, worker });
         self.workers.take_slot(worker);
         let place = record_event(&mut self.history, Event::Backup(number, split, worker));
-        BackupAnswer::Accepted(place, number)
+        Answer::Accepted(place, number)
     }
 
     fn why_not_backup(&self, split: SplitNo, worker: WorkerNo) -> Option<Why>

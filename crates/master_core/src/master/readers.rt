@@ -35,7 +35,8 @@ impl Master {
 
     /// Every accepted event, the first one first.
     pub fn history(&self) -> &[Event]
-        ensures { result.now ≡ self.now.history }
+        ensures value { result.now ≡ self.now.history }
+        ensures most { length result.now ≤ 65536 }
     {
         &self.history
     }

@@ -4,7 +4,7 @@ use Rattle.shuffle_reduce.specs.Merged.{AreSameTexts}
 use Rattle.master_state.specs.States.{Cluster}
 use Rattle.shuffle_reduce.specs.Gather.{texts_of_runs}
 use Rattle.job_run.proofs.Handed.{old_part, part_inside, runs_given}
-use Rattle.job_run.proofs.Writing.{answers_from}
+use Rattle.job_run.proofs.Writing.{plainly}
 use Rattle.job_run.proofs.handing.hand_part.Goals as goal
 
 pub returns-then-not-part_runs : goal.returns-then-not-part_runs
@@ -46,5 +46,5 @@ returns c =
           ∙ ap (λ (cluster : Cluster). cluster.parts) c.cluster.ensures;
       texts = subst (λ (given : List SplitDocuments). AreSameTexts given job.setup.cluster.texts) (sym texts)
           (λ text. (λ h. h, λ h. h));
-      answers = rw c.answer_from.ensures (answers_from _ _ _ _ _ c.part_done.ensures);
+      answers = rw c.plain.ensures (plainly _ _ _ _ c.part_done.ensures.answer);
     }

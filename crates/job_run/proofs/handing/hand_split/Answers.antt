@@ -6,7 +6,7 @@ use Rattle.std.specs.declared.sync.Arc.{Arc}
 use Rattle.word_map.specs.Texts.{SplitDocuments}
 use Rattle.master_state.specs.States.{Cluster}
 use Rattle.job_run.proofs.Handed.{old_split, text_at, text_inside}
-use Rattle.job_run.proofs.Writing.{answers_from}
+use Rattle.job_run.proofs.Writing.{plainly}
 use Rattle.job_run.proofs.handing.hand_split.Goals as goal
 
 pub returns-then-not-split_runs : goal.returns-then-not-split_runs
@@ -40,5 +40,5 @@ returns c =
       text = c.in_ok-made.ensures.text ∙ c.in_ok-text.ensures ∙ text;
       parts = c.in_ok-made.ensures.parts ∙ c.parts.ensures.count
           ∙ ap (λ (cluster : Cluster). cluster.parts) c.cluster.ensures;
-      answers = rw c.answer_from.ensures (answers_from _ _ _ _ _ c.map_done.ensures);
+      answers = rw c.plain.ensures (plainly _ _ _ _ c.map_done.ensures.answer);
     }

@@ -41,8 +41,9 @@ after c =
 pub invariant_of-self : goal.invariant_of-self
 invariant_of-self c = (after c).master
 
-pub returns : goal.returns
-returns c = (
-  c.record_start-number.ensures.number ∙ ap (λ (i : Job). next_attempt i.state) c.self.view_is,
-  (after c).accepted,
-)
+pub returns-clause-answer : goal.returns-clause-answer
+returns-clause-answer c = (after c).accepted
+
+pub returns-clause-attempt : goal.returns-clause-attempt
+returns-clause-attempt c =
+    c.record_start-number.ensures.number ∙ ap (λ (i : Job). next_attempt i.state) c.self.view_is

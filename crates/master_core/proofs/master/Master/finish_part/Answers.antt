@@ -6,17 +6,17 @@ use Rattle.master_core.proofs.Ended.{part_runs_in, part_slot}
 use Rattle.master_core.proofs.ResultRoom.{result_room}
 use Rattle.master_core.proofs.master.Master.finish_part.Goals as goal
 
-pub returns-then-is_wrong_part : goal.returns-then-is_wrong_part
-returns-then-is_wrong_part c =
+pub returns-then-is_wrong_part-clause-answer : goal.returns-then-is_wrong_part-clause-answer
+returns-then-is_wrong_part-clause-answer c =
     let refused = part_refusal c.self.invariant c.self.view_is c.args.made c.requires c.is_wrong_part.ensures
     c.if-is_wrong_part.true refl in
-    (refl, record { refused = refused; same = refl })
+    record { refused = refused; same = refl }
 
-pub returns-then-has_no_place : goal.returns-then-has_no_place
-returns-then-has_no_place c =
+pub returns-then-has_no_place-clause-answer : goal.returns-then-has_no_place-clause-answer
+returns-then-has_no_place-clause-answer c =
     let refused = part_refusal c.self.invariant c.self.view_is c.args.made c.requires c.is_wrong_part.ensures
     c.if-is_wrong_part.false (sym c.has_no_place.ensures ∙ c.if-has_no_place.true) in
-    (refl, record { refused = refused; same = refl })
+    record { refused = refused; same = refl }
 
 pub give_slot-requires : goal.give_slot-requires
 give_slot-requires c =
@@ -47,5 +47,5 @@ after c =
 pub invariant_of-self : goal.invariant_of-self
 invariant_of-self c = (after c).master
 
-pub returns : goal.returns
-returns c = (after c).accepted
+pub returns-clause-answer : goal.returns-clause-answer
+returns-clause-answer c = (after c).accepted

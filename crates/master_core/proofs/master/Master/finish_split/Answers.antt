@@ -14,17 +14,17 @@ use Rattle.master_core.proofs.master.Master.finish_split.Goals as goal
 pub is_wrong_map-requires : goal.is_wrong_map-requires
 is_wrong_map-requires c = text_known c.self.invariant c.self.view_is c.args.attempt _ _ c.requires.0.start
 
-pub returns-then-is_wrong_map : goal.returns-then-is_wrong_map
-returns-then-is_wrong_map c =
+pub returns-then-is_wrong_map-clause-answer : goal.returns-then-is_wrong_map-clause-answer
+returns-then-is_wrong_map-clause-answer c =
     let refused = map_refusal c.self.invariant c.self.view_is c.args.made c.requires c.is_wrong_map.ensures
     c.if-is_wrong_map.true refl in
-    (refl, record { refused = refused; same = refl })
+    record { refused = refused; same = refl }
 
-pub returns-then-has_no_place : goal.returns-then-has_no_place
-returns-then-has_no_place c =
+pub returns-then-has_no_place-clause-answer : goal.returns-then-has_no_place-clause-answer
+returns-then-has_no_place-clause-answer c =
     let refused = map_refusal c.self.invariant c.self.view_is c.args.made c.requires c.is_wrong_map.ensures
     c.if-is_wrong_map.false (sym c.has_no_place.ensures ∙ c.if-has_no_place.true) in
-    (refl, record { refused = refused; same = refl })
+    record { refused = refused; same = refl }
 
 shows : (c : After-index-2) →
     shown_as c.index-2.result.now ≡ split_at (state_of c.self.inside) c.args.found.split
@@ -55,7 +55,7 @@ after c =
     (done_is c.self.invariant.kept.tidy (split_runs_in c.self.invariant c.self.view_is c.requires.0)
     ∙ rw (
       c.give_slots.ensures,
-      shows (goal.at.returns c).After-index-2,
+      shows (goal.at.returns-clause-answer c).After-index-2,
       c.finish_split.ensures,
       shown-done_at one c.args.made old.splits.items split,
     ) refl) refl
@@ -65,5 +65,5 @@ after c =
 pub invariant_of-self : goal.invariant_of-self
 invariant_of-self c = (after c).master
 
-pub returns : goal.returns
-returns c = (after c).accepted
+pub returns-clause-answer : goal.returns-clause-answer
+returns-clause-answer c = (after c).accepted

@@ -7,7 +7,7 @@ use Rattle.shared_master.proofs.held.Held.reduce_start.Goals as goal
 pub returns-clause-step : goal.returns-clause-step
 returns-clause-step g c =
     stepped_reduce (ap (λ (h : HeldValue). h.job) c.self.view_is) c.in_default.ensures
-    c.reduce_start-answer.ensures c.plain_reduce-plain.ensures c.enter.ensures.hand
+    c.reduce_start-answer.ensures c.enter.ensures.hand
 
 pub returns-clause-reply : goal.returns-clause-reply
 returns-clause-reply g c =
