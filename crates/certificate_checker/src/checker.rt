@@ -133,9 +133,7 @@ impl<'a> Checker<'a> {
         ensures sum { result ≡ split_price self.now.prices split + worker_price self.now.prices worker }
         ensures most { result ≤ 2 * (1 + MAX_DISTANCE * MAX_SPLITS * MAX_BYTES) }
     {
-        // (bounds the prices)
-        let _reward = self.reward();
-        self.split_price(split) + self.worker_price(worker)
+        self.prices.split(split) + self.prices.worker(worker)
     }
 
     fn cost(&self, split: SplitNo, worker: WorkerNo) -> u64

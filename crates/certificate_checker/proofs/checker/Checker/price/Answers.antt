@@ -4,7 +4,7 @@ use Rattle.certificate_checker.proofs.checker.Checker.price.Goals as goal
 
 pub overflow_add-result : goal.overflow_add-result
 overflow_add-result c =
-    omega (
+    grind (
       arith,
       c.requires.split_prices (SplitPrice c.args.split) refl,
       c.requires.worker_prices
@@ -13,7 +13,7 @@ overflow_add-result c =
 
 pub returns-clause-most : goal.returns-clause-most
 returns-clause-most c =
-    omega (
+    grind (
       arith,
       c.requires.split_prices (SplitPrice c.args.split) refl,
       c.requires.worker_prices
