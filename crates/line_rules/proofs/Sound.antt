@@ -1,6 +1,6 @@
--- The keys of rows: none is a command's, and what was declared is named; so the names of a line that uses
--- declared ones are names.
-use Rattle.std.proofs.Common.{ℕ, List, [], ◌∷◌, ◌++◌, ◌≡◌, ◌≢◌, ◌<◌, Option, Some, length, get_or}
+-- The keys of rows: none is a command's, and what was declared is named; so the names of a line whose
+-- words are fit are names.
+use Rattle.std.proofs.Common.{List, [], ◌∷◌, ◌++◌, ◌≡◌, ◌≢◌, ◌<◌, Option, Some, length, get_or}
 use Rattle.std.proofs.Common.{refl, subst, sym, arith}
 use Rattle.std.specs.List.{All}
 use Rattle.std.proofs.lemmas.List.{map-append}
@@ -16,11 +16,9 @@ use Rattle.line_shapes.specs.declared.place.Place.{Place}
 use Rattle.line_shapes.specs.declared.place.Place.TheVariants.{New, Used}
 use Rattle.line_rules.specs.declared.entering.Entering.{Entering}
 use Rattle.line_rules.specs.declared.entering.Entering.TheVariants.{Nothing, InTurn, Word as ByWord}
-use Rattle.line_rules.specs.Entered.{AreFit, AreSound, HasName, IsFitIn, IsSound}
+use Rattle.line_rules.specs.Entered.{AreFit, AreSound, IsFitIn, IsSound}
 use Rattle.line_rules.specs.Entering.{entered_by, entered_of, entering_of, key_of}
-use Rattle.line_rules.specs.Faults.{IsDeclaredIn, Keep}
 use Rattle.line_rules.specs.Known.{HasRow, IsDeclared, keys_of}
-use Rattle.line_rules.specs.declared.rule.Rule.TheVariants.{Declared}
 
 -- ---- the rows of lines without a fault
 
@@ -62,16 +60,6 @@ declared_named : (rows : List Statement) (kind : Kind) (w : Word) → AreSound r
     → 0 < length w → IsName w
 declared_named rows Priced w sound there some = grind arith
 declared_named rows kind w sound there some = row_named rows _ w sound refl refl there some
-
-named_in : (rows : List Statement) (place : Option Place) (w : Word) → AreSound rows
-    → IsDeclaredIn rows place w → HasName place w → IsNamedIn place w
-named_in rows (Some New) w sound declared has = has
-named_in rows (Some (Used kind)) w sound declared has = declared_named rows kind w sound declared has
-named_in rows place w sound declared has = tt
-
-pub line_named : (rows : List Statement) (s : Statement) → AreSound rows → Keep Declared rows s
-    → ((i : ℕ) → i < length s.words → HasName (place_at s.keyword i) (get_or s.words i [])) → IsNamed s
-line_named rows s sound known has i lt = named_in rows _ _ sound (known i lt) (has i lt)
 
 fit_named_in : (rows : List Statement) (place : Option Place) (w : Word) → AreSound rows
     → IsFitIn rows place w → IsNamedIn place w

@@ -1,4 +1,4 @@
--- What the keys of rows keep to, and what a line's names are asked where those that it uses are declared.
+-- What the keys of rows keep to, and when the words of a line are fit.
 use Rattle.std.specs.Prelude.{ℕ, List, [], ◌≡◌, ◌≢◌, ◌<◌, Option, Some, None, length, slice_index_or}
 use Rattle.std.specs.List.{All}
 use Rattle.text_lines.specs.Texts.{IsName, Word}
@@ -18,12 +18,6 @@ pub record IsSound (key : Key) : Type 0 where
 
 abbrev pub AreSound : List Statement → Type 0
 AreSound rows = All IsSound (keys_of rows)
-
--- a name that is declared is one, and a name that is used is not empty
-abbrev pub HasName : Option Place → Word → Type 0
-HasName (Some New) w = IsName w
-HasName (Some (Used kind)) w = 0 < length w
-HasName place w = Unit {0}
 
 -- the word is all that its place asks of it, in view of the lines before
 abbrev pub IsFitIn : List Statement → Option Place → Word → Type 0

@@ -25,8 +25,8 @@ use crate::purpose::Purpose;
 use crate::rows::Rows;
 use crate::rule::Rule;
 use crate::rules::{
-    are_priced, declares_names, is_command, is_entered_by_new_name, is_few, is_first_of_body,
-    is_first_of_head, keep,
+    are_priced, is_command, is_entered_by_new_name, is_few, is_first_of_body, is_first_of_head,
+    keep,
 };
 use crate::section::{Section, section_after, section_of};
 use line_shapes::{KeyedLine, Keyword};
@@ -147,45 +147,12 @@ impl<'t> KnownLines<'t> {
         }
     }
 
-    // Whether the words in the places of names are names. Where the names that the line uses are declared,
-    // those that it declares alone are looked at, since the rows have names alone.
-    fn has_names(&self, known: bool, line: &KeyedLine<'_, 't>) -> bool
-        requires { IsTrue known → Keep rule.Declared self.now.rows (statement_of line.now) }
-        ensures { IsTrue result ↔ IsNamed (statement_of line.now) }
-    {
-        let _rows = &self.rows;
-        (known && declares_names(line)) || line.is_named()
-    }
-
-    fn is_named(&self, fit: bool, known: bool, line: &KeyedLine<'_, 't>) -> bool
-        requires fit { IsTrue fit → AreFit self.now.rows (statement_of line.now) }
-        requires known { IsTrue known → Keep rule.Declared self.now.rows (statement_of line.now) }
-        ensures { IsTrue result ↔ IsNamed (statement_of line.now) }
-    {
-        let _rows = &self.rows;
-        fit || self.has_names(known, line)
-    }
-
-    fn has_free_names(&self, fit: bool, line: &KeyedLine<'_, 't>) -> bool
-        requires { IsTrue fit → AreFit self.now.rows (statement_of line.now) }
-        ensures { IsTrue result ↔ Keep rule.Free self.now.rows (statement_of line.now) }
-    {
-        fit || keep(Rule::Free, &self.rows, line)
-    }
-
-    fn is_known(&self, fit: bool, line: &KeyedLine<'_, 't>) -> bool
-        requires { IsTrue fit → AreFit self.now.rows (statement_of line.now) }
-        ensures { IsTrue result ↔ Keep rule.Declared self.now.rows (statement_of line.now) }
-    {
-        fit || keep(Rule::Declared, &self.rows, line)
-    }
-
     fn is_new(&self, fit: bool, line: &KeyedLine<'_, 't>) -> bool
         requires places { length (places_of line.now.keyword) ≤ length line.now.words.now }
         requires fit { IsTrue fit → AreFit self.now.rows (statement_of line.now) }
         ensures { IsTrue result ↔ IsNew self.now.rows (statement_of line.now) }
     {
-        self.has_free_names(fit, line)
+        keeps(fit, Rule::Free, &self.rows, line)
             && (is_entered_by_new_name(line.keyword)
                 || is_first_of_head(section_after(line.keyword), &self.rows, line))
     }
@@ -259,14 +226,13 @@ impl<'t> KnownLines<'t> {
             (IsLeastOf (Fails self.now (statement_of line.now))) }
     {
         let after = section_after(line.keyword);
-        let known = self.is_known(fit, line);
         if !self.is_whole(line) {
             Some(Fault::Shape)
         } else if !self.may_stand(line) {
             Some(Fault::Misplaced)
-        } else if !self.is_named(fit, known, line) {
+        } else if !is_named(fit, line) {
             Some(Fault::Misnamed)
-        } else if !known {
+        } else if !keeps(fit, Rule::Declared, &self.rows, line) {
             Some(Fault::Unknown)
         } else if !self.is_new(fit, line) {
             Some(Fault::Repeated)
@@ -297,6 +263,22 @@ impl<'t> KnownLines<'t> {
         self.section = section_after(line.keyword);
         Ok(())
     }
+}
+
+// Whether the words in the places of names are names. Fit words are, since the rows have names alone.
+fn is_named(fit: bool, line: &KeyedLine<'_, '_>) -> bool
+    requires { IsTrue fit → IsNamed (statement_of line.now) }
+    ensures { IsTrue result ↔ IsNamed (statement_of line.now) }
+{
+    fit || line.is_named()
+}
+
+// Whether each word keeps to the rule in its place, as fit words do.
+fn keeps(fit: bool, rule: Rule, rows: &Rows<'_>, line: &KeyedLine<'_, '_>) -> bool
+    requires { IsTrue fit → AreFit rows.now (statement_of line.now) }
+    ensures { IsTrue result ↔ Keep rule rows.now (statement_of line.now) }
+{
+    fit || keep(rule, rows, line)
 }
 
 // How many centres a rack names in a text of the version.

@@ -3,9 +3,8 @@ ghost use Rattle.std.specs.Prelude.{slice_index_or};
 ghost use Rattle.std.specs.Prelude.{[], All};
 ghost use Rattle.std.specs.Borrow.{Bor};
 ghost use Rattle.text_lines.specs.Texts.{Word};
-ghost use Rattle.line_shapes.specs.Lines.{IsNamed, Statement, stated, statement_of, tail_words};
-ghost use Rattle.line_shapes.specs.Places.{place_at, places_of};
-ghost use Rattle.line_rules.specs.Entered.{AreSound, HasName};
+ghost use Rattle.line_shapes.specs.Lines.{Statement, stated, statement_of, tail_words};
+ghost use Rattle.line_shapes.specs.Places.{places_of};
 ghost use Rattle.line_rules.specs.Entering.{Key, entering_of as entering, first_key};
 ghost use Rattle.line_rules.specs.Entering.{most_more_of as most_words, second_key};
 ghost use Rattle.line_rules.specs.Faults.{HasItsPrice, IsDeclaredIn, IsFew, IsFirst, IsFirstOfBody};
@@ -19,7 +18,6 @@ use crate::rows::Rows;
 use crate::rule::Rule;
 use crate::section::Section;
 use line_shapes::{KeyedLine, Keyword, Kind, Place};
-use text_lines::is_name;
 
 /// Whether each word after the keyword keeps to the rule in its place.
 pub fn keep(rule: Rule, rows: &Rows<'_>, line: &KeyedLine<'_, '_>) -> bool
@@ -67,39 +65,6 @@ fn is_free_in(rows: &Rows<'_>, place: Option<Place>, word: &str) -> bool
         None => true,
         Some(Place::New) => is_free(rows, word),
         Some(Place::Used(_)) => true,
-        Some(Place::Number(_, _)) => true,
-        Some(Place::Text) => true,
-    }
-}
-
-/// Whether each name that the line declares is one, and none that it uses is empty. All its names are names
-/// then, where those that it uses are declared.
-pub fn declares_names(line: &KeyedLine<'_, '_>) -> bool
-    ensures { IsTrue result → (rows : List Statement) → AreSound rows
-        → Keep Declared rows (statement_of line.now) → IsNamed (statement_of line.now) }
-{
-    have_names(line.keyword, line.words)
-}
-
-fn have_names(keyword: Keyword, words: &[&str]) -> bool
-    ensures { IsTrue result → (i : ℕ) (d : Bor (List ℕ)) → i < length words.now
-        → HasName (place_at keyword i) (slice_index_or words.now i d).now }
-{
-    for i in 0..words.len() {
-        if !has_name(keyword.place(i), words[i]) {
-            return false;
-        }
-    }
-    true
-}
-
-fn has_name(place: Option<Place>, word: &str) -> bool
-    ensures { IsTrue result ↔ HasName place word.now }
-{
-    match place {
-        None => true,
-        Some(Place::New) => is_name(word),
-        Some(Place::Used(_)) => !word.is_empty(),
         Some(Place::Number(_, _)) => true,
         Some(Place::Text) => true,
     }

@@ -1,6 +1,7 @@
-use Rattle.std.proofs.Common.{List}
+use Rattle.std.proofs.Common.{List, subst}
 use Rattle.line_shapes.specs.Lines.{Statement, statement_of}
 use Rattle.line_rules.specs.Faults.{IsFirst, IsFirstOfHead, Keep}
+use Rattle.line_rules.specs.Known.{Known}
 use Rattle.line_rules.specs.declared.rule.Rule.TheVariants.{Free}
 use Rattle.line_rules.specs.declared.section.Section.{Section}
 use Rattle.line_rules.specs.declared.section.Section.TheVariants.{Head}
@@ -15,7 +16,7 @@ pub returns-then-is_entered_by_new_name : goal.returns-then-is_entered_by_new_na
 returns-then-is_entered_by_new_name c =
     let line = statement_of c.args.line.now in
     let free : Keep Free c.args.self.now.rows line =
-    c.has_free_names.ensures.0 c.if-has_free_names.true in
+    subst (λ (k : Known). Keep Free k.rows line) c.self.view_is (c.keeps.ensures.0 c.if-keeps.true) in
     let entered = c.if-is_entered_by_new_name.true in (
       λ t. record {
         names = free;
