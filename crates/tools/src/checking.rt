@@ -1,5 +1,6 @@
-ghost use Rattle.std.specs.Prelude.{◌≡◌, ◌≢◌, ⊤, Err, IfOk, OnErr, string_bytes};
+ghost use Rattle.std.specs.Prelude.{◌≡◌, ◌≢◌, ⊤, Err, IfOk, OnErr, OnOk, string_bytes};
 ghost use Rattle.std.specs.Thread.{IsSync};
+ghost use Rattle.wave_problem.specs.Assignment.{IsBest, pairs_of};
 ghost use Rattle.price_certificate.specs.Certificate.{HasOneSize, claim};
 ghost use Rattle.certificate_checker.specs.Verdict.{IsVerdict, MayComparePairs};
 ghost use Rattle.text_reading.specs.Running.{HasRun, NoText, WroteItsAnswer};
@@ -65,6 +66,8 @@ pub trait Certifier {
             read.now.plan.workers }
         ensures verdict { IfOk result
             (IsVerdict (claim read.now.problem read.now.plan.starts read.now.prices)) }
+        ensures best { IfOk result (λ verdict.
+            OnOk verdict (IsBest read.now.problem (pairs_of read.now.plan.starts))) }
         ensures memory { OnErr result
             (MayComparePairs (claim read.now.problem read.now.plan.starts read.now.prices)) };
 }
@@ -141,13 +144,12 @@ fn judge(
     read: &PlanText<'_>,
     verdict: Result<Certified, Condition>,
 ) -> Result<(String, CheckEnd), AllocError>
-    requires { IsVerdict (claim read.now.problem read.now.plan.starts read.now.prices) verdict }
+    requires verdict { IsVerdict (claim read.now.problem read.now.plan.starts read.now.prices) verdict }
+    requires best { OnOk verdict (IsBest read.now.problem (pairs_of read.now.plan.starts)) }
     ensures { IfOk result (λ given. Judges given.1
         (claim read.now.problem read.now.plan.starts read.now.prices)
         read.now.splits read.now.workers (string_bytes given.0)) }
 {
-    // (bounds the reward)
-    let _reach = read.problem.tree().reach();
     match verdict {
         Ok(answer) => Ok((
             certified(alloc, answer.count, answer.cost)?,
