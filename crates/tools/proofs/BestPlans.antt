@@ -12,10 +12,8 @@ use Rattle.price_certificate.specs.Certificate.{Certifies, Claim, HasOneSize, cl
 use Rattle.price_certificate.specs.declared.Condition.TheVariants.{Allowed, SplitPrice, WorkerPrice}
 use Rattle.price_certificate.specs.PriceList.{PriceList}
 use Rattle.text_lines.specs.Texts.{Word}
-use Rattle.plan_text.specs.Names.{splits}
 use Rattle.line_rules.specs.declared.purpose.Purpose.TheVariants.{Planning}
 use Rattle.plan_text.specs.Reading.{HasFitLines, IsProblemOf}
-use Rattle.plan_text.specs.Value as value
 use Rattle.plan_text.specs.Report.{certified_line, price_lines, start_lines, wave_line}
 use Rattle.plan_text.specs.declared.built.ProblemText.{ProblemText}
 use Rattle.written_plan.specs.Joined.{IsWritable, ReadsBack}
