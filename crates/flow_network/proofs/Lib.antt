@@ -7,5 +7,6 @@ pub mod Pushing
 pub mod Room
 pub mod HandOn
 -- the lists of leaving arcs: how add_arc keeps them, what they hold
+pub mod Members
 pub mod Listing
 pub mod Listed

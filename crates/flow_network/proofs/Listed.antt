@@ -1,27 +1,16 @@
 -- What the lists hold, and how long they are together.
 use Rattle.std.proofs.Common.{◌≡◌, ℕ, zero, suc, ◌+◌, ◌*◌, ◌<◌, ◌≤◌, Bool, true, false, cond, eqb, List, []}
-use Rattle.std.proofs.Common.{◌∷◌, ◌++◌, length, get_or, set, refl, sym, ap, ◌∙◌, inl, inr, ◌⊎◌, arith}
-use Rattle.std.proofs.Common.{length-append}
+use Rattle.std.proofs.Common.{◌∷◌, length, get_or, set, refl, sym, ap, ◌∙◌, inl, inr, arith}
+use Rattle.std.proofs.Common.{length-append, Contains}
 use Rattle.std.proofs.lemmas.Bool.{cases_eq, eq-eqb, ne_eqb}
+use Rattle.std.proofs.lemmas.List.Elements.{Contains-get_or, Contains-append_left, Contains-append_right}
+use Rattle.std.proofs.lemmas.List.Elements.{Contains-append_cases}
 use Rattle.flow_network.specs.declared.arcs.FlowArc.{FlowArc}
 use Rattle.flow_network.specs.declared.arcs.ArcNo.{ArcNo}
 use Rattle.flow_network.specs.declared.arcs.ArcNo.TheVariants.{Forward, Reverse}
-use Rattle.flow_network.specs.Flows.{arc_at, arc_index, tail_of, own_leaving, leaving_from}
-use Rattle.flow_network.specs.Leaving.{IsIn, ListsHoldEachArc, marked_sum, LooksAreFew}
-
-pub in_left : (a : ArcNo) (xs ys : List ArcNo) → IsIn a xs → IsIn a (xs ++ ys)
-in_left a [] ys i = absurd i
-in_left a (x ∷ xs) ys (inl e) = inl e
-in_left a (x ∷ xs) ys (inr i) = inr (in_left a xs ys i)
-
-pub in_right : (a : ArcNo) (xs ys : List ArcNo) → IsIn a ys → IsIn a (xs ++ ys)
-in_right a [] ys i = i
-in_right a (x ∷ xs) ys i = inr (in_right a xs ys i)
-
-pub in_split : (a : ArcNo) (xs ys : List ArcNo) → IsIn a (xs ++ ys) → IsIn a xs ⊎ IsIn a ys
-in_split a [] ys i = inr i
-in_split a (x ∷ xs) ys (inl e) = inl (inl e)
-in_split a (x ∷ xs) ys (inr i) = elim (in_split a xs ys i) [ inl l ↦ inl (inr l) | inr r ↦ inr r ]
+use Rattle.flow_network.specs.Flows.{arc_at, arc_index, tail_of, own_leaving, leaving_from, leaving_of}
+use Rattle.flow_network.specs.Leaving.{ListsHoldEachArc, marked_sum, LooksAreFew}
+use Rattle.flow_network.proofs.Members.{Contains-nil, Contains-here, Contains-cons}
 
 -- the end of an arc that the residual arc leaves
 start_of : ArcNo → FlowArc → ℕ
@@ -29,33 +18,37 @@ start_of (Forward i) x = x.from
 start_of (Reverse i) x = x.to
 
 into_own : (a : ArcNo) (k : ℕ) (x : FlowArc) (u : ℕ) → arc_index a ≡ k → start_of a x ≡ u →
-    IsIn a (own_leaving k x u)
+    Contains (own_leaving k x u) a
 unfolding start_of
-into_own (Forward i) k x u e s = grind arith
-into_own (Reverse i) k x u e s = grind arith
+into_own (Forward i) k x u e s = Contains-append_left (cond (eqb x.from u) (Forward k ∷ []) []) _ (Forward i)
+    (rw (e, eq-eqb x.from u s) (Contains-here [] (Forward k)))
+into_own (Reverse i) k x u e s = Contains-append_right _ (cond (eqb x.to u) (Reverse k ∷ []) []) (Reverse i)
+    (rw (e, eq-eqb x.to u s) (Contains-here [] (Reverse k)))
 
-from_own : (a : ArcNo) (k : ℕ) (x : FlowArc) (u : ℕ) → IsIn a (own_leaving k x u) →
+from_own : (a : ArcNo) (k : ℕ) (x : FlowArc) (u : ℕ) → Contains (own_leaving k x u) a →
     (arc_index a ≡ k) × (start_of a x ≡ u)
 unfolding start_of
-from_own a k x u i = grind arith
+from_own a k x u i = grind (arith, i, Contains-append_cases, Contains-cons, Contains-nil)
 
 into : (a : ArcNo) (k : ℕ) (arcs : List FlowArc) (u j : ℕ) → j < length arcs → arc_index a ≡ k + j →
-    start_of a (arc_at arcs j) ≡ u → IsIn a (leaving_from k arcs u)
+    start_of a (arc_at arcs j) ≡ u → Contains (leaving_from k arcs u) a
 into a k [] u j l e s = absurd (omega arith)
 into a k (x ∷ arcs) u zero l e s =
-    in_left a (own_leaving k x u) (leaving_from (suc k) arcs u) (into_own a k x u (omega arith) s)
+    Contains-append_left (own_leaving k x u) (leaving_from (suc k) arcs u) a
+    (into_own a k x u (omega arith) s)
 into a k (x ∷ arcs) u (suc j) l e s =
-    in_right a (own_leaving k x u) (leaving_from (suc k) arcs u)
+    Contains-append_right (own_leaving k x u) (leaving_from (suc k) arcs u) a
     (into a (suc k) arcs u j (omega arith) (omega arith) s)
 
-out_of : (a : ArcNo) (k : ℕ) (arcs : List FlowArc) (u : ℕ) → IsIn a (leaving_from k arcs u) →
+out_of : (a : ArcNo) (k : ℕ) (arcs : List FlowArc) (u : ℕ) → Contains (leaving_from k arcs u) a →
     (j : ℕ) × (arc_index a ≡ k + j) × (j < length arcs) × (start_of a (arc_at arcs j) ≡ u)
-out_of a k [] u i = absurd i
-out_of a k (x ∷ arcs) u i = elim (in_split a (own_leaving k x u) (leaving_from (suc k) arcs u) i) [
-  | inl l ↦ (let o = from_own a k x u l in let e = o.0 in (0, omega arith, omega arith, o.1))
-  | inr r ↦ (let o = out_of a (suc k) arcs u r in let e = o.1 in let m = o.2 in
-      (suc o.0, omega arith, omega arith, o.3))
-]
+out_of a k [] u i = absurd (Contains-nil a i)
+out_of a k (x ∷ arcs) u i =
+    elim (Contains-append_cases (own_leaving k x u) (leaving_from (suc k) arcs u) a i) [
+      | inl l ↦ (let o = from_own a k x u l in let e = o.0 in (0, omega arith, omega arith, o.1))
+      | inr r ↦ (let o = out_of a (suc k) arcs u r in let e = o.1 in let m = o.2 in
+          (suc o.0, omega arith, omega arith, o.3))
+    ]
 
 start_is_tail : (arcs : List FlowArc) (a : ArcNo) → start_of a (arc_at arcs (arc_index a)) ≡ tail_of arcs a
 unfolding start_of
@@ -69,6 +62,12 @@ each_arc arcs u a = (
       let same : o.0 ≡ arc_index a = omega arith in
       (omega arith, sym (start_is_tail arcs a) ∙ ap (λ j. start_of a (arc_at arcs j)) (sym same) ∙ o.3)),
 )
+
+-- each of a node's list is a residual arc that leaves it
+pub leaving_at : (arcs : List FlowArc) (u i : ℕ) (d : ArcNo) → i < length (leaving_of arcs u)
+    → (arc_index (get_or (leaving_of arcs u) i d) < length arcs)
+    × (tail_of arcs (get_or (leaving_of arcs u) i d) ≡ u)
+leaving_at arcs u i d l = (each_arc arcs u _).1 (Contains-get_or (leaving_of arcs u) i d l)
 
 length-cond : (b : Bool) (y : ArcNo) → length (cond b (y ∷ []) []) ≡ cond b 1 0
 length-cond true y = refl
@@ -119,12 +118,6 @@ few_from k (x ∷ arcs) marks =
 
 pub few_looks : LooksAreFew
 few_looks arcs marks = few_from 0 arcs marks
-
--- an element of a list stands in it
-pub in_at : (xs : List ArcNo) (i : ℕ) (d : ArcNo) → i < length xs → IsIn (get_or xs i d) xs
-in_at [] i d l = absurd (omega arith)
-in_at (x ∷ xs) zero d l = inl refl
-in_at (x ∷ xs) (suc i) d l = inr (in_at xs i d (omega arith))
 
 -- one node more is marked
 pub marked_sum-set : (marks : List Bool) (i u : ℕ) (f : ℕ → ℕ) → u < length marks →

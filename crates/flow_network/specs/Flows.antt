@@ -1,7 +1,7 @@
 -- Flows on a list of arcs: residual arcs, paths, what a push does, balance, reduced costs.
 -- arcs : List FlowArc is fixed; flows : List ℕ has the flow of each arc, by the arc's number.
 use Rattle.std.specs.Prelude.{◌≡◌, ℕ, ◌+◌, ◌-◌, ◌<◌, ◌≤◌, ◌==◌, ◌^◌, cond, List, [], ◌∷◌, length}
-use Rattle.std.specs.Prelude.{slice_index_or, slice_index, slice_set, suc, ◌++◌, ℤ, pos, neg_ℤ}
+use Rattle.std.specs.Prelude.{slice_index_or, slice_index, slice_set, suc, ◌++◌, ℤ, pos, neg_ℤ, All}
 use Rattle.flow_network.specs.declared.arcs.FlowArc.{FlowArc}
 use Rattle.flow_network.specs.declared.arcs.ArcNo.{ArcNo}
 use Rattle.flow_network.specs.declared.arcs.ArcNo.TheVariants.{Forward, Reverse}
@@ -112,17 +112,12 @@ path_end arcs [] = 0
 path_end arcs (a ∷ []) = head_of arcs a
 path_end arcs (a ∷ (b ∷ path)) = path_end arcs (b ∷ path)
 
--- each arc of a list has room
-abbrev pub AllResidual : List FlowArc → List ℕ → List ArcNo → Type 0
-AllResidual arcs flows [] = Unit {0}
-AllResidual arcs flows (a ∷ path) = IsResidual arcs flows a × AllResidual arcs flows path
-
 -- what holds while a path is being pushed, with rest still to come
 pub record IsPushing (arcs : List FlowArc) (flows : List ℕ) (rest : List ArcNo) (last : List ℕ) : Type 0 where
   pub sizes : length flows ≡ length arcs
   pub within : WithinCapacities arcs flows
   pub distinct : IsDistinct rest
-  pub residual : AllResidual arcs flows rest
+  pub residual : All (IsResidual arcs flows) rest
   pub rest_is : pushed rest flows ≡ last
 
 -- each arc is between two of so many nodes, and its capacity and cost are within the limits

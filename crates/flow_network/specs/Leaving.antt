@@ -1,17 +1,13 @@
 -- The lists of the residual arcs that leave each node.
-use Rattle.std.specs.Prelude.{◌≡◌, ℕ, ◌+◌, ◌*◌, ◌<◌, ◌≤◌, Bool, cond, List, [], ◌∷◌, length, suc, ◌⊎◌}
+use Rattle.std.specs.Prelude.{◌≡◌, ℕ, ◌+◌, ◌*◌, ◌<◌, ◌≤◌, Bool, cond, List, [], ◌∷◌, length, suc, Contains}
 use Rattle.flow_network.specs.declared.arcs.FlowArc.{FlowArc}
 use Rattle.flow_network.specs.declared.arcs.ArcNo.{ArcNo}
 use Rattle.flow_network.specs.Flows.{arc_index, tail_of, leaving_of}
 
-abbrev pub IsIn : ArcNo → List ArcNo → Type 0
-IsIn a [] = ⊥
-IsIn a (b ∷ bs) = (a ≡ b) ⊎ IsIn a bs
-
 abbrev pub ListsHoldEachArc : Type 0
 ListsHoldEachArc = (arcs : List FlowArc) (u : ℕ) (a : ArcNo)
-    → (arc_index a < length arcs → tail_of arcs a ≡ u → IsIn a (leaving_of arcs u))
-    × (IsIn a (leaving_of arcs u) → (arc_index a < length arcs) × (tail_of arcs a ≡ u))
+    → (arc_index a < length arcs → tail_of arcs a ≡ u → Contains (leaving_of arcs u) a)
+    × (Contains (leaving_of arcs u) a → (arc_index a < length arcs) × (tail_of arcs a ≡ u))
 
 -- the sum over the marked nodes, the first of which has number i
 abbrev pub marked_sum : List Bool → ℕ → (ℕ → ℕ) → ℕ

@@ -1,9 +1,9 @@
 //! The network: a layout of nodes, arcs between them, and the flow of each arc.
 ghost use Rattle.std.specs.Prelude.{◌≡◌, ℕ, ◌+◌, ◌-◌, ◌*◌, ◌<◌, ◌≤◌, ◌^◌, List, [], ◌∷◌, ◌++◌, length, pos};
-ghost use Rattle.std.specs.Prelude.{◌-ℤ◌, OnOk, OnErr, ◌↔◌, IfOk, IfErr, slice_index, true, vec_len};
+ghost use Rattle.std.specs.Prelude.{◌-ℤ◌, OnOk, OnErr, ◌↔◌, IfOk, IfErr, slice_index, true, vec_len, All};
 ghost use Rattle.flow_network.specs.Flows.{tail_of, head_of, residual_of, arc_index, arc_at, IsResidual};
 ghost use Rattle.flow_network.specs.Flows.{IsPath, IsDistinct, pushed, inflow, outflow, unit_at, opposite};
-ghost use Rattle.flow_network.specs.Flows.{WithinCapacities, AllResidual, AreArcs, path_start, path_end};
+ghost use Rattle.flow_network.specs.Flows.{WithinCapacities, AreArcs, path_start, path_end};
 ghost use Rattle.flow_network.specs.Flows.{leaving_of, cost_of, IsNetwork};
 ghost use Rattle.flow_network.specs.Flow.{Flow, IsFlow};
 
@@ -172,14 +172,6 @@ impl<L: Layout> Network<L> {
         gained as i64 - given as i64
     }
 
-    /// What holds of every network, as `layout` tells it too.
-    pub fn limits(&self)
-        ensures { IsNetwork (L.node_count self.now.layout) self.now.arcs self.now.flows }
-    {
-        // (reads the fields, of which the invariant speaks)
-        let _nodes = self.leaving.len();
-    }
-
     /// Pushes one unit along a path of at least one arc, no arc twice, each with room.
     pub fn push(&mut self, path: &[ArcNo])
         requires some_arc { 0 < length path.now }
@@ -192,6 +184,7 @@ impl<L: Layout> Network<L> {
             + outflow self.old.arcs self.old.flows w + unit_at (path_start self.old.arcs path.now) w
             ≡ inflow self.old.arcs self.old.flows w + outflow self.old.arcs self.new.flows w + unit_at
             (path_end self.old.arcs path.now) w }
+        ensures limits { IsNetwork (L.node_count self.new.layout) self.new.arcs self.new.flows }
     {
         self.push_along(path);
     }
@@ -203,6 +196,7 @@ impl<L: Layout> Network<L> {
             (path_end self.old.arcs path.now) }
         ensures pushed { self.new ≡ record self.old { flows = pushed path.now self.old.flows } }
         ensures sizes { length self.old.flows ≡ length self.old.arcs }
+        ensures limits { IsNetwork (L.node_count self.new.layout) self.new.arcs self.new.flows }
     {
         push_units(&self.arcs, &mut self.flows, path);
     }
@@ -311,7 +305,7 @@ fn push_units(arcs: &[FlowArc], flows: &mut [u64], path: &[ArcNo])
     requires sizes { length flows.old ≡ length arcs.now }
     requires within { WithinCapacities arcs.now flows.old }
     requires distinct { IsDistinct path.now }
-    requires residual { AllResidual arcs.now flows.old path.now }
+    requires residual { All (IsResidual arcs.now flows.old) path.now }
     ensures moved { flows.new ≡ pushed path.now flows.old }
     ensures within { WithinCapacities arcs.now flows.new }
 {
