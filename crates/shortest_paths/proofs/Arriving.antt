@@ -1,22 +1,19 @@
 -- A node is reached on a shorter way.
-use Rattle.std.proofs.Common.{◌≡◌, ℕ, ◌+◌, ◌<◌, ◌≤◌, Bool, true, false, List, [], ◌∷◌, set}
-use Rattle.std.proofs.Common.{IsPermutation, refl, sym, ap, ◌∙◌, inl, inr, arith, get_or-set_same}
-use Rattle.std.proofs.Common.{get_or-set_other, length-set}
+use Rattle.std.proofs.Common.{◌≡◌, ℕ, ◌+◌, ◌<◌, ◌≤◌, Bool, true, false, List, [], ◌∷◌, set, IsPermutation}
+use Rattle.std.proofs.Common.{refl, sym, ap, ◌∙◌, inl, inr, arith, get_or-set_same, get_or-set_other}
+use Rattle.std.proofs.Common.{length-set, subst}
 use Rattle.std.proofs.lemmas.Bool.{cases_eq, false≢true}
 use Rattle.std.proofs.lemmas.List.Elements.{Contains-append_right}
 use Rattle.std.proofs.lemmas.List.Sorted.{Contains-permutation, IsPermutation-sym}
 use Rattle.std.specs.Prelude.{slice_index}
 use Rattle.flow_network.specs.declared.arcs.ArcNo.{ArcNo}
-use Rattle.flow_network.specs.Flows.{AreArcs, NoNegative, tail_of, head_of}
-use Rattle.flow_network.specs.Flows.{IsResidual}
+use Rattle.flow_network.specs.Flows.{AreArcs, NoNegative, tail_of, head_of, IsResidual}
+use Rattle.flow_network.proofs.Members.{Contains-here, Contains-there, Contains-cons}
 use Rattle.shortest_paths.specs.declared.arrival.Arrival.{Arrival}
-use Rattle.shortest_paths.specs.Searching.{is_settled}
-use Rattle.shortest_paths.specs.Searching.{Problem, Tables, distance_at, no_arrival, arrival_at, rc}
-use Rattle.shortest_paths.specs.Searching.{IsArrival}
-use Rattle.shortest_paths.specs.Searching.{AreReached, AreWaiting, AreCovered}
+use Rattle.shortest_paths.specs.Searching.{is_settled, Problem, Tables, distance_at, no_arrival, arrival_at}
+use Rattle.shortest_paths.specs.Searching.{rc, IsArrival, AreReached, AreWaiting, AreCovered}
 use Rattle.shortest_paths.specs.ToSink.{far}
 use Rattle.shortest_paths.proofs.Costs.{residual_cost, reduced_bound}
-use Rattle.shortest_paths.proofs.Members.{in_front, first_in}
 
 pub not_settled : (settled : List Bool) (u v : ℕ) → is_settled settled u ≡ true → is_settled settled v ≡ false
     → u ≡ v → ⊥
@@ -131,13 +128,13 @@ module _ (p : Problem) (nodes level : ℕ) (distances : List ℕ) (arrivals : Li
   waits_near entering queue e w = record {
     next = λ y c. elim (cases_eq y v) [
       | inl s ↦ rw s (fresh, at_new ∙ e)
-      | inr n ↦ elim (in_front v y entering c) [
+      | inr n ↦ elim (Contains-cons v entering y c) [
         | inl s ↦ absurd (n (sym s))
         | inr old ↦ (let q = w.next y old in (q.0, at_other y n ∙ q.1))
       ]
     ];
     waiting = λ y s near. elim (cases_eq y v) [
-      | inl same ↦ rw same (inl (first_in v entering))
+      | inl same ↦ rw same (inl (Contains-here entering v))
       | inr n ↦ (let same = at_other y n in elim (w.waiting y s (omega arith)) [
         | inl c ↦ inl (Contains-append_right (v ∷ []) entering y c)
         | inr c ↦ inr (rw (at_other y n) c)
@@ -156,7 +153,7 @@ module _ (p : Problem) (nodes level : ℕ) (distances : List ℕ) (arrivals : Li
         (q.0, at_other y n ∙ q.1));
     waiting = λ y s near. elim (cases_eq y v) [
       | inl same ↦ inr (rw (same, at_new) (Contains-permutation ((x, v) ∷ queue) queue' (x, v) more
-          (first_in (x, v) queue)))
+          (Contains-here queue (x, v))))
       | inr n ↦ (let same = at_other y n in elim (w.waiting y s (omega arith)) [
         | inl c ↦ inl c
         | inr c ↦ inr (rw (at_other y n)
@@ -164,7 +161,7 @@ module _ (p : Problem) (nodes level : ℕ) (distances : List ℕ) (arrivals : Li
             (Contains-append_right ((x, v) ∷ []) queue _ c)))
       ])
     ];
-    queued = λ c y q. elim (in_front (x, v) (c, y) queue
+    queued = λ c y q. elim (Contains-cons (x, v) queue (c, y)
         (Contains-permutation queue' ((x, v) ∷ queue) (c, y) (IsPermutation-sym ((x, v) ∷ queue) queue' more)
         q)) [
           | inl e ↦ (let cost : x ≡ c = ap (λ (r : ℕ × ℕ). r.0) e in let node : v
@@ -185,4 +182,20 @@ pub covers : (p : Problem) (level : ℕ) (a : ArcNo) (rest : List ArcNo) (t : Ta
     → AreCovered p level (a ∷ rest) t
     → AreCovered p level rest
     (record t { distances = distances'; arrivals = arrivals'; queue = queue'; reached = reached' })
-covers p level a rest t distances' arrivals' queue' reached' falls kept now c = grind arith
+covers p level a rest t distances' arrivals' queue' reached' falls kept now c = record {
+  on_stack = λ u o. (let q = c.on_stack u o in (q.0, kept u q.0 ∙ q.1));
+  cursors = c.cursors;
+  of_rest = λ b i. (let q = c.of_rest b (Contains-there a rest b i) in
+      (q.0, q.1, kept (tail_of p.arcs b) q.1 ∙ q.2));
+  covered = λ b r m. (let same = kept (tail_of p.arcs b) m in elim (c.covered b r m) [
+    | inl done ↦ inl (let low = falls (head_of p.arcs b) in omega arith)
+    | inr more ↦ elim more [
+      | inl i ↦ elim (Contains-cons a rest b i) [
+        | inl e ↦ inl (let near = now (subst (IsResidual p.arcs p.flows) (sym e) r) in
+            let at = kept (tail_of p.arcs a) (rw (← e) at m) in rw (← e) (omega arith))
+        | inr held ↦ inr (inl held)
+      ]
+      | inr cursor ↦ inr (inr cursor)
+    ]
+  ]);
+}

@@ -1,61 +1,49 @@
 -- The cursors of the nodes on the stack move, and a node leaves it.
-use Rattle.std.proofs.Common.{◌≡◌, ℕ, zero, suc, ◌+◌, ◌<◌, ◌≤◌, true, List, [], ◌∷◌, ◌++◌, length, map, take}
-use Rattle.std.proofs.Common.{get_or, set, Contains, refl, ◌∙◌, subst, inl, inr, ◌⊎◌, arith}
+use Rattle.std.proofs.Common.{◌≡◌, ℕ, ◌+◌, ◌<◌, ◌≤◌, true, List, [], ◌∷◌, ◌++◌, length, map, take}
+use Rattle.std.proofs.Common.{get_or, set, Contains, refl, ap, ◌∙◌, subst, inl, inr, ◌⊎◌, arith}
 use Rattle.std.proofs.Common.{get_or-set_same, get_or-set_other, length-set}
 use Rattle.std.proofs.lemmas.Bool.{cases_eq}
-use Rattle.std.proofs.lemmas.List.{take_more}
+use Rattle.std.proofs.lemmas.List.{take_more, map-append}
 use Rattle.std.proofs.lemmas.List.Elements.{Contains-append_left, Contains-push_cases}
+use Rattle.std.proofs.lemmas.List.Elements.{Contains-get_or, Contains-append_right, Contains-append_cases}
 use Rattle.flow_network.specs.declared.arcs.ArcNo.{ArcNo}
 use Rattle.flow_network.specs.declared.arcs.ArcNo.TheVariants.{Forward, Reverse}
 use Rattle.flow_network.specs.Flows.{tail_of, arc_index}
-use Rattle.flow_network.specs.Leaving.{IsIn}
-use Rattle.flow_network.proofs.Listed.{in_left, in_right, in_split, in_at}
+use Rattle.flow_network.proofs.Members.{Contains-nil, Contains-here, Contains-there, Contains-cons}
+use Rattle.flow_network.proofs.Members.{Contains-map}
 use Rattle.shortest_paths.specs.Lists.{ArcLists, AreResidualArcs, inner_at, matched_at, sink_arcs_at}
-use Rattle.shortest_paths.specs.Lists.{first_arcs}
-use Rattle.shortest_paths.specs.Lists.{stack_arcs}
-use Rattle.shortest_paths.specs.Searching.{is_settled}
-use Rattle.shortest_paths.specs.Searching.{Problem, Tables, distance_at, IsSearching}
+use Rattle.shortest_paths.specs.Lists.{first_arcs, stack_arcs}
+use Rattle.shortest_paths.specs.Searching.{is_settled, Problem, Tables, distance_at, IsSearching}
 use Rattle.shortest_paths.proofs.Sums.{less_at}
-
-in_map : (ks : List ℕ) (k : ℕ) (b : ArcNo) → IsIn b (map Reverse (ks ++ k ∷ []))
-    → IsIn b (map Reverse ks) ⊎ (b ≡ Reverse k)
-in_map [] k b (inl e) = inr e
-in_map [] k b (inr n) = absurd n
-in_map (j ∷ ks) k b (inl e) = inl (inl e)
-in_map (j ∷ ks) k b (inr i) = elim (in_map ks k b i) [ inl o ↦ inl (inr o) | inr e ↦ inr e ]
-
-pub map_at : (ks : List ℕ) (i : ℕ) → i < length ks → IsIn (Reverse (get_or ks i 0)) (map Reverse ks)
-map_at [] i l = absurd (omega arith)
-map_at (k ∷ ks) zero l = inl refl
-map_at (k ∷ ks) (suc i) l = inr (map_at ks i (omega arith))
 
 -- an arc before a cursor was the last one, or stands before the cursor that is one less
 first_inner : (g : ArcLists) (u k m : ℕ) (b : ArcNo) → k < length (inner_at g u)
-    → IsIn b (first_arcs g u (k + 1) m)
-    → IsIn b (first_arcs g u k m) ⊎ (b ≡ get_or (inner_at g u) k (Forward 0))
+    → Contains (first_arcs g u (k + 1) m) b
+    → Contains (first_arcs g u k m) b ⊎ (get_or (inner_at g u) k (Forward 0) ≡ b)
 first_inner g u k m b l i =
     let lists : List ArcNo = map Reverse (take m (matched_at g u)) in
     let xs : List ArcNo = inner_at g u in
-    elim (in_split b (take (k + 1) xs) lists i) [
-      | inr old ↦ inl (in_right b (take k xs) lists old)
-      | inl held ↦ elim (in_split b (take k xs) (get_or xs k (Forward 0) ∷ [])
-          (subst (λ ys. IsIn b ys) (take_more xs k (Forward 0) l) held)) [
-            | inl old ↦ inl (in_left b (take k xs) lists old)
-            | inr e ↦ elim e [ inl same ↦ inr same | inr n ↦ absurd n ]
+    elim (Contains-append_cases (take (k + 1) xs) lists b i) [
+      | inr old ↦ inl (Contains-append_right (take k xs) lists b old)
+      | inl held ↦ elim (Contains-push_cases (take k xs) (get_or xs k (Forward 0)) b
+          (subst (λ ys. Contains ys b) (take_more xs k (Forward 0) l) held)) [
+            | inl old ↦ inl (Contains-append_left (take k xs) lists b old)
+            | inr e ↦ inr e
           ]
     ]
 
 first_matched : (g : ArcLists) (u n k : ℕ) (b : ArcNo) → k < length (matched_at g u)
-    → IsIn b (first_arcs g u n (k + 1))
-    → IsIn b (first_arcs g u n k) ⊎ (b ≡ Reverse (get_or (matched_at g u) k 0))
+    → Contains (first_arcs g u n (k + 1)) b
+    → Contains (first_arcs g u n k) b ⊎ (Reverse (get_or (matched_at g u) k 0) ≡ b)
 first_matched g u n k b l i =
     let xs : List ArcNo = take n (inner_at g u) in
     let ks : List ℕ = matched_at g u in
-    elim (in_split b xs (map Reverse (take (k + 1) ks)) i) [
-      | inl old ↦ inl (in_left b xs (map Reverse (take k ks)) old)
-      | inr held ↦ elim (in_map (take k ks) (get_or ks k 0) b
-          (subst (λ ys. IsIn b (map Reverse ys)) (take_more ks k 0 l) held)) [
-            | inl old ↦ inl (in_right b xs (map Reverse (take k ks)) old)
+    elim (Contains-append_cases xs (map Reverse (take (k + 1) ks)) b i) [
+      | inl old ↦ inl (Contains-append_left xs (map Reverse (take k ks)) b old)
+      | inr held ↦ elim (Contains-push_cases (map Reverse (take k ks)) (Reverse (get_or ks k 0)) b
+          (subst (λ ys. Contains ys b) (ap (map Reverse) (take_more ks k 0 l)
+          ∙ map-append Reverse (take k ks) (get_or ks k 0 ∷ [])) held)) [
+            | inl old ↦ inl (Contains-append_right xs (map Reverse (take k ks)) b old)
             | inr e ↦ inr e
           ]
     ]
@@ -65,22 +53,24 @@ module _ (p : Problem) (nodes level count : ℕ) (entering : List ℕ) (rest : L
     (s : IsSearching p nodes level count entering rest t)
     (lists : AreResidualArcs p.arcs p.flows p.sink p.lists) (u : ℕ) (on : Contains t.stack u)
     (inside : u < nodes) where
-  module _ (a : ArcNo) (own : IsIn a (sink_arcs_at p.lists u ++ stack_arcs p.lists u))
+  module _ (a : ArcNo) (own : Contains (sink_arcs_at p.lists u ++ stack_arcs p.lists u) a)
       (left left_matched : List ℕ) (size : length left ≡ nodes) (size_matched : length left_matched ≡ nodes)
       (other : (w : ℕ) → (w ≡ u → ⊥) → (get_or left w 0 ≡ get_or t.left w 0)
       × (get_or left_matched w 0 ≡ get_or t.left_matched w 0))
       (one_less : get_or left u 0 + get_or left_matched u 0 + 1
       ≡ get_or t.left u 0 + get_or t.left_matched u 0)
       (within : (get_or left u 0 ≤ get_or t.left u 0) × (get_or left_matched u 0 ≤ get_or t.left_matched u 0))
-      (before : (b : ArcNo) → IsIn b (first_arcs p.lists u (get_or t.left u 0) (get_or t.left_matched u 0))
-      → IsIn b (first_arcs p.lists u (get_or left u 0) (get_or left_matched u 0)) ⊎ (b ≡ a)) where
-    moved_rest : (b : ArcNo) → IsIn b (a ∷ rest)
+      (before : (b : ArcNo)
+      → Contains (first_arcs p.lists u (get_or t.left u 0) (get_or t.left_matched u 0)) b
+      → Contains (first_arcs p.lists u (get_or left u 0) (get_or left_matched u 0)) b ⊎ (a ≡ b)) where
+    moved_rest : (b : ArcNo) → Contains (a ∷ rest) b
         → (arc_index b < length p.arcs) × (is_settled t.settled (tail_of p.arcs b) ≡ true)
         × (distance_at t.distances (tail_of p.arcs b) ≡ level)
-    moved_rest b (inr old) = s.covered.of_rest b old
-    moved_rest b (inl q) =
-        let o = lists.own u a own in let here = s.covered.on_stack u on in
-        rw (q, o.1) (o.0, here.0, here.1)
+    moved_rest b i = elim (Contains-cons a rest b i) [
+      | inl q ↦ (let o = lists.own u a own in let here = s.covered.on_stack u on in
+          rw (← q, o.1) (o.0, here.0, here.1))
+      | inr old ↦ s.covered.of_rest b old
+    ]
 
     moves : IsSearching p nodes level count entering (a ∷ rest)
         (record t { left = left; left_matched = left_matched })
@@ -107,7 +97,7 @@ module _ (p : Problem) (nodes level count : ℕ) (entering : List ℕ) (rest : L
             covered = λ b r m. elim (c.covered b r m) [
               | inl done ↦ inl done
               | inr more ↦ elim more [
-                | inl held ↦ inr (inl (inr held))
+                | inl held ↦ inr (inl (Contains-there a rest b held))
                 | inr cursor ↦ elim (cases_eq (tail_of p.arcs b) u) [
                   | inr n ↦ inr (inr (
                     cursor.0,
@@ -118,7 +108,7 @@ module _ (p : Problem) (nodes level count : ℕ) (entering : List ℕ) (rest : L
                   ))
                   | inl q ↦ elim (before b (rw q at cursor.1)) [
                     | inl held ↦ inr (inr (rw q on, rw q held))
-                    | inr same ↦ inr (inl (inl same))
+                    | inr same ↦ inr (inl (subst (Contains (a ∷ rest)) same (Contains-here rest a)))
                   ]
                 ]
               ]
@@ -136,9 +126,9 @@ module _ (p : Problem) (nodes level count : ℕ) (entering : List ℕ) (rest : L
       let size = s.left_size in
       let now : get_or (set t.left u k) u 0 ≡ k = get_or-set_same t.left u k 0 (omega arith) in
       moves (get_or (inner_at p.lists u) k (Forward 0))
-      (in_right _ (sink_arcs_at p.lists u) (stack_arcs p.lists u)
-      (in_left _ (inner_at p.lists u) (map Reverse (matched_at p.lists u))
-      (in_at (inner_at p.lists u) k (Forward 0) (omega arith))))
+      (Contains-append_right (sink_arcs_at p.lists u) (stack_arcs p.lists u) _
+      (Contains-append_left (inner_at p.lists u) (map Reverse (matched_at p.lists u)) _
+      (Contains-get_or (inner_at p.lists u) k (Forward 0) (omega arith))))
       (set t.left u k) t.left_matched (length-set t.left u k ∙ size) s.left_matched_size
       (λ w n. (get_or-set_other t.left u w k 0 n, refl)) (omega arith) (omega arith, omega arith)
       (λ b i. rw now (first_inner p.lists u k (get_or t.left_matched u 0) b (omega arith) (rw e at i)))
@@ -152,9 +142,10 @@ module _ (p : Problem) (nodes level count : ℕ) (entering : List ℕ) (rest : L
       let now : get_or (set t.left_matched u k) u 0 ≡ k = get_or-set_same t.left_matched u k 0
       (omega arith) in
       moves (Reverse (get_or (matched_at p.lists u) k 0))
-      (in_right _ (sink_arcs_at p.lists u) (stack_arcs p.lists u)
-      (in_right _ (inner_at p.lists u) (map Reverse (matched_at p.lists u))
-      (map_at (matched_at p.lists u) k (omega arith))))
+      (Contains-append_right (sink_arcs_at p.lists u) (stack_arcs p.lists u) _
+      (Contains-append_right (inner_at p.lists u) (map Reverse (matched_at p.lists u)) _
+      (Contains-map Reverse (matched_at p.lists u) _
+      (Contains-get_or (matched_at p.lists u) k 0 (omega arith)))))
       t.left (set t.left_matched u k) s.left_size (length-set t.left_matched u k ∙ size)
       (λ w n. (refl, get_or-set_other t.left_matched u w k 0 n)) (omega arith) (omega arith, omega arith)
       (λ b i. rw now (first_matched p.lists u (get_or t.left u 0) k b (omega arith) (rw e at i)))
@@ -181,8 +172,8 @@ popped p nodes level count entering rest t stack u e none none_matched s =
             | inl held ↦ inr (inl held)
             | inr cursor ↦ elim (Contains-push_cases stack u (tail_of p.arcs b) (rw e at cursor.0)) [
               | inl old ↦ inr (inr (old, cursor.1))
-              | inr top ↦ absurd (let i : IsIn b (first_arcs p.lists u 0 0) =
-                  (rw (← top, none, none_matched) at cursor.1) in i)
+              | inr top ↦ absurd (let i : Contains (first_arcs p.lists u 0 0) b =
+                  (rw (← top, none, none_matched) at cursor.1) in Contains-nil b i)
             ]
           ]
         ];

@@ -1,52 +1,41 @@
 -- Lists that are kept are the residual arcs by which a search goes on.
-use Rattle.std.proofs.Common.{◌≡◌, ℕ, zero, suc, ◌<◌, ◌≤◌, Bool, true, false, List, [], ◌∷◌, ◌++◌}
+use Rattle.std.proofs.Common.{◌≡◌, ℕ, ◌<◌, ◌≤◌, Bool, true, false, cond, List, [], ◌∷◌, ◌++◌}
 use Rattle.std.proofs.Common.{length, map, get_or, refl, sym, ap, ◌∙◌, subst, inl, inr, ◌⊎◌, arith}
 use Rattle.std.proofs.Common.{length-append, Contains, replicate, Option, None}
 use Rattle.std.specs.Cmp.{nat_eq_equiv}
 use Rattle.std.proofs.lemmas.Bool.{cases_Bool, cases_lt, false≢true}
-use Rattle.std.proofs.lemmas.List.{append-nil, get_or_past}
+use Rattle.std.proofs.lemmas.List.{append-nil, get_or_past, length-map}
 use Rattle.std.proofs.lemmas.Bool.Decides.{Decides-eqb}
 use Rattle.std.proofs.lemmas.List.Elements.{Contains-append_right}
 use Rattle.std.proofs.lemmas.Map.Made.{length-le_from_is_member, is_member-Decides}
+use Rattle.std.proofs.lemmas.List.Elements.{Contains-append_left, Contains-append_cases}
 use Rattle.flow_network.specs.declared.arcs.FlowArc.{FlowArc}
 use Rattle.flow_network.specs.declared.arcs.ArcNo.{ArcNo}
 use Rattle.flow_network.specs.declared.arcs.ArcNo.TheVariants.{Forward, Reverse}
 use Rattle.flow_network.specs.Flows.{AreArcs, arc_at, arc_index, tail_of, leaving_of, IsResidual}
-use Rattle.flow_network.specs.Leaving.{IsIn}
-use Rattle.flow_network.proofs.Listed.{each_arc, in_left, in_right, in_split}
+use Rattle.flow_network.proofs.Listed.{each_arc}
+use Rattle.flow_network.proofs.Members.{Contains-nil, Contains-here, Contains-cons, Contains-map}
+use Rattle.flow_network.proofs.Members.{Contains-from_map, replicated_at}
 use Rattle.shortest_paths.proofs.Costs.{tail_in}
-use Rattle.shortest_paths.proofs.Members.{replicated_at}
 use Rattle.shortest_paths.specs.Lists.{ArcLists, AreResidualArcs, source_at, inner_at, matched_at}
-use Rattle.shortest_paths.specs.Lists.{option_arcs}
-use Rattle.shortest_paths.specs.Lists.{sink_arcs_at, stack_arcs}
+use Rattle.shortest_paths.specs.Lists.{option_arcs, sink_arcs_at, stack_arcs}
 use Rattle.shortest_paths.specs.Matched.{AreMatched}
 use Rattle.shortest_paths.specs.Sorted.{LeadsToSource, AreSorted, back_numbers}
 
--- the members of a list as residual arcs
-into_map : (xs : List ℕ) (k i : ℕ) → i < length xs → get_or xs i k ≡ k → IsIn (Reverse k) (map Reverse xs)
-into_map [] k i l e = absurd (omega arith)
-into_map (x ∷ xs) k zero l e = inl (ap Reverse (sym e))
-into_map (x ∷ xs) k (suc i) l e = inr (into_map xs k i (omega arith) e)
-
-out_of_map : (xs : List ℕ) (a : ArcNo) → IsIn a (map Reverse xs) → (k : ℕ) × (a ≡ Reverse k) × Contains xs k
-out_of_map [] a i = absurd i
-out_of_map (x ∷ xs) a (inl e) = (x, e, (0, omega arith, refl))
-out_of_map (x ∷ xs) a (inr i) = let r = out_of_map xs a i in
-    (r.0, r.1, Contains-append_right (x ∷ []) xs r.0 r.2)
-
-length-map : (xs : List ℕ) → length (map Reverse xs) ≡ length xs
-length-map [] = refl
-length-map (x ∷ xs) = ap suc (length-map xs)
-
 -- an arc back to a source has its number among those that lead back
-back_held : (arcs : List FlowArc) (is_source : List Bool) (all : List ArcNo) (k : ℕ) → IsIn (Reverse k) all
-    → get_or is_source (arc_at arcs k).from false ≡ true → Contains (back_numbers arcs is_source all) k
-back_held arcs is_source [] k i s = absurd i
-back_held arcs is_source (Forward j ∷ all) k (inl e) s = absurd (let q : Reverse k ≡ Forward j = e in cc)
-back_held arcs is_source (Forward j ∷ all) k (inr i) s = back_held arcs is_source all k i s
-back_held arcs is_source (Reverse j ∷ all) k (inl e) s = grind arith
-back_held arcs is_source (Reverse j ∷ all) k (inr i) s =
-    grind (arith, back_held arcs is_source all k i s, Contains-append_right)
+back_held : (arcs : List FlowArc) (is_source : List Bool) (all : List ArcNo) (k : ℕ)
+    → Contains all (Reverse k) → get_or is_source (arc_at arcs k).from false ≡ true
+    → Contains (back_numbers arcs is_source all) k
+back_held arcs is_source [] k i s = absurd (Contains-nil (Reverse k) i)
+back_held arcs is_source (Forward j ∷ all) k i s = elim (Contains-cons (Forward j) all (Reverse k) i) [
+  | inl e ↦ absurd (let q : Forward j ≡ Reverse k = e in cc)
+  | inr rest ↦ back_held arcs is_source all k rest s
+]
+back_held arcs is_source (Reverse j ∷ all) k i s = elim (Contains-cons (Reverse j) all (Reverse k) i) [
+  | inl e ↦ (let q : j ≡ k = cc in rw (q, s) (Contains-here (back_numbers arcs is_source all) k))
+  | inr rest ↦ Contains-append_right (cond (get_or is_source (arc_at arcs j).from false) (j ∷ []) [])
+      (back_numbers arcs is_source all) k (back_held arcs is_source all k rest s)
+]
 
 none_in : (xs : List ℕ) → ((k : ℕ) → Contains xs k → ⊥) → xs ≡ []
 none_in [] n = refl
@@ -66,32 +55,32 @@ module _ (nodes : ℕ) (arcs : List FlowArc) (flows : List ℕ) (sink : ℕ) (g 
       false≢true (sym (sorted.no_entry k o.listed) ∙ ap (λ u. source_at g u) o.ends ∙ on)))
 
   -- an arc of a node stands among the sorted ones, or leads back to a matched source
-  held_or_matched : (v : ℕ) (a : ArcNo) → IsIn a (sink_arcs_at g v ++ stack_arcs g v)
-      → IsIn a (sink_arcs_at g v ++ inner_at g v) ⊎ IsIn a (map Reverse (matched_at g v))
-  held_or_matched v a i = elim (in_split a (sink_arcs_at g v) (stack_arcs g v) i) [
-    | inl out ↦ inl (in_left a (sink_arcs_at g v) (inner_at g v) out)
-    | inr more ↦ elim (in_split a (inner_at g v) (map Reverse (matched_at g v)) more) [
-      | inl held ↦ inl (in_right a (sink_arcs_at g v) (inner_at g v) held)
+  held_or_matched : (v : ℕ) (a : ArcNo) → Contains (sink_arcs_at g v ++ stack_arcs g v) a
+      → Contains (sink_arcs_at g v ++ inner_at g v) a ⊎ Contains (map Reverse (matched_at g v)) a
+  held_or_matched v a i = elim (Contains-append_cases (sink_arcs_at g v) (stack_arcs g v) a i) [
+    | inl out ↦ inl (Contains-append_left (sink_arcs_at g v) (inner_at g v) a out)
+    | inr more ↦ elim (Contains-append_cases (inner_at g v) (map Reverse (matched_at g v)) a more) [
+      | inl held ↦ inl (Contains-append_right (sink_arcs_at g v) (inner_at g v) a held)
       | inr matched_arc ↦ inr matched_arc
     ]
   ]
 
-  held : (v : ℕ) (a : ArcNo) → IsIn a (sink_arcs_at g v ++ inner_at g v) →
-      IsIn a (sink_arcs_at g v ++ stack_arcs g v)
-  held v a i = elim (in_split a (sink_arcs_at g v) (inner_at g v) i) [
-    | inl out ↦ in_left a (sink_arcs_at g v) (stack_arcs g v) out
-    | inr own ↦ in_right a (sink_arcs_at g v) (stack_arcs g v)
-        (in_left a (inner_at g v) (map Reverse (matched_at g v)) own)
+  held : (v : ℕ) (a : ArcNo) → Contains (sink_arcs_at g v ++ inner_at g v) a →
+      Contains (sink_arcs_at g v ++ stack_arcs g v) a
+  held v a i = elim (Contains-append_cases (sink_arcs_at g v) (inner_at g v) a i) [
+    | inl out ↦ Contains-append_left (sink_arcs_at g v) (stack_arcs g v) a out
+    | inr own ↦ Contains-append_right (sink_arcs_at g v) (stack_arcs g v) a
+        (Contains-append_left (inner_at g v) (map Reverse (matched_at g v)) a own)
   ]
 
   matched_arc : (v k : ℕ) → Contains (matched_at g v) k
-      → IsIn (Reverse k) (sink_arcs_at g v ++ stack_arcs g v)
-  matched_arc v k c = in_right (Reverse k) (sink_arcs_at g v) (stack_arcs g v)
-      (in_right (Reverse k) (inner_at g v) (map Reverse (matched_at g v))
-      (into_map (matched_at g v) k c.0 c.1 c.2))
+      → Contains (sink_arcs_at g v ++ stack_arcs g v) (Reverse k)
+  matched_arc v k c = Contains-append_right (sink_arcs_at g v) (stack_arcs g v) (Reverse k)
+      (Contains-append_right (inner_at g v) (map Reverse (matched_at g v)) (Reverse k)
+      (Contains-map Reverse (matched_at g v) k c))
 
   back : (a : ArcNo) → LeadsToSource arcs g.is_source a → IsResidual arcs flows a
-      → IsIn a (sink_arcs_at g (tail_of arcs a) ++ stack_arcs g (tail_of arcs a))
+      → Contains (sink_arcs_at g (tail_of arcs a) ++ stack_arcs g (tail_of arcs a)) a
   back (Forward k) leads r = absurd leads
   back (Reverse k) leads r = matched_arc (arc_at arcs k).to k (matched.each (arc_at arcs k).to k
       (record { listed = r.listed; from_source = leads; ends = refl }) r.room)
@@ -112,11 +101,11 @@ module _ (nodes : ℕ) (arcs : List FlowArc) (flows : List ℕ) (sink : ℕ) (g 
     own = λ v a i. elim (held_or_matched v a i) [
       | inl own ↦ elim (cases_Bool (source_at g v)) [
         | inr off ↦ (each_arc arcs v a).1 ((sorted.listed.sorted v off).own a own)
-        | inl on ↦ absurd (let n : IsIn a [] = subst (λ xs. IsIn a xs) (none_at v on) own in n)
+        | inl on ↦ absurd (Contains-nil a (subst (λ xs. Contains xs a) (none_at v on) own))
       ]
-      | inr stands ↦ (let m = out_of_map (matched_at g v) a stands in
+      | inr stands ↦ (let m = Contains-from_map Reverse (matched_at g v) a stands in
           let o = (matched.just v m.0 m.2).0 in
-          subst (λ b. (arc_index b < length arcs) × (tail_of arcs b ≡ v)) (sym m.1) (o.listed, o.ends))
+          subst (λ b. (arc_index b < length arcs) × (tail_of arcs b ≡ v)) m.1 (o.listed, o.ends))
     ];
     complete = λ a r no_source.
         (let u : ℕ = tail_of arcs a in
@@ -126,14 +115,14 @@ module _ (nodes : ℕ) (arcs : List FlowArc) (flows : List ℕ) (sink : ℕ) (g 
         ]);
     sink_arcs_lead = λ v a i. elim (cases_Bool (source_at g v)) [
       | inr off ↦ (sorted.listed.sorted v off).leads a i
-      | inl on ↦ absurd (let n : IsIn a [] = subst (λ xs. IsIn a xs) (none_at v on)
-          (in_left a (sink_arcs_at g v) (inner_at g v) i) in n)
+      | inl on ↦ absurd (Contains-nil a (subst (λ xs. Contains xs a) (none_at v on)
+          (Contains-append_left (sink_arcs_at g v) (inner_at g v) a i)))
     ];
     few = λ v.
         (let all = length-append (sink_arcs_at g v) (stack_arcs g v) in
         let parts = length-append (inner_at g v) (map Reverse (matched_at g v)) in
         let own = length-append (sink_arcs_at g v) (inner_at g v) in
-        let same = length-map (matched_at g v) in
+        let same = length-map (matched_at g v) Reverse in
         elim (cases_Bool (source_at g v)) [
           | inr off ↦ (let most = (sorted.listed.sorted v off).few in let lists = few_matched v in
               omega arith)
@@ -163,15 +152,15 @@ module _ (nodes : ℕ) (arcs : List FlowArc) (g : ArcLists) (are : AreArcs nodes
     no_entry = λ k l. ap (λ (xs : List Bool). get_or xs (arc_at arcs k).to false) sources
         ∙ replicated_at nodes (arc_at arcs k).to false;
     own = λ v a i. elim (cases_lt v nodes) [
-      | inl l ↦ (each_arc arcs v a).1 (subst (λ (xs : List ArcNo). IsIn a xs) (at_node v ∙ each v l) i)
-      | inr past ↦ absurd (let n : IsIn a [] = subst (λ (xs : List ArcNo). IsIn a xs)
-          (at_node v ∙ get_or_past g.inner v [] (omega arith)) i in n)
+      | inl l ↦ (each_arc arcs v a).1 (subst (λ (xs : List ArcNo). Contains xs a) (at_node v ∙ each v l) i)
+      | inr past ↦ absurd (Contains-nil a (subst (λ (xs : List ArcNo). Contains xs a)
+          (at_node v ∙ get_or_past g.inner v [] (omega arith)) i))
     ];
-    complete = λ a r no_source. subst (λ (xs : List ArcNo). IsIn a xs)
+    complete = λ a r no_source. subst (λ (xs : List ArcNo). Contains xs a)
         (sym (at_node (tail_of arcs a) ∙ each (tail_of arcs a) (tail_in nodes arcs a are r.listed)))
         ((each_arc arcs (tail_of arcs a) a).0 r.listed refl);
-    sink_arcs_lead = λ v a i. absurd (let n : IsIn a [] = subst (λ (xs : List ArcNo). IsIn a xs)
-        (no_sink_arc v) i in n);
+    sink_arcs_lead = λ v a i. absurd (Contains-nil a (subst (λ (xs : List ArcNo). Contains xs a)
+        (no_sink_arc v) i));
     few = λ v. (let all = ap (λ (xs : List ArcNo). length xs) (at_node v) in elim (cases_lt v nodes) [
       | inl l ↦ (let same = ap (λ (xs : List ArcNo). length xs) (each v l) in omega arith)
       | inr past ↦ (let none = ap (λ (xs : List ArcNo). length xs) (get_or_past g.inner v [] (omega arith)) in

@@ -1,5 +1,4 @@
 -- members of lists, the order of the queue, costs
-pub mod Members
 pub mod InOrder
 pub mod Costs
 -- the lists of each node's arcs, and the matched sources among them

@@ -1,6 +1,6 @@
 -- A look at an arc of a search, by what the code reads, and what it asks.
 use Rattle.std.proofs.Common.{◌≡◌, ℕ, ◌+◌, ◌*◌, ◌^◌, ◌<◌, ◌≤◌, ℤ, List, [], ◌∷◌, length, get_or}
-use Rattle.std.proofs.Common.{◌-◌, take, set, IsPermutation, Option, Some, None, refl, sym, ap, ◌∙◌, subst}
+use Rattle.std.proofs.Common.{◌-◌, take, set, IsPermutation, Option, Some, None, sym, ap, ◌∙◌, subst}
 use Rattle.std.proofs.Common.{inl, inr, arith}
 use Rattle.std.proofs.lemmas.Bool.{cases_lt}
 use Rattle.std.proofs.lemmas.List.{get_or_default}
@@ -11,6 +11,7 @@ use Rattle.flow_network.specs.declared.arcs.ArcNo.TheVariants.{Forward}
 use Rattle.flow_network.specs.Flow.{Counted}
 use Rattle.flow_network.specs.Flows.{AreArcs, NoNegative, tail_of, head_of, arc_index, cost_of, IsResidual}
 use Rattle.flow_network.specs.Flows.{residual_of, reduced_cost}
+use Rattle.flow_network.proofs.Members.{Contains-here}
 use Rattle.shortest_paths.specs.declared.arrival.Arrival.{Arrival}
 use Rattle.shortest_paths.specs.declared.query.Query.{Query}
 use Rattle.shortest_paths.specs.declared.search.Search.{Search}
@@ -37,11 +38,11 @@ pub is_open : {L : Type 0} {node_count : L → ℕ} {m : Counted L} {q : Query} 
     → Searches node_count m q level [] (a ∷ rest) s → tail_of m.network.arcs a ≡ node
     → to ≡ head_of m.network.arcs a → room ≡ residual_of m.network.arcs m.network.flows a
     → cost ≡ cost_of m.network.arcs a → (room ≡ 0 → ⊥) → IsOpen (problem m.network q) a node to cost
-is_open {m = m} {q = q} {a = a} {room = room} state leaves at is seen some =
+is_open {m = m} {q = q} {a = a} {rest = rest} {room = room} state leaves at is seen some =
     let p = problem m.network q in
     let priced = state.may.priced in
     let r : IsResidual p.arcs p.flows a = record {
-      listed = (state.now.covered.of_rest a (inl refl)).0;
+      listed = (state.now.covered.of_rest a (Contains-here rest a)).0;
       room = elim (cases_lt 0 (residual_of p.arcs p.flows a)) [
         | inl l ↦ l
         | inr none ↦ absurd (some (omega arith))
@@ -148,8 +149,8 @@ pub may_look : {n : ℕ} {p : Problem} {level count : ℕ} {entering : List ℕ}
     → IsSearching p (length p.depths) level count entering (a ∷ rest) t → IsPriced n p.arcs p.flows p.depths
     → (count + 1 < 2 ^ 64) × (level ≤ 2 ^ 60) × ((arrival_at t.arrivals (tail_of p.arcs a)).arcs ≤ 4096)
     × (arc_index a < length p.arcs)
-may_look {p = p} {a = a} {t = t} s priced =
-    let q = s.covered.of_rest a (inl refl) in
+may_look {p = p} {a = a} {rest = rest} {t = t} s priced =
+    let q = s.covered.of_rest a (Contains-here rest a) in
     let here = q.2 in
     let top = s.reached.level_in in
     let b = s.reached.bounded (tail_of p.arcs a) (omega arith) in
@@ -164,16 +165,23 @@ may_look {p = p} {a = a} {t = t} s priced =
     let few = few_so_far s in
     (omega arith, omega arith, omega arith, q.0)
 
--- and what it reads of the node's own arrival
+-- the node has a place in the tables
+pub node_inside : {n : ℕ} {p : Problem} {level count : ℕ} {entering : List ℕ} {a : ArcNo} {rest : List ArcNo}
+    {t : Tables} {node : ℕ}
+    → IsSearching p (length p.depths) level count entering (a ∷ rest) t → IsPriced n p.arcs p.flows p.depths
+    → tail_of p.arcs a ≡ node → node < length p.depths
+node_inside {p = p} {a = a} s priced leaves =
+    let are = subst (λ m. AreArcs m p.arcs) (sym priced.size) priced.network.arcs_in in
+    let inside = tail_in (length p.depths) p.arcs a are (may_look s priced).3 in omega arith
+
+-- and what is read of its arrival
 pub few_arcs : {n : ℕ} {p : Problem} {level count : ℕ} {entering : List ℕ} {a : ArcNo} {rest : List ArcNo}
     {t : Tables} {node : ℕ} {b : Arrival}
     → IsSearching p (length p.depths) level count entering (a ∷ rest) t → IsPriced n p.arcs p.flows p.depths
     → tail_of p.arcs a ≡ node → b ≡ get_or t.arrivals node b → b.arcs ≤ 4096
 few_arcs {p = p} {a = a} {t = t} {node = node} {b = b} s priced leaves read =
-    let asks = may_look s priced in
-    let few = asks.2 in
-    let are = subst (λ m. AreArcs m p.arcs) (sym priced.size) priced.network.arcs_in in
-    let inside = tail_in (length p.depths) p.arcs a are asks.3 in
+    let few = (may_look s priced).2 in
+    let inside = node_inside s priced leaves in
     let size = s.reached.arrivals_size in
     let same : b ≡ arrival_at t.arrivals (tail_of p.arcs a) = read
     ∙ get_or_default t.arrivals node b no_arrival (omega arith) ∙ ap (arrival_at t.arrivals) (sym leaves) in

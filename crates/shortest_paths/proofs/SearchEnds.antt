@@ -10,18 +10,16 @@ use Rattle.flow_network.specs.declared.arcs.ArcNo.{ArcNo}
 use Rattle.flow_network.specs.declared.arcs.ArcNo.TheVariants.{Forward, Reverse}
 use Rattle.flow_network.specs.Flows.{arc_index, tail_of, head_of, IsResidual, IsPath, Lacks, IsDistinct}
 use Rattle.flow_network.proofs.Paths.{IsPath-append}
+use Rattle.flow_network.proofs.Members.{Contains-nil, Contains-here, Contains-one}
 use Rattle.shortest_paths.specs.Matched.{GoesOver, GoesOnce}
 use Rattle.shortest_paths.specs.declared.arrival.Arrival.{Arrival}
-use Rattle.shortest_paths.specs.Searching.{is_settled}
+use Rattle.shortest_paths.specs.Searching.{is_settled, Problem, Tables, distance_at, no_arrival, arrival_at}
+use Rattle.shortest_paths.specs.Searching.{rc, AreReached, ListsReached, IsSearching, IsAtRest, IsLeft}
+use Rattle.shortest_paths.specs.Searching.{LeadsBack, trace_of, trace_to}
 use Rattle.shortest_paths.specs.Lowering.{IsSearchStep, AreSteps}
 use Rattle.shortest_paths.specs.ToSink.{far, AreTraced, IsSearched, IsTrace}
-use Rattle.shortest_paths.specs.Searching.{Problem, Tables, distance_at, no_arrival, arrival_at, rc}
-use Rattle.shortest_paths.specs.Searching.{AreReached}
-use Rattle.shortest_paths.specs.Searching.{ListsReached, IsSearching, IsAtRest, IsLeft, LeadsBack, trace_of}
-use Rattle.shortest_paths.specs.Searching.{trace_to}
 use Rattle.shortest_paths.proofs.Lowering.{steps_cost}
 use Rattle.shortest_paths.proofs.Sums.{unmarked_sum}
-use Rattle.shortest_paths.proofs.Members.{nothing_in, in_front, first_in}
 
 -- the ends of a path's arcs were reached over at most n arcs
 pub EndsWithin : List Arrival → Problem → ℕ → List ArcNo → Type 0
@@ -154,7 +152,7 @@ pub ends_at_sink : (p : Problem) (nodes level count : ℕ) (rest : List ArcNo) (
     → IsSearched p.arcs p.flows (slice_index p.depths) p.start p.sink (distance_at t.distances)
     × (distance_at t.distances p.sink ≡ level) × (level < far)
 ends_at_sink p nodes level count rest t s =
-    let here = (s.waiting.next p.sink (first_in p.sink [])).1 in
+    let here = (s.waiting.next p.sink (Contains-here [] p.sink)).1 in
     let top = s.reached.level_in in
     let in_time : (u : ℕ) → distance_at t.distances u < level
     → is_settled t.settled u ≡ true = λ u near. elim (cases_Bool (is_settled t.settled u)) [
@@ -186,8 +184,8 @@ module _ (p : Problem) (nodes level count : ℕ) (t : Tables) (s : IsSearching p
   all_settled u near = elim (cases_Bool (is_settled t.settled u)) [
     | inl m ↦ m
     | inr f ↦ absurd (elim (s.waiting.waiting u f near) [
-      | inl n ↦ nothing_in u n
-      | inr h ↦ nothing_in (distance_at t.distances u, u)
+      | inl n ↦ Contains-nil u n
+      | inr h ↦ Contains-nil (distance_at t.distances u, u)
           (subst (λ q. Contains q (distance_at t.distances u, u)) none h)
     ])
   ]
@@ -198,8 +196,8 @@ module _ (p : Problem) (nodes level count : ℕ) (t : Tables) (s : IsSearching p
   all_covered a r near = elim (s.covered.covered a r (all_settled (tail_of p.arcs a) near)) [
     | inl done ↦ done
     | inr more ↦ elim more [
-      | inl i ↦ absurd i
-      | inr cursor ↦ absurd (nothing_in (tail_of p.arcs a) (rw empty at cursor.0))
+      | inl i ↦ absurd (Contains-nil a i)
+      | inr cursor ↦ absurd (Contains-nil (tail_of p.arcs a) (rw empty at cursor.0))
     ]
   ]
 
@@ -274,17 +272,14 @@ module _ (p : Problem) (nodes count : ℕ) (t : Tables) (rest : IsAtRest nodes t
       sooner = λ u m. absurd (fresh u m);
     };
     waiting = record {
-      next = λ w o. elim (in_front p.start w [] o) [
-        | inl e ↦ rw (← e) (rest.unsettled p.start, at_start)
-        | inr n ↦ absurd (nothing_in w n)
-      ];
-      waiting = λ w f near. inl (rw (is_start w near) (first_in p.start []));
-      queued = λ c w o. absurd (nothing_in (c, w) (rw rest.none_queued at o));
+      next = λ w o. rw (← Contains-one p.start w o) (rest.unsettled p.start, at_start);
+      waiting = λ w f near. inl (rw (is_start w near) (Contains-here [] p.start));
+      queued = λ c w o. absurd (Contains-nil (c, w) (rw rest.none_queued at o));
     };
     covered = record {
-      on_stack = λ w o. absurd (nothing_in w (rw rest.none_stacked at o));
-      cursors = λ w o. absurd (nothing_in w (rw rest.none_stacked at o));
-      of_rest = λ b i. absurd i;
+      on_stack = λ w o. absurd (Contains-nil w (rw rest.none_stacked at o));
+      cursors = λ w o. absurd (Contains-nil w (rw rest.none_stacked at o));
+      of_rest = λ b i. absurd (Contains-nil b i);
       covered = λ b r m. absurd (fresh (tail_of p.arcs b) m);
     };
     looks = (let sum = unmarked_sum t.settled 0 (λ u. get_or t.left u 0 + get_or t.left_matched u 0)

@@ -9,30 +9,27 @@ use Rattle.std.proofs.lemmas.List.Elements.{Contains-append_right, Contains-push
 use Rattle.std.proofs.lemmas.List.Sorted.{Contains-permutation, IsPermutation-sym}
 use Rattle.std.specs.Option.{option_to_list}
 use Rattle.std.specs.Prelude.{slice_index}
+use Rattle.std.proofs.lemmas.List.Elements.{Contains-get_or, Contains-append_left, Contains-push_cases}
 use Rattle.flow_network.specs.declared.arcs.FlowArc.{FlowArc}
 use Rattle.flow_network.specs.declared.arcs.ArcNo.{ArcNo}
 use Rattle.flow_network.specs.declared.arcs.ArcNo.TheVariants.{Forward, Reverse}
 use Rattle.flow_network.specs.Flows.{AreArcs, NoNegative, tail_of, head_of, arc_index, IsResidual}
 use Rattle.flow_network.specs.Flow.{Counted}
-use Rattle.flow_network.specs.Leaving.{IsIn}
-use Rattle.flow_network.proofs.Listed.{in_left, in_right, in_split, in_at, few_looks}
+use Rattle.flow_network.proofs.Listed.{few_looks}
+use Rattle.flow_network.proofs.Members.{Contains-one, Contains-nil, Contains-here, Contains-there}
+use Rattle.flow_network.proofs.Members.{Contains-cons, Contains-map}
 use Rattle.shortest_paths.specs.declared.arrival.Arrival.{Arrival}
 use Rattle.shortest_paths.specs.Lists.{ArcLists, AreResidualArcs, source_at, inner_at, matched_at}
-use Rattle.shortest_paths.specs.Lists.{option_arcs}
-use Rattle.shortest_paths.specs.Lists.{sink_arcs_at, stack_arcs}
-use Rattle.shortest_paths.specs.Searching.{is_settled}
-use Rattle.shortest_paths.specs.Searching.{Problem, Tables, distance_at, arrival_at, rc}
-use Rattle.shortest_paths.specs.Searching.{AreReached}
-use Rattle.shortest_paths.specs.Searching.{ListsReached, AreCovered, IsSearching}
+use Rattle.shortest_paths.specs.Lists.{option_arcs, sink_arcs_at, stack_arcs}
+use Rattle.shortest_paths.specs.Searching.{is_settled, Problem, Tables, distance_at, arrival_at, rc}
+use Rattle.shortest_paths.specs.Searching.{AreReached, ListsReached, AreCovered, IsSearching}
 use Rattle.shortest_paths.specs.declared.query.Query.{Query}
 use Rattle.shortest_paths.specs.declared.search.Search.{Search}
 use Rattle.shortest_paths.specs.Search.{problem, tables, AreCursors, IsNextArc, Searches}
 use Rattle.shortest_paths.specs.ToSink.{far}
-use Rattle.shortest_paths.proofs.Members.{nothing_in, in_front, first_in}
 use Rattle.shortest_paths.proofs.Arriving.{not_settled, falls, kept, set_to, reached_by, waits_near}
-use Rattle.shortest_paths.proofs.Arriving.{waits_far}
-use Rattle.shortest_paths.proofs.Arriving.{covers}
-use Rattle.shortest_paths.proofs.Cursors.{map_at, inner_moves, matched_moves, popped}
+use Rattle.shortest_paths.proofs.Arriving.{waits_far, covers}
+use Rattle.shortest_paths.proofs.Cursors.{inner_moves, matched_moves, popped}
 use Rattle.shortest_paths.proofs.Settled.{opened}
 
 -- the nearest entry is taken from the queue, while nothing else is left
@@ -40,7 +37,7 @@ module _ {p : Problem} {nodes level count : ℕ} {t : Tables} (s : IsSearching p
     {queue : List (ℕ × ℕ)} {c v : ℕ}
     (taken : IsPermutation t.queue ((c, v) ∷ queue)) where
   from_queue : (q : ℕ × ℕ) → Contains t.queue q → ((c, v) ≡ q) ⊎ Contains queue q
-  from_queue q h = in_front (c, v) q queue (Contains-permutation t.queue ((c, v) ∷ queue) q taken h)
+  from_queue q h = Contains-cons (c, v) queue q (Contains-permutation t.queue ((c, v) ∷ queue) q taken h)
 
   in_queue : (q : ℕ × ℕ) → Contains queue q → Contains t.queue q
   in_queue q h = Contains-permutation ((c, v) ∷ queue) t.queue q
@@ -49,7 +46,7 @@ module _ {p : Problem} {nodes level count : ℕ} {t : Tables} (s : IsSearching p
   pub entry : (level ≤ c) × (distance_at t.distances v ≤ c) × (c < far)
   entry = s.waiting.queued c v
       (Contains-permutation ((c, v) ∷ queue) t.queue (c, v) (IsPermutation-sym t.queue ((c, v) ∷ queue) taken)
-      (first_in (c, v) queue))
+      (Contains-here queue (c, v)))
 
   pub entry_inside : v < nodes
   entry_inside =
@@ -99,11 +96,11 @@ module _ {p : Problem} {nodes level count : ℕ} {t : Tables} (s : IsSearching p
       let r = s.reached in
       let near : distance_at t.distances v < far = omega arith in
       let at_c : distance_at t.distances v ≡ c = elim (s.waiting.waiting v f near) [
-        | inl n ↦ absurd (nothing_in v n)
+        | inl n ↦ absurd (Contains-nil v n)
         | inr h ↦ (let low = All-contains (λ (q : ℕ × ℕ). c ≤ q.0) t.queue (distance_at t.distances v, v)
             least h in omega arith)
       ] in
-      let none : (w : ℕ) → Contains t.stack w → ⊥ = λ w o. nothing_in w (rw empty at o) in
+      let none : (w : ℕ) → Contains t.stack w → ⊥ = λ w o. Contains-nil w (rw empty at o) in
       record {
         left_size = s.left_size;
         left_matched_size = s.left_matched_size;
@@ -121,16 +118,12 @@ module _ {p : Problem} {nodes level count : ℕ} {t : Tables} (s : IsSearching p
         };
         listed = s.listed;
         waiting = record {
-          next = λ y h. elim (in_front v y [] h) [
-            | inl q ↦ rw (← q) (f, at_c)
-            | inr n ↦ absurd
-                (nothing_in y n)
-          ];
+          next = λ y h. rw (← Contains-one v y h) (f, at_c);
           waiting = λ y g l. elim (s.waiting.waiting y g l) [
-            | inl n ↦ absurd (nothing_in y n)
+            | inl n ↦ absurd (Contains-nil y n)
             | inr h ↦ elim (from_queue (distance_at t.distances y, y) h) [
               | inl q ↦ inl (subst (λ w. Contains (v ∷ []) w) (let same : v ≡ y = ap (λ (x : ℕ × ℕ). x.1) q in
-                  same) (first_in v []))
+                  same) (Contains-here [] v))
               | inr old ↦ inr old
             ]
           ];
@@ -140,11 +133,11 @@ module _ {p : Problem} {nodes level count : ℕ} {t : Tables} (s : IsSearching p
         covered = record {
           on_stack = λ w o. absurd (none w o);
           cursors = λ w o. absurd (none w o);
-          of_rest = λ a i. absurd i;
+          of_rest = λ a i. absurd (Contains-nil a i);
           covered = λ b g d. elim (s.covered.covered b g d) [
             | inl done ↦ inl done
             | inr more ↦ elim more [
-              | inl i ↦ absurd i
+              | inl i ↦ absurd (Contains-nil b i)
               | inr cursor ↦ absurd (none (tail_of p.arcs b) cursor.0)
             ]
           ];
@@ -173,7 +166,7 @@ module _ {p : Problem} {nodes level count : ℕ} {entering : List ℕ} {a : ArcN
   pub no_shorter : distance_at t.distances (head_of p.arcs a) ≤ level + rc p a
       → IsSearching p nodes level (count + 1) entering rest t
   no_shorter known =
-      let here = (s.covered.of_rest a (inl refl)).2 in
+      let here = (s.covered.of_rest a (Contains-here rest a)).2 in
       record {
         left_size = s.left_size;
         left_matched_size = s.left_matched_size;
@@ -209,7 +202,7 @@ module _ {p : Problem} {nodes level count : ℕ} {entering : List ℕ} {a : ArcN
     reached_now : AreReached p nodes level (set t.distances (head_of p.arcs a) (level + rc p a))
         (set t.arrivals (head_of p.arcs a) next_arrival) t.settled
     reached_now =
-        let from = s.covered.of_rest a (inl refl) in
+        let from = s.covered.of_rest a (Contains-here rest a) in
         let here = from.2 in
         reached_by p nodes level t.distances t.arrivals t.settled s.reached a (level + rc p a)
         (head_of p.arcs a) inside residual refl from.1 (still_fresh shorter) (omega arith) shorter are
@@ -222,7 +215,7 @@ module _ {p : Problem} {nodes level count : ℕ} {entering : List ℕ} {a : ArcN
       reached = reached;
     })
     covered_now queue reached =
-        let from = s.covered.of_rest a (inl refl) in
+        let from = s.covered.of_rest a (Contains-here rest a) in
         let here = from.2 in
         let is : level + rc p a ≡ distance_at t.distances (tail_of p.arcs a) + rc p a = omega arith in
         covers p level a rest t (set t.distances (head_of p.arcs a) (level + rc p a))
@@ -244,7 +237,7 @@ module _ {p : Problem} {nodes level count : ℕ} {entering : List ℕ} {a : ArcN
           reached = reached;
         })
     near_way reached listed tight =
-        let from = s.covered.of_rest a (inl refl) in
+        let from = s.covered.of_rest a (Contains-here rest a) in
         let here = from.2 in
         let c = covered_now t.queue reached in
         record {
@@ -277,7 +270,7 @@ module _ {p : Problem} {nodes level count : ℕ} {entering : List ℕ} {a : ArcN
           reached = reached;
         })
     far_way queue reached listed some in_far more =
-        let from = s.covered.of_rest a (inl refl) in
+        let from = s.covered.of_rest a (Contains-here rest a) in
         let here = from.2 in
         record {
           left_size = s.left_size;
@@ -303,7 +296,7 @@ few_so_far {p = p} {t = t} s = let old = s.looks in
 pub entered_inside : {p : Problem} {nodes level count : ℕ} {v : ℕ} {entering : List ℕ} {rest : List ArcNo}
     {t : Tables} → IsSearching p nodes level count (v ∷ entering) rest t → v < nodes
 entered_inside {v = v} {entering = entering} {t = t} s =
-    let at = (s.waiting.next v (first_in v entering)).1 in
+    let at = (s.waiting.next v (Contains-here entering v)).1 in
     let low = s.reached.level_in in
     let size = s.reached.size in
     grind (arith, cases_lt, get_or_past)
@@ -330,9 +323,9 @@ pub sink_arc_own : (p : Problem) {v k : ℕ} → AreResidualArcs p.arcs p.flows 
     → Some k ≡ get_or p.lists.sink_arcs v None
     → (tail_of p.arcs (Forward k) ≡ v) × (head_of p.arcs (Forward k) ≡ p.sink)
 sink_arc_own p {v = v} {k = k} lists e =
-    let i : IsIn (Forward k) (sink_arcs_at p.lists v) = subst (λ o. IsIn (Forward k) (option_arcs o)) e
-    (inl refl) in (
-      (lists.own v (Forward k) (in_left (Forward k) (sink_arcs_at p.lists v) (stack_arcs p.lists v) i)).1,
+    let i : Contains (sink_arcs_at p.lists v) (Forward k) =
+    subst (λ o. Contains (option_arcs o) (Forward k)) e (Contains-here [] (Forward k)) in (
+      (lists.own v _ (Contains-append_left (sink_arcs_at p.lists v) (stack_arcs p.lists v) _ i)).1,
       lists.sink_arcs_lead v (Forward k) i,
     )
 
@@ -374,9 +367,9 @@ turns {m = m} {q = q} {level = level} {s = s} s' stack {u = u} state e (inl inne
     let left = inner.1 in
     let moved = inner_moves p (length q.potentials.now) level m.count [] [] (tables s) state.now lists u
     (rw e (Contains-push stack u)) here.0 inner.0 left in
-    let own = in_right _ (sink_arcs_at p.lists u) (stack_arcs p.lists u)
-    (in_left _ (inner_at p.lists u) (map Reverse (matched_at p.lists u))
-    (in_at (inner_at p.lists u) inner.0 (Forward 0) (omega arith))) in (
+    let own = Contains-append_right (sink_arcs_at p.lists u) (stack_arcs p.lists u) _
+    (Contains-append_left (inner_at p.lists u) (map Reverse (matched_at p.lists u)) _
+    (Contains-get_or (inner_at p.lists u) inner.0 (Forward 0) (omega arith))) in (
       record { may = state.may; now = rw (inner.3, inner.2) moved },
       rw inner.2 (lists.own u (get_or (inner_at p.lists u) inner.0 (Forward 0)) own).1,
     )
@@ -388,9 +381,10 @@ turns {m = m} {q = q} {level = level} {s = s} s' stack {u = u} state e (inr matc
     let left = matched.1 in
     let moved = matched_moves p (length q.potentials.now) level m.count [] [] (tables s) state.now lists u
     (rw e (Contains-push stack u)) here.0 matched.0 left in
-    let own = in_right _ (sink_arcs_at p.lists u) (stack_arcs p.lists u)
-    (in_right _ (inner_at p.lists u) (map Reverse (matched_at p.lists u))
-    (map_at (matched_at p.lists u) matched.0 (omega arith))) in (
+    let own = Contains-append_right (sink_arcs_at p.lists u) (stack_arcs p.lists u) _
+    (Contains-append_right (inner_at p.lists u) (map Reverse (matched_at p.lists u)) _
+    (Contains-map Reverse (matched_at p.lists u) _
+    (Contains-get_or (matched_at p.lists u) matched.0 0 (omega arith)))) in (
       record { may = state.may; now = rw (matched.3, matched.2) moved },
       rw matched.2 (lists.own u (Reverse (get_or (matched_at p.lists u) matched.0 0)) own).1,
     )
@@ -446,14 +440,16 @@ from_the_end a rest s =
       sink_left = s.sink_left;
     }
   where
-    at_end : (b : ArcNo) → IsIn b (a ∷ rest) → IsIn b (rest ++ a ∷ [])
-    at_end b (inl e) = in_right b rest (a ∷ []) (inl e)
-    at_end b (inr i) = in_left b rest (a ∷ []) i
+    at_end : (b : ArcNo) → Contains (a ∷ rest) b → Contains (rest ++ a ∷ []) b
+    at_end b i = elim (Contains-cons a rest b i) [
+      | inl e ↦ subst (Contains (rest ++ a ∷ [])) e (Contains-push rest a)
+      | inr old ↦ Contains-append_left rest (a ∷ []) b old
+    ]
 
-    in_front_of : (b : ArcNo) → IsIn b (rest ++ a ∷ []) → IsIn b (a ∷ rest)
-    in_front_of b i = elim (in_split b rest (a ∷ []) i) [
-      | inl before ↦ inr before
-      | inr last ↦ elim last [ inl e ↦ inl e | inr n ↦ absurd n ]
+    in_front_of : (b : ArcNo) → Contains (rest ++ a ∷ []) b → Contains (a ∷ rest) b
+    in_front_of b i = elim (Contains-push_cases rest a b i) [
+      | inl before ↦ Contains-there a rest b before
+      | inr e ↦ subst (Contains (a ∷ rest)) e (Contains-here rest a)
     ]
 
 -- a list of arcs is looked over from its end

@@ -1,23 +1,22 @@
 -- The node that is entered is settled.
-use Rattle.std.proofs.Common.{◌≡◌, ℕ, suc, ◌+◌, ◌<◌, Bool, true, false, List, [], ◌∷◌, ◌++◌, length, map}
+use Rattle.std.proofs.Common.{◌≡◌, ℕ, ◌+◌, ◌<◌, Bool, true, false, List, [], ◌∷◌, ◌++◌, length, map}
 use Rattle.std.proofs.Common.{get_or, set, Contains, refl, sym, ap, ◌∙◌, subst, inl, inr, ◌⊎◌, arith}
 use Rattle.std.proofs.Common.{get_or-set_same, get_or-set_other, length-set, length-append}
 use Rattle.std.proofs.Math.Seq.{take-length}
 use Rattle.std.proofs.lemmas.Bool.{cases_eq, false≢true}
 use Rattle.std.proofs.lemmas.List.Elements.{Contains-append_left, Contains-push, Contains-push_cases}
+use Rattle.std.proofs.lemmas.List.Elements.{Contains-append_right, Contains-append_cases}
 use Rattle.flow_network.specs.declared.arcs.ArcNo.{ArcNo}
 use Rattle.flow_network.specs.declared.arcs.ArcNo.TheVariants.{Reverse}
 use Rattle.flow_network.specs.Flows.{tail_of, leaving_of}
-use Rattle.flow_network.specs.Leaving.{IsIn}
-use Rattle.flow_network.proofs.Listed.{each_arc, in_left, in_right, in_split}
+use Rattle.flow_network.proofs.Listed.{each_arc}
+use Rattle.flow_network.proofs.Members.{Contains-nil, Contains-here, Contains-one}
+use Rattle.std.proofs.lemmas.List.{length-map}
 use Rattle.shortest_paths.specs.declared.arrival.Arrival.{Arrival}
 use Rattle.shortest_paths.specs.Lists.{AreResidualArcs, source_at, inner_at, matched_at, sink_arcs_at}
 use Rattle.shortest_paths.specs.Lists.{stack_arcs}
-use Rattle.shortest_paths.specs.Searching.{is_settled}
-use Rattle.shortest_paths.specs.Searching.{Problem, Tables, distance_at, arrival_at, settled_number}
-use Rattle.shortest_paths.specs.Searching.{AreReached}
-use Rattle.shortest_paths.specs.Searching.{AreWaiting, IsSearching}
-use Rattle.shortest_paths.proofs.Members.{nothing_in, in_front, first_in}
+use Rattle.shortest_paths.specs.Searching.{is_settled, Problem, Tables, distance_at, arrival_at}
+use Rattle.shortest_paths.specs.Searching.{settled_number, AreReached, AreWaiting, IsSearching}
 use Rattle.shortest_paths.proofs.Arriving.{not_settled}
 use Rattle.shortest_paths.proofs.Sums.{enter_at}
 
@@ -86,13 +85,9 @@ module _ (settled : List Bool) (v : ℕ) (inside : v < length settled) (fresh : 
         → AreWaiting level distances settled (v ∷ []) queue
         → AreWaiting level distances (set settled v true) [] queue
     settled_waiting level distances queue w = record {
-      next = λ y c. absurd (nothing_in y c);
+      next = λ y c. absurd (Contains-nil y c);
       waiting = λ y s near. (let was = fresh_was y s in elim (w.waiting y was.1 near) [
-        | inl c ↦ elim (in_front v y [] c) [
-          | inl e ↦ absurd (was.0 (sym e))
-          | inr n ↦
-              absurd (nothing_in y n)
-        ]
+        | inl c ↦ absurd (was.0 (sym (Contains-one v y c)))
         | inr q ↦ inr q
       ]);
       queued = w.queued;
@@ -105,10 +100,10 @@ module _ (p : Problem) (nodes level count : ℕ) (v : ℕ) (rest : List ArcNo) (
     (lists : AreResidualArcs p.arcs p.flows p.sink p.lists) (inside : v < nodes)
     (not_sink : v ≡ p.sink → ⊥) where
   fresh : is_settled t.settled v ≡ false
-  fresh = (s.waiting.next v (first_in v [])).0
+  fresh = (s.waiting.next v (Contains-here [] v)).0
 
   at_level : distance_at t.distances v ≡ level
-  at_level = (s.waiting.next v (first_in v [])).1
+  at_level = (s.waiting.next v (Contains-here [] v)).1
 
   in_marks : v < length t.settled
   in_marks = let size = s.reached.settled_size in omega arith
@@ -150,7 +145,7 @@ module _ (p : Problem) (nodes level count : ℕ) (v : ℕ) (rest : List ArcNo) (
       let parts = length-append (sink_arcs_at p.lists v) (stack_arcs p.lists v) in
       let inner_parts = length-append (inner_at p.lists v) (map Reverse (matched_at p.lists v)) in
       let all = length-append (sink_arcs_at p.lists v) rest in
-      let mapped = length-map_reverse (matched_at p.lists v) in
+      let mapped = length-map (matched_at p.lists v) Reverse in
       let old = s.looks in
       record {
         left_size = length-set t.left v n ∙ s.left_size;
@@ -171,17 +166,17 @@ module _ (p : Problem) (nodes level count : ℕ) (v : ℕ) (rest : List ArcNo) (
               | inr e ↦ absurd (d (sym e))
             ]
           ];
-          of_rest = λ a i. elim (in_split a (sink_arcs_at p.lists v) rest i) [
+          of_rest = λ a i. elim (Contains-append_cases (sink_arcs_at p.lists v) rest a i) [
             | inl sink_arc ↦ (let own = lists.own v a
-                (in_left a (sink_arcs_at p.lists v) (stack_arcs p.lists v) sink_arc) in
+                (Contains-append_left (sink_arcs_at p.lists v) (stack_arcs p.lists v) a sink_arc) in
                 rw (own.1) (own.0, settled_new t.settled v in_marks fresh, at_level))
             | inr was ↦ (let q = c.of_rest a was in
                 (q.0, settled_also t.settled v in_marks fresh (tail_of p.arcs a) q.1, q.2))
           ];
           covered = λ b r q. elim (cases_eq (tail_of p.arcs b) v) [
-            | inl e ↦ elim (in_split b (sink_arcs_at p.lists v) (stack_arcs p.lists v)
+            | inl e ↦ elim (Contains-append_cases (sink_arcs_at p.lists v) (stack_arcs p.lists v) b
                 (rw e at (lists.complete b r (rw e no_source)))) [
-                  | inl sink_arc ↦ inr (inl (in_left b (sink_arcs_at p.lists v) rest sink_arc))
+                  | inl sink_arc ↦ inr (inl (Contains-append_left (sink_arcs_at p.lists v) rest b sink_arc))
                   | inr held ↦ inr (inr (
                     rw e (Contains-push t.stack v),
                     rw (
@@ -199,7 +194,7 @@ module _ (p : Problem) (nodes level count : ℕ) (v : ℕ) (rest : List ArcNo) (
               | inr was ↦ elim (c.covered b r was) [
                 | inl done ↦ inl done
                 | inr more ↦ elim more [
-                  | inl held ↦ inr (inl (in_right b (sink_arcs_at p.lists v) rest held))
+                  | inl held ↦ inr (inl (Contains-append_right (sink_arcs_at p.lists v) rest b held))
                   | inr cursor ↦ inr (inr (
                     Contains-append_left t.stack (v ∷ []) (tail_of p.arcs b) cursor.0,
                     rw (other (tail_of p.arcs b) d, other_matched (tail_of p.arcs b) d) cursor.1,
@@ -212,10 +207,6 @@ module _ (p : Problem) (nodes level count : ℕ) (v : ℕ) (rest : List ArcNo) (
         looks = omega arith;
         sink_left = sink_still;
       }
-    where
-      length-map_reverse : (ks : List ℕ) → length (map Reverse ks) ≡ length ks
-      length-map_reverse [] = refl
-      length-map_reverse (k ∷ ks) = ap suc (length-map_reverse ks)
 
   pub scanned : rest ≡ [] → IsSearching p nodes level count [] (leaving_of p.arcs v) (record t {
     settled = set t.settled v true;
@@ -261,7 +252,7 @@ module _ (p : Problem) (nodes level count : ℕ) (v : ℕ) (rest : List ArcNo) (
               | inr was ↦ elim (c.covered b r was) [
                 | inl done ↦ inl done
                 | inr more ↦ elim more [
-                  | inl held ↦ absurd (let i : IsIn b [] = subst (λ bs. IsIn b bs) empty held in i)
+                  | inl held ↦ absurd (Contains-nil b (subst (λ bs. Contains bs b) empty held))
                   | inr cursor ↦ inr (inr (
                     cursor.0,
                     rw (

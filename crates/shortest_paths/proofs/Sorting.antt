@@ -1,20 +1,20 @@
 -- The lists of each node's arcs, as they are made for a network without flow.
 use Rattle.std.proofs.Common.{◌≡◌, ℕ, ◌+◌, ◌<◌, ◌≤◌, Bool, cond, true, false, List, [], ◌∷◌, ◌++◌, length}
-use Rattle.std.proofs.Common.{get_or, set, Option, Some, None, refl, sym, ap, ◌∙◌, subst, inl, inr, ◌⊎◌}
-use Rattle.std.proofs.Common.{arith, eqb, length-append, replicate, get_or-set_same}
-use Rattle.std.proofs.Common.{get_or-set_other}
+use Rattle.std.proofs.Common.{get_or, set, Option, Some, None, refl, sym, ap, ◌∙◌, subst, inl, inr}
+use Rattle.std.proofs.Common.{arith, eqb, length-append, replicate, get_or-set_same, get_or-set_other}
+use Rattle.std.proofs.Common.{Contains}
 use Rattle.std.proofs.lemmas.Bool.{cases_eq, eq-eqb, ne_eqb, false≢true}
 use Rattle.std.proofs.lemmas.List.{append-nil, append_assoc}
 use Rattle.std.specs.Prelude.{is_some, not, nat_eq}
 use Rattle.std.specs.List.{IsDistinct}
+use Rattle.std.proofs.lemmas.List.Elements.{Contains-append_left, Contains-push, Contains-push_cases}
 use Rattle.flow_network.specs.declared.arcs.FlowArc.{FlowArc}
 use Rattle.flow_network.specs.declared.arcs.ArcNo.{ArcNo}
 use Rattle.flow_network.specs.declared.arcs.ArcNo.TheVariants.{Forward, Reverse}
 use Rattle.flow_network.specs.Flows.{arc_at, head_of, leaving_of, own_leaving}
-use Rattle.flow_network.specs.Leaving.{IsIn}
-use Rattle.flow_network.proofs.Listed.{in_left, in_right, in_split}
 use Rattle.flow_network.proofs.Listing.{leaving_from-push}
-use Rattle.shortest_paths.proofs.Members.{replicated_at}
+use Rattle.flow_network.proofs.Members.{Contains-here, Contains-there, Contains-cons, Contains-one}
+use Rattle.flow_network.proofs.Members.{replicated_at}
 use Rattle.shortest_paths.specs.Lists.{ArcLists, option_arcs}
 use Rattle.shortest_paths.specs.Matched.{AreMatched}
 use Rattle.shortest_paths.specs.Sorted.{LeadsToSource, AreSortedAt, AreListed, IsListed, back_numbers}
@@ -23,15 +23,6 @@ use Rattle.shortest_paths.specs.Sorted.{LeadsToSource, AreSortedAt, AreListed, I
 pub none_read : (xs : List (Option ℕ)) (i : ℕ) (o : Option ℕ) (r : Bool) → i < length xs
     → o ≡ get_or xs i o → is_some o ≡ not r → r ≡ true → get_or xs i None ≡ None
 none_read xs i o r l read test found = grind arith
-
-in_last : (a b : ArcNo) (xs : List ArcNo) → IsIn a (xs ++ b ∷ []) → IsIn a xs ⊎ (a ≡ b)
-in_last a b xs i = elim (in_split a xs (b ∷ []) i) [
-  | inl old ↦ inl old
-  | inr new ↦ elim new [ inl e ↦ inr e | inr n ↦ absurd n ]
-]
-
-last_in : (a : ArcNo) (xs : List ArcNo) → IsIn a (xs ++ a ∷ [])
-last_in a xs = in_right a xs (a ∷ []) (inl refl)
 
 module _ (arcs : List FlowArc) (is_source : List Bool) where
   -- how many arcs lead back, with one arc more
@@ -67,15 +58,18 @@ module _ (arcs : List FlowArc) (is_source : List Bool) (sink : ℕ) (all : List 
       let t : AreSortedAt arcs is_source sink all None inner =
       subst (λ (o : Option ℕ). AreSortedAt arcs is_source sink all o inner) none s in
       record {
-        own = λ a i. elim i [
-          | inl same ↦ subst (λ b. IsIn b (all ++ Forward k ∷ [])) (sym same) (last_in (Forward k) all)
-          | inr old ↦ in_left a all (Forward k ∷ []) (t.own a old)
+        own = λ a i. elim (Contains-cons (Forward k) inner a i) [
+          | inl same ↦ subst (Contains (all ++ Forward k ∷ [])) same (Contains-push all (Forward k))
+          | inr old ↦ Contains-append_left all (Forward k ∷ []) a (t.own a old)
         ];
-        each = λ a i. elim (in_last a (Forward k) all i) [
-          | inl old ↦ elim (t.each a old) [ inl h ↦ inl (inr h) | inr back ↦ inr back ]
-          | inr same ↦ inl (inl same)
+        each = λ a i. elim (Contains-push_cases all (Forward k) a i) [
+          | inl old ↦ elim (t.each a old) [
+            | inl h ↦ inl (Contains-there (Forward k) inner a h)
+            | inr back ↦ inr back
+          ]
+          | inr same ↦ inl (subst (Contains (Forward k ∷ inner)) same (Contains-here inner (Forward k)))
         ];
-        leads = λ a i. elim i [ inl same ↦ ap (head_of arcs) same ∙ e | inr n ↦ absurd n ];
+        leads = λ a i. ap (head_of arcs) (sym (Contains-one (Forward k) a i)) ∙ e;
         few = (let old = t.few in let size = length-append all (Forward k ∷ []) in
             let more = back_more arcs is_source all (Forward k) in omega arith);
       }
@@ -86,42 +80,38 @@ module _ (arcs : List FlowArc) (is_source : List Bool) (sink : ℕ) (all : List 
       → AreSortedAt arcs is_source sink all sink_arc inner
       → AreSortedAt arcs is_source sink (all ++ b ∷ []) sink_arc (inner ++ b ∷ [])
   sorted_inner b sink_arc inner none t = record {
-    own = λ a i. elim (in_split a (option_arcs sink_arc) (inner ++ b ∷ []) i) [
-      | inl old ↦ in_left a all (b ∷ []) (t.own a (in_left a (option_arcs sink_arc) inner old))
-      | inr more ↦ elim (in_last a b inner more) [
-        | inl old ↦ in_left a all (b ∷ []) (t.own a (in_right a (option_arcs sink_arc) inner old))
-        | inr same ↦ subst (λ c. IsIn c (all ++ b ∷ [])) (sym same) (last_in b all)
-      ]
+    own = λ a i. elim (Contains-push_cases held b a (rw whole at i)) [
+      | inl old ↦ Contains-append_left all (b ∷ []) a (t.own a old)
+      | inr same ↦ subst (Contains (all ++ b ∷ [])) same (Contains-push all b)
     ];
-    each = λ a i. elim (in_last a b all i) [
+    each = λ a i. elim (Contains-push_cases all b a i) [
       | inl old ↦ elim (t.each a old) [
+        | inl h ↦ inl (rw whole (Contains-append_left held (b ∷ []) a h))
         | inr back ↦ inr back
-        | inl h ↦ elim (in_split a (option_arcs sink_arc) inner h) [
-          | inl out ↦ inl (in_left a (option_arcs sink_arc) (inner ++ b ∷ []) out)
-          | inr held ↦ inl (in_right a (option_arcs sink_arc) (inner ++ b ∷ [])
-              (in_left a inner (b ∷ []) held))
-        ]
       ]
-      | inr same ↦ inl (subst (λ c. IsIn c (option_arcs sink_arc ++ (inner ++ b ∷ []))) (sym same)
-          (in_right b (option_arcs sink_arc) (inner ++ b ∷ []) (last_in b inner)))
+      | inr same ↦ inl (rw whole (subst (Contains (held ++ b ∷ [])) same (Contains-push held b)))
     ];
     leads = t.leads;
     few = (let old = t.few in let size = length-append all (b ∷ []) in
-        let one = length-append (option_arcs sink_arc) inner in let two = length-append (option_arcs sink_arc)
-        (inner ++ b ∷ []) in
-        let three = length-append inner (b ∷ []) in
-        let more = back_more arcs is_source all b in omega arith);
+        let more = back_more arcs is_source all b in let longer = length-append held (b ∷ []) in
+        rw whole (omega arith));
   }
+    where
+      held : List ArcNo
+      held = option_arcs sink_arc ++ inner
+
+      whole : option_arcs sink_arc ++ (inner ++ b ∷ []) ≡ held ++ b ∷ []
+      whole = sym (append_assoc (option_arcs sink_arc) inner (b ∷ []))
 
   -- an arc back to a source is left out
   pub sorted_back : (b : ArcNo) (sink_arc : Option ℕ) (inner : List ArcNo)
       → AreSortedAt arcs is_source sink all sink_arc inner
       → LeadsToSource arcs is_source b → AreSortedAt arcs is_source sink (all ++ b ∷ []) sink_arc inner
   sorted_back b sink_arc inner t back = record {
-    own = λ a i. in_left a all (b ∷ []) (t.own a i);
-    each = λ a i. elim (in_last a b all i) [
+    own = λ a i. Contains-append_left all (b ∷ []) a (t.own a i);
+    each = λ a i. elim (Contains-push_cases all b a i) [
       | inl old ↦ t.each a old
-      | inr same ↦ inr (subst (LeadsToSource arcs is_source) (sym same) back)
+      | inr same ↦ inr (subst (LeadsToSource arcs is_source) same back)
     ];
     leads = t.leads;
     few = (let old = t.few in let size = length-append all (b ∷ []) in

@@ -2,12 +2,11 @@
 -- are the network's list. Another node has an arc to the sink, which is looked at as it is settled, those of
 -- inner, and the arcs of the sources that are matched with it.
 use Rattle.std.specs.Prelude.{◌≡◌, ℕ, ◌<◌, ◌≤◌, Bool, false, List, [], ◌∷◌, ◌++◌, length, map, take}
-use Rattle.std.specs.Prelude.{slice_index_or, Option, Some, None}
+use Rattle.std.specs.Prelude.{slice_index_or, Option, Some, None, Contains}
 use Rattle.flow_network.specs.declared.arcs.FlowArc.{FlowArc}
 use Rattle.flow_network.specs.declared.arcs.ArcNo.{ArcNo}
 use Rattle.flow_network.specs.declared.arcs.ArcNo.TheVariants.{Forward, Reverse}
 use Rattle.flow_network.specs.Flows.{arc_at, arc_index, tail_of, head_of, IsResidual, leaving_of}
-use Rattle.flow_network.specs.Leaving.{IsIn}
 
 pub record ArcLists : Type 0 where
   pub is_source : List Bool
@@ -43,11 +42,11 @@ stack_arcs g v = inner_at g v ++ map Reverse (matched_at g v)
 -- Each residual arc stands where the search looks for it, and no list has more arcs than leave its node.
 pub record AreResidualArcs (arcs : List FlowArc) (flows : List ℕ) (sink : ℕ) (g : ArcLists) : Type 0 where
   pub no_entry : (k : ℕ) → k < length arcs → source_at g (arc_at arcs k).to ≡ false
-  pub own : (v : ℕ) (a : ArcNo) → IsIn a (sink_arcs_at g v ++ stack_arcs g v)
+  pub own : (v : ℕ) (a : ArcNo) → Contains (sink_arcs_at g v ++ stack_arcs g v) a
       → (arc_index a < length arcs) × (tail_of arcs a ≡ v)
   pub complete : (a : ArcNo) → IsResidual arcs flows a → source_at g (tail_of arcs a) ≡ false
-      → IsIn a (sink_arcs_at g (tail_of arcs a) ++ stack_arcs g (tail_of arcs a))
-  pub sink_arcs_lead : (v : ℕ) (a : ArcNo) → IsIn a (sink_arcs_at g v) → head_of arcs a ≡ sink
+      → Contains (sink_arcs_at g (tail_of arcs a) ++ stack_arcs g (tail_of arcs a)) a
+  pub sink_arcs_lead : (v : ℕ) (a : ArcNo) → Contains (sink_arcs_at g v) a → head_of arcs a ≡ sink
   pub few : (v : ℕ) → length (sink_arcs_at g v ++ stack_arcs g v) ≤ length (leaving_of arcs v)
 
 -- a place for each node

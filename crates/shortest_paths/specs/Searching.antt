@@ -6,7 +6,7 @@ use Rattle.flow_network.specs.declared.arcs.FlowArc.{FlowArc}
 use Rattle.flow_network.specs.declared.arcs.ArcNo.{ArcNo}
 use Rattle.flow_network.specs.declared.arcs.ArcNo.TheVariants.{Forward}
 use Rattle.flow_network.specs.Flows.{tail_of, head_of, arc_index, IsResidual, reduced_cost, leaving_of}
-use Rattle.flow_network.specs.Leaving.{IsIn, marked_sum}
+use Rattle.flow_network.specs.Leaving.{marked_sum}
 use Rattle.shortest_paths.specs.declared.arrival.Arrival.{Arrival}
 use Rattle.shortest_paths.specs.Lists.{ArcLists, inner_at, matched_at, first_arcs}
 use Rattle.shortest_paths.specs.ToSink.{far}
@@ -99,14 +99,14 @@ pub record AreCovered (p : Problem) (level : ℕ) (rest : List ArcNo) (t : Table
       → (is_settled t.settled u ≡ true) × (distance_at t.distances u ≡ level)
   pub cursors : (u : ℕ) → Contains t.stack u → (slice_index t.left u ≤ length (inner_at p.lists u))
       × (slice_index t.left_matched u ≤ length (matched_at p.lists u))
-  pub of_rest : (a : ArcNo) → IsIn a rest
+  pub of_rest : (a : ArcNo) → Contains rest a
       → (arc_index a < length p.arcs) × (is_settled t.settled (tail_of p.arcs a) ≡ true)
       × (distance_at t.distances (tail_of p.arcs a) ≡ level)
   pub covered : (a : ArcNo) → IsResidual p.arcs p.flows a → is_settled t.settled (tail_of p.arcs a) ≡ true
       → (distance_at t.distances (head_of p.arcs a) ≤ distance_at t.distances (tail_of p.arcs a) + rc p a)
-      ⊎ (IsIn a rest ⊎ (Contains t.stack (tail_of p.arcs a)
-      × IsIn a (first_arcs p.lists (tail_of p.arcs a) (slice_index t.left (tail_of p.arcs a))
-      (slice_index t.left_matched (tail_of p.arcs a)))))
+      ⊎ (Contains rest a ⊎ (Contains t.stack (tail_of p.arcs a)
+      × Contains (first_arcs p.lists (tail_of p.arcs a) (slice_index t.left (tail_of p.arcs a))
+      (slice_index t.left_matched (tail_of p.arcs a))) a))
 
 -- Looks that were made, and those still to be made, are no more than the arcs that leave settled nodes.
 abbrev pub AreFewLooks : Problem → ℕ → List ArcNo → Tables → Type 0

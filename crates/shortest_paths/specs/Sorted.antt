@@ -1,11 +1,10 @@
 -- How the residual arcs that leave a node are sorted.
 use Rattle.std.specs.Prelude.{◌≡◌, ℕ, ◌+◌, ◌<◌, ◌≤◌, Bool, cond, true, false, List, [], ◌∷◌, ◌++◌, length}
-use Rattle.std.specs.Prelude.{slice_index_or, Option, None, ◌⊎◌}
+use Rattle.std.specs.Prelude.{slice_index_or, Option, None, ◌⊎◌, Contains}
 use Rattle.flow_network.specs.declared.arcs.FlowArc.{FlowArc}
 use Rattle.flow_network.specs.declared.arcs.ArcNo.{ArcNo}
 use Rattle.flow_network.specs.declared.arcs.ArcNo.TheVariants.{Forward, Reverse}
 use Rattle.flow_network.specs.Flows.{arc_at, head_of, leaving_of}
-use Rattle.flow_network.specs.Leaving.{IsIn}
 use Rattle.shortest_paths.specs.Lists.{ArcLists, AreSized, source_at, option_arcs}
 
 -- it leads back to a source
@@ -24,10 +23,10 @@ back_numbers arcs is_source (Reverse k ∷ all) =
 pub record AreSortedAt (arcs : List FlowArc) (is_source : List Bool) (sink : ℕ) (all : List ArcNo)
     (sink_arc : Option ℕ)
     (inner : List ArcNo) : Type 0 where
-  pub own : (a : ArcNo) → IsIn a (option_arcs sink_arc ++ inner) → IsIn a all
-  pub each : (a : ArcNo) → IsIn a all
-      → IsIn a (option_arcs sink_arc ++ inner) ⊎ LeadsToSource arcs is_source a
-  pub leads : (a : ArcNo) → IsIn a (option_arcs sink_arc) → head_of arcs a ≡ sink
+  pub own : (a : ArcNo) → Contains (option_arcs sink_arc ++ inner) a → Contains all a
+  pub each : (a : ArcNo) → Contains all a
+      → Contains (option_arcs sink_arc ++ inner) a ⊎ LeadsToSource arcs is_source a
+  pub leads : (a : ArcNo) → Contains (option_arcs sink_arc) a → head_of arcs a ≡ sink
   pub few : length (option_arcs sink_arc ++ inner) + length (back_numbers arcs is_source all) ≤ length all
 
 -- the lists of each node that is no source, of some of the arcs; at a source none is listed

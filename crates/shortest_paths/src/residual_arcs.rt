@@ -1,10 +1,9 @@
 //! The residual arcs by which a search leaves the nodes.
 ghost use Rattle.std.specs.Prelude.{◌≡◌, ℕ, ◌<◌, List, ◌∷◌, ◌++◌, length, slice_index, slice_index_or};
-ghost use Rattle.std.specs.Prelude.{[], false, None, replicate, IfOk, OnOk};
+ghost use Rattle.std.specs.Prelude.{[], false, None, replicate, IfOk, OnOk, All};
 ghost use Rattle.flow_network.specs.declared.arcs.FlowArc.{FlowArc};
 ghost use Rattle.flow_network.specs.declared.arcs.ArcNo.{ArcNo};
 ghost use Rattle.flow_network.specs.Flows.{arc_at, arc_index, leaving_of, pushed};
-ghost use Rattle.flow_network.specs.Leaving.{IsIn};
 ghost use Rattle.shortest_paths.specs.Lists.{source_at, inner_at, matched_at, AreResidualArcs, AreSized};
 ghost use Rattle.shortest_paths.specs.Lists.{ArcLists};
 ghost use Rattle.shortest_paths.specs.Matched.{AreMatched, GoesOnce, IsFollowing};
@@ -125,7 +124,7 @@ impl ResidualArcs {
     ) -> Result<(), AllocError>
         requires sources { length self.old.is_source ≡ L.node_count network.now.layout }
         requires matched { length self.old.matched ≡ L.node_count network.now.layout }
-        requires path { (a : ArcNo) → IsIn a path.now → arc_index a < length network.now.arcs }
+        requires path { All (λ a. arc_index a < length network.now.arcs) path.now }
         ensures lists { self.new ≡ record self.old { matched = self.new.matched } }
         ensures size { length self.new.matched ≡ length self.old.matched }
         ensures matched { OnOk result ((flows : List ℕ) → network.now.flows ≡ pushed path.now flows

@@ -1,16 +1,14 @@
-use Rattle.std.proofs.Common.{◌≡◌, ◌+◌, suc, List, ◌∷◌, length, get_or, drop, ap, ◌∙◌}
-use Rattle.std.proofs.Common.{subst, arith}
+use Rattle.std.proofs.Common.{◌≡◌, ◌+◌, suc, List, ◌∷◌, length, get_or, drop, ap, ◌∙◌, subst, arith}
 use Rattle.std.proofs.Math.Seq.{drop-cons}
 use Rattle.flow_network.specs.declared.arcs.ArcNo.{ArcNo}
 use Rattle.flow_network.specs.declared.arcs.ArcNo.TheVariants.{Forward}
-use Rattle.flow_network.proofs.Listed.{in_at}
 use Rattle.shortest_paths.specs.Lists.{ArcLists}
 use Rattle.shortest_paths.specs.Matched.{IsFollowing}
 use Rattle.shortest_paths.proofs.residual_arcs.ResidualArcs.follow.Goals as goal
 
 pub carried-flow-requires : goal.carried-flow-requires
 carried-flow-requires g c =
-    c.requires.path _ (in_at c.args.path.now c.loop-arc.arc-index (Forward 0) c.loop-arc-test.true)
+    c.requires.path c.loop-arc.arc-index (Forward 0) c.loop-arc-test.true
 
 pub follow_arc-requires-clause-from : goal.follow_arc-requires-clause-from
 follow_arc-requires-clause-from g c =
@@ -23,8 +21,7 @@ follow_arc-requires-clause-to g c =
 
 pub loop-arc-preserved : goal.loop-arc-preserved
 loop-arc-preserved g c =
-    let here = c.requires.path _ (in_at c.args.path.now c.loop-arc.arc-index (Forward 0)
-    c.loop-arc-test.true) in
+    let here = c.requires.path c.loop-arc.arc-index (Forward 0) c.loop-arc-test.true in
     let more : suc c.loop-arc.arc-index ≡ c.loop-arc.arc-index + 1 = omega arith in
     let rest : drop c.loop-arc.arc-index c.args.path.now
     ≡ get_or c.args.path.now c.loop-arc.arc-index (Forward 0) ∷ drop (c.loop-arc.arc-index

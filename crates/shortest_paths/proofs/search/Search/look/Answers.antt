@@ -4,13 +4,28 @@ use Rattle.std.proofs.lemmas.List.Sorted.{length_permutation}
 use Rattle.shortest_paths.specs.Searching.{IsSearching, Tables}
 use Rattle.shortest_paths.specs.Search.{problem}
 use Rattle.shortest_paths.proofs.Searching.{no_way}
-use Rattle.shortest_paths.proofs.Looking.{is_open, may_look, few_arcs, look_counts, seen_known, seen_near}
+use Rattle.shortest_paths.proofs.Looking.{is_open, may_look, node_inside, few_arcs, look_counts, seen_known}
+use Rattle.shortest_paths.proofs.Looking.{seen_near}
 use Rattle.shortest_paths.proofs.Looking.{seen_far}
 use Rattle.shortest_paths.proofs.search.Search.look.Goals as goal
 
 pub look-look-requires-clause-count : goal.look-look-requires-clause-count
 look-look-requires-clause-count g c =
     (may_look c.requires.state.1.now c.requires.state.1.may.priced).0
+
+pub look-look-requires-clause-listed : goal.look-look-requires-clause-listed
+look-look-requires-clause-listed g c =
+    (may_look c.requires.state.1.now c.requires.state.1.may.priced).3
+
+pub reduced-cost-requires-clause-node : goal.reduced-cost-requires-clause-node
+reduced-cost-requires-clause-node g c =
+    node_inside c.requires.state.1.now c.requires.state.1.may.priced c.requires.leaves
+
+pub index-requires-2 : goal.index-requires-2
+index-requires-2 g c =
+    let inside = node_inside c.requires.state.1.now c.requires.state.1.may.priced c.requires.leaves in
+    let size = c.requires.state.1.now.reached.arrivals_size in
+    omega arith
 
 pub returns-then-look-eq0-clause-goes : goal.returns-then-look-eq0-clause-goes
 returns-then-look-eq0-clause-goes g c = λ rest s.

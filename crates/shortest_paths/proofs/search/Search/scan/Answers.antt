@@ -1,11 +1,10 @@
-use Rattle.std.proofs.Common.{◌≡◌, ◌+◌, ◌-◌, ◌<◌, List, length, take, ap, ◌∙◌, sym, subst}
-use Rattle.std.proofs.Common.{arith, refl}
+use Rattle.std.proofs.Common.{◌≡◌, ◌+◌, ◌-◌, ◌<◌, List, length, take, ap, ◌∙◌, sym, subst, arith, refl}
 use Rattle.std.proofs.Math.Seq.{take-length}
 use Rattle.std.proofs.lemmas.Bool.{false≢true}
 use Rattle.flow_network.specs.declared.arcs.ArcNo.{ArcNo}
 use Rattle.flow_network.specs.Flow.{Flow}
 use Rattle.flow_network.specs.Flows.{leaving_of}
-use Rattle.flow_network.proofs.Listed.{each_arc, in_at}
+use Rattle.flow_network.proofs.Listed.{leaving_at}
 use Rattle.shortest_paths.specs.Lists.{source_at}
 use Rattle.shortest_paths.proofs.Settled.{scanned}
 use Rattle.shortest_paths.proofs.Searching.{entered_inside, few_so_far, source_leads_on}
@@ -32,10 +31,10 @@ loop-i-init g c =
     }
 
 pub pass-requires-clause-leaves : goal.pass-requires-clause-leaves
-pass-requires-clause-leaves g c = grind (arith, in_at, each_arc)
+pass-requires-clause-leaves g c = grind (arith, leaving_at)
 
 pub pass-requires-clause-no_source : goal.pass-requires-clause-no_source
-pass-requires-clause-no_source g c = grind (arith, in_at, each_arc, source_leads_on)
+pass-requires-clause-no_source g c = grind (arith, leaving_at, source_leads_on)
 
 pub pass-requires-clause-state : goal.pass-requires-clause-state
 pass-requires-clause-state g c =
