@@ -1,14 +1,15 @@
 -- A trail grows at its end, or loses its last arc.
-use Rattle.std.proofs.Common.{◌≡◌, ℕ, zero, suc, ◌<◌, List, [], ◌∷◌, ◌++◌, length, map, get_or, set, refl}
-use Rattle.std.proofs.Common.{ap, ◌∙◌, subst, inl, inr, arith, get_or-set_same, get_or-set_other}
+use Rattle.std.proofs.Common.{◌≡◌, ℕ, ◌<◌, List, [], ◌∷◌, ◌++◌, length, map, get_or, set, ap}
+use Rattle.std.proofs.Common.{◌∙◌, subst, inl, inr, arith, get_or-set_same, get_or-set_other, All}
 use Rattle.std.proofs.lemmas.Bool.{cases_eq}
 use Rattle.std.specs.Prelude.{slice_index}
+use Rattle.std.proofs.lemmas.List.Elements.{Contains-get_or, Contains-append_left, Contains-append_right}
 use Rattle.flow_network.specs.declared.arcs.FlowArc.{FlowArc}
 use Rattle.flow_network.specs.declared.arcs.ArcNo.{ArcNo}
 use Rattle.flow_network.specs.declared.arcs.ArcNo.TheVariants.{Forward, Reverse}
 use Rattle.flow_network.specs.Flows.{arc_at, arc_index, tail_of, head_of, leaving_of}
-use Rattle.flow_network.specs.Leaving.{IsIn}
-use Rattle.flow_network.proofs.Listed.{each_arc, in_left, in_right}
+use Rattle.flow_network.proofs.Listed.{leaving_at}
+use Rattle.flow_network.proofs.Members.{Contains-map}
 use Rattle.shortest_paths.specs.Lists.{ArcLists, AreResidualArcs, sink_arcs_at, stack_arcs}
 use Rattle.shortest_paths.specs.Lists.{inner_at, matched_at}
 use Rattle.augmenting_paths.specs.DepthFirst.{IsOf, GoesOn, IsTrail}
@@ -78,24 +79,22 @@ trail_goes_back {arcs} {flows} {h} {closed} {time} {s} {v} path a trail = record
 }
 
 -- the arcs of the lists leave their nodes
-pub own_of : {arcs : List FlowArc} {v : ℕ} (a : ArcNo) → IsIn a (leaving_of arcs v) → IsOf arcs v a
-own_of {arcs = arcs} {v = v} a i = let o = (each_arc arcs v a).1 i in record { listed = o.0; from = o.1 }
+pub own_of : (arcs : List FlowArc) (v : ℕ) → All (IsOf arcs v) (leaving_of arcs v)
+own_of arcs v k d l = let o = leaving_at arcs v k d l in record { listed = o.0; from = o.1 }
 
 module _ {arcs : List FlowArc} {flows : List ℕ} {sink : ℕ} {g : ArcLists} (v : ℕ)
     (lists : AreResidualArcs arcs flows sink g) where
-  pub inner_of : (a : ArcNo) → IsIn a (inner_at g v) → IsOf arcs v a
-  inner_of a i = let o = lists.own v a (in_right a (sink_arcs_at g v) (stack_arcs g v)
-      (in_left a (inner_at g v) (map Reverse (matched_at g v)) i)) in record { listed = o.0; from = o.1 }
-
-  in_reverse : (ks : List ℕ) (i : ℕ) → i < length ks → IsIn (Reverse (get_or ks i 0)) (map Reverse ks)
-  in_reverse [] i l = absurd (omega arith)
-  in_reverse (k ∷ ks) zero l = inl refl
-  in_reverse (k ∷ ks) (suc i) l = inr (in_reverse ks i (omega arith))
+  pub inner_of : All (IsOf arcs v) (inner_at g v)
+  inner_of k d l =
+      let o = lists.own v _ (Contains-append_right (sink_arcs_at g v) (stack_arcs g v) _
+      (Contains-append_left (inner_at g v) (map Reverse (matched_at g v)) _
+      (Contains-get_or (inner_at g v) k d l))) in record { listed = o.0; from = o.1 }
 
   pub matched_of : (i : ℕ) → i < length (matched_at g v)
       → IsOf arcs v (Reverse (slice_index (matched_at g v) i))
   matched_of i l =
       let o = lists.own v (Reverse (slice_index (matched_at g v) i))
-      (in_right _ (sink_arcs_at g v) (stack_arcs g v)
-      (in_right _ (inner_at g v) (map Reverse (matched_at g v)) (in_reverse (matched_at g v) i l))) in
+      (Contains-append_right (sink_arcs_at g v) (stack_arcs g v) _
+      (Contains-append_right (inner_at g v) (map Reverse (matched_at g v)) _
+      (Contains-map Reverse (matched_at g v) _ (Contains-get_or (matched_at g v) i 0 l)))) in
       record { listed = o.0; from = o.1 }

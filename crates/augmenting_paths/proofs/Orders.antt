@@ -1,31 +1,26 @@
 -- The order in which units are shipped may be any.
-use Rattle.std.proofs.Common.{◌≡◌, ℕ, zero, suc, ◌+◌, ◌<◌, Bool, true, false, List, [], ◌∷◌, ◌++◌}
+use Rattle.std.proofs.Common.{◌≡◌, ℕ, ◌+◌, ◌*◌, ◌<◌, Bool, true, false, List, [], ◌∷◌, ◌++◌}
 use Rattle.std.proofs.Common.{length, get_or, set, take, drop, map, replicate, refl, sym, ap, ◌∙◌, subst, inl}
 use Rattle.std.proofs.Common.{inr, arith, get_or-set_same, get_or-set_other, Contains}
 use Rattle.std.specs.Prelude.{nat_eq}
-use Rattle.std.specs.List.{IsDistinct, sum_by}
+use Rattle.std.specs.List.{IsDistinct}
 use Rattle.std.specs.List.Sorted.{IsPermutation}
 use Rattle.std.specs.Cmp.{nat_eq_equiv}
 use Rattle.std.proofs.Math.Seq.{take-length}
 use Rattle.std.proofs.lemmas.Bool.{cases_eq, cases_lt, cases_Bool, ne_eqb, eq-eqb, false≢true}
 use Rattle.std.proofs.lemmas.List.{get_or_default, take-append-drop}
 use Rattle.std.proofs.lemmas.List.Elements.{Contains-append_left, Contains-push, Contains-push_cases}
-use Rattle.std.proofs.lemmas.List.Sums.{sum_by-cons}
 use Rattle.std.proofs.lemmas.List.Sorted.{IsPermutation-sym, IsPermutation-trans, IsPermutation-append_left}
 use Rattle.std.proofs.lemmas.List.Sorted.{IsPermutation-map, Contains-permutation, length_permutation}
 use Rattle.std.proofs.lemmas.List.Sorted.{sum_by-IsPermutation}
 use Rattle.std.proofs.lemmas.Map.Keys.{IsDistinct-IsPermutation, IsDistinct-from_apart, apart_from_distinct}
 use Rattle.flow_network.specs.declared.arcs.FlowArc.{FlowArc}
-use Rattle.flow_network.specs.Flows.{arc_at, unit_at}
-use Rattle.augmenting_paths.specs.Shipping.{times_in, CanShip, HasShipped, AreMarked}
+use Rattle.flow_network.specs.Flows.{arc_at, inflow, outflow, unit_at}
+use Rattle.flow_network.proofs.Members.{replicated_at}
+use Rattle.augmenting_paths.specs.Shipping.{standing, CanShip, HasShipped, AreMarked}
 
-times_sum : (w : ℕ) (xs : List ℕ) → times_in w xs ≡ sum_by (λ s. unit_at s w) xs
-times_sum w [] = refl
-times_sum w (x ∷ xs) = ap (λ n. unit_at x w + n) (times_sum w xs) ∙ sym (sum_by-cons (λ s. unit_at s w) x xs)
-
-pub times_in-permutation : (w : ℕ) (xs ys : List ℕ) → IsPermutation xs ys → times_in w ys ≡ times_in w xs
-times_in-permutation w xs ys p =
-    times_sum w ys ∙ sum_by-IsPermutation (λ s. unit_at s w) xs ys p ∙ sym (times_sum w xs)
+pub standing-permutation : (w : ℕ) (xs ys : List ℕ) → IsPermutation xs ys → standing ys w ≡ standing xs w
+standing-permutation w xs ys p = sum_by-IsPermutation (λ s. unit_at s w) xs ys p
 
 -- where a member of the order stands among the sources
 place : (xs ys : List ℕ) → IsPermutation xs ys → (k : ℕ) → k < length ys
@@ -81,8 +76,13 @@ module _ {nodes : ℕ} {arcs : List FlowArc} {xs ys : List ℕ} {sink : ℕ} (p 
 pub order_shipped : {arcs : List FlowArc} {xs ys : List ℕ} {sink : ℕ} {flows : List ℕ} {h : ℕ → ℕ}
     → IsPermutation xs ys → HasShipped arcs ys sink (length ys) flows h
     → HasShipped arcs xs sink (length xs) flows h
-order_shipped {xs = xs} {ys = ys} {sink = sink} p t =
-    grind (arith, length_permutation, take-length, times_in-permutation)
+order_shipped {arcs = arcs} {xs = xs} {ys = ys} {sink = sink} {flows = flows} p t =
+    let size = length_permutation xs ys p in
+    let balance : (w : ℕ) → inflow arcs flows w + standing (take (length xs) xs) w
+    ≡ outflow arcs flows w + length xs * unit_at sink w =
+    λ w. rw (take-length xs) (let all = rw (take-length ys, size) at t.balance w in
+    let same = standing-permutation w xs ys p in omega arith) in
+    grind arith
 
 -- the order in which units are shipped may be any
 pub order_law : (nodes : ℕ) (arcs : List FlowArc) (sources order : List ℕ) (sink : ℕ) (flows : List ℕ)
@@ -112,13 +112,8 @@ map-push f [] x = refl
 map-push f (y ∷ xs) x = ap (λ ys. f y ∷ ys) (map-push f xs x)
 
 -- the marks of sources
-unset : (n v : ℕ) → get_or (replicate {A = Bool} n false) v false ≡ false
-unset zero v = refl
-unset (suc n) zero = refl
-unset (suc n) (suc v) = unset n v
-
 pub marks_none : (n : ℕ) → AreMarked [] (replicate n false)
-marks_none n v = grind (arith, false≢true, unset)
+marks_none n v = grind (arith, false≢true, replicated_at)
 
 pub marks_more : (xs : List ℕ) (marks : List Bool) (s : ℕ) → s < length marks → AreMarked xs marks
     → AreMarked (xs ++ s ∷ []) (set marks s true)

@@ -1,12 +1,13 @@
 -- Why each unit finds a path, and what it leaves.
-use Rattle.std.proofs.Common.{◌≡◌, ◌*◌, ℕ, zero, suc, ◌+◌, ◌-◌, ◌^◌, ◌<◌, ◌≤◌, Bool, true, false, cond, eqb}
-use Rattle.std.proofs.Common.{List, [], ◌∷◌, ◌++◌, length, get_or, take, map, replicate, Option, Some, None}
+use Rattle.std.proofs.Common.{◌≡◌, ◌*◌, ℕ, suc, ◌+◌, ◌-◌, ◌^◌, ◌<◌, ◌≤◌, Bool, true, false, cond, eqb}
+use Rattle.std.proofs.Common.{List, [], ◌∷◌, ◌++◌, length, get_or, take, Option, Some, None}
 use Rattle.std.proofs.Common.{refl, sym, ap, ◌∙◌, subst, inl, inr, ◌⊎◌, arith, get_or-set_same}
-use Rattle.std.proofs.Common.{get_or-set_other}
+use Rattle.std.proofs.Common.{get_or-set_other, All}
 use Rattle.std.proofs.Math.Seq.{take-length}
 use Rattle.std.specs.Prelude.{is_some, IsSome}
 use Rattle.std.proofs.lemmas.Bool.{cases_eq, cases_lt}
 use Rattle.std.proofs.lemmas.List.{take_more, set_past}
+use Rattle.std.proofs.lemmas.List.Sums.{sum_by_push}
 use Rattle.flow_network.specs.declared.arcs.FlowArc.{FlowArc}
 use Rattle.flow_network.specs.declared.arcs.ArcNo.{ArcNo}
 use Rattle.flow_network.specs.declared.arcs.ArcNo.TheVariants.{Forward, Reverse}
@@ -15,15 +16,14 @@ use Rattle.flow_network.specs.Flows.{path_cost, shifted, pushed, inflow, outflow
 use Rattle.flow_network.specs.Flows.{path_end, arc_index, NoNegative, AreArcs, WithinCapacities}
 use Rattle.flow_network.proofs.Balance.{push_balance, length-shifted}
 use Rattle.flow_network.proofs.Cheapest.{no_negative_is_cheapest}
-use Rattle.flow_network.specs.Leaving.{IsIn}
+use Rattle.flow_network.proofs.Pushing.{residual_path}
 use Rattle.shortest_paths.specs.Finding.{Finding, IsTotal, total_of}
 use Rattle.shortest_paths.specs.Lowering.{lowered}
 use Rattle.shortest_paths.specs.Searching.{distance_at}
 use Rattle.shortest_paths.specs.ToSink.{far, IsSearched, IsTrace}
 use Rattle.shortest_paths.proofs.Lowering.{lift_law, lowering_law, push_law, steps_tight}
 use Rattle.shortest_paths.proofs.ToSink.{searched_is_least}
-use Rattle.augmenting_paths.specs.Shipping.{times_in, CanShip, HasShipped, IsLifted, AreMembers}
-use Rattle.augmenting_paths.specs.Shipping.{IsShipment, IsCheapest}
+use Rattle.augmenting_paths.specs.Shipping.{standing, CanShip, HasShipped, IsLifted, IsShipment, IsCheapest}
 use Rattle.augmenting_paths.specs.NextUnit.{HasFoundNext}
 use Rattle.augmenting_paths.specs.TightPath.{IsTightPath}
 use Rattle.augmenting_paths.proofs.TightPath.{distinct_once}
@@ -74,9 +74,8 @@ module _ (arcs : List FlowArc) (flows : List ℕ) (s : ℕ) (closed : (a : ArcNo
     not_left path (head_of arcs a) v j (closed a p.0) f p.2,
   )
 
-pub times_in-push : (w : ℕ) (xs : List ℕ) (s : ℕ) → times_in w (xs ++ s ∷ []) ≡ times_in w xs + unit_at s w
-times_in-push w [] s = omega arith
-times_in-push w (x ∷ xs) s = let rest = times_in-push w xs s in omega arith
+pub standing-push : (w : ℕ) (xs : List ℕ) (s : ℕ) → standing (xs ++ s ∷ []) w ≡ standing xs w + unit_at s w
+standing-push w xs s = sum_by_push (λ place. unit_at place w) xs s
 
 -- no matter how the depths are computed
 same_found : (arcs : List FlowArc) (sources : List ℕ) (sink count : ℕ) (flows : List ℕ) (path : List ArcNo)
@@ -106,11 +105,8 @@ by_ends arcs flows (a ∷ path) u v n p = (
 
 -- a path of listed arcs
 pub path_listed : (arcs : List FlowArc) (flows : List ℕ) (path : List ArcNo) (u v : ℕ) →
-    IsPath arcs flows path u v
-    → (a : ArcNo) → IsIn a path → arc_index a < length arcs
-path_listed arcs flows [] u v p a i = absurd i
-path_listed arcs flows (b ∷ path) u v p a (inl e) = subst (λ c. arc_index c < length arcs) (sym e) p.0.listed
-path_listed arcs flows (b ∷ path) u v p a (inr i) = path_listed arcs flows path (head_of arcs b) v p.2 a i
+    IsPath arcs flows path u v → All (λ a. arc_index a < length arcs) path
+path_listed arcs flows path u v p k d l = (residual_path arcs flows path u v p k d l).listed
 
 module _ {nodes : ℕ} {arcs : List FlowArc} {sources : List ℕ} {sink count : ℕ} {flows : List ℕ} {h : ℕ → ℕ}
     (can : CanShip nodes arcs sources sink) (left : count < length sources)
@@ -294,7 +290,7 @@ module _ {nodes : ℕ} {arcs : List FlowArc} {sources : List ℕ} {sink count : 
   pub unit_distinct : IsDistinct path
   unit_distinct = distinct_once path f.way.once
 
-  pub unit_listed : (a : ArcNo) → IsIn a path → arc_index a < length arcs
+  pub unit_listed : All (λ a. arc_index a < length arcs) path
   unit_listed = path_listed arcs flows path (get_or sources count 0) sink f.way.leads
 
   pub unit_shipped : HasShipped arcs sources sink (count + 1) (pushed path flows) h'
@@ -318,7 +314,7 @@ module _ {nodes : ℕ} {arcs : List FlowArc} {sources : List ℕ} {sink count : 
         let old = f.state.balance w in
         let more : take (count + 1) sources ≡ take count sources ++ get_or sources count 0 ∷ [] =
         take_more sources count 0 left in
-        let sum = times_in-push w (take count sources) (get_or sources count 0) in
+        let sum = standing-push w (take count sources) (get_or sources count 0) in
         rw more (omega arith));
   }
 
@@ -346,28 +342,6 @@ pub begin_state : (arcs : List FlowArc) {sources : List ℕ} {sink : ℕ} (flows
     → ((k : ℕ) → get_or flows k 0 ≡ 0) → ((v : ℕ) → h v ≡ 0) → HasShipped arcs sources sink 0 flows h
 begin_state arcs {sources = sources} {sink = sink} flows h size none zero_depth =
     grind (arith, inflow_zero, outflow_zero)
-
-pub zeros : (n v : ℕ) → get_or (replicate {A = ℕ} n 0) v 0 ≡ 0
-zeros zero v = let z : 0 ≡ 0 = refl in z
-zeros (suc n) zero = let z : 0 ≡ 0 = refl in z
-zeros (suc n) (suc v) = zeros n v
-
--- sources by their indices
-pub index_read : {X : Type 0} (f : X → ℕ) (xs : List X) (i : ℕ) (x : X) → i < length xs → x ≡ get_or xs i x →
-    get_or (map f xs) i 0 ≡ f x
-index_read f [] i x l e = absurd (omega arith)
-index_read f (y ∷ xs) zero x l e = ap f (sym e)
-index_read f (y ∷ xs) (suc i) x l e = index_read f xs i x (omega arith) e
-
-pub member_read : {X : Type 0} (test : X → Bool) (xs : List X) (i : ℕ) (x : X) → i < length xs →
-    x ≡ get_or xs i x → AreMembers test xs → test x ≡ true
-member_read test [] i x l e m = absurd (omega arith)
-member_read test (y ∷ xs) zero x l e m = ap test e ∙ m.0
-member_read test (y ∷ xs) (suc i) x l e m = member_read test xs i x (omega arith) e m.1
-
-pub length-indices : {X : Type 0} (f : X → ℕ) (xs : List X) → length (map f xs) ≡ length xs
-length-indices f [] = refl
-length-indices f (x ∷ xs) = ap suc (length-indices f xs)
 
 -- what was shipped is a shipment, and none costs less
 pub shipment : (nodes : ℕ) (arcs : List FlowArc) (sources : List ℕ) (sink count : ℕ) (flows : List ℕ) (h : ℕ

@@ -1,15 +1,14 @@
 -- A path is made arc by arc, as one goes down.
-use Rattle.std.proofs.Common.{◌≡◌, ℕ, ◌-◌, ◌<◌, cond, eqb, List, [], ◌∷◌, ◌++◌, length, get_or, Option}
-use Rattle.std.proofs.Common.{Some, None}
+use Rattle.std.proofs.Common.{◌≡◌, ℕ, ◌-◌, ◌<◌, cond, eqb, List, [], ◌∷◌, ◌++◌, length, get_or, Option, Some}
+use Rattle.std.proofs.Common.{None, map, refl, sym, ap, subst, inl, inr, ◌⊎◌, arith, Contains}
 use Rattle.std.proofs.lemmas.Bool.{eq-eqb, ne_eqb}
-use Rattle.std.proofs.Common.{map, refl, sym, ap, subst, inl, inr, ◌⊎◌, arith}
+use Rattle.std.proofs.lemmas.List.Elements.{Contains-get_or, Contains-append_left, Contains-append_right}
 use Rattle.flow_network.specs.declared.arcs.FlowArc.{FlowArc}
 use Rattle.flow_network.specs.declared.arcs.ArcNo.{ArcNo}
 use Rattle.flow_network.specs.declared.arcs.ArcNo.TheVariants.{Forward, Reverse}
 use Rattle.flow_network.specs.Flows.{arc_at, arc_index, tail_of, head_of, Lacks, IsDistinct}
 use Rattle.flow_network.specs.Flows.{IsPath, IsResidual}
-use Rattle.flow_network.specs.Leaving.{IsIn}
-use Rattle.flow_network.proofs.Listed.{in_at, in_left, in_right}
+use Rattle.flow_network.proofs.Members.{Contains-here}
 use Rattle.flow_network.proofs.Paths.{IsPath-append}
 use Rattle.shortest_paths.specs.Lists.{ArcLists, AreResidualArcs, option_arcs, sink_arcs_at, stack_arcs}
 use Rattle.shortest_paths.specs.Lists.{inner_at, matched_at}
@@ -127,21 +126,21 @@ pub sink_arc_on : {arcs : List FlowArc} {flows : List ℕ} {sink : ℕ} {g : Arc
     → AreResidualArcs arcs flows sink g → get_or g.sink_arcs v None ≡ Some on
     → (on < length arcs) × ((arc_at arcs on).from ≡ v)
 sink_arc_on {g = g} {v = v} {on = on} lists e =
-    let i : IsIn (Forward on) (sink_arcs_at g v) =
-    subst (λ (o : Option ℕ). IsIn (Forward on) (option_arcs o)) (sym e) (inl refl) in
-    lists.own v (Forward on) (in_left (Forward on) (sink_arcs_at g v) (stack_arcs g v) i)
+    let i : Contains (sink_arcs_at g v) (Forward on) =
+    subst (λ (o : Option ℕ). Contains (option_arcs o) (Forward on)) (sym e) (Contains-here [] (Forward on)) in
+    lists.own v (Forward on) (Contains-append_left (sink_arcs_at g v) (stack_arcs g v) (Forward on) i)
 
 pub inner_arc : {arcs : List FlowArc} {flows : List ℕ} {sink : ℕ} {g : ArcLists} {v : ℕ}
     {listed : List ArcNo} {i k : ℕ} → AreResidualArcs arcs flows sink g → listed ≡ inner_at g v
     → i < length listed → get_or listed i (Forward 0) ≡ Forward k
     → (k < length arcs) × ((arc_at arcs k).from ≡ v)
 inner_arc {g = g} {v = v} {listed = listed} {i = i} {k = k} lists e l is =
-    let here : IsIn (Forward k) listed =
-    subst (λ (a : ArcNo). IsIn a listed) is (in_at listed i (Forward 0) l) in
+    let here : Contains listed (Forward k) =
+    subst (λ (a : ArcNo). Contains listed a) is (Contains-get_or listed i (Forward 0) l) in
     lists.own v (Forward k)
-    (in_right (Forward k) (sink_arcs_at g v) (stack_arcs g v)
-    (in_left (Forward k) (inner_at g v) (map Reverse (matched_at g v))
-    (subst (λ (xs : List ArcNo). IsIn (Forward k) xs) e here)))
+    (Contains-append_right (sink_arcs_at g v) (stack_arcs g v) (Forward k)
+    (Contains-append_left (inner_at g v) (map Reverse (matched_at g v)) (Forward k)
+    (subst (λ (xs : List ArcNo). Contains xs (Forward k)) e here)))
 
 -- how many nodes are later, where an arc leads down
 pub comes_nearer : (arcs : List FlowArc) (nodes sink v k : ℕ) → v < nodes → (v ≡ sink → ⊥)

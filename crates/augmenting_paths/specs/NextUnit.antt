@@ -3,7 +3,7 @@ use Rattle.std.specs.Prelude.{◌≡◌, ℕ, ◌+◌, ◌*◌, ◌^◌, ◌<◌
 use Rattle.flow_network.specs.declared.arcs.FlowArc.{FlowArc}
 use Rattle.flow_network.specs.declared.arcs.ArcNo.{ArcNo}
 use Rattle.flow_network.specs.Flow.{Flow}
-use Rattle.flow_network.specs.Flows.{NoNegative}
+use Rattle.flow_network.specs.Flows.{NoNegative, IsNetwork}
 use Rattle.shortest_paths.specs.Lists.{ArcLists, source_at}
 use Rattle.shortest_paths.specs.Matched.{AreMatched}
 use Rattle.shortest_paths.specs.Sorted.{AreSorted}
@@ -29,6 +29,7 @@ pub record KeepsArcs (nodes : ℕ) (arcs : List FlowArc) (flows : List ℕ) (sin
 -- what is kept fits the network; the searches looked at each arc at most twice for each unit
 pub record AreKept {L : Type 0} (node_count : L → ℕ) (network : Flow L) (sink count : ℕ)
     (s : Shipping) : Type 0 where
+  pub limits : IsNetwork (node_count network.layout) network.arcs network.flows
   pub looks : s.looks ≤ count * (2 * length network.arcs)
   pub size : length s.potentials ≡ node_count network.layout
   pub buffers : s.buffers ≡ node_count network.layout

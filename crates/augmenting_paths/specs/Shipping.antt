@@ -1,15 +1,14 @@
 -- One unit after the other is shipped from its source to the sink.
-use Rattle.std.specs.Prelude.{◌≡◌, ℕ, ◌+◌, ◌*◌, ◌^◌, ◌<◌, ◌≤◌, Bool, true, false, List, [], ◌∷◌, length, map}
-use Rattle.std.specs.Prelude.{slice_index, slice_index_or, take, Contains, ◌↔◌}
+use Rattle.std.specs.Prelude.{◌≡◌, ℕ, ◌+◌, ◌*◌, ◌^◌, ◌<◌, ◌≤◌, Bool, true, false, List, length, map}
+use Rattle.std.specs.Prelude.{slice_index, slice_index_or, take, Contains, ◌↔◌, count_by, ◌==◌}
+use Rattle.std.specs.List.{AllPass}
 use Rattle.flow_network.specs.declared.arcs.FlowArc.{FlowArc}
-use Rattle.flow_network.specs.Flows.{arc_at, AreArcs, WithinCapacities, NoNegative, inflow, outflow}
-use Rattle.flow_network.specs.Flows.{unit_at}
+use Rattle.flow_network.specs.Flows.{arc_at, AreArcs, WithinCapacities, NoNegative, inflow, outflow, unit_at}
 use Rattle.flow_network.specs.Laws.{flow_cost}
 
--- how often a node stands in a list
-abbrev pub times_in : ℕ → List ℕ → ℕ
-times_in w [] = 0
-times_in w (s ∷ sources) = unit_at s w + times_in w sources
+-- how many of the places are a node's
+abbrev pub standing : List ℕ → ℕ → ℕ
+standing places v = count_by (λ place. place == v) places
 
 -- an own arc to a node that is no source, and from there an arc to the sink with room for all units
 pub record HasPath (arcs : List FlowArc) (sources : List ℕ) (sink s : ℕ) : Type 0 where
@@ -44,14 +43,14 @@ pub record HasShipped (arcs : List FlowArc) (sources : List ℕ) (sink count : �
   pub untouched : (k : ℕ) → count ≤ k → k < length sources → h (slice_index sources k) ≡ 0
   pub unused : (k j : ℕ) → count ≤ k → k < length sources → j < length arcs → (arc_at arcs j).from
       ≡ slice_index sources k → slice_index flows j ≡ 0
-  pub balance : (w : ℕ) → inflow arcs flows w + times_in w (take count sources)
+  pub balance : (w : ℕ) → inflow arcs flows w + standing (take count sources) w
       ≡ outflow arcs flows w + count * unit_at sink w
 
 -- flows within the capacities that bring one unit from each source to the sink
 pub record IsShipment (arcs : List FlowArc) (sources : List ℕ) (sink : ℕ) (flows : List ℕ) : Type 0 where
   pub sizes : length flows ≡ length arcs
   pub within : WithinCapacities arcs flows
-  pub balance : (w : ℕ) → inflow arcs flows w + times_in w sources
+  pub balance : (w : ℕ) → inflow arcs flows w + standing sources w
       ≡ outflow arcs flows w + length sources * unit_at sink w
 
 -- one of these, and none costs less
@@ -69,11 +68,6 @@ pub record IsLifted (arcs : List FlowArc) (h h' : ℕ → ℕ) (s : ℕ) : Type 
 -- just the indices of the list are marked
 abbrev pub AreMarked : List ℕ → List Bool → Type 0
 AreMarked sources marks = (v : ℕ) → (slice_index_or marks v false ≡ true) ↔ Contains sources v
-
--- each of them passes the test
-abbrev pub AreMembers : {X : Type 0} → (X → Bool) → List X → Type 0
-AreMembers test [] = Unit {0}
-AreMembers test (x ∷ xs) = (test x ≡ true) × AreMembers test xs
 
 -- an arc from the node to the sink with room for so many units
 abbrev pub LeadsOn : List FlowArc → ℕ → ℕ → ℕ → Type 0
@@ -96,7 +90,7 @@ AreSources arcs sources sink = (k : ℕ) → k < length sources → IsSource arc
 -- all that is asked before units are shipped
 pub record MayShip {X : Type 0} (is_member : X → Bool) (index_of : X → ℕ) (nodes : ℕ) (arcs : List FlowArc)
     (flows : List ℕ) (sources : List X) (sink : X) : Type 0 where
-  pub members : AreMembers is_member sources
+  pub members : AllPass is_member sources
   pub sink_member : is_member sink ≡ true
   pub limit : length sources ≤ 4096
   pub can : CanShip nodes arcs (map index_of sources) (index_of sink)

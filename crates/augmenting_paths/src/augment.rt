@@ -1,13 +1,13 @@
 //! One unit after the other along least paths.
 ghost use Rattle.std.specs.Prelude.{◌≡◌, ℕ, ◌+◌, ◌*◌, ◌<◌, ◌≤◌, ◌^◌, List, length, map, slice_index, true};
 ghost use Rattle.std.specs.Prelude.{false, IfOk, IfSome, IsSome};
+ghost use Rattle.std.specs.List.{AllPass};
 ghost use Rattle.flow_network.specs.Flows.{arc_at, arc_index, tail_of, AreArcs};
 ghost use Rattle.shortest_paths.specs.Finding.{IsTotal};
 ghost use Rattle.shortest_paths.specs.Search.{MaySearch};
 ghost use Rattle.shortest_paths.specs.Searching.{distance_at};
 ghost use Rattle.shortest_paths.specs.ToSink.{IsSearched, IsTrace};
-ghost use Rattle.augmenting_paths.specs.Shipping.{CanShip, HasShipped, IsCheapest, AreMembers, IsLifted};
-ghost use Rattle.augmenting_paths.specs.Shipping.{AreMarked};
+ghost use Rattle.augmenting_paths.specs.Shipping.{CanShip, HasShipped, IsCheapest, IsLifted, AreMarked};
 ghost use Rattle.augmenting_paths.specs.TightPath.{FindsTight};
 ghost use Rattle.augmenting_paths.specs.DepthFirst.{HasNodes};
 ghost use Rattle.augmenting_paths.specs.NextUnit.{MayShipNext, AreKept, HasLiftedNext, HasFoundNext};
@@ -46,7 +46,7 @@ pub fn saturate<L: Layout>(
     sources: &[L::Node],
     sink: L::Node,
 ) -> Result<Potentials, AllocError>
-    requires members { AreMembers (L.is_member network.old.layout) sources.now }
+    requires members { AllPass (L.is_member network.old.layout) sources.now }
     requires sink { L.is_member network.old.layout sink ≡ true }
     requires limit { length sources.now ≤ 4096 }
     requires can { CanShip (L.node_count network.old.layout) network.old.arcs
@@ -64,9 +64,7 @@ pub fn saturate<L: Layout>(
 {
     let end = network.layout().index(sink);
     let starts = indices(alloc, network.layout(), sources)?;
-    let potentials = ship_all(alloc, network, &starts, end)?;
-    network.limits();
-    Ok(potentials)
+    ship_all(alloc, network, &starts, end)
 }
 
 // The same by the indices of the nodes.
@@ -82,6 +80,7 @@ fn ship_all<L: Layout>(
     ensures size { IfOk result (λ p. length p ≡ L.node_count network.old.layout) }
     ensures shipped { IfOk result (λ p. HasShipped network.old.arcs sources.now sink (length sources.now)
         network.new.flows (slice_index p)) }
+    ensures cheapest { IfOk result (λ _. IsCheapest network.old.arcs sources.now sink network.new.flows) }
     ensures arcs { network.new.arcs ≡ network.old.arcs }
     ensures layout { network.new.layout ≡ network.old.layout }
 {
@@ -146,7 +145,6 @@ fn find_path<L: Layout>(
     ensures found { IfOk result (λ s. HasFoundNext network.now.arcs order.now sink count network.now.flows
         (slice_index s.potentials) s.path.items) }
 {
-    network.limits();
     let start = order[count];
     lift(network, &mut shipping.potentials, start);
     let query = Query {
@@ -204,7 +202,6 @@ fn search_path<L: Layout>(
         mut looks,
         ..
     } = shipping;
-    network.limits();
     let query = Query {
         potentials: &potentials,
         lists: &lists,

@@ -1,8 +1,9 @@
 //! The test of what `saturate` asks of a network and its sources.
 ghost use Rattle.std.specs.Prelude.{◌≡◌, ℕ, ◌<◌, ◌≤◌, length, map, slice_index, true, IsTrue, ◌↔◌, IfOk};
+ghost use Rattle.std.specs.List.{AllPass};
 ghost use Rattle.flow_network.specs.Flows.{arc_at};
 ghost use Rattle.augmenting_paths.specs.Shipping.{CanShip, HasPath, LeadsOn, IsEntered, IsSource, AreSources};
-ghost use Rattle.augmenting_paths.specs.Shipping.{AreMembers, MayShip};
+ghost use Rattle.augmenting_paths.specs.Shipping.{MayShip};
 
 use flow_network::{FlowArc, Network};
 use node_ids::Layout;
@@ -45,7 +46,7 @@ fn can_ship_over<L: Layout>(
     sources: &[L::Node],
     sink: L::Node,
 ) -> Result<bool, AllocError>
-    requires members { AreMembers (L.is_member network.now.layout) sources.now }
+    requires members { AllPass (L.is_member network.now.layout) sources.now }
     requires sink { L.is_member network.now.layout sink ≡ true }
     ensures { IfOk result (λ b. IsTrue b ↔ CanShip (L.node_count network.now.layout) network.now.arcs
         (map (L.index_of network.now.layout) sources.now) (L.index_of network.now.layout sink)) }
@@ -59,7 +60,7 @@ fn can_ship_over<L: Layout>(
 
 // Whether each node is one of the layout's.
 fn are_members<L: Layout>(layout: &L, nodes: &[L::Node]) -> bool
-    ensures { IsTrue result ↔ AreMembers (L.is_member layout.now) nodes.now }
+    ensures { IsTrue result ↔ AllPass (L.is_member layout.now) nodes.now }
 {
     for node in nodes {
         if !layout.holds(*node) {
@@ -87,7 +88,7 @@ pub fn indices<L: Layout>(
     layout: &L,
     nodes: &[L::Node],
 ) -> Result<Vec<usize>, AllocError>
-    requires { AreMembers (L.is_member layout.now) nodes.now }
+    requires { AllPass (L.is_member layout.now) nodes.now }
     ensures { IfOk result (λ v. v.items ≡ map (L.index_of layout.now) nodes.now) }
 {
     let mut indices = Vec::new(alloc);

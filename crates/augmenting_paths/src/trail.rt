@@ -1,8 +1,7 @@
 //! A path over which a unit costs nothing more, by a search that goes depth first over tight arcs.
 ghost use Rattle.std.specs.Prelude.{◌≡◌, ℕ, ◌+◌, ◌<◌, ◌≤◌, length, slice_index, slice_set, IfOk, IfSome};
-ghost use Rattle.std.specs.Prelude.{IsTrue};
+ghost use Rattle.std.specs.Prelude.{IsTrue, All};
 ghost use Rattle.flow_network.specs.Flows.{arc_index, tail_of, AreArcs};
-ghost use Rattle.flow_network.specs.Leaving.{IsIn};
 ghost use Rattle.shortest_paths.specs.Search.{MaySearch};
 ghost use Rattle.augmenting_paths.specs.TightPath.{FindsTight};
 ghost use Rattle.augmenting_paths.specs.DepthFirst.{HasNodes, IsOf, IsOpenArc, GoesOn};
@@ -135,7 +134,7 @@ impl Trail {
         requires size { length potentials.now ≡ L.node_count network.now.layout }
         requires nodes { HasNodes (length potentials.now) self.old }
         requires node { node < length potentials.now }
-        requires inner { (a : ArcNo) → IsIn a inner.now → IsOf network.now.arcs node a }
+        requires inner { All (IsOf network.now.arcs node) inner.now }
         requires matched { (i : ℕ) → i < length matched.now
             → IsOf network.now.arcs node (ArcNo.Reverse (slice_index matched.now i)) }
         ensures left { self.new ≡ record self.old { left = self.new.left } }
@@ -165,7 +164,7 @@ impl Trail {
     ) -> Option<(ArcNo, usize)>
         requires size { length potentials.now ≡ L.node_count network.now.layout }
         requires nodes { HasNodes (length potentials.now) self.now }
-        requires inner { (a : ArcNo) → IsIn a inner.now → IsOf network.now.arcs node a }
+        requires inner { All (IsOf network.now.arcs node) inner.now }
         requires matched { (i : ℕ) → i < length matched.now
             → IsOf network.now.arcs node (ArcNo.Reverse (slice_index matched.now i)) }
         requires most { most ≤ length matched.now + length inner.now }
@@ -219,7 +218,7 @@ impl Trail {
 fn open_ends<L: Layout>(closed: &mut [usize], network: &Network<L>, path: &[ArcNo])
     requires size { length closed.old ≡ L.node_count network.now.layout }
     requires arcs { AreArcs (L.node_count network.now.layout) network.now.arcs }
-    requires path { (a : ArcNo) → IsIn a path.now → arc_index a < length network.now.arcs }
+    requires path { All (λ a. arc_index a < length network.now.arcs) path.now }
     ensures { length closed.new ≡ length closed.old }
 {
     for arc in path {

@@ -20,7 +20,7 @@ lift-requires-clause-arc g c =
 
 pub tight_path-requires-clause-may : goal.tight_path-requires-clause-may
 tight_path-requires-clause-may g c =
-    may_search c.limits.ensures c.requires.next (c.lift.ensures.size ∙ c.requires.kept.size)
+    may_search c.requires.kept.limits c.requires.next (c.lift.ensures.size ∙ c.requires.kept.size)
     c.requires.kept.lists (record {
       h = slice_index c.args.shipping.potentials;
       state = c.requires.state;

@@ -1,7 +1,5 @@
-use Rattle.std.proofs.Common.{List, length, ap, subst, arith}
+use Rattle.std.proofs.Common.{ap}
 use Rattle.flow_network.specs.Flow.{Flow}
-use Rattle.flow_network.specs.declared.arcs.ArcNo.{ArcNo}
-use Rattle.flow_network.specs.Leaving.{IsIn}
 use Rattle.augmenting_paths.proofs.Shipped.{unit_path, unit_distinct, unit_listed, unit_shipped}
 use Rattle.augmenting_paths.proofs.augment.push.Goals as goal
 
@@ -16,11 +14,9 @@ push-requires-clause-path g c =
     (unit_path c.requires.next.can c.requires.next.left c.requires.found).1
 
 pub follow-requires-clause-path : goal.follow-requires-clause-path
-follow-requires-clause-path g c = λ a i.
-    let inside = unit_listed c.requires.next.can c.requires.next.left c.requires.found a
-    (subst (λ (xs : List ArcNo). IsIn a xs) c.deref-2.ensures.value i) in
-    let size = ap (λ (f : Flow g.row.L.Denot). length f.arcs) c.push.ensures.pushed in
-    omega arith
+follow-requires-clause-path g c =
+    rw (ap (λ (f : Flow g.row.L.Denot). f.arcs) c.push.ensures.pushed, c.deref-2.ensures.value)
+    (unit_listed c.requires.next.can c.requires.next.left c.requires.found)
 
 pub returns-clause-state : goal.returns-clause-state
 returns-clause-state g c =

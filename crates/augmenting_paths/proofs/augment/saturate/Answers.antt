@@ -1,5 +1,4 @@
-use Rattle.std.proofs.Common.{◌≡◌, map, refl, ap, ◌∙◌}
-use Rattle.augmenting_paths.proofs.Shipped.{cheapest}
+use Rattle.std.proofs.Common.{◌≡◌, map, ap, ◌∙◌}
 use Rattle.augmenting_paths.proofs.augment.saturate.Goals as goal
 
 pub returns-clause-cheapest : goal.returns-clause-cheapest
@@ -10,6 +9,4 @@ returns-clause-cheapest g c =
     ≡ map (g.L.Layout.index_of c.args.network.now.layout) c.args.sources.now =
     c.in_ok-starts.ensures
     ∙ ap (λ l. map (g.L.Layout.index_of l) c.args.sources.now) c.layout-2.ensures.value in
-    let all = rw (c.deref.ensures.value, starts, end) at c.in_ok-potentials.ensures.shipped in
-    let limits = rw (c.ship_all.ensures.layout, c.ship_all.ensures.arcs) at c.limits.ensures in
-    cheapest _ _ _ _ _ _ _ refl limits.arcs_in limits.within all
+    rw (c.deref.ensures.value, starts, end) at c.ship_all.ensures.cheapest

@@ -6,7 +6,7 @@ use Rattle.augmenting_paths.proofs.augment.search_path.Goals as goal
 
 pub find-requires-clause-may : goal.find-requires-clause-may
 find-requires-clause-may g c =
-    may_search c.limits.ensures c.requires.next c.requires.kept.size c.requires.kept.lists
+    may_search c.requires.kept.limits c.requires.next c.requires.kept.size c.requires.kept.lists
     c.requires.lifted refl
 
 pub unreachable-requires : goal.unreachable-requires
@@ -24,6 +24,7 @@ lower-buffers-requires-clause-low g c =
 
 pub returns-clause-kept : goal.returns-clause-kept
 returns-clause-kept g c = record {
+  limits = c.requires.kept.limits;
   looks = (let old = c.requires.kept.looks in let new = c.find.ensures.looks in omega arith);
   size = c.lower-buffers.ensures.size ∙ c.requires.kept.size;
   buffers = c.lower-buffers.ensures.nodes ∙ c.in_ok-found.ensures.size ∙ c.requires.kept.size;

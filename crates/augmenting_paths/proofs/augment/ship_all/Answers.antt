@@ -1,9 +1,9 @@
-use Rattle.std.proofs.Common.{◌≡◌, ℕ, List, Bool, false, length, get_or, refl, ap, ◌∙◌}
-use Rattle.std.proofs.Common.{subst, arith}
+use Rattle.std.proofs.Common.{◌≡◌, ℕ, List, Bool, false, length, get_or, refl, ap, ◌∙◌, subst, arith}
 use Rattle.std.proofs.lemmas.List.{length-replicate}
 use Rattle.std.proofs.lemmas.List.Sorted.{length_permutation}
+use Rattle.flow_network.proofs.Members.{replicated_at}
 use Rattle.augmenting_paths.specs.Shipping.{HasShipped}
-use Rattle.augmenting_paths.proofs.Shipped.{begin_state, zeros}
+use Rattle.augmenting_paths.proofs.Shipped.{begin_state, cheapest}
 use Rattle.augmenting_paths.proofs.Orders.{order_can, order_shipped, sink_unmarked, ends_unmarked, sources_in}
 use Rattle.augmenting_paths.proofs.augment.ship_all.Goals as goal
 
@@ -32,6 +32,7 @@ loop-count-init g c =
       arcs = refl;
       layout = refl;
       kept = record {
+        limits = c.layout.ensures.limits;
         looks = omega arith;
         size = ap length c.in_ok-new.ensures ∙ length-replicate {A = ℕ} c.size-nodes.result 0 ∙ nodes;
         buffers = c.in_ok-new-3.ensures ∙ nodes;
@@ -44,7 +45,7 @@ loop-count-init g c =
         };
       };
       state = begin_state _ _ _ c.layout.ensures.limits.sizes c.requires.no_flow
-          (λ v. ap (λ p. get_or p v 0) c.in_ok-new.ensures ∙ zeros c.size-nodes.result v);
+          (λ v. ap (λ p. get_or p v 0) c.in_ok-new.ensures ∙ replicated_at c.size-nodes.result v 0);
     }
 
 pub ship-requires-clause-next : goal.ship-requires-clause-next
@@ -80,3 +81,9 @@ returns-clause-shipped g c =
     (subst (λ n. HasShipped c.args.network.now.arcs c.in_ok-order.order.items c.args.sink n
     c.loop-count.network.flows (λ v. get_or c.loop-count.shipping.potentials v 0))
     size (rw c.loop-count.invariant.arcs at c.loop-count.invariant.state))
+
+pub returns-clause-cheapest : goal.returns-clause-cheapest
+returns-clause-cheapest g c =
+    cheapest _ _ _ _ _ _ _ refl c.requires.can.arcs_in
+    (rw c.loop-count.invariant.arcs at c.loop-count.invariant.kept.limits.within)
+    (returns-clause-shipped g c)

@@ -1,5 +1,6 @@
-use Rattle.augmenting_paths.proofs.Shipped.{member_read}
+use Rattle.std.proofs.Common.{ap, ◌∙◌}
 use Rattle.augmenting_paths.proofs.requirements.indices.Goals as goal
 
 pub index-requires : goal.index-requires
-index-requires g c = member_read _ _ _ _ c.loop-node-test.true c.node-item.is c.requires
+index-requires g c =
+    ap (g.L.Layout.is_member c.args.layout.now) c.node-item.is ∙ c.requires _ _ c.loop-node-test.true

@@ -1,18 +1,16 @@
 use Rattle.std.proofs.Common.{get_or, arith}
 use Rattle.flow_network.specs.declared.arcs.ArcNo.TheVariants.{Forward}
-use Rattle.flow_network.proofs.Listed.{in_at}
 use Rattle.shortest_paths.proofs.Costs.{head_in}
 use Rattle.augmenting_paths.proofs.trail.open_ends.Goals as goal
 
 pub view-requires : goal.view-requires
 view-requires g c =
-    c.requires.path _ (in_at c.args.path.now c.loop-arc.arc-index (Forward 0) c.loop-arc-test.true)
+    c.requires.path c.loop-arc.arc-index (Forward 0) c.loop-arc-test.true
 
 pub bounds-closed-view : goal.bounds-closed-view
 bounds-closed-view g c =
     let arc = get_or c.args.path.now c.loop-arc.arc-index (Forward 0) in
-    let listed = c.requires.path arc
-    (in_at c.args.path.now c.loop-arc.arc-index (Forward 0) c.loop-arc-test.true) in
+    let listed = c.requires.path c.loop-arc.arc-index (Forward 0) c.loop-arc-test.true in
     let inside = head_in _ c.args.network.now.arcs arc c.requires.arcs listed in
     let size = c.requires.size in
     let same = c.loop-arc.invariant in

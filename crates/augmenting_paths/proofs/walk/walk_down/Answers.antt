@@ -1,10 +1,8 @@
-use Rattle.std.proofs.Common.{◌<◌, List, get_or, length, ap, ◌∙◌, subst, arith}
+use Rattle.std.proofs.Common.{◌<◌, List, length, ap, ◌∙◌, subst, arith}
 use Rattle.flow_network.specs.Flow.{Flow}
 use Rattle.flow_network.specs.declared.arcs.ArcNo.{ArcNo}
 use Rattle.flow_network.specs.declared.arcs.ArcNo.TheVariants.{Forward}
 use Rattle.flow_network.specs.Flows.{leaving_of}
-use Rattle.flow_network.specs.Leaving.{IsIn}
-use Rattle.flow_network.proofs.Listed.{in_at}
 use Rattle.augmenting_paths.proofs.DepthFirst.{own_of}
 use Rattle.augmenting_paths.proofs.walk.walk_down.Goals as goal
 use Rattle.augmenting_paths.proofs.walk.walk_down.Goals.{then-i-eq0, else-i-eq0}
@@ -16,8 +14,8 @@ walk_over-requires-clause-own g c =
       | then-i-eq0 w ↦ (let is = w.place-is in omega arith)
       | else-i-eq0 w ↦ (let is = w.place-is in omega arith)
     ] in
-    own_of _ (subst (λ (xs : List ArcNo).
-    IsIn (get_or c.leaving-arcs.result.now c.if-i-eq0.place (Forward 0)) xs)
+    rw (c.leaving-arcs.ensures, ap (λ (f : Flow g.row.L.Denot). f.arcs) c.new-meter.ensures.network)
+    (own_of _ _ c.if-i-eq0.place (Forward 0) (subst (λ (xs : List ArcNo). c.if-i-eq0.place < length xs)
     (c.leaving-arcs.ensures
     ∙ ap (λ (f : Flow g.row.L.Denot). leaving_of f.arcs c.args.query.now.start) c.new-meter.ensures.network)
-    (in_at c.leaving-arcs.result.now c.if-i-eq0.place (Forward 0) inside))
+    inside))

@@ -1,6 +1,5 @@
 use Rattle.std.proofs.Common.{◌-◌, length, arith}
 use Rattle.flow_network.specs.declared.arcs.ArcNo.TheVariants.{Forward}
-use Rattle.flow_network.proofs.Listed.{in_at}
 use Rattle.augmenting_paths.proofs.trail.Trail.find.Goals as goal
 use Rattle.augmenting_paths.proofs.trail.Trail.find.Goals.{then-left-matched, else-left-matched}
 
@@ -11,9 +10,8 @@ is_open-requires-clause-listed g c =
     let left = c.loop-left.left - 1 in
     elim c.if-left-matched.branch [
       | then-left-matched w ↦ rw w.arc-is (c.requires.matched left w.if-left-matched.true).listed
-      | else-left-matched w ↦ rw w.arc-is (c.requires.inner _
-          (in_at c.args.inner.now (left - length c.args.matched.now) (Forward 0)
-          (let past = w.if-left-matched.false in omega arith))).listed
+      | else-left-matched w ↦ rw w.arc-is (c.requires.inner (left - length c.args.matched.now) (Forward 0)
+          (let past = w.if-left-matched.false in omega arith)).listed
     ]
 
 pub returns-then-is_open : goal.returns-then-is_open
@@ -25,8 +23,7 @@ returns-then-is_open g c =
       open_arc = c.is_open.ensures c.if-is_open.true;
       from = elim c.if-left-matched.branch [
         | then-left-matched w ↦ rw w.arc-is (c.requires.matched left w.if-left-matched.true).from
-        | else-left-matched w ↦ rw w.arc-is (c.requires.inner _
-            (in_at c.args.inner.now (left - length c.args.matched.now) (Forward 0)
-            (let past = w.if-left-matched.false in omega arith))).from
+        | else-left-matched w ↦ rw w.arc-is (c.requires.inner (left - length c.args.matched.now) (Forward 0)
+            (let past = w.if-left-matched.false in omega arith)).from
       ];
     }

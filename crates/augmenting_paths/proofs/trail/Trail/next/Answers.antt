@@ -1,16 +1,12 @@
-use Rattle.std.proofs.Common.{List, ap, ◌∙◌, sym, subst}
+use Rattle.std.proofs.Common.{ap, ◌∙◌, sym}
 use Rattle.flow_network.specs.Flow.{Flow}
-use Rattle.flow_network.specs.declared.arcs.ArcNo.{ArcNo}
-use Rattle.flow_network.specs.Flows.{leaving_of}
-use Rattle.flow_network.specs.Leaving.{IsIn}
 use Rattle.augmenting_paths.proofs.TightPath.{sink_arc_on}
 use Rattle.augmenting_paths.proofs.DepthFirst.{own_of, inner_of, matched_of}
 use Rattle.augmenting_paths.proofs.trail.Trail.next.Goals as goal
 
 pub next_of-requires-clause-inner : goal.next_of-requires-clause-inner
-next_of-requires-clause-inner g c = λ a i. own_of a (subst (λ (xs : List ArcNo). IsIn a xs)
-    (c.leaving.ensures
-    ∙ ap (λ (f : Flow g.row.L.Denot). leaving_of f.arcs c.args.node) c.new-meter.ensures.network) i)
+next_of-requires-clause-inner g c =
+    rw (c.leaving.ensures, ap (λ (f : Flow g.row.L.Denot). f.arcs) c.new-meter.ensures.network) (own_of _ _)
 
 pub is_open-requires-clause-listed : goal.is_open-requires-clause-listed
 is_open-requires-clause-listed g c =
@@ -23,8 +19,7 @@ returns-clause-goes_on g c = record {
 }
 
 pub next_of-requires-2-clause-inner : goal.next_of-requires-2-clause-inner
-next_of-requires-2-clause-inner g c = λ a i. inner_of _ c.requires.may.lists a
-    (subst (λ (xs : List ArcNo). IsIn a xs) c.inner.ensures i)
+next_of-requires-2-clause-inner g c = rw c.inner.ensures (inner_of _ c.requires.may.lists)
 
 pub next_of-requires-2-clause-matched : goal.next_of-requires-2-clause-matched
 next_of-requires-2-clause-matched g c = rw c.matched.ensures

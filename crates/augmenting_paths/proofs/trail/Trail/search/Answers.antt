@@ -1,6 +1,4 @@
-use Rattle.std.proofs.Common.{List, length, ap, ◌∙◌, subst, arith, length-set}
-use Rattle.flow_network.specs.declared.arcs.ArcNo.{ArcNo}
-use Rattle.flow_network.specs.Leaving.{IsIn}
+use Rattle.std.proofs.Common.{length, ap, ◌∙◌, arith, length-set}
 use Rattle.shortest_paths.proofs.Costs.{head_in, tail_in}
 use Rattle.augmenting_paths.specs.declared.trail.Trail.{Trail}
 use Rattle.augmenting_paths.proofs.Shipped.{path_listed}
@@ -10,8 +8,8 @@ use Rattle.augmenting_paths.proofs.trail.Trail.search.Goals as goal
 use Rattle.augmenting_paths.proofs.trail.Trail.search.Goals.{in-Some+in_ok-push-in-Some, in-None+in-Some-pop}
 
 pub open_ends-requires-clause-path : goal.open_ends-requires-clause-path
-open_ends-requires-clause-path g c = λ a i. path_listed _ _ _ _ _ c.loop-turn.invariant.trail.way.leads a
-    (subst (λ (xs : List ArcNo). IsIn a xs) c.deref.ensures.value i)
+open_ends-requires-clause-path g c =
+    rw c.deref.ensures.value (path_listed _ _ _ _ _ c.loop-turn.invariant.trail.way.leads)
 
 pub open_ends-requires-clause-arcs : goal.open_ends-requires-clause-arcs
 open_ends-requires-clause-arcs g c = c.requires.may.priced.network.arcs_in
