@@ -1,7 +1,7 @@
 -- A plan and prices read off a network's flows meet every condition of the certificate.
 use Rattle.std.proofs.Common.{◌≡◌, ℕ, suc, ◌+◌, ◌*◌, ◌<◌, ◌≤◌, true, false, cond, List, [], ◌∷◌, ◌++◌, length}
 use Rattle.std.proofs.Common.{get_or, Option, Some, None, refl, sym, ap, ◌∙◌, subst, inl, inr, ◌⊎◌, arith}
-use Rattle.std.proofs.Common.{unwrap_or}
+use Rattle.std.proofs.Common.{unwrap_or, Contains}
 use Rattle.std.specs.Prelude.{◌==◌, IsSome, slice_index_or}
 use Rattle.std.proofs.lemmas.Bool.{cases_Bool, cases_eq, cases_lt}
 use Rattle.std.proofs.lemmas.List.{length-append}
@@ -18,7 +18,7 @@ use Rattle.price_certificate.specs.declared.Condition.TheVariants.{Open, Allowed
 use Rattle.price_certificate.specs.declared.Condition.TheVariants.{WorkerPrice, Priced, Tight, Unstarted}
 use Rattle.price_certificate.specs.declared.Condition.TheVariants.{Spare}
 use Rattle.price_certificate.specs.Certificate.{claim, Certifies, split_price, worker_price}
-use Rattle.network_prices.specs.Ways.{IsAmong, IsInner, CameFrom}
+use Rattle.network_prices.specs.Ways.{IsInner, CameFrom}
 use Rattle.network_prices.specs.Pending.{pending_below, pending_splits}
 use Rattle.wave_problem.specs.Wave.{IsUsable}
 use Rattle.network_prices.specs.Networks.{WaveNodes, way_of, IsOffer, IsWaveNetwork}
@@ -307,7 +307,7 @@ module _ (wave : Wave) (nodes : WaveNodes) (arcs : List FlowArc) (flows : List �
     fits s w e =
         let c = worth s w e in let by = c.1 in let bound = c.2 in
         let off : (arc_at arcs c.0).to ≡ nodes.unstarted → ⊥ =
-        λ u. network.apart w (usable s w e) (subst (λ (v : ℕ). IsAmong v (way_of nodes w)) u by.on_way) in
+        λ u. network.apart w (usable s w e) (subst (λ (v : ℕ). Contains (way_of nodes w) v) u by.on_way) in
         let less = not_above_reward s c.0 (pending s w e) by.listed by.from_is off by.unit in
         omega arith
 

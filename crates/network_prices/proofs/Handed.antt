@@ -12,7 +12,8 @@ use Rattle.wave_problem.specs.Assignment.{start_of, pairs_from, load, Plan}
 use Rattle.wave_problem.proofs.Bound.{pending_known}
 use Rattle.network_prices.specs.Ways.{CameFrom, IsInner}
 use Rattle.network_prices.specs.Prices.{IsShipped, end_of, IsPlanOf}
-use Rattle.network_prices.specs.HandOn.{standing, Passes, CanHandOn, IsHandedOn}
+use Rattle.augmenting_paths.specs.Shipping.{standing}
+use Rattle.network_prices.specs.HandOn.{Passes, CanHandOn, IsHandedOn}
 use Rattle.flow_network.proofs.HandOn.{inflow_none}
 use Rattle.network_prices.proofs.Pending.{one_each, balanced}
 use Rattle.network_prices.proofs.Places.{standing_none, standing_some, standing_from, leaves}

@@ -1,12 +1,12 @@
 -- The pending splits, each of which sends one unit to the sink.
 use Rattle.std.proofs.Common.{◌≡◌, ℕ, zero, suc, ◌+◌, ◌*◌, ◌<◌, ◌≤◌, Bool, true, false, cond, List, [], ◌∷◌}
 use Rattle.std.proofs.Common.{◌++◌, length, get_or, refl, sym, ap, subst, inl, inr, arith}
-use Rattle.std.proofs.lemmas.Bool.{cases_Bool, cases_lt, cases_eq, eq-eqb, ne_eqb, false≢true}
+use Rattle.std.proofs.lemmas.Bool.{cases_Bool, cases_lt, cases_eq, eq-eqb, ne_eqb}
 use Rattle.std.proofs.lemmas.List.{get_or_append_left, get_or_push, length-append}
 use Rattle.flow_network.specs.declared.arcs.FlowArc.{FlowArc}
 use Rattle.flow_network.specs.Flows.{arc_at, inflow, outflow, unit_at}
-use Rattle.augmenting_paths.specs.Shipping.{times_in}
-use Rattle.augmenting_paths.proofs.Shipped.{times_in-push}
+use Rattle.augmenting_paths.specs.Shipping.{standing}
+use Rattle.augmenting_paths.proofs.Shipped.{standing-push}
 use Rattle.wave_problem.specs.Wave.{Wave, split_at}
 use Rattle.wave_problem.proofs.Bound.{pending_known}
 use Rattle.network_prices.specs.Pending.{pending_below, pending_splits}
@@ -25,43 +25,31 @@ pub pending-same : (wave : Wave) (n : ℕ) → (split_at wave n).pending ≡ fal
     pending_below wave (suc n) ≡ pending_below wave n
 pending-same wave n h = ap (λ (b : Bool). cond b (pending_below wave n ++ n ∷ []) (pending_below wave n)) h
 
-pub times_past : (wave : Wave) (n v : ℕ) → n ≤ v → times_in v (pending_below wave n) ≡ 0
+times_more : (wave : Wave) (n v : ℕ) → standing (pending_below wave (suc n)) v
+    ≡ standing (pending_below wave n) v + cond (split_at wave n).pending (unit_at n v) 0
+times_more wave n v = elim (cases_Bool (split_at wave n).pending) [
+  | inl t ↦ rw t (standing-push v (pending_below wave n) n)
+  | inr f ↦ rw f (omega arith)
+]
+
+pub times_past : (wave : Wave) (n v : ℕ) → n ≤ v → standing (pending_below wave n) v ≡ 0
 times_past wave zero v l = refl
 times_past wave (suc n) v l =
-    let before = times_past wave n v (omega arith) in
-    grind (arith, cases_Bool, ne_eqb, pending-more, times_in-push, pending-same)
+    grind (arith, times_past wave n v (omega arith), times_more wave n v, cases_Bool, ne_eqb)
 
 pub times_pending : (wave : Wave) (n v : ℕ) → v < n → (split_at wave v).pending ≡ true →
-    times_in v (pending_below wave n) ≡ 1
+    standing (pending_below wave n) v ≡ 1
 times_pending wave zero v l p = absurd (omega arith)
 times_pending wave (suc n) v l p = elim (cases_eq n v) [
-  | inl e ↦ grind (arith, eq-eqb, times_past, pending-more, times_in-push)
-  | inr q ↦
-      grind (
-        arith,
-        times_pending wave n v (omega arith) p,
-        ne_eqb,
-        cases_Bool,
-        pending-more,
-        times_in-push,
-        pending-same,
-      )
+  | inl e ↦ grind (arith, eq-eqb, times_past, times_more wave n v)
+  | inr q ↦ grind (arith, times_pending wave n v (omega arith) p, times_more wave n v, cases_Bool, ne_eqb)
 ]
 
 times_other : (wave : Wave) (n v : ℕ) → (split_at wave v).pending ≡ false →
-    times_in v (pending_below wave n) ≡ 0
+    standing (pending_below wave n) v ≡ 0
 times_other wave zero v f = refl
 times_other wave (suc n) v f =
-    grind (
-      arith,
-      times_other wave n v f,
-      cases_Bool,
-      false≢true,
-      ne_eqb,
-      pending-more,
-      times_in-push,
-      pending-same,
-    )
+    grind (arith, times_other wave n v f, times_more wave n v, cases_eq, cases_Bool, ne_eqb)
 
 -- each source is a pending split, and they rise
 pub source_in : (wave : Wave) (n k : ℕ) → k < length (pending_below wave n) →

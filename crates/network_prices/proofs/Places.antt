@@ -8,7 +8,7 @@ use Rattle.std.proofs.lemmas.List.Sums.{sum_by-cons}
 use Rattle.flow_network.specs.declared.arcs.FlowArc.{FlowArc}
 use Rattle.flow_network.specs.Flows.{arc_at}
 use Rattle.network_prices.specs.Ways.{CameFrom}
-use Rattle.network_prices.specs.HandOn.{standing}
+use Rattle.augmenting_paths.specs.Shipping.{standing}
 
 pub standing_none : (xs : List ℕ) (v : ℕ) → ((i : ℕ) → i < length xs → get_or xs i 0 ≡ v → ⊥) →
     standing xs v ≡ 0

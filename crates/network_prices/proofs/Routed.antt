@@ -1,9 +1,8 @@
 -- An admissible assignment is a flow of the same cost: at first the unit of each pending split waits, and
 -- then one start after the other leads its split's unit to the worker.
 use Rattle.std.proofs.Common.{◌≡◌, ℕ, zero, suc, ◌+◌, ◌-◌, ◌*◌, ◌<◌, ◌≤◌, Bool, true, false, cond, List, []}
-use Rattle.std.proofs.Common.{◌∷◌}
-use Rattle.std.proofs.Common.{length, get_or, refl, sym, ap, ◌∙◌, subst, inl, inr, arith, unwrap_or}
-use Rattle.std.proofs.Common.{get_or-set_same, Option, replicate}
+use Rattle.std.proofs.Common.{◌∷◌, length, get_or, refl, sym, ap, ◌∙◌, subst, inl, inr, arith, unwrap_or}
+use Rattle.std.proofs.Common.{get_or-set_same, Option, replicate, Contains}
 use Rattle.std.specs.Prelude.{◌==◌}
 use Rattle.std.proofs.lemmas.Bool.{cases_Bool, cases_eq, eq-eqb, ne_eqb, false≢true}
 use Rattle.std.proofs.lemmas.List.{length-append, length-replicate}
@@ -18,14 +17,16 @@ use Rattle.flow_network.specs.Flows.{shifted, inflow, outflow, unit_at}
 use Rattle.flow_network.specs.Laws.{flow_cost, outroom}
 use Rattle.flow_network.proofs.Balance.{length-shifted, kept_shift, outflow_forward, outflow_back}
 use Rattle.flow_network.proofs.Balance.{flow_cost_forward, flow_cost_back, push_balance}
-use Rattle.flow_network.proofs.Pushing.{AllResidual-path, pushed_within}
+use Rattle.flow_network.proofs.Members.{Contains-nil, Contains-here, Contains-there, Contains-cons}
+use Rattle.flow_network.proofs.Members.{Contains-one, replicated_at}
+use Rattle.flow_network.proofs.Pushing.{residual_path, pushed_within}
 use Rattle.flow_network.proofs.Room.{room_above, inflow-ge}
-use Rattle.augmenting_paths.specs.Shipping.{times_in, IsShipment}
-use Rattle.augmenting_paths.proofs.Shipped.{times_in-push, length-pushed, zeros, inflow_zero, outflow_zero}
+use Rattle.augmenting_paths.specs.Shipping.{standing, IsShipment}
+use Rattle.augmenting_paths.proofs.Shipped.{standing-push, length-pushed, inflow_zero, outflow_zero}
 use Rattle.wave_problem.specs.Wave.{Wave, IsAdmissible, IsUsable, split_at, worker_at, cost, reward}
 use Rattle.wave_problem.specs.Assignment.{IsAssignment, load, times_started, total, pairs_of}
 use Rattle.wave_problem.proofs.Bound.{pending_known}
-use Rattle.network_prices.specs.Ways.{IsAmong, IsInner, IsWay}
+use Rattle.network_prices.specs.Ways.{IsInner, IsWay}
 use Rattle.network_prices.specs.Pending.{pending_below}
 use Rattle.network_prices.specs.Networks.{WaveNodes, way_of, IsArcFrom, IsWaveNetwork}
 use Rattle.network_prices.specs.Prices.{IsShipped, CostsAsMuch, AssignmentIsFlow, CheapestCostsAsPlan}
@@ -54,11 +55,15 @@ one_way arcs sources sink v (x ∷ xs) (y ∷ ys) a b =
 
 -- each node of a way lies between the sources and the sink
 way_inner : (arcs : List FlowArc) (sources sink v x : ℕ) (way : List ℕ) → IsWay arcs sources sink (v ∷ way)
-    → IsAmong x (v ∷ way) → IsInner sources sink x
-way_inner arcs sources sink v x [] is (inl e) = subst (IsInner sources sink) (sym e) is.0
-way_inner arcs sources sink v x [] is (inr none) = absurd none
-way_inner arcs sources sink v x (u ∷ way) is (inl e) = subst (IsInner sources sink) (sym e) is.0
-way_inner arcs sources sink v x (u ∷ way) is (inr on) = way_inner arcs sources sink u x way is.2 on
+    → Contains (v ∷ way) x → IsInner sources sink x
+way_inner arcs sources sink v x [] is i = subst (IsInner sources sink) (Contains-one v x i) is.0
+way_inner arcs sources sink v x (u ∷ way) is i = elim (Contains-cons v (u ∷ way) x i) [
+  | inl e ↦ subst (IsInner sources sink) e is.0
+  | inr on ↦ way_inner arcs sources sink u x way is.2 on
+]
+
+own_on : (nodes : WaveNodes) (w : ℕ) {x : ℕ} → x ≡ nodes.worker w → Contains (way_of nodes w) x
+own_on nodes w e = subst (Contains (way_of nodes w)) (sym e) (Contains-here (nodes.above w) (nodes.worker w))
 
 unit_off : (u v : ℕ) → (u ≡ v → ⊥) → unit_at u v ≡ 0
 unit_off u v n = ap (λ (b : Bool). cond b 1 0) (ne_eqb u v n)
@@ -129,7 +134,7 @@ module _ (wave : Wave) (nodes : WaveNodes) (arcs : List FlowArc)
     even : (v : ℕ) → IsInner splits nodes.sink v → inflow arcs flows v ≡ outflow arcs flows v
     even = balanced wave nodes arcs flows network.past_splits network.no_entry state.shipped
 
-    inner : (x : ℕ) → IsAmong x (way_of nodes w) → IsInner splits nodes.sink x
+    inner : (x : ℕ) → Contains (way_of nodes w) x → IsInner splits nodes.sink x
     inner x on = way_inner arcs splits nodes.sink (nodes.worker w) x (nodes.above w) (network.ways w u) on
 
     known : s < splits
@@ -138,7 +143,7 @@ module _ (wave : Wave) (nodes : WaveNodes) (arcs : List FlowArc)
     -- an arc of a path down: it leaves a node of the way that has so many nodes above it
     abbrev Low : ℕ → ArcNo → Type 0
     Low n a = (ys : List ℕ) × IsWay arcs splits nodes.sink (tail_of arcs a ∷ ys) × (n ≤ length ys)
-        × IsAmong (tail_of arcs a) (way_of nodes w)
+        × Contains (way_of nodes w) (tail_of arcs a)
 
     abbrev AllLow : ℕ → List ArcNo → Type 0
     AllLow n [] = Unit {0}
@@ -150,11 +155,11 @@ module _ (wave : Wave) (nodes : WaveNodes) (arcs : List FlowArc)
         let first = all.0 in let deep = first.2 in
         ((first.0, first.1, omega arith, first.3), lower n m path l all.1)
 
-    lacks_off : (b : ArcNo) (n : ℕ) (path : List ArcNo) → (IsAmong (tail_of arcs b) (way_of nodes w) → ⊥) →
+    lacks_off : (b : ArcNo) (n : ℕ) (path : List ArcNo) → (Contains (way_of nodes w) (tail_of arcs b) → ⊥) →
         AllLow n path → Lacks b path
     lacks_off b n [] off all = tt
     lacks_off b n (a ∷ path) off all = (
-      (λ e. off (subst (λ (z : ArcNo). IsAmong (tail_of arcs z) (way_of nodes w)) (sym e) all.0.3)),
+      (λ e. off (subst (λ (z : ArcNo). Contains (way_of nodes w) (tail_of arcs z)) (sym e) all.0.3)),
       lacks_off b n path off all.1,
     )
 
@@ -173,9 +178,9 @@ module _ (wave : Wave) (nodes : WaveNodes) (arcs : List FlowArc)
     -- what a unit down a path changes: one more leaves the worker's node
     abbrev Adds : List ArcNo → Type 0
     Adds path = (f : List ℕ) → length f ≡ length arcs →
-        ((v : ℕ) → (IsAmong v (nodes.above w) → ⊥)
+        ((v : ℕ) → (Contains (nodes.above w) v → ⊥)
         → outflow arcs (pushed path f) v ≡ outflow arcs f v + unit_at (nodes.worker w) v)
-        × ((k : ℕ) → (IsAmong (arc_at arcs k).from (way_of nodes w) → ⊥) →
+        × ((k : ℕ) → (Contains (way_of nodes w) (arc_at arcs k).from → ⊥) →
         get_or (pushed path f) k 0 ≡ get_or f k 0)
         × (flow_cost arcs (pushed path f) ≡ flow_cost arcs f)
 
@@ -201,7 +206,7 @@ module _ (wave : Wave) (nodes : WaveNodes) (arcs : List FlowArc)
               subst (λ (z : ℕ). IsWay arcs splits nodes.sink (z ∷ nodes.above w)) (sym is.from_is)
                   (network.ways w u),
               omega arith,
-              inl is.from_is,
+              own_on nodes w is.from_is,
             ),
             tt,
           ),
@@ -210,7 +215,7 @@ module _ (wave : Wave) (nodes : WaveNodes) (arcs : List FlowArc)
             (λ v off. outflow_forward arcs f slot.0 v size is.listed
                 ∙ ap (λ (z : ℕ). outflow arcs f v + unit_at z v) is.from_is),
             (λ k off. kept_shift f (Forward slot.0) k
-                (λ e. off (inl (ap (λ (j : ℕ). (arc_at arcs j).from) (sym e) ∙ is.from_is)))),
+                (λ e. off (own_on nodes w (ap (λ (j : ℕ). (arc_at arcs j).from) (sym e) ∙ is.from_is)))),
             (let more = flow_cost_forward arcs f slot.0 size is.listed in
                 let free = is.cost_is in omega arith),
           ),
@@ -219,7 +224,7 @@ module _ (wave : Wave) (nodes : WaveNodes) (arcs : List FlowArc)
     -- one arc higher
     higher : (v x : ℕ) (rest : List ℕ) (path : List ArcNo)
         (way : IsWay arcs splits nodes.sink (v ∷ (x ∷ rest)))
-        → IsAmong x (nodes.above w) → Leads v (length (x ∷ rest)) path →
+        → Contains (nodes.above w) x → Leads v (length (x ∷ rest)) path →
         Leads x (length rest) (Forward way.1.feed ∷ path)
     higher v x rest path way on leads =
         let fed = way.1 in
@@ -240,7 +245,8 @@ module _ (wave : Wave) (nodes : WaveNodes) (arcs : List FlowArc)
               rest,
               up,
               omega arith,
-              inr (subst (λ (z : ℕ). IsAmong z (nodes.above w)) (sym fed.from_is) on),
+              Contains-there (nodes.worker w) (nodes.above w) _
+                  (subst (Contains (nodes.above w)) (sym fed.from_is) on),
             ),
             lower (length (x ∷ rest)) (length rest) path (omega arith) leads.2,
           ),
@@ -252,11 +258,11 @@ module _ (wave : Wave) (nodes : WaveNodes) (arcs : List FlowArc)
                     (let step = then.0 v' off in
                     let here = outflow_forward arcs f fed.feed v' size fed.listed in
                     let none = unit_off (arc_at arcs fed.feed).from v'
-                    (λ e. off (subst (λ (z : ℕ). IsAmong z (nodes.above w)) (sym fed.from_is ∙ e) on)) in
+                    (λ e. off (subst (λ (z : ℕ). Contains (nodes.above w) z) (sym fed.from_is ∙ e) on)) in
                     omega arith)),
                 (λ k off. then.1 k off ∙ kept_shift f (Forward fed.feed) k
-                    (λ e. off (inr (subst (λ (z : ℕ). IsAmong z (nodes.above w))
-                    (sym fed.from_is ∙ ap (λ (j : ℕ). (arc_at arcs j).from) e) on)))),
+                    (λ e. off (Contains-there (nodes.worker w) (nodes.above w) _
+                    (subst (Contains (nodes.above w)) (sym fed.from_is ∙ ap (λ (j : ℕ). (arc_at arcs j).from) e) on)))),
                 (let step = then.2 in let here = flow_cost_forward arcs f fed.feed size fed.listed in
                     let free = fed.without_cost in omega arith),
               )),
@@ -264,14 +270,16 @@ module _ (wave : Wave) (nodes : WaveNodes) (arcs : List FlowArc)
 
     -- from any node of the way
     descend : (rest : List ℕ) (v x : ℕ) (path : List ArcNo) → IsWay arcs splits nodes.sink (v ∷ rest) →
-        ((y : ℕ) → IsAmong y rest → IsAmong y (nodes.above w))
-        → Leads v (length rest) path → IsAmong x (v ∷ rest) → (n : ℕ) × (down : List ArcNo) × Leads x n down
-    descend rest v x path way on leads (inl e) =
-        (length rest, path, subst (λ (z : ℕ). Leads z (length rest) path) (sym e) leads)
-    descend [] v x path way on leads (inr none) = absurd none
-    descend (y ∷ rest) v x path way on leads (inr there) =
-        descend rest y x (Forward way.1.feed ∷ path) way.2 (λ z i. on z (inr i))
-        (higher v y rest path way (on y (inl refl)) leads) there
+        ((y : ℕ) → Contains rest y → Contains (nodes.above w) y)
+        → Leads v (length rest) path → Contains (v ∷ rest) x → (n : ℕ) × (down : List ArcNo) × Leads x n down
+    descend [] v x path way on leads i =
+        (0, path, subst (λ (z : ℕ). Leads z 0 path) (Contains-one v x i) leads)
+    descend (y ∷ rest) v x path way on leads i = elim (Contains-cons v (y ∷ rest) x i) [
+      | inl e ↦ (length (y ∷ rest), path, subst (λ (z : ℕ). Leads z (length (y ∷ rest)) path) e leads)
+      | inr there ↦ descend rest y x (Forward way.1.feed ∷ path) way.2
+          (λ z k. on z (Contains-there y rest z k))
+          (higher v y rest path way (on y (Contains-here rest y)) leads) there
+    ]
 
     -- the start's arc, and those that the waiting unit gives back
     abbrev offer : ℕ
@@ -286,12 +294,12 @@ module _ (wave : Wave) (nodes : WaveNodes) (arcs : List FlowArc)
     abbrev rest : ℕ
     rest = network.rest.0
 
-    off_way : (x : ℕ) → x < splits → IsAmong x (way_of nodes w) → ⊥
+    off_way : (x : ℕ) → x < splits → Contains (way_of nodes w) x → ⊥
     off_way x l on = let low = (inner x on).no_source in omega arith
 
     waits_apart : offer ≡ wait → ⊥
     waits_apart e =
-        network.apart w u (subst (λ (z : ℕ). IsAmong z (way_of nodes w))
+        network.apart w u (subst (λ (z : ℕ). Contains (way_of nodes w) z)
         (ap (λ (k : ℕ). (arc_at arcs k).to) e ∙ wait_is.to_is)
         (network.complete s w may).1.on_way)
 
@@ -375,12 +383,12 @@ module _ (wave : Wave) (nodes : WaveNodes) (arcs : List FlowArc)
         (
           reverse_apart wait offer,
           lacks_off (Reverse wait) down.0 down.1
-              (λ on. network.apart w u (subst (λ (z : ℕ). IsAmong z (way_of nodes w))
+              (λ on. network.apart w u (subst (λ (z : ℕ). Contains (way_of nodes w) z)
               wait_is.to_is on)) down.2.2,
         ),
         (
           lacks_off (Forward offer) down.0 down.1
-              (λ on. off_way s known (subst (λ (z : ℕ). IsAmong z (way_of nodes w)) from_offer on)) down.2.2,
+              (λ on. off_way s known (subst (λ (z : ℕ). Contains (way_of nodes w) z) from_offer on)) down.2.2,
           down.2.1,
         ),
       ),
@@ -412,14 +420,14 @@ module _ (wave : Wave) (nodes : WaveNodes) (arcs : List FlowArc)
         omega arith
 
     -- an arc off the way that is none of the three carries what it did
-    same_flow : (k : ℕ) → (IsAmong (arc_at arcs k).from (way_of nodes w) → ⊥) → (rest ≡ k → ⊥)
+    same_flow : (k : ℕ) → (Contains (way_of nodes w) (arc_at arcs k).from → ⊥) → (rest ≡ k → ⊥)
         → (wait ≡ k → ⊥)
         → (offer ≡ k → ⊥) → get_or after k 0 ≡ get_or flows k 0
     same_flow k off a b c =
         (down.2.4 with_offer size_3).1 k off ∙ kept_shift without_wait (Forward offer) k c
         ∙ kept_shift without_rest (Reverse wait) k b ∙ kept_shift flows (Reverse rest) k a
 
-    out_after : (v : ℕ) → (IsAmong v (nodes.above w) → ⊥) → splits ≤ v
+    out_after : (v : ℕ) → (Contains (nodes.above w) v → ⊥) → splits ≤ v
         → outflow arcs after v + unit_at nodes.unstarted v ≡ outflow arcs flows v + unit_at (nodes.worker w) v
     out_after v off low =
         let l = known in
@@ -439,22 +447,22 @@ module _ (wave : Wave) (nodes : WaveNodes) (arcs : List FlowArc)
     load_more : (x : ℕ) → load ((s, w) ∷ pairs) x ≡ unit_at w x + load pairs x
     load_more x = sum_by-cons (λ (pair : ℕ × ℕ). cond (pair.1 == x) 1 0) (s, w) pairs
 
-    not_above : (x : ℕ) → IsUsable wave.workers x → IsAmong (nodes.worker x) (nodes.above w) → ⊥
+    not_above : (x : ℕ) → IsUsable wave.workers x → Contains (nodes.above w) (nodes.worker x) → ⊥
     not_above x usable on = climb (nodes.above w) (nodes.worker w) (network.ways w u)
         (let slot = network.slot w u in let is = slot.1 in let own = is.capacity_is in let some = u.1 in
         (let more = network.slots w u in omega arith)) on
       where
         climb : (rest : List ℕ) (v : ℕ) → IsWay arcs splits nodes.sink (v ∷ rest) → 0 < outroom arcs v →
-            IsAmong (nodes.worker x) rest → ⊥
-        climb [] v way some on = on
-        climb (y ∷ rest) v way some (inl e) =
+            Contains rest (nodes.worker x) → ⊥
+        climb [] v way some on = Contains-nil (nodes.worker x) on
+        climb (y ∷ rest) v way some on =
             let fed = way.1 in let whole = fed.whole in
-            let to = leads_on x fed.feed usable fed.listed (fed.from_is ∙ sym e) (omega arith) in
-            way.0.no_sink (sym fed.to_is ∙ to)
-        climb (y ∷ rest) v way some (inr on) =
-            let fed = way.1 in let whole = fed.whole in
-            climb rest y way.2
-            (let ge = outroom-ge arcs y fed.feed fed.listed fed.from_is in omega arith) on
+            elim (Contains-cons y rest (nodes.worker x) on) [
+              | inl e ↦ (let to = leads_on x fed.feed usable fed.listed (fed.from_is ∙ e) (omega arith) in
+                  way.0.no_sink (sym fed.to_is ∙ to))
+              | inr higher_on ↦ climb rest y way.2
+                  (let ge = outroom-ge arcs y fed.feed fed.listed fed.from_is in omega arith) higher_on
+            ]
 
     own_unit_at : (x : ℕ) → unit_at (nodes.worker w) (nodes.worker x) ≡ unit_at w x
     own_unit_at x = elim (cases_eq w x) [
@@ -471,7 +479,7 @@ module _ (wave : Wave) (nodes : WaveNodes) (arcs : List FlowArc)
               sizes = state.shipped.sizes;
               within = state.shipped.within;
               distinct = distinct;
-              residual = AllResidual-path arcs flows path nodes.sink nodes.sink leads;
+              residual = residual_path arcs flows path nodes.sink nodes.sink leads;
               rest_is = refl;
             });
         balance = λ v.
@@ -496,19 +504,22 @@ module _ (wave : Wave) (nodes : WaveNodes) (arcs : List FlowArc)
           (k, old.1, omega arith));
       loads = λ x usable.
           (let all = out_after (nodes.worker x) (not_above x usable) (network.known x) in
-          let off = unit_off nodes.unstarted (nodes.worker x) (λ e. network.apart x usable (inl e)) in
+          let off = unit_off nodes.unstarted (nodes.worker x)
+          (λ e. network.apart x usable (own_on nodes x e)) in
           let one = own_unit_at x in
           let old = state.loads x usable in
           let more = load_more x in
           omega arith);
       rests =
-          (let all = out_after nodes.unstarted (λ on. network.apart w u (inr on))
+          (let all = out_after nodes.unstarted
+          (λ on. network.apart w u (Contains-there (nodes.worker w) (nodes.above w) nodes.unstarted on))
           network.rest_inner.no_source in
           let one = unit_on nodes.unstarted nodes.unstarted refl in
-          let off = unit_off (nodes.worker w) nodes.unstarted (λ e. network.apart w u (inl (sym e))) in
+          let off = unit_off (nodes.worker w) nodes.unstarted
+          (λ e. network.apart w u (own_on nodes w (sym e))) in
           let same : get_or after rest 0 ≡ get_or without_rest rest 0 =
           (down.2.4 with_offer size_3).1 rest
-          (λ on. network.apart w u (subst (λ (z : ℕ). IsAmong z (way_of nodes w)) from_rest on))
+          (λ on. network.apart w u (subst (λ (z : ℕ). Contains (way_of nodes w) z) from_rest on))
           ∙ kept_shift without_wait (Forward offer) rest (λ e. apart_rest_offer (sym e))
           ∙ kept_shift without_rest (Reverse wait) rest (λ e. apart_rest_wait (sym e)) in
           let listed = network.rest.2.listed in let size = state.shipped.sizes in
@@ -536,7 +547,7 @@ module _ (wave : Wave) (nodes : WaveNodes) (arcs : List FlowArc)
   none_waits : AllWait wave nodes arcs network 0 (replicate (length arcs) 0)
   none_waits =
       let flows : List ℕ = replicate (length arcs) 0 in
-      let idle : (k : ℕ) → get_or flows k 0 ≡ 0 = zeros (length arcs) in
+      let idle : (k : ℕ) → get_or flows k 0 ≡ 0 = λ k. replicated_at (length arcs) k 0 in
       record {
         shipment = record {
           sizes = length-replicate (length arcs) 0;
@@ -633,14 +644,15 @@ module _ (wave : Wave) (nodes : WaveNodes) (arcs : List FlowArc)
               sizes = state.shipment.sizes;
               within = state.shipment.within;
               distinct = twice;
-              residual = AllResidual-path arcs flows waiting_path n nodes.sink leads_to_sink;
+              residual = residual_path arcs flows waiting_path n nodes.sink leads_to_sink;
               rest_is = refl;
             });
         balance = λ v.
             (let moved = push_balance arcs flows waiting_path n nodes.sink v state.shipment.sizes twice
             leads_to_sink in
             let old = state.shipment.balance v in
-            let times = ap (times_in v) (pending-more wave n p) ∙ times_in-push v (pending_below wave n) n in
+            let times = ap (λ (ps : List ℕ). standing ps v) (pending-more wave n p)
+            ∙ standing-push v (pending_below wave n) n in
             let units = ap (λ (z : ℕ). z * unit_at nodes.sink v) one_longer
             ∙ ap (λ (z : ℕ). z * unit_at nodes.sink v)
             (let e : suc (length (pending_below wave n)) ≡ length (pending_below wave n) + 1 =
@@ -668,7 +680,7 @@ module _ (wave : Wave) (nodes : WaveNodes) (arcs : List FlowArc)
       ];
       loads = λ w u.
           (let all = out_of (nodes.worker w) (network.known w) in
-          let off = unit_off nodes.unstarted (nodes.worker w) (λ e. network.apart w u (inl e)) in
+          let off = unit_off nodes.unstarted (nodes.worker w) (λ e. network.apart w u (own_on nodes w e)) in
           let old = state.loads w u in omega arith);
       rests =
           (let all = out_of nodes.unstarted network.rest_inner.no_source in

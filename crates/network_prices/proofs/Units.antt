@@ -11,7 +11,8 @@ use Rattle.flow_network.specs.declared.arcs.FlowArc.{FlowArc}
 use Rattle.flow_network.specs.Flows.{arc_at}
 use Rattle.flow_network.proofs.HandOn.{enough_wait, inflow-more, outflow-more}
 use Rattle.network_prices.specs.Ways.{CameFrom}
-use Rattle.network_prices.specs.HandOn.{standing, HaveLeft, IsMoved, IsMoving, CanHandOn, IsHandedOn}
+use Rattle.augmenting_paths.specs.Shipping.{standing}
+use Rattle.network_prices.specs.HandOn.{HaveLeft, IsMoved, IsMoving, CanHandOn, IsHandedOn}
 
 none : (b : Bool) (f : ℕ) → b ≡ false → cond b f 0 ≡ 0
 none b f e = rw e refl

@@ -1,13 +1,16 @@
 -- Depths along a way.
-use Rattle.std.proofs.Common.{◌≡◌, ℕ, ◌<◌, ◌≤◌, List, [], ◌∷◌, length, get_or, ap, inl, inr, arith}
+use Rattle.std.proofs.Common.{◌≡◌, ℕ, ◌<◌, ◌≤◌, List, [], ◌∷◌, length, get_or, ap, sym, subst, inl, inr}
+use Rattle.std.proofs.Common.{arith}
+use Rattle.std.proofs.Common.{Contains}
 use Rattle.flow_network.specs.declared.arcs.FlowArc.{FlowArc}
 use Rattle.flow_network.specs.Flows.{arc_at, WithinCapacities, NoNegative, inflow, outflow}
 use Rattle.flow_network.proofs.Room.{room_above}
-use Rattle.network_prices.specs.Ways.{deepest, IsAmong, IsFed, IsInner, IsWay, CameFrom}
+use Rattle.flow_network.proofs.Members.{Contains-nil, Contains-here, Contains-there, Contains-cons}
+use Rattle.network_prices.specs.Ways.{deepest, IsFed, IsInner, IsWay, CameFrom}
 
-pub deepest-ge : (h : ℕ → ℕ) (way : List ℕ) (x : ℕ) → IsAmong x way → h x ≤ deepest h way
-deepest-ge h [] x on = absurd on
-deepest-ge h (v ∷ way) x on = elim on [
+pub deepest-ge : (h : ℕ → ℕ) (way : List ℕ) (x : ℕ) → Contains way x → h x ≤ deepest h way
+deepest-ge h [] x on = absurd (Contains-nil x on)
+deepest-ge h (v ∷ way) x on = elim (Contains-cons v way x on) [
   | inl e ↦ let same = ap h e in omega arith
   | inr r ↦ let rest = deepest-ge h way x r in omega arith
 ]
@@ -18,7 +21,7 @@ pub record CameBy (arcs : List FlowArc) (flows : List ℕ) (s : ℕ) (way : List
   pub listed : k < length arcs
   pub from_is : (arc_at arcs k).from ≡ s
   pub unit : 0 < get_or flows k 0
-  pub on_way : IsAmong (arc_at arcs k).to way
+  pub on_way : Contains way (arc_at arcs k).to
   pub deep : (h : ℕ → ℕ) → NoNegative arcs flows h → deepest h way ≤ h (arc_at arcs k).to
 
 module _ (arcs : List FlowArc) (flows : List ℕ) (sources sink : ℕ)
@@ -91,7 +94,7 @@ module _ (arcs : List FlowArc) (flows : List ℕ) (sources sink : ℕ)
             listed = came.0;
             from_is = own_unit path (arc_at arcs k).from from came.3;
             unit = came.1;
-            on_way = inl came.2;
+            on_way = subst (Contains (v ∷ [])) (sym came.2) (Contains-here [] v);
             deep = λ h reduced. unit_deep h reduced [] v k way came.0 came.2 from came.1;
           },
         )
@@ -102,7 +105,7 @@ module _ (arcs : List FlowArc) (flows : List ℕ) (sources sink : ℕ)
           listed = came.0;
           from_is = own_unit path (arc_at arcs k).from from came.3;
           unit = came.1;
-          on_way = inl came.2;
+          on_way = subst (Contains (v ∷ (u ∷ rest))) (sym came.2) (Contains-here (u ∷ rest) v);
           deep = λ h reduced. unit_deep h reduced (u ∷ rest) v k way came.0 came.2 from came.1;
         },
       )
@@ -115,7 +118,7 @@ module _ (arcs : List FlowArc) (flows : List ℕ) (sources sink : ℕ)
               listed = found.listed;
               from_is = found.from_is;
               unit = found.unit;
-              on_way = inr found.on_way;
+              on_way = Contains-there v (u ∷ rest) _ found.on_way;
               deep = λ h reduced. fed_deep h reduced rest u v k (arc_at arcs above.0).to came.0 fed.0 came.2
                   fed.1 came.1 (found.deep h reduced);
             },

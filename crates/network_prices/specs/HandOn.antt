@@ -1,13 +1,10 @@
 -- Units are handed on from node to node, arc by arc.
 use Rattle.std.specs.Prelude.{◌≡◌, ℕ, ◌+◌, ◌-◌, ◌<◌, ◌≤◌, ◌==◌, cond, List, length, slice_index, take, drop}
-use Rattle.std.specs.Prelude.{count_by, ◌⊎◌}
+use Rattle.std.specs.Prelude.{◌⊎◌}
 use Rattle.flow_network.specs.declared.arcs.FlowArc.{FlowArc}
 use Rattle.flow_network.specs.Flows.{arc_at, inflow, outflow}
+use Rattle.augmenting_paths.specs.Shipping.{standing}
 use Rattle.network_prices.specs.Ways.{CameFrom}
-
--- how many units are at a node
-abbrev pub standing : List ℕ → ℕ → ℕ
-standing places v = count_by (λ place. place == v) places
 
 -- so many units have moved from u to v
 pub record IsMoved (old new : List ℕ) (u v units : ℕ) : Type 0 where

@@ -1,11 +1,11 @@
 -- What a network of a wave has to offer, so that a plan and prices can be read off its flows.
-use Rattle.std.specs.Prelude.{◌≡◌, ℕ, ◌<◌, ◌≤◌, true, List, ◌∷◌, length, unwrap_or}
+use Rattle.std.specs.Prelude.{◌≡◌, ℕ, ◌<◌, ◌≤◌, true, List, ◌∷◌, length, unwrap_or, Contains}
 use Rattle.flow_network.specs.declared.arcs.FlowArc.{FlowArc}
 use Rattle.flow_network.specs.Flows.{arc_at}
 use Rattle.flow_network.specs.Laws.{outroom}
 use Rattle.wave_problem.specs.Wave.{Wave, IsAdmissible, split_at, worker_at, cost, reward, IsUsable}
 use Rattle.network_prices.specs.Pending.{pending_splits}
-use Rattle.network_prices.specs.Ways.{IsAmong, IsWay, IsInner}
+use Rattle.network_prices.specs.Ways.{IsWay, IsInner}
 
 -- the nodes of a network but for the splits, whose nodes are their numbers
 pub record WaveNodes : Type 0 where
@@ -34,7 +34,7 @@ pub record IsArcFrom (arcs : List FlowArc) (k u v capacity cost : ℕ) : Type 0 
 pub record IsOffer (arcs : List FlowArc) (s : ℕ) (way : List ℕ) (most k : ℕ) : Type 0 where
   pub listed : k < length arcs
   pub from_is : (arc_at arcs k).from ≡ s
-  pub on_way : IsAmong (arc_at arcs k).to way
+  pub on_way : Contains way (arc_at arcs k).to
   pub one : (arc_at arcs k).capacity ≡ 1
   pub at_most : (arc_at arcs k).cost ≤ most
 
@@ -52,7 +52,7 @@ pub record IsWaveNetwork (wave : Wave) (nodes : WaveNodes) (arcs : List FlowArc)
   pub known : (w : ℕ) → length wave.splits ≤ nodes.worker w
   pub own : (v w : ℕ) → nodes.worker v ≡ nodes.worker w → v ≡ w
   pub sound : (s w k : ℕ) → s < length wave.splits → IsUsable wave.workers w → k < length arcs
-      → (arc_at arcs k).from ≡ s → IsAmong (arc_at arcs k).to (way_of nodes w)
+      → (arc_at arcs k).from ≡ s → Contains (way_of nodes w) (arc_at arcs k).to
       → IsAdmissible wave s w × (unwrap_or (cost wave s w) 0 ≤ (arc_at arcs k).cost)
   pub complete : (s w : ℕ) → IsAdmissible wave s w
       → (k : ℕ) × IsOffer arcs s (way_of nodes w) (unwrap_or (cost wave s w) 0) k
@@ -62,7 +62,7 @@ pub record IsWaveNetwork (wave : Wave) (nodes : WaveNodes) (arcs : List FlowArc)
       → ((arc_at arcs k).from < length wave.splits) × ((arc_at arcs k).cost ≡ reward wave)
   pub rest : (k : ℕ) × (room : ℕ) × IsArcFrom arcs k nodes.unstarted nodes.sink room 0
       × (length (pending_splits wave) ≤ room)
-  pub apart : (w : ℕ) → IsUsable wave.workers w → IsAmong nodes.unstarted (way_of nodes w) → ⊥
+  pub apart : (w : ℕ) → IsUsable wave.workers w → Contains (way_of nodes w) nodes.unstarted → ⊥
   pub rest_inner : IsInner (length wave.splits) nodes.sink nodes.unstarted
   pub slot : (w : ℕ) → IsUsable wave.workers w
       → (k : ℕ) × IsArcFrom arcs k (nodes.worker w) nodes.sink (worker_at wave w).free 0

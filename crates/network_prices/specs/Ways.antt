@@ -9,11 +9,6 @@ abbrev pub deepest : (ℕ → ℕ) → List ℕ → ℕ
 deepest h [] = 0
 deepest h (v ∷ way) = max (h v) (deepest h way)
 
--- a number stands in a list
-abbrev pub IsAmong : ℕ → List ℕ → Type 0
-IsAmong x [] = ⊥
-IsAmong x (v ∷ way) = (x ≡ v) ⊎ IsAmong x way
-
 -- An arc without cost leads from u to v and can carry what v can give on. But for the sources, which are the
 -- nodes below `sources`, only u leads to v.
 pub record IsFed (arcs : List FlowArc) (sources u v : ℕ) : Type 0 where

@@ -1,6 +1,7 @@
 //! A flow is taken apart into the ways of its units.
 ghost use Rattle.std.specs.Prelude.{◌≡◌, ℕ, ◌<◌, ◌≤◌, ◌↔◌, length, slice_index, IsTrue};
-ghost use Rattle.network_prices.specs.HandOn.{standing, CanHandOn, HaveLeft, IsHandedOn, IsMoved};
+ghost use Rattle.augmenting_paths.specs.Shipping.{standing};
+ghost use Rattle.network_prices.specs.HandOn.{CanHandOn, HaveLeft, IsHandedOn, IsMoved};
 
 use flow_network::FlowArc;
 

@@ -2,7 +2,7 @@
 ghost use Rattle.std.specs.Prelude.{◌≡◌, ◌+◌, ◌<◌, ◌≤◌, length, map, true, IfOk};
 ghost use Rattle.wave_problem.specs.declared.TheConstants.{MAX_SPLITS};
 ghost use Rattle.flow_network.specs.Flows.{AreArcs};
-ghost use Rattle.augmenting_paths.specs.Shipping.{AreMembers};
+ghost use Rattle.std.specs.List.{AllPass};
 ghost use Rattle.network_prices.specs.Layers.{nodes_from};
 ghost use Rattle.network_prices.specs.Pending.{pending_splits};
 ghost use Rattle.price_certificate.specs.Certificate.{claim, Certifies, HasOneSize};
@@ -48,7 +48,7 @@ fn pending_nodes<L: Layout>(
     ensures places { IfOk result (λ nodes. map (L.index_of network.now.layout) nodes.items
         ≡ pending_splits problem.now) }
     ensures members { IfOk result
-        (λ nodes. AreMembers (L.is_member network.now.layout) nodes.items) }
+        (λ nodes. AllPass (L.is_member network.now.layout) nodes.items) }
     ensures few { IfOk result (λ nodes. length nodes.items ≤ MAX_SPLITS) }
 {
     let layout = network.layout();

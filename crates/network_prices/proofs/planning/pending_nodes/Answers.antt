@@ -1,7 +1,8 @@
 use Rattle.std.proofs.Common.{rules, ◌≡◌, ◌<◌, true, ap, ◌∙◌, arith}
+use Rattle.std.proofs.lemmas.List.Elements.{All-push}
 use Rattle.wave_problem.specs.Wave.{split_at}
 use Rattle.network_prices.proofs.Pending.{pending-same}
-use Rattle.network_prices.proofs.Sources.{members-push, places-push}
+use Rattle.network_prices.proofs.Sources.{places-push}
 use Rattle.network_prices.proofs.planning.pending_nodes.Goals as goal
 use Rattle.network_prices.proofs.planning.pending_nodes.Goals.{then-is_pending+in_ok-push, else-is_pending}
 
@@ -21,8 +22,8 @@ loop-i-preserved g c =
           let pending : (split_at wave i).pending ≡ true = search rules in
           let places = places-push (g.L.Layout.index_of layout) wave i c.loop-i.nodes.items w.node.result
           c.loop-i.invariant.0 pending here in
-          let members = members-push (g.L.Layout.is_member layout) c.loop-i.nodes.items w.node.result
-          c.loop-i.invariant.1 member in
+          let members = All-push (λ node. g.L.Layout.is_member layout node ≡ true) c.loop-i.nodes.items
+          w.node.result c.loop-i.invariant.1 member in
           search rules)
       | else-is_pending w ↦ (let same = pending-same wave i in search rules)
     ]
