@@ -1,12 +1,12 @@
 -- The direct network is a network of its wave, in which a way up is the worker's node alone.
-use Rattle.std.proofs.Common.{◌≡◌, ℕ, ◌<◌, ◌≤◌, List, length, refl, sym, ap, ◌∙◌, subst, inl, inr}
-use Rattle.std.proofs.Common.{arith, unwrap_or}
+use Rattle.std.proofs.Common.{◌≡◌, ℕ, ◌<◌, ◌≤◌, List, [], ◌∷◌, length, refl, sym, ap, ◌∙◌, subst, inl, inr}
+use Rattle.std.proofs.Common.{arith, unwrap_or, Contains}
 use Rattle.flow_network.specs.declared.arcs.FlowArc.{FlowArc}
 use Rattle.flow_network.specs.Flows.{arc_at}
 use Rattle.flow_network.specs.Laws.{outroom}
 use Rattle.wave_problem.specs.Wave.{Wave, IsAdmissible, worker_at, cost, reward, IsUsable}
 use Rattle.wave_problem.proofs.Bound.{live_known, pending_known}
-use Rattle.network_prices.specs.Ways.{IsAmong}
+use Rattle.flow_network.proofs.Members.{Contains-here, Contains-one}
 use Rattle.network_prices.specs.Networks.{way_of, IsOffer, IsWaveNetwork}
 use Rattle.network_prices.specs.Layers.{Leaves, Enters, IsLayered}
 use Rattle.network_prices.proofs.Tables.{each_arc, the_arc, outroom-one, rising_ends}
@@ -45,11 +45,10 @@ module _ (wave : Wave) (arcs : List FlowArc) (direct : IsDirect wave arcs) where
   no_split _ want = omega arith
 
   is_sound : (s w k : ℕ) → IsUsable wave.workers w → k < length arcs → (arc_at arcs k).from ≡ s
-      → IsAmong (arc_at arcs k).to (way_of (direct_nodes wave) w)
+      → Contains (way_of (direct_nodes wave) w) (arc_at arcs k).to
       → IsAdmissible wave s w × (unwrap_or (cost wave s w) 0 ≤ (arc_at arcs k).cost)
-  is_sound s w k u l from (inr none) = absurd none
-  is_sound s w k u l from (inl to) =
-      let pair = own_pair k w l (live_known wave w u.0) to in
+  is_sound s w k u l from on =
+      let pair = own_pair k w l (live_known wave w u.0) (sym (Contains-one (worker_node wave w) _ on)) in
       let own : pair.0 ≡ s = sym (ap (λ (b : FlowArc). b.from) pair.2) ∙ from in
       let fee = ap (λ (b : FlowArc). b.cost) pair.2 in
       let same : unwrap_or (cost wave pair.0 w) 0 ≡ unwrap_or (cost wave s w) 0 =
@@ -65,7 +64,7 @@ module _ (wave : Wave) (arcs : List FlowArc) (direct : IsDirect wave arcs) where
         record {
           listed = arc.listed;
           from_is = arc.from_is;
-          on_way = inl arc.to_is;
+          on_way = subst (Contains (worker_node wave w ∷ [])) (sym arc.to_is) (Contains-here [] _);
           one = arc.capacity_is;
           at_most = (let fee = arc.cost_is in omega arith);
         },
@@ -117,9 +116,10 @@ module _ (wave : Wave) (arcs : List FlowArc) (direct : IsDirect wave arcs) where
   }
     where
       apart_from : (w : ℕ) → IsUsable wave.workers w
-          → IsAmong (unstarted_node wave) (way_of (direct_nodes wave) w) → ⊥
-      apart_from w u (inl e) = let known = live_known wave w u.0 in omega arith
-      apart_from w u (inr none) = none
+          → Contains (way_of (direct_nodes wave) w) (unstarted_node wave) → ⊥
+      apart_from w u on =
+          let known = live_known wave w u.0 in
+          let same : worker_node wave w ≡ unstarted_node wave = Contains-one _ _ on in omega arith
 
   is_onward : (d : DirectArc) → IsWanted wave d → (arc_of wave d).from < (arc_of wave d).to
   is_onward (Pair s w) want = let known = pending_known wave s want.pending in omega arith
