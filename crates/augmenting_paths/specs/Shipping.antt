@@ -6,7 +6,7 @@ use Rattle.flow_network.specs.declared.arcs.FlowArc.{FlowArc}
 use Rattle.flow_network.specs.Flows.{arc_at, AreArcs, WithinCapacities, NoNegative, inflow, outflow, unit_at}
 use Rattle.flow_network.specs.Laws.{flow_cost}
 
--- how many of the places are a node's
+-- how many units are at a node, where each has its place in the list
 abbrev pub standing : List ℕ → ℕ → ℕ
 standing places v = count_by (λ place. place == v) places
 

@@ -262,7 +262,8 @@ module _ (wave : Wave) (nodes : WaveNodes) (arcs : List FlowArc)
                     omega arith)),
                 (λ k off. then.1 k off ∙ kept_shift f (Forward fed.feed) k
                     (λ e. off (Contains-there (nodes.worker w) (nodes.above w) _
-                    (subst (Contains (nodes.above w)) (sym fed.from_is ∙ ap (λ (j : ℕ). (arc_at arcs j).from) e) on)))),
+                    (subst (Contains (nodes.above w)) (sym fed.from_is
+                    ∙ ap (λ (j : ℕ). (arc_at arcs j).from) e) on)))),
                 (let step = then.2 in let here = flow_cost_forward arcs f fed.feed size fed.listed in
                     let free = fed.without_cost in omega arith),
               )),

@@ -29,7 +29,7 @@ loop-arc-preserved g c = λ k i room.
     let inside : c.loop-arc.arc-index < length xs = rw same at c.loop-arc-test.true in
     let way = rw c.all_arcs.ensures.value at c.lesser_depth-least.ensures.arc in
     elim (Contains-push_cases (take c.loop-arc.arc-index xs) (get_or xs c.loop-arc.arc-index (Forward 0))
-    (Forward k) (subst (λ ys. Contains ys (Forward k)) (take_more xs c.loop-arc.arc-index (Forward 0) inside) i)) [
+    (Forward k) (rw (take_more xs c.loop-arc.arc-index (Forward 0) inside) at i)) [
       | inl old ↦ (let most = c.loop-arc.invariant k old room in
           let less = c.lesser_depth-least.ensures.known in omega arith)
       | inr e ↦ way k (rw same e) room
