@@ -1,11 +1,11 @@
 -- Where the nodes of a level stand, and which of them are on a way up.
 use Rattle.std.proofs.Common.{◌≡◌, ℕ, zero, suc, ◌*◌, ◌<◌, ◌≤◌, Bool, cond, [], ◌∷◌, length, refl, sym, subst}
-use Rattle.std.proofs.Common.{inl, inr, arith}
+use Rattle.std.proofs.Common.{inl, inr, arith, Contains}
 use Rattle.std.proofs.lemmas.Bool.{cases_lt, cases_eq, lt-ltb, le-ltb}
 use Rattle.rack_tree.specs.Tree.{distance}
 use Rattle.wave_problem.specs.Wave.{Wave}
 use Rattle.wave_problem.proofs.Bound.{live_known}
-use Rattle.network_prices.specs.Ways.{IsAmong}
+use Rattle.flow_network.proofs.Members.{Contains-nil, Contains-here, Contains-one}
 use Rattle.network_prices.specs.Networks.{way_of}
 use Rattle.rack_network.specs.Racks.{cluster_node, unstarted_node, rack_of, node_above, level_count}
 use Rattle.rack_network.specs.Racks.{above_centres, rack_nodes, IsReach, IsTree}
@@ -78,42 +78,46 @@ module _ (wave : Wave) (tree : IsTree wave) where
   ]
 
   -- the cluster's node is on each way where there are several centres
-  among_top : (v : ℕ) → IsAmong v (above_centres wave) → (3 < level_count wave) × (v ≡ cluster_node wave)
+  among_top : (v : ℕ) → Contains (above_centres wave) v → (3 < level_count wave) × (v ≡ cluster_node wave)
   among_top v among = elim (cases_lt 1 wave.tree.centres) [
     | inl many ↦
         (let one = one_cluster wave.tree.centres many in
-        let here : IsAmong v (cluster_node wave ∷ []) =
-        subst (λ (b : Bool). IsAmong v (cond b (cluster_node wave ∷ []) [])) (lt-ltb 1 wave.tree.centres many)
-        among in
-        elim here [ inl e ↦ (omega arith, e) | inr none ↦ absurd none ])
-    | inr few ↦ absurd (subst (λ (b : Bool). IsAmong v (cond b (cluster_node wave ∷ []) []))
-        (le-ltb 1 wave.tree.centres (omega arith)) among)
+        let here : Contains (cluster_node wave ∷ []) v =
+        subst (λ (b : Bool). Contains (cond b (cluster_node wave ∷ []) []) v)
+        (lt-ltb 1 wave.tree.centres many) among in
+        (omega arith, sym (Contains-one (cluster_node wave) v here)))
+    | inr few ↦ absurd (Contains-nil v (subst (λ (b : Bool). Contains (cond b (cluster_node wave ∷ []) []) v)
+        (le-ltb 1 wave.tree.centres (omega arith)) among))
   ]
 
-  top_among : 3 < level_count wave → IsAmong (cluster_node wave) (above_centres wave)
+  top_among : 3 < level_count wave → Contains (above_centres wave) (cluster_node wave)
   top_among l =
       let many = several wave.tree.centres (omega arith) in
-      subst (λ (b : Bool). IsAmong (cluster_node wave) (cond b (cluster_node wave ∷ []) []))
-      (sym (lt-ltb 1 wave.tree.centres many)) (inl refl)
+      subst (λ (b : Bool). Contains (cond b (cluster_node wave ∷ []) []) (cluster_node wave))
+      (sym (lt-ltb 1 wave.tree.centres many)) (Contains-here [] (cluster_node wave))
 
   -- what is on a way are the nodes above its worker
-  pub among_level : (v w : ℕ) → IsAmong v (way_of (rack_nodes wave) w)
+  pub among_level : (v w : ℕ) → Contains (way_of (rack_nodes wave) w) v
       → (m : ℕ) × (m < level_count wave) × (v ≡ node_above wave m w)
-  among_level v w (inl e) = (0, omega arith, e)
-  among_level v w (inr (inl e)) = (1, omega arith, e)
-  among_level v w (inr (inr (inl e))) = (2, omega arith, e)
-  among_level v w (inr (inr (inr top))) = let is = among_top v top in (3, is.0, is.1)
+  among_level v w (zero, l, e) = (0, omega arith, sym e)
+  among_level v w (suc zero, l, e) = (1, omega arith, sym e)
+  among_level v w (suc (suc zero), l, e) = (2, omega arith, sym e)
+  among_level v w (suc (suc (suc k)), l, e) = let is = among_top v (k, omega arith, e) in (3, is.0, is.1)
 
   pub among_at : (level w : ℕ) → level < level_count wave
-      → IsAmong (node_above wave level w) (way_of (rack_nodes wave) w)
-  among_at zero w l = inl refl
-  among_at (suc zero) w l = inr (inl refl)
-  among_at (suc (suc zero)) w l = inr (inr (inl refl))
-  among_at (suc (suc (suc zero))) w l = inr (inr (inr (top_among l)))
+      → Contains (way_of (rack_nodes wave) w) (node_above wave level w)
+  among_at zero w l = (0, omega arith, refl)
+  among_at (suc zero) w l = (1, omega arith, refl)
+  among_at (suc (suc zero)) w l = (2, omega arith, refl)
+  among_at (suc (suc (suc zero))) w l = let top = top_among l in let low = top.1 in (
+    suc (suc (suc top.0)),
+    omega arith,
+    top.2,
+  )
   among_at (suc (suc (suc (suc n)))) w l = absurd (let few = four_levels _ l in omega arith)
 
   -- a node of a way stands between the splits and the node of those that are not started
-  pub among_in : (v w : ℕ) → w < length wave.workers → IsAmong v (way_of (rack_nodes wave) w)
+  pub among_in : (v w : ℕ) → w < length wave.workers → Contains (way_of (rack_nodes wave) w) v
       → (length wave.splits ≤ v) × (v < unstarted_node wave)
   among_in v w known among =
       let on = among_level v w among in
@@ -127,7 +131,7 @@ module _ (wave : Wave) (tree : IsTree wave) where
   -- a node of a level is on a way at just that level
   pub own_level : (level h w : ℕ) → level < level_count wave → h < length wave.workers
       → w < length wave.workers
-      → IsAmong (node_above wave level h) (way_of (rack_nodes wave) w)
+      → Contains (way_of (rack_nodes wave) w) (node_above wave level h)
       → node_above wave level h ≡ node_above wave level w
   own_level level h w l h_known known among =
       let on = among_level (node_above wave level h) w among in

@@ -1,83 +1,92 @@
 -- What a start costs, by the level at which its worker meets a live holder.
 use Rattle.std.proofs.Common.{◌≡◌, ℕ, zero, suc, ◌*◌, ◌<◌, ◌≤◌, Bool, true, false, min, List, [], ◌∷◌, length}
 use Rattle.std.proofs.Common.{get_or, map, filter, fold, Option, Some, refl, sym, ap, ◌∙◌, inl, inr, ◌⊎◌}
-use Rattle.std.proofs.Common.{arith, unwrap_or}
+use Rattle.std.proofs.Common.{arith, unwrap_or, Contains}
 use Rattle.std.specs.Prelude.{◌==◌}
 use Rattle.std.specs.Option.{option_map}
 use Rattle.std.proofs.lemmas.Bool.{cases_Bool, cases_eq, cases_lt, eq-eqb, ne_eqb}
 use Rattle.std.proofs.lemmas.List.{get_or_default}
 use Rattle.std.proofs.Math.Nat.{mul-le-mul_left}
+use Rattle.std.proofs.lemmas.List.Elements.{All-contains, All-contains_itself, All-filter, filter_passes}
+use Rattle.flow_network.proofs.Members.{Contains-nil, Contains-here, Contains-there, Contains-cons}
 use Rattle.rack_tree.specs.Tree.{Tree, centre_at, distance}
 use Rattle.rack_tree.proofs.Distances.{distance_by, steps_by}
 use Rattle.wave_problem.specs.Sums.{least}
 use Rattle.wave_problem.specs.Wave.{Wave, split_at, worker_at, worker_in, live_holders, least_distance, cost}
-use Rattle.network_prices.specs.Ways.{IsAmong}
 
 -- the least of a list is no more than each of its numbers, and one of them
 fold-le : (xs : List ℕ) (a : ℕ) → fold min a xs ≤ a
 fold-le [] a = omega arith
 fold-le (x ∷ xs) a = let rest = fold-le xs (min a x) in omega arith
 
-fold-le_each : (f : ℕ → ℕ) (xs : List ℕ) (a x : ℕ) → IsAmong x xs → fold min a (map f xs) ≤ f x
-fold-le_each f [] a x among = absurd among
-fold-le_each f (y ∷ ys) a x among = elim among [
+fold-le_each : (f : ℕ → ℕ) (xs : List ℕ) (a x : ℕ) → Contains xs x → fold min a (map f xs) ≤ f x
+fold-le_each f [] a x among = absurd (Contains-nil x among)
+fold-le_each f (y ∷ ys) a x among = elim (Contains-cons y ys x among) [
   | inl e ↦ (let low = fold-le (map f ys) (min a (f y)) in let same = ap f e in omega arith)
   | inr r ↦ fold-le_each f ys (min a (f y)) x r
 ]
-
-pub least-le : (f : ℕ → ℕ) (xs : List ℕ) (x d : ℕ) → IsAmong x xs → least (map f xs) ≡ Some d → d ≤ f x
-least-le f [] x d among e = absurd among
-least-le f (y ∷ ys) x d among e = grind (arith, fold-le, fold-le_each)
 
 min_is : (a b : ℕ) → (min a b ≡ a) ⊎ (min a b ≡ b)
 min_is a b = elim (cases_lt a b) [ inl l ↦ inl (omega arith) | inr n ↦ inr (omega arith) ]
 
 fold_is : (f : ℕ → ℕ) (xs : List ℕ) (a : ℕ) → (fold min a (map f xs) ≡ a)
-    ⊎ ((x : ℕ) × IsAmong x xs × (fold min a (map f xs) ≡ f x))
+    ⊎ ((x : ℕ) × Contains xs x × (fold min a (map f xs) ≡ f x))
 fold_is f [] a = inl refl
-fold_is f (y ∷ ys) a = grind (arith, fold_is f ys (min a (f y)))
+fold_is f (y ∷ ys) a = elim (fold_is f ys (min a (f y))) [
+  | inl e ↦ elim (min_is a (f y)) [ inl m ↦ inl (e ∙ m) | inr m ↦ inr (y, Contains-here ys y, e ∙ m) ]
+  | inr r ↦ inr (r.0, Contains-there y ys r.0 r.1, r.2)
+]
 
-pub least_is : (f : ℕ → ℕ) (xs : List ℕ) → 0 < length xs → (x : ℕ) × IsAmong x xs
-    × (least (map f xs) ≡ Some (f x))
+least_is : (f : ℕ → ℕ) (xs : List ℕ) → 0 < length xs → (x : ℕ) × Contains xs x
+    × (least (map f xs) ≡ Some (f x)) × ((z : ℕ) → Contains xs z → f x ≤ f z)
 least_is f [] l = absurd (omega arith)
 least_is f (y ∷ ys) l = elim (fold_is f ys (f y)) [
-  | inl e ↦ (y, inl refl, ap Some e)
-  | inr r ↦ (r.0, inr r.1, ap Some r.2)
+  | inl e ↦ (y, Contains-here ys y, ap Some e, λ z i. (let low = within z i in omega arith))
+  | inr r ↦ (
+    r.0,
+    Contains-there y ys r.0 r.1,
+    ap Some r.2,
+    λ z i. (let low = within z i in
+        let same = r.2 in omega arith),
+  )
 ]
+  where
+    within : (z : ℕ) → Contains (y ∷ ys) z → fold min (f y) (map f ys) ≤ f z
+    within z i = elim (Contains-cons y ys z i) [
+      | inl e ↦ (let low = fold-le (map f ys) (f y) in let at = ap f e in omega arith)
+      | inr rest ↦ fold-le_each f ys (f y) z rest
+    ]
 
-among_some : (xs : List ℕ) (x : ℕ) → IsAmong x xs → 0 < length xs
-among_some [] x a = absurd a
-among_some (y ∷ ys) x a = omega arith
+pub holder_live : (wave : Wave) (s h : ℕ) → Contains (live_holders wave s) h → (worker_at wave h).live ≡ true
+holder_live wave s h a = All-contains (λ g. (worker_in wave.workers g).live ≡ true) (live_holders wave s) h
+    (filter_passes (λ g. (worker_in wave.workers g).live) (split_at wave s).holders) a
 
-among_live : (p : ℕ → Bool) (xs : List ℕ) (x : ℕ) → IsAmong x (filter p xs) → p x ≡ true
-among_live p [] x a = absurd a
-among_live p (y ∷ ys) x a = elim (cases_Bool (p y)) [
-  | inl t ↦ (let here : IsAmong x (y ∷ filter p ys) = rw t at a in
-      elim here [ inl e ↦ ap p e ∙ t | inr r ↦ among_live p ys x r ])
-  | inr f ↦ among_live p ys x (let rest : IsAmong x (filter p ys) = rw f at a in rest)
-]
-
-pub holder_live : (wave : Wave) (s h : ℕ) → IsAmong h (live_holders wave s) → (worker_at wave h).live ≡ true
-holder_live wave s h a = among_live (λ h. (worker_in wave.workers h).live) (split_at wave s).holders h a
-
-pub holder_held : (wave : Wave) (s h : ℕ) → IsAmong h (live_holders wave s) → 0 < length (live_holders wave s)
-holder_held wave s h a = among_some (live_holders wave s) h a
+pub holder_held : (wave : Wave) (s h : ℕ) → Contains (live_holders wave s) h
+    → 0 < length (live_holders wave s)
+holder_held wave s h a = let some = a.1 in omega arith
 
 -- no live holder is nearer than a start's cost says, and one is as near
 cost_at : (wave : Wave) (s w d : ℕ) → least_distance wave s w ≡ Some d
     → unwrap_or (cost wave s w) 0 ≡ (split_at wave s).bytes * d
 cost_at wave s w d e = ap (λ (o : Option ℕ). unwrap_or (option_map (λ d. (split_at wave s).bytes * d) o) 0) e
 
-pub cost-le : (wave : Wave) (s w h : ℕ) → IsAmong h (live_holders wave s)
-    → unwrap_or (cost wave s w) 0 ≤ (split_at wave s).bytes * distance wave.tree h w
-cost-le wave s w h among = grind (arith, least_is, holder_held, least-le, cost_at, mul-le-mul_left)
-
 pub cost_is : (wave : Wave) (s w : ℕ) → 0 < length (live_holders wave s)
-    → (h : ℕ) × IsAmong h (live_holders wave s)
+    → (h : ℕ) × Contains (live_holders wave s) h
     × (unwrap_or (cost wave s w) 0 ≡ (split_at wave s).bytes * distance wave.tree h w)
+    × ((g : ℕ) → Contains (live_holders wave s) g
+    → unwrap_or (cost wave s w) 0 ≤ (split_at wave s).bytes * distance wave.tree g w)
 cost_is wave s w held =
     let best = least_is (λ h. distance wave.tree h w) (live_holders wave s) held in
-    (best.0, best.1, cost_at wave s w (distance wave.tree best.0 w) best.2)
+    let at = cost_at wave s w (distance wave.tree best.0 w) best.2 in (
+      best.0,
+      best.1,
+      at,
+      λ g i. (let scaled = mul-le-mul_left (split_at wave s).bytes (best.3 g i) in omega arith),
+    )
+
+pub cost-le : (wave : Wave) (s w h : ℕ) → Contains (live_holders wave s) h
+    → unwrap_or (cost wave s w) 0 ≤ (split_at wave s).bytes * distance wave.tree h w
+cost-le wave s w h among = (cost_is wave s w (holder_held wave s h among)).3 h among
 
 -- the level at which two workers meet: they are the same, or of one rack, or of one centre, or of the cluster
 abbrev pub Meet : Tree → ℕ → ℕ → ℕ → Type 0
@@ -177,26 +186,19 @@ module _ (tree : Tree) (h w : ℕ) where
   ]
 
 -- a live holder stands in the list of the holders, and each that stands there and lives is one
-pub holder_place : (p : ℕ → Bool) (xs : List ℕ) (h : ℕ) → IsAmong h (filter p xs) → (j : ℕ) × (j < length xs)
+pub holder_place : (p : ℕ → Bool) (xs : List ℕ) (h : ℕ) → Contains (filter p xs) h → (j : ℕ) × (j < length xs)
     × (get_or xs j 0 ≡ h)
-holder_place p [] h a = absurd a
-holder_place p (y ∷ ys) h a = elim (cases_Bool (p y)) [
-  | inl t ↦ (let here : IsAmong h (y ∷ filter p ys) = rw t at a in
-      elim here [
-        | inl e ↦ (0, omega arith, sym e)
-        | inr r ↦ (let found = holder_place p ys h r in
-            let l = found.1 in (suc found.0, omega arith, found.2))
-      ])
-  | inr f ↦ (let rest : IsAmong h (filter p ys) = rw f at a in let found = holder_place p ys h rest in
-      let l = found.1 in (suc found.0, omega arith, found.2))
-]
+holder_place p xs h a =
+    let kept = All-filter p (Contains xs) xs (All-contains_itself xs) in
+    let c = All-contains (Contains xs) (filter p xs) h kept a in
+    (c.0, c.1, get_or_default xs c.0 0 h c.1 ∙ c.2)
 
 pub among_kept : (p : ℕ → Bool) (xs : List ℕ) (i : ℕ) → i < length xs → p (get_or xs i 0) ≡ true
-    → IsAmong (get_or xs i 0) (filter p xs)
+    → Contains (filter p xs) (get_or xs i 0)
 among_kept p [] i l t = absurd (omega arith)
-among_kept p (y ∷ ys) zero l t = rw t (inl refl)
+among_kept p (y ∷ ys) zero l t = rw t (Contains-here (filter p ys) y)
 among_kept p (y ∷ ys) (suc i) l t = elim (cases_Bool (p y)) [
-  | inl k ↦ rw k (inr (among_kept p ys i (omega arith) t))
+  | inl k ↦ rw k (Contains-there y (filter p ys) (get_or ys i 0) (among_kept p ys i (omega arith) t))
   | inr f ↦ rw f (among_kept p ys i (omega arith) t)
 ]
 

@@ -1,6 +1,6 @@
 -- The rack network is a network of its wave.
-use Rattle.std.proofs.Common.{◌≡◌, ℕ, zero, suc, ◌*◌, ◌<◌, ◌≤◌, Bool, cond, eqb, [], ◌∷◌, List, length}
-use Rattle.std.proofs.Common.{refl, sym, ap, ◌∙◌, subst, inl, inr, ◌⊎◌, arith, unwrap_or}
+use Rattle.std.proofs.Common.{◌≡◌, ℕ, zero, suc, ◌*◌, ◌<◌, ◌≤◌, Bool, cond, eqb, [], ◌∷◌, List, length, refl}
+use Rattle.std.proofs.Common.{sym, ap, ◌∙◌, subst, inl, inr, ◌⊎◌, arith, unwrap_or, Contains}
 use Rattle.std.proofs.lemmas.Bool.{cases_Bool, cases_eq, cases_lt, eq-eqb, ne_eqb, lt-ltb, le-ltb, false≢true}
 use Rattle.std.proofs.Math.Nat.{mul-le-mul_left}
 use Rattle.node_ids.specs.Sets.{HasPair, has_number, place_of_pair}
@@ -9,7 +9,7 @@ use Rattle.flow_network.specs.Flows.{arc_at}
 use Rattle.flow_network.specs.Laws.{outroom}
 use Rattle.wave_problem.specs.Wave.{Wave, IsAdmissible, split_at, worker_at, cost, reward, IsUsable}
 use Rattle.wave_problem.proofs.Bound.{pending_known, live_known}
-use Rattle.network_prices.specs.Ways.{IsAmong, IsFed, IsInner, IsWay}
+use Rattle.network_prices.specs.Ways.{IsFed, IsInner, IsWay}
 use Rattle.network_prices.specs.Networks.{way_of, IsOffer, IsWaveNetwork}
 use Rattle.network_prices.proofs.Tables.{each_arc, the_arc, outroom-one}
 use Rattle.network_prices.proofs.Rows.{outroom-row}
@@ -133,7 +133,7 @@ module _ (wave : Wave) (arcs : List FlowArc) (network : IsRackNetwork wave arcs)
 
   -- an arc of a split to a node of a worker's way
   abbrev IsSound : ℕ → ℕ → FlowArc → Type 0
-  IsSound s w a = a.from ≡ s → IsAmong a.to (way_of (rack_nodes wave) w)
+  IsSound s w a = a.from ≡ s → Contains (way_of (rack_nodes wave) w) a.to
       → IsAdmissible wave s w × (unwrap_or (cost wave s w) 0 ≤ a.cost)
 
   is_sound : (s w : ℕ) → s < length wave.splits → IsUsable wave.workers w → (d : RackArc) → IsWanted wave d
@@ -318,7 +318,8 @@ module _ (wave : Wave) (arcs : List FlowArc) (network : IsRackNetwork wave arcs)
           record {
             listed = arc.listed;
             from_is = arc.from_is;
-            on_way = subst (λ (x : ℕ). IsAmong x (way_of (rack_nodes wave) w)) (sym arc.to_is) (inl refl);
+            on_way = subst (λ (x : ℕ). Contains (way_of (rack_nodes wave) w) x) (sym arc.to_is)
+                (among_at wave network.tree 0 w (omega arith));
             one = arc.capacity_is;
             at_most = (let c = arc.cost_is in omega arith);
           },
@@ -343,7 +344,7 @@ module _ (wave : Wave) (arcs : List FlowArc) (network : IsRackNetwork wave arcs)
           record {
             listed = arc.listed;
             from_is = arc.from_is;
-            on_way = subst (λ (x : ℕ). IsAmong x (way_of (rack_nodes wave) w)) (sym (arc.to_is ∙ above))
+            on_way = subst (λ (x : ℕ). Contains (way_of (rack_nodes wave) w) x) (sym (arc.to_is ∙ above))
                 (among_at wave network.tree level w meet.1);
             one = arc.capacity_is;
             at_most = (let c = arc.cost_is in

@@ -1,6 +1,6 @@
 -- The rack network of a wave: its nodes by their places, and its arcs.
-use Rattle.std.specs.Prelude.{ℕ, ◌≡◌, ◌+◌, ◌*◌, ◌<◌, ◌==◌, nat_lt, true, cond, List, [], ◌∷◌, length}
-use Rattle.std.specs.Prelude.{◌≤◌, unwrap_or, slice_index}
+use Rattle.std.specs.Prelude.{ℕ, ◌≡◌, ◌+◌, ◌*◌, ◌<◌, ◌==◌, nat_lt, true, cond, List, [], ◌∷◌, length, ◌≤◌}
+use Rattle.std.specs.Prelude.{unwrap_or, slice_index, Contains}
 use Rattle.rack_tree.specs.declared.TheConstants.{MAX_CENTRES, MAX_RACKS, MAX_WORKERS}
 use Rattle.wave_problem.specs.declared.TheConstants.{MAX_SPLITS}
 use Rattle.node_ids.specs.Sets.{HasPair}
@@ -9,7 +9,6 @@ use Rattle.wave_problem.specs.Sums.{sum_below}
 use Rattle.flow_network.specs.declared.arcs.FlowArc.{FlowArc}
 use Rattle.network_prices.specs.Pending.{pending_splits}
 use Rattle.wave_problem.specs.Wave.{IsUsable}
-use Rattle.network_prices.specs.Ways.{IsAmong}
 use Rattle.network_prices.specs.Networks.{WaveNodes, IsWaveNetwork}
 use Rattle.network_prices.specs.Tables.{AreRows}
 use Rattle.rack_network.specs.declared.layout.RackLayout.{RackLayout}
@@ -157,7 +156,7 @@ pub record IsReach (wave : Wave) (s level h : ℕ) : Type 0 where
   pub pending : (split_at wave s).pending ≡ true
   pub no_bars : HasBars wave s → ⊥
   pub known : level < level_count wave
-  pub holder : IsAmong h (live_holders wave s)
+  pub holder : Contains (live_holders wave s) h
   pub has_slot : level ≡ 0 → 0 < (worker_at wave h).free
 
 -- whether the wave has it

@@ -140,7 +140,6 @@ fn add_split(
     reward: u64,
 ) -> Result<(), AllocError>
     requires split { split < length problem.now.splits }
-    requires few { split < MAX_SPLITS }
     requires pending { (split_at problem.now split).pending ≡ true }
     requires levels { AreStarts problem.now levels.now }
     requires reward { reward ≡ reward_in problem.now }
@@ -212,7 +211,6 @@ fn add_pairs(
     split: SplitNo,
 ) -> Result<(), AllocError>
     requires split { split < length problem.now.splits }
-    requires few { split < MAX_SPLITS }
     requires bars { HasBars problem.now split }
     requires tree { IsTree problem.now }
     requires built { IsBuilt problem.now split 0 (257 * split) network.old }
@@ -239,7 +237,6 @@ fn add_reaches(
     levels: &LevelStarts,
 ) -> Result<(), AllocError>
     requires split { split < length problem.now.splits }
-    requires few { split < MAX_SPLITS }
     requires pending { (split_at problem.now split).pending ≡ true }
     requires no_bars { HasBars problem.now split → ⊥ }
     requires tree { IsTree problem.now }

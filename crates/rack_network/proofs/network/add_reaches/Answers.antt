@@ -23,7 +23,7 @@ pub add_reach-requires-clause-room : goal.add_reach-requires-clause-room
 add_reach-requires-clause-room c =
     let wave = c.args.problem.now in
     let limit = c.loop-next.invariant.1.frame.arc_limit in
-    let few = c.requires.few in
+    let few = c.requires.tree.few_splits in
     let size = ap (λ (hs : List ℕ). length hs) c.holders-holders.ensures.holders in
     let holders = c.holders-holders.ensures.most in
     let most = passed_by-le wave (cluster_node wave + c.loop-next.number)
