@@ -109,11 +109,8 @@ module _ (wave : Wave) (tree : IsTree wave) where
   among_at zero w l = (0, omega arith, refl)
   among_at (suc zero) w l = (1, omega arith, refl)
   among_at (suc (suc zero)) w l = (2, omega arith, refl)
-  among_at (suc (suc (suc zero))) w l = let top = top_among l in let low = top.1 in (
-    suc (suc (suc top.0)),
-    omega arith,
-    top.2,
-  )
+  among_at (suc (suc (suc zero))) w l =
+      let top = top_among l in let low = top.1 in (suc (suc (suc top.0)), omega arith, top.2)
   among_at (suc (suc (suc (suc n)))) w l = absurd (let few = four_levels _ l in omega arith)
 
   -- a node of a way stands between the splits and the node of those that are not started

@@ -14,47 +14,42 @@ use Rattle.rack_tree.proofs.Distances.{distance_by, steps_by}
 use Rattle.wave_problem.specs.Sums.{least}
 use Rattle.wave_problem.specs.Wave.{Wave, split_at, worker_at, worker_in, live_holders, least_distance, cost}
 
--- the least of a list is no more than each of its numbers, and one of them
-fold-le : (xs : List ℕ) (a : ℕ) → fold min a xs ≤ a
-fold-le [] a = omega arith
-fold-le (x ∷ xs) a = let rest = fold-le xs (min a x) in omega arith
-
-fold-le_each : (f : ℕ → ℕ) (xs : List ℕ) (a x : ℕ) → Contains xs x → fold min a (map f xs) ≤ f x
-fold-le_each f [] a x among = absurd (Contains-nil x among)
-fold-le_each f (y ∷ ys) a x among = elim (Contains-cons y ys x among) [
-  | inl e ↦ (let low = fold-le (map f ys) (min a (f y)) in let same = ap f e in omega arith)
-  | inr r ↦ fold-le_each f ys (min a (f y)) x r
-]
-
-min_is : (a b : ℕ) → (min a b ≡ a) ⊎ (min a b ≡ b)
-min_is a b = elim (cases_lt a b) [ inl l ↦ inl (omega arith) | inr n ↦ inr (omega arith) ]
-
-fold_is : (f : ℕ → ℕ) (xs : List ℕ) (a : ℕ) → (fold min a (map f xs) ≡ a)
-    ⊎ ((x : ℕ) × Contains xs x × (fold min a (map f xs) ≡ f x))
-fold_is f [] a = inl refl
-fold_is f (y ∷ ys) a = elim (fold_is f ys (min a (f y))) [
-  | inl e ↦ elim (min_is a (f y)) [ inl m ↦ inl (e ∙ m) | inr m ↦ inr (y, Contains-here ys y, e ∙ m) ]
-  | inr r ↦ inr (r.0, Contains-there y ys r.0 r.1, r.2)
-]
+-- the least of a list is one of its numbers, and no more than each of them
+least_from : (f : ℕ → ℕ) (xs : List ℕ) (a : ℕ) → ((fold min a (map f xs) ≡ a)
+    ⊎ ((x : ℕ) × Contains xs x × (fold min a (map f xs) ≡ f x)))
+    × (fold min a (map f xs) ≤ a) × ((z : ℕ) → Contains xs z → fold min a (map f xs) ≤ f z)
+least_from f [] a = (inl refl, omega arith, λ z i. absurd (Contains-nil z i))
+least_from f (y ∷ ys) a = let rest = least_from f ys (min a (f y)) in let low = rest.1 in (
+  elim rest.0 [
+    | inl e ↦ elim (cases_lt a (f y)) [
+      | inl l ↦ inl (omega arith)
+      | inr past ↦ inr (y, Contains-here ys y, omega arith)
+    ]
+    | inr r ↦ inr (r.0, Contains-there y ys r.0 r.1, r.2)
+  ],
+  omega arith,
+  λ z i. elim (Contains-cons y ys z i) [ inl e ↦ (let at = ap f e in omega arith) | inr r ↦ rest.2 z r ],
+)
 
 least_is : (f : ℕ → ℕ) (xs : List ℕ) → 0 < length xs → (x : ℕ) × Contains xs x
     × (least (map f xs) ≡ Some (f x)) × ((z : ℕ) → Contains xs z → f x ≤ f z)
 least_is f [] l = absurd (omega arith)
-least_is f (y ∷ ys) l = elim (fold_is f ys (f y)) [
-  | inl e ↦ (y, Contains-here ys y, ap Some e, λ z i. (let low = within z i in omega arith))
-  | inr r ↦ (
-    r.0,
-    Contains-there y ys r.0 r.1,
-    ap Some r.2,
-    λ z i. (let low = within z i in
-        let same = r.2 in omega arith),
-  )
-]
-  where
-    within : (z : ℕ) → Contains (y ∷ ys) z → fold min (f y) (map f ys) ≤ f z
-    within z i = elim (Contains-cons y ys z i) [
-      | inl e ↦ (let low = fold-le (map f ys) (f y) in let at = ap f e in omega arith)
-      | inr rest ↦ fold-le_each f ys (f y) z rest
+least_is f (y ∷ ys) l =
+    let all = least_from f ys (f y) in
+    let within : (z : ℕ) → Contains (y ∷ ys) z → fold min (f y) (map f ys) ≤ f z = λ z i.
+    elim (Contains-cons y ys z i) [
+      | inl e ↦ (let at = ap f e in let low = all.1 in omega arith)
+      | inr r ↦ all.2 z r
+    ] in
+    elim all.0 [
+      | inl e ↦ (y, Contains-here ys y, ap Some e, λ z i. (let low = within z i in omega arith))
+      | inr r ↦ (
+        r.0,
+        Contains-there y ys r.0 r.1,
+        ap Some r.2,
+        λ z i. (let low = within z i in
+            let same = r.2 in omega arith),
+      )
     ]
 
 pub holder_live : (wave : Wave) (s h : ℕ) → Contains (live_holders wave s) h → (worker_at wave h).live ≡ true
