@@ -53,6 +53,7 @@ impl<'a> Checker<'a> {
         ensures value { result ≡ claim problem.now plan.now.starts prices.now }
         ensures near { IsWithinReach result.wave.tree }
     {
+        problem.limits();
         let workers = problem.workers();
         Checker {
             problem,

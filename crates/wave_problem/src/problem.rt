@@ -1,7 +1,7 @@
 ghost use Rattle.std.specs.Prelude.{◌≡◌, ◌≢◌, ℕ, List, [], ◌∷◌, ◌++◌, ◌+◌, ◌*◌, ◌<◌, ◌≤◌, ◌↔◌, length, map};
 ghost use Rattle.std.specs.Prelude.{sum_by, All, AllPairs, IsTrue, OnOk, IfOk, IfSome, Err};
 ghost use Rattle.node_ids.specs.Sets.{Has, HasPair};
-ghost use Rattle.rack_tree.specs.Tree.{IsWithinReach, distance};
+ghost use Rattle.rack_tree.specs.Tree.{distance};
 ghost use Rattle.rack_tree.specs.declared.TheConstants.{MAX_DISTANCE, MAX_WORKERS};
 ghost use Rattle.wave_problem.specs.declared.TheConstants.{MAX_SPLITS, MAX_HOLDERS, MAX_SLOTS, MAX_BYTES};
 ghost use Rattle.wave_problem.specs.Sums.{least};
@@ -298,7 +298,6 @@ impl Problem {
     /// What one start more is worth, in byte-distance: more than any admissible assignment costs.
     pub fn reward(&self) -> u64
         ensures reward { result ≡ reward self.now }
-        ensures within { IsWithinReach self.now.tree }
         ensures most { result ≤ 1 + MAX_DISTANCE * MAX_SPLITS * MAX_BYTES }
     {
         1 + u64::from(self.tree.reach()) * total_bytes(&self.splits)
