@@ -98,7 +98,8 @@ adds_answered : (old new : Job) (call : Call) (given : Plain) → Answers old ca
 adds_answered old new call (answer.Accepted place rest) answers =
     subst (λ (s : State). Adds old.state s (started_by call)) (sym answers.change.leads)
     (adds_after old.state call)
-adds_answered old new call (answer.Ignored why rest) answers = adds_same old new (started_by call) answers.same
+adds_answered old new call (answer.Ignored why rest) answers =
+    adds_same old new (started_by call) answers.same
 
 -- rising pairs of splits below n are no more than n
 rising_few : (n k : ℕ) (plan : List (Option ℕ)) → All (λ (pair : ℕ × ℕ). pair.0 < n) (pairs_from k plan) →

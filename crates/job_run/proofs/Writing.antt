@@ -178,7 +178,7 @@ sweep_accepted names old new counts dead place before mid now answers first next
       is_told = record { answer = answer.Accepted place tt; answers = answers.answer; out_is = refl };
       written = written_more before mid now (accepted_line place) told first
           (next ∙ ap (λ (lines : List ℕ). mid ++ lines)
-          (those_agree (has_number dead) (died_in {T = Unit {0}} {B = Unit {0}} old counts (answer.Accepted place tt))
+          (those_agree (has_number dead) (died_in old counts (answer.Accepted place tt))
           (dead_line names.workers) (numbers_of names.workers) answers.dead_are));
     }
 

@@ -117,12 +117,13 @@ AnswersReduce old (Ignored why back) new =
     ⊎ ((why ≡ Memory) × (refusal old.setup old.state ReduceStart ≡ None) × (new ≡ old))
 
 -- whether the worker died in a sweep that was answered so
-abbrev pub died_in : {T B : Type 0} → Job → List ℕ → Answer T B → ℕ → Bool
+abbrev pub died_in : Job → List ℕ → Plain → ℕ → Bool
 died_in old counts (Accepted place told) w = is_silent (swept old.state.workers counts) w
 died_in old counts (Ignored why back) w = false
 
 -- the answer to a sweep, and the set of those that died
-pub record AnswersSweep (old : Job) (counts : List ℕ) (given : Plain) (dead : List ℕ) (new : Job) : Type 0 where
+pub record AnswersSweep (old : Job) (counts : List ℕ) (given : Plain) (dead : List ℕ) (new : Job)
+    : Type 0 where
   pub answer : Answers old (Sweep counts) given new
   pub dead_are : (w : ℕ) → has_number dead w ≡ died_in old counts given w
 

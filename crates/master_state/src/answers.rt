@@ -32,8 +32,8 @@ pub enum Why {
     Barred = 13,
 }
 
-/// The answer to a call: its place in the history, from 1, and what it tells beside; or why it was ignored, and
-/// what comes back of what it was handed.
+/// The answer to a call: its place in the history, from 1, and what it tells beside; or why it was ignored,
+/// and what comes back of what it was handed.
 #[derive(Clone, Copy, Debug, PartialEq, Eq, Drop)]
 pub enum Answer<T = (), B = ()> {
     Accepted(u32, T),

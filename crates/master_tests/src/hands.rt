@@ -31,8 +31,8 @@ fn sweep_place<L: Ledger, R: Wait>(
     }
 }
 
-// Calls of a thread, of which each is accepted: every fourth is a wave, and the others are sweeps, which their
-// counts tell apart. The place of the first.
+// Calls of a thread, of which each is accepted: every fourth is a wave, and the others are sweeps, which
+// their counts tell apart. The place of the first.
 fn call_often<L: Ledger, R: Wait>(
     rt: &R,
     alloc: Global,

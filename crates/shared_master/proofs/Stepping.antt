@@ -135,7 +135,8 @@ kept_backup (Ignored why back) step names = step.hand_is
 pub kept_reduce : (given : Answer Reply (Unit {0})) {sizes : Sizes} {old : Job} {hand : HandValue}
     {new : Job} {after : HandValue} → IsReduceStep sizes old hand given new after →
     IsKeptReduce hand given after
-kept_reduce (Accepted place reply) {sizes = sizes} {old = old} {hand = hand} {new = new} {after = after} step =
+kept_reduce (Accepted place reply) {sizes = sizes} {old = old} {hand = hand} {new = new} {after = after}
+    step =
     let told = (reached_of sizes old hand 0 place reply new step.answer).1.0 in
     let event : event_of old.state ReduceStart ≡ events.ReduceStart reply.attempt reply.part reply.worker =
     (λ k. events.ReduceStart (sym told.attempt k) (sym told.part k) (sym told.worker k)) in

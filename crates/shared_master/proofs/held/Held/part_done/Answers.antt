@@ -5,5 +5,5 @@ use Rattle.shared_master.proofs.held.Held.part_done.Goals as goal
 
 pub returns-clause-step : goal.returns-clause-step
 returns-clause-step g c =
-    stepped (ap (λ (h : HeldValue). h.job) c.self.view_is) c.in_default.ensures c.part_done-answer.ensures.answer
-    c.enter.ensures.hand
+    stepped (ap (λ (h : HeldValue). h.job) c.self.view_is) c.in_default.ensures
+    c.part_done-answer.ensures.answer c.enter.ensures.hand
