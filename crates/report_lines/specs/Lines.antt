@@ -7,13 +7,13 @@ use Rattle.node_ids.specs.Sets.{has_number}
 use Rattle.text_lines.specs.Texts.{Word, name_of, numbers_of}
 use Rattle.word_map.specs.Entries.{EntryView}
 use Rattle.block_map.specs.declared.CopyOrder.{CopyOrder}
-use Rattle.master_state.specs.declared.answers.Answer.{Answer}
 use Rattle.master_state.specs.declared.answers.Answer.TheVariants as answer
 use Rattle.master_state.specs.declared.answers.Why.{Why}
 use Rattle.master_state.specs.declared.answers.Why.TheVariants as why
 use Rattle.master_state.specs.declared.states.SplitState.{SplitState}
 use Rattle.master_state.specs.declared.states.SplitState.TheVariants.{Pending}
 use Rattle.master_state.specs.Tests.{is_done}
+use Rattle.master_state.specs.Jobs.{Plain}
 
 -- a line for each of these numbers of which the test is true
 abbrev pub lines_of_those : (ℕ → Bool) → (ℕ → List ℕ) → List ℕ → List ℕ
@@ -43,9 +43,9 @@ accepted_line place = codes "accepted " ++ decimal place ++ 10 ∷ []
 abbrev pub ignored_line : Why → List ℕ
 ignored_line why = codes "ignored " ++ decimal (number_of_reason why) ++ 10 ∷ []
 
-abbrev pub answer_line : {T B : Type 0} → Answer T B → List ℕ
-answer_line (answer.Accepted place told) = accepted_line place
-answer_line (answer.Ignored why back) = ignored_line why
+abbrev pub answer_line : Plain → List ℕ
+answer_line (answer.Accepted place rest) = accepted_line place
+answer_line (answer.Ignored why rest) = ignored_line why
 
 -- ---- what follows the line of an accepted call; workers, splits and documents stand by their names
 
