@@ -1,7 +1,7 @@
 use Rattle.std.proofs.Common.{string_bytes}
 use Rattle.std.proofs.lemmas.Result.{on_ok_weaker}
 use Rattle.job_run.specs.Reports.{padded}
-use Rattle.job_run.proofs.Writing.{sweep_accepted}
+use Rattle.job_run.proofs.Writing.{sweep_accepted, sweep_ignored}
 use Rattle.job_run.proofs.performing.sweep.Goals as goal
 
 pub returns-in_ok-add_accepted-in-Accepted : goal.returns-in_ok-add_accepted-in-Accepted
@@ -14,3 +14,12 @@ returns-in_ok-add_accepted-in-Accepted c =
     (string_bytes c.add_accepted.new.lines) (string_bytes c.add_dead.new.lines) told
     c.in_ok-add_accepted-in-Accepted.ensures next)
     c.add_dead.ensures
+
+pub returns-in-Ignored : goal.returns-in-Ignored
+returns-in-Ignored c =
+    let told = rw c.in-Ignored.is at (rw c.counts_of.ensures at c.sweep-swept.ensures) in
+    on_ok_weaker c.add_ignored.result
+    (λ next. sweep_ignored c.args.names.now c.args.master.now c.sweep-swept.new.self
+    (padded c.args.counts.now) c.sweep-swept.result.dead c.in-Ignored.why (string_bytes c.args.lines.now)
+    (string_bytes c.add_ignored.new.lines) told next)
+    c.add_ignored.ensures
