@@ -94,14 +94,17 @@ pub order_law : (nodes : ℕ) (arcs : List FlowArc) (sources order : List ℕ) (
 order_law nodes arcs sources order sink flows h p can =
     (order_can p can, order_shipped p)
 
--- the nodes of sorted keys, the first part of them turned
-pub order_made : (keys sorted : List (ℕ × ℕ)) (sources order first last : List ℕ) (m : ℕ)
-    → map (λ p. p.1) keys ≡ sources → IsPermutation keys sorted → order ≡ map (λ p. p.1) sorted
+-- the nodes of sorted keys
+pub order_sorted : (keys sorted : List (ℕ × ℕ)) (sources order : List ℕ) → map (λ p. p.1) keys ≡ sources
+    → IsPermutation keys sorted → order ≡ map (λ p. p.1) sorted → IsPermutation sources order
+order_sorted keys sorted sources order e p f =
+    subst (λ xs. IsPermutation xs order) e (subst (λ ys. IsPermutation (map (λ p. p.1) keys) ys) (sym f)
+    (IsPermutation-map (λ p. p.1) keys sorted p))
+
+-- the first part of them turned
+pub order_made : (sources order first last : List ℕ) (m : ℕ) → IsPermutation sources order
     → IsPermutation (take m order) first → last ≡ first ++ drop m order → IsPermutation sources last
-order_made keys sorted sources order first last m e p f q l =
-    let all : IsPermutation sources order = subst (λ xs. IsPermutation xs order) e
-    (subst (λ ys. IsPermutation (map (λ p. p.1) keys) ys) (sym f)
-    (IsPermutation-map (λ p. p.1) keys sorted p)) in
+order_made sources order first last m all q l =
     let turned : IsPermutation order (first ++ drop m order) =
     subst (λ ys. IsPermutation ys (first ++ drop m order)) (take-append-drop m order)
     (IsPermutation-append_left (drop m order) (take m order) first q) in

@@ -11,6 +11,7 @@ ghost use Rattle.augmenting_paths.specs.Shipping.{CanShip, HasShipped, IsCheapes
 ghost use Rattle.augmenting_paths.specs.TightPath.{FindsTight};
 ghost use Rattle.augmenting_paths.specs.DepthFirst.{HasNodes};
 ghost use Rattle.augmenting_paths.specs.NextUnit.{MayShipNext, AreKept, HasLiftedNext, HasFoundNext};
+ghost use Rattle.augmenting_paths.specs.NextUnit.{KeepsArcs};
 
 use crate::order::shipping_order;
 use crate::requirements::indices;
@@ -84,22 +85,52 @@ fn ship_all<L: Layout>(
     ensures arcs { network.new.arcs ≡ network.old.arcs }
     ensures layout { network.new.layout ≡ network.old.layout }
 {
-    let nodes = network.layout().size();
     let order = shipping_order(alloc, network, sources, sink)?;
-    let marks = marked(alloc, nodes, sources)?;
-    let mut shipping = Shipping {
-        potentials: Potentials::new(alloc, nodes)?,
-        lists: ResidualArcs::new(alloc, network, marks, sink)?,
-        buffers: Buffers::new(alloc, nodes)?,
-        trail: Trail::new(alloc, nodes)?,
-        path: Vec::new(alloc),
-        looks: 0,
-    };
+    let mut shipping = unshipped(alloc, network, &order, sink)?;
     for count in 0..order.len() {
         shipping = ship(alloc, network, shipping, &order, sink, count)?;
     }
-    let Shipping { potentials, .. } = shipping;
-    Ok(potentials)
+    Ok(shipping.potentials)
+}
+
+// What is kept before the first unit.
+fn unshipped<L: Layout>(
+    alloc: Global,
+    network: &Network<L>,
+    sources: &[usize],
+    sink: usize,
+) -> Result<Shipping, AllocError>
+    requires can { CanShip (L.node_count network.now.layout) network.now.arcs sources.now sink }
+    requires no_flow { (k : ℕ) → slice_index network.now.flows k ≡ 0 }
+    ensures kept { IfOk result (λ s. AreKept L.node_count network.now sink 0 s) }
+    ensures state { IfOk result (λ s. HasShipped network.now.arcs sources.now sink 0 network.now.flows
+        (slice_index s.potentials)) }
+{
+    let nodes = network.layout().size();
+    Ok(Shipping {
+        trail: Trail::new(alloc, nodes)?,
+        potentials: Potentials::new(alloc, nodes)?,
+        lists: lists_of(alloc, network, sources, sink)?,
+        buffers: Buffers::new(alloc, nodes)?,
+        path: Vec::new(alloc),
+        looks: 0,
+    })
+}
+
+// The lists of arcs for a search from these sources, where nothing flows.
+fn lists_of<L: Layout>(
+    alloc: Global,
+    network: &Network<L>,
+    sources: &[usize],
+    sink: usize,
+) -> Result<ResidualArcs, AllocError>
+    requires can { CanShip (L.node_count network.now.layout) network.now.arcs sources.now sink }
+    requires no_flow { (k : ℕ) → slice_index network.now.flows k ≡ 0 }
+    ensures { IfOk result (KeepsArcs (L.node_count network.now.layout) network.now.arcs
+        network.now.flows sink) }
+{
+    let marks = marked(alloc, network.layout().size(), sources)?;
+    ResidualArcs::new(alloc, network, marks, sink)
 }
 
 // Ships the unit of the source that stands at this place of the order along a least path, and lowers the

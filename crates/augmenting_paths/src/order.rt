@@ -41,15 +41,28 @@ pub fn shipping_order<L: Layout>(
         slice_index sources.now k < L.node_count network.now.layout }
     ensures { IfOk result (λ v. IsPermutation sources.now v.items) }
 {
-    let costs = costs_of(alloc, network)?;
-    let mut keys = keys_of(alloc, sources, &costs)?;
-    keys.sort()?;
-    let mut order = nodes_of(alloc, &keys)?;
+    let mut order = cheapest_first(alloc, network, sources)?;
     let room = narrow_room(network.all_arcs(), sink, sources.len() as u64);
     let mut others = order.split_off(order.len().min(room))?;
     order.reverse();
     order.append(&mut others)?;
     Ok(order)
+}
+
+// The sources, those first whose units cost least.
+fn cheapest_first<L: Layout>(
+    alloc: Global,
+    network: &Network<L>,
+    sources: &[usize],
+) -> Result<Vec<usize>, AllocError>
+    requires { (k : ℕ) → k < length sources.now →
+        slice_index sources.now k < L.node_count network.now.layout }
+    ensures { IfOk result (λ v. IsPermutation sources.now v.items) }
+{
+    let costs = costs_of(alloc, network)?;
+    let mut keys = keys_of(alloc, sources, &costs)?;
+    keys.sort()?;
+    nodes_of(alloc, &keys)
 }
 
 // The costs of each node's own arcs, by the nodes' indices.

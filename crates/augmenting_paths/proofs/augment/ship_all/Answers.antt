@@ -1,52 +1,15 @@
-use Rattle.std.proofs.Common.{◌≡◌, ℕ, List, Bool, false, length, get_or, refl, ap, ◌∙◌, subst, arith}
-use Rattle.std.proofs.lemmas.List.{length-replicate}
+use Rattle.std.proofs.Common.{◌≡◌, length, get_or, refl, ◌∙◌, subst, arith}
 use Rattle.std.proofs.lemmas.List.Sorted.{length_permutation}
-use Rattle.flow_network.proofs.Members.{replicated_at}
 use Rattle.augmenting_paths.specs.Shipping.{HasShipped}
-use Rattle.augmenting_paths.proofs.Shipped.{begin_state, cheapest}
-use Rattle.augmenting_paths.proofs.Orders.{order_can, order_shipped, sink_unmarked, ends_unmarked, sources_in}
+use Rattle.augmenting_paths.proofs.Shipped.{cheapest}
+use Rattle.augmenting_paths.proofs.Orders.{order_can, order_shipped, sources_in}
 use Rattle.augmenting_paths.proofs.augment.ship_all.Goals as goal
 
 pub shipping_order-requires : goal.shipping_order-requires
 shipping_order-requires g c = sources_in c.requires.can
 
-pub marked-requires : goal.marked-requires
-marked-requires g c =
-    let nodes : c.size-nodes.result ≡ g.L.Layout.node_count c.args.network.now.layout =
-    c.size-nodes.ensures ∙ ap (λ l. g.L.Layout.node_count l) c.layout.ensures.value in
-    rw nodes (sources_in c.requires.can)
-
-pub new-requires-2-clause-size : goal.new-requires-2-clause-size
-new-requires-2-clause-size g c =
-    c.in_ok-marks.ensures.size ∙ c.size-nodes.ensures
-    ∙ ap (λ l. g.L.Layout.node_count l) c.layout.ensures.value
-
-pub new-requires-2-clause-no_entry : goal.new-requires-2-clause-no_entry
-new-requires-2-clause-no_entry g c = ends_unmarked _ c.requires.can c.in_ok-marks.ensures.marks
-
-pub loop-count-init : goal.loop-count-init
-loop-count-init g c =
-    let nodes : c.size-nodes.result ≡ g.L.Layout.node_count c.args.network.now.layout =
-    c.size-nodes.ensures ∙ ap (λ l. g.L.Layout.node_count l) c.layout.ensures.value in
-    record {
-      arcs = refl;
-      layout = refl;
-      kept = record {
-        limits = c.layout.ensures.limits;
-        looks = omega arith;
-        size = ap length c.in_ok-new.ensures ∙ length-replicate {A = ℕ} c.size-nodes.result 0 ∙ nodes;
-        buffers = c.in_ok-new-3.ensures ∙ nodes;
-        trail = rw nodes at c.in_ok-new-4.ensures;
-        lists = record {
-          sorted = c.in_ok-new-2.ensures.sorted;
-          matched = c.in_ok-new-2.ensures.matched;
-          sink_apart = ap (λ (m : List Bool). get_or m c.args.sink false) c.in_ok-new-2.ensures.sources
-              ∙ sink_unmarked _ c.requires.can c.in_ok-marks.ensures.marks;
-        };
-      };
-      state = begin_state _ _ _ c.layout.ensures.limits.sizes c.requires.no_flow
-          (λ v. ap (λ p. get_or p v 0) c.in_ok-new.ensures ∙ replicated_at c.size-nodes.result v 0);
-    }
+pub unshipped-requires-clause-can : goal.unshipped-requires-clause-can
+unshipped-requires-clause-can g c = rw c.deref.ensures.value (order_can c.in_ok-order.ensures c.requires.can)
 
 pub ship-requires-clause-next : goal.ship-requires-clause-next
 ship-requires-clause-next g c =
@@ -55,21 +18,25 @@ ship-requires-clause-next g c =
     let left = c.loop-count-test.true in
     let all = c.len-count-end.ensures in
     record {
-      limit = rw c.deref.ensures.value (omega arith);
-      left = rw c.deref.ensures.value (omega arith);
-      can = rw (c.loop-count.invariant.layout, c.loop-count.invariant.arcs, c.deref.ensures.value)
+      limit = rw c.deref-in-loop-count.ensures.value (omega arith);
+      left = rw c.deref-in-loop-count.ensures.value (omega arith);
+      can = rw (
+        c.loop-count.invariant.layout,
+        c.loop-count.invariant.arcs,
+        c.deref-in-loop-count.ensures.value,
+      )
           (order_can c.in_ok-order.ensures c.requires.can);
     }
 
 pub ship-requires-clause-state : goal.ship-requires-clause-state
-ship-requires-clause-state g c = rw c.deref.ensures.value c.loop-count.invariant.state
+ship-requires-clause-state g c = rw c.deref-in-loop-count.ensures.value c.loop-count.invariant.state
 
 pub loop-count-preserved : goal.loop-count-preserved
 loop-count-preserved g c = record {
   arcs = c.ship.ensures.arcs ∙ c.loop-count.invariant.arcs;
   layout = c.ship.ensures.layout ∙ c.loop-count.invariant.layout;
-  kept = c.in_ok-shipping.ensures.kept;
-  state = rw c.deref.ensures.value at c.in_ok-shipping.ensures.state;
+  kept = c.in_ok-shipping-2.ensures.kept;
+  state = rw c.deref-in-loop-count.ensures.value at c.in_ok-shipping-2.ensures.state;
 }
 
 pub returns-clause-shipped : goal.returns-clause-shipped

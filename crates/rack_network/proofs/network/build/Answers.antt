@@ -1,4 +1,5 @@
 use Rattle.std.proofs.Common.{ℕ, ◌+◌, length, arith}
+use Rattle.std.proofs.lemmas.Grind.{common_steps}
 use Rattle.rack_network.specs.Build.{feed_arcs}
 use Rattle.rack_network.proofs.Rows.{all_arcs}
 use Rattle.rack_network.proofs.network.build.Goals as goal
@@ -19,3 +20,6 @@ returns-clause-empty c =
     let limit : ℕ = feed_arcs wave + length wave.workers in
     (all_arcs wave c.know_tree.ensures limit (limit + 1) c.add_slots.new.network c.add.new.network
     (omega arith) c.in_ok-add_slots.ensures.built c.in_ok-add.ensures).1
+
+pub returns-clause-most : goal.returns-clause-most
+returns-clause-most c = grind (arith, common_steps)
