@@ -61,11 +61,11 @@ impl Master {
         ensures state { IfOk result (λ m. m.state ≡ opening m.setup) }
         ensures results { IfOk result (λ m. m.results ≡ []) }
     {
-        let lists = empty_lists(alloc, cluster.parts(), limits)?;
         let parts = vec![in alloc; PartState::Pending; cluster.parts()]?;
         let splits = pending_entries(alloc, cluster.splits())?;
         let holders = first_holders(alloc, &cluster)?;
         let workers = WorkerTable::new(alloc, cluster.slots(), cluster.silence())?;
+        let lists = empty_lists(alloc, cluster.parts(), limits)?;
         Ok(Master {
             cluster,
             limits,

@@ -109,9 +109,9 @@ fn judge(
     requires { IsCheckFit rows.now starts.now (length split_prices.now) (length worker_prices.now) }
     ensures { IfOk result (IsJudged (claim_in rows.now starts.now split_prices.now worker_prices.now)) }
 {
-    let problem = build_problem(alloc, rows)?;
-    let plan = plan_of(alloc, starts, rows.workers.len())?;
     let prices = prices_of(alloc, split_prices, worker_prices)?;
+    let plan = plan_of(alloc, starts, rows.workers.len())?;
+    let problem = build_problem(alloc, rows)?;
     Ok(judged(&problem, &plan, &prices))
 }
 

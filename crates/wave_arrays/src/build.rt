@@ -18,11 +18,11 @@ pub fn build_problem(alloc: Global, rows: &WaveRows<'_>) -> Result<Problem, Allo
     requires { AreFit rows.now }
     ensures { IfOk result (λ problem. problem ≡ wave_in rows.now) }
 {
-    let tree = build_tree(alloc, rows)?;
     let workers = build_workers(alloc, rows.workers)?;
-    let barred = build_barred(alloc, rows.barred)?;
     let holders = numbered(alloc, rows.holders)?;
     let splits = build_splits(alloc, &holders, rows.splits)?;
+    let barred = build_barred(alloc, rows.barred)?;
+    let tree = build_tree(alloc, rows)?;
     Problem::within_limits(alloc, tree, workers, &splits, barred)
 }
 

@@ -1,4 +1,5 @@
 use Rattle.std.proofs.Common.{◌≡◌, ◌<◌, ℕ, ap, sym, ◌∙◌, subst, arith, length, min, inl, inr, List}
+use Rattle.std.proofs.lemmas.Grind.{common_steps}
 use Rattle.block_map.specs.Holdings.{holders_of}
 use Rattle.block_map.specs.Copies.{WantsCopy, holdings, live_count}
 use Rattle.block_map.proofs.Orders.{copies_push, copies_skip}
@@ -35,3 +36,6 @@ loop-i-preserved c =
           ] in
           rw w.orders-is (copies_skip h c.loop-i.i orders c.loop-i.invariant none)
     ]
+
+pub returns : goal.returns
+returns c = grind (arith, common_steps)

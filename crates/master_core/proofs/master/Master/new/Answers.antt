@@ -20,7 +20,7 @@ returns-clause-state c =
     c.in_ok-holders.ensures
     (c.in_ok-splits.ensures ∙ ap (map (λ (split : Split). Pending)) c.splits.ensures.value)
     (c.in_ok-parts.ensures.items_if_clones_equal (λ _ e. e)
-    ∙ ap (λ (n : ℕ). replicate n part.Pending) c.parts-2.ensures.count)
+    ∙ ap (λ (n : ℕ). replicate n part.Pending) c.parts.ensures.count)
     c.in_ok-lists.ensures.starts c.in_ok-lists.ensures.sweeps (ap length c.in_ok-lists.ensures.history)
 
 pub invariant_of-result : goal.invariant_of-result
@@ -33,7 +33,7 @@ invariant_of-result c =
         events = omega (arith, c.in_ok-lists.ensures.events);
         attempts = omega (arith, c.in_ok-lists.ensures.attempts);
         sweeps = omega (arith, c.in_ok-lists.ensures.counts);
-        results = omega (arith, c.in_ok-lists.ensures.parts, c.parts.ensures.count);
+        results = omega (arith, c.in_ok-lists.ensures.parts, c.parts-2.ensures.count);
       };
       made = made_from setup c.in_ok-splits.splits.items
           (c.in_ok-splits.ensures ∙ ap (map (λ (split : Split). Pending)) c.splits.ensures.value);
