@@ -3,6 +3,7 @@ use Rattle.std.proofs.Common.{subst, length-append}
 use Rattle.std.specs.Prelude.{fold, vec_capacity}
 use Rattle.std.specs.declared.alloc.Global.{Global}
 use Rattle.std.specs.declared.vec.Vec.{Vec}
+use Rattle.std.proofs.lemmas.Grind.{common_steps}
 use Rattle.std.proofs.lemmas.List.{length-map}
 use Rattle.node_ids.specs.Updates.{updated}
 use Rattle.wave_problem.specs.Assignment.{pairs_from, start_of}
@@ -94,3 +95,9 @@ loop-i-preserved c =
           let front = no_pair_next starts i (omega arith) (sym here ∙ w.in_default.is) in
           rw (w.workers-is, w.splits-is, w.starts-is, sym front) l.invariant
     ]
+
+pub start_one-requires-clause-free : goal.start_one-requires-clause-free
+start_one-requires-clause-free c = grind (arith, common_steps)
+
+pub start_one-requires-clause-room : goal.start_one-requires-clause-room
+start_one-requires-clause-room c = grind (arith, common_steps)
