@@ -22,7 +22,7 @@ use Rattle.clap.specs.declared.parser.matches.ArgMatches.{ArgMatches}
 use Rattle.clap.specs.declared.parser.matches.ArgMatches.TheViews.{out-ArgMatches, out-SubCommand}
 use Rattle.clap.specs.declared.parser.matches.SubCommand.{SubCommand}
 use Rattle.clap.proofs.OnLiterals.{clap_on_literals}
-use Rattle.command_line.specs.Commands.{command_in, faults_in, mrjob, value_in}
+use Rattle.command_line.specs.Commands.{IsOneOf, command_in, faults_in, mrjob, value_in}
 use Rattle.clap.proofs.WalkLemmas.{first_value-rows}
 use Rattle.command_line.proofs.Subcommands.{IsOther, never_help, no_fault}
 
@@ -33,11 +33,6 @@ is_simple_program = refl
 is_free_program : is_simple_and_free mrjob ≡ true
 unfolding clap_on_literals
 is_free_program = refl
-
--- the name is one of these
-abbrev pub IsOneOf : Option Text → List Text → Type 0
-IsOneOf found [] = ⊥
-IsOneOf found (name ∷ names) = (found ≡ Some name) ⊎ IsOneOf found names
 
 same_from_other : (a b : List ℕ) → bytes_eq a b ≡ false → bytes_eq b a ≡ false
 same_from_other a b other = go (bytes_eq b a) (bytes_eq-Decides b a).0

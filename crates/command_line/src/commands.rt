@@ -1,6 +1,6 @@
-ghost use Rattle.std.specs.Prelude.{◌≡◌, false, IfOk};
-ghost use Rattle.clap.specs.Words.{app_of, rule_of};
-ghost use Rattle.command_line.specs.Commands.{check, flag, mrjob, plan, play, run};
+ghost use Rattle.std.specs.Prelude.{◌≡◌, IfOk, false, true};
+ghost use Rattle.clap.specs.Words.{App, app_of, rule_of, with_subcommand};
+ghost use Rattle.command_line.specs.Commands.{check, flag, mrjob, network, plan, play, run};
 
 use clap::{Arg, ArgAction, Command};
 use std::alloc::{AllocError, Global};
@@ -166,58 +166,68 @@ fn flag_of<'a>(alloc: Global, name: &'a str, help: &'a str) -> Arg<'a>
         .action(ArgAction::SetTrue)
 }
 
+fn network_option<'a>(alloc: Global) -> Arg<'a>
+    ensures rule { rule_of result ≡ network }
+    ensures local { result.global ≡ false }
+{
+    Arg::new(alloc, "network")
+        .long("network")
+        .help(NETWORK_HELP)
+        .value_name("NETWORK")
+        .default_value("racks")
+}
+
 fn play_command<'a>(alloc: Global) -> Result<Command<'a>, AllocError>
     ensures { IfOk result (λ command. app_of command ≡ play) }
 {
-    let quiet = flag_of(alloc, "quiet", QUIET_HELP);
     Command::new(alloc, "play")
         .about(PLAY_ABOUT)
         .after_help(PLAY_TEXTS)
-        .arg(quiet)
+        .arg(flag_of(alloc, "quiet", QUIET_HELP))
 }
 
 fn run_command<'a>(alloc: Global) -> Result<Command<'a>, AllocError>
     ensures { IfOk result (λ command. app_of command ≡ run) }
 {
-    let history = flag_of(alloc, "history", HISTORY_HELP);
-    let quiet = flag_of(alloc, "quiet", QUIET_HELP);
     Command::new(alloc, "run")
         .about(RUN_ABOUT)
         .after_help(RUN_TEXTS)
-        .arg(history)?
-        .arg(quiet)
+        .arg(flag_of(alloc, "history", HISTORY_HELP))?
+        .arg(flag_of(alloc, "quiet", QUIET_HELP))
 }
 
 /// The command that plans.
 pub(crate) fn plan_command<'a>(alloc: Global) -> Result<Command<'a>, AllocError>
     ensures { IfOk result (λ command. app_of command ≡ plan) }
 {
-    let prices = flag_of(alloc, "prices", PRICES_HELP);
-    let network = Arg::new(alloc, "network")
-        .long("network")
-        .help(NETWORK_HELP)
-        .value_name("NETWORK")
-        .default_value("racks");
     Command::new(alloc, "plan")
         .about(PLAN_ABOUT)
         .after_help(PLAN_TEXTS)
-        .arg(prices)?
-        .arg(network)
+        .arg(flag_of(alloc, "prices", PRICES_HELP))?
+        .arg(network_option(alloc))
+}
+
+// The commands with one more, where there was memory to make it.
+fn with_command<'a>(
+    commands: Command<'a>,
+    command: Result<Command<'a>, AllocError>,
+) -> Result<Command<'a>, AllocError>
+    ensures { (new : App) → IfOk command.entry (λ made. app_of made ≡ new) → new.top.is_plain ≡ true
+        → IfOk result (λ after. app_of after ≡ with_subcommand (app_of commands.entry) new.top) }
+{
+    commands.subcommand(command?)
 }
 
 /// `mrjob` and its commands.
 pub(crate) fn all_commands<'a>(alloc: Global) -> Result<Command<'a>, AllocError>
     ensures { IfOk result (λ commands. app_of commands ≡ mrjob) }
 {
-    let plan = plan_command(alloc)?;
-    let play = play_command(alloc)?;
-    let run = run_command(alloc)?;
-    Command::new(alloc, "mrjob")
+    let commands = Command::new(alloc, "mrjob")
         .about(ABOUT)
         .after_help(STATUSES)
         .subcommand_required(true)
-        .subcommand(check_command(alloc))?
-        .subcommand(plan)?
-        .subcommand(play)?
-        .subcommand(run)
+        .subcommand(check_command(alloc))?;
+    let commands = with_command(commands, plan_command(alloc))?;
+    let commands = with_command(commands, play_command(alloc))?;
+    with_command(commands, run_command(alloc))
 }

@@ -6,12 +6,12 @@
 //! a variant of `Ask` and an arm of `ask`.
 #![tactic(auto)]
 
-ghost use Rattle.std.specs.Prelude.{◌≡◌, [], Err, IfOk, IsOk, MatchOption, Ok, Some, codes};
+ghost use Rattle.std.specs.Prelude.{◌≡◌, [], Err, IfOk, IsOk, MatchOption, Ok, Some, codes, map};
 ghost use Rattle.clap.specs.Walk.{texts};
 ghost use Rattle.clap.specs.Words.{first_value, found_of, kind_of};
-ghost use Rattle.command_line.specs.Commands.{HasFault, NamesNoNetwork, command_in, faults_in, flag_in};
-ghost use Rattle.command_line.specs.Commands.{command_word};
-ghost use Rattle.command_line.specs.Commands.{RefusesNetwork, is_set, value_in, word_of};
+ghost use Rattle.clap.specs.declared.error.kind.ErrorKind.TheVariants.{InvalidValue};
+ghost use Rattle.command_line.specs.Commands.{AsksBy, HasFault, IsOneOf, NamesNoNetwork, RefusesNetwork, command_in};
+ghost use Rattle.command_line.specs.Commands.{command_word, faults_in, flag_in, is_set, mrjob, value_in, word_of};
 
 pub mod asked;
 mod commands;
@@ -55,27 +55,39 @@ pub fn ask<'a>(alloc: Global, words: &'a [&'a str]) -> Result<Ask, AskError>
             let Some((name, options)) = matches.subcommand() else {
                 unreachable!()
             };
-            match name {
-                "check" => Ok(Ask::Check),
-                "plan" => match network_named(options) {
-                    Some(network) => Ok(Ask::Plan(PlanOptions {
-                        prices: is_given(options, "prices"),
-                        network,
-                    })),
-                    None => Err(unknown_network(alloc)),
-                },
-                "play" => Ok(Ask::Play(PlayOptions {
-                    quiet: is_given(options, "quiet"),
-                })),
-                "run" => Ok(Ask::Run(RunOptions {
-                    history: is_given(options, "history"),
-                    quiet: is_given(options, "quiet"),
-                })),
-                _ => unreachable!(),
-            }
+            ask_by_name(alloc, name, options)
         }
         Err(error) if error.kind() == ErrorKind::OutOfMemory => Err(AskError::Memory),
         Err(error) => Err(AskError::Fault(error)),
+    }
+}
+
+// What is asked for by the command of this name, with its options.
+fn ask_by_name(alloc: Global, name: &str, options: &ArgMatches) -> Result<Ask, AskError>
+    requires { IsOneOf (Some name.now) (map (λ s. s.name) mrjob.subs) }
+    ensures command { IfOk result (λ ask. name.now ≡ command_word ask) }
+    ensures options { IfOk result (AsksBy (first_value (found_of options.now))) }
+    ensures fault { (error : _) → result ≡ Err (AskError.Fault error)
+        → (kind_of error ≡ InvalidValue)
+        × NamesNoNetwork (first_value (found_of options.now) (codes "network")) }
+{
+    match name {
+        "check" => Ok(Ask::Check),
+        "plan" => match network_named(options) {
+            Some(network) => Ok(Ask::Plan(PlanOptions {
+                prices: is_given(options, "prices"),
+                network,
+            })),
+            None => Err(unknown_network(alloc)),
+        },
+        "play" => Ok(Ask::Play(PlayOptions {
+            quiet: is_given(options, "quiet"),
+        })),
+        "run" => Ok(Ask::Run(RunOptions {
+            history: is_given(options, "history"),
+            quiet: is_given(options, "quiet"),
+        })),
+        _ => unreachable!(),
     }
 }
 

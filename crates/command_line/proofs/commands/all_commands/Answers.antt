@@ -1,7 +1,7 @@
-use Rattle.std.proofs.Common.{rules, refl, ◌≡◌}
+use Rattle.std.proofs.Common.{◌≡◌, ◌∙◌, ap, refl, rules}
 use Rattle.std.proofs.lemmas.Result.{IfOk-weaker}
-use Rattle.clap.specs.Words.{app_of}
-use Rattle.command_line.specs.Commands.{check, plan, play, program, run}
+use Rattle.clap.specs.Words.{App, app_of, with_subcommand}
+use Rattle.command_line.specs.Commands.{check, play, plan, program, run}
 use Rattle.command_line.proofs.Build.{added}
 use Rattle.command_line.proofs.commands.all_commands.Goals as goal
 
@@ -9,8 +9,11 @@ pub returns : goal.returns
 returns c =
     let is_program : app_of c.subcommand_required.result ≡ program = search rules in
     let with_check =
-    added _ _ _ program check c.in_ok-subcommand.ensures is_program c.check_command.ensures refl in
-    let with_plan = added _ _ _ _ plan c.in_ok-subcommand-2.ensures with_check c.in_ok-plan.ensures refl in
-    let with_play = added _ _ _ _ play c.in_ok-subcommand-3.ensures with_plan c.in_ok-play.ensures refl in
-    IfOk-weaker c.subcommand-4.result _ _
-    (λ commands adds. added _ _ _ _ run adds with_play c.in_ok-run.ensures refl) c.subcommand-4.ensures
+    added _ _ _ program check c.in_ok-commands.ensures is_program c.check_command.ensures refl in
+    let with_plan = c.in_ok-commands-2.ensures plan c.plan_command.ensures refl
+    ∙ ap (λ (a : App). with_subcommand a plan.top) with_check in
+    let with_play = c.in_ok-commands-3.ensures play c.play_command.ensures refl
+    ∙ ap (λ (a : App). with_subcommand a play.top) with_plan in
+    IfOk-weaker c.with_command-3.result _ _
+    (λ commands is. is ∙ ap (λ (a : App). with_subcommand a run.top) with_play)
+    (c.with_command-3.ensures run c.run_command.ensures refl)
