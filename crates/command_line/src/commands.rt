@@ -1,6 +1,6 @@
 ghost use Rattle.std.specs.Prelude.{◌≡◌, IfOk, false, true};
-ghost use Rattle.clap.specs.Words.{App, app_of, rule_of, with_subcommand};
-ghost use Rattle.command_line.specs.Commands.{check, flag, mrjob, network, plan, play, run};
+ghost use Rattle.clap.specs.Words.{App, app_of, new_app, rule_of, with_subcommand};
+ghost use Rattle.command_line.specs.Commands.{flag, mrjob, network, plan, play, run};
 
 use clap::{Arg, ArgAction, Command};
 use std::alloc::{AllocError, Global};
@@ -147,12 +147,11 @@ It is answered by:
   word dog e
   word the d e";
 
-fn check_command<'a>(alloc: Global) -> Command<'a>
-    ensures { app_of result ≡ check }
+// A command of this name with its texts.
+fn command_of<'a>(alloc: Global, name: &'a str, about: &'a str, texts: &'a str) -> Command<'a>
+    ensures { app_of result ≡ new_app name.now }
 {
-    Command::new(alloc, "check")
-        .about(CHECK_ABOUT)
-        .after_help(CHECK_TEXTS)
+    Command::new(alloc, name).about(about).after_help(texts)
 }
 
 // A flag of this name, which takes no value.
@@ -180,18 +179,13 @@ fn network_option<'a>(alloc: Global) -> Arg<'a>
 fn play_command<'a>(alloc: Global) -> Result<Command<'a>, AllocError>
     ensures { IfOk result (λ command. app_of command ≡ play) }
 {
-    Command::new(alloc, "play")
-        .about(PLAY_ABOUT)
-        .after_help(PLAY_TEXTS)
-        .arg(flag_of(alloc, "quiet", QUIET_HELP))
+    command_of(alloc, "play", PLAY_ABOUT, PLAY_TEXTS).arg(flag_of(alloc, "quiet", QUIET_HELP))
 }
 
 fn run_command<'a>(alloc: Global) -> Result<Command<'a>, AllocError>
     ensures { IfOk result (λ command. app_of command ≡ run) }
 {
-    Command::new(alloc, "run")
-        .about(RUN_ABOUT)
-        .after_help(RUN_TEXTS)
+    command_of(alloc, "run", RUN_ABOUT, RUN_TEXTS)
         .arg(flag_of(alloc, "history", HISTORY_HELP))?
         .arg(flag_of(alloc, "quiet", QUIET_HELP))
 }
@@ -200,9 +194,7 @@ fn run_command<'a>(alloc: Global) -> Result<Command<'a>, AllocError>
 pub(crate) fn plan_command<'a>(alloc: Global) -> Result<Command<'a>, AllocError>
     ensures { IfOk result (λ command. app_of command ≡ plan) }
 {
-    Command::new(alloc, "plan")
-        .about(PLAN_ABOUT)
-        .after_help(PLAN_TEXTS)
+    command_of(alloc, "plan", PLAN_ABOUT, PLAN_TEXTS)
         .arg(flag_of(alloc, "prices", PRICES_HELP))?
         .arg(network_option(alloc))
 }
@@ -222,11 +214,10 @@ fn with_command<'a>(
 pub(crate) fn all_commands<'a>(alloc: Global) -> Result<Command<'a>, AllocError>
     ensures { IfOk result (λ commands. app_of commands ≡ mrjob) }
 {
-    let commands = Command::new(alloc, "mrjob")
-        .about(ABOUT)
-        .after_help(STATUSES)
+    let check = command_of(alloc, "check", CHECK_ABOUT, CHECK_TEXTS);
+    let commands = command_of(alloc, "mrjob", ABOUT, STATUSES)
         .subcommand_required(true)
-        .subcommand(check_command(alloc))?;
+        .subcommand(check)?;
     let commands = with_command(commands, plan_command(alloc))?;
     let commands = with_command(commands, play_command(alloc))?;
     with_command(commands, run_command(alloc))

@@ -9,7 +9,7 @@ pub returns : goal.returns
 returns c =
     let is_program : app_of c.subcommand_required.result ≡ program = search rules in
     let with_check =
-    added _ _ _ program check c.in_ok-commands.ensures is_program c.check_command.ensures refl in
+    added _ _ _ program check c.in_ok-commands.ensures is_program c.command_of-check.ensures refl in
     let with_plan = c.in_ok-commands-2.ensures plan c.plan_command.ensures refl
     ∙ ap (λ (a : App). with_subcommand a plan.top) with_check in
     let with_play = c.in_ok-commands-3.ensures play c.play_command.ensures refl
