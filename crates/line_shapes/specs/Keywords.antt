@@ -1,5 +1,5 @@
 -- The first words of lines.
-use Rattle.std.specs.Prelude.{ℕ, List, codes}
+use Rattle.std.specs.Prelude.{ℕ, Bool, List, codes, false, true}
 use Rattle.line_shapes.specs.declared.keyword.Keyword.{Keyword}
 use Rattle.line_shapes.specs.declared.keyword.Keyword.TheVariants.{Problem, Script, Job, Centre, Rack}
 use Rattle.line_shapes.specs.declared.keyword.Keyword.TheVariants.{Worker, Split, Barred, Dead, Busy, Parts}
@@ -40,3 +40,20 @@ spelling_of Reduce = codes "reduce"
 spelling_of Copies = codes "copies"
 spelling_of Backup = codes "backup"
 spelling_of End = codes "end"
+
+-- few lines begin with it
+abbrev pub is_of_few : Keyword → Bool
+is_of_few Barred = true
+is_of_few Dead = true
+is_of_few Busy = true
+is_of_few Centre = true
+is_of_few Parts = true
+is_of_few Target = true
+is_of_few Silence = true
+is_of_few Begin = true
+is_of_few Plan = true
+is_of_few End = true
+is_of_few Problem = true
+is_of_few Script = true
+is_of_few Job = true
+is_of_few _ = false

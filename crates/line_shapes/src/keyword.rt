@@ -1,6 +1,6 @@
-ghost use Rattle.std.specs.Prelude.{◌≡◌, ◌∷◌, MatchOption, ℕ, List};
+ghost use Rattle.std.specs.Prelude.{◌≡◌, ◌∷◌, MatchOption, ℕ, List, true};
 ghost use Rattle.text_lines.specs.Texts.{Word};
-ghost use Rattle.line_shapes.specs.Keywords.{spelling_of};
+ghost use Rattle.line_shapes.specs.Keywords.{is_of_few, spelling_of};
 ghost use Rattle.line_shapes.specs.Lines.{words_after, words_in};
 ghost use Rattle.line_shapes.specs.declared.keyword.Keyword.{Keyword};
 ghost use Rattle.line_shapes.specs.Places.{more_of, place_at, places_of};
@@ -69,6 +69,16 @@ impl Keyword {
             "reduce" => Some(Keyword::Reduce),
             "backup" => Some(Keyword::Backup),
             "copies" => Some(Keyword::Copies),
+            _ => Keyword::of_few(word),
+        }
+    }
+
+    // The keyword of few lines that is spelled so.
+    fn of_few(word: &str) -> Option<Keyword>
+        ensures { MatchOption result ((k : Keyword) → is_of_few k ≡ true → spelling_of k ≡ word.now → ⊥)
+            (λ k. spelling_of k ≡ word.now) }
+    {
+        match word {
             "barred" => Some(Keyword::Barred),
             "dead" => Some(Keyword::Dead),
             "busy" => Some(Keyword::Busy),
