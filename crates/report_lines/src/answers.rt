@@ -61,7 +61,21 @@ pub fn add_start(
     ensures { OnOk result (string_bytes lines.new
         ≡ string_bytes lines.old ++ started_line splits.now workers.now attempt split worker) }
 {
-    let attempt = attempt.index();
+    add_start_of(lines, splits, workers, attempt.index(), split, worker)
+}
+
+// The line of the attempt of this number, of a split.
+pub(crate) fn add_start_of(
+    lines: &mut String,
+    splits: &NameTable<'_>,
+    workers: &NameTable<'_>,
+    attempt: usize,
+    split: SplitNo,
+    worker: WorkerNo,
+) -> Result<(), AllocError>
+    ensures { OnOk result (string_bytes lines.new
+        ≡ string_bytes lines.old ++ started_line splits.now workers.now attempt split worker) }
+{
     let split = splits.name_or_empty(split.index());
     let worker = workers.name_or_empty(worker.index());
     write!(lines, "start {attempt} {split} {worker}\n")
@@ -96,7 +110,20 @@ pub fn add_reduce(
     ensures { OnOk result (string_bytes lines.new
         ≡ string_bytes lines.old ++ reduce_line workers.now attempt part worker) }
 {
-    let attempt = attempt.index();
+    add_reduce_of(lines, workers, attempt.index(), part, worker)
+}
+
+// The line of the attempt of this number, of a part.
+pub(crate) fn add_reduce_of(
+    lines: &mut String,
+    workers: &NameTable<'_>,
+    attempt: usize,
+    part: PartNo,
+    worker: WorkerNo,
+) -> Result<(), AllocError>
+    ensures { OnOk result (string_bytes lines.new
+        ≡ string_bytes lines.old ++ reduce_line workers.now attempt part worker) }
+{
     let part = part.index();
     let worker = workers.name_or_empty(worker.index());
     write!(lines, "reduce {attempt} {part} {worker}\n")

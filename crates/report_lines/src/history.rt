@@ -2,10 +2,10 @@ ghost use Rattle.std.specs.Prelude.{◌≡◌, ◌≤◌, ◌+◌, ◌++◌, ◌
 ghost use Rattle.std.specs.Prelude.{◌-◌, ◌<◌, slice_get, slice_index_or};
 ghost use Rattle.std.specs.Fmt.{decimal};
 ghost use Rattle.report_lines.specs.History.{attempt_line, event_lines, history_lines, join_line, pair_line};
-ghost use Rattle.report_lines.specs.History.{start_line, start_lines, sweep_line, worker_line};
+ghost use Rattle.report_lines.specs.History.{start_line, start_lines, sweep_line, sweep_lines, worker_line};
 ghost use Rattle.text_lines.specs.Texts.{name_of};
 
-use crate::answers::{add_backup, add_reduce, add_wave};
+use crate::answers::{add_backup, add_reduce, add_reduce_of, add_start_of, add_wave};
 use master_state::{Event, Start, Work};
 use node_ids::{AttemptNo, SplitNo, SplitSet, WorkerNo};
 use std::alloc::AllocError;
@@ -57,10 +57,7 @@ fn add_event(
         Event::Join(worker, set) => add_join(lines, splits, workers, worker, &set),
         Event::Add(split, worker) => add_pair(lines, splits, workers, "add ", split, worker),
         Event::Lose(split, worker) => add_pair(lines, splits, workers, "lose ", split, worker),
-        Event::Sweep(place) => match sweeps.get((place as usize).saturating_sub(1)) {
-            Some(counts) => add_sweep(lines, workers, counts),
-            None => Ok(()),
-        },
+        Event::Sweep(place) => add_sweep_at(lines, workers, sweeps, place),
         Event::ReduceStart(attempt, part, worker) => add_reduce(
             lines, workers, attempt, part, worker,
         ),
@@ -146,6 +143,23 @@ fn add_member(
     write!(lines, " {split}")
 }
 
+// The sweep at a place, from 1, if it was.
+fn add_sweep_at(
+    lines: &mut String,
+    workers: &NameTable<'_>,
+    sweeps: &[[u64; 256]],
+    place: u32,
+) -> Result<(), AllocError>
+    requires { length workers.now ≤ 256 }
+    ensures { OnOk result (string_bytes lines.new
+        ≡ string_bytes lines.old ++ sweep_lines workers.now (slice_get sweeps.now (place - 1))) }
+{
+    match sweeps.get((place as usize).saturating_sub(1)) {
+        Some(counts) => add_sweep(lines, workers, counts),
+        None => Ok(()),
+    }
+}
+
 // The counts that a sweep was handed, of the workers that there are.
 fn add_sweep(
     lines: &mut String,
@@ -213,15 +227,8 @@ fn add_started(
     let Some(Start { work, worker }) = start else {
         return Ok(());
     };
-    let worker = workers.name_or_empty(worker.index());
     match work {
-        Work::Split(split) => {
-            let split = splits.name_or_empty(split.index());
-            write!(lines, "start {attempt} {split} {worker}\n")
-        }
-        Work::Part(part) => {
-            let part = part.index();
-            write!(lines, "reduce {attempt} {part} {worker}\n")
-        }
+        Work::Split(split) => add_start_of(lines, splits, workers, attempt, split, worker),
+        Work::Part(part) => add_reduce_of(lines, workers, attempt, part, worker),
     }
 }

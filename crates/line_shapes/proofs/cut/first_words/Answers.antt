@@ -1,6 +1,7 @@
 use Rattle.std.proofs.Common.{ℕ, List, [], ◌∷◌, ◌++◌, ◌≡◌, ◌∙◌, ◌-◌, ◌+◌, suc, Some, Bor, ap, arith, map, sym}
 use Rattle.std.proofs.Common.{append-nil}
 use Rattle.std.proofs.Common.{append_assoc, rules}
+use Rattle.std.proofs.lemmas.Grind.{common_steps}
 use Rattle.std.proofs.lemmas.List.{map-append}
 use Rattle.text_lines.specs.Texts.{Word}
 use Rattle.line_shapes.specs.Lines.{first_words}
@@ -38,3 +39,6 @@ loop-number-preserved c =
           (sym c.in_ok-push.ensures.items),
       search rules,
     )
+
+pub returns : goal.returns
+returns c = grind (arith, common_steps)
