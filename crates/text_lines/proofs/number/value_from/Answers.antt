@@ -1,5 +1,6 @@
 use Rattle.std.proofs.Common.{ℕ, ◌^◌, ◌<◌, ◌≤◌, arith}
 use Rattle.std.proofs.Math.Nat.{pow-le-pow_right}
+use Rattle.std.proofs.lemmas.Grind.{common_steps}
 use Rattle.text_lines.proofs.number.value_from.Goals as goal
 
 short : (value i : ℕ) → value < 10 ^ i → i ≤ 18 → value < 1000000000000000000
@@ -19,3 +20,6 @@ overflow_add-value c =
     (omega (arith, c.loop-i-test.true, c.if-bytes-gt-SHORT.false)) in
     let byte = c.type_inv.bytes c.loop-i.i in
     omega (arith, small, byte, c.from.ensures)
+
+pub loop-i-preserved : goal.loop-i-preserved
+loop-i-preserved c = grind (arith, common_steps)

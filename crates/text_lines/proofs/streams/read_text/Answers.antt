@@ -1,4 +1,5 @@
 use Rattle.std.proofs.Common.{arith, ap, Ok}
+use Rattle.std.proofs.lemmas.Grind.{common_steps}
 use Rattle.text_lines.specs.Streams.{most_read}
 use Rattle.text_lines.proofs.Pieces.{at_most, ended, full, more}
 use Rattle.text_lines.proofs.streams.read_text.Goals as goal
@@ -24,3 +25,6 @@ returns-in-End-clause-read g c =
     (more _ _ _ _ _ c.loop.invariant.0 c.in_ok-read_piece.ensures.ok)
     (c.in_ok-read_piece.ensures.end (ap Ok c.in-End.is))
     (omega (arith, c.read_piece.ensures.bound))
+
+pub loop-preserved : goal.loop-preserved
+loop-preserved g c = grind (arith, common_steps)
