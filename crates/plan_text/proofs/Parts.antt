@@ -15,9 +15,11 @@ use Rattle.line_shapes.specs.declared.line.KeyedLine.{KeyedLine}
 use Rattle.text_lines.specs.Texts.{Word}
 use Rattle.wave_problem.specs.Wave.{AreHeldWell, AreSmall, IsHeldWell, IsSmall}
 use Rattle.plan_text.specs.Names.{names_in, names_of, said_in, nth_word}
+use Rattle.plan_text.specs.Reading.{MakesProblem}
 use Rattle.plan_text.specs.Tidy.{AreTidy, IsTidySplit, IsTidyStart}
 use Rattle.plan_text.specs.Value.{beside, number_in, declared_split, start_at, declared_starts}
 use Rattle.plan_text.specs.Value.{declared_worker}
+use Rattle.plan_text.specs.declared.built.ProblemText.{ProblemText}
 use Rattle.plan_text.proofs.Numbers.{number_within, numbers_differ}
 use Rattle.plan_text.proofs.Words.{tidy_splits, tidy_starts, tidy_workers}
 
@@ -70,6 +72,19 @@ module _ (rows : List Statement) (tidy : AreTidy rows) where
       ∙ sym (length-map (rows_of Worker rows) (nth_word 0)) in
       All-map (IsHeldWell n) (declared_split workers (names_of Busy rows)) (rows_of Split rows)
       (λ i d lt. held_split n workers (names_of Busy rows) _ size (tidy_splits rows tidy i d lt))
+
+-- as many names as lines
+pub same_splits : (rows : List Statement) (v : ProblemText) → MakesProblem rows v
+    → length v.splits ≡ length v.problem.splits
+same_splits rows v made =
+    ap length made.splits ∙ length-map (rows_of Split rows) (nth_word 0)
+    ∙ sym (ap length made.wave.splits ∙ length-map (rows_of Split rows) _)
+
+pub same_workers : (rows : List Statement) (v : ProblemText) → MakesProblem rows v
+    → length v.workers ≡ length v.problem.workers
+same_workers rows v made =
+    ap length made.workers ∙ length-map (rows_of Worker rows) (nth_word 0)
+    ∙ sym (ap length made.wave.workers ∙ length-map (rows_of Worker rows) _)
 
 -- ---- starts
 

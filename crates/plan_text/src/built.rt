@@ -110,30 +110,29 @@ pub fn build_problem_text<'t>(alloc: Global, rows: &Rows<'t>) -> Result<ProblemT
     ensures splits { IfOk result (λ v. length v.splits ≡ length v.problem.splits) }
     ensures workers { IfOk result (λ v. length v.workers ≡ length v.problem.workers) }
 {
-    let names = names_of_plan(alloc, rows)?;
-    let problem = build_problem(alloc, rows, &names.splits, &names.workers)?;
-    Ok(ProblemText {
-        problem,
-        splits: names.splits,
-        workers: names.workers,
-    })
-}
-
-// The names of splits and workers, by number.
-#[derive(Drop)]
-struct PlanNames<'t> {
-    splits: NameTable<'t>,
-    workers: NameTable<'t>,
-}
-
-fn names_of_plan<'t>(alloc: Global, rows: &Rows<'t>) -> Result<PlanNames<'t>, AllocError>
-    requires { AreTidy rows.now }
-    ensures splits { IfOk result (λ names. names.splits ≡ said_names Split rows.now) }
-    ensures workers { IfOk result (λ names. names.workers ≡ said_names Worker rows.now) }
-{
     let splits = names_of(alloc, rows, Keyword::Split)?;
     let workers = names_of(alloc, rows, Keyword::Worker)?;
-    Ok(PlanNames { splits, workers })
+    name_problem(alloc, rows, splits, workers)
+}
+
+// The problem, with the names of its splits and workers beside it.
+fn name_problem<'t>(
+    alloc: Global,
+    rows: &Rows<'_>,
+    splits: NameTable<'t>,
+    workers: NameTable<'t>,
+) -> Result<ProblemText<'t>, AllocError>
+    requires tidy { AreTidy rows.now }
+    requires splits { splits ≡ said_names Split rows.now }
+    requires workers { workers ≡ said_names Worker rows.now }
+    ensures { IfOk result (MakesProblem rows.now) }
+{
+    let problem = build_problem(alloc, rows, &splits, &workers)?;
+    Ok(ProblemText {
+        problem,
+        splits,
+        workers,
+    })
 }
 
 fn build_problem(
@@ -221,8 +220,22 @@ pub fn build_split_lines(
         (lines_of Split rows.now)) }
 {
     let busy = names_of(alloc, rows, Keyword::Busy)?;
+    lines_of_splits(alloc, rows, workers, &busy)
+}
+
+fn lines_of_splits(
+    alloc: Global,
+    rows: &Rows<'_>,
+    workers: &NameTable<'_>,
+    busy: &NameTable<'_>,
+) -> Result<Vec<SplitLine>, AllocError>
+    requires tidy { AreTidy rows.now }
+    requires workers { workers.now ≡ said_names Worker rows.now }
+    ensures { IfOk result (λ lines. lines.items
+        ≡ map (declared_split workers.now busy.now) (lines_of Split rows.now)) }
+{
     let split_rows = rows_of(alloc, rows, Keyword::Split)?;
-    build_splits(alloc, workers, &busy, &split_rows)
+    build_splits(alloc, workers, busy, &split_rows)
 }
 
 fn build_plan(
@@ -237,9 +250,23 @@ fn build_plan(
     ensures starts { IfOk result (λ plan. plan.starts ≡ declared_starts rows.now) }
     ensures workers { IfOk result (λ plan. plan.workers ≡ length workers.now) }
 {
-    let started = named_rows(alloc, rows, Keyword::Start)?;
-    let starts = build_starts(alloc, splits, workers, &started.names, &started.rows)?;
+    let starts = build_starts(alloc, rows, splits, workers)?;
     Ok(Plan::from_starts(starts, workers.len()))
+}
+
+fn build_starts(
+    alloc: Global,
+    rows: &Rows<'_>,
+    splits: &NameTable<'_>,
+    workers: &NameTable<'_>,
+) -> Result<Vec<Option<WorkerNo>>, AllocError>
+    requires tidy { AreTidy rows.now }
+    requires splits { splits.now ≡ said_names Split rows.now }
+    requires workers { workers.now ≡ said_names Worker rows.now }
+    ensures { IfOk result (λ starts. starts.items ≡ declared_starts rows.now) }
+{
+    let started = named_rows(alloc, rows, Keyword::Start)?;
+    starts_by(alloc, splits, workers, &started.names, &started.rows)
 }
 
 // The rows of a keyword, and the names that they are about, by the rows' numbers.
@@ -276,8 +303,25 @@ fn build_prices(
     ensures { IfOk result (λ prices. prices ≡ prices_in rows.now) }
 {
     let priced = named_rows(alloc, rows, Keyword::Price)?;
-    let split_prices = prices_of(alloc, splits, &priced.names, &priced.rows)?;
-    let worker_prices = prices_of(alloc, workers, &priced.names, &priced.rows)?;
+    prices_by(alloc, splits, workers, &priced.names, &priced.rows)
+}
+
+// The prices of two tables.
+fn prices_by(
+    alloc: Global,
+    splits: &NameTable<'_>,
+    workers: &NameTable<'_>,
+    priced: &NameTable<'_>,
+    rows: &[KeyedLine<'_, '_>],
+) -> Result<Prices, AllocError>
+    requires names { priced.now ≡ names_in (map said_in rows.now) }
+    requires amounts { All IsTidyPrice (map said_in rows.now) }
+    ensures splits { IfOk result (λ prices. prices.splits ≡ map (price_at (map said_in rows.now)) splits.now) }
+    ensures workers { IfOk result (λ prices.
+        prices.workers ≡ map (price_at (map said_in rows.now)) workers.now) }
+{
+    let split_prices = prices_of(alloc, splits, priced, rows)?;
+    let worker_prices = prices_of(alloc, workers, priced, rows)?;
     Ok(Prices::from_lists(split_prices, worker_prices))
 }
 
@@ -313,10 +357,9 @@ pub fn build_tree(
     ensures { IfOk result (λ tree. tree ≡ declared_tree (said_names Centre rows.now) (lines_of Rack rows.now)
         (lines_of Worker rows.now)) }
 {
-    let mut tree = build_racks(alloc, rows)?;
     let racks = names_of(alloc, rows, Keyword::Rack)?;
-    add_workers(&mut tree, &racks, worker_rows)?;
-    Ok(tree)
+    let tree = build_racks(alloc, rows)?;
+    with_workers(tree, &racks, worker_rows)
 }
 
 // The racks, without workers.
@@ -330,23 +373,24 @@ fn build_racks(alloc: Global, rows: &Rows<'_>) -> Result<RackTree, AllocError>
     Ok(tree_with_racks(alloc, &centres, &rack_rows))
 }
 
-fn add_workers(
-    tree: &mut RackTree,
+// The racks with workers in them.
+fn with_workers(
+    mut tree: RackTree,
     racks: &NameTable<'_>,
     rows: &[KeyedLine<'_, '_>],
-) -> Result<(), AllocError>
-    requires same { length tree.old.centre_of ≡ length racks.now }
-    requires none { tree.old.rack_of ≡ [] }
+) -> Result<RackTree, AllocError>
+    requires same { length tree.centre_of ≡ length racks.now }
+    requires none { tree.rack_of ≡ [] }
     requires few_racks { length racks.now ≤ MAX_RACKS }
     requires few_workers { length rows.now ≤ MAX_WORKERS }
     requires known { All (IsTidyWorker racks.now) (map said_in rows.now) }
-    ensures { OnOk result (tree.new
-        ≡ record tree.old { rack_of = map (rack_number racks.now) (map said_in rows.now) }) }
+    ensures { IfOk result (λ whole. whole
+        ≡ record tree { rack_of = map (rack_number racks.now) (map said_in rows.now) }) }
 {
     for row in rows {
-        add_worker(tree, racks, word(row, 1))?;
+        add_worker(&mut tree, racks, word(row, 1))?;
     }
-    Ok(())
+    Ok(tree)
 }
 
 // The centres, or one without a name where there is none, and the racks in them.
@@ -544,7 +588,7 @@ fn bar(set: &mut PairSet, splits: &NameTable<'_>, workers: &NameTable<'_>, row: 
     set.put(split, worker_no(workers, word(row, 1)));
 }
 
-fn build_starts(
+fn starts_by(
     alloc: Global,
     splits: &NameTable<'_>,
     workers: &NameTable<'_>,

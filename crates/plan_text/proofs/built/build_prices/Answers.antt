@@ -6,14 +6,8 @@ use Rattle.plan_text.specs.Tidy.{IsTidyPrice}
 use Rattle.plan_text.proofs.Words.{tidy_prices}
 use Rattle.plan_text.proofs.built.build_prices.Goals as goal
 
-pub prices_of-requires-clause-amounts : goal.prices_of-requires-clause-amounts
-prices_of-requires-clause-amounts c =
+pub prices_by-requires-clause-amounts : goal.prices_by-requires-clause-amounts
+prices_by-requires-clause-amounts c =
     let lines = ap (map said_in) c.deref.ensures.value ∙ c.in_ok-priced.ensures.rows in
-    subst (λ (l : List Statement). All IsTidyPrice l) (sym lines)
-    (tidy_prices c.args.rows.now c.requires.tidy)
-
-pub prices_of-requires-2-clause-amounts : goal.prices_of-requires-2-clause-amounts
-prices_of-requires-2-clause-amounts c =
-    let lines = ap (map said_in) c.deref-2.ensures.value ∙ c.in_ok-priced.ensures.rows in
     subst (λ (l : List Statement). All IsTidyPrice l) (sym lines)
     (tidy_prices c.args.rows.now c.requires.tidy)

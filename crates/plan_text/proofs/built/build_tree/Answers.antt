@@ -8,8 +8,8 @@ use Rattle.plan_text.specs.Tidy.{IsTidyWorker}
 use Rattle.plan_text.proofs.Words.{tidy_workers}
 use Rattle.plan_text.proofs.built.build_tree.Goals as goal
 
-pub add_workers-requires-clause-known : goal.add_workers-requires-clause-known
-add_workers-requires-clause-known c =
+pub with_workers-requires-clause-known : goal.with_workers-requires-clause-known
+with_workers-requires-clause-known c =
     let rows = c.args.rows.now in
     subst (λ (racks : List Word). All (IsTidyWorker racks) (map said_in c.args.worker_rows.now))
     (sym c.in_ok-racks.ensures)

@@ -1,12 +1,14 @@
+use Rattle.std.proofs.lemmas.Result.{IfOk-weaker}
 use Rattle.line_rules.specs.declared.purpose.Purpose.TheVariants.{Planning}
-use Rattle.plan_text.proofs.Read.{all_fit, rows_tidy}
+use Rattle.plan_text.proofs.Read.{all_fit}
+use Rattle.plan_text.proofs.Tidy.{tidy-read}
 use Rattle.plan_text.proofs.reader.read_problem.Goals as goal
 
-pub build_problem_text-requires : goal.build_problem_text-requires
-build_problem_text-requires c =
-    rows_tidy Planning c.args.text.now c.in_ok-known.known c.in_ok-known.ensures.ok c.rows.result.now
-    c.rows.ensures
+pub problem_of-requires : goal.problem_of-requires
+problem_of-requires c = tidy-read Planning c.args.text.now c.in_ok-known.known c.in_ok-known.ensures.ok
 
-pub returns-in-Ok-clause-fit : goal.returns-in-Ok-clause-fit
-returns-in-Ok-clause-fit c =
-    all_fit Planning c.args.text.now c.in_ok-known.known c.in_ok-known.ensures.ok
+pub returns-clause-fit : goal.returns-clause-fit
+returns-clause-fit c =
+    IfOk-weaker c.problem_of.result _ _
+    (λ _ _. all_fit Planning c.args.text.now c.in_ok-known.known c.in_ok-known.ensures.ok)
+    c.problem_of.ensures.ok

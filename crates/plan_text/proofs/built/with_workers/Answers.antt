@@ -3,7 +3,7 @@ use Rattle.std.specs.List.{Contains}
 use Rattle.plan_text.specs.Names.{said_in}
 use Rattle.plan_text.specs.Tidy.{IsTidyWorker}
 use Rattle.plan_text.proofs.Parts.{All-unmap, no_row}
-use Rattle.plan_text.proofs.built.add_workers.Goals as goal
+use Rattle.plan_text.proofs.built.with_workers.Goals as goal
 
 pub add_worker-requires-clause-known : goal.add_worker-requires-clause-known
 add_worker-requires-clause-known c =
