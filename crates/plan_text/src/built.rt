@@ -219,23 +219,9 @@ pub fn build_split_lines(
         ≡ map (declared_split (said_names Worker rows.now) (said_names Busy rows.now))
         (lines_of Split rows.now)) }
 {
-    let busy = names_of(alloc, rows, Keyword::Busy)?;
-    lines_of_splits(alloc, rows, workers, &busy)
-}
-
-fn lines_of_splits(
-    alloc: Global,
-    rows: &Rows<'_>,
-    workers: &NameTable<'_>,
-    busy: &NameTable<'_>,
-) -> Result<Vec<SplitLine>, AllocError>
-    requires tidy { AreTidy rows.now }
-    requires workers { workers.now ≡ said_names Worker rows.now }
-    ensures { IfOk result (λ lines. lines.items
-        ≡ map (declared_split workers.now busy.now) (lines_of Split rows.now)) }
-{
     let split_rows = rows_of(alloc, rows, Keyword::Split)?;
-    build_splits(alloc, workers, busy, &split_rows)
+    let busy = names_of(alloc, rows, Keyword::Busy)?;
+    build_splits(alloc, workers, &busy, &split_rows)
 }
 
 fn build_plan(
@@ -286,9 +272,9 @@ fn named_rows<'r, 't>(
     ensures rows { IfOk result (λ named. map said_in named.rows.items ≡ lines_of keyword rows.now) }
     ensures names { IfOk result (λ named. named.names ≡ said_names keyword rows.now) }
 {
+    let found = rows_of(alloc, rows, keyword)?;
     let names = names_of(alloc, rows, keyword)?;
-    let rows = rows_of(alloc, rows, keyword)?;
-    Ok(NamedRows { names, rows })
+    Ok(NamedRows { names, rows: found })
 }
 
 fn build_prices(
@@ -357,20 +343,41 @@ pub fn build_tree(
     ensures { IfOk result (λ tree. tree ≡ declared_tree (said_names Centre rows.now) (lines_of Rack rows.now)
         (lines_of Worker rows.now)) }
 {
-    let racks = names_of(alloc, rows, Keyword::Rack)?;
-    let tree = build_racks(alloc, rows)?;
-    with_workers(tree, &racks, worker_rows)
+    let racks = named_rows(alloc, rows, Keyword::Rack)?;
+    tree_of(alloc, rows, &racks.names, &racks.rows, worker_rows)
+}
+
+fn tree_of(
+    alloc: Global,
+    rows: &Rows<'_>,
+    racks: &NameTable<'_>,
+    rack_rows: &[KeyedLine<'_, '_>],
+    worker_rows: &[KeyedLine<'_, '_>],
+) -> Result<RackTree, AllocError>
+    requires tidy { AreTidy rows.now }
+    requires names { racks.now ≡ said_names Rack rows.now }
+    requires racks { map said_in rack_rows.now ≡ lines_of Rack rows.now }
+    requires workers { map said_in worker_rows.now ≡ lines_of Worker rows.now }
+    ensures { IfOk result (λ tree. tree ≡ declared_tree (said_names Centre rows.now) (lines_of Rack rows.now)
+        (lines_of Worker rows.now)) }
+{
+    let tree = build_racks(alloc, rows, rack_rows)?;
+    with_workers(tree, racks, worker_rows)
 }
 
 // The racks, without workers.
-fn build_racks(alloc: Global, rows: &Rows<'_>) -> Result<RackTree, AllocError>
-    requires { AreTidy rows.now }
+fn build_racks(
+    alloc: Global,
+    rows: &Rows<'_>,
+    rack_rows: &[KeyedLine<'_, '_>],
+) -> Result<RackTree, AllocError>
+    requires tidy { AreTidy rows.now }
+    requires racks { map said_in rack_rows.now ≡ lines_of Rack rows.now }
     ensures { IfOk result (λ tree.
         tree ≡ declared_tree (said_names Centre rows.now) (lines_of Rack rows.now) []) }
 {
     let centres = names_of(alloc, rows, Keyword::Centre)?;
-    let rack_rows = rows_of(alloc, rows, Keyword::Rack)?;
-    Ok(tree_with_racks(alloc, &centres, &rack_rows))
+    Ok(tree_with_racks(alloc, &centres, rack_rows))
 }
 
 // The racks with workers in them.
