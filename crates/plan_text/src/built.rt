@@ -219,9 +219,24 @@ pub fn build_split_lines(
         ≡ map (declared_split (said_names Worker rows.now) (said_names Busy rows.now))
         (lines_of Split rows.now)) }
 {
-    let split_rows = rows_of(alloc, rows, Keyword::Split)?;
     let busy = names_of(alloc, rows, Keyword::Busy)?;
-    build_splits(alloc, workers, &busy, &split_rows)
+    lines_of_splits(alloc, rows, workers, &busy)
+}
+
+// The same, where it is told which splits are busy.
+fn lines_of_splits(
+    alloc: Global,
+    rows: &Rows<'_>,
+    workers: &NameTable<'_>,
+    busy: &NameTable<'_>,
+) -> Result<Vec<SplitLine>, AllocError>
+    requires tidy { AreTidy rows.now }
+    requires workers { workers.now ≡ said_names Worker rows.now }
+    ensures { IfOk result (λ lines. lines.items
+        ≡ map (declared_split workers.now busy.now) (lines_of Split rows.now)) }
+{
+    let split_rows = rows_of(alloc, rows, Keyword::Split)?;
+    build_splits(alloc, workers, busy, &split_rows)
 }
 
 fn build_plan(
@@ -240,6 +255,7 @@ fn build_plan(
     Ok(Plan::from_starts(starts, workers.len()))
 }
 
+// The worker that each split starts on.
 fn build_starts(
     alloc: Global,
     rows: &Rows<'_>,
@@ -347,6 +363,7 @@ pub fn build_tree(
     tree_of(alloc, rows, &racks.names, &racks.rows, worker_rows)
 }
 
+// The racks with workers in them, where the lines of racks and their names are given.
 fn tree_of(
     alloc: Global,
     rows: &Rows<'_>,

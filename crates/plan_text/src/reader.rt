@@ -20,7 +20,7 @@ pub fn read_plan(alloc: Global, text: &[u8]) -> Result<PlanText<'_>, ReadingErro
     plan_of(alloc, &known)
 }
 
-// What the rows of lines that were read make.
+// What the lines that were read make. The only error is want of memory.
 fn plan_of<'t>(alloc: Global, known: &KnownLines<'t>) -> Result<PlanText<'t>, ReadingError>
     requires { AreTidy known.now.rows }
     ensures ok { IfOk result (MakesPlan known.now.rows) }
@@ -46,6 +46,7 @@ pub fn read_problem(alloc: Global, text: &[u8]) -> Result<ProblemText<'_>, Readi
     problem_of(alloc, &known)
 }
 
+// The same of a text to plan from.
 fn problem_of<'t>(alloc: Global, known: &KnownLines<'t>) -> Result<ProblemText<'t>, ReadingError>
     requires { AreTidy known.now.rows }
     ensures ok { IfOk result (MakesProblem known.now.rows) }

@@ -7,7 +7,7 @@ use Rattle.line_rules.specs.Known.{rows_of}
 use Rattle.plan_text.specs.Names.{said_in}
 use Rattle.plan_text.specs.Tidy.{IsTidySplit}
 use Rattle.plan_text.proofs.Words.{tidy_splits}
-use Rattle.plan_text.proofs.built.build_split_lines.Goals as goal
+use Rattle.plan_text.proofs.built.lines_of_splits.Goals as goal
 
 pub build_splits-requires-clause-known : goal.build_splits-requires-clause-known
 build_splits-requires-clause-known c =
