@@ -5,6 +5,8 @@ ghost use Rattle.line_rules.specs.Known.{rows_of as lines_of};
 ghost use Rattle.plan_text.specs.Names.{names_of as said_names, said_in, nth_word};
 ghost use Rattle.plan_text.specs.Tidy.{AreTidy, IsAtMost};
 ghost use Rattle.plan_text.specs.Value.{declared_split, declared_tree};
+ghost use Rattle.shuffle_reduce.specs.Gather.{values_of};
+ghost use Rattle.script_text.specs.Documents.{texts_of};
 ghost use Rattle.script_text.specs.Heads.{IsFitHead, MakesHead, slots_told};
 ghost use Rattle.script_text.specs.Settings.{setting};
 
@@ -44,13 +46,12 @@ pub fn build_head(alloc: Global, rows: &Rows<'_>) -> Result<Head, AllocError>
 {
     let settings = build_settings(alloc, rows)?;
     let stood = build_workers(alloc, rows)?;
-    let splits = build_splits(alloc, rows)?;
-    let texts = build_texts(alloc, rows)?;
+    let load = build_load(alloc, rows)?;
     Ok(Head {
         tree: stood.tree,
         slots: stood.slots,
-        splits,
-        texts,
+        splits: load.splits,
+        texts: load.texts,
         parts: settings.parts,
         silence: settings.silence,
     })
@@ -92,6 +93,26 @@ fn build_workers(alloc: Global, rows: &Rows<'_>) -> Result<Standing, AllocError>
     let slots = build_slots(alloc, &worker_rows)?;
     let tree = build_tree(alloc, rows, &worker_rows)?;
     Ok(Standing { tree, slots })
+}
+
+// The splits with their first holders, and their texts.
+#[derive(Drop)]
+struct Load {
+    splits: Vec<SplitLine>,
+    texts: Vec<Arc<SplitText>>,
+}
+
+fn build_load(alloc: Global, rows: &Rows<'_>) -> Result<Load, AllocError>
+    requires tidy { AreTidy rows.now }
+    requires few_documents { length (lines_of Doc rows.now) ≤ 65536 }
+    ensures splits { IfOk result (λ load. load.splits.items
+        ≡ map (declared_split (said_names Worker rows.now) (said_names Busy rows.now))
+        (lines_of Split rows.now)) }
+    ensures texts { IfOk result (λ load. values_of load.texts.items ≡ texts_of rows.now) }
+{
+    let splits = build_splits(alloc, rows)?;
+    let texts = build_texts(alloc, rows)?;
+    Ok(Load { splits, texts })
 }
 
 // The splits with their first holders.

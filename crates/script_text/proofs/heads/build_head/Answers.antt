@@ -6,8 +6,8 @@ returns-clause-fit c =
     fit_head c.args.rows.now c.requires.tidy _ (record {
       tree = c.in_ok-stood.ensures.tree;
       slots = c.in_ok-stood.ensures.slots;
-      splits = c.in_ok-splits.ensures;
-      texts = c.in_ok-texts.ensures;
+      splits = c.in_ok-load.ensures.splits;
+      texts = c.in_ok-load.ensures.texts;
       parts = c.in_ok-settings.ensures.parts;
       silence = c.in_ok-settings.ensures.silence;
     })
