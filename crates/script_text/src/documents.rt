@@ -1,9 +1,9 @@
 ghost use Rattle.std.specs.Prelude.{◌≡◌, ◌≢◌, ◌≤◌, ◌<◌, ◌^◌, [], All, AllPairs, IfOk, length, map, replicate};
 ghost use Rattle.std.specs.List.{Contains, enumerate_from};
 ghost use Rattle.shuffle_reduce.specs.Gather.{values_of};
-ghost use Rattle.line_shapes.specs.declared.keyword.Keyword.TheVariants.{Doc};
+ghost use Rattle.line_shapes.specs.declared.keyword.Keyword.TheVariants.{Doc, Split};
 ghost use Rattle.line_rules.specs.Known.{rows_of as lines_of};
-ghost use Rattle.plan_text.specs.Names.{said_in, nth_word};
+ghost use Rattle.plan_text.specs.Names.{names_of as said_names, said_in, nth_word};
 ghost use Rattle.plan_text.specs.Tidy.{AreTidy};
 ghost use Rattle.script_text.specs.Documents.{document_of as document_told, documents_of, text_of_split};
 ghost use Rattle.script_text.specs.Documents.{texts_of};
@@ -24,13 +24,23 @@ pub fn build_texts(alloc: Global, rows: &Rows<'_>) -> Result<Vec<Arc<SplitText>>
     requires few_documents { length (lines_of Doc rows.now) ≤ 65536 }
     ensures { IfOk result (λ texts. values_of texts.items ≡ texts_of rows.now) }
 {
-    let splits = names_of(alloc, rows, Keyword::Split)?;
-    let lines = rows_of(alloc, rows, Keyword::Doc)?;
-    let lists = documents_by_split(alloc, &splits, &lines)?;
+    let lists = build_lists(alloc, rows)?;
     shared_texts(alloc, lists)
 }
 
-// The documents of each split, by number.
+// The documents of each split, by its number.
+fn build_lists(alloc: Global, rows: &Rows<'_>) -> Result<Vec<Vec<Document>>, AllocError>
+    requires tidy { AreTidy rows.now }
+    requires few_documents { length (lines_of Doc rows.now) ≤ 65536 }
+    ensures { IfOk result (λ lists. map (λ list. list.items) lists.items
+        ≡ map (documents_of (lines_of Doc rows.now)) (said_names Split rows.now)) }
+{
+    let lines = rows_of(alloc, rows, Keyword::Doc)?;
+    let splits = names_of(alloc, rows, Keyword::Split)?;
+    documents_by_split(alloc, &splits, &lines)
+}
+
+// The same of these lines and splits.
 fn documents_by_split(
     alloc: Global,
     splits: &NameTable<'_>,

@@ -1,4 +1,5 @@
 use Rattle.std.proofs.Common.{◌≤◌, arith, subst, sym}
+use Rattle.std.proofs.lemmas.Grind.{common_steps}
 use Rattle.text_lines.specs.Texts.{IsNumber, Word, number_of}
 use Rattle.script_text.proofs.Lines.{slots_at}
 use Rattle.script_text.proofs.heads.build_slots.Goals as goal
@@ -21,3 +22,9 @@ overflow_cast-number c =
     let small : number_of c.word.result.now ≤ 16 =
     subst (λ (w : Word). number_of w ≤ 16) (sym c.word.ensures) slots.most in
     omega (arith, c.number.ensures)
+
+pub loop-row-preserved : goal.loop-row-preserved
+loop-row-preserved c = grind (arith, common_steps)
+
+pub returns : goal.returns
+returns c = grind (arith, common_steps)

@@ -7,7 +7,7 @@ use Rattle.line_rules.specs.Known.{rows_of}
 use Rattle.plan_text.specs.Names.{said_in, nth_word}
 use Rattle.plan_text.proofs.Tidy.{names_differ}
 use Rattle.script_text.proofs.Lines.{tidy_docs}
-use Rattle.script_text.proofs.documents.build_texts.Goals as goal
+use Rattle.script_text.proofs.documents.build_lists.Goals as goal
 
 pub documents_by_split-requires-clause-differ : goal.documents_by_split-requires-clause-differ
 documents_by_split-requires-clause-differ c =
