@@ -1,9 +1,8 @@
 -- What is said of a plan of the problem that was read is said of the text, and a check of what is written
 -- certifies it.
 use Rattle.std.proofs.Common.{ℕ, zero, suc, List, [], ◌∷◌, ◌++◌, Option, Bool, ◌≡◌, ◌<◌, ◌≤◌, ◌^◌, ◌∙◌}
-use Rattle.std.proofs.Common.{length, slice_index, sym, subst, arith, true, false}
+use Rattle.std.proofs.Common.{length, slice_index, sym, subst, arith}
 use Rattle.std.specs.List.{All}
-use Rattle.std.proofs.lemmas.List.{append-nil}
 use Rattle.std.proofs.lemmas.List.Elements.{All-cons, All-nil}
 use Rattle.wave_problem.specs.Wave.{Wave, reward}
 use Rattle.wave_problem.specs.Assignment.{IsBest, pairs_of}
@@ -14,7 +13,7 @@ use Rattle.price_certificate.specs.PriceList.{PriceList}
 use Rattle.text_lines.specs.Texts.{Word}
 use Rattle.line_rules.specs.declared.purpose.Purpose.TheVariants.{Planning}
 use Rattle.plan_text.specs.Reading.{HasFitLines, IsProblemOf}
-use Rattle.plan_text.specs.Report.{certified_line, price_lines, start_lines, wave_line}
+use Rattle.plan_text.specs.Report.{certified_line, start_lines, wave_line}
 use Rattle.plan_text.specs.declared.built.ProblemText.{ProblemText}
 use Rattle.written_plan.specs.Joined.{IsWritable, ReadsBack}
 use Rattle.written_plan.proofs.ReadBack.{written_plan_reads_back}
@@ -82,22 +81,6 @@ pub front_of : (ss ws : List Word) (c : Claim) (count cost : ℕ) (starts : List
     → lines ≡ wave_line (plan_count c) (plan_cost c) ++ start_lines ss ws c.starts
 front_of ss ws c count cost starts lines as_starts as_count as_cost said =
     said ∙ (λ i. wave_line (as_count i) (as_cost i) ++ start_lines ss ws (as_starts i))
-
--- prices that were asked for follow
-pub with_asked : (asked : Bool) (ss ws : List Word) (prices made : PriceList) (front old new : List ℕ)
-    → asked ≡ true
-    → old ≡ front → prices ≡ made → new ≡ old ++ price_lines ss ws prices
-    → new ≡ front ++ asked_prices asked ss ws made
-with_asked true ss ws prices made front old new is_asked before as_made said =
-    said ∙ (λ i. before i ++ price_lines ss ws (as_made i))
-with_asked false ss ws prices made front old new is_asked before as_made said = cc
-
--- and others do not
-pub without_asked : (asked : Bool) (ss ws : List Word) (made : PriceList) (front old : List ℕ) → asked ≡ false
-    → old ≡ front
-    → old ≡ front ++ asked_prices asked ss ws made
-without_asked false ss ws made front old is_not before = before ∙ sym (append-nil front)
-without_asked true ss ws made front old is_not before = cc
 
 -- the lines of its count, cost and starts, and then those of its prices if they are asked for
 pub plans_problem : (with_prices : Bool) (ss ws : List Word) (c : Claim) (plan_workers : ℕ) (lines : List ℕ)

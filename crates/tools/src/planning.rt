@@ -1,9 +1,12 @@
-ghost use Rattle.std.specs.Prelude.{◌≡◌, ◌≢◌, Err, IfOk, length, string_bytes};
+ghost use Rattle.std.specs.Prelude.{◌≡◌, ◌≢◌, ◌≤◌, ◌++◌, Err, IfOk, Ok, OnOk, length, string_bytes};
+ghost use Rattle.rack_tree.specs.declared.TheConstants.{MAX_WORKERS};
+ghost use Rattle.wave_problem.specs.declared.TheConstants.{MAX_SPLITS};
 ghost use Rattle.wave_problem.specs.Assignment.{IsBest, pairs_of, total};
 ghost use Rattle.price_certificate.specs.Certificate.{Certifies, HasOneSize, claim};
 ghost use Rattle.wave_planner.specs.Planned.{IsMadeOver};
 ghost use Rattle.text_reading.specs.Running.{HasRun, NoText, AnyLines};
-ghost use Rattle.tools.specs.PlanAnswer.{PlanAnswer, PlansProblem};
+ghost use Rattle.plan_text.specs.Report.{start_lines, wave_line};
+ghost use Rattle.tools.specs.PlanAnswer.{PlanAnswer, PlansProblem, asked_prices};
 ghost use Rattle.tools.specs.OneAnswer.{one_plan_answer};
 
 use crate::ending::PlanEnd;
@@ -11,6 +14,7 @@ use command_line::asked::PlanOptions;
 use line_rules::fault_answer;
 use plan_text::plan_report::{add_prices, planned};
 use plan_text::{ProblemText, read_problem};
+use price_certificate::Prices;
 use std::alloc::{AllocError, Global};
 use std::io::{Read, Write};
 use text_lines::TextFault;
@@ -55,13 +59,30 @@ impl Command for Planner {
         text: &[u8],
     ) -> Result<(String, Result<PlanEnd, TextFault>), NoAnswer> {
         match read_problem(alloc, text) {
-            Ok(read) => Ok((plan_lines(alloc, &read, self.0)?, Ok(PlanEnd::Planned))),
+            Ok(read) => planned_answer(alloc, &read, self.0),
             Err(error) => {
                 let (line, fault) = fault_answer(alloc, error)?;
                 Ok((line, Err(fault)))
             }
         }
     }
+}
+
+// The answer to a problem that was read.
+fn planned_answer(
+    alloc: Global,
+    read: &ProblemText<'_>,
+    options: PlanOptions,
+) -> Result<(String, Result<PlanEnd, TextFault>), NoAnswer>
+    requires splits { length read.now.splits ≡ length read.now.problem.splits }
+    requires workers { length read.now.workers ≡ length read.now.problem.workers }
+    ensures answer { IfOk result (λ given. (given.1 ≡ Ok PlanEnd.Planned)
+        × PlansProblem read.now.problem read.now.splits read.now.workers options.prices
+        (string_bytes given.0)) }
+    ensures never_full { result ≢ Err NoAnswer.HistoryFull }
+{
+    let lines = plan_lines(alloc, read, options)?;
+    Ok((lines, Ok(PlanEnd::Planned)))
 }
 
 // The lines on a best plan of the problem that was read.
@@ -78,6 +99,26 @@ fn plan_lines(
     // (what these readers promise: there are few workers, and no price is past what can be read back)
     let _limits = (read.problem.workers(), read.problem.reward());
     let best = best_plan(alloc, &read.problem, options.network)?;
+    lines_on(alloc, read, &best, options.prices)
+}
+
+// The lines on this plan, with the prices if they are asked for.
+fn lines_on(
+    alloc: Global,
+    read: &ProblemText<'_>,
+    best: &Planned,
+    asked: bool,
+) -> Result<String, AllocError>
+    requires starts { length read.now.splits ≡ length best.now.plan.starts }
+    requires splits { length read.now.splits ≡ length best.now.prices.splits }
+    requires workers { length read.now.workers ≡ length best.now.prices.workers }
+    requires few_splits { length read.now.splits ≤ MAX_SPLITS }
+    requires few_workers { length read.now.workers ≤ MAX_WORKERS }
+    ensures { IfOk result (λ lines. string_bytes lines
+        ≡ (wave_line best.now.certified.count best.now.certified.cost
+        ++ start_lines read.now.splits read.now.workers best.now.plan.starts)
+        ++ asked_prices asked read.now.splits read.now.workers best.now.prices) }
+{
     let said = best.certified();
     let mut lines = planned(
         alloc,
@@ -87,10 +128,28 @@ fn plan_lines(
         said.count,
         said.cost,
     )?;
-    if options.prices {
-        add_prices(&mut lines, &read.splits, &read.workers, best.prices())?;
-    }
+    add_asked(&mut lines, read, best.prices(), asked)?;
     Ok(lines)
+}
+
+// Appends the prices, if they are asked for.
+fn add_asked(
+    lines: &mut String,
+    read: &ProblemText<'_>,
+    prices: &Prices,
+    asked: bool,
+) -> Result<(), AllocError>
+    requires splits { length read.now.splits ≡ length prices.now.splits }
+    requires workers { length read.now.workers ≡ length prices.now.workers }
+    requires few_splits { length read.now.splits ≤ MAX_SPLITS }
+    requires few_workers { length read.now.workers ≤ MAX_WORKERS }
+    ensures { OnOk result (string_bytes lines.new
+        ≡ string_bytes lines.old ++ asked_prices asked read.now.splits read.now.workers prices.now) }
+{
+    if asked {
+        add_prices(lines, &read.splits, &read.workers, prices)?;
+    }
+    Ok(())
 }
 
 // A best plan of the problem, made over this network.

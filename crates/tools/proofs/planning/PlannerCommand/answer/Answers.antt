@@ -1,14 +1,23 @@
-use Rattle.std.proofs.Common.{string_bytes}
+use Rattle.std.proofs.Common.{string_bytes, subst, sym}
+use Rattle.std.proofs.lemmas.Result.{IfOk-weaker}
+use Rattle.std.specs.declared.result.Result.{Result}
+use Rattle.text_lines.specs.declared.fault.TextFault.{TextFault}
 use Rattle.line_rules.specs.declared.purpose.Purpose.TheVariants.{Planning}
+use Rattle.tools.specs.PlanAnswer.{PlanAnswer}
+use Rattle.tools.specs.declared.ending.PlanEnd.{PlanEnd}
 use Rattle.tools.proofs.BestPlans.{plans_read}
 use Rattle.line_rules.proofs.LeastFault.{tells_least}
 use Rattle.tools.proofs.planning.PlannerCommand.answer.Goals as goal
 
-pub returns-in_ok-plan_lines-in-Ok-clause-answers : goal.returns-in_ok-plan_lines-in-Ok-clause-answers
-returns-in_ok-plan_lines-in-Ok-clause-answers c =
-    plans_read c.args.text.now c.in-Ok.read c.args.self.now.0.prices
-    (string_bytes c.in_ok-plan_lines-in-Ok.field-0)
-    c.in-Ok.ensures.ok c.in-Ok.ensures.fit c.in_ok-plan_lines-in-Ok.ensures
+pub returns-in-Ok-clause-answers : goal.returns-in-Ok-clause-answers
+returns-in-Ok-clause-answers c =
+    let text = c.args.text.now in
+    let prices = c.args.self.now.0.prices in
+    IfOk-weaker c.planned_answer.result _ _
+    (λ given is. subst (λ (end : Result PlanEnd TextFault). PlanAnswer text prices end (string_bytes given.0))
+    (sym is.0)
+    (plans_read text c.in-Ok.read prices (string_bytes given.0) c.in-Ok.ensures.ok c.in-Ok.ensures.fit is.1))
+    c.planned_answer.ensures.answer
 
 pub returns-in_ok-line-in-Err-clause-answers : goal.returns-in_ok-line-in-Err-clause-answers
 returns-in_ok-line-in-Err-clause-answers c =
