@@ -79,8 +79,8 @@ impl<'t> KnownLines<'t> {
             MOST_ROOM.min(bytes / BYTES_OF_A_LINE),
             MOST_ROOM.min(bytes / BYTES_OF_A_WORD),
         );
-        let rows = Rows::with_room(alloc, lines, words)?;
         let commands = LineList::with_room(alloc, 0, 0)?;
+        let rows = Rows::with_room(alloc, lines, words)?;
         Ok(KnownLines {
             purpose,
             version: Version::One,

@@ -39,10 +39,10 @@ impl<'t> Rows<'t> {
     pub fn with_room(alloc: Global, lines: usize, words: usize) -> Result<Rows<'t>, AllocError>
         ensures { IfOk result (λ rows. rows ≡ []) }
     {
+        let list = LineList::with_room(alloc, lines, words)?;
         let firsts = IndexMap::with_capacity(alloc, lines)?;
-        let lines = LineList::with_room(alloc, lines, words)?;
         Ok(Rows {
-            lines,
+            lines: list,
             firsts,
             others: IndexSet::new(alloc),
         })

@@ -1,4 +1,5 @@
-use Rattle.std.proofs.Common.{subst}
+use Rattle.std.proofs.Common.{arith, subst}
+use Rattle.std.proofs.lemmas.Grind.{common_steps}
 use Rattle.line_shapes.specs.Lines.{statement_of}
 use Rattle.line_rules.specs.Entering.{Key, key_of}
 use Rattle.line_rules.specs.Rows.{HasKeyMore}
@@ -16,3 +17,6 @@ invariant_of-self-in-Ok c =
     c.in-Ok.ensures.ok in
     tabled_more c.self.inside.lines c.push.new.self said firsts _ others _ c.in_ok-push.ensures.ok
     c.self.invariant more
+
+pub invariant_of-self-in-Err : goal.invariant_of-self-in-Err
+invariant_of-self-in-Err c = grind (arith, common_steps)
