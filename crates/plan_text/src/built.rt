@@ -318,7 +318,8 @@ fn prices_by(
 ) -> Result<Prices, AllocError>
     requires names { priced.now ≡ names_in (map said_in rows.now) }
     requires amounts { All IsTidyPrice (map said_in rows.now) }
-    ensures splits { IfOk result (λ prices. prices.splits ≡ map (price_at (map said_in rows.now)) splits.now) }
+    ensures splits { IfOk result (λ prices.
+        prices.splits ≡ map (price_at (map said_in rows.now)) splits.now) }
     ensures workers { IfOk result (λ prices.
         prices.workers ≡ map (price_at (map said_in rows.now)) workers.now) }
 {
@@ -612,6 +613,7 @@ fn bar(set: &mut PairSet, splits: &NameTable<'_>, workers: &NameTable<'_>, row: 
     set.put(split, worker_no(workers, word(row, 1)));
 }
 
+// The worker that each split starts on, by the lines of starts and the names that they are about.
 fn starts_by(
     alloc: Global,
     splits: &NameTable<'_>,

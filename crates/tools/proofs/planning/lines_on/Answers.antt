@@ -8,6 +8,7 @@ returns c =
     let v = c.args.read.now in
     let said = c.certified-said.ensures.certified in
     let front = c.in_ok-lines.ensures
-    ∙ (λ i. wave_line (said i).count (said i).cost ++ start_lines v.splits v.workers (c.plan.ensures i).starts) in
+    ∙ (λ i. wave_line (said i).count (said i).cost
+    ++ start_lines v.splits v.workers (c.plan.ensures i).starts) in
     c.in_ok-add_asked.ensures
     ∙ (λ i. front i ++ asked_prices c.args.asked v.splits v.workers (c.prices.ensures i))

@@ -11,8 +11,8 @@ returns c =
     let asked = c.args.options.prices in
     let best = c.in_ok-best.best in
     let made = claim v.problem best.plan.starts best.prices in
-    let front = front_of v.splits v.workers made best.certified.count best.certified.cost best.plan.starts _ refl
-    c.in_ok-best.ensures.count c.in_ok-best.ensures.cost refl in
+    let front = front_of v.splits v.workers made best.certified.count best.certified.cost best.plan.starts _
+    refl c.in_ok-best.ensures.count c.in_ok-best.ensures.cost refl in
     IfOk-weaker c.lines_on.result _ _
     (λ lines said. plans_problem asked v.splits v.workers made _ _
     c.requires.splits c.requires.workers c.in_ok-best.ensures.sizes c.in_ok-best.ensures.certifies
