@@ -292,8 +292,10 @@ impl<L: Ledger> SharedMaster<L> {
     ) -> Result<Option<SharedWave>, WaveError>
         ensures { TurnsAs self.now hand.old result hand.new }
     {
-        let problem = self.lock.lock(rt).problem(alloc, self.sizes, hand)?;
-        let solved = solve(alloc, &problem)?;
+        let solved = {
+            let problem = self.lock.lock(rt).problem(alloc, self.sizes, hand)?;
+            solve(alloc, &problem)?
+        };
         between.solved(turn);
         let committed = self.lock.lock(rt).commit(alloc, self.sizes, hand, solved);
         match committed {

@@ -1,4 +1,5 @@
 use Rattle.std.proofs.Common.{length, ap, arith}
+use Rattle.std.proofs.lemmas.Grind.{common_steps}
 use Rattle.crossbeam_queue.specs.Passes.{view}
 use Rattle.lane_queue.specs.declared.view.View.{View}
 use Rattle.lane_queue.proofs.Keeps.{takes, totals}
@@ -27,3 +28,9 @@ returns-clause-totals g c =
       c.loop.left.ok.0,
       c.loop.auto.counter-end,
     )) c.len_as-count.ensures.rule.1 c.learn_as.ensures.rule
+
+pub returns-in-None-clause-totals : goal.returns-in-None-clause-totals
+returns-in-None-clause-totals g c = grind (arith, common_steps)
+
+pub loop-preserved : goal.loop-preserved
+loop-preserved g c = grind (arith, common_steps)

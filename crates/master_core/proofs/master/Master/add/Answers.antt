@@ -1,4 +1,5 @@
-use Rattle.std.proofs.Common.{◌∙◌, refl, sym}
+use Rattle.std.proofs.Common.{◌∙◌, refl, sym, arith}
+use Rattle.std.proofs.lemmas.Grind.{common_steps}
 use Rattle.master_state.specs.Refusals.{Add}
 use Rattle.master_core.proofs.Accepting.{follows, master_of}
 use Rattle.master_core.proofs.master.Master.add.Goals as goal
@@ -11,3 +12,6 @@ invariant_of-self c =
     ) (sym c.why_not_add.ensures ∙ c.in_default.is) (rw c.record_event.ensures.capacity refl)
     c.record_event.ensures.items c.record_event.ensures.place (rw c.add_holder.ensures refl) refl
     c.self.invariant.made)
+
+pub returns : goal.returns
+returns c = grind (arith, common_steps)

@@ -1,4 +1,5 @@
-use Rattle.std.proofs.Common.{ℕ, [], ◌∷◌, ◌++◌, refl, sym, ap, ◌∙◌}
+use Rattle.std.proofs.Common.{ℕ, [], ◌∷◌, ◌++◌, refl, sym, ap, ◌∙◌, arith}
+use Rattle.std.proofs.lemmas.Grind.{common_steps}
 use Rattle.master_state.specs.declared.events.Event.TheVariants as events
 use Rattle.master_state.specs.declared.states.Attempt.{Attempt}
 use Rattle.master_state.specs.States.{next_attempt}
@@ -47,3 +48,9 @@ returns-clause-answer c = (after c).accepted
 pub returns-clause-attempt : goal.returns-clause-attempt
 returns-clause-attempt c =
     c.record_start-number.ensures.number ∙ ap (λ (i : Job). next_attempt i.state) c.self.view_is
+
+pub run_attempt-requires : goal.run_attempt-requires
+run_attempt-requires c = grind (arith, common_steps)
+
+pub take_slot-requires-clause-known : goal.take_slot-requires-clause-known
+take_slot-requires-clause-known c = grind (arith, common_steps)

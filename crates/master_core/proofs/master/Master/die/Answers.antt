@@ -1,4 +1,5 @@
-use Rattle.std.proofs.Common.{◌∙◌, refl, sym}
+use Rattle.std.proofs.Common.{◌∙◌, refl, sym, arith}
+use Rattle.std.proofs.lemmas.Grind.{common_steps}
 use Rattle.master_state.specs.Refusals.{Die}
 use Rattle.master_core.specs.Inside.{setup_of, state_of}
 use Rattle.master_core.proofs.Accepting.{follows, master_of}
@@ -10,3 +11,9 @@ invariant_of-self c =
     (sym c.why_not_die.ensures ∙ c.in_default.is) (rw c.record_event.ensures.capacity refl)
     c.record_event.ensures.items c.record_event.ensures.place (c.bury.ensures.died (state_of c.self.inside)
     refl refl refl refl) refl (c.bury.ensures.made (setup_of c.self.inside) c.self.invariant.made))
+
+pub bury-requires : goal.bury-requires
+bury-requires c = grind (arith, common_steps)
+
+pub returns : goal.returns
+returns c = grind (arith, common_steps)

@@ -1,5 +1,6 @@
-use Rattle.std.proofs.Common.{map, refl, sym, ap, ◌∙◌, subst}
+use Rattle.std.proofs.Common.{map, refl, sym, ap, ◌∙◌, subst, arith}
 use Rattle.std.specs.Prelude.{◌↔◌, IsTrue}
+use Rattle.std.proofs.lemmas.Grind.{common_steps}
 use Rattle.master_state.specs.Steps.{problem_of, worker_line}
 use Rattle.master_state.specs.Jobs.{Job, IsReady}
 use Rattle.master_core.specs.Inside.{setup_of, state_of}
@@ -12,3 +13,6 @@ returns c =
     (c.may_any_start.ensures (problem_of (setup_of m) (state_of m))
     (ap (map worker_line) (sym c.workers-workers.ensures.value) ∙ sym c.worker_line_table-lines.ensures)
     (sym c.bars.ensures) (rw (c.splits.ensures.value, c.deref.ensures.value) refl))
+
+pub may_any_start-requires-clause-known : goal.may_any_start-requires-clause-known
+may_any_start-requires-clause-known c = grind (arith, common_steps)

@@ -1,4 +1,5 @@
-use Rattle.std.proofs.Common.{◌∙◌, refl, sym}
+use Rattle.std.proofs.Common.{◌∙◌, refl, sym, arith}
+use Rattle.std.proofs.lemmas.Grind.{common_steps}
 use Rattle.master_state.specs.Refusals.{Join}
 use Rattle.master_core.proofs.Accepting.{follows, master_of}
 use Rattle.master_core.proofs.master.Master.join.Goals as goal
@@ -9,3 +10,9 @@ invariant_of-self c =
     (sym c.why_not_join.ensures ∙ c.in_default.is) (rw c.record_event.ensures.capacity refl)
     c.record_event.ensures.items c.record_event.ensures.place (rw (c.join.ensures, c.add_to_all.ensures) refl)
     refl c.self.invariant.made)
+
+pub join-requires : goal.join-requires
+join-requires c = grind (arith, common_steps)
+
+pub returns : goal.returns
+returns c = grind (arith, common_steps)
