@@ -1,11 +1,15 @@
-use Rattle.std.proofs.Common.{◌≡◌, ◌∙◌, Ok, Option, Some, ap, codes, inr, refl, subst, sym}
+use Rattle.std.proofs.Common.{◌≡◌, ◌∙◌, Ok, Option, Some, ap, codes, inl, inr, refl, rules, subst, sym}
 use Rattle.std.proofs.lemmas.Result.{IfOk-weaker}
 use Rattle.std.specs.Prelude.{IfOk, map}
-use Rattle.clap.specs.Walk.{Text}
+use Rattle.clap.specs.Walk.{Text, texts}
+use Rattle.clap.specs.Kinds.{IsAmong}
+use Rattle.clap.specs.Words.{kind_of}
+use Rattle.clap.specs.declared.error.Error.{Error}
+use Rattle.clap.specs.declared.error.kind.ErrorKind.TheVariants.{OutOfMemory}
 use Rattle.clap.specs.Matches.{first_value, found_of}
 use Rattle.command_line.specs.declared.asked.Ask.{Ask}
-use Rattle.command_line.specs.Commands.{AsksBy, IsOneOf, NamesNoNetwork, command_word, is_set, mrjob, value_in}
-use Rattle.command_line.proofs.Mrjob.{found_named, found_value, named_in, unfaulted}
+use Rattle.command_line.specs.Commands.{AsksBy, IsOneOf, NamesNoNetwork, faults_in, is_set, mrjob, value_in}
+use Rattle.command_line.proofs.Mrjob.{faulted, found_named, found_value, named_in, unfaulted}
 use Rattle.command_line.proofs.ask.Goals as goal
 
 pub ask_by_name-requires : goal.ask_by_name-requires
@@ -36,3 +40,10 @@ returns-in-Some c =
           let none = c.ask_by_name.ensures.fault error is in
           inr (none.0, subst NamesNoNetwork (found (codes "network")) none.1);
     }
+
+pub returns-in-Err-2-clause-fault : goal.returns-in-Err-2-clause-fault
+returns-in-Err-2-clause-fault c error same =
+    let is : c.in-Err-2.error ≡ error = cc in
+    let other : kind_of c.in-Err-2.error ≡ OutOfMemory → ⊥ = λ memory. search rules in
+    inl (subst (λ (e : Error). IsAmong (kind_of e) (faults_in (texts c.args.words.now))) is
+    (faulted c.in-Ok.commands _ c.in-Ok.ensures c.in-Err-2.error c.in-Err-2.ensures.kinds other))
