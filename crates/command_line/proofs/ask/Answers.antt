@@ -1,4 +1,4 @@
-use Rattle.std.proofs.Common.{◌≡◌, ◌∙◌, Ok, Option, Some, ap, codes, inl, inr, refl, rules, subst, sym}
+use Rattle.std.proofs.Common.{◌≡◌, ◌∙◌, None, Ok, Option, Some, ap, codes, arith, inl, inr, refl, rules, subst, sym}
 use Rattle.std.proofs.lemmas.Result.{IfOk-weaker}
 use Rattle.std.specs.Prelude.{IfOk, map}
 use Rattle.clap.specs.Walk.{Text, texts}
@@ -47,3 +47,11 @@ returns-in-Err-2-clause-fault c error same =
     let other : kind_of c.in-Err-2.error ≡ OutOfMemory → ⊥ = λ memory. search rules in
     inl (subst (λ (e : Error). IsAmong (kind_of e) (faults_in (texts c.args.words.now))) is
     (faulted c.in-Ok.commands _ c.in-Ok.ensures c.in-Err-2.error c.in-Err-2.ensures.kinds other))
+
+pub unreachable-requires : goal.unreachable-requires
+unreachable-requires c =
+    let met = found_named c.in-Ok.commands _ c.in-Ok.ensures c.in-Ok-try_get_matches_from.matches
+    c.in-Ok-try_get_matches_from.ensures.matches c.in-Ok-try_get_matches_from.ensures.kinds in
+    let none = c.in_default-subcommand.ensures.name in
+    let no : IsOneOf None (map (λ s. s.name) mrjob.subs) = rw (sym none) at met in
+    grind arith
