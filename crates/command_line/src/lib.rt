@@ -3,15 +3,16 @@
 //! The words are parsed by `clap` and are handed in, the program's name first, so that nothing here
 //! reads the process's own state or prints. Above it stands `main`, which prints the text of a fault
 //! and exits with its status. The table of commands is `commands.rt`: a command more is a function there,
-//! a variant of `Ask` and an arm of `ask`.
+//! a variant of `Ask` and an arm of `ask_by_name`.
 #![tactic(auto)]
 
 ghost use Rattle.std.specs.Prelude.{◌≡◌, [], Err, IfOk, IsOk, MatchOption, Ok, Some, codes, map};
 ghost use Rattle.clap.specs.Walk.{texts};
 ghost use Rattle.clap.specs.Words.{first_value, found_of, kind_of};
 ghost use Rattle.clap.specs.declared.error.kind.ErrorKind.TheVariants.{InvalidValue};
-ghost use Rattle.command_line.specs.Commands.{AsksBy, HasFault, IsOneOf, NamesNoNetwork, RefusesNetwork, command_in};
-ghost use Rattle.command_line.specs.Commands.{command_word, faults_in, flag_in, is_set, mrjob, value_in, word_of};
+ghost use Rattle.command_line.specs.Commands.{AsksBy, HasFault, IsOneOf, NamesNoNetwork, RefusesNetwork};
+ghost use Rattle.command_line.specs.Commands.{command_in, command_word, faults_in, flag_in, is_set, mrjob};
+ghost use Rattle.command_line.specs.Commands.{value_in, word_of};
 
 pub mod asked;
 mod commands;
