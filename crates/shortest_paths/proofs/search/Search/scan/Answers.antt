@@ -11,6 +11,30 @@ use Rattle.shortest_paths.proofs.Searching.{entered_inside, few_so_far, source_l
 use Rattle.shortest_paths.proofs.Looking.{next_arc_of}
 use Rattle.shortest_paths.proofs.search.Search.scan.Goals as goal
 
+pub index_mut-requires : goal.index_mut-requires
+index_mut-requires g c =
+    let inside = entered_inside c.requires.state.now in
+    let size = c.requires.state.now.reached.settled_size in
+    omega arith
+
+pub index_mut-requires-2 : goal.index_mut-requires-2
+index_mut-requires-2 g c =
+    let inside = entered_inside c.requires.state.now in
+    let size = c.requires.state.now.left_size in
+    omega arith
+
+pub index_mut-requires-3 : goal.index_mut-requires-3
+index_mut-requires-3 g c =
+    let inside = entered_inside c.requires.state.now in
+    let size = c.requires.state.now.left_matched_size in
+    omega arith
+
+pub leaving-arcs-requires : goal.leaving-arcs-requires
+leaving-arcs-requires g c =
+    let inside = entered_inside c.requires.state.now in
+    let size = c.requires.state.may.priced.size in
+    omega arith
+
 pub loop-i-init : goal.loop-i-init
 loop-i-init g c =
     let s = c.requires.state in
