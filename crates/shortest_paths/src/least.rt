@@ -48,6 +48,5 @@ pub fn distances_by<L: Layout>(
     ensures steps { meter.new.count ≤ 2 * length meter.old.network.arcs }
 {
     let start = meter.layout().index(from);
-    let found = find(alloc, meter, potentials, start)?;
-    Ok(found)
+    find(alloc, meter, potentials, start)
 }

@@ -425,8 +425,7 @@ impl Search {
         if self.settle(meter, query, query.start, 0)? {
             return Ok(Some(0));
         }
-        let found = self.empty_queue(meter, query)?;
-        Ok(found)
+        self.empty_queue(meter, query)
     }
 
     /// Lowers each potential by what the node's distance lacks of the total, and forgets the distances.

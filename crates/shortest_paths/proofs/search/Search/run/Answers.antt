@@ -9,3 +9,7 @@ settle-requires g c =
     let begun = begins (problem c.args.meter.now.network c.args.query.now) _ _ _ c.requires.rest _ _
     c.requires.may.start_in c.requires.count refl listed in
     record { state = record { may = c.requires.may; now = rw c.in_ok-reach.ensures.tables begun } }
+
+pub returns-clause-ends : goal.returns-clause-ends
+returns-clause-ends g c =
+    rw (c.empty_queue.ensures.network, c.settle.ensures.network) at c.empty_queue.ensures.ends
