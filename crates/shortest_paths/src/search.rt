@@ -46,10 +46,10 @@ impl Search {
         Ok(Search {
             distances: vec![in alloc; u64::MAX; nodes]?,
             arrivals: vec![in alloc; arrival; nodes]?,
-            reached: Vec::new(alloc),
             settled: vec![in alloc; false; nodes]?,
             left: vec![in alloc; 0; nodes]?,
             left_matched: vec![in alloc; 0; nodes]?,
+            reached: Vec::new(alloc),
             stack: Vec::new(alloc),
             queue: Queue::new(alloc),
         })
