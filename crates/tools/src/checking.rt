@@ -126,8 +126,7 @@ impl<C: Certifier> Command for Checker<C> {
     ) -> Result<(String, Result<CheckEnd, TextFault>), NoAnswer> {
         match read_plan(alloc, text) {
             Ok(read) => {
-                let verdict = self.0.verdict(alloc, &read)?;
-                let (line, end) = judge(alloc, &read, verdict)?;
+                let (line, end) = judged(&self.0, alloc, &read)?;
                 Ok((line, Ok(end)))
             }
             Err(error) => {
@@ -138,7 +137,24 @@ impl<C: Certifier> Command for Checker<C> {
     }
 }
 
-// The line on what was read, by the verdict on it, and how the check ends with it.
+// The line on what was read, and how the check ends with it.
+fn judged<C: Certifier>(
+    certifier: &C,
+    alloc: Global,
+    read: &PlanText<'_>,
+) -> Result<(String, CheckEnd), AllocError>
+    requires ready { C.ready certifier.now }
+    requires sized { HasOneSize (claim read.now.problem read.now.plan.starts read.now.prices)
+        read.now.plan.workers }
+    ensures { IfOk result (λ given. Judges given.1
+        (claim read.now.problem read.now.plan.starts read.now.prices)
+        read.now.splits read.now.workers (string_bytes given.0)) }
+{
+    let verdict = certifier.verdict(alloc, read)?;
+    judge(alloc, read, verdict)
+}
+
+// The same, by the verdict on it.
 fn judge(
     alloc: Global,
     read: &PlanText<'_>,
