@@ -1,4 +1,4 @@
-ghost use Rattle.std.specs.Prelude.{◌≡◌, ◌≢◌, ⊤, Err, IfOk, OnErr, OnOk, string_bytes};
+ghost use Rattle.std.specs.Prelude.{◌≡◌, ◌≢◌, ⊤, Err, IfOk, Ok, OnErr, OnOk, string_bytes};
 ghost use Rattle.std.specs.Thread.{IsSync};
 ghost use Rattle.wave_problem.specs.Assignment.{IsBest, pairs_of};
 ghost use Rattle.price_certificate.specs.Certificate.{HasOneSize, claim};
@@ -6,6 +6,7 @@ ghost use Rattle.certificate_checker.specs.Verdict.{IsVerdict, MayComparePairs};
 ghost use Rattle.text_reading.specs.Running.{HasRun, NoText, WroteItsAnswer};
 ghost use Rattle.tools.specs.CheckAnswer.{CheckAnswer, Judges};
 ghost use Rattle.tools.specs.OneAnswer.{one_check_answer};
+ghost use Rattle.tools.specs.declared.ending.CheckEnd.{CheckEnd};
 
 use crate::ending::CheckEnd;
 use certificate_checker::{Certified, CheckError, certify, certify_on};
@@ -125,16 +126,31 @@ impl<C: Certifier> Command for Checker<C> {
         text: &[u8],
     ) -> Result<(String, Result<CheckEnd, TextFault>), NoAnswer> {
         match read_plan(alloc, text) {
-            Ok(read) => {
-                let (line, end) = judged(&self.0, alloc, &read)?;
-                Ok((line, Ok(end)))
-            }
+            Ok(read) => checked_answer(&self.0, alloc, &read),
             Err(error) => {
                 let (line, fault) = fault_answer(alloc, error)?;
                 Ok((line, Err(fault)))
             }
         }
     }
+}
+
+// The answer to what was read.
+fn checked_answer<C: Certifier>(
+    certifier: &C,
+    alloc: Global,
+    read: &PlanText<'_>,
+) -> Result<(String, Result<CheckEnd, TextFault>), NoAnswer>
+    requires ready { C.ready certifier.now }
+    requires sized { HasOneSize (claim read.now.problem read.now.plan.starts read.now.prices)
+        read.now.plan.workers }
+    ensures answer { IfOk result (λ given. (end : CheckEnd) × (given.1 ≡ Ok end)
+        × Judges end (claim read.now.problem read.now.plan.starts read.now.prices)
+        read.now.splits read.now.workers (string_bytes given.0)) }
+    ensures never_full { result ≢ Err NoAnswer.HistoryFull }
+{
+    let (line, end) = judged(certifier, alloc, read)?;
+    Ok((line, Ok(end)))
 }
 
 // The line on what was read, and how the check ends with it.
