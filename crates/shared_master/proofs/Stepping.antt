@@ -1,7 +1,7 @@
 -- What a step under the lock says of the hand, of the book and to the caller.
 use Rattle.std.proofs.Common.{◌≡◌, ◌⊎◌, ℕ, zero, suc, ◌+◌, ◌<◌, ◌≤◌, ◌++◌, None}
-use Rattle.std.proofs.Common.{List, [], ◌∷◌, length, Some, All, sym, ap, subst, ◌∙◌, arith, inl, inr}
-use Rattle.std.proofs.lemmas.Option.{slice_get_within}
+use Rattle.std.proofs.Common.{List, [], ◌∷◌, length, Some, All, refl, sym, ap, subst, ◌∙◌, arith, inl, inr}
+use Rattle.std.proofs.lemmas.Option.{same_Some, slice_get_within}
 use Rattle.master_state.specs.declared.answers.Answer.{Answer}
 use Rattle.master_state.specs.declared.answers.Answer.TheVariants.{Accepted, Ignored}
 use Rattle.master_state.specs.declared.answers.Reply.{Reply}
@@ -16,12 +16,12 @@ use Rattle.master_state.specs.Jobs.{Job, Answers, AnswersReduce, IsAccepted, IsK
 use Rattle.master_state.specs.Jobs.{event_of}
 use Rattle.master_state.specs.Refusals.{Call, Backup, ReduceStart}
 use Rattle.master_state.proofs.Lists.{All-right, slice_get-push}
-use Rattle.hand_ledger.specs.Hands.{HandValue, Kept, kept, last_place}
+use Rattle.hand_ledger.specs.Hands.{HandValue, Kept, counts_in, kept, last_place, starts_in}
 use Rattle.hand_ledger.specs.Settling.{LastStands, event_at}
 use Rattle.shared_master.specs.declared.calls.PlainCall.{PlainCall}
 use Rattle.shared_master.specs.declared.calls.PlainCall.TheVariants as plain
 use Rattle.shared_master.specs.declared.sizes.Sizes.{Sizes}
-use Rattle.shared_master.specs.Steps.{answered, IsAt, IsBarrier, IsBehind, IsKeptAs}
+use Rattle.shared_master.specs.Steps.{answered, HasCounts, IsAt, IsBarrier, IsBehind, IsKeptAs}
 use Rattle.shared_master.specs.Steps.{IsKeptBackup, IsKeptReduce, IsNextOf, IsReplyOf}
 use Rattle.shared_master.specs.Steps.{IsReduceStep, IsStep, Replies, call_of, plain_event}
 
@@ -52,6 +52,24 @@ pub is_at : {T B : Type 0} (old : Job) (call : Call) (given : Answer T B) (new :
     Takes old call given new → IsAt new.history given (event_of old.state call)
 is_at old call (Accepted place told) new accepted = grind (arith, at_end)
 is_at old call (Ignored why back) new same = tt
+
+-- the event of an accepted call has as many counts as the call, and no starts
+pub counted : {T B : Type 0} (old : Job) (call : Call) (given : Answer T B) (new : Job) (n : ℕ) →
+    counts_in (event_of old.state call) ≡ n → starts_in (event_of old.state call) ≡ 0 →
+    Takes old call given new → HasCounts new.history given n
+counted {T = T} {B = B} old call (Accepted place told) new n counts starts accepted =
+    λ event at.
+    (let given : Answer T B = Accepted place told in
+    let same : event_of old.state call ≡ event = same_Some _ _ (sym (is_at old call given new accepted)
+    ∙ at) in
+    (subst (λ e. counts_in e ≡ n) same counts, subst (λ e. starts_in e ≡ 0) same starts))
+counted old call (Ignored why back) new n counts starts same = tt
+
+-- the same of a call that hands in numbers alone: no counts
+pub counted_none : (old : Job) (call : PlainCall) (given : Plain) (new : Job) →
+    Takes old (call_of call) given new → HasCounts new.history given 0
+counted_none old (plain.Add split w) given new took = counted old _ given new 0 refl refl took
+counted_none old call given new took = counted old _ given new 0 refl refl took
 
 -- a step that reached the master
 pub stepped : {T B : Type 0} {sizes : Sizes} {inside old : Job} {hand : HandValue} {call : Call}

@@ -1,4 +1,5 @@
 use Rattle.std.proofs.Common.{◌≡◌, ◌-◌, ◌++◌, List, [], drop, length, true, ap, ◌∙◌, arith, rules}
+use Rattle.std.proofs.lemmas.Grind.{common_steps}
 use Rattle.master_state.specs.declared.events.Event.TheVariants as events
 use Rattle.master_state.specs.declared.states.Start.{Start}
 use Rattle.hand_ledger.specs.Hands.{has_room, kept, with_call}
@@ -46,3 +47,9 @@ returns-clause-answer g c =
     (c.keep.ensures.value
     ∙ ap (λ (l : List Start). with_call c.args.hand.now
     (kept wave.place (events.Wave wave.first wave.count wave.cost) [] l)) c.deref.ensures.value)
+
+pub keep-requires-clause-place : goal.keep-requires-clause-place
+keep-requires-clause-place g c = grind (arith, common_steps)
+
+pub invariant_of-self-2 : goal.invariant_of-self-2
+invariant_of-self-2 g c = grind (arith, common_steps)
