@@ -110,12 +110,10 @@ fn told_by<'t>(
     requires target { target ≡ setting Target 3 known.now.rows }
     ensures { IfOk result (Declares known.now) }
 {
-    match commands_of(alloc, &names, known.commands()) {
-        Ok(commands) => Ok(Script {
-            names,
-            target,
-            commands,
-        }),
-        Err(error) => Err(error),
-    }
+    let commands = commands_of(alloc, &names, known.commands())?;
+    Ok(Script {
+        names,
+        target,
+        commands,
+    })
 }
