@@ -59,6 +59,15 @@ pub(crate) struct Solved {
     pub(crate) starts: Vec<Start>,
 }
 
+impl Solved {
+    // The room for its starts.
+    fn into_starts(self) -> Vec<Start>
+        ensures { result ≡ self.starts }
+    {
+        self.starts
+    }
+}
+
 // Why a plan was not committed.
 pub(crate) enum Uncommitted {
     Refused(WaveError),
@@ -133,16 +142,15 @@ impl<L: Ledger> Held<L> {
             solved.planned.prices result self.new.job hand.new }
         ensures made { self.new.made ≡ self.old.made }
     {
-        let Solved { planned, starts } = solved;
         if !self.is_own(sizes, hand) {
             let error = refused(hand, sizes, WaveError::StrangeHand);
             return Err(Uncommitted::Refused(error));
         }
-        if !hand.has_room(0, planned.plan().count()) {
+        if !hand.has_room(0, solved.planned.plan().count()) {
             let error = refused(hand, sizes, WaveError::HistoryFull);
             return Err(Uncommitted::Refused(error));
         }
-        let wave = match self.master.commit(alloc, &planned) {
+        let wave = match self.master.commit(alloc, &solved.planned) {
             Ok(wave) => wave,
             Err(CommitError::Stale(condition)) => return Err(Uncommitted::Stale(condition)),
             Err(CommitError::HistoryFull) => {
@@ -160,7 +168,7 @@ impl<L: Ledger> Held<L> {
             count,
             cost,
         } = wave;
-        let starts = with_all(starts, starts_from(&self.master, first));
+        let starts = with_all(solved.into_starts(), starts_from(&self.master, first));
         hand.keep(
             &mut self.hands,
             place,

@@ -1,5 +1,6 @@
 use Rattle.std.proofs.Common.{◌≡◌, ◌-◌, ◌++◌, List, [], drop, length, true, ap, ◌∙◌, arith, rules}
 use Rattle.std.proofs.lemmas.Grind.{common_steps}
+use Rattle.std.specs.Vec.{vec_capacity}
 use Rattle.master_state.specs.declared.events.Event.TheVariants as events
 use Rattle.master_state.specs.declared.states.Start.{Start}
 use Rattle.hand_ledger.specs.Hands.{has_room, kept, with_call}
@@ -16,8 +17,9 @@ with_all-starts-requires g c =
     omega (
       arith,
       c.requires.room,
-      ap length c.requires.starts,
-      c.args.solved.starts.ok.0,
+      ap vec_capacity c.into_starts.ensures,
+      ap length (ap (λ v. v.items) c.into_starts.ensures ∙ c.requires.starts),
+      c.into_starts.result.ok.0,
       ap length c.starts_from.ensures,
       starts_counted _ _ _ _ c.in-Ok.ensures.1,
       c.in-Ok.ensures.1.change.count_is,
@@ -27,7 +29,8 @@ pub keep-requires-clause-starts : goal.keep-requires-clause-starts
 keep-requires-clause-starts g c =
     let items : c.with_all-starts.result.items ≡ drop (c.in-Ok.wave.first - 1) c.commit.new.self.state.starts
     =
-    c.with_all-starts.ensures ∙ ap (λ l. l ++ c.starts_from.result.now) c.requires.starts
+    c.with_all-starts.ensures ∙ ap (λ l. l ++ c.starts_from.result.now)
+    (ap (λ v. v.items) c.into_starts.ensures ∙ c.requires.starts)
     ∙ c.starts_from.ensures in
     ap length (c.deref.ensures.value ∙ items) ∙ starts_counted _ _ _ _ c.in-Ok.ensures.1
 
@@ -35,7 +38,8 @@ pub returns-clause-answer : goal.returns-clause-answer
 returns-clause-answer g c =
     let wave = c.in-Ok.wave in
     let items : c.with_all-starts.result.items ≡ drop (wave.first - 1) c.commit.new.self.state.starts =
-    c.with_all-starts.ensures ∙ ap (λ l. l ++ c.starts_from.result.now) c.requires.starts
+    c.with_all-starts.ensures ∙ ap (λ l. l ++ c.starts_from.result.now)
+    (ap (λ v. v.items) c.into_starts.ensures ∙ c.requires.starts)
     ∙ c.starts_from.ensures in
     let own : IsOwn c.args.sizes c.args.self.now.job c.args.hand.now = search rules in
     let room : has_room c.args.hand.now 0 wave.count ≡ true = search rules in
