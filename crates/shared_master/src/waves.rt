@@ -159,19 +159,19 @@ impl<L: Ledger> Held<L> {
             }
             Err(CommitError::Memory) => return Err(Uncommitted::Refused(WaveError::Memory)),
         };
-        // (how long the history is, and that its starts are of this cluster)
-        let _events = self.master.events();
+        // (its starts are of this cluster)
         self.master.is_kept();
         let Wave {
-            place,
             first,
             count,
             cost,
+            ..
         } = wave;
         let starts = with_all(solved.into_starts(), starts_from(&self.master, first));
+        // (its event is the last)
         hand.keep(
             &mut self.hands,
-            place,
+            self.master.events(),
             &Event::Wave { first, count, cost },
             &[],
             &starts,

@@ -4,7 +4,10 @@ use Rattle.std.proofs.Common.{ℕ, zero, suc, List, [], ◌∷◌, ◌++◌, Opt
 use Rattle.std.proofs.Common.{length, slice_index, sym, subst, arith}
 use Rattle.std.specs.List.{All}
 use Rattle.std.proofs.lemmas.List.Elements.{All-cons, All-nil}
-use Rattle.wave_problem.specs.Wave.{Wave, reward}
+use Rattle.std.proofs.lemmas.Grind.{common_steps}
+use Rattle.std.proofs.lemmas.List.Sums.{sum_by-le}
+use Rattle.wave_problem.specs.Wave.{IsWithinLimits, Split, Wave, reward}
+use Rattle.wave_problem.specs.declared.TheConstants.{MAX_BYTES}
 use Rattle.wave_problem.specs.Assignment.{IsBest, pairs_of}
 use Rattle.wave_problem.proofs.Bound.{live_known}
 use Rattle.price_certificate.specs.Certificate.{Certifies, Claim, HasOneSize, claim}
@@ -81,6 +84,13 @@ pub front_of : (ss ws : List Word) (c : Claim) (count cost : ℕ) (starts : List
     → lines ≡ wave_line (plan_count c) (plan_cost c) ++ start_lines ss ws c.starts
 front_of ss ws c count cost starts lines as_starts as_count as_cost said =
     said ∙ (λ i. wave_line (as_count i) (as_cost i) ++ start_lines ss ws (as_starts i))
+
+-- no price is past what can be read back
+pub small_reward : (wave : Wave) → IsWithinLimits wave → reward wave < 2 ^ 64
+small_reward wave limits =
+    let most = sum_by-le (λ (split : Split). split.bytes) MAX_BYTES wave.splits limits.bytes in
+    let few = limits.few_splits in
+    grind (arith, common_steps)
 
 -- the lines of its count, cost and starts, and then those of its prices if they are asked for
 pub plans_problem : (with_prices : Bool) (ss ws : List Word) (c : Claim) (plan_workers : ℕ) (lines : List ℕ)

@@ -96,8 +96,8 @@ fn plan_lines(
     ensures { IfOk result (λ lines. PlansProblem read.now.problem read.now.splits read.now.workers
         options.prices (string_bytes lines)) }
 {
-    // (what these readers promise: there are few workers, and no price is past what can be read back)
-    let _limits = (read.problem.workers(), read.problem.reward());
+    // (a law: there are few workers, and no price is past what can be read back)
+    read.problem.limits();
     let best = best_plan(alloc, &read.problem, options.network)?;
     lines_on(alloc, read, &best, options.prices)
 }

@@ -1,5 +1,5 @@
 -- The wave that rows make keeps to the limits.
-use Rattle.std.proofs.Common.{ℕ, List, ◌≢◌, ◌<◌, ◌≤◌, ◌-◌, ◌∙◌, arith, length, map, sym}
+use Rattle.std.proofs.Common.{ℕ, List, ◌≢◌, ◌<◌, ◌≤◌, ◌∙◌, arith, length, map, sym}
 use Rattle.std.specs.Prelude.{All, AllPairs}
 use Rattle.std.proofs.lemmas.List.{length-map, length-take}
 use Rattle.std.proofs.lemmas.List.Elements.{All-map}

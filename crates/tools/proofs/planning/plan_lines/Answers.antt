@@ -1,8 +1,8 @@
-use Rattle.std.proofs.Common.{◌++◌, ◌∙◌, arith, refl}
+use Rattle.std.proofs.Common.{◌++◌, ◌∙◌, refl}
 use Rattle.std.proofs.lemmas.Result.{IfOk-weaker}
 use Rattle.price_certificate.specs.Certificate.{claim}
 use Rattle.tools.specs.PlanAnswer.{asked_prices}
-use Rattle.tools.proofs.BestPlans.{front_of, plans_problem}
+use Rattle.tools.proofs.BestPlans.{front_of, plans_problem, small_reward}
 use Rattle.tools.proofs.planning.plan_lines.Goals as goal
 
 pub returns : goal.returns
@@ -17,6 +17,6 @@ returns c =
     (λ lines said. plans_problem asked v.splits v.workers made _ _
     c.requires.splits c.requires.workers c.in_ok-best.ensures.sizes c.in_ok-best.ensures.certifies
     c.in_ok-best.ensures.best
-    (omega (arith, c.reward.ensures.reward, c.reward.ensures.most))
+    (small_reward v.problem c.limits.ensures.problem)
     (said ∙ (λ i. front i ++ asked_prices asked v.splits v.workers best.prices)))
     c.lines_on.ensures

@@ -1,4 +1,5 @@
-use Rattle.std.proofs.Common.{◌≡◌, ◌-◌, ◌++◌, List, [], drop, length, true, ap, ◌∙◌, arith, rules}
+use Rattle.std.proofs.Common.{◌≡◌, ℕ, ◌-◌, ◌++◌, List, [], drop, length, true, ap, ◌∙◌, sym, arith, rules}
+use Rattle.std.proofs.Common.{length-append}
 use Rattle.std.proofs.lemmas.Grind.{common_steps}
 use Rattle.std.specs.Vec.{vec_capacity}
 use Rattle.master_state.specs.declared.events.Event.TheVariants as events
@@ -41,6 +42,9 @@ returns-clause-answer g c =
     c.with_all-starts.ensures ∙ ap (λ l. l ++ c.starts_from.result.now)
     (ap (λ v. v.items) c.into_starts.ensures ∙ c.requires.starts)
     ∙ c.starts_from.ensures in
+    let next = c.in-Ok.ensures.1.next in
+    let last : c.events.result ≡ wave.place =
+    c.events.ensures.count ∙ ap length next.history ∙ length-append _ _ ∙ sym next.place_is in
     let own : IsOwn c.args.sizes c.args.self.now.job c.args.hand.now = search rules in
     let room : has_room c.args.hand.now 0 wave.count ≡ true = search rules in
     shared_wave c.args.sizes c.self.inside.master c.args.self.now.job c.args.hand.now
@@ -49,6 +53,8 @@ returns-clause-answer g c =
     (ap (λ (h : HeldValue). h.job) c.self.view_is) own room c.in-Ok.ensures c.is_kept.ensures
     items
     (c.keep.ensures.value
+    ∙ ap (λ (place : ℕ). with_call c.args.hand.now
+    (kept place (events.Wave wave.first wave.count wave.cost) [] c.deref.result.now)) last
     ∙ ap (λ (l : List Start). with_call c.args.hand.now
     (kept wave.place (events.Wave wave.first wave.count wave.cost) [] l)) c.deref.ensures.value)
 
