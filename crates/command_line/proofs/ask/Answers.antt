@@ -1,6 +1,5 @@
 use Rattle.std.proofs.Common.{◌≡◌, ◌∙◌, None, Ok, Option, Some, ap, arith, codes, inl, inr, refl}
-use Rattle.std.proofs.Common.{rules, subst}
-use Rattle.std.proofs.Common.{sym}
+use Rattle.std.proofs.Common.{rules, subst, sym}
 use Rattle.std.proofs.lemmas.Result.{IfOk-weaker}
 use Rattle.std.specs.Prelude.{IfOk, map}
 use Rattle.clap.specs.Walk.{Text, texts}
