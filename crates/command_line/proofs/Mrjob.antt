@@ -2,7 +2,7 @@
 use Rattle.std.proofs.Common.{◌≡◌, ◌∙◌, ℕ, cond, inl, inr, subst, Bool, true, false, List, [], ◌∷◌, Option}
 use Rattle.std.proofs.Common.{Some, None, codes, option_map, refl, sym, ap, true≢false}
 use Rattle.std.specs.Box.{box_value}
-use Rattle.std.specs.Prelude.{Box, IfSome, ◌⊎◌, ◌||◌, ◌++◌, find, is_some, length, map, option_and_then, take}
+use Rattle.std.specs.Prelude.{Box, IfSome, ◌||◌, ◌++◌, find, is_some, length, map, option_and_then, take}
 use Rattle.std.specs.Str.{bytes_eq}
 use Rattle.std.proofs.lemmas.Slice.Eq.{bytes_eq-Decides}
 use Rattle.clap.specs.Faults.{check_fault, defaults_fault, entered_fault, fault_of, is_simple_and_free}

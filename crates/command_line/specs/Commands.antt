@@ -72,20 +72,6 @@ is_set value = option_map_or (λ text. bytes_eq text (codes "true")) value false
 abbrev pub flag_in : Text → List Text → Bool
 flag_in id words = is_set (value_in id words)
 
--- each option is as its text says, the texts given by the options' names
-abbrev pub AsksBy : (Text → Option Text) → Ask → Type 0
-AsksBy text Check = Unit {0}
-AsksBy text (Plan options) = (options.prices ≡ is_set (text (codes "prices")))
-    × (text (codes "network") ≡ Some (word_of options.network))
-AsksBy text (Play options) = options.quiet ≡ is_set (text (codes "quiet"))
-AsksBy text (Run options) = (options.history ≡ is_set (text (codes "history")))
-    × (options.quiet ≡ is_set (text (codes "quiet")))
-
--- the name is one of these
-abbrev pub IsOneOf : Option Text → List Text → Type 0
-IsOneOf found [] = ⊥
-IsOneOf found (name ∷ names) = (found ≡ Some name) ⊎ IsOneOf found names
-
 -- the text names no network
 abbrev pub NamesNoNetwork : Option Text → Type 0
 NamesNoNetwork value = (network : NetworkKind) → value ≡ Some (word_of network) → ⊥
@@ -106,7 +92,23 @@ abbrev pub HasFault : List Text → ErrorKind → Type 0
 HasFault words kind = IsAmong kind (faults_in words)
     ⊎ ((kind ≡ InvalidValue) × NamesNoNetwork (value_in (codes "network") words))
 
+-- What follows serves private clauses alone.
+
 -- the error says that the network is none, or that there was no memory to say it
 abbrev pub RefusesNetwork : AskError → Type 0
 RefusesNetwork (Fault error) = kind_of error ≡ InvalidValue
 RefusesNetwork Memory = Unit {0}
+
+-- each option is as its text says, the texts given by the options' names
+abbrev pub AsksBy : (Text → Option Text) → Ask → Type 0
+AsksBy text Check = Unit {0}
+AsksBy text (Plan options) = (options.prices ≡ is_set (text (codes "prices")))
+    × (text (codes "network") ≡ Some (word_of options.network))
+AsksBy text (Play options) = options.quiet ≡ is_set (text (codes "quiet"))
+AsksBy text (Run options) = (options.history ≡ is_set (text (codes "history")))
+    × (options.quiet ≡ is_set (text (codes "quiet")))
+
+-- the name is one of these
+abbrev pub IsOneOf : Option Text → List Text → Type 0
+IsOneOf found [] = ⊥
+IsOneOf found (name ∷ names) = (found ≡ Some name) ⊎ IsOneOf found names

@@ -1,4 +1,4 @@
-use Rattle.std.proofs.Common.{◌≡◌, ◌∙◌, None, Ok, Option, Some, ap, arith, codes, inl, inr, refl}
+use Rattle.std.proofs.Common.{◌≡◌, ◌∙◌, None, Ok, Option, ap, arith, codes, inl, inr}
 use Rattle.std.proofs.Common.{rules, subst, sym}
 use Rattle.std.proofs.lemmas.Result.{IfOk-weaker}
 use Rattle.std.specs.Prelude.{IfOk, map}
@@ -9,7 +9,7 @@ use Rattle.clap.specs.declared.error.Error.{Error}
 use Rattle.clap.specs.declared.error.kind.ErrorKind.TheVariants.{OutOfMemory}
 use Rattle.clap.specs.Matches.{first_value, found_of}
 use Rattle.command_line.specs.declared.asked.Ask.{Ask}
-use Rattle.command_line.specs.Commands.{AsksBy, IsOneOf, NamesNoNetwork, faults_in, is_set, mrjob, value_in}
+use Rattle.command_line.specs.Commands.{AsksBy, IsOneOf, NamesNoNetwork, faults_in, is_set, mrjob}
 use Rattle.command_line.proofs.Mrjob.{faulted, found_named, found_value, named_in, unfaulted}
 use Rattle.command_line.proofs.ask.Goals as goal
 
