@@ -6,7 +6,7 @@ ghost use Rattle.shuffle_reduce.specs.Gather.{GathersRuns, GathersResults, texts
 use crate::part::PartResult;
 use std::alloc::{AllocError, Global};
 use std::sync::Arc;
-use word_map::{Run, SplitText, WordTable};
+use word_map::{Pace, Run, SplitText, Unpaced, WordTable};
 
 /// The texts of the runs.
 pub(crate) fn all_texts(alloc: Global, runs: &[Arc<Run>]) -> Result<Vec<Arc<SplitText>>, AllocError>
@@ -20,12 +20,16 @@ pub(crate) fn all_texts(alloc: Global, runs: &[Arc<Run>]) -> Result<Vec<Arc<Spli
 }
 
 /// The words of the runs, each with the documents of all runs.
-pub(crate) fn gathered_runs(alloc: Global, runs: &[Arc<Run>]) -> Result<WordTable<'_>, AllocError>
+pub(crate) fn gathered_runs<'a, P: Pace>(
+    alloc: Global,
+    runs: &'a [Arc<Run>],
+    pace: &P,
+) -> Result<WordTable<'a>, AllocError>
     ensures { IfOk result (λ table. GathersRuns runs.now (pairs_of_index table)) }
 {
     let mut table = WordTable::new(alloc);
     for run in runs {
-        table.add(alloc, run.entries())?;
+        table.add(alloc, run.entries(), pace)?;
     }
     Ok(table)
 }
@@ -40,7 +44,7 @@ pub(crate) fn gathered_results(
 {
     let mut table = WordTable::new(alloc);
     for part in results {
-        table.add(alloc, part.entries())?;
+        table.add(alloc, part.entries(), &Unpaced)?;
     }
     Ok(table)
 }

@@ -14,7 +14,7 @@ use std::alloc::{AllocError, Global};
 use std::marker::Model;
 use std::sync::Arc;
 use thiserror::Error;
-use word_map::{Entry, SplitText};
+use word_map::{Entry, SplitText, Unpaced};
 
 /// An inverted index: words, each with the documents that have it (OSDI 2004, section 2.3).
 #[derive(Drop)]
@@ -89,7 +89,7 @@ pub fn finish(
     }
     let table = gathered_results(alloc, results)?;
     Ok(Index {
-        entries: table.into_entries(alloc)?,
+        entries: table.into_entries(alloc, &Unpaced)?,
     })
 }
 

@@ -1,7 +1,8 @@
 //! The reduce side of an inverted index: the runs of a part are merged into its result, and the results
 //! into the index.
 //!
-//! Upward the layer promises that `merge` gives just the pairs of its runs, rising, each once, that
+//! Upward the layer promises that `merge` gives just the pairs of its runs, rising, each once, as does
+//! `merge_paced`, which tells a caller's `Pace` that it goes on, that
 //! `covers` tells exactly whether a result is of the texts that are asked for, and that `finish` gives
 //! the sequential index of the texts, or says which is wrong: a part that stands twice, or one that is
 //! not there. It stands on the runs of `word_map`, whose type keeps that their pairs are right.
@@ -15,5 +16,5 @@ mod part;
 
 pub use covers::are_equal_texts;
 pub use index::{FinishError, Index, are_ready, finish};
-pub use part::{PartResult, are_of_part, merge};
+pub use part::{PartResult, are_of_part, merge, merge_paced};
 pub use word_map::Entry;

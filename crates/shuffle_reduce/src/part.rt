@@ -9,7 +9,7 @@ use node_ids::PartNo;
 use std::alloc::{AllocError, Global};
 use std::marker::Model;
 use std::sync::Arc;
-use word_map::{Entry, Run, SplitText};
+use word_map::{Entry, Pace, Run, SplitText, Unpaced};
 
 /// The pairs of some texts for one part of their words: what the reduce of that part made (OSDI 2004,
 /// section 3.1). The pairs stand by the bytes of the words and then by the documents' numbers, each once.
@@ -95,8 +95,28 @@ pub fn merge(
     ensures pairs { IfOk result (λ merged. ArePairsOfRuns runs.now merged.pairs) }
     ensures exact { IfOk result (λ merged. IsPartOf (texts_of_runs runs.now) part parts merged.pairs) }
 {
+    merge_paced(alloc, parts, part, runs, &Unpaced)
+}
+
+/// The same, and tells the pace that it goes on, at each entry of a run and at each comparison of two words.
+pub fn merge_paced<P: Pace>(
+    alloc: Global,
+    parts: usize,
+    part: PartNo,
+    runs: &[Arc<Run>],
+    pace: &P,
+) -> Result<PartResult, AllocError>
+    requires in_range { part < parts }
+    requires few { parts ≤ 64 }
+    requires same { AreOfPart runs.now part parts }
+    ensures part { IfOk result (λ merged. merged.part ≡ part) }
+    ensures parts { IfOk result (λ merged. merged.parts ≡ parts) }
+    ensures texts { IfOk result (λ merged. merged.texts ≡ texts_of_runs runs.now) }
+    ensures pairs { IfOk result (λ merged. ArePairsOfRuns runs.now merged.pairs) }
+    ensures exact { IfOk result (λ merged. IsPartOf (texts_of_runs runs.now) part parts merged.pairs) }
+{
     let texts = all_texts(alloc, runs)?;
-    let entries = merged_entries(alloc, runs, part, parts)?;
+    let entries = merged_entries(alloc, runs, part, parts, pace)?;
     Ok(PartResult {
         texts,
         part,
@@ -106,11 +126,12 @@ pub fn merge(
 }
 
 // The words of the runs, each with the documents of all runs.
-fn merged_entries(
+fn merged_entries<P: Pace>(
     alloc: Global,
     runs: &[Arc<Run>],
     part: PartNo,
     parts: usize,
+    pace: &P,
 ) -> Result<Vec<Entry>, AllocError>
     requires { AreOfPart runs.now part parts }
     ensures pairs { IfOk result (λ entries. ArePairsOfRuns runs.now (pairs_of_index entries.items)) }
@@ -118,8 +139,8 @@ fn merged_entries(
         IsPartOf (texts_of_runs runs.now) part parts (pairs_of_index entries.items)) }
     ensures entries { IfOk result (λ entries. AreEntries entries.items) }
 {
-    let table = gathered_runs(alloc, runs)?;
-    Ok(table.into_entries(alloc)?)
+    let table = gathered_runs(alloc, runs, pace)?;
+    Ok(table.into_entries(alloc, pace)?)
 }
 
 // Whether the run is of this part and this number of parts.

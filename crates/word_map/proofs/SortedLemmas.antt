@@ -4,7 +4,7 @@ use Rattle.std.proofs.Common.{◌∙◌, subst, arith, append-nil, append_assoc,
 use Rattle.std.proofs.Math.Seq.{take-length, drop-length}
 use Rattle.std.specs.Prelude.{◌↔◌, Contains, All, AllPairs, IsSorted, IsSome, nat_eq}
 use Rattle.std.specs.List.{IsDistinct, refill}
-use Rattle.std.specs.List.Sorted.{IsStrictlySortedBy}
+use Rattle.std.specs.List.Sorted.{IsSortedBy, IsStrictlySortedBy}
 use Rattle.std.specs.Map.{keys_of}
 use Rattle.std.specs.Option.{option_map_or}
 use Rattle.smallvec.specs.SmallVec.{SmallVec}
@@ -16,7 +16,7 @@ use Rattle.std.specs.HashMap.{HashMap, get}
 use Rattle.std.proofs.Math.ListN.{get_or-map}
 use Rattle.std.proofs.lemmas.Bool.{false≢true}
 use Rattle.std.proofs.lemmas.Cmp.{nat_list_cmp_total}
-use Rattle.std.proofs.lemmas.List.{flat_map_more, length-map}
+use Rattle.std.proofs.lemmas.List.{flat_map_more, length-map, get_or-map as get_or-map_within}
 use Rattle.std.proofs.lemmas.List.Elements.{All-nil, All-push, All-rest, Contains-get_or}
 use Rattle.std.proofs.lemmas.List.Elements.{Contains-append_left, Contains-append_right}
 use Rattle.std.proofs.lemmas.List.Elements.{Contains-append_cases}
@@ -47,6 +47,16 @@ words_rise words sorted apart = sorted_from_all_adjacent nat_list_cmp_total word
         nat_list_cmp_total.antisymm (get_or words (k + 1) []) (get_or words k [])
         ∙ ap ordering_reverse is in
         absurd (false≢true (sym (sorted k [] (omega arith) low) ∙ ap is_lt back))
+
+-- entries in the order of their words have their words in order
+pub sorted_keys : (entries : List (List ℕ × SmallVec ℕ)) →
+    IsSortedBy (λ a b. is_lt (slice_cmp nat_cmp a.0 b.0)) entries → IsSorted (slice_cmp nat_cmp) (keys_of entries)
+sorted_keys [] s k d low below = absurd (omega arith)
+sorted_keys (e ∷ es) s k d low below =
+    let within : k + 1 < length (e ∷ es) = omega (arith, length-map (e ∷ es) (λ p. p.0)) in
+    let here = get_or-map_within (λ (p : List ℕ × SmallVec ℕ). p.0) (e ∷ es) k e d (omega arith) in
+    let next = get_or-map_within (λ (p : List ℕ × SmallVec ℕ). p.0) (e ∷ es) (k + 1) e d within in
+    rw (here, next) (s k e low within)
 
 -- the entries that were made so far of a table, of which some are left
 pub record AreMade (table left : List (List ℕ × SmallVec ℕ)) (made : List EntryView) : Type 0 where

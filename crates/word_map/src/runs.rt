@@ -6,6 +6,7 @@ ghost use Rattle.word_map.specs.Divided.{AreEntriesOfParts, AreRunEntries};
 
 use crate::divide::divide;
 use crate::entry::Entry;
+use crate::pace::{Pace, Unpaced};
 use crate::text::{Document, SplitText};
 use crate::tokens::{all_in_lower_case, all_words};
 use node_ids::PartNo;
@@ -130,23 +131,40 @@ pub fn map_split(alloc: Global, text: Arc<SplitText>, parts: usize) -> Result<Ma
     ensures text { IfOk result (λ made. made.text ≡ arc_value text) }
     ensures parts { IfOk result (λ made. made.parts ≡ parts) }
 {
-    let divided = divided_entries(alloc, text.documents(), parts)?;
+    map_split_paced(alloc, text, parts, &Unpaced)
+}
+
+/// The same, and tells the pace that it goes on. Between two such calls at most one document is copied, or a
+/// table grows or is let go.
+pub fn map_split_paced<P: Pace>(
+    alloc: Global,
+    text: Arc<SplitText>,
+    parts: usize,
+    pace: &P,
+) -> Result<MapResult, AllocError>
+    requires some { 0 < parts }
+    requires few { parts ≤ 64 }
+    ensures text { IfOk result (λ made. made.text ≡ arc_value text) }
+    ensures parts { IfOk result (λ made. made.parts ≡ parts) }
+{
+    let divided = divided_entries(alloc, text.documents(), parts, pace)?;
     let runs = all_runs(alloc, &text, divided)?;
     Ok(MapResult { text, runs })
 }
 
 // The entries of the documents for each part.
-fn divided_entries(
+fn divided_entries<P: Pace>(
     alloc: Global,
     documents: &[Document],
     parts: usize,
+    pace: &P,
 ) -> Result<Vec<Vec<Entry>>, AllocError>
     requires { 0 < parts }
     ensures { IfOk result (λ divided. AreEntriesOfParts documents.now parts divided.items) }
 {
-    let lower = all_in_lower_case(alloc, documents)?;
-    let table = all_words(alloc, lower.as_slice())?;
-    Ok(divide(alloc, table.into_entries(alloc)?, parts)?)
+    let lower = all_in_lower_case(alloc, documents, pace)?;
+    let table = all_words(alloc, lower.as_slice(), pace)?;
+    Ok(divide(alloc, table.into_entries(alloc, pace)?, parts, pace)?)
 }
 
 // A run of the text for each part.

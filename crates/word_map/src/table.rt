@@ -1,8 +1,8 @@
 ghost use Rattle.std.specs.Prelude.{◌≡◌, ◌↔◌, ◌⊎◌, ◌<◌, ℕ, List, length, [], OnOk, IfOk, Contains};
-ghost use Rattle.std.specs.Prelude.{IsErr, IsSorted};
-ghost use Rattle.std.specs.Cmp.Lexicographic.{slice_cmp};
+ghost use Rattle.std.specs.Prelude.{IsErr, IsSorted, nat_eq};
+ghost use Rattle.std.specs.Cmp.Lexicographic.{pointwise, slice_cmp};
 ghost use Rattle.std.specs.Ordering.{nat_cmp};
-ghost use Rattle.std.specs.HashMap.{keys};
+ghost use Rattle.std.specs.HashMap.{keys, IsReordered};
 ghost use Rattle.word_map.specs.Texts.{Pair};
 ghost use Rattle.word_map.specs.Entries.{AreEntries, DocumentsRise, HavePair, pairs_of_entry, pairs_of_index};
 ghost use Rattle.word_map.specs.Entries.{EntryView};
@@ -10,12 +10,14 @@ ghost use Rattle.word_map.specs.Table.{AddsPairs, Has, IsTable, views};
 
 use crate::distinct::sort_distinct;
 use crate::entry::{Documents, Entry};
+use crate::pace::Pace;
 use crate::text::Text;
 use crate::word::Word;
 use indexmap::IndexMap;
 use node_ids::DocNo;
 use smallvec::SmallVec;
 use std::alloc::{AllocError, Global};
+use std::cmp::Ordering;
 use std::marker::Model;
 
 /// Words with the documents that have them, as they are gathered, in any order.
@@ -111,20 +113,27 @@ impl<'a> WordTable<'a> {
         add_documents(alloc, &mut self.table, word, entry.documents())
     }
 
-    /// Adds the documents of each entry to those of its word.
-    pub fn add(&mut self, alloc: Global, entries: &'a [Entry]) -> Result<(), AllocError>
+    /// Adds the documents of each entry to those of its word, and tells the pace at each.
+    pub fn add<P: Pace>(
+        &mut self,
+        alloc: Global,
+        entries: &'a [Entry],
+        pace: &P,
+    ) -> Result<(), AllocError>
         requires { AreEntries entries.now }
         ensures added { OnOk result (AddsPairs self.old self.new (Contains (pairs_of_index entries.now))) }
         ensures memory { IsErr result → HavePair entries.now }
     {
         for entry in entries {
+            pace.goes_on();
             self.add_entry(alloc, entry)?;
         }
         Ok(())
     }
 
-    /// The words in byte order, each with its documents by number, each once.
-    pub fn into_entries(self, alloc: Global) -> Result<Vec<Entry>, AllocError>
+    /// The words in byte order, each with its documents by number, each once. The pace is told at each, and
+    /// at each comparison of two words while they are sorted.
+    pub fn into_entries<P: Pace>(self, alloc: Global, pace: &P) -> Result<Vec<Entry>, AllocError>
         ensures entries { IfOk result (λ entries. AreEntries entries.items) }
         ensures same { IfOk result (λ entries. (pair : Pair)
             → Contains (pairs_of_index entries.items) pair ↔ Contains (pairs_of_index self.entry) pair) }
@@ -134,9 +143,27 @@ impl<'a> WordTable<'a> {
         if table.is_empty() {
             return Ok(Vec::new(alloc));
         }
-        table.sort_unstable_keys()?;
-        Ok(sorted_entries(alloc, table)?)
+        sort_words(&mut table, pace)?;
+        Ok(sorted_entries(alloc, table, pace)?)
     }
+}
+
+// Puts the words into byte order.
+fn sort_words<P: Pace>(
+    table: &mut IndexMap<Word<'_>, Documents>,
+    pace: &P,
+) -> Result<(), AllocError>
+    ensures sorted { OnOk result (IsSorted (slice_cmp nat_cmp) (keys table.new)) }
+    ensures reordered { IsReordered (pointwise nat_eq) table.old table.new }
+{
+    table.sort_unstable_by(
+        |word: &Word<'_>, _: &Documents, other: &Word<'_>, _: &Documents| -> Ordering
+            ensures { result ≡ slice_cmp nat_cmp word.now other.now }
+        {
+            pace.goes_on();
+            word.cmp(other)
+        },
+    )
 }
 
 // The entry of the word, with its documents in order, each once.
@@ -151,9 +178,10 @@ fn make_entry(alloc: Global, word: &Word<'_>, mut documents: Documents) -> Resul
 }
 
 // The entries of a table whose words are in order.
-fn sorted_entries(
+fn sorted_entries<P: Pace>(
     alloc: Global,
     table: IndexMap<Word<'_>, Documents>,
+    pace: &P,
 ) -> Result<Vec<Entry>, AllocError>
     requires sorted { IsSorted (slice_cmp nat_cmp) (keys table) }
     requires table { IsTable table }
@@ -164,6 +192,7 @@ fn sorted_entries(
 {
     let mut entries = Vec::with_capacity(alloc, table.len())?;
     for (word, documents) in table {
+        pace.goes_on();
         entries.push(make_entry(alloc, &word, documents)?)?;
     }
     Ok(entries)

@@ -3,7 +3,7 @@ use Rattle.shuffle_reduce.proofs.gather.gathered_runs.Goals as goal
 
 -- the pairs of one more run are added
 pub loop-run-preserved : goal.loop-run-preserved
-loop-run-preserved c =
+loop-run-preserved g c =
     let added = rw c.entries.ensures.value at c.in_ok-add.ensures.added in
     gathers_one_more_run c.args.runs.now c.loop-run.run-index c.loop-run-test.true c.run-item.is
     c.loop-run.invariant

@@ -4,4 +4,4 @@ use Rattle.shuffle_reduce.specs.Gather.{GathersRuns}
 use Rattle.shuffle_reduce.proofs.gather.gathered_runs.Given as goal
 
 abbrev pub invariant-loop-run : goal.invariant-loop-run
-invariant-loop-run l = GathersRuns (take l.run-index l.runs) (pairs_of_index l.table)
+invariant-loop-run g l = GathersRuns (take l.run-index l.runs) (pairs_of_index l.table)

@@ -6,7 +6,7 @@ use Rattle.word_map.proofs.divide.divide.Goals as goal
 
 -- the entry goes into the part of its word
 pub loop-entry-preserved : goal.loop-entry-preserved
-loop-entry-preserved c =
+loop-entry-preserved g c =
     let first = c.in-Some.ensures.steps.0 in
     divided_more
     (into_iter_items c.next.new.self) c.args.entries.items c.args.parts c.loop-entry.divided.items

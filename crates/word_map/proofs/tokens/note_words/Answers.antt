@@ -3,14 +3,14 @@ use Rattle.word_map.proofs.RunLemmas.{boundary_after_run}
 use Rattle.word_map.proofs.tokens.note_words.Goals as goal
 
 pub range-requires-clause-end_boundary : goal.range-requires-clause-end_boundary
-range-requires-clause-end_boundary c =
+range-requires-clause-end_boundary g c =
     let inside = rw c.as_bytes-bytes.ensures.value at c.loop-start-test.true in
     let span = rw c.as_bytes-bytes.ensures.value at c.span_end-stop.ensures in
     boundary_after_run c.utf8.text (run_from_span c.loop-start.invariant.begins inside span)
 
 -- the run is pushed, and the next one is sought behind it
 pub loop-start-preserved : goal.loop-start-preserved
-loop-start-preserved c =
+loop-start-preserved g c =
     let before = c.loop-start.invariant in
     let inside = rw c.as_bytes-bytes.ensures.value at c.loop-start-test.true in
     let span = rw c.as_bytes-bytes.ensures.value at c.span_end-stop.ensures in
@@ -23,5 +23,5 @@ loop-start-preserved c =
 
 -- the end is reached, so all runs are there
 pub returns : goal.returns
-returns c = adds_all (rw c.as_bytes-bytes.ensures.value at c.loop-start-test.false)
+returns g c = adds_all (rw c.as_bytes-bytes.ensures.value at c.loop-start-test.false)
     c.loop-start.invariant.adds

@@ -5,4 +5,4 @@ use Rattle.word_map.specs.Table.{AddsPairs}
 use Rattle.word_map.proofs.table.WordTable.add.Given as goal
 
 abbrev pub invariant-loop-entry : goal.invariant-loop-entry
-invariant-loop-entry l = AddsPairs l.fn.self l.self (Contains (pairs_of_index (take l.entry-index l.entries)))
+invariant-loop-entry g l = AddsPairs l.fn.self l.self (Contains (pairs_of_index (take l.entry-index l.entries)))
