@@ -9,6 +9,7 @@ status is 0 where the plan is certified, 1 where a condition fails, and 2 where 
 writes `certified 2 20`.
 """
 import argparse
+import signal
 import sys
 
 sys.dont_write_bytecode = True
@@ -84,4 +85,5 @@ def main():
 
 
 if __name__ == "__main__":
+    signal.signal(signal.SIGPIPE, signal.SIG_DFL)  # (a reader that stops reading ends it quietly)
     sys.exit(main())

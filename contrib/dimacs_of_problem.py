@@ -11,6 +11,7 @@ splits wait, and the others start at a byte-distance of F % K. Comments tell K a
 writes `p min 6 9` and the lines of 6 nodes and 9 arcs, over which a least flow costs 20.
 """
 import argparse
+import signal
 import sys
 
 sys.dont_write_bytecode = True
@@ -59,4 +60,5 @@ def main():
 
 
 if __name__ == "__main__":
+    signal.signal(signal.SIGPIPE, signal.SIG_DFL)  # (a reader that stops reading ends it quietly)
     sys.exit(main())

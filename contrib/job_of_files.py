@@ -14,6 +14,7 @@ import fnmatch
 import os
 import random
 import re
+import signal
 import sys
 
 # The most of each setting. A job has a thread for each worker, so fewer of these.
@@ -44,6 +45,11 @@ def files_below(folder, patterns):
             else:
                 left.append((path, "not of these names"))
     return sorted(paths), left
+
+
+def in_a_line(path):
+    """A path with `\\\\`, `\\n`, `\\r` and `\\t` for a backslash, the ends of lines and a tab."""
+    return path.translate({ord("\\"): "\\\\", ord("\n"): "\\n", ord("\r"): "\\r", ord("\t"): "\\t"})
 
 
 class Documents:
@@ -224,7 +230,8 @@ def asked():
     parser.add_argument("folders", nargs="+", metavar="FOLDER", help="a folder, taken with all that is below it")
     parser.add_argument("--script", action="store_true", help="write a script in place of a job")
     parser.add_argument("--only", action="append", metavar="PATTERN", help="take files of such names alone, as '*.txt'")
-    parser.add_argument("--names", metavar="FILE", help="write there each document's name, with the file that it is of")
+    parser.add_argument("--names", metavar="FILE", help="write there each document's name, a tab and its file, where "
+                        "\\\\, \\n, \\r, \\t stand for a backslash, ends of lines and a tab")
     defaults = {"racks": 4, "workers": 16, "slots": 4, "centres": 1, "replicas": 3, "block": 65_536, "parts": 8}
     for name, default in {**defaults, "seed": 1}.items():
         parser.add_argument(f"--{name}", type=int, default=default, metavar="N", help=f"{default} where not given")
@@ -237,8 +244,8 @@ def main():
         text, documents, said = made(given)
         if given.names:
             with open(given.names, "w", encoding="utf-8", errors="surrogateescape") as file:
-                file.writelines(f"{name}\t{path}\n" for name, path in zip(documents.names, documents.paths))
-                file.writelines(f"-\t{path}\t{reason}\n" for path, reason in documents.left)
+                file.writelines(f"{name}\t{in_a_line(path)}\n" for name, path in zip(documents.names, documents.paths))
+                file.writelines(f"-\t{in_a_line(path)}\t{reason}\n" for path, reason in documents.left)
     except (Limit, OSError) as wrong:
         print(f"job_of_files.py: {wrong}", file=sys.stderr)
         return 1
@@ -249,4 +256,5 @@ def main():
 
 
 if __name__ == "__main__":
+    signal.signal(signal.SIGPIPE, signal.SIG_DFL)  # (a reader that stops reading ends it quietly)
     sys.exit(main())

@@ -9,6 +9,7 @@ each worker along the places of the history, with each attempt as a bar, deaths,
     contrib/picture.py examples/play_death.txt examples/play_death.out > report.svg
 """
 import argparse
+import signal
 import sys
 
 sys.dont_write_bytecode = True
@@ -34,4 +35,5 @@ def main():
 
 
 if __name__ == "__main__":
+    signal.signal(signal.SIGPIPE, signal.SIG_DFL)  # (a reader that stops reading ends it quietly)
     sys.exit(main())

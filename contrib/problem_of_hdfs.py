@@ -3,8 +3,12 @@
 
 Standard input, or the file that is named, is what `hdfs fsck PATH -files -blocks -locations -racks` prints, of Hadoop 2
 or 3, with racks or without. A file has the free slots of the nodes, in lines `NODE SLOTS [RACK]`, NODE being a host as
-the listing has it. A rack there counts before that of the listing; a node without any is in `/default-rack`. A node
-that only the listing has is a worker without slots.
+the listing has it; what follows a `#` is a comment. A rack there counts before that of the listing; a node without any
+is in `/default-rack`. A node that only the listing has is a worker without slots.
+
+Where each rack's path has two parts or more, as `/west/r1`, the first is its data centre and the rest its rack: so the
+distances are those of Hadoop, which counts two steps a level. Where a rack has one part, none has a centre, which is
+told, or refused with --centres; --no-centres asks for no centres.
 
     contrib/problem_of_hdfs.py --slots contrib/samples/slots.txt contrib/samples/hdfs_3_racks.txt
 
@@ -13,6 +17,7 @@ where there is no problem to write, 0 else. `read_listing` is for other programs
 """
 import argparse
 import re
+import signal
 import sys
 from collections import Counter
 from typing import Dict, Iterable, Iterator, List, NamedTuple, Optional, Tuple
@@ -21,12 +26,18 @@ MOST = {"centre": 8, "rack": 32, "worker": 256, "split": 1024}
 MOST_BYTES, MOST_HOLDERS, MOST_SLOTS = 67_108_864, 8, 16
 DEFAULT_RACK = "/default-rack"
 
-FILE = re.compile(r"(?P<file>/.*) \d+ bytes, (?P<sort>\S+: \S+, )?\d+ block\(s\)[:,]")
-BLOCK = re.compile(r"\d+\. (?:\S+:)?(?P<name>blk_-?\d+)\S* +len=(?P<bytes>\d+)(?P<rest>.*)")
-CORRUPT = re.compile(r"/.*: CORRUPT blockpool \S+ block (?P<name>blk_-?\d+)")
-LIVE = re.compile(r"\b(?:Live_)?repl=(\d+)")
-# A replica: `/RACK/HOST:PORT`, `HOST:PORT` or `DatanodeInfoWithStorage[HOST:PORT,STORAGE,KIND]`, its state after it.
-REPLICA = re.compile(r"(?:\w+\[)?(?P<rack>/.*(?=/))?/?(?P<host>[^/,]+):\d+(?:,[^\]]*\])?(?:\((?P<state>.*)\))?")
+FILE = re.compile(r"(?P<file>/.*) [0-9]+ bytes, (?P<sort>\S+: \S+, )?[0-9]+ block\(s\)[:,]")
+# A block. What stands in braces after its name is how Hadoop 2 tells one that is still written.
+BLOCK = re.compile(
+    r"[0-9]+\. (?:\S+:)?(?P<name>blk_-?[0-9]+)[^\s{]*(?P<open>\{.*\})? +len=(?P<bytes>[0-9]{1,19})(?P<rest>(?![0-9]).*)"
+)
+ANY_BLOCK = re.compile(r"[0-9]+\. (?:\S+:)?blk_")
+CORRUPT = re.compile(r"/.*: CORRUPT blockpool \S+ block (?P<name>blk_-?[0-9]+)")
+LIVE = re.compile(r"\b(?:Live_)?repl=([0-9]{1,9})\b")
+# A replica: `/RACK/HOST:PORT`, `HOST:PORT` or `DatanodeInfoWithStorage[HOST:PORT,STORAGE,KIND]`, and after it each in
+# its brackets the upgrade domain and the state.
+REPLICA = re.compile(r"(?:\w+\[)?(?P<rack>/.*(?=/))?/?(?P<host>[^/,]+):[0-9]+(?:,[^\]]*\])?(?P<marks>(?:\([^()]*\))*)")
+SLOTS = re.compile(r"[0-9]{1,9}")
 
 
 class Stop(Exception):
@@ -51,21 +62,24 @@ class Listing(NamedTuple):
     told: "Counter[str]"
 
 
-def replicas(rest: str, racks: Dict[str, str], told: "Counter[str]") -> List[str]:
-    """The hosts in the brackets of a block's line, each once; enters their racks."""
+def replicas(rest: str, racks: Dict[str, str], told: "Counter[str]") -> Tuple[List[str], bool]:
+    """The hosts in the brackets of a block's line, each once, and whether states are told; enters their racks."""
     _, bracket, inner = rest.partition("[")
     hosts: Dict[str, None] = {}
+    has_states = False
     for words in inner.rstrip().rpartition("]")[0].split(", ") if bracket else ():
         found = REPLICA.fullmatch(words)
         if not found:
             raise Stop(f"`{words}` is no replica")
         if found["rack"]:
             racks[found["host"]] = found["rack"]
-        if found["state"] == "CORRUPT":
+        states = [it for it in re.findall(r"\(([^()]*)\)", found["marks"]) if not it.startswith("ud=")]
+        has_states = has_states or bool(states)
+        if "CORRUPT" in states:
             told["replicas marked CORRUPT are left out"] += 1
         else:
             hosts[found["host"]] = None
-    return list(hosts)
+    return list(hosts), has_states
 
 
 def nodes_of(rest: str, racks: Dict[str, str], told: "Counter[str]") -> List[str]:
@@ -74,9 +88,13 @@ def nodes_of(rest: str, racks: Dict[str, str], told: "Counter[str]") -> List[str
     if "MISSING!" in rest or live and live[1] == "0":
         told["blocks without a live replica have no holder"] += 1
         return []
-    nodes = replicas(rest, racks, told)
-    if not nodes:
+    nodes, has_states = replicas(rest, racks, told)
+    if not nodes and has_states:
+        told["blocks without a live replica have no holder"] += 1
+    elif not nodes:
         told["blocks have no locations, for which fsck is to be asked by -locations"] += 1
+    elif live and len(nodes) > int(live[1]) and has_states:
+        told["blocks list more replicas than live ones; all but those marked CORRUPT are kept"] += 1
     elif live and len(nodes) > int(live[1]):
         told["blocks list more replicas than live ones, and -replicaDetails tells which; all are kept"] += 1
     return nodes
@@ -95,13 +113,15 @@ def read_listing(lines: Iterable[str]) -> Listing:
             file, is_whole, offset = header["file"], "erasure-coded" not in (header["sort"] or ""), 0
         elif block and not is_whole:
             listing.told["blocks of erasure-coded files are left out"] += 1
-        elif block and "Expected_repl=" in block["rest"]:
+        elif block and (block["open"] or "Expected_repl=" in block["rest"]):
             listing.told["blocks that are still written are left out"] += 1
         elif block:
             rest = " MISSING!" if block["name"] in corrupt else block["rest"]
             nodes = nodes_of(rest, listing.racks, listing.told)
             listing.blocks.append(Block(block["name"], file, offset, int(block["bytes"]), nodes))
             offset += int(block["bytes"])
+        elif ANY_BLOCK.match(line):
+            listing.told["lines of blocks that are in no form of fsck are left out"] += 1
     return listing
 
 
@@ -110,11 +130,13 @@ def read_slots(lines: Iterable[str]) -> Tuple[Dict[str, int], Dict[str, str]]:
     slots: Dict[str, int] = {}
     racks: Dict[str, str] = {}
     for line in lines:
-        words = line.split()
+        words = line.partition("#")[0].split()
         if not words:
             continue
-        if len(words) > 3 or len(words) < 2 or not words[1].isdigit():
-            raise Stop(f"`{line.rstrip()}` is not NODE SLOTS or NODE SLOTS RACK")
+        if len(words) > 3 or len(words) < 2 or not SLOTS.fullmatch(words[1]):
+            raise Stop(f"`{' '.join(words)}` is not NODE SLOTS or NODE SLOTS RACK")
+        if words[0] in slots:
+            raise Stop(f"the slots of {words[0]} are told twice")
         slots[words[0]] = int(words[1])
         for rack in words[2:]:
             racks[words[0]] = f"/{rack.strip('/')}"
@@ -145,12 +167,22 @@ class Names:
         return (f"{name} {kind} {thing}\n" for (kind, thing), name in self.given.items())
 
 
-def centre_of(rack: str) -> str:
-    """The first part of a rack's path."""
-    parts = rack.strip("/").split("/")
-    if len(parts) < 2:
-        raise Stop(f"the rack {rack} has no data centre before it, so --centres has none")
-    return parts[0]
+def centres_of(racks: Iterable[str], asked: Optional[bool], told: "Counter[str]") -> Dict[str, str]:
+    """The data centre of each rack, the first part of its path, or none of any: as asked, or as the paths are."""
+    parts = {rack: rack.strip("/").split("/") for rack in racks}
+    short = [rack for rack, path in parts.items() if len(path) < 2]
+    if asked and short:
+        raise Stop(f"the rack {short[0]} has no data centre before it, so --centres has none")
+    if asked is False:
+        return {}
+    if short:
+        some = len(parts) - len(short)
+        told["racks have a data centre in their path, which is left out, since others have none"] += some
+        return {}
+    told["racks have more than two levels, and stand two steps below their first"] += sum(
+        len(path) > 2 for path in parts.values()
+    )
+    return {rack: path[0] for rack, path in parts.items()}
 
 
 def unit_of(blocks: List[Block]) -> int:
@@ -175,7 +207,7 @@ class Cluster(NamedTuple):
     blocks: List[Block]
 
 
-def cluster_of(listing: Listing, slots: Dict[str, int], racks: Dict[str, str], has_centres: bool) -> Cluster:
+def cluster_of(listing: Listing, slots: Dict[str, int], racks: Dict[str, str], asked: Optional[bool]) -> Cluster:
     """The cluster of a listing; tells what is taken for granted or cut."""
     told, held = listing.told, [node for block in listing.blocks for node in block.nodes]
     all_slots = {**slots, **{node: 0 for node in held if node not in slots}}
@@ -189,7 +221,7 @@ def cluster_of(listing: Listing, slots: Dict[str, int], racks: Dict[str, str], h
     told[f"blocks have more than {MOST_HOLDERS} replicas, of which the first are kept"] += sum(
         len(block.nodes) > MOST_HOLDERS for block in listing.blocks
     )
-    centres = {rack: centre_of(rack) for rack in rack_of.values()} if has_centres else {}
+    centres = centres_of(dict.fromkeys(rack_of.values()), asked, told)
     for kind, things in (("centre", {*centres.values()}), ("rack", {*rack_of.values()}), ("worker", all_slots)):
         enough(kind, len(things), MOST[kind])
     enough("split", len(listing.blocks), MOST["split"])
@@ -217,7 +249,9 @@ def words_of(argv: Optional[List[str]]) -> argparse.Namespace:
     parser = argparse.ArgumentParser(description=__doc__, formatter_class=argparse.RawDescriptionHelpFormatter)
     parser.add_argument("listing", nargs="?", default="-", help="what fsck printed; standard input where there is none")
     parser.add_argument("--slots", required=True, metavar="FILE", help="lines NODE SLOTS [RACK]")
-    parser.add_argument("--centres", action="store_true", help="the first part of a rack's path is its data centre")
+    centres = parser.add_mutually_exclusive_group()
+    centres.add_argument("--centres", action="store_true", default=None, help="each rack has a data centre in its path")
+    centres.add_argument("--no-centres", dest="centres", action="store_false", help="leave out the data centres")
     parser.add_argument("--skip", type=int, default=0, metavar="N", help="leave out the first N blocks")
     parser.add_argument("--take", type=int, metavar="N", help="take at most N blocks")
     parser.add_argument("--names", metavar="FILE", help="write what each name stands for")
@@ -228,14 +262,21 @@ def some_of(listing: Listing, skip: int, take: Optional[int]) -> Listing:
     """The listing with the blocks of one wave; no block is no listing."""
     if not listing.blocks:
         raise Stop("no block is listed: fsck is to be asked by -files -blocks -locations -racks")
+    if skip < 0 or take is not None and take < 1:
+        raise Stop(f"--skip {skip}: there may be 0 or more" if skip < 0 else f"--take {take}: there may be 1 or more")
     blocks = listing.blocks[skip:] if take is None else listing.blocks[skip : skip + take]
+    if not blocks:
+        raise Stop(f"--skip {skip}: there are {len(listing.blocks)} blocks")
     listing.told["blocks are left out by --skip and --take"] += len(listing.blocks) - len(blocks)
     return listing._replace(blocks=blocks)
 
 
 def write(asked: argparse.Namespace) -> None:
-    with open(asked.slots, encoding="utf-8") as file:
-        slots, racks = read_slots(file)
+    try:
+        with open(asked.slots, encoding="utf-8") as file:
+            slots, racks = read_slots(file)
+    except UnicodeDecodeError:
+        raise Stop(f"{asked.slots} is no UTF-8") from None
     source = sys.stdin.fileno() if asked.listing == "-" else asked.listing
     with open(source, encoding="utf-8", errors="replace") as file:
         listing = some_of(read_listing(file), asked.skip, asked.take)
@@ -264,4 +305,5 @@ def main(argv: Optional[List[str]] = None) -> int:
 
 
 if __name__ == "__main__":
+    signal.signal(signal.SIGPIPE, signal.SIG_DFL)  # (a reader that stops reading ends it quietly)
     sys.exit(main())

@@ -13,11 +13,12 @@ writes `split,worker,rack,distance,bytes_moved`, `s,b,r,2,10` and `t,a,r,0,0`.
 import argparse
 import csv
 import json
+import signal
 import sys
 
 sys.dont_write_bytecode = True
 from certify import Wave
-from texts import Fault, read
+from texts import NUMBER, Fault, read
 
 COLUMNS = ["split", "worker", "rack", "distance", "bytes_moved"]
 
@@ -27,12 +28,13 @@ def starts(problem, answer):
     text = read(problem, has_plan=False)
     first, *lines = [line.split(" ") for line in answer.splitlines()] or [[]]
     for words in lines:
-        if words[0] == "price":
-            continue
         kinds = [text.kinds.get(name) for name in words[1:]]
-        if words[0] != "start" or kinds != ["split", "worker"] or words[1] in text.starts:
-            raise Fault(f"`{' '.join(words)}` is no start of the problem")
-        text.starts[words[1]] = words[2]
+        if words[0] == "start" and kinds == ["split", "worker"] and words[1] not in text.starts:
+            text.starts[words[1]] = words[2]
+        elif words[0] == "price" and kinds in (["split", None], ["worker", None]) and NUMBER.fullmatch(words[2]):
+            text.prices[words[1]] = words[2]
+        else:
+            raise Fault(f"`{' '.join(words)}` is no start of the problem, and no price")
     wave = Wave(text)
     for s, w in wave.started:
         if not wave.is_open[s] or not wave.may_take(s, w) or wave.load[w] > text.free[w]:
@@ -59,7 +61,7 @@ def main():
     given = parser.parse_args()
     try:
         with open(given.problem, "rb") as file:
-            wave = starts(file.read(), sys.stdin.read())
+            wave = starts(file.read(), sys.stdin.buffer.read().decode("latin-1"))
     except (Fault, OSError) as wrong:
         print(f"starts_of_plan.py: {wrong}", file=sys.stderr)
         return 1
@@ -72,4 +74,5 @@ def main():
 
 
 if __name__ == "__main__":
+    signal.signal(signal.SIGPIPE, signal.SIG_DFL)  # (a reader that stops reading ends it quietly)
     sys.exit(main())

@@ -22,6 +22,7 @@ import random
 import re
 import shlex
 import shutil
+import signal
 import subprocess
 import sys
 import tempfile
@@ -99,6 +100,29 @@ def help_examples(count, program):
             count.expect(line, (ran.returncode, bool(ran.stdout)), (0, True))
 
 
+def left(count):
+    """Each script whose reader has gone away is ended by that, without a word."""
+    swap, plan = EXAMPLES / "plan_swap.txt", EXAMPLES / "plan_swap.out"
+    given = {
+        "certify.py": ([], EXAMPLES / "swap.txt"),
+        "dimacs_of_problem.py": ([], swap),
+        "job_of_files.py": ([TALES], swap),
+        "picture.py": ([swap, plan], swap),
+        "problem_of_hdfs.py": (["--slots", CONTRIB / "samples/slots.txt"], CONTRIB / "samples/hdfs_3.txt"),
+        "starts_of_plan.py": ([swap], plan),
+    }
+    count.expect("the scripts whose reader goes away", sorted(given), SCRIPTS)
+    for name, (words, file) in given.items():
+        here, there = os.pipe()
+        os.close(here)
+        with open(file) as text:
+            words = [sys.executable, CONTRIB / name, *words]
+            ran = subprocess.run(words, stdin=text, stdout=there, stderr=subprocess.PIPE, text=True)
+        os.close(there)
+        is_quiet = not re.search("Traceback|BrokenPipe|Errno", ran.stderr)
+        count.expect(f"{name} without a reader", (ran.returncode, is_quiet), (-signal.SIGPIPE, True))
+
+
 def helped(count, program):
     """The examples in the program's own help run, and the page that it names is there."""
     for words in ([], ["check"], ["plan"], ["play"], ["run"]):
@@ -165,6 +189,8 @@ def started(count, program):
         "an unknown worker": b"wave 1 0\nstart t c\n",
         "a worker that is a rack": b"wave 1 0\nstart t r\n",
         "half a line": b"wave 1 0\nstart t\n",
+        "half a price": b"wave 1 0\nstart t a\nprice s\n",
+        "a price that is no number": b"wave 1 0\nstart t a\nprice s \xb2\n",
         "a fault": b"line 2: fault 7\n",
         "nothing": b"",
     }.items():
@@ -258,6 +284,7 @@ def indexed(count, program, room):
     names, tales = room / "names", room / "tales"
     shutil.copytree(TALES, tales)
     (tales / "south/link.txt").symlink_to("wind.txt")
+    (tales / "north/zero\nend\t.bin").write_bytes(b"\0")
     for words in SETTINGS:
         words = [tales, *words, "--names", names]
         job, script_text = (script("job_of_files.py", *words, *more)[0] for more in ([], ["--script"]))
@@ -270,14 +297,14 @@ def indexed(count, program, room):
         count.expect(f"play of a script of files, {shown}", (is_played, wrong, status), (True, "", 0))
     out, told, _ = script("job_of_files.py", tales, "--names", names)
     count.expect("what was left out", [it.split("/")[-1] for it in re.findall("(?m)^-.*$", names.read_text())],
-                 ["link.txt\ta link", "zero.bin\ta zero byte, so no text"])
+                 ["link.txt\ta link", "zero\\nend\\t.bin\ta zero byte, so no text", "zero.bin\ta zero byte, so no text"])
     told = [line.partition(": ")[2] for line in told.splitlines()]
     count.expect("what was changed", told, [
         "7 files of 438 bytes are documents in 1 splits",
         "12 line ends and 11 other bytes outside printable ASCII became spaces",
         "7 names differ from their file's path, 1 cut to 32 characters and 1 numbered",
         "1 left out: a link",
-        "1 left out: a zero byte, so no text",
+        "2 left out: a zero byte, so no text",
     ])
     texts = [line.split(b" ", 3)[3] for line in out.splitlines() if line.startswith(b"doc ")]
     paths = [line.split("\t")[1] for line in names.read_text().splitlines() if line[0] != "-"]
@@ -481,6 +508,7 @@ def main():
     count = Counted()
     with tempfile.TemporaryDirectory() as room:
         plain(count)
+        left(count)
         placed(count, Path(room))
         refused(count, Path(room))
         drawn(count)

@@ -5,6 +5,7 @@
 
 The problems beside the samples, what is told and the waves were found by hand. The last line is 'N passed, M failed'.
 """
+import random
 import subprocess
 import sys
 import tempfile
@@ -12,15 +13,18 @@ from pathlib import Path
 
 ROOT = Path(__file__).resolve().parent.parent
 SAMPLES = ROOT / "contrib/samples"
-NODES = ["4 nodes without a rack are in /default-rack"]
+NODES = [
+    "4 nodes without a rack are in /default-rack",
+    "1 racks have a data centre in their path, which is left out, since others have none",
+]
 OTHER = ["1 nodes that only the listing has are workers without slots"]
 BAD = ["2 blocks without a live replica have no holder"]
 # Of each sample the words, what is told, and the first line of its plan.
 CASES = {
-    "hdfs_2_racks": ([], BAD + OTHER, "wave 3 0"),
+    "hdfs_2_racks": (["--no-centres"], BAD + OTHER, "wave 3 0"),
     "hdfs_2": ([], NODES, "wave 2 1200"),
     "hdfs_3_racks": (
-        ["--centres"],
+        [],
         ["1 blocks of erasure-coded files are left out", *BAD, "1 replicas marked CORRUPT are left out", *OTHER,
          "sizes are in units of 2 bytes, rounded up: so is the cost of a plan"],
         "wave 3 0",
@@ -46,15 +50,16 @@ class Count:
 def problem(listing, *words, slots=SAMPLES / "slots.txt"):
     """The output, what is told, and the status."""
     command = [sys.executable, str(ROOT / "contrib/problem_of_hdfs.py"), "--slots", str(slots), *words, "-"]
-    ran = subprocess.run(command, input=listing, capture_output=True, text=True)
-    return ran.stdout, ran.stderr.splitlines(), ran.returncode
+    listing = listing if isinstance(listing, bytes) else listing.encode()
+    ran = subprocess.run(command, input=listing, capture_output=True)
+    return ran.stdout.decode(), ran.stderr.decode().splitlines(), ran.returncode
 
 
-def listing_of(blocks, nodes, size=5):
+def listing_of(blocks, nodes, size=5, rack="/c/r{}"):
     """A listing of a file whose blocks lie on one node each, in turn."""
     lines = [f"/data/file {blocks * size} bytes, {blocks} block(s):  OK"]
     lines += [
-        f"{it}. BP-1-10.0.0.1-1:blk_{it + 1}_1 len={size} repl=1 [/c/r{it % nodes}/10.0.0.{it % nodes}:50010]"
+        f"{it}. BP-1-10.0.0.1-1:blk_{it + 1}_1 len={size} repl=1 [{rack.format(it % nodes)}/10.0.0.{it % nodes}:50010]"
         for it in range(blocks)
     ]
     return "\n".join([*lines, ""])
@@ -78,9 +83,118 @@ def refusals(count):
         (listing_of(40, 40), [], "there are 33 racks"),
         ((SAMPLES / "hdfs_2.txt").read_text(), ["--centres"], "the rack /default-rack has no data centre"),
         ("/f 1 bytes, 1 block(s): OK\n0. blk_1_1 len=1 repl=1 [x y]\n", [], "`x y` is no replica"),
+        (listing_of(2, 2), ["--skip", "-1"], "--skip -1: there may be 0 or more"),
+        (listing_of(2, 2), ["--skip", "2"], "--skip 2: there are 2 blocks"),
+        (listing_of(2, 2), ["--take", "0"], "--take 0: there may be 1 or more"),
     ):
         said, told, status = problem(listing, *words, *(["--take", "31"] if "33" in says else []))
         count.holds(says, (said, status) == ("", 1) and says in told[-1], (said, told))
+
+
+def slots_refused(count):
+    """A slots file that is not as it should be is told in one line."""
+    with tempfile.TemporaryDirectory() as room:
+        slots = Path(room) / "slots"
+        for text, says in (
+            (b"a 1\nb \xc2\xb2\n", "`b \u00b2` is not NODE SLOTS or NODE SLOTS RACK"),
+            (b"a -1\n", "`a -1` is not NODE SLOTS or NODE SLOTS RACK"),
+            (b"a\n", "`a` is not NODE SLOTS or NODE SLOTS RACK"),
+            (b"a 1 /r x\n", "`a 1 /r x` is not NODE SLOTS or NODE SLOTS RACK"),
+            (b"a " + b"1" * 5000 + b"\n", "` is not NODE SLOTS or NODE SLOTS RACK"),
+            (b"a 1\nb\xff 1\n", f"{slots} is no UTF-8"),
+            (b"a 1\nb 1\na 2\n", "the slots of a are told twice"),
+        ):
+            slots.write_bytes(text)
+            said, told, status = problem(listing_of(1, 1), slots=slots)
+            is_so = (said, status, len(told)) == ("", 1, 1) and told[0].endswith(says)
+            count.holds(f"of slots {text[:20]}", is_so, (said, told, status))
+        slots.write_text("# the free slots\n10.0.0.0 3 # of a small one\n\n")
+        said, told, status = problem(listing_of(1, 1), slots=slots)
+        is_so = "worker n10.0.0.0 c-r0 3\n" in said and (told, status) == ([], 0)
+        count.holds("comments of slots", is_so, (said, told))
+    said, told, status = problem(listing_of(1, 1), slots=Path("/nowhere/slots"))
+    count.holds("no file of slots", (said, status, len(told)) == ("", 1, 1), (said, told))
+
+
+REPLICAS = "DatanodeInfoWithStorage[10.0.1.21:9866,DS-1,DISK]{}, DatanodeInfoWithStorage[10.0.2.31:9866,DS-2,DISK]{}"
+OPEN = "{{blockUCState={}, primaryNodeIndex=-1, replicas=[ReplicaUC[[DISK]DS-1:NORMAL:10.0.1.21:50010|RBW]]}}"
+WRITTEN, FORM = "1 blocks that are still written", "1 lines of blocks that are in no form of fsck"
+MORE, CORRUPT = "1 blocks list more replicas than live ones", "1 replicas marked CORRUPT"
+BOTH = "n10.0.1.21 n10.0.2.31"
+# Lines of a block, what is told of them, and the holders in the problem, or None where the block is left out.
+LINES = [
+    (f"{OPEN.format('UNDER_CONSTRUCTION')} len=9 repl=1 [10.0.1.21:50010]", WRITTEN, None),
+    (f"{OPEN.format('COMMITTED')} len=9 repl=1 [10.0.1.21:50010]", WRITTEN, None),
+    ("{UCState=UNDER_CONSTRUCTION, truncateBlock=null} len=9 MISSING!", WRITTEN, None),
+    (" len=9 Expected_repl=1 [10.0.1.21:9866]", WRITTEN, None),
+    (" size=9 [10.0.1.21:9866]", FORM, None),
+    (f" len={'9' * 5000} repl=1 [10.0.1.21:9866]", FORM, None),
+    (f" len=9 Live_repl=1 [{REPLICAS.format('(ud=a)(CORRUPT)', '(ud=b)(LIVE)')}]", CORRUPT, "n10.0.2.31"),
+    (f" len=9 Live_repl=2 [{REPLICAS.format('(ud=CORRUPT)', '(ud=)')}]", "", BOTH),
+    (f" len=9 Live_repl=1 [{REPLICAS.format('', '')}]", f"{MORE}, and -replicaDetails tells which; all are kept", BOTH),
+    (f" len=9 Live_repl=1 [{REPLICAS.format('(DECOMMISSIONED)', '(LIVE)')}]",
+     f"{MORE}; all but those marked CORRUPT are kept", BOTH),
+    (f" len=9 Live_repl=0 [{REPLICAS.format('(IN MAINTENANCE)', '(EXCESS)')}]", "1 blocks without a live replica", ""),
+    (f" len=9 Live_repl=1 [{REPLICAS.format('(CORRUPT)', '(CORRUPT)')}]", "1 blocks without a live replica", ""),
+    (" len=9 repl=1", "1 blocks have no locations", ""),
+]
+
+
+def of_blocks(count):
+    """What is made of each form of a block's line."""
+    whole = "1. BP-1-10.0.0.1-1:blk_8_1 len=5 repl=1 [10.0.1.22:50010]"
+    for line, says, holders in LINES:
+        listing = f"/f 14 bytes, 2 block(s):  OK\n0. BP-1-10.0.0.1-1:blk_7_1{line}\n{whole}\n"
+        said, told, status = problem(listing)
+        found = [it.partition(" 9")[2].strip() for it in said.splitlines() if it.startswith("split blk_7 ")]
+        is_so = status == 0 and found == ([] if holders is None else [holders])
+        told = [it for it in told if it not in NODES]
+        is_told = [it for it in told if says in it] if says else not told
+        count.holds(line[:90], is_so and is_told and "split blk_8 5 n10.0.1.22\n" in said, (said, told))
+
+
+def levels(count):
+    """Racks of two levels stand in their centres, and those of more two steps below the first."""
+    with tempfile.TemporaryDirectory() as room:
+        slots = Path(room) / "slots"
+        slots.write_text("a 1 /east/r1\nb 1 /west/r1\nc 1 /west/hall/r1\n")
+        said, told, _ = problem(listing_of(1, 1), slots=slots)
+        racks = "rack east-r1 east\nrack west-r1 west\nrack west-hall-r1 west\nrack c-r0 c\n"
+        is_so = said.startswith("problem 2\ncentre east\ncentre west\ncentre c\n" + racks)
+        count.holds("racks of two and three levels", is_so and told[0].startswith("1 nodes that only"), said)
+        deep = ["1 racks have more than two levels, and stand two steps below their first"]
+        count.holds("three levels are told", told[1:] == deep, told)
+        said, told, _ = problem(listing_of(1, 1), "--no-centres", slots=slots)
+        is_so = said.startswith("problem 1\nrack east-r1\nrack west-r1\nrack west-hall-r1\nrack c-r0\n")
+        count.holds("--no-centres", is_so and len(told) == 1, (said, told))
+
+
+def any_bytes(count):
+    """Whatever bytes are given, in the listing or in the slots, there is a problem or one line, and no traceback."""
+    rnd = random.Random(51)
+    samples = [path.read_bytes() for path in sorted(SAMPLES.glob("hdfs_*.txt"))]
+    given_slots = (SAMPLES / "slots.txt").read_bytes()
+
+    def spoilt(data):
+        data = bytearray(data)
+        for _ in range(rnd.randint(1, 12)):
+            at = rnd.randrange(len(data))
+            some = rnd.choice([bytes([rnd.randrange(256)]), *b"|\n|\0|\xc2\xb2|[|(|{|9999999999".split(b"|")])
+            data[at : at + rnd.choice([0, 1, 1, 30])] = some
+        return bytes(data)
+
+    with tempfile.TemporaryDirectory() as room:
+        slots, wrong = Path(room) / "slots", []
+        for at in range(120):
+            slots.write_bytes(spoilt(given_slots) if at % 3 == 0 else given_slots)
+            listing = spoilt(rnd.choice(samples)) if at % 3 else rnd.choice(samples)
+            try:
+                said, told, status = problem(listing, slots=slots)
+                if status not in (0, 1) or bool(said) != (status == 0) or [it for it in told if "Traceback" in it]:
+                    wrong.append((listing, told))
+            except UnicodeDecodeError as why:
+                wrong.append((listing, why))
+        count.holds("spoilt listings and slots", not wrong, wrong[:1])
 
 
 def parts(count):
@@ -103,7 +217,11 @@ def main():
     count = Count()
     samples(count, sys.argv[1:])
     refusals(count)
+    slots_refused(count)
+    of_blocks(count)
+    levels(count)
     parts(count)
+    any_bytes(count)
     print(f"{count.passed} passed, {count.failed} failed")
     return int(count.failed != 0)
 
