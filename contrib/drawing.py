@@ -3,6 +3,7 @@
 Each colour is a class of the style below, whose inks turn with the reader's scheme. Letters are of the reader's own
 monospaced font, whose width is known well enough to lay out by. The same calls make the same bytes.
 """
+import os
 from xml.sax.saxutils import escape
 
 # What turns with the scheme: paper, ink, faint ink, lines and boxes.
@@ -11,6 +12,8 @@ DARK = {"paper": "#0d1117", "ink": "#e6edf3", "faint": "#9da7b1", "line": "#5760
 # What does not, each legible on both papers, with dark letters upon it.
 FILLS = {"good": "#2fae84", "near": "#6cb6ec", "far": "#e9a820", "bad": "#e0692e", "grey": "#9aa3ad"}
 LETTER = 0.61
+# How wide and how high a drawing may be within its margin: 1,560 by 2,400 with it.
+MARGIN, MOST_WIDE, MOST_HIGH = 12, 1536, 2376
 
 
 def rules(inks):
@@ -25,9 +28,22 @@ def number(value):
     return f"{value:.1f}".replace(".0", "")
 
 
-def shortened(name, most):
-    """A name in at most so many letters."""
-    return name if len(name) <= most else name[: max(most - 1, 1)] + "\u2026"
+def cut(names, most):
+    """Each name with a form of it of at most so many letters. A long name loses some in its middle, or where most names
+    then differ, and where that helps the end that all of them share."""
+    most = max(most, 2)
+    long = [name for name in dict.fromkeys(names) if len(name) > most]
+    shared = len(os.path.commonprefix([name[::-1] for name in long])) if len(long) > 1 else 0
+
+    def short(name, front, end):
+        name, room = name[: len(name) - end], most - 1 - bool(end)
+        name = name if len(name) <= room else f"{name[:front]}\u2026{name[len(name) - room + front:]}"
+        return f"{name}\u2026" if end else name
+
+    ways = [(front, end) for end in {0, shared} for front in range(most - 1 - bool(end))]
+    told_apart = lambda front, end: (len({short(name, front, end) for name in long}), -end, -abs(front - most // 2))
+    front, end = max(ways, key=lambda it: told_apart(*it)) if long and ways else (0, 0)
+    return {name: name if len(name) <= most else short(name, front, end) for name in names}
 
 
 def width_of(letters, size):
@@ -63,7 +79,7 @@ class Drawing:
     def line(self, x1, y1, x2, y2, kind="line", width=1.0, more=""):
         self.path(f"M{number(x1)} {number(y1)}L{number(x2)} {number(y2)}", kind, width, more)
 
-    def svg(self, margin=12):
+    def svg(self, margin=MARGIN):
         """The whole picture."""
         width, height = number(self.width + 2 * margin), number(self.height + 2 * margin)
         fills = "".join(f".{name}{{fill:{colour}}}" for name, colour in FILLS.items())

@@ -1,9 +1,11 @@
-"""The picture of a script with its report."""
-from drawing import Drawing, shortened, width_of
-from texts import Fault
+"""The picture of a script with its report, or of a job with the history of its run."""
+from course import course_of
+from drawing import MOST_HIGH, Drawing, cut, width_of
 
 # How wide a chart is of few events, and of many.
 FEW, NARROW, WIDE = 60, 640, 1040
+# How high the foot is, with the places.
+FOOT = 36
 # How an attempt ended: the class of its bar, and the words of its title.
 ENDS = {
     "done": ("good", "done"),
@@ -16,109 +18,17 @@ ENDS = {
 }
 
 
-class Attempt:
-    """An attempt: its work, where it started and ended in the history, and how."""
-
-    def __init__(self, number, kind, of, worker, start):
-        self.number, self.kind, self.of, self.worker, self.start = number, kind, of, worker, start
-        self.end, self.how = None, "runs"
-
-    def ends(self, place, how):
-        self.end, self.how = place, how
-
-
-class History:
-    """What a script and its report tell, with the place in the history of each event."""
-
-    def __init__(self, script, report):
-        lines = [line.split(" ") for line in script.decode("ascii").splitlines()]
-        head = lines[: lines.index(["begin"])] if ["begin"] in lines else lines
-        self.slots = {words[1]: int(words[3]) for words in head if words[0] == "worker"}
-        self.parts = next((int(words[1]) for words in head if words[0] == "parts"), 1)
-        self.attempts, self.place = {}, 0
-        self.waves, self.deaths, self.returns, self.ignored = [], [], [], 0
-        self.said = [line.split(" ") for line in report.splitlines()]
-        for words in lines[len(head) + 1 : -1]:
-            self.take(words)
-        if not self.said or self.said[0][0] not in ("index", "stuck"):
-            raise Fault("the report does not end as a report does")
-        self.ending = " ".join(self.said[0])
-
-    def next(self, *keywords):
-        """Takes the report's next line if it begins with one of these words."""
-        return self.said.pop(0) if self.said and self.said[0][0] in keywords else None
-
-    def take(self, words):
-        """Follows a command and what the report says of it."""
-        if words[0] == "copies":
-            if not self.next("copies"):
-                raise Fault("the report is not of this script")
-            while self.next("copy"):
-                pass
-            return
-        answer = self.next("accepted", "ignored")
-        if not answer:
-            raise Fault("the report is not of this script")
-        if answer[0] == "ignored":
-            self.ignored += 1
-            return
-        self.place = int(answer[1])
-        self.event(words)
-
-    def event(self, words):
-        """An event at the present place."""
-        keyword = words[0]
-        if keyword == "wave":
-            self.waves.append((self.place, self.next("wave")))
-            while self.said and self.said[0][0] == "start":
-                self.begin("map", *self.next("start")[1:])
-        elif keyword == "backup":
-            self.begin("backup", *self.next("backup")[1:])
-        elif keyword == "reduce":
-            self.begin("part", *self.next("reduce")[1:])
-        elif keyword == "done":
-            self.done(self.attempts[words[1]])
-        elif keyword in ("fail", "withdraw"):
-            self.attempts[words[1]].ends(self.place, "failed" if keyword == "fail" else "withdrawn")
-        elif keyword == "die":
-            self.dies(words[1])
-        elif keyword == "join":
-            self.returns.append((self.place, words[1]))
-        elif keyword == "sweep":
-            while self.said and self.said[0][0] == "dead":
-                self.dies(self.next("dead")[1])
-
-    def begin(self, kind, number, of, worker):
-        self.attempts[number] = Attempt(number, kind, of, worker, self.place)
-
-    def done(self, attempt):
-        attempt.ends(self.place, "done")
-        for other in self.attempts.values():
-            if other.how == "runs" and other.of == attempt.of and (other.kind == "part") == (attempt.kind == "part"):
-                other.ends(self.place, "outrun")
-
-    def dies(self, worker):
-        """Its attempts are lost, and what it had mapped, unless every part is done."""
-        self.deaths.append((self.place, worker))
-        done = [it for it in self.attempts.values() if it.how == "done"]
-        all_done = sum(it.kind == "part" for it in done) == self.parts
-        for attempt in self.attempts.values():
-            if attempt.worker == worker and attempt.how == "runs":
-                attempt.ends(self.place, "lost")
-            elif attempt.worker == worker and attempt in done and attempt.kind != "part" and not all_done:
-                attempt.how = "undone"
-
-
 class Chart:
     """Where the history's places and the workers' rows lie."""
 
     def __init__(self, history, wide, top):
         workers = len(history.slots)
         self.top, self.row = top, 26 if workers <= 16 else 16 if workers <= 64 else 9
+        self.row = min(self.row, (MOST_HIGH - top - FOOT) / max(workers, 1))
         self.size = 11 if workers <= 64 else 8
         self.wide = wide
-        self.names = min(max([len(name) for name in history.slots], default=1), 16)
-        self.left = width_of(self.names, self.size) + 10
+        self.names = cut(history.slots, 16)
+        self.left = width_of(max(map(len, self.names.values()), default=1), self.size) + 10
         self.last = max(history.place + 1, 2)
         self.rows = {name: top + at * self.row for at, name in enumerate(history.slots)}
         self.bottom = top + workers * self.row
@@ -127,15 +37,25 @@ class Chart:
         return self.left + self.wide * (place - 0.5) / (self.last - 0.5)
 
 
+def ending_of(history):
+    """How it ended, in words."""
+    keyword, number = history.ending.split(" ")
+    if keyword == "index":
+        return f"done, an index of {int(number):,} words"
+    if number != "0":
+        return f"{int(number):,} splits are open at the end"
+    has_parts = any(it.kind == "part" for it in history.attempts.values())
+    return "every split is mapped, and " + ("a part is not done" if has_parts else "no part is told of")
+
+
 def draw_report(script, report):
-    """Draws a report; a Fault where it is no report of the script."""
-    try:
-        history = History(script, report)
-    except (IndexError, KeyError, ValueError):
-        raise Fault("the report is not of this script") from None
-    counts = f"{len(history.attempts):,} attempts, {history.place:,} events, {history.ignored:,} ignored"
-    drawing = Drawing(f"{counts}; {history.ending}")
-    drawing.text(0, 14, f"{counts}; at the end `{history.ending}`", 15)
+    """Draws a report or a history; a Fault where it is not of the script or job."""
+    history = course_of(script, report)
+    counts = f"{len(history.attempts):,} attempts, {history.place:,} events"
+    if script.startswith(b"script "):
+        counts += f", {history.ignored:,} ignored"
+    drawing = Drawing(f"{counts}; {ending_of(history)}")
+    drawing.text(0, 14, f"{counts}; {ending_of(history)}", 15)
     wide = NARROW if history.place <= FEW else WIDE
     chart = Chart(history, wide, 62 + legend(drawing, history, wide))
     frame(drawing, chart, history)
@@ -184,10 +104,10 @@ def frame(drawing, chart, history):
     for at, (name, top) in enumerate(chart.rows.items()):
         if at % 2 == 0:
             drawing.box(chart.left, top, chart.wide, chart.row, "box", more=' stroke="none" style="stroke:none"')
-        drawing.text(0, top + chart.row / 2 + chart.size / 3, shortened(name, chart.names), chart.size)
+        drawing.text(0, top + chart.row / 2 + chart.size / 3, chart.names[name], chart.size)
     after = -100
-    for number, (place, _) in enumerate(history.waves, 1):
-        x = chart.x(place)
+    for number, wave in enumerate(history.waves, 1):
+        x = chart.x(wave.place)
         drawing.line(x, chart.top - 6, x, chart.bottom, "line", 1, ' stroke-dasharray="2 3"')
         words = f"wave {number}"
         if x > after:
@@ -220,7 +140,7 @@ def bar(drawing, chart, history, lanes, attempt):
     if high >= 9 and letters >= min(len(attempt.of), 3):
         ink = "dark" if ENDS[attempt.how][0] not in ("hollow", "hatch") else "ink"
         words = f"part {attempt.of}" if attempt.kind == "part" and letters >= len(attempt.of) + 5 else attempt.of
-        words = shortened(words, letters)
+        words = cut([words], letters)[words]
         if attempt.how == "lost":
             drawing.box(x + 2, y + high / 2 - 5, width_of(len(words), 9) + 2, 10, "paper")
         drawing.text(x + 3, y + high / 2 + 2.6, words, 9, ink)

@@ -39,6 +39,10 @@ from reference_play import misplayed
 
 sys.path.append(str(ROOT / "contrib"))
 from certify import answer
+from drawing import cut
+from picture_of_plan import draw_plan
+from picture_of_report import draw_report
+from texts import Fault
 
 CONTRIB, EXAMPLES = ROOT / "contrib", ROOT / "examples"
 TALES = CONTRIB / "samples/tales"
@@ -297,7 +301,7 @@ def indexed(count, program, room):
         count.expect(f"play of a script of files, {shown}", (is_played, wrong, status), (True, "", 0))
     out, told, _ = script("job_of_files.py", tales, "--names", names)
     count.expect("what was left out", [it.split("/")[-1] for it in re.findall("(?m)^-.*$", names.read_text())],
-                 ["link.txt\ta link", "zero\\nend\\t.bin\ta zero byte, so no text", "zero.bin\ta zero byte, so no text"])
+                 ["link.txt\ta link", *(f"{it}.bin\ta zero byte, so no text" for it in ("zero\\nend\\t", "zero"))])
     told = [line.partition(": ")[2] for line in told.splitlines()]
     count.expect("what was changed", told, [
         "7 files of 438 bytes are documents in 1 splits",
@@ -390,7 +394,7 @@ def refused(count, room):
 def drawn(count):
     """The pictures are those of their texts, and each answer of an example can be drawn."""
     for name in pictures.PICTURES:
-        count.expect(f"docs/pictures/{name} made anew", (pictures.FOLDER / name).read_bytes() == pictures.made(name))
+        count.expect(f"{name} made anew", (ROOT / name).read_bytes() == pictures.made(name))
     report = (CONTRIB / "samples/job.out").read_bytes()
     count.expect("samples/job.out is a report", misplayed((CONTRIB / "samples/job.txt").read_bytes(), report, 0), None)
     for path in sorted(EXAMPLES.glob("pl*_*.txt")):
@@ -419,6 +423,88 @@ def drawn(count):
     drawing = script("picture.py", EXAMPLES / "play_death.txt", EXAMPLES / "play_death.out")[0].decode()
     for words in ("map of s on a: done, and then lost with its worker", "map of s on b: done", "part 1 on b: done"):
         count.expect(f"the picture of play_death says {words}", words in drawing)
+
+
+def wave_of(racks, centres, slots, long):
+    """A problem of racks with so many workers each and a plan that fills about half of the slots, with equal prices."""
+    name = lambda kind, number: f"{kind}{'-same' * 4 if long else ''}{number:03d}"
+    head = [f"problem {2 if centres else 1}", *(f"centre {name('c', it)}" for it in range(centres))]
+    head += [f"rack {name('r', it)}" + (f" {name('c', it % centres)}" if centres else "") for it in range(len(racks))]
+    rack_of = [rack for rack, some in enumerate(racks) for _ in range(some)]
+    head += [f"worker {name('w', it)} {name('r', rack)} {slots}" for it, rack in enumerate(rack_of)]
+    taken = [w for w in range(len(rack_of)) for _ in range(slots) if (w + _) % 2][:1024]
+    head += [f"split {name('s', it)} 7 {name('w', w)}" for it, w in enumerate(taken)]
+    plan = [f"wave {len(taken)} 0", *(f"start {name('s', it)} {name('w', w)}" for it, w in enumerate(taken))]
+    plan += [f"price {name('s', it)} {10**19}" for it in range(len(taken))]
+    return "\n".join([*head, "end", ""]).encode(), "\n".join([*plan, ""])
+
+
+def sized(count):
+    """No picture is wider or higher than a page and a half, whatever the racks, and names stay apart."""
+    wrong = []
+    for racks in ([256], [1], [40], [0, 41, 3], [8] * 32, [225] + [1] * 31, [24, 1, 1, 1, 1] * 6, [31] * 8, [64] * 4):
+        for centres, slots, long in ((0, 1, False), (0, 16, True), (1, 4, True), (8, 16, True), (8, 2, False)):
+            drawing = draw_plan(*wave_of(racks, min(centres, len(racks)), slots, long)).svg()
+            wide, high = map(float, re.search('viewBox="0 0 ([0-9.]+) ([0-9.]+)"', drawing).groups())
+            named = re.findall('>(w[^<]*)</text>', drawing)
+            if wide > 1560 or high > 2400 or len({*named}) < sum(racks):
+                wrong.append((racks, centres, slots, long, wide, high))
+    count.none("plans of many shapes fit a page", wrong)
+    drawing = draw_plan(*wave_of([256], 0, 2, True)).svg()
+    says = "greatest split prices: 256 of 10,000,000,000,000,000,000 each"
+    count.expect("equal prices are told as such", says in drawing)
+    script_text = b"script 1\nrack r\n" + b"".join(b"worker w%d r 16\n" % it for it in range(256)) + b"begin\nend\n"
+    drawing = draw_report(script_text, "stuck 0\n").svg()
+    wide, high = map(float, re.search('viewBox="0 0 ([0-9.]+) ([0-9.]+)"', drawing).groups())
+    count.expect("a report of 256 workers fits a page", wide <= 1560 and high <= 2400)
+    for names, most in (
+        ([f"blk_10737418{it:02d}" for it in range(60)], 12),
+        ([f"ip-10-0-0-{it}.ec2.internal" for it in range(60)], 12),
+        ([f"node{it:03d}.of.a.cluster.example.com" for it in range(60)], 10),
+    ):
+        short = [*cut(names, most).values()]
+        fits = len({*short}) == len(names) and max(map(len, short)) <= most
+        count.expect(f"names such as {short[0]} stay apart", fits)
+
+
+def as_history(script_text, report):
+    """The job of a script, and its report as the history of a run of that job."""
+    lines, said = script_text.decode().splitlines(), report.splitlines()
+    begin = lines.index("begin")
+    job, history, at = [lines[0].replace("script", "job"), *lines[1:begin], "end", ""], [], 0
+    for line in lines[begin + 1 : -1]:
+        answer, at = said[at], at + 1
+        is_own = line.split()[0] not in ("wave", "backup", "reduce", "copies")
+        history += [line] * (is_own and answer.startswith("accepted"))
+        while at < len(said) and not said[at].startswith(("accepted", "ignored", "copies", "index", "stuck")):
+            history += [said[at]] * (not said[at].startswith(("copy", "dead")))
+            at += 1
+    return "\n".join(job).encode(), "\n".join([*history, *said[at:], ""])
+
+
+def recorded(count):
+    """A job with its history is drawn as its script with its report is."""
+    some = [CONTRIB / "samples/job.txt", *sorted(EXAMPLES.glob("play_*.txt"))]
+    for path in some:
+        if path.with_suffix(".status").exists() and path.with_suffix(".status").read_text().strip() == "2":
+            continue
+        given, report = path.read_bytes(), path.with_suffix(".out").read_text()
+        below_head = lambda drawing: drawing.svg().split("</text>", 1)[1]
+        found = below_head(draw_report(*as_history(given, report)))
+        count.expect(f"the picture of the history of {path.stem}", found == below_head(draw_report(given, report)))
+    job, history = as_history(some[0].read_bytes(), some[0].with_suffix(".out").read_text())
+    for name, false in {
+        "an attempt twice": history.replace("start 2 ", "start 1 "),
+        "a wave that costs less": history.replace("wave 2 64", "wave 2 63"),
+        "an unknown event": history.replace("done 1\n", "do 1\n"),
+        "no end": history[: history.index("index")],
+        "a death of the dead": history.replace("die dee", "die dee\ndie dee"),
+    }.items():
+        try:
+            found = draw_report(job, false) and ""
+        except Fault as fault:
+            found = str(fault)
+        count.expect(f"no picture of {name}", found, "the history is not of this job")
 
 
 def many_drawn(count, program):
@@ -512,6 +598,8 @@ def main():
         placed(count, Path(room))
         refused(count, Path(room))
         drawn(count)
+        sized(count)
+        recorded(count)
         mapped(count)
         for program in map(os.path.abspath, sys.argv[1:]):
             help_examples(count, program)

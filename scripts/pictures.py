@@ -1,13 +1,16 @@
 #!/usr/bin/env python3
-"""Makes the pictures of docs/pictures, each of a text with its answer."""
+"""Makes the pictures of the docs, each of a text with its answer."""
 import subprocess
 import sys
 
 sys.dont_write_bytecode = True
 from crates import ROOT
 
-FOLDER = ROOT / "docs/pictures"
-PICTURES = {"plan.svg": "contrib/samples/wave", "report.svg": "contrib/samples/job"}
+PICTURES = {
+    "docs/pictures/plan.svg": "contrib/samples/wave",
+    "docs/pictures/report.svg": "contrib/samples/job",
+    "contrib/dask/run.svg": "contrib/dask/run",
+}
 
 
 def made(name):
@@ -18,10 +21,9 @@ def made(name):
 
 
 def main():
-    FOLDER.mkdir(exist_ok=True)
     for name in PICTURES:
-        (FOLDER / name).write_bytes(made(name))
-        print(f"docs/pictures/{name}")
+        (ROOT / name).write_bytes(made(name))
+        print(name)
 
 
 if __name__ == "__main__":
