@@ -1,6 +1,6 @@
 # Everything goes by rt, the command of the Rattle kit. Nothing here needs the network, and only `install` installs.
 
-.PHONY: all library install uninstall pictures demo test soak profile bench clean
+.PHONY: all quick library install uninstall release tag pictures demo test soak profile bench clean
 
 PREFIX ?= /usr/local
 
@@ -10,6 +10,10 @@ all:
 
 bin/mrjob:
 	@scripts/build.py
+
+# The program without its proofs, as bin/mrjob, in about two minutes. `mrjob --version` says so.
+quick:
+	@scripts/quick.py
 
 # Proves the crates that the C library stands on, and leaves it as lib/libmrjob.a and lib/libmrjob.so.
 library:
@@ -26,11 +30,20 @@ install: bin/mrjob
 uninstall:
 	@scripts/install.py --undo "$(DESTDIR)$(PREFIX)"
 
+# Of a proved build, what is handed out: a tarball, a Debian package, the wheel and the sdist, in dist/.
+release:
+	@scripts/release.py
+
+# A git tag of the version that the file VERSION has, where nothing is left to be committed.
+tag:
+	@test -z "$$(git status --porcelain)" || { echo "some changes are not committed, so nothing was tagged"; exit 1; }
+	@git tag -a "v$$(cat VERSION)" -m "mrjob $$(cat VERSION)"
+
 # The pictures of the docs, of the samples' texts with their answers.
 pictures:
 	@scripts/pictures.py
 
-# The main job on examples/, by bin/mrjob, or by the program built without its proofs.
+# The main job on examples/, by bin/mrjob, or by the program built without its proofs, which then is left there.
 demo:
 	@scripts/demo.py
 
@@ -51,4 +64,4 @@ bench: bin/mrjob lib/libmrjob.a
 	@scripts/bench.sh
 
 clean:
-	rm -rf bin lib crates/*/out
+	rm -rf bin lib dist crates/*/out

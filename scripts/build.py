@@ -11,7 +11,7 @@ import sys
 import time
 
 sys.dont_write_bytecode = True
-from crates import ROOT, places, read_crates
+from crates import ROOT, need_kit, places, read_crates
 
 # The memory on which a check is planned, in KiB.
 CHECK_MEMORY = 3_000_000
@@ -80,6 +80,7 @@ def stop_at_faults(log):
 
 
 def main():
+    need_kit()
     crates = read_crates()
     program = crates["mrjob"]
     LOG.parent.mkdir(exist_ok=True)

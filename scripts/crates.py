@@ -1,7 +1,9 @@
 """The crates of the repository, as crates.txt lists them."""
 import os
 import re
+import shutil
 import subprocess
+import sys
 from pathlib import Path
 
 ROOT = Path(__file__).resolve().parent.parent
@@ -44,8 +46,20 @@ def read_crates(listed=ROOT / "crates.txt"):
     return {it.name: it for it in map(Crate, filter(None, lines))}
 
 
+def version():
+    """The version of the program, the library and the Python package."""
+    return (ROOT / "VERSION").read_text().strip()
+
+
+def need_kit():
+    """Ends the script in one line where the kit's command is not there."""
+    if shutil.which("rt") is None:
+        sys.exit("`rt`, the command of the Rattle kit, is not on PATH: see \"From the sources\" in README.md")
+
+
 def kit():
     """The folder of the Rattle kit."""
+    need_kit()
     return Path(subprocess.run(["rt", "doc"], check=True, capture_output=True, text=True).stdout.strip()).parent
 
 

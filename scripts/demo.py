@@ -3,9 +3,9 @@
 what the check says of each split on its nearest free worker in turn. Then a job whose worker dies, from its script to
 its index, a program that plans by the library's calls, and a job that runs on threads.
 
-Where `make` has left bin/mrjob, and no source is younger, that is run, else the program built without its proofs.
+Where bin/mrjob is there, and no source is younger, that is run, else the program built without its proofs, which is left
+as bin/mrjob where there was none.
 """
-import re
 import subprocess
 import sys
 import tempfile
@@ -13,7 +13,8 @@ from concurrent.futures import ThreadPoolExecutor
 from pathlib import Path
 
 sys.dont_write_bytecode = True
-from crates import ROOT, read_crates
+import quick
+from crates import ROOT, need_kit, read_crates
 
 # What is run: the example, the words of the command, the status, and what is to be said of it.
 RUNS = [
@@ -39,20 +40,6 @@ def built(program):
     return answers
 
 
-def unproved(crate):
-    """What the program answers to each run and its status, once rt try has built it without its proofs."""
-    with tempfile.TemporaryDirectory() as room:
-        for name, words, _, _ in RUNS:
-            (Path(room) / name).write_text(text_of(name).read_text())
-            (Path(room) / f"{name}.args").write_text("\n".join(words))
-        ran = subprocess.run(["rt", "try", "--cases", room], cwd=crate.folder, capture_output=True, text=True)
-    said = dict(re.findall(r"^== (\w+)\n((?:(?!== ).*\n)*)", ran.stdout, re.M))
-    status = dict(re.findall(r"^case=(\w+) run=ended status=(\d+)", ran.stderr, re.M))
-    if len(status) < len(RUNS):
-        sys.exit(f"the program was not built:\n{ran.stderr}")
-    return [(said.get(name, ""), int(status[name])) for name, *_ in RUNS]
-
-
 def library_call(crate, crates):
     """What the program that calls the library writes."""
     program = crate.folder / "out" / crate.name
@@ -67,16 +54,24 @@ def show(run, answer):
         sys.exit(f"its status is {status}, and not {wanted}")
 
 
+def a_program(crates, room):
+    """The program that is run."""
+    program = ROOT / "bin/mrjob"
+    if not crates["mrjob"].is_made(program, crates):
+        program = Path(room) / "mrjob" if program.exists() else program
+        print("This is the program built without its proofs, in about two minutes.")
+        print("`make` proves every crate that it stands on, and leaves the proved program as bin/mrjob.\n", flush=True)
+        quick.build(program)
+    return program
+
+
 def main():
     crates = read_crates()
-    mrjob, library_user, program = crates["mrjob"], crates["plan_a_wave"], ROOT / "bin/mrjob"
-    is_made = mrjob.is_made(program, crates)
-    if not is_made:
-        print("This is the program built without its proofs, in about a minute.")
-        print("`make` proves every crate that it stands on, and leaves the proved program as bin/mrjob.\n", flush=True)
-    with ThreadPoolExecutor() as pool:
+    library_user = crates["plan_a_wave"]
+    need_kit()
+    with tempfile.TemporaryDirectory() as room, ThreadPoolExecutor() as pool:
         called = pool.submit(library_call, library_user, crates)
-        answers = built(program) if is_made else unproved(mrjob)
+        answers = built(a_program(crates, room))
         for run, answer in zip(RUNS[:-1], answers):
             show(run, answer)
         print(f"crates/plan_a_wave, the same wave by calls of the library:\n{called.result()}", flush=True)

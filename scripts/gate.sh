@@ -5,6 +5,7 @@
 # all of them counted.
 set -uo pipefail
 cd "$(dirname "$0")/.." || exit 1
+command -v rt > /dev/null || exec scripts/build.py  # (which says where to get it)
 room=$(mktemp -d)
 trap 'rm -rf "$room"' EXIT
 passed=0 failed=0

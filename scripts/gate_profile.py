@@ -15,7 +15,7 @@ from collections import defaultdict
 from pathlib import Path
 
 sys.dont_write_bytecode = True
-from crates import ROOT, read_crates
+from crates import ROOT, need_kit, read_crates
 
 TICK = os.sysconf("SC_CLK_TCK")
 KINDS = ("proof", "tests", "edits")
@@ -71,6 +71,7 @@ def watch(gate, clone):
 
 
 def main():
+    need_kit()
     with tempfile.TemporaryDirectory(prefix="profile-") as room:
         clone = Path(room).resolve() / "clone"
         subprocess.run(["git", "clone", "-q", ROOT, clone], check=True)

@@ -17,7 +17,7 @@ from pathlib import Path
 
 sys.dont_write_bytecode = True
 from build import prove, stop_at_faults
-from crates import ROOT, kit, rattle_words, read_crates
+from crates import ROOT, kit, need_kit, rattle_words, read_crates, version
 
 LIB = ROOT / "lib"
 LOG = LIB / "build.log"
@@ -64,6 +64,7 @@ def link(objects, room):
 
 
 def main(words):
+    need_kit()
     crates = read_crates()
     crate = crates["mrjob_c"]
     LIB.mkdir(exist_ok=True)

@@ -28,7 +28,7 @@ from pathlib import Path
 sys.dont_write_bytecode = True
 import make_texts
 import reference_run
-from crates import ROOT, kit
+from crates import ROOT, kit, need_kit
 from reference_play import misplayed
 
 TESTS = ROOT / "crates/job_tests/out/job_tests_tests"
@@ -242,6 +242,7 @@ def long_script(program, sizes, _pool):
 
 
 def main(words):
+    need_kit()
     sizes = Sizes("--short" in words)
     named = [word for word in words if word != "--short"]
     program = os.path.abspath(named[0]) if named else str(ROOT / "bin/mrjob")

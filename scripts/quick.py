@@ -1,0 +1,98 @@
+#!/usr/bin/env python3
+"""Builds the program without its proofs, in about two minutes, and leaves it as bin/mrjob. `mrjob --version` says of it
+that it is not proved.
+
+    quick.py [PROGRAM]      PROGRAM is where it is left, in place of bin/mrjob
+
+`rt try` makes a program without its proofs, with tests of each index, sum and cast, and keeps no file of it. So it is
+run here by a folder of links to the kit, in which a script stands for the compiler: that keeps the program's module,
+with the words by which it was to be compiled, and ends the try. The module is then compiled and linked as a proved one.
+"""
+import re
+import shutil
+import subprocess
+import sys
+import tempfile
+from pathlib import Path
+
+sys.dont_write_bytecode = True
+from crates import ROOT, kit, need_kit, read_crates, version
+
+TARGET = "x86_64-unknown-linux-gnu"
+MARK = " (not proved)"
+# Of two calls the first only asks whether there is a sanitizer at all.
+COMPILER = """#!/bin/sh
+case "$*" in *-fsanitize=address*) ;; *) exec '{compiler}' "$@" ;; esac
+cp module.bc '{room}/module.bc' && printf '%s\\n' "$@" > '{room}/words'
+exit 1
+"""
+
+
+def link_all(origin, folder, *but):
+    """Fills a new folder with links to what stands in another one, but for these names."""
+    folder.mkdir()
+    for it in origin.iterdir():
+        if it.name not in but:
+            (folder / it.name).symlink_to(it)
+
+
+def lay_out_kit(room):
+    """A folder of links to the kit, with the script for the compiler; and the path of its rt."""
+    whole, made = kit(), room / "kit"
+    link_all(whole, made, "bin", "toolchain")
+    link_all(whole / "bin", made / "bin", "rt", "rtlib.py")
+    for name in ("rt", "rtlib.py"):  # (rt takes for the kit what it lies in, links followed)
+        shutil.copy2(whole / "bin" / name, made / "bin" / name)
+    link_all(whole / "toolchain", made / "toolchain", "bin")
+    link_all(whole / "toolchain/bin", made / "toolchain/bin", "clang")
+    compiler = made / "toolchain/bin/clang"
+    compiler.write_text(COMPILER.format(compiler=whole / "toolchain/bin/clang", room=room))
+    compiler.chmod(0o755)
+    return made / "bin/rt"
+
+
+def lay_out_sources(room):
+    """A copy of the crates whose version says that they are not proved; and the folder of the program's."""
+    leave_out = shutil.ignore_patterns("out", "proofs", "must-fail")
+    for crate in read_crates().values():
+        shutil.copytree(crate.folder, room / "crates" / crate.name, ignore=leave_out)
+    for name in ("crates.txt", "HANDLES"):
+        shutil.copy2(ROOT / name, room / name)
+    for path in (room / "crates/command_line/src").glob("*.rt"):
+        text = path.read_text()
+        path.write_text(re.sub(rf'"((?:mrjob )?{re.escape(version())})(\\n)?"', rf'"\1{MARK}\2"', text))
+    return room / "crates/mrjob"
+
+
+def build(program):
+    """Leaves the program there, built without its proofs."""
+    whole = kit()
+    with tempfile.TemporaryDirectory(prefix="mrjob-quick-") as room:
+        room = Path(room)
+        folder = lay_out_sources(room)
+        ran = subprocess.run(
+            [lay_out_kit(room), "try", "--", "--version"], cwd=folder, stdin=subprocess.DEVNULL, capture_output=True, text=True
+        )
+        if not (room / "words").exists():
+            sys.exit(f"the program was not built:\n{ran.stderr}")
+        words = [it for it in (room / "words").read_text().split("\n")[:-1] if not it.startswith(("-fsanitize", "--sysroot"))]
+        words = ["-O1" if it == "-O0" else it for it in words]
+        compiler = [whole / "toolchain/bin/clang", f"--sysroot={whole / 'toolchain'}"]
+        subprocess.run([*compiler, *words], cwd=room, check=True)
+        link = [whole / "bin/rattle-link", "--target", TARGET, "--toolchain", whole / "toolchain", "-o", room / "mrjob"]
+        libraries = [whole / "c/libos_c.a", whole / "c/liblibc_c.a"]
+        subprocess.run([*link, room / "module.o", *libraries], check=True, stderr=subprocess.DEVNULL)
+        program.parent.mkdir(exist_ok=True)
+        program.unlink(missing_ok=True)
+        shutil.copy2(room / "mrjob", program)
+
+
+def main(words):
+    need_kit()
+    program = Path(words[0]) if words else ROOT / "bin/mrjob"
+    build(program)
+    print(f"mrjob: built without its proofs, {words[0] if words else 'bin/mrjob'}")
+
+
+if __name__ == "__main__":
+    main(sys.argv[1:])
