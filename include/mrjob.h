@@ -19,9 +19,9 @@
  * Of the numbers in the arrays nothing is owed: one out of bounds is answered by a status, and then nothing
  * was written. Racks, workers and splits are numbered from 0, by their places in the arrays.
  *
- * In a program that includes this header, mrjob_plan(..) and mrjob_check(..) put an address of their own for
- * that of an array of length 0. The library's functions themselves, which other languages call, want one that
- * is not null, and aligned, there too.
+ * In a program that includes this header, mrjob_plan and mrjob_check are inline functions, which put an
+ * address of their own for that of an array of length 0 and call the library's. The library's functions
+ * themselves, which other languages call, want one that is not null, and aligned, there too.
  */
 #ifndef MRJOB_H
 #define MRJOB_H
@@ -32,6 +32,9 @@
 #ifdef __cplusplus
 extern "C" {
 #endif
+
+/* The name of a function in the object file. */
+#define MRJOB_NAMED(name) __asm__(name)
 
 /* The version of what stands here, which a library answers too: see mrjob_version. */
 #define MRJOB_VERSION 1
@@ -139,65 +142,89 @@ uint32_t mrjob_version(void);
 /* Plans a wave. With MRJOB_OK, starts[s] is the worker on which the split s starts, or MRJOB_NONE; no set of
  * admissible starts has more, and of those with as many none has a lesser byte-distance; the prices, in
  * the unit of byte-distances, certify the starts, so that mrjob_check says MRJOB_OK; and total is theirs. */
-uint32_t mrjob_plan(const struct mrjob_wave *wave, uint32_t network,
-                    uint16_t *starts, size_t starts_len,
-                    uint64_t *split_prices, size_t split_prices_len,
-                    uint64_t *worker_prices, size_t worker_prices_len,
-                    struct mrjob_total *total);
+static inline uint32_t mrjob_plan(const struct mrjob_wave *wave, uint32_t network,
+                                  uint16_t *starts, size_t starts_len,
+                                  uint64_t *split_prices, size_t split_prices_len,
+                                  uint64_t *worker_prices, size_t worker_prices_len,
+                                  struct mrjob_total *total) MRJOB_NAMED("mrjob_plan_any");
 
 /* Checks the starts of a wave by prices. With MRJOB_OK the prices certify the starts, which are then best, as
  * above. With MRJOB_REFUSED a condition fails: the starts are not admissible (1 to 3), or these prices do not
  * show that they are best (4 to 8), though others may. */
-uint32_t mrjob_check(const struct mrjob_wave *wave,
-                     const uint16_t *starts, size_t starts_len,
-                     const uint64_t *split_prices, size_t split_prices_len,
-                     const uint64_t *worker_prices, size_t worker_prices_len,
-                     struct mrjob_verdict *verdict);
+static inline uint32_t mrjob_check(const struct mrjob_wave *wave,
+                                   const uint16_t *starts, size_t starts_len,
+                                   const uint64_t *split_prices, size_t split_prices_len,
+                                   const uint64_t *worker_prices, size_t worker_prices_len,
+                                   struct mrjob_verdict *verdict) MRJOB_NAMED("mrjob_check_any");
 
-/* ---- null with length 0 ---- */
+/* ---- the library's own functions, and null with length 0 ---- */
 
-/* The wave with this address for each array of length 0. */
-static inline struct mrjob_wave mrjob_without_null(const struct mrjob_wave *wave, const void *nothing)
+/* (An inline function has another name in the object file than the library's function that it calls.) */
+uint32_t mrjob_plan_of_library(const struct mrjob_wave *wave, uint32_t network,
+                               uint16_t *starts, size_t starts_len,
+                               uint64_t *split_prices, size_t split_prices_len,
+                               uint64_t *worker_prices, size_t worker_prices_len,
+                               struct mrjob_total *total) MRJOB_NAMED("mrjob_plan");
+
+uint32_t mrjob_check_of_library(const struct mrjob_wave *wave,
+                                const uint16_t *starts, size_t starts_len,
+                                const uint64_t *split_prices, size_t split_prices_len,
+                                const uint64_t *worker_prices, size_t worker_prices_len,
+                                struct mrjob_verdict *verdict) MRJOB_NAMED("mrjob_check");
+
+/* Addresses for arrays of length 0. */
+struct mrjob_nothing {
+    uint16_t numbers[1];
+    struct mrjob_worker workers[1];
+    struct mrjob_split splits[1];
+    struct mrjob_pair pairs[1];
+    uint64_t prices[1];
+};
+
+#define MRJOB_NOTHING {{0}, {{0, 0, 0}}, {{0, 0, 0, 0}}, {{0, 0}}, {0}}
+
+static inline struct mrjob_wave mrjob_without_null(const struct mrjob_wave *wave,
+                                                   const struct mrjob_nothing *nothing)
 {
     struct mrjob_wave filled = *wave;
-    if (!filled.racks) filled.centre_of = (const uint16_t *)nothing;
-    if (!filled.workers_len) filled.workers = (const struct mrjob_worker *)nothing;
-    if (!filled.splits_len) filled.splits = (const struct mrjob_split *)nothing;
-    if (!filled.holders_len) filled.holders = (const uint16_t *)nothing;
-    if (!filled.barred_len) filled.barred = (const struct mrjob_pair *)nothing;
+    if (!filled.racks) filled.centre_of = nothing->numbers;
+    if (!filled.workers_len) filled.workers = nothing->workers;
+    if (!filled.splits_len) filled.splits = nothing->splits;
+    if (!filled.holders_len) filled.holders = nothing->numbers;
+    if (!filled.barred_len) filled.barred = nothing->pairs;
     return filled;
 }
 
-static inline uint32_t mrjob_plan_any(const struct mrjob_wave *wave, uint32_t network,
-                                      uint16_t *starts, size_t starts_len,
-                                      uint64_t *split_prices, size_t split_prices_len,
-                                      uint64_t *worker_prices, size_t worker_prices_len,
-                                      struct mrjob_total *total)
+static inline uint32_t mrjob_plan(const struct mrjob_wave *wave, uint32_t network,
+                                  uint16_t *starts, size_t starts_len,
+                                  uint64_t *split_prices, size_t split_prices_len,
+                                  uint64_t *worker_prices, size_t worker_prices_len,
+                                  struct mrjob_total *total)
 {
-    uint64_t nothing[1] = {0};
-    const struct mrjob_wave filled = mrjob_without_null(wave, nothing);
-    return mrjob_plan(&filled, network,
-                      starts_len ? starts : (uint16_t *)(void *)nothing, starts_len,
-                      split_prices_len ? split_prices : nothing, split_prices_len,
-                      worker_prices_len ? worker_prices : nothing, worker_prices_len, total);
+    const struct mrjob_nothing given = MRJOB_NOTHING;
+    struct mrjob_nothing nothing = MRJOB_NOTHING;
+    const struct mrjob_wave filled = mrjob_without_null(wave, &given);
+    return mrjob_plan_of_library(&filled, network,
+                                 starts_len ? starts : nothing.numbers, starts_len,
+                                 split_prices_len ? split_prices : nothing.prices, split_prices_len,
+                                 worker_prices_len ? worker_prices : nothing.prices, worker_prices_len,
+                                 total);
 }
 
-static inline uint32_t mrjob_check_any(const struct mrjob_wave *wave,
-                                       const uint16_t *starts, size_t starts_len,
-                                       const uint64_t *split_prices, size_t split_prices_len,
-                                       const uint64_t *worker_prices, size_t worker_prices_len,
-                                       struct mrjob_verdict *verdict)
+static inline uint32_t mrjob_check(const struct mrjob_wave *wave,
+                                   const uint16_t *starts, size_t starts_len,
+                                   const uint64_t *split_prices, size_t split_prices_len,
+                                   const uint64_t *worker_prices, size_t worker_prices_len,
+                                   struct mrjob_verdict *verdict)
 {
-    const uint64_t nothing[1] = {0};
-    const struct mrjob_wave filled = mrjob_without_null(wave, nothing);
-    return mrjob_check(&filled, starts_len ? starts : (const uint16_t *)(const void *)nothing, starts_len,
-                       split_prices_len ? split_prices : nothing, split_prices_len,
-                       worker_prices_len ? worker_prices : nothing, worker_prices_len, verdict);
+    const struct mrjob_nothing nothing = MRJOB_NOTHING;
+    const struct mrjob_wave filled = mrjob_without_null(wave, &nothing);
+    return mrjob_check_of_library(&filled,
+                                  starts_len ? starts : nothing.numbers, starts_len,
+                                  split_prices_len ? split_prices : nothing.prices, split_prices_len,
+                                  worker_prices_len ? worker_prices : nothing.prices, worker_prices_len,
+                                  verdict);
 }
-
-/* A call goes by the function above; the bare name is still that of the library's function. */
-#define mrjob_plan(...) mrjob_plan_any(__VA_ARGS__)
-#define mrjob_check(...) mrjob_check_any(__VA_ARGS__)
 
 /* ---- how the structs lie in memory ---- */
 
@@ -243,6 +270,8 @@ MRJOB_LIES(mrjob_verdict, condition, 16);
 MRJOB_LIES(mrjob_verdict, split, 20);
 MRJOB_LIES(mrjob_verdict, worker, 22);
 
+#undef MRJOB_NAMED
+#undef MRJOB_NOTHING
 #undef MRJOB_LIES
 #undef MRJOB_ASSERT
 

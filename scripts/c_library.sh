@@ -64,6 +64,11 @@ try_compiled() { # NAME C-COMPILER C++-COMPILER WORDS..
     try "$name: plan.cc" prints "$room/plan"
     try "$name: plan.c is built as C++" build "$room/plan" "$cc" -std=c++17 "$@" -x c++ examples/c/plan.c
     try "$name: plan.c as C++" prints "$room/plan"
+    for standard in c++11 c++20; do
+        try "$name: c_names.cc is built as $standard" \
+            build "$room/names" "$cc" "-std=$standard" -pedantic-errors -Wold-style-cast "$@" -pthread scripts/c_names.cc
+        try "$name: c_names.cc as $standard" "$room/names"
+    done
 }
 
 # The library as `make install` puts it, where a program is there to be put with it: by pkg-config, if that is there.

@@ -1,0 +1,35 @@
+/* The names of mrjob.h in C++: members of the same names, the functions' addresses, calls by a thread, and null with
+ * length 0 in each of these. It ends with status 0 where all is as it is to be. */
+#include "mrjob.h"
+#include <thread>
+
+struct scheduler {
+    int mrjob_plan(int count) const { return count + 1; }
+    int mrjob_check(int count) const;
+};
+
+int scheduler::mrjob_check(int count) const { return count + 2; }
+
+static mrjob_wave wave;
+static mrjob_total total = {7, 7};
+static mrjob_verdict verdict = {7, 7, 7, 7, 7};
+
+static bool is_empty(uint32_t status)
+{
+    const bool is_so = status == MRJOB_OK && total.count == 0 && total.cost == 0;
+    total.count = total.cost = 7;
+    return is_so;
+}
+
+int main()
+{
+    const scheduler own = scheduler();
+    if (own.mrjob_plan(1) != 2 || own.mrjob_check(1) != 3) return 1;
+    if (!is_empty(mrjob_plan(&wave, MRJOB_RACKS, nullptr, 0, nullptr, 0, nullptr, 0, &total))) return 2;
+    const auto plans = &mrjob_plan;
+    if (!is_empty(plans(&wave, MRJOB_DIRECT, nullptr, 0, nullptr, 0, nullptr, 0, &total))) return 3;
+    const auto checks = &mrjob_check;
+    if (checks(&wave, nullptr, 0, nullptr, 0, nullptr, 0, &verdict) != MRJOB_OK || verdict.condition) return 4;
+    std::thread(mrjob_plan, &wave, uint32_t{MRJOB_RACKS}, nullptr, 0, nullptr, 0, nullptr, 0, &total).join();
+    return is_empty(MRJOB_OK) ? 0 : 5;
+}
