@@ -1,5 +1,5 @@
-ghost use Rattle.std.specs.Prelude.{◌≡◌, ◌+◌, ◌<◌, ◌≤◌, ◌↔◌, ◌⊎◌, ◌∷◌, ◌++◌, ℕ, List, [], length, map, max};
-ghost use Rattle.std.specs.Prelude.{All, Contains, IfOk, OnOk, slice_index_or};
+ghost use Rattle.std.specs.Prelude.{◌≡◌, ◌<◌, ◌≤◌, ◌↔◌, ◌⊎◌, ℕ, [], length, map, max};
+ghost use Rattle.std.specs.Prelude.{All, Contains, IfOk};
 ghost use Rattle.node_ids.specs.Sets.{HasPair};
 ghost use Rattle.rack_tree.specs.declared.TheConstants.{MAX_CENTRES, MAX_RACKS, MAX_WORKERS};
 ghost use Rattle.wave_problem.specs.declared.TheConstants.{MAX_SLOTS, MAX_SPLITS};
@@ -24,7 +24,7 @@ use line_rules::Rows;
 use line_shapes::{KeyedLine, Keyword};
 use node_ids::{CentreNo, PairSet, RackNo, SplitNo, WorkerNo};
 use price_certificate::Prices;
-use rack_tree::{RackTree, TreeError};
+use rack_tree::RackTree;
 use std::alloc::{AllocError, Global};
 use text_lines::NameTable;
 use wave_problem::{Plan, Problem, ProblemError, SplitLine, WorkerLine};
@@ -361,89 +361,73 @@ pub fn build_tree(
         (lines_of Worker rows.now)) }
 {
     let racks = named_rows(alloc, rows, Keyword::Rack)?;
-    tree_of(alloc, rows, &racks.names, &racks.rows, worker_rows)
+    let rack_of = racks_of_workers(alloc, &racks.names, worker_rows)?;
+    tree_of(alloc, rows, &racks.rows, rack_of)
 }
 
-// The racks with workers in them, where the lines of racks and their names are given.
+// The rack of each worker.
+fn racks_of_workers(
+    alloc: Global,
+    racks: &NameTable<'_>,
+    rows: &[KeyedLine<'_, '_>],
+) -> Result<Vec<RackNo>, AllocError>
+    requires few { length racks.now ≤ MAX_RACKS }
+    requires known { All (IsTidyWorker racks.now) (map said_in rows.now) }
+    ensures value { IfOk result (λ numbers. numbers.items ≡ map (rack_number racks.now) (map said_in rows.now)) }
+    ensures within { IfOk result (λ numbers. All (λ rack. rack < length racks.now) numbers.items) }
+{
+    let mut numbers = Vec::with_capacity(alloc, rows.len())?;
+    for row in rows {
+        numbers.push(rack_no(racks, word(row, 1)))?;
+    }
+    Ok(numbers)
+}
+
+fn rack_no(racks: &NameTable<'_>, name: &str) -> RackNo
+    requires few { length racks.now ≤ MAX_RACKS }
+    requires known { Contains racks.now name.now }
+    ensures value { result ≡ number_in racks.now name.now }
+    ensures within { result < length racks.now }
+{
+    RackNo::new(number_of(racks, name) as u16)
+}
+
+// The tree of the workers' racks. Where the text has no centre, its racks stand in one without a name.
 fn tree_of(
     alloc: Global,
     rows: &Rows<'_>,
-    racks: &NameTable<'_>,
     rack_rows: &[KeyedLine<'_, '_>],
-    worker_rows: &[KeyedLine<'_, '_>],
-) -> Result<RackTree, AllocError>
-    requires tidy { AreTidy rows.now }
-    requires names { racks.now ≡ said_names Rack rows.now }
-    requires racks { map said_in rack_rows.now ≡ lines_of Rack rows.now }
-    requires workers { map said_in worker_rows.now ≡ lines_of Worker rows.now }
-    ensures { IfOk result (λ tree. tree ≡ declared_tree (said_names Centre rows.now) (lines_of Rack rows.now)
-        (lines_of Worker rows.now)) }
-{
-    let tree = build_racks(alloc, rows, rack_rows)?;
-    with_workers(tree, racks, worker_rows)
-}
-
-// The racks, without workers.
-fn build_racks(
-    alloc: Global,
-    rows: &Rows<'_>,
-    rack_rows: &[KeyedLine<'_, '_>],
+    rack_of: Vec<RackNo>,
 ) -> Result<RackTree, AllocError>
     requires tidy { AreTidy rows.now }
     requires racks { map said_in rack_rows.now ≡ lines_of Rack rows.now }
-    ensures { IfOk result (λ tree.
-        tree ≡ declared_tree (said_names Centre rows.now) (lines_of Rack rows.now) []) }
+    requires few { length rack_of.items ≤ MAX_WORKERS }
+    requires within { All (λ rack. rack < length rack_rows.now) rack_of.items }
+    ensures { IfOk result (λ tree. tree
+        ≡ record (declared_tree (said_names Centre rows.now) (lines_of Rack rows.now) [])
+        { rack_of = rack_of.items }) }
 {
     let centres = names_of(alloc, rows, Keyword::Centre)?;
-    Ok(tree_with_racks(alloc, &centres, rack_rows))
+    let centre_of = centres_of_racks(alloc, &centres, rack_rows)?;
+    Ok(RackTree::from_lists(alloc, centres.len().max(1), &centre_of, rack_of))
 }
 
-// The racks with workers in them.
-fn with_workers(
-    mut tree: RackTree,
-    racks: &NameTable<'_>,
+// The centre of each rack.
+fn centres_of_racks(
+    alloc: Global,
+    centres: &NameTable<'_>,
     rows: &[KeyedLine<'_, '_>],
-) -> Result<RackTree, AllocError>
-    requires same { length tree.centre_of ≡ length racks.now }
-    requires none { tree.rack_of ≡ [] }
-    requires few_racks { length racks.now ≤ MAX_RACKS }
-    requires few_workers { length rows.now ≤ MAX_WORKERS }
-    requires known { All (IsTidyWorker racks.now) (map said_in rows.now) }
-    ensures { IfOk result (λ whole. whole
-        ≡ record tree { rack_of = map (rack_number racks.now) (map said_in rows.now) }) }
+) -> Result<Vec<CentreNo>, AllocError>
+    requires { length centres.now ≤ MAX_CENTRES }
+    ensures value { IfOk result (λ numbers.
+        numbers.items ≡ map (centre_number centres.now) (map said_in rows.now)) }
+    ensures within { IfOk result (λ numbers. All (λ centre. centre < max 1 (length centres.now)) numbers.items) }
 {
+    let mut numbers = Vec::with_capacity(alloc, rows.len())?;
     for row in rows {
-        add_worker(&mut tree, racks, word(row, 1))?;
+        numbers.push(centre_no(centres, word(row, 1)))?;
     }
-    Ok(tree)
-}
-
-// The centres, or one without a name where there is none, and the racks in them.
-fn tree_with_racks(alloc: Global, centres: &NameTable<'_>, rows: &[KeyedLine<'_, '_>]) -> RackTree
-    requires few_centres { length centres.now ≤ MAX_CENTRES }
-    requires few_racks { length rows.now ≤ MAX_RACKS }
-    ensures centres { result.centres ≡ max 1 (length centres.now) }
-    ensures racks { result.centre_of ≡ map (centre_number centres.now) (map said_in rows.now) }
-    ensures workers { result.rack_of ≡ [] }
-{
-    let mut tree = tree_with_centres(alloc, centres.len().max(1));
-    for row in rows {
-        add_rack(&mut tree, centre_no(centres, word(row, 1)));
-    }
-    tree
-}
-
-fn tree_with_centres(alloc: Global, count: usize) -> RackTree
-    requires { count ≤ MAX_CENTRES }
-    ensures centres { result.centres ≡ count }
-    ensures racks { result.centre_of ≡ [] }
-    ensures workers { result.rack_of ≡ [] }
-{
-    let mut tree = RackTree::new(alloc);
-    for _ in 0..count {
-        add_centre(&mut tree);
-    }
-    tree
+    Ok(numbers)
 }
 
 // The number of a centre, 0 where the text has no such centre.
@@ -455,45 +439,6 @@ fn centre_no(centres: &NameTable<'_>, name: &str) -> CentreNo
     match centres.number(name) {
         Some(number) => CentreNo::new(number as u8),
         None => CentreNo::new(0),
-    }
-}
-
-fn add_centre(tree: &mut RackTree)
-    requires { tree.old.centres < MAX_CENTRES }
-    ensures { tree.new ≡ record tree.old { centres = tree.old.centres + 1 } }
-{
-    match tree.add_centre() {
-        Ok(_) => {}
-        Err(_) => unreachable!(),
-    }
-}
-
-fn add_rack(tree: &mut RackTree, centre: CentreNo)
-    requires centre { centre < tree.old.centres }
-    requires room { length tree.old.centre_of < MAX_RACKS }
-    ensures { tree.new ≡ record tree.old { centre_of = tree.old.centre_of ++ centre ∷ [] } }
-{
-    match tree.add_rack(centre) {
-        Ok(_) => {}
-        Err(_) => unreachable!(),
-    }
-}
-
-fn add_worker(tree: &mut RackTree, racks: &NameTable<'_>, rack: &str) -> Result<(), AllocError>
-    requires same { length tree.old.centre_of ≡ length racks.now }
-    requires few { length racks.now ≤ MAX_RACKS }
-    requires room { length tree.old.rack_of < MAX_WORKERS }
-    requires known { Contains racks.now rack.now }
-    ensures centres { OnOk result (tree.new.centres ≡ tree.old.centres) }
-    ensures racks { OnOk result (tree.new.centre_of ≡ tree.old.centre_of) }
-    ensures workers { OnOk result
-        (tree.new.rack_of ≡ tree.old.rack_of ++ number_in racks.now rack.now ∷ []) }
-{
-    let rack = RackNo::new(number_of(racks, rack) as u16);
-    match tree.add_worker(rack) {
-        Ok(_) => Ok(()),
-        Err(TreeError::Memory) => Err(AllocError),
-        Err(TreeError::Limit) => unreachable!(),
     }
 }
 

@@ -1,7 +1,7 @@
 //! The problem that rows make.
-ghost use Rattle.std.specs.Prelude.{◌≡◌, ◌+◌, ◌<◌, ◌≤◌, ◌∷◌, ◌++◌, [], length, map, All, IfOk, OnOk};
+ghost use Rattle.std.specs.Prelude.{◌≡◌, ◌<◌, length, map, All, IfOk};
 ghost use Rattle.node_ids.specs.Sets.{with_pair};
-ghost use Rattle.rack_tree.specs.declared.TheConstants.{MAX_CENTRES, MAX_RACKS, MAX_WORKERS};
+ghost use Rattle.rack_tree.specs.declared.TheConstants.{MAX_CENTRES, MAX_WORKERS};
 ghost use Rattle.wave_problem.specs.declared.TheConstants.{MAX_SPLITS};
 ghost use Rattle.wave_arrays.specs.Rows.{AreFit, AreRacksFit, AreWorkersFit, IsPairKnown, IsSplitFit};
 ghost use Rattle.wave_arrays.specs.Rows.{TheBarredAreThoseListed, barred_in, split_of, tree_in, wave_in};
@@ -9,7 +9,7 @@ ghost use Rattle.wave_arrays.specs.Rows.{worker_of};
 
 use crate::rows::{PairRow, SplitRow, WaveRows, WorkerRow};
 use node_ids::{CentreNo, PairSet, RackNo, SplitNo, WorkerNo};
-use rack_tree::{RackTree, TreeError};
+use rack_tree::RackTree;
 use std::alloc::{AllocError, Global};
 use wave_problem::{Problem, SplitRef, WorkerLine};
 
@@ -36,80 +36,30 @@ fn build_tree(alloc: Global, rows: &WaveRows<'_>) -> Result<RackTree, AllocError
     requires workers { AreWorkersFit rows.now }
     ensures { IfOk result (λ tree. tree ≡ tree_in rows.now) }
 {
-    let mut tree = tree_with_centres(alloc, rows.centres);
-    add_racks(&mut tree, rows.centre_of);
-    add_workers(&mut tree, rows.workers)?;
-    Ok(tree)
+    let centre_of = centres_of(alloc, rows.centre_of)?;
+    let rack_of = racks_of(alloc, rows.workers)?;
+    Ok(RackTree::from_lists(alloc, rows.centres, &centre_of, rack_of))
 }
 
-fn tree_with_centres(alloc: Global, count: usize) -> RackTree
-    requires { count ≤ MAX_CENTRES }
-    ensures centres { result.centres ≡ count }
-    ensures racks { result.centre_of ≡ [] }
-    ensures workers { result.rack_of ≡ [] }
+fn centres_of(alloc: Global, numbers: &[u16]) -> Result<Vec<CentreNo>, AllocError>
+    requires { All (λ centre. centre < MAX_CENTRES) numbers.now }
+    ensures { IfOk result (λ centres. centres.items ≡ numbers.now) }
 {
-    let mut tree = RackTree::new(alloc);
-    for _ in 0..count {
-        add_centre(&mut tree);
+    let mut centres = Vec::with_capacity(alloc, numbers.len())?;
+    for number in numbers {
+        centres.push_reserved(CentreNo::new(*number as u8));
     }
-    tree
+    Ok(centres)
 }
 
-fn add_centre(tree: &mut RackTree)
-    requires { tree.old.centres < MAX_CENTRES }
-    ensures { tree.new ≡ record tree.old { centres = tree.old.centres + 1 } }
+fn racks_of(alloc: Global, workers: &[WorkerRow]) -> Result<Vec<RackNo>, AllocError>
+    ensures { IfOk result (λ racks. racks.items ≡ map (λ row. row.rack) workers.now) }
 {
-    match tree.add_centre() {
-        Ok(_) => {}
-        Err(_) => unreachable!(),
-    }
-}
-
-fn add_racks(tree: &mut RackTree, centre_of: &[u16])
-    requires none { tree.old.centre_of ≡ [] }
-    requires few_centres { tree.old.centres ≤ MAX_CENTRES }
-    requires few { length centre_of.now ≤ MAX_RACKS }
-    requires known { All (λ centre. centre < tree.old.centres) centre_of.now }
-    ensures { tree.new ≡ record tree.old { centre_of = centre_of.now } }
-{
-    for centre in centre_of {
-        add_rack(tree, CentreNo::new(*centre as u8));
-    }
-}
-
-fn add_rack(tree: &mut RackTree, centre: CentreNo)
-    requires centre { centre < tree.old.centres }
-    requires room { length tree.old.centre_of < MAX_RACKS }
-    ensures { tree.new ≡ record tree.old { centre_of = tree.old.centre_of ++ centre ∷ [] } }
-{
-    match tree.add_rack(centre) {
-        Ok(_) => {}
-        Err(_) => unreachable!(),
-    }
-}
-
-fn add_workers(tree: &mut RackTree, workers: &[WorkerRow]) -> Result<(), AllocError>
-    requires none { tree.old.rack_of ≡ [] }
-    requires few { length workers.now ≤ MAX_WORKERS }
-    requires known { All (λ row. row.rack < length tree.old.centre_of) workers.now }
-    ensures { OnOk result (tree.new ≡ record tree.old { rack_of = map (λ row. row.rack) workers.now }) }
-{
+    let mut racks = Vec::with_capacity(alloc, workers.len())?;
     for row in workers {
-        add_worker(tree, RackNo::new(row.rack))?;
+        racks.push_reserved(RackNo::new(row.rack));
     }
-    Ok(())
-}
-
-fn add_worker(tree: &mut RackTree, rack: RackNo) -> Result<(), AllocError>
-    requires rack { rack < length tree.old.centre_of }
-    requires room { length tree.old.rack_of < MAX_WORKERS }
-    ensures { OnOk result (tree.new ≡ record tree.old { rack_of = tree.old.rack_of ++ rack ∷ [] }) }
-{
-    match tree.add_worker(rack) {
-        Ok(_) => Ok(()),
-        Err(TreeError::Memory) => Err(AllocError),
-        Err(TreeError::Limit) => unreachable!(),
-    }
+    Ok(racks)
 }
 
 fn build_workers(alloc: Global, workers: &[WorkerRow]) -> Result<Vec<WorkerLine>, AllocError>
