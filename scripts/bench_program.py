@@ -7,17 +7,16 @@ Neither `make` nor the gate reads these programs: a file X lies there as X.in. T
 workspace of its own, $XDG_CACHE_HOME/mrjob-bench, beside copies of the libraries on which it stands. They are proved
 in the checkout, where that has yet to be done, and the program over them. What was proved is kept for the next call.
 """
-import os
 import shutil
 import subprocess
 import sys
 from pathlib import Path
 
 sys.dont_write_bytecode = True
-from crates import PARTS, ROOT, read_crates
+from crates import PARTS, ROOT, cache, read_crates
 
 PROGRAMS = ROOT / "bench/programs"
-WORKSPACE = Path(os.environ.get("XDG_CACHE_HOME") or Path.home() / ".cache") / "mrjob-bench"
+WORKSPACE = cache("mrjob-bench")
 
 
 def copy_library(library):

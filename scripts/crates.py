@@ -1,9 +1,11 @@
 """The crates of the repository, as crates.txt lists them."""
+import hashlib
 import os
 import re
 import shutil
 import subprocess
 import sys
+from functools import lru_cache
 from pathlib import Path
 
 ROOT = Path(__file__).resolve().parent.parent
@@ -35,6 +37,16 @@ class Crate:
         """When one of its sources changed last."""
         return max(it.stat().st_mtime for part in PARTS for it in (self.folder / part).rglob("*"))
 
+    def digest(self, crates):
+        """A checksum of all that a check of the crate reads: its sources, those of the crates below, and the kit."""
+        total = hashlib.sha256(kit_version().encode())
+        for crate in [*self.below(crates), self]:
+            total.update(f"{crate.line}\n".encode())
+            for it in sorted(it for part in PARTS for it in (crate.folder / part).rglob("*") if it.is_file()):
+                content = it.read_bytes()
+                total.update(f"{it.relative_to(crate.folder)} {len(content)}\n".encode() + content)
+        return total.hexdigest()
+
     def is_made(self, file, crates):
         """Whether the file is there, and no older than the sources of the crate and of those below."""
         return file.exists() and all(it.changed() <= file.stat().st_mtime for it in [*self.below(crates), self])
@@ -61,6 +73,17 @@ def kit():
     """The folder of the Rattle kit."""
     need_kit()
     return Path(subprocess.run(["rt", "doc"], check=True, capture_output=True, text=True).stdout.strip()).parent
+
+
+@lru_cache(maxsize=None)
+def kit_version():
+    need_kit()
+    return subprocess.run(["rt", "version"], check=True, capture_output=True, text=True).stdout
+
+
+def cache(name):
+    """A folder of the project's in the user's cache."""
+    return Path(os.environ.get("XDG_CACHE_HOME") or Path.home() / ".cache") / name
 
 
 def rattle_words(command, crate, crates):

@@ -1,7 +1,7 @@
 #!/usr/bin/env python3
 """Tries the wrong edits of edits/CRATE/*.edit: the prover must refuse each, by a goal of the function it changes.
 
-    edits.py [CRATE[/NAME]..]      (each crate that has edits, where none is named; or one edit of a crate)
+    edits.py [--anew] [CRATE[/NAME]..]      (each crate that has edits, where none is named; or one edit of a crate)
 
 An edit has the form of a must-fail edit: a line 'file: src/lib.rt', and then pairs of lines 'old: TEXT' and
 'new: TEXT', each old TEXT standing once in that file. Edits of different functions of a crate stand in one copy of it
@@ -13,23 +13,31 @@ function's body, or in several, is tried alone, and a goal of any function that 
 
 A crate counts as proved without its edits, as `rt ci` or `rt check` says. Its libraries are taken from out/, as
 either leaves them, and are built where they are missing or older than their sources. The checkout stays as it is.
-JOBS=N tries N crates side by side. The last line is 'N passed, M failed'.
+That an edit was refused is kept in $XDG_CACHE_HOME/mrjob-edits, by the checksums of all that the verdict rests on: the
+edit, the sources of its crate and of those below, the kit and this script. It is not tried again while these stay the
+same, here or in another checkout; --anew tries each. JOBS=N tries N crates side by side. The last line is 'N passed, M
+failed'.
 """
+import hashlib
 import os
 import re
 import shutil
 import subprocess
 import sys
 import tempfile
+import time
 from concurrent.futures import ThreadPoolExecutor
 from dataclasses import dataclass
 from pathlib import Path
 
 sys.dont_write_bytecode = True
-from crates import PARTS, ROOT, places, rattle_words, read_crates
+from crates import PARTS, ROOT, cache, places, rattle_words, read_crates
 
 # The memory on which a check is planned, in KiB.
 CHECK_MEMORY = 3_000_000
+# Verdicts of earlier runs, each a file, and for how many seconds one is kept that no run asks for.
+KEPT = cache("mrjob-edits")
+KEPT_SECONDS = 30 * 24 * 3600
 
 FUNCTION = re.compile(r"( *)(?:pub(?:\([^)]*\))? )?(?:const |unsafe |extern \"C\" )*fn (\w+)")
 IMPL = re.compile(r"(?:unsafe )?impl(?:<.*?>)? (?P<trait>\w.*? for )?(?P<type>\w+)")
@@ -176,9 +184,6 @@ class Trial:
     def __init__(self, crate, crates, room):
         self.crate, self.words, self.room = crate, [*rattle_words("check", crate, crates), "--jobs", "1"], Path(room)
         self.checks = self.seconds = 0
-        kept = crate.folder / "out/incremental"
-        if kept.is_dir():
-            shutil.copytree(kept, self.room / "kept")
 
     def check(self, edits):
         """Checks the functions of these edits, or the whole crate where one has none, in a copy that has them all."""
@@ -234,7 +239,9 @@ class Trial:
 
     def try_all(self, edits):
         """Tells of each edit whether it is refused, and why."""
-        told = {}
+        told, proved = {}, self.crate.folder / "out/incremental"
+        if edits and proved.is_dir():
+            shutil.copytree(proved, self.room / "kept")
         left, alone = [it for it in edits if it.function], [it for it in edits if not it.function]
         while left:
             group = {}
@@ -255,6 +262,37 @@ class Trial:
                 self.judge_in_halves(half, told)
 
 
+class Kept:
+    """The verdicts that earlier runs kept of a crate's edits."""
+
+    def __init__(self, crate, crates):
+        self.rest = crate.digest(crates).encode() + Path(__file__).read_bytes()
+
+    def place(self, path):
+        return KEPT / hashlib.sha256(self.rest + path.read_bytes()).hexdigest()
+
+    def of(self, path):
+        """Why an edit was refused, or None where that is not known."""
+        place = self.place(path)
+        if not place.exists():
+            return None
+        os.utime(place)
+        return place.read_text()
+
+    def keep(self, path, why):
+        KEPT.mkdir(parents=True, exist_ok=True)
+        with tempfile.NamedTemporaryFile("w", dir=KEPT, delete=False) as file:
+            file.write(why)
+        os.replace(file.name, self.place(path))
+
+
+def let_go():
+    """Removes what no run has asked for in a long time."""
+    for it in KEPT.glob("*"):
+        if it.stat().st_mtime < time.time() - KEPT_SECONDS:
+            it.unlink(missing_ok=True)
+
+
 def gist(said):
     """The lines of a check's words that say what it refused, or else the first ones."""
     lines = said.splitlines()
@@ -262,10 +300,12 @@ def gist(said):
     return "\n".join(f"    {it[:300]}" for it in found[:12])
 
 
-def try_crate(crate, crates, paths):
-    """Tries a crate's edits, prints a line for each, and gives how many are refused."""
-    edits, lines, refused = [], [], 0
+def try_crate(crate, crates, kept, known, paths):
+    """Tries a crate's edits whose verdicts are not known, prints a line for each, and gives how many are refused."""
+    edits, lines, refused = [], [f"{it.relative_to(ROOT)}: {why} (kept)" for it, why in known.items()], len(known)
     for path in paths:
+        if path in known:
+            continue
         try:
             edits.append(Edit(path, crate))
         except (Unfit, UnicodeDecodeError) as why:
@@ -275,7 +315,10 @@ def try_crate(crate, crates, paths):
         for edit, (is_refused, why) in trial.try_all(edits).items():
             lines.append(f"{edit.path.relative_to(ROOT)}: {why}")
             refused += is_refused
-    lines.append(f"{crate.name}: {refused} of {len(paths)} refused, {trial.checks} checks, {trial.seconds:.0f} s")
+            if is_refused:
+                kept.keep(edit.path, why)
+    counts = f"{trial.checks} checks, {trial.seconds:.0f} s, {len(known)} verdicts kept"
+    lines.append(f"{crate.name}: {refused} of {len(paths)} refused, {counts}")
     print("\n".join(lines), flush=True)
     return refused
 
@@ -288,8 +331,8 @@ def build_libraries(crates, names):
                 subprocess.run(["rt", "lib"], cwd=library.folder, check=True)
 
 
-def main(names):
-    crates = read_crates()
+def main(words):
+    names, crates = [it for it in words if it != "--anew"], read_crates()
     found = {it.name: sorted(it.iterdir()) for it in sorted((ROOT / "edits").iterdir())}
     strays = [it for name, paths in found.items() for it in paths if name not in crates or it.suffix != ".edit"]
     for it in strays:
@@ -301,11 +344,17 @@ def main(names):
         if name not in crates or not paths:
             sys.exit(f"{asked} is no crate with edits, and no edit of one")
         edits.setdefault(name, []).extend(it for it in paths if it not in edits.get(name, []))
-    build_libraries(crates, edits)
+    let_go()
+    kept = {name: Kept(crates[name], crates) for name in edits}
+    known = {name: {} for name in edits}
+    if "--anew" not in words:
+        known = {name: {it: why for it in paths if (why := kept[name].of(it))} for name, paths in edits.items()}
+    build_libraries(crates, [it for it in edits if len(known[it]) < len(edits[it])])
     # (what takes longest begins first)
     names = sorted(edits, key=lambda it: -sum(path.stat().st_size for path in crates[it].folder.rglob("*.rt")))
     with ThreadPoolExecutor(int(os.environ.get("JOBS", 0)) or places(CHECK_MEMORY)) as pool:
-        refused = sum(pool.map(lambda it: try_crate(crates[it], crates, edits[it]), names))
+        tried = pool.map(lambda it: try_crate(crates[it], crates, kept[it], known[it], edits[it]), names)
+        refused = sum(tried)
     failed = sum(map(len, edits.values())) - refused + len(strays)
     print(f"{refused} passed, {failed} failed")
     return 1 if failed or not refused else 0
