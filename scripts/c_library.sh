@@ -1,8 +1,8 @@
 #!/usr/bin/env bash
 # Makes the C library and tries it from C, C++, Python and Rust: the examples, with sanitizers where they are there;
-# c_calls.c, which has each status, each refused allocation and threads with small stacks; and c_library.py, made
-# problems against the reference and the built program. A compiler that is not there is told and left out. The
-# library's crates must be proved. The last line is 'N passed, M failed'.
+# c_calls.c, which has each status, each refused allocation and threads with small stacks; c_library.py, made problems
+# against the reference and the built program; and python_package.py, the Python package. A compiler that is not there
+# is told and left out. The library's crates must be proved. The last line is 'N passed, M failed'.
 # usage: c_library.sh PROGRAM
 set -uo pipefail
 cd "$(dirname "$0")/.." || exit 1
@@ -104,5 +104,6 @@ else
     echo "cargo is not there, so nothing was tried from Rust"
 fi
 add_up scripts/c_library.py "$@"
+add_up scripts/python_package.py
 echo "$passed passed, $failed failed"
 [ "$failed" = 0 ] && [ "$passed" != 0 ]

@@ -147,8 +147,9 @@ class Library(Planner):
         package = Path(__file__).resolve().parents[2] / "python"
         if package.is_dir() and str(package) not in sys.path:
             sys.path.append(str(package))
-        import mrjob_plan
+        import mrjob_plan.library
 
+        mrjob_plan.library.load()
         self.mrjob, self.is_checked = mrjob_plan, is_checked
 
     def ask(self, wave: Wave, units: dict[str, int]) -> tuple[dict[str, str], int]:
@@ -159,9 +160,10 @@ class Library(Planner):
             name: self.mrjob.Split(units[name], it.holders, barred=it.barred) for name, it in wave.splits.items()
         }
         best = self.mrjob.plan(cluster, splits)
-        refused = self.is_checked and self.mrjob.check(cluster, splits, best.starts, best.prices)
-        if refused:
-            raise Unfit(f"a check of the plan says that {refused.words}")
+        if self.is_checked:
+            verdict = self.mrjob.check(cluster, splits, best.starts, best.prices)
+            if not verdict:
+                raise Unfit(f"a check of the plan says that {verdict}")
         return best.starts, best.cost
 
 

@@ -1,26 +1,33 @@
 """Waves, plans and prices as arrays, in the form of mrjob.h: for callers who have their cluster in arrays already.
 
-An array is a list or any other sequence, which is copied; or an array of ctypes or of numpy of just the type that is
-wanted, in one piece, whose memory is lent to the library as it is. WORKER, SPLIT and PAIR are those types for numpy,
-as in `numpy.zeros(1024, SPLIT)`; plain numbers are 'u2' (racks, workers) and 'u8' (prices).
+An array of numpy, of ctypes or of the module array whose elements are just those that are wanted, in one piece and
+writable, is lent to the library as it is. Any other array or sequence is copied, number by number: rows of an array
+with named fields go by their names, and other rows by their places. WORKER, SPLIT and PAIR are the types for numpy
+that are lent, as in `numpy.zeros(1024, SPLIT)`; plain numbers are 'u2' (racks, workers) and 'u8' (prices).
 """
 import ctypes
 import operator
+import re
+from array import array
 from ctypes import addressof, alignment, byref, c_uint16, c_uint64, sizeof
 from dataclasses import dataclass
 from enum import IntEnum
-from typing import Any, Optional
+from functools import lru_cache
+from itertools import combinations
+from typing import Any, Dict, List, Mapping, Optional, Sequence, Tuple
 
-from .faults import raise_for
-from .library import LIBRARY, PairRow, SplitRow, Total, VerdictRow, WaveRows, WorkerRow
+from .faults import refusal
+from .library import NONE, PairRow, SplitRow, Total, VerdictRow, WaveRows, WorkerRow, load
+from .unfit import raise_for
 
-# In a place of a worker or a split: none.
-NONE = 65535
+__all__ = ["NONE", "PAIR", "SPLIT", "WORKER", "Network", "Planned", "Verdict", "Wave", "check", "plan"]
 
 WORKER = [("rack", "<u2"), ("free", "|u1"), ("live", "|u1")]
 SPLIT = [("bytes", "<u8"), ("first_holder", "<u4"), ("holder_count", "<u2"), ("pending", "<u2")]
 PAIR = [("split", "<u2"), ("worker", "<u2")]
-TYPES = {WorkerRow: WORKER, SplitRow: SPLIT, PairRow: PAIR, c_uint16: [("", "<u2")], c_uint64: [("", "<u8")]}
+
+# What the module array calls plain numbers.
+CODES = {c_uint16: "H", c_uint64: "Q"}
 
 
 class Network(IntEnum):
@@ -30,85 +37,168 @@ class Network(IntEnum):
     DIRECT = 1
 
 
-class Lent:
-    """An array as the library takes it: an address, a length, and what keeps it in memory."""
+# ---- elements in memory ----
 
-    def __init__(self, kind: Any, given: Any, is_written: bool = False) -> None:
-        self.owner = given
-        if hasattr(given, "__array_interface__"):
-            self.lend(kind, given.__array_interface__, is_written)
-            return
-        if not (isinstance(given, ctypes.Array) and given._type_ is kind):
-            if is_written:
-                raise TypeError("what is to be written has to be an array of ctypes or of numpy")
-            self.owner = copied(kind, given)
-        self.address, self.length = addressof(self.owner), len(self.owner)
-        self.fill(kind)
 
-    def lend(self, kind: Any, told: Any, is_written: bool) -> None:
-        """Takes what an array of numpy tells of itself."""
-        types = told["descr"]
-        if [it[1] for it in types] != [it[1] for it in TYPES[kind]] or any(len(it) > 2 for it in types):
-            raise TypeError(f"the array has elements {types}, and not {TYPES[kind]}")
-        self.address, is_read_only = told["data"]
-        if len(told["shape"]) != 1 or told.get("strides") or self.address % alignment(kind):
-            raise TypeError("the array is not one row of elements without gaps")
-        if is_read_only and is_written:
-            raise TypeError("the array cannot be written")
-        self.length = told["shape"][0]
-        self.fill(kind)
+@lru_cache(maxsize=None)
+def shape(layout: str) -> str:
+    """The names and types of an element's numbers, by the words in which a buffer tells them on such a machine."""
+    return re.sub("[<=@]", "", layout).replace("L", "Q")
 
-    def fill(self, kind: Any) -> None:
-        """An array of no elements gets an address all the same."""
-        if self.length == 0:
-            self.owner = (kind * 1)()
-            self.address = addressof(self.owner)
+
+@lru_cache(maxsize=None)
+def shape_of(kind: Any) -> str:
+    return shape(memoryview((kind * 0)()).format)
+
+
+def lent(kind: Any, given: Any) -> Optional["ctypes.Array[Any]"]:
+    """The memory of what is given, or None where it is no array that can be lent."""
+    try:
+        view = memoryview(given)
+    except (TypeError, ValueError, BufferError):
+        return None
+    is_whole = view.ndim == 1 and view.c_contiguous and not view.readonly
+    if not is_whole or view.itemsize != sizeof(kind) or shape(view.format) != shape_of(kind):
+        return None
+    memory: "ctypes.Array[Any]" = (kind * len(view)).from_buffer(view)
+    return memory if len(memory) == 0 or addressof(memory) % alignment(kind) == 0 else None
+
+
+def fields_of(kind: Any) -> List[str]:
+    return [it[0] for it in getattr(kind, "_fields_", ())]
+
+
+def listed(kind: Any, given: Any) -> List[Any]:
+    """The numbers that are given, or the rows of them with their fields in the kind's order."""
+    fields, found = fields_of(kind), []
+    values = given.tolist() if not fields and hasattr(given, "tolist") else given
+    for number, it in enumerate(values):
+        try:
+            found.append(row_of(fields, it) if fields else operator.index(it))
+        except TypeError as why:
+            raise TypeError(f"element {number} is {it!r}: {why}") from None
+    return found
+
+
+def row_of(fields: List[str], row: Any) -> Tuple[int, ...]:
+    """The numbers of a row, by their names where it has names."""
+    names = row.dtype.names if hasattr(row, "dtype") else None
+    if len(row) != len(fields) or (names and sorted(names) != sorted(fields)):
+        raise TypeError(f"it does not have {', '.join(fields)}")
+    return tuple(map(operator.index, (row[it] for it in fields) if names else row))
+
+
+def within(end: int, value: int) -> int:
+    """The value, or where it is not below the end of its type the last but one: past all bounds too, and not NONE."""
+    return value if 0 <= value < end else end - 2
+
+
+def copied(kind: Any, given: List[Any]) -> "ctypes.Array[Any]":
+    ends = [256 ** sizeof(it[1]) for it in getattr(kind, "_fields_", ())]
+    if ends:
+        elements = [kind(*[it if 0 <= it < end else end - 2 for it, end in zip(row, ends)]) for row in given]
+    else:
+        elements = [within(256 ** sizeof(kind), it) for it in given]
+    memory: "ctypes.Array[Any]" = (kind * len(given))(*elements)
+    return memory
+
+
+class Elements:
+    """An array as the library takes it: what was given, where that can be lent, or a copy of its numbers."""
+
+    def __init__(self, kind: Any, given: Any) -> None:
+        self.kind, self.given = kind, None
+        memory = lent(kind, given)
+        if memory is None:
+            self.given = listed(kind, given)
+            memory = copied(kind, self.given)
+        # (an array of no elements has an address all the same)
+        self.memory, self.length = memory if len(memory) else (kind * 1)(), len(memory)
+
+    def __len__(self) -> int:
+        return self.length
+
+    def values(self) -> List[Any]:
+        """The numbers or the rows, as they were given."""
+        if self.given is not None:
+            return self.given
+        fields, elements = fields_of(self.kind), self.memory[: self.length]
+        return [tuple(getattr(it, field) for field in fields) if fields else it for it in elements]
 
     @property
-    def pair(self) -> tuple:
-        return self.address, self.length
+    def pair(self) -> Tuple[int, int]:
+        """Address and length."""
+        return addressof(self.memory), self.length
 
 
-def within(kind: Any, value: Any) -> int:
-    """The value, or the greatest of its type where it is not one of them: that is past the bounds as well."""
-    value, most = operator.index(value), 256 ** sizeof(kind) - 1
-    return value if 0 <= value <= most else most
+class Output(Elements):
+    """An array that the library writes: the one that is given, or a new one of the module array."""
+
+    def __init__(self, name: str, kind: Any, length: int, given: Any) -> None:
+        self.array = array(CODES[kind], bytes(length * sizeof(kind))) if given is None else given
+        super().__init__(kind, self.array)
+        if self.given is not None:
+            size = 8 * sizeof(kind)
+            raise TypeError(f"{name} is no array that can be lent and written, of unsigned numbers of {size} bits")
 
 
-def copied(kind: Any, values: Any) -> Any:
-    """A new array of the values, each a number or a row of them."""
-    values = list(values)
-    if kind in (c_uint16, c_uint64):
-        return (kind * len(values))(*(within(kind, it) for it in values))
-    types = [it for _, it in kind._fields_]
-    return (kind * len(values))(*(kind(*map(within, types, row)) for row in values))
+def refuse_overlaps(written: Mapping[str, Elements], read: Mapping[str, Elements]) -> None:
+    """Raises where an array that is to be written shares memory with another."""
+    every = (*written.items(), *read.items())
+    spans = [(name, it.pair[0], it.pair[0] + it.length * sizeof(it.kind)) for name, it in every]
+    for (name, start, end), (other, start_of_other, end_of_other) in combinations(spans, 2):
+        if name in written and max(start, start_of_other) < min(end, end_of_other):
+            raise ValueError(f"{name} and {other} share memory, and {name} is to be written")
 
 
-def copied_starts(values: Any) -> Any:
-    """A new array of starts, in which None stands for no worker, and no other number does."""
-    values = [NONE if it is None else operator.index(it) for it in values]
-    return (c_uint16 * len(values))(*(it if 0 <= it <= NONE else NONE - 1 for it in values))
+# ---- what is asked, and answered ----
 
 
 class Wave:
-    """A cluster as one wave sees it, with the fields of `struct mrjob_wave`."""
+    """A cluster as one wave sees it, with the fields of `struct mrjob_wave`. Two are equal whose numbers are; what is
+    unpickled, or a copy, has arrays of its own."""
 
     def __init__(self, centres: int, centre_of: Any, workers: Any, splits: Any, holders: Any, barred: Any = ()) -> None:
-        self.arrays = (
-            Lent(c_uint16, centre_of),
-            Lent(WorkerRow, workers),
-            Lent(SplitRow, splits),
-            Lent(c_uint16, holders),
-            Lent(PairRow, barred),
-        )
-        pairs = [it for array in self.arrays for it in array.pair]
-        self.rows = WaveRows(within(ctypes.c_size_t, centres), *pairs)
-        self.workers, self.splits = self.arrays[1].length, self.arrays[2].length
+        self.centres = operator.index(centres)
+        self.centre_of = Elements(c_uint16, centre_of)
+        self.workers = Elements(WorkerRow, workers)
+        self.splits = Elements(SplitRow, splits)
+        self.holders = Elements(c_uint16, holders)
+        self.barred = Elements(PairRow, barred)
+        # of racks, workers and splits, where they have names
+        self.names: Dict[str, Sequence[Any]] = {}
+
+    @property
+    def arrays(self) -> Dict[str, Elements]:
+        names = ("centre_of", "workers", "splits", "holders", "barred")
+        return {it: getattr(self, it) for it in names}
+
+    def rows(self) -> WaveRows:
+        pairs = [word for it in self.arrays.values() for word in it.pair]
+        return WaveRows(within(2**64, self.centres), *pairs)
+
+    def name(self, kind: str, number: int) -> str:
+        """What a message calls a rack, a worker or a split."""
+        return f"{kind} {self.names[kind][number]!r}" if kind in self.names else f"{kind} {number}"
+
+    def values(self) -> Tuple[Any, ...]:
+        return (self.centres, *(it.values() for it in self.arrays.values()))
+
+    def __eq__(self, other: object) -> bool:
+        return isinstance(other, Wave) and self.values() == other.values()
+
+    def __reduce__(self) -> Tuple[Any, ...]:
+        return Wave, self.values()
+
+    def __repr__(self) -> str:
+        lengths = ", ".join(f"{len(it)} {name}" for name, it in self.arrays.items())
+        return f"<Wave of {self.centres} centres, {lengths}>"
 
 
-@dataclass(frozen=True)
+@dataclass(frozen=True, eq=False)
 class Planned:
-    """Starts by split, of which NONE says that a split does not start, prices, and the starts' count and cost."""
+    """Starts by split, of which NONE says that a split does not start, prices, and the starts' count and cost. Two are
+    equal whose numbers are; what is unpickled, or a copy, has arrays of the module array."""
 
     starts: Any
     split_prices: Any
@@ -116,16 +206,35 @@ class Planned:
     count: int
     cost: int
 
+    def values(self) -> Tuple[Any, ...]:
+        prices = array("Q", self.split_prices), array("Q", self.worker_prices)
+        return array("H", self.starts), *prices, self.count, self.cost
+
+    def __eq__(self, other: object) -> bool:
+        return isinstance(other, Planned) and self.values() == other.values()
+
+    def __reduce__(self) -> Tuple[Any, ...]:
+        return Planned, self.values()
+
 
 @dataclass(frozen=True)
 class Verdict:
-    """Count and cost where the prices certify the starts; else the condition that fails first, and its place."""
+    """Count and cost where the prices certify the starts, and then it is true; else the condition that fails first, and
+    its place."""
 
     count: int
     cost: int
     condition: Optional[int]
     split: Optional[int]
     worker: Optional[int]
+
+    def __bool__(self) -> bool:
+        return self.condition is None
+
+    def __str__(self) -> str:
+        if self.condition is None:
+            return f"certified: {self.count} starts at byte-distance {self.cost}"
+        return refusal(self.condition, self.split, self.worker)
 
 
 def plan(
@@ -135,28 +244,33 @@ def plan(
     split_prices: Any = None,
     worker_prices: Any = None,
 ) -> Planned:
-    """A best plan with its prices, in new arrays of ctypes, or in those that are given."""
-    outputs = [
-        (kind * length)() if given is None else given
-        for kind, length, given in (
-            (c_uint16, wave.splits, starts),
-            (c_uint64, wave.splits, split_prices),
-            (c_uint64, wave.workers, worker_prices),
-        )
-    ]
-    lent = [Lent(kind, it, is_written=True) for kind, it in zip((c_uint16, c_uint64, c_uint64), outputs)]
+    """A best plan with its prices, in new arrays of the module array, or in those that are given. Raises Unfit or
+    NoMemory where there is none, and TypeError or ValueError where an array cannot be written."""
+    outputs = {
+        "starts": Output("starts", c_uint16, len(wave.splits), starts),
+        "split_prices": Output("split_prices", c_uint64, len(wave.splits), split_prices),
+        "worker_prices": Output("worker_prices", c_uint64, len(wave.workers), worker_prices),
+    }
+    refuse_overlaps(outputs, wave.arrays)
     total = Total()
-    arrays = [word for it in lent for word in it.pair]
-    raise_for(LIBRARY.mrjob_plan(byref(wave.rows), within(ctypes.c_uint32, network), *arrays, byref(total)))
-    return Planned(*outputs, total.count, total.cost)
+    arrays = [word for it in outputs.values() for word in it.pair]
+    status = load().mrjob_plan(byref(wave.rows()), within(2**32, network), *arrays, byref(total))
+    raise_for(status, wave, outputs, network)
+    written = [it.array for it in outputs.values()]
+    return Planned(written[0], written[1], written[2], total.count, total.cost)
 
 
 def check(wave: Wave, starts: Any, split_prices: Any, worker_prices: Any) -> Verdict:
-    """What the prices say of the starts."""
-    if not (isinstance(starts, ctypes.Array) or hasattr(starts, "__array_interface__")):
-        starts = copied_starts(starts)
-    lent = [Lent(c_uint16, starts), Lent(c_uint64, split_prices), Lent(c_uint64, worker_prices)]
+    """What the prices say of the starts, in which None is as NONE. Raises Unfit or NoMemory where they say nothing."""
+    if not hasattr(starts, "tolist") and not isinstance(starts, ctypes.Array):
+        starts = [NONE if it is None else it for it in starts]
+    given = {
+        "starts": Elements(c_uint16, starts),
+        "split_prices": Elements(c_uint64, split_prices),
+        "worker_prices": Elements(c_uint64, worker_prices),
+    }
     row = VerdictRow()
-    raise_for(LIBRARY.mrjob_check(byref(wave.rows), *(word for it in lent for word in it.pair), byref(row)))
+    arrays = [word for it in given.values() for word in it.pair]
+    raise_for(load().mrjob_check(byref(wave.rows()), *arrays, byref(row)), wave, given)
     place = [None if it == NONE else it for it in (row.split, row.worker)]
     return Verdict(row.count, row.cost, row.condition or None, *place)

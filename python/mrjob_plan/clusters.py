@@ -1,34 +1,40 @@
-"""Waves, plans and prices by names."""
+"""Waves, plans and prices by names. Names are any keys; a sequence in place of a mapping goes by number."""
+import operator
 from dataclasses import dataclass
-from typing import Dict, Hashable, List, Mapping, Optional, Sequence, Tuple, TypeVar, Union
+from typing import TYPE_CHECKING, Any, Dict, Generic, Hashable, Iterable, List, Literal, Mapping, Optional
+from typing import Sequence, Tuple, TypeVar, Union, cast, overload
 
 from . import arrays
-from .faults import Status, Unfit
+from .arrays import NONE, Network
+from .faults import CONDITIONS, Status, Unfit, refusal
 
-# What racks, workers and splits are called. Those of a mapping go by its keys, those of a sequence by their places.
-Name = Hashable
+# The names of splits and of workers.
+S = TypeVar("S", bound=Hashable)
+W = TypeVar("W", bound=Hashable)
+N = TypeVar("N", bound=Hashable)
 T = TypeVar("T")
-Named = Union[Mapping[Name, T], Sequence[T]]
+Named = Union[Mapping[N, T], Sequence[T]]
 
-CONDITIONS = {
-    1: "a split starts that does not wait, or that no live worker holds",
-    2: "a split starts on a dead worker, or on one that is barred",
-    3: "a worker has more starts than free slots",
-    4: "a price is past all that the starts can cost together",
-    5: "the prices of a pair that may start are too low",
-    6: "the prices of a pair that starts are too high",
-    7: "a split that does not start has a price",
-    8: "a worker with a slot left has a price",
-}
+# The mappings or sequences of prices.
+OfSplits = TypeVar("OfSplits", covariant=True)
+OfWorkers = TypeVar("OfWorkers", covariant=True)
+
+
+def refuse_string(noun: str, given: object) -> None:
+    if isinstance(given, (str, bytes)):
+        raise TypeError(f"{noun} are names one by one, and not {given!r}")
 
 
 @dataclass(frozen=True)
 class Worker:
     """A worker: its rack, how many of its slots are free, and whether it lives."""
 
-    rack: Name
+    rack: Hashable
     free: int = 1
     live: bool = True
+
+    def __post_init__(self) -> None:
+        object.__setattr__(self, "free", operator.index(self.free))
 
 
 @dataclass(frozen=True)
@@ -36,139 +42,226 @@ class Split:
     """A split: its bytes, the workers that hold it, whether it waits for a start, and where it may not start."""
 
     bytes: int
-    holders: Sequence[Name] = ()
+    holders: Sequence[Hashable] = ()
     pending: bool = True
-    barred: Sequence[Name] = ()
+    barred: Sequence[Hashable] = ()
+
+    def __post_init__(self) -> None:
+        object.__setattr__(self, "bytes", operator.index(self.bytes))
+        for noun in ("holders", "barred"):
+            refuse_string(noun, getattr(self, noun))
+            object.__setattr__(self, noun, tuple(getattr(self, noun)))
 
 
 @dataclass(frozen=True)
-class Cluster:
+class Cluster(Generic[W]):
     """Workers, and for each rack its data centre. Without racks, those that workers name stand in one data centre;
     without centres, they are those that the racks name."""
 
-    workers: Named[Worker]
-    racks: Optional[Named[Name]] = None
-    centres: Optional[Sequence[Name]] = None
+    workers: Named[W, Worker]
+    racks: Optional[Named[Any, Hashable]] = None
+    centres: Optional[Sequence[Hashable]] = None
+
+    def __post_init__(self) -> None:
+        refuse_string("racks", self.racks)
+        refuse_string("centres", self.centres)
+
+    if TYPE_CHECKING:
+
+        @overload
+        def __init__(
+            self: "Cluster[int]",
+            workers: Sequence[Worker],
+            racks: Optional[Named[Any, Hashable]] = None,
+            centres: Optional[Sequence[Hashable]] = None,
+        ) -> None: ...
+
+        @overload
+        def __init__(
+            self,
+            workers: Mapping[W, Worker],
+            racks: Optional[Named[Any, Hashable]] = None,
+            centres: Optional[Sequence[Hashable]] = None,
+        ) -> None: ...
+
+        def __init__(self, workers: Any, racks: Any = None, centres: Any = None) -> None: ...
 
 
 @dataclass(frozen=True)
-class Prices:
-    """What each split is worth and what a slot of each worker costs, in the unit of the cost of a plan."""
+class Prices(Generic[OfSplits, OfWorkers]):
+    """What each split is worth and what a slot of each worker costs, in the unit of the cost of a plan: mappings or
+    sequences of numbers."""
 
-    splits: Named[int]
-    workers: Named[int]
+    splits: OfSplits
+    workers: OfWorkers
 
 
 @dataclass(frozen=True)
-class Plan:
+class Plan(Generic[S, W]):
     """The worker of each split that starts, how many do, their byte-distance together, and prices that certify it."""
 
-    starts: Dict[Name, Name]
+    starts: Dict[S, W]
     count: int
     cost: int
-    prices: Prices
+    prices: Prices[Dict[S, int], Dict[W, int]]
 
 
 @dataclass(frozen=True)
-class Refused:
-    """The condition, 1 to 8, that fails first, and the split and worker where it fails, None where it is of none."""
+class Certified:
+    """The prices certify the starts: so many, at this byte-distance together. It is true."""
+
+    count: int
+    cost: int
+
+    def __bool__(self) -> Literal[True]:
+        return True
+
+
+@dataclass(frozen=True)
+class Refused(Generic[S, W]):
+    """The condition, 1 to 8, that fails first, and the split and worker where it fails, None where it is of none. It is
+    false, and as a string it has all that in words."""
 
     condition: int
-    split: Optional[Name]
-    worker: Optional[Name]
+    split: Optional[S]
+    worker: Optional[W]
 
     @property
     def words(self) -> str:
         return CONDITIONS[self.condition]
 
+    def __bool__(self) -> Literal[False]:
+        return False
 
-class Numbers:
-    """The names of one kind with their numbers, and the status of a call that names another."""
+    def __str__(self) -> str:
+        return refusal(self.condition, self.split, self.worker)
 
-    def __init__(self, kind: str, named: Named, status: Status) -> None:
-        self.kind, self.status = kind, status
-        self.names: List[Name] = list(named) if isinstance(named, Mapping) else list(range(len(named)))
-        self.numbers = {name: number for number, name in enumerate(self.names)}
 
-    def of(self, name: Name, status: Optional[Status] = None) -> int:
+class Numbers(Generic[N]):
+    """The names of one kind with their numbers."""
+
+    def __init__(self, kind: str, named: Named[N, Any]) -> None:
+        self.kind = kind
+        self.names: List[N] = list(named) if isinstance(named, Mapping) else cast(List[N], list(range(len(named))))
+        self.numbers: Dict[Hashable, int] = {name: number for number, name in enumerate(self.names)}
+
+    def of(self, names: Iterable[Hashable], status: Status, owner: str, owner_name: Hashable, role: str) -> List[int]:
+        """Their numbers. The status, whose names these are and as what is told of a name that is none."""
         try:
-            return self.numbers[name]
-        except KeyError:
-            raise Unfit(status or self.status, f"{name!r} is no {self.kind}") from None
+            return [self.numbers[it] for it in names]
+        except KeyError as unknown:
+            raise Unfit(status, f"{owner} {owner_name!r}: {role} {unknown.args[0]!r} is no {self.kind}") from None
 
-    def name(self, number: Optional[int]) -> Optional[Name]:
-        return None if number is None else self.names[number]
-
-    def listed(self, given: Named[T], missing: T) -> List[T]:
+    def listed(self, given: Named[N, T], missing: T, noun: str) -> List[T]:
         """What is given for each, by number; as it is where it comes as a sequence."""
         if not isinstance(given, Mapping):
             return list(given)
         for name in given:
-            self.of(name)
+            if name not in self.numbers:
+                raise Unfit(Status.BAD_LENGTH, f"{noun}: {name!r} is no {self.kind}")
         return [given.get(name, missing) for name in self.names]
 
 
-def values(named: Named[T]) -> List[T]:
-    return list(named.values()) if isinstance(named, Mapping) else list(named)
+def items(named: Named[Any, T]) -> List[Tuple[Any, T]]:
+    return list(named.items()) if isinstance(named, Mapping) else list(enumerate(named))
 
 
-def tree_of(cluster: Cluster) -> Tuple[int, List[int], Numbers]:
+def tree_of(cluster: Cluster[W]) -> Tuple[int, List[int], Numbers[Any]]:
     """How many data centres there are, the centre of each rack, and the racks."""
     racks = cluster.racks
     if racks is None:
-        racks = {worker.rack: 0 for worker in values(cluster.workers)}
-    names = dict.fromkeys(values(racks)) if cluster.centres is None else dict.fromkeys(cluster.centres)
-    centres = Numbers("data centre", names, Status.BAD_RACKS)
-    return len(names), [centres.of(it) for it in values(racks)], Numbers("rack", racks, Status.BAD_WORKERS)
+        racks = {worker.rack: 0 for _, worker in items(cluster.workers)}
+    names = [centre for _, centre in items(racks)] if cluster.centres is None else cluster.centres
+    centres = Numbers("data centre", dict.fromkeys(names))
+    centre_of = [centres.of([it], Status.BAD_RACKS, "rack", rack, "centre")[0] for rack, it in items(racks)]
+    return len(centres.names), centre_of, Numbers("rack", racks)
 
 
-class NamedWave:
+class NamedWave(Generic[S, W]):
     """A wave of a cluster and splits, with the names of both."""
 
-    def __init__(self, cluster: Cluster, splits: Named[Split]) -> None:
+    def __init__(self, cluster: Cluster[W], splits: Named[S, Split]) -> None:
         centres, centre_of, racks = tree_of(cluster)
-        self.workers = Numbers("worker", cluster.workers, Status.BAD_HOLDERS)
-        self.splits = Numbers("split", splits, Status.BAD_LENGTH)
-        rows, holders, barred = [], [], []
-        for number, split in enumerate(values(splits)):
+        self.workers, self.splits = Numbers("worker", cluster.workers), Numbers("split", splits)
+        workers, rows = [], []
+        holders: List[int] = []
+        barred: List[Tuple[int, int]] = []
+        for name, worker in items(cluster.workers):
+            rack = racks.of([worker.rack], Status.BAD_WORKERS, "worker", name, "rack")[0]
+            workers.append((rack, worker.free, bool(worker.live)))
+        for number, (name, split) in enumerate(items(splits)):
             rows.append((split.bytes, len(holders), len(split.holders), bool(split.pending)))
-            holders += [self.workers.of(it) for it in split.holders]
-            barred += [(number, self.workers.of(it, Status.BAD_BARRED)) for it in split.barred]
-        workers = [(racks.of(it.rack), it.free, bool(it.live)) for it in values(cluster.workers)]
+            holders += self.workers.of(split.holders, Status.BAD_HOLDERS, "split", name, "holder")
+            for it in self.workers.of(split.barred, Status.BAD_BARRED, "split", name, "barred"):
+                barred.append((number, it))
         self.wave = arrays.Wave(centres, centre_of, workers, rows, holders, barred)
+        self.wave.names = {it.kind: it.names for it in (racks, self.workers, self.splits)}
 
-    def plan(self, network: arrays.Network) -> Plan:
+    def plan(self, network: int) -> Plan[S, W]:
         planned = arrays.plan(self.wave, network)
-        starts = {
-            split: self.workers.names[number]
-            for split, number in zip(self.splits.names, planned.starts)
-            if number != arrays.NONE
-        }
-        prices = Prices(
-            dict(zip(self.splits.names, planned.split_prices)), dict(zip(self.workers.names, planned.worker_prices))
-        )
+        names = self.workers.names
+        starts = {split: names[it] for split, it in zip(self.splits.names, planned.starts) if it != NONE}
+        prices = Prices(dict(zip(self.splits.names, planned.split_prices)), dict(zip(names, planned.worker_prices)))
         return Plan(starts, planned.count, planned.cost, prices)
 
-    def check(self, starts: Named[Optional[Name]], prices: Prices) -> Optional[Refused]:
-        started = [
-            None if it is None else self.workers.of(it, Status.BAD_STARTS) for it in self.splits.listed(starts, None)
-        ]
-        verdict = arrays.check(
-            self.wave, started, self.splits.listed(prices.splits, 0), self.workers.listed(prices.workers, 0)
-        )
+    def numbers_of(self, starts: Named[S, Optional[W]]) -> List[Optional[int]]:
+        """The number of the worker on which each split starts, or None."""
+        listed, numbers = self.splits.listed(starts, None, "starts"), self.workers.numbers
+        for number, it in enumerate(listed):
+            if it is not None and it not in numbers:
+                place = self.splits.names[number] if number < len(self.splits.names) else number
+                raise Unfit(Status.BAD_STARTS, f"split {place!r}: worker {it!r} is no worker")
+        return [None if it is None else numbers[it] for it in listed]
+
+    def check(
+        self, starts: Named[S, Optional[W]], prices: Prices[Named[S, int], Named[W, int]]
+    ) -> Union[Certified, Refused[S, W]]:
+        split_prices = self.splits.listed(prices.splits, 0, "prices")
+        worker_prices = self.workers.listed(prices.workers, 0, "prices")
+        verdict = arrays.check(self.wave, self.numbers_of(starts), split_prices, worker_prices)
         if verdict.condition is None:
-            return None
-        return Refused(verdict.condition, self.splits.name(verdict.split), self.workers.name(verdict.worker))
+            return Certified(verdict.count, verdict.cost)
+        split = None if verdict.split is None else self.splits.names[verdict.split]
+        worker = None if verdict.worker is None else self.workers.names[verdict.worker]
+        return Refused(verdict.condition, split, worker)
 
 
-def plan(cluster: Cluster, splits: Named[Split], network: arrays.Network = arrays.Network.RACKS) -> Plan:
-    """A best plan of the splits: no other starts more, and none that starts as many costs less."""
-    return NamedWave(cluster, splits).plan(network)
+@overload
+def plan(cluster: Cluster[W], splits: Mapping[S, Split], network: int = ...) -> Plan[S, W]: ...
 
 
+@overload
+def plan(cluster: Cluster[W], splits: Sequence[Split], network: int = ...) -> Plan[int, W]: ...
+
+
+def plan(cluster: Cluster[W], splits: Any, network: int = Network.RACKS) -> Plan[Any, W]:
+    """A best plan of the splits: no other starts more, and none that starts as many costs less. Raises Unfit where the
+    cluster and the splits are no wave, and NoMemory."""
+    return NamedWave[Any, W](cluster, splits).plan(network)
+
+
+@overload
 def check(
-    cluster: Cluster, splits: Named[Split], starts: Named[Optional[Name]], prices: Prices
-) -> Optional[Refused]:
-    """None where the prices certify the starts, which are then best; else the condition that fails first. A price that
-    a mapping leaves out is 0."""
-    return NamedWave(cluster, splits).check(starts, prices)
+    cluster: Cluster[W],
+    splits: Mapping[S, Split],
+    starts: Named[S, Optional[W]],
+    prices: Prices[Named[S, int], Named[W, int]],
+) -> Union[Certified, Refused[S, W]]: ...
+
+
+@overload
+def check(
+    cluster: Cluster[W],
+    splits: Sequence[Split],
+    starts: Named[int, Optional[W]],
+    prices: Prices[Named[int, int], Named[W, int]],
+) -> Union[Certified, Refused[int, W]]: ...
+
+
+def check(cluster: Cluster[W], splits: Any, starts: Any, prices: Any) -> Union[Certified, Refused[Any, W]]:
+    """Certified, which is true, where the prices certify the starts, which are then best; else Refused, which is false,
+    with the condition that fails first. A price that a mapping leaves out is 0.
+
+    Raises Unfit where the cluster and the splits are no wave, or the starts and the prices are not of it, and NoMemory;
+    a condition that fails is no exception."""
+    return NamedWave[Any, W](cluster, splits).check(starts, prices)

@@ -1,5 +1,6 @@
-"""Why a call gives no answer."""
+"""Why a call gives no answer, and why a check does not certify."""
 from enum import IntEnum
+from typing import Any
 
 
 class Status(IntEnum):
@@ -31,27 +32,52 @@ WORDS = {
     Status.NO_MEMORY: "there is no memory",
 }
 
+CONDITIONS = {
+    1: "a split starts that does not wait, or that no live worker holds",
+    2: "a split starts on a dead worker, or on one that is barred",
+    3: "a worker has more starts than free slots",
+    4: "a price is past all that the starts can cost together",
+    5: "the prices of a pair that may start are too low",
+    6: "the prices of a pair that starts are too high",
+    7: "a split that does not start has a price",
+    8: "a worker with a slot left has a price",
+}
+
 
 class Unfit(ValueError):
-    """What was given is no wave, or no plan of it; `status` says what is not fit, and nothing was written."""
+    """What was given is no wave, or no plan of it: `status` says what is not fit, the words say where, and nothing was
+    written. Two are equal that say the same."""
 
     def __init__(self, status: Status, words: str = "") -> None:
-        super().__init__(words or WORDS[status])
+        super().__init__(status, words or WORDS[status])
         self.status = status
+
+    def __str__(self) -> str:
+        return str(self.args[1])
+
+    def __eq__(self, other: object) -> bool:
+        return isinstance(other, Unfit) and self.args == other.args
+
+    def __hash__(self) -> int:
+        return hash(self.args)
 
 
 class NoMemory(MemoryError):
-    """The library found no memory; all that was given is fit, and nothing was written."""
+    """The library found no memory; all that was given is fit, and nothing was written. Any two are equal."""
 
     status = Status.NO_MEMORY
 
-    def __init__(self) -> None:
-        super().__init__(WORDS[Status.NO_MEMORY])
+    def __init__(self, words: str = WORDS[Status.NO_MEMORY]) -> None:
+        super().__init__(words)
+
+    def __eq__(self, other: object) -> bool:
+        return isinstance(other, NoMemory)
+
+    def __hash__(self) -> int:
+        return hash(NoMemory)
 
 
-def raise_for(status: int) -> None:
-    """Raises what a status means that is no answer."""
-    if status == Status.NO_MEMORY:
-        raise NoMemory()
-    if status > Status.REFUSED:
-        raise Unfit(Status(status))
+def refusal(condition: int, split: Any, worker: Any) -> str:
+    """What a check says that finds this condition to fail at this split and this worker, or None."""
+    places = [f"{kind} {it!r}" for kind, it in (("split", split), ("worker", worker)) if it is not None]
+    return f"C{condition} fails at {' and '.join(places)}: {CONDITIONS[condition]}"

@@ -1,11 +1,22 @@
-"""The library itself, and how its structs lie in memory (mrjob.h)."""
+"""The library itself: its bounds, and how its structs lie in memory (mrjob.h)."""
 import ctypes
 import os
 from ctypes import POINTER, Structure, c_size_t, c_uint8, c_uint16, c_uint32, c_uint64, c_void_p
+from functools import lru_cache
 from pathlib import Path
 
 VERSION = 1
 NAME = f"libmrjob.so.{VERSION}"
+
+MAX_CENTRES = 8
+MAX_RACKS = 32
+MAX_WORKERS = 256
+MAX_SPLITS = 1024
+MAX_HOLDERS = 8
+MAX_SLOTS = 16
+MAX_BYTES = 67108864
+# In a place of a worker or a split: none.
+NONE = 65535
 
 
 class WorkerRow(Structure):
@@ -29,36 +40,43 @@ class WaveRows(Structure):
 
 
 class Total(Structure):
+    count: int
+    cost: int
     _fields_ = [("count", c_uint64), ("cost", c_uint64)]
 
 
 class VerdictRow(Structure):
+    count: int
+    cost: int
+    condition: int
+    split: int
+    worker: int
     _fields_ = [*Total._fields_, ("condition", c_uint32), ("split", c_uint16), ("worker", c_uint16)]
 
 
-def places():
-    """Where the library is looked for: where MRJOB_LIBRARY says; else in the package, in the lib/ of the checkout that
-    the package stands in, and among the libraries that are installed."""
+def place() -> str:
+    """Where the library is: where MRJOB_LIBRARY says; else in the package, or in the lib/ of the checkout that the
+    package stands in, or among the libraries that are installed."""
     if "MRJOB_LIBRARY" in os.environ:
-        return [os.environ["MRJOB_LIBRARY"]]
+        return os.environ["MRJOB_LIBRARY"]
     here = Path(__file__).resolve().parent
-    return [*(str(it) for it in (here / NAME, here.parent.parent / "lib" / NAME) if it.exists()), NAME]
+    return next((str(it) for it in (here / NAME, here.parent.parent / "lib" / NAME) if it.exists()), NAME)
 
 
-def load():
+@lru_cache(maxsize=None)
+def load() -> ctypes.CDLL:
+    """The library, which the first call loads, or an ImportError."""
     try:
         # (a call of a CDLL lets go of the interpreter's lock)
-        library = ctypes.CDLL(places()[0])
+        library = ctypes.CDLL(place())
     except OSError as why:
-        raise ImportError(f"{NAME} is not there ({why}): `make library` makes it, and MRJOB_LIBRARY names it") from why
+        words = f"{NAME} is not there: `make library` makes it, and MRJOB_LIBRARY may say where it is ({why})"
+        raise ImportError(words) from None
     library.mrjob_version.restype = c_uint32
     if library.mrjob_version() != VERSION:
-        raise ImportError(f"{places()[0]} has version {library.mrjob_version()}, and this package wants {VERSION}")
+        raise ImportError(f"{place()} has version {library.mrjob_version()}, and this package wants {VERSION}")
     array = [c_void_p, c_size_t]
     library.mrjob_plan.restype = library.mrjob_check.restype = c_uint32
     library.mrjob_plan.argtypes = [POINTER(WaveRows), c_uint32, *array, *array, *array, POINTER(Total)]
     library.mrjob_check.argtypes = [POINTER(WaveRows), *array, *array, *array, POINTER(VerdictRow)]
     return library
-
-
-LIBRARY = load()
