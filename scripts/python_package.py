@@ -4,8 +4,9 @@
     python_package.py [TEST..]          all tests, or those that are named
 
 What is refused with which status and words, at each bound; what is given, answered or raised, copied, pickled,
-compared and brought back from other processes; arrays, those of numpy where numpy is there; README's own lines;
-and the types, where mypy is there. The last line is 'N passed, M failed'.
+compared and brought back from other processes; arrays, those of numpy where numpy is there; README's own lines; the
+types, where mypy is there; the wheel and the source archive, and what pip makes of them. The last line is 'N passed,
+M failed'.
 """
 import copy
 import ctypes
@@ -18,6 +19,7 @@ import signal
 import subprocess
 import sys
 import tempfile
+import zipfile
 from array import array
 from concurrent.futures import ProcessPoolExecutor
 from pathlib import Path
@@ -403,7 +405,108 @@ def types():
     return differences(pairs) or print(said, told)
 
 
-TESTS = [statuses, forms, by_value, verdicts, pools, new_arrays, numpy_arrays, documents, types]
+# ---- packages ----
+
+
+def made(folder, *words, **more):
+    """The names of what the backend makes in a folder."""
+    status, said = run(sys.executable, ROOT / "python/backend.py", folder, *words, env=alone(**more))
+    return sorted(said.split()) if status == 0 else print(said)
+
+
+def wheel():
+    """Two builds give the same bytes, with license, readme and the one version, and the tag that the library wants."""
+    with tempfile.TemporaryDirectory() as room:
+        rooms = [Path(room) / it for it in ("1", "2", "dated")]
+        names = [made(it, **more) for it, more in zip(rooms, ({}, {}, {"SOURCE_DATE_EPOCH": "1000000000"}))]
+        content = [[(it / name).read_bytes() for name in names[0]] for it in rooms]
+        with zipfile.ZipFile(next(rooms[0].glob("*.whl"))) as archive:
+            files = {it.filename: archive.read(it) for it in archive.infolist()}
+            modes = {it.external_attr >> 16 for it in archive.infolist()}
+        with zipfile.ZipFile(next(rooms[2].glob("*.whl"))) as archive:
+            dates = {it.date_time for it in archive.infolist()}
+    version = (ROOT / "VERSION").read_text().strip()
+    head, _, readme = files[f"mrjob_plan-{version}.dist-info/METADATA"].decode().partition("\n\n")
+    pairs = [
+        (content[0] == content[1], True),
+        (any(a == b for a, b in zip(content[0], content[2])), False),
+        (dates, {(2001, 9, 9, 1, 46, 40)}),
+        (modes, {0o644, 0o755}),
+        (files[f"mrjob_plan-{version}.dist-info/LICENSE"], (ROOT / "LICENSE").read_bytes()),
+        (readme, (ROOT / "python/README.md").read_text()),
+        (f"\nVersion: {version}\n" in head and "\nLicense: MIT\n" in head, True),
+        (mrjob_plan.__version__, version),
+        (files[f"mrjob_plan/{library.NAME}"], (ROOT / "lib" / library.NAME).read_bytes()),
+    ]
+    return differences(pairs) and tag(next(it for it in names[0] if it.endswith(".whl")))
+
+
+def another_checkout():
+    """Where there is no library the wheel has Python alone; what pyproject.toml names as URLs it tells."""
+    with tempfile.TemporaryDirectory() as room:
+        shutil.copytree(ROOT / "python", f"{room}/python")
+        for name in ("LICENSE", "VERSION"):
+            shutil.copy(ROOT / name, room)
+        with open(f"{room}/python/pyproject.toml", "a") as project:
+            project.write('\n[project.urls]\nSource = "https://example.org/mrjob"\n')
+        said = run(sys.executable, f"{room}/python/backend.py", f"{room}/dist", env=alone())
+        name = f"mrjob_plan-{mrjob_plan.__version__}"
+        with zipfile.ZipFile(f"{room}/dist/{name}-py3-none-any.whl") as archive:
+            metadata, names = archive.read(f"{name}.dist-info/METADATA").decode(), archive.namelist()
+    return differences([
+        (said, (0, f"{name}-py3-none-any.whl\n{name}.tar.gz\n")),
+        ("\nProject-URL: Source, https://example.org/mrjob\n" in metadata, True),
+        ([it for it in names if ".so" in it], []),
+    ])  # fmt: skip
+
+
+def tag(name):
+    """The wheel's tag has the least glibc that its library's symbols allow, and the library wants no other library."""
+    if shutil.which("readelf") is None:
+        print("readelf is not there, so the wheel's tag was not checked")
+        return True
+    versions = run("readelf", "-W", "--version-info", ROOT / "lib" / library.NAME)[1]
+    wanted = max(tuple(map(int, it.split("."))) for it in re.findall(r"Name: GLIBC_([\d.]+)", versions))
+    told = re.search(r"-py3-none-manylinux_(\d+)_(\d+)_x86_64[.\w]*\.whl$", name)
+    needs = re.findall(r"NEEDED.*\[(.*)\]", run("readelf", "-W", "--dynamic", ROOT / "lib" / library.NAME)[1])
+    return (wanted <= (int(told[1]), int(told[2])) and needs == ["libc.so.6"]) or print(name, wanted, needs)
+
+
+NO_LIBRARY = """
+from mrjob_plan import *
+print(Split(1).bytes)
+try:
+    plan(Cluster([]), [])
+except ImportError as why:
+    print(why)
+"""
+
+
+def installed():
+    """The example, over what pip makes of the folder, the wheel, the folder left in place, and the source archive."""
+    wanted = (ROOT / "examples/library.out").read_text()
+    with tempfile.TemporaryDirectory() as room:
+        python, names, pairs = f"{room}/venv/bin/python", made(room), []
+        if run(sys.executable, "-m", "venv", f"{room}/venv", env=alone())[0]:
+            print("without venv and pip, the package was not installed")
+            return True
+        pip = lambda *words: run(python, "-m", "pip", "--quiet", *words, env=alone(PIP_NO_INDEX="1"), cwd="/")
+        example = lambda **more: run(python, ROOT / "examples/python/plan.py", env=alone(**more), cwd="/")
+        wheel, archive = (next(f"{room}/{it}" for it in names if it.endswith(end)) for end in (".whl", ".tar.gz"))
+        for words in ([ROOT / "python"], [wheel], ["-e", ROOT / "python"]):
+            pairs += [(pip("install", *words), (0, "")), (example(), (0, wanted))]
+            pairs += [(pip("uninstall", "--yes", "mrjob-plan"), (0, ""))]
+        # (what is made of the source archive has no library)
+        pairs += [(pip("install", archive), (0, ""))]
+        pairs += [(example(MRJOB_LIBRARY=str(ROOT / "lib" / library.NAME)), (0, wanted))]
+        status, said = run(python, "-c", NO_LIBRARY, env=alone(MRJOB_LIBRARY=f"{room}/none.so"), cwd="/")
+        way = "`make library` makes it, and MRJOB_LIBRARY may say where it is"
+        pairs += [((status, said.partition(" (")[0]), (0, f"1\n{library.NAME} is not there: {way}"))]
+        return differences([*pairs, (said.count("\n"), 2)])
+
+
+TESTS = [statuses, forms, by_value, verdicts, pools, new_arrays, numpy_arrays, documents, types, wheel]
+TESTS += [another_checkout, installed]
 
 
 def main():
