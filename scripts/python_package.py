@@ -19,6 +19,7 @@ import signal
 import subprocess
 import sys
 import tempfile
+import traceback
 import zipfile
 from array import array
 from concurrent.futures import ProcessPoolExecutor
@@ -493,8 +494,10 @@ def installed():
         pip = lambda *words: run(python, "-m", "pip", "--quiet", *words, env=alone(PIP_NO_INDEX="1"), cwd="/")
         example = lambda **more: run(python, ROOT / "examples/python/plan.py", env=alone(**more), cwd="/")
         wheel, archive = (next(f"{room}/{it}" for it in names if it.endswith(end)) for end in (".whl", ".tar.gz"))
+        version = lambda: run(python, "-c", "import mrjob_plan as it; print(it.__version__)", env=alone(), cwd="/")
         for words in ([ROOT / "python"], [wheel], ["-e", ROOT / "python"]):
             pairs += [(pip("install", *words), (0, "")), (example(), (0, wanted))]
+            pairs += [(version(), (0, (ROOT / "VERSION").read_text()))]
             pairs += [(pip("uninstall", "--yes", "mrjob-plan"), (0, ""))]
         # (what is made of the source archive has no library)
         pairs += [(pip("install", archive), (0, ""))]
@@ -513,7 +516,11 @@ def main():
     chosen = [globals()[it] for it in sys.argv[1:]] or TESTS
     passed = failed = 0
     for test in chosen:
-        holds = bool(test())
+        try:
+            holds = bool(test())
+        except Exception:
+            traceback.print_exc()
+            holds = False
         print(f"{test.__name__}: {'ok' if holds else 'FAILED'}", flush=True)
         passed, failed = passed + holds, failed + (not holds)
     print(f"{passed} passed, {failed} failed")
