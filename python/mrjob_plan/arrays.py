@@ -68,15 +68,15 @@ def fields_of(kind: Any) -> List[str]:
     return [it[0] for it in getattr(kind, "_fields_", ())]
 
 
-def listed(kind: Any, given: Any) -> List[Any]:
-    """The numbers that are given, or the rows of them with their fields in the kind's order."""
+def listed(name: str, kind: Any, given: Any) -> List[Any]:
+    """The numbers that are given by this name, or the rows of them with their fields in the kind's order."""
     fields, found = fields_of(kind), []
     values = given.tolist() if not fields and hasattr(given, "tolist") else given
     for number, it in enumerate(values):
         try:
             found.append(row_of(fields, it) if fields else operator.index(it))
         except TypeError as why:
-            raise TypeError(f"element {number} is {it!r}: {why}") from None
+            raise TypeError(f"{name}[{number}] is {it!r}: {why}") from None
     return found
 
 
@@ -106,11 +106,11 @@ def copied(kind: Any, given: List[Any]) -> "ctypes.Array[Any]":
 class Elements:
     """An array as the library takes it: what was given, where that can be lent, or a copy of its numbers."""
 
-    def __init__(self, kind: Any, given: Any) -> None:
+    def __init__(self, name: str, kind: Any, given: Any) -> None:
         self.kind, self.given = kind, None
         memory = lent(kind, given)
         if memory is None:
-            self.given = listed(kind, given)
+            self.given = listed(name, kind, given)
             memory = copied(kind, self.given)
         # (an array of no elements has an address all the same)
         self.memory, self.length = memory if len(memory) else (kind * 1)(), len(memory)
@@ -136,7 +136,7 @@ class Output(Elements):
 
     def __init__(self, name: str, kind: Any, length: int, given: Any) -> None:
         self.array = array(CODES[kind], bytes(length * sizeof(kind))) if given is None else given
-        super().__init__(kind, self.array)
+        super().__init__(name, kind, self.array)
         if self.given is not None:
             size = 8 * sizeof(kind)
             raise TypeError(f"{name} is no array that can be lent and written, of unsigned numbers of {size} bits")
@@ -160,11 +160,11 @@ class Wave:
 
     def __init__(self, centres: int, centre_of: Any, workers: Any, splits: Any, holders: Any, barred: Any = ()) -> None:
         self.centres = operator.index(centres)
-        self.centre_of = Elements(c_uint16, centre_of)
-        self.workers = Elements(WorkerRow, workers)
-        self.splits = Elements(SplitRow, splits)
-        self.holders = Elements(c_uint16, holders)
-        self.barred = Elements(PairRow, barred)
+        self.centre_of = Elements("centre_of", c_uint16, centre_of)
+        self.workers = Elements("workers", WorkerRow, workers)
+        self.splits = Elements("splits", SplitRow, splits)
+        self.holders = Elements("holders", c_uint16, holders)
+        self.barred = Elements("barred", PairRow, barred)
         # of racks, workers and splits, where they have names
         self.names: Dict[str, Sequence[Any]] = {}
 
@@ -265,9 +265,9 @@ def check(wave: Wave, starts: Any, split_prices: Any, worker_prices: Any) -> Ver
     if not hasattr(starts, "tolist") and not isinstance(starts, ctypes.Array):
         starts = [NONE if it is None else it for it in starts]
     given = {
-        "starts": Elements(c_uint16, starts),
-        "split_prices": Elements(c_uint64, split_prices),
-        "worker_prices": Elements(c_uint64, worker_prices),
+        "starts": Elements("starts", c_uint16, starts),
+        "split_prices": Elements("split_prices", c_uint64, split_prices),
+        "worker_prices": Elements("worker_prices", c_uint64, worker_prices),
     }
     row = VerdictRow()
     arrays = [word for it in given.values() for word in it.pair]

@@ -146,7 +146,7 @@ class Numbers(Generic[N]):
         self.numbers: Dict[Hashable, int] = {name: number for number, name in enumerate(self.names)}
 
     def of(self, names: Iterable[Hashable], status: Status, owner: str, owner_name: Hashable, role: str) -> List[int]:
-        """Their numbers. The status, whose names these are and as what is told of a name that is none."""
+        """Their numbers. A name that is none is told as what it is to its owner, such as a holder to a split."""
         try:
             return [self.numbers[it] for it in names]
         except KeyError as unknown:
