@@ -225,7 +225,7 @@ def by_value():
         (split, Split(10, ("a",))),
         ({split: 1, Worker("r"): 2}[Split(10, ["a"])], 1),
         (repr(split), "Split(bytes=10, holders=('a',), pending=True, barred=())"),
-        (repr(WAVE), "<Wave of 1 centres, 1 centre_of, 1 workers, 1 splits, 1 holders, 1 barred>"),
+        (repr(WAVE), "<Wave of 1 centres, 1 racks, 1 workers, 1 splits, 1 holders, 1 barred>"),
         (repr(Unfit(Status.BAD_RACKS, "9")), "Unfit(<Status.BAD_RACKS: 2>, '9')"),
         (str(Refused(8, None, "a")), "C8 fails at worker 'a': a worker with a slot left has a price"),
         (bool(Refused(8, None, "a")), False),

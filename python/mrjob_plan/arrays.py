@@ -191,8 +191,8 @@ class Wave:
         return Wave, self.values()
 
     def __repr__(self) -> str:
-        lengths = ", ".join(f"{len(it)} {name}" for name, it in self.arrays.items())
-        return f"<Wave of {self.centres} centres, {lengths}>"
+        lengths = [f"{len(it)} {name}" for name, it in self.arrays.items()]
+        return f"<Wave of {self.centres} centres, {', '.join(lengths).replace('centre_of', 'racks')}>"
 
 
 @dataclass(frozen=True, eq=False)
