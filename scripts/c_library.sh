@@ -66,21 +66,56 @@ try_compiled() { # NAME C-COMPILER C++-COMPILER WORDS..
     try "$name: plan.c as C++" prints "$room/plan"
     for standard in c++11 c++20; do
         try "$name: c_names.cc is built as $standard" \
-            build "$room/names" "$cc" "-std=$standard" -pedantic-errors -Wold-style-cast "$@" -pthread scripts/c_names.cc
+            build "$room/names" "$cc" "-std=$standard" -pedantic-errors "$@" -pthread scripts/c_names.cc
         try "$name: c_names.cc as $standard" "$room/names"
     done
 }
 
-# The library as `make install` puts it, where a program is there to be put with it: by pkg-config, if that is there.
+# A program over what is installed, as README says: it starts by its rpath alone.
+by_pkg_config() {
+    export PKG_CONFIG_PATH="$room/root/lib/pkgconfig"
+    local flags
+    read -r -a flags < <(pkg-config --cflags --libs mrjob)
+    cc examples/c/plan.c "${flags[@]}" "-Wl,-rpath,$(pkg-config --variable=libdir mrjob)" -o "$room/plan" &&
+        [ "$(pkg-config --modversion mrjob)" = "$(cat VERSION)" ] && pkg-config --exists 'mrjob >= 1.0'
+}
+
+# Programs over the shared and the static library by CMake.
+by_cmake() {
+    cat > "$room/CMakeLists.txt" << END
+cmake_minimum_required(VERSION 3.5)
+project(try C)
+find_package(mrjob $(cat VERSION) EXACT REQUIRED)
+foreach(library mrjob static)
+  add_executable(by_\${library} $PWD/examples/c/plan.c)
+  target_link_libraries(by_\${library} mrjob::\${library})
+endforeach()
+END
+    cmake -S "$room" -B "$room/cmake" "-DCMAKE_PREFIX_PATH=$room/root" && cmake --build "$room/cmake"
+}
+
+# The library as `make install` puts it, where a program is there to be put with it: by pkg-config and CMake too, where
+# those are there.
 try_installed() {
     [ -e bin/mrjob ] || { echo "bin/mrjob is not there, so nothing was installed"; return; }
-    try "make install" make -s install DESTDIR="$room/root" PREFIX=/usr
-    local flags=(-I"$room/root/usr/include" -L"$room/root/usr/lib" -lmrjob)
+    try "make install" make -s install "PREFIX=$room/root"
+    try "libmrjob.so is a link" test "$(readlink "$room/root/lib/libmrjob.so")" = libmrjob.so.1
+    try "plan.c over what is installed is built" \
+        cc examples/c/plan.c -I"$room/root/include" -L"$room/root/lib" -lmrjob -o "$room/plan"
+    try "plan.c over what is installed" prints env LD_LIBRARY_PATH="$room/root/lib" "$room/plan"
     if command -v pkg-config > /dev/null; then
-        read -r -a flags < <(PKG_CONFIG_PATH="$room/root/usr/lib/pkgconfig" pkg-config --cflags --libs mrjob)
+        try "plan.c by pkg-config is built" by_pkg_config
+        try "plan.c by pkg-config" prints "$room/plan"
+    else
+        echo "pkg-config is not there, so nothing was built by it"
     fi
-    try "plan.c over what is installed is built" cc examples/c/plan.c "${flags[@]}" -o "$room/plan"
-    try "plan.c over what is installed" prints env LD_LIBRARY_PATH="$room/root/usr/lib" "$room/plan"
+    if command -v cmake > /dev/null; then
+        try "plan.c by CMake is built" by_cmake
+        try "plan.c by CMake" prints "$room/cmake/by_mrjob"
+        try "plan.c by CMake, static" prints "$room/cmake/by_static"
+    else
+        echo "cmake is not there, so nothing was built by it"
+    fi
 }
 
 try "the library is made" scripts/library.py --proved

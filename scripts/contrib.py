@@ -34,7 +34,7 @@ sys.dont_write_bytecode = True
 import demo
 import make_texts
 import pictures
-from crates import ROOT, read_crates
+from crates import ROOT, read_crates, version
 from reference_play import misplayed
 
 sys.path.append(str(ROOT / "contrib"))
@@ -551,17 +551,36 @@ def installed(count, program, room):
         same = path.read_bytes() == (CONTRIB / path.name).read_bytes()
         runs = os.access(path, os.X_OK) == path.read_text().startswith("#!")
         count.expect(f"{path.name} is installed", (same, runs), (True, True))
+    paged(count, prefix)
     certified = said([prefix / "share/mrjob/contrib/certify.py"], (EXAMPLES / "swap.txt").read_bytes())
     count.expect("certify.py runs from there", certified, (b"certified 2 20\n", "", 0))
     completes = f"source {prefix}/share/bash-completion/completions/mrjob; "
     for line, wanted in {"mrjob p": ["plan", "play"], "mrjob plan --n": ["--network"],
-                         "mrjob plan --network d": ["direct"], "mrjob help ru": ["run"]}.items():
-        words = line.split()
+                         "mrjob plan --network d": ["direct"], "mrjob plan --network=": ["direct", "racks"],
+                         "mrjob plan --network=d": ["direct"], "mrjob help ru": ["run"]}.items():
+        words = line.replace("=", " = ").split()
+        line = " ".join(words)
         asks = f"COMP_WORDS=({line}); COMP_CWORD={len(words) - 1}; _mrjob; echo ${{COMPREPLY[@]}}"
         count.expect(f"bash completes {line}", said(["bash", "-c", completes + asks])[0].decode().split(), wanted)
     count.expect("make uninstall", make("uninstall"), 0)
-    left = [str(it.relative_to(prefix)) for it in prefix.rglob("*") if it.is_file() or it.is_symlink()]
-    count.expect("what was not installed is left", left, ["share/mrjob/kept"])
+    left = sorted(str(it.relative_to(prefix)) for it in prefix.rglob("*"))
+    count.expect("what was not installed is left", left, ["share", "share/mrjob", "share/mrjob/kept"])
+
+
+def paged(count, prefix):
+    """No line of a manual page that is not filled is past 72 columns; what the pages refer to is installed."""
+    lines = []
+    for page in sorted((prefix / "share/man").rglob("mrjob*")):
+        text = page.read_text()
+        marks = {"\\(aq": "'", "\\(ga": "`", "\\-": "-", "\\&": "", "\\e": "\\"}
+        plain = re.sub(r"\\(?:\(..|.)", lambda it: marks.get(it[0], it[0]), text)
+        lines += [it for part in re.findall(r"^\.nf\n(.*?)^\.fi$", plain, re.M | re.S) for it in part.splitlines()]
+        head = re.match(r"\.TH \S+ \d \d{4}-\d\d-\d\d \"mrjob (\S+)\"", text)
+        count.expect(f"the version of {page.name}", head and head[1], version())
+        named = set(re.findall(r"(?:docs|examples)/[\w/.]*\w", plain))
+        missing = [it for it in named if not (prefix / "share/doc/mrjob" / it).exists()]
+        count.none(f"what {page.name} refers to is installed", missing)
+    count.none("no line of a manual page is too wide", [it for it in lines if len(it) > 72])
 
 
 def mapped(count):
@@ -575,8 +594,11 @@ def mapped(count):
     count.none("no cell of docs/MAP.md is past 60 words", [it for it in cells if len(it.split()) > 60])
 
 
-def shown(count, program):
+def shown(count, program, room):
     """Each command that the README shows writes the lines below it; it has at most 1,000 words."""
+    (room / "path").mkdir()
+    (room / "path/mrjob").symlink_to(program)
+    path = {**os.environ, "PATH": f"{room}/path:{os.environ['PATH']}"}
     text = (ROOT / "README.md").read_text()
     count.expect("the README has at most 1,000 words", len(text.split()) <= 1000)
     lines = text.splitlines() + [""]
@@ -585,8 +607,8 @@ def shown(count, program):
             after = lines[at + 1 :]
             stop = next(n for n, it in enumerate(after) if not it.startswith("    ") or it.startswith("    $ "))
             wanted = [it[4:] for it in after[:stop]]
-            words = line[6:].replace("bin/mrjob", shlex.quote(str(program)))
-            ran = subprocess.run(["bash", "-c", words], cwd=ROOT, stdout=subprocess.PIPE, stderr=subprocess.DEVNULL)
+            how = {"stdout": subprocess.PIPE, "stderr": subprocess.DEVNULL, "env": path}
+            ran = subprocess.run(["bash", "-c", line[6:]], cwd=ROOT, **how)
             count.expect(f"README: {line[6:80]}", ran.stdout.decode().splitlines(), wanted)
 
 
@@ -610,7 +632,7 @@ def main():
             indexed(count, program, Path(room))
             many_drawn(count, program)
             installed(count, program, Path(room))
-            shown(count, program)
+            shown(count, program, Path(room))
     print(f"{count.passed} passed, {count.failed} failed")
     return 1 if count.failed or not count.passed else 0
 

@@ -3,8 +3,8 @@
 what the check says of each split on its nearest free worker in turn. Then a job whose worker dies, from its script to
 its index, a program that plans by the library's calls, and a job that runs on threads.
 
-Where bin/mrjob is there, and no source is younger, that is run, else the program built without its proofs, which is left
-as bin/mrjob where there was none.
+Where bin/mrjob is there, and no source is younger, that is run, else the program built without its proofs, which is
+left as bin/mrjob where there was none.
 """
 import subprocess
 import sys

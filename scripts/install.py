@@ -1,11 +1,12 @@
 #!/usr/bin/env python3
 """Puts what was built below a folder, as `make install` and `make uninstall` ask.
 
-    install.py PREFIX            bin/mrjob, its manual page, its completions and the scripts of contrib/; where `make
-                                 library` has left it, the C library with its header too
+    install.py PREFIX            bin/mrjob, its manual pages and completions, the scripts of contrib/, the docs and the
+                                 examples; where `make library` has left it, the C library with its header too
     install.py --undo PREFIX     takes away just what was put there, by the list that lies beside the scripts
 """
 import shutil
+import subprocess
 import sys
 import tempfile
 from pathlib import Path
@@ -15,63 +16,102 @@ import manual
 from crates import ROOT
 
 MADE = {
-    "mrjob.1": "share/man/man1",
+    "mrjob.1": "share/man/man1/mrjob.1",
+    "mrjob.5": "share/man/man5/mrjob.5",
+    "mrjob.h.3": "share/man/man3/mrjob.h.3",
     "mrjob.bash": "share/bash-completion/completions/mrjob",
-    "_mrjob": "share/zsh/site-functions",
-    "mrjob.fish": "share/fish/vendor_completions.d",
+    "_mrjob": "share/zsh/site-functions/_mrjob",
+    "mrjob.fish": "share/fish/vendor_completions.d/mrjob.fish",
 }
-OWN = "share/mrjob"
+OWN, DOC = "share/mrjob", "share/doc/mrjob"
 LIST = f"{OWN}/installed"
+# What the list has of a folder that was made, after its place.
+FOLDER = "/"
 
 
-def sources(room):
-    """Each file that is put somewhere, with its place and mode. What is made of the help is made in the room."""
-    yield ROOT / "bin/mrjob", "bin/mrjob", 0o755
-    for name in manual.write(ROOT / "bin/mrjob", room):
-        place = MADE[name]
-        yield Path(room) / name, place if place.endswith("/mrjob") else f"{place}/{name}", 0o644
-    for path in sorted((ROOT / "contrib").glob("*.py")):
-        yield path, f"{OWN}/contrib/{path.name}", 0o755 if path.read_text().startswith("#!") else 0o644
-    if (ROOT / "lib/libmrjob.a").exists():
+def kept(*places):
+    """The files below these that git keeps, so that nothing else is taken; where this is no clone, all files."""
+    told = subprocess.run(["git", "ls-files", "-z", *places], cwd=ROOT, capture_output=True, text=True)
+    names = told.stdout.split("\0")[:-1] if told.returncode == 0 else []
+    whole = (it for place in places for it in [ROOT / place, *(ROOT / place).rglob("*")])
+    return sorted(ROOT / it for it in names) or sorted(it for it in whole if it.is_file() and it.suffix != ".pyc")
+
+
+def sources(room, program):
+    """Each file that is put somewhere, or what a link leads to, with its place and mode. The room is for what is made."""
+    yield program, "bin/mrjob", 0o755
+    has_library = (ROOT / "lib/libmrjob.a").exists()
+    for name in manual.write(program, room):
+        if has_library or name != "mrjob.h.3":
+            yield Path(room) / name, MADE[name], 0o644
+    for below, names in ((OWN, ["contrib"]), (DOC, ["README.md", "CHANGELOG.md", "LICENSE", "docs", "examples"])):
+        for path in kept(*names):
+            yield path, f"{below}/{path.relative_to(ROOT)}", 0o755 if path.read_bytes().startswith(b"#!") else 0o644
+    yield "../../mrjob/contrib", f"{DOC}/contrib", None
+    if has_library:
         yield ROOT / "include/mrjob.h", "include/mrjob.h", 0o644
-        for name in ["pkgconfig/mrjob.pc", *sorted(it.name for it in (ROOT / "lib").glob("libmrjob.*"))]:
-            yield ROOT / "lib" / name, f"lib/{name}", 0o644
+        for path in sorted((ROOT / "lib").rglob("*")):
+            if path.is_symlink():
+                yield path.readlink(), f"lib/{path.relative_to(ROOT / 'lib')}", None
+            elif path.is_file() and path.name != "build.log":
+                yield path, f"lib/{path.relative_to(ROOT / 'lib')}", 0o644
 
 
-def install(prefix):
+def make_folder(folder):
+    """Makes a folder with those above it, and returns those that were not there, the highest first."""
+    made = [] if folder.exists() else [*make_folder(folder.parent), folder]
+    folder.mkdir(exist_ok=True)
+    return made
+
+
+def install(prefix, program=ROOT / "bin/mrjob"):
     undo(prefix)
-    placed = []
+    placed, folders = [], make_folder(prefix)
     with tempfile.TemporaryDirectory() as room:
-        for source, place, mode in sources(room):
+        for source, place, mode in [*sources(room, program), (None, LIST, None)]:
             target = prefix / place
-            target.parent.mkdir(parents=True, exist_ok=True)
+            folders += make_folder(target.parent)
+            if source is None:
+                continue
             target.unlink(missing_ok=True)
-            shutil.copyfile(source, target, follow_symlinks=False)
-            if not target.is_symlink():
+            if mode is None:
+                target.symlink_to(source)
+            else:
+                shutil.copyfile(source, target)
                 target.chmod(mode)
             placed.append(place)
-    (prefix / LIST).write_text("".join(f"{place}\n" for place in placed))
+    # (of what lies above the prefix, nothing is ours)
+    own = [f"{it.relative_to(prefix)}{FOLDER}" for it in folders if prefix in [it, *it.parents]]
+    (prefix / LIST).write_text("".join(f"{place}\n" for place in [*placed, *own]))
 
 
 def undo(prefix):
-    """Takes away what the list names, the list, and the folders of our own."""
+    """Takes away what the list names, the list, and the folders that were made for it, where they are empty."""
     listed = prefix / LIST
-    if listed.exists():
-        for place in listed.read_text().split("\n")[:-1]:
+    if not listed.exists():
+        return
+    places = listed.read_text().split("\n")[:-1]
+    for place in places:
+        if not place.endswith(FOLDER):
             (prefix / place).unlink(missing_ok=True)
-        listed.unlink()
-        for folder in (f"{OWN}/contrib", OWN):
-            if (prefix / folder).is_dir() and not any((prefix / folder).iterdir()):
-                (prefix / folder).rmdir()
+    listed.unlink()
+    for place in reversed(places):
+        folder = prefix / place
+        if place.endswith(FOLDER) and folder.is_dir() and not any(folder.iterdir()):
+            folder.rmdir()
 
 
 def main(words):
-    if len(words) == 1 and words[0] != "--undo":
-        install(Path(words[0]))
-    elif len(words) == 2 and words[0] == "--undo":
-        undo(Path(words[1]))
-    else:
-        sys.exit(__doc__.strip())
+    try:
+        if len(words) == 1 and words[0] != "--undo":
+            install(Path(words[0]))
+        elif len(words) == 2 and words[0] == "--undo":
+            undo(Path(words[1]))
+        else:
+            sys.exit(__doc__.strip())
+    except OSError as why:
+        verb = "uninstall" if len(words) == 2 else "install"
+        sys.exit(f"{why.filename}: {why.strerror}; `make {verb} PREFIX=FOLDER` takes another folder")
 
 
 if __name__ == "__main__":

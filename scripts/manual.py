@@ -1,12 +1,16 @@
 #!/usr/bin/env python3
-"""Makes the manual page and the completions of the program, of the words of its own help.
+"""Makes the manual pages and the completions of the program, of the words of its own help, of the docs and the header.
 
-    manual.py PROGRAM FOLDER       writes there mrjob.1, mrjob.bash, _mrjob and mrjob.fish
+    manual.py PROGRAM FOLDER       writes there mrjob.1, mrjob.5, mrjob.h.3, mrjob.bash, _mrjob and mrjob.fish
 """
 import re
 import subprocess
 import sys
 from pathlib import Path
+
+sys.dont_write_bytecode = True
+import pages
+from roff import entry, plain, title, verbatim
 
 # The words that may follow an option, which its help has among its words.
 VALUES = {"--network": ["direct", "racks"]}
@@ -26,49 +30,62 @@ class Help:
         self.rest = rest.split(listed["Options"], 1)[1].strip("\n")
 
 
-def plain(line):
-    """A line as roff has it, whatever it begins with."""
-    line = line.replace("\\", "\\e").replace("-", "\\-").replace("'", "\\(aq").replace("`", "\\(ga")
-    return "\\&" + line if line.startswith((".", " ")) else line
+def labelled(text):
+    """A text of which a line that begins with a word and a colon is an entry, and an indented one goes on with it."""
+    for part in re.split(r"\n(?=\S)", text):
+        head, _, body = part.partition(":")
+        yield from entry(f"{head}:", body) if re.match(r"\w+:  ", part) else [".PP", plain(" ".join(part.split()))]
 
 
-def verbatim(text):
-    return [".nf", *map(plain, text.split("\n")), ".fi"]
+def paragraphs(text):
+    """A text in paragraphs: labels with what they say, and lines that are indented below one that ends in a colon."""
+    for part in re.split(r"\n\n(?=\S)", text):
+        head, _, body = part.partition("\n")
+        if head.endswith(":") and body.startswith("  "):
+            yield from [".PP", plain(head), ".PP", *verbatim(body)]
+        elif part:
+            yield from labelled(part)
 
 
 def sections(text):
     """A text in paragraphs, of which those that begin with a line and a colon are sections."""
     for part in re.split(r"\n\n(?=\S)", text):
         head, _, body = part.partition("\n")
-        if head.endswith(":") and body:
-            yield from [f'.SH "{plain(head[:-1].upper())}"', *verbatim(body)]
-        elif part:
-            yield from [".SH NOTES", *verbatim(part)]
+        if not (head.endswith(":") and body):
+            yield from [".SH NOTES", plain(" ".join(part.split()))] if part else []
+            continue
+        yield f'.SH "{plain(head[:-1].upper())}"'
+        numbers = re.findall(r"^  (\d+) +(.*(?:\n {4,}\S.*)*)", body, re.M)
+        yield from [line for it in numbers for line in entry(*it)] if numbers else verbatim(body)
 
 
 def options_of(given):
     for long, short, value, says in given.options:
         names = ", ".join(filter(None, [short, long])) + (f" {value}" if value else "")
-        yield from [".TP", f".B {plain(names)}", plain(says)]
+        yield from entry(names, says)
 
 
 def manual(whole, commands):
     """The lines of mrjob.1."""
     about = " ".join(whole.about.split())
-    yield from ['.TH MRJOB 1 "" "mrjob" "User Commands"', ".SH NAME", plain(f"mrjob - {about[0].lower()}{about[1:]}")]
+    yield from [title("MRJOB", 1, "User Commands"), ".SH NAME", plain(f"mrjob - {about[0].lower()}{about[1:]}")]
     yield ".SH SYNOPSIS"
     for given in commands.values():
         yield from [f".B {plain(given.usage)}", ".br"]
     yield from [".SH OPTIONS", *options_of(whole), ".SH COMMANDS"]
     for name, given in commands.items():
-        yield from [f'.SS "mrjob {name}"', plain(given.about), *options_of(given), ".PP", *verbatim(given.rest)]
+        yield from [f'.SS "mrjob {name}"', plain(given.about), *options_of(given), *paragraphs(given.rest)]
     yield from sections(whole.rest)
+    yield from [".SH SEE ALSO", ".BR mrjob (5)", "for the texts, their limits, faults, conditions and reasons,"]
+    yield from [".BR mrjob.h (3)", "for the library", ".PP", plain(pages.SEE)]
 
 
 def bash(whole, commands):
     """The lines of a completion for bash."""
     yield "_mrjob() {"
     yield '    local word="${COMP_WORDS[COMP_CWORD]}" before="${COMP_WORDS[COMP_CWORD-1]}" words'
+    # (bash parts --network=racks into three words)
+    yield '    if [ "$word" = = ]; then word=; elif [ "$before" = = ]; then before="${COMP_WORDS[COMP_CWORD-2]}"; fi'
     yield '    case "$before" in'
     for option, values in VALUES.items():
         yield f'        {option}) COMPREPLY=($(compgen -W "{" ".join(values)}" -- "$word")); return ;;'
@@ -114,12 +131,14 @@ def fish(whole, commands):
 
 
 def write(program, folder):
-    """Writes the four files, and returns their names."""
+    """Writes the files, and returns their names."""
     whole = Help(program)
     commands = {name: Help(program, name) for name, _ in whole.commands if name != "help"}
     made = {"mrjob.1": manual, "mrjob.bash": bash, "_mrjob": zsh, "mrjob.fish": fish}
+    made = {name: lines(whole, commands) for name, lines in made.items()}
+    made.update({"mrjob.5": pages.texts(program), "mrjob.h.3": pages.header()})
     for name, lines in made.items():
-        (Path(folder) / name).write_text("".join(f"{line}\n" for line in lines(whole, commands)))
+        (Path(folder) / name).write_text("".join(f"{line}\n" for line in lines))
     return list(made)
 
 

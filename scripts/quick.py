@@ -70,13 +70,12 @@ def build(program):
     with tempfile.TemporaryDirectory(prefix="mrjob-quick-") as room:
         room = Path(room)
         folder = lay_out_sources(room)
-        ran = subprocess.run(
-            [lay_out_kit(room), "try", "--", "--version"], cwd=folder, stdin=subprocess.DEVNULL, capture_output=True, text=True
-        )
+        how = {"stdin": subprocess.DEVNULL, "capture_output": True, "text": True}
+        ran = subprocess.run([lay_out_kit(room), "try", "--", "--version"], cwd=folder, **how)
         if not (room / "words").exists():
             sys.exit(f"the program was not built:\n{ran.stderr}")
-        words = [it for it in (room / "words").read_text().split("\n")[:-1] if not it.startswith(("-fsanitize", "--sysroot"))]
-        words = ["-O1" if it == "-O0" else it for it in words]
+        words = (room / "words").read_text().split("\n")[:-1]
+        words = [it.replace("-O0", "-O1") for it in words if not it.startswith(("-fsanitize", "--sysroot"))]
         compiler = [whole / "toolchain/bin/clang", f"--sysroot={whole / 'toolchain'}"]
         subprocess.run([*compiler, *words], cwd=room, check=True)
         link = [whole / "bin/rattle-link", "--target", TARGET, "--toolchain", whole / "toolchain", "-o", room / "mrjob"]
