@@ -8,7 +8,11 @@ import sys
 from functools import lru_cache
 from pathlib import Path
 
+import quiet
+
 ROOT = Path(__file__).resolve().parent.parent
+# (each script that stands on this file ends so)
+quiet.at_head()
 # What a crate is made of.
 PARTS = ("src", "specs", "proofs")
 

@@ -9,6 +9,9 @@ import subprocess
 import sys
 from pathlib import Path
 
+sys.dont_write_bytecode = True
+import crates  # (it ends a script quietly where head does)
+
 PYTHON = "/usr/bin/python3"
 MOST_SECONDS = 1800  # which only a hang takes
 ROOT = Path(__file__).resolve().parent.parent

@@ -8,6 +8,9 @@ and jobs.
 import random
 import sys
 
+sys.dont_write_bytecode = True
+import crates  # (it ends a script quietly where head does)
+
 MOST = {"centre": 8, "rack": 32, "worker": 256, "split": 1024}
 MOST_OF_SCRIPTS = {"document": 65_536, "command": 65_536}
 KEYWORDS = ["problem", "script", "job", "centre", "rack", "worker", "split", "barred", "dead", "busy", "plan", "start"]

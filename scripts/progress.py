@@ -12,6 +12,9 @@ import pty
 import subprocess
 import sys
 
+sys.dont_write_bytecode = True
+import crates  # (it ends a script quietly where head does)
+
 JOB = b"job 1\nsilence 8\nrack r\nworker a r 1\nsplit s 10\ndoc d s one\nend\n"
 ANSWER = b"stuck 1\nopen s\n"
 CLEAR = b"\r\x1b[K"

@@ -5,6 +5,8 @@ for a command: check, plan, play or run.
 """
 import re
 
+import crates  # (it ends a script quietly where head does)
+
 NAME = re.compile(rb"[A-Za-z][A-Za-z0-9._-]{0,31}")
 NUMBER = re.compile(rb"0|[1-9][0-9]*")
 MAX_TEXT_BYTES = 16_777_216
