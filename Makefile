@@ -31,7 +31,7 @@ uninstall:
 	@scripts/install.py --undo "$(DESTDIR)$(PREFIX)"
 
 # Of a proved build, what is handed out: a tarball, a Debian package, the wheel and the sdist, in dist/.
-release:
+release: all library
 	@scripts/release.py
 
 # A git tag of the version that the file VERSION has, where nothing is left to be committed.

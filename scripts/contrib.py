@@ -34,6 +34,7 @@ sys.dont_write_bytecode = True
 import demo
 import make_texts
 import pictures
+import readme
 from crates import ROOT, read_crates, version
 from reference_play import misplayed
 
@@ -596,20 +597,13 @@ def mapped(count):
 
 def shown(count, program, room):
     """Each command that the README shows writes the lines below it; it has at most 1,000 words."""
-    (room / "path").mkdir()
-    (room / "path/mrjob").symlink_to(program)
-    path = {**os.environ, "PATH": f"{room}/path:{os.environ['PATH']}"}
     text = (ROOT / "README.md").read_text()
     count.expect("the README has at most 1,000 words", len(text.split()) <= 1000)
-    lines = text.splitlines() + [""]
-    for at, line in enumerate(lines):
-        if line.startswith("    $ "):
-            after = lines[at + 1 :]
-            stop = next(n for n, it in enumerate(after) if not it.startswith("    ") or it.startswith("    $ "))
-            wanted = [it[4:] for it in after[:stop]]
-            how = {"stdout": subprocess.PIPE, "stderr": subprocess.DEVNULL, "env": path}
-            ran = subprocess.run(["bash", "-c", line[6:]], cwd=ROOT, **how)
-            count.expect(f"README: {line[6:80]}", ran.stdout.decode().splitlines(), wanted)
+    (room / "path").mkdir()
+    (room / "path/mrjob").symlink_to(program)
+    path = [room / "path", os.environ["PATH"]]
+    for command, wanted in readme.commands(text):
+        count.expect(f"README: {command[:74]}", readme.written(command, ROOT, path), wanted)
 
 
 def main():

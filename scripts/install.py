@@ -30,15 +30,16 @@ FOLDER = "/"
 
 
 def kept(*places):
-    """The files below these that git keeps, so that nothing else is taken; where this is no clone, all files."""
-    told = subprocess.run(["git", "ls-files", "-z", *places], cwd=ROOT, capture_output=True, text=True)
+    """The files below these that git keeps or would keep; where this is no clone, all files."""
+    words = ["git", "ls-files", "-z", "--cached", "--others", "--exclude-standard", *places]
+    told = subprocess.run(words, cwd=ROOT, capture_output=True, text=True)
     names = told.stdout.split("\0")[:-1] if told.returncode == 0 else []
-    whole = (it for place in places for it in [ROOT / place, *(ROOT / place).rglob("*")])
-    return sorted(ROOT / it for it in names) or sorted(it for it in whole if it.is_file() and it.suffix != ".pyc")
+    whole = names or (it for place in places for it in [ROOT / place, *(ROOT / place).rglob("*")])
+    return sorted({ROOT / it for it in whole if (ROOT / it).is_file() and not str(it).endswith(".pyc")})
 
 
 def sources(room, program):
-    """Each file that is put somewhere, or what a link leads to, with its place and mode. The room is for what is made."""
+    """Each file that is put somewhere, or what a link leads to, with its place and mode. Pages are made in the room."""
     yield program, "bin/mrjob", 0o755
     has_library = (ROOT / "lib/libmrjob.a").exists()
     for name in manual.write(program, room):

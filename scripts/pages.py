@@ -15,7 +15,7 @@ SEE = "The definitions stand in share/doc/mrjob/docs/MODEL.md, and examples in s
 
 
 def section(name, file="docs/MODEL.md"):
-    """What a document has under a head that begins so, but not the head, nor what points to other sections."""
+    """What a document has under a head that begins so, without that head and what points to other sections."""
     level, _, words = name.partition(" ")
     text = (ROOT / file).read_text()
     head = re.search(rf"^{level} {re.escape(words)}.*\n", text, re.M)
