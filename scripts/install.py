@@ -13,6 +13,7 @@ from pathlib import Path
 
 sys.dont_write_bytecode = True
 import manual
+import quick
 from crates import ROOT
 
 MADE = {
@@ -106,6 +107,8 @@ def main(words):
     try:
         if len(words) == 1 and words[0] != "--undo":
             install(Path(words[0]))
+            if quick.is_unproved(ROOT / "bin/mrjob"):
+                print("bin/mrjob, which was put there, is not proved: `make` proves it", file=sys.stderr)
         elif len(words) == 2 and words[0] == "--undo":
             undo(Path(words[1]))
         else:

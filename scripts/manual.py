@@ -113,7 +113,8 @@ def zsh(whole, commands):
         yield f"        {name}) _arguments \\"
         for long, _, value, about in given.options:
             after = f":{value}:({' '.join(VALUES.get(long, []))})" if value else ""
-            yield f"            {quoted(f'{long}[{says(about)}]{after}')} \\"
+            given_by = "=" if value else ""  # (--network=racks, or two words)
+            yield f"            {quoted(f'{long}{given_by}[{says(about)}]{after}')} \\"
         yield "            ;;"
     yield from ["    esac", "}", '_mrjob "$@"']
 

@@ -64,6 +64,11 @@ def lay_out_sources(room):
     return room / "crates/mrjob"
 
 
+def is_unproved(program):
+    """Whether a program says that it is not proved."""
+    return MARK in subprocess.run([program, "--version"], capture_output=True, text=True).stdout
+
+
 def build(program):
     """Leaves the program there, built without its proofs."""
     whole = kit()

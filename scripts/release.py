@@ -207,8 +207,7 @@ def main(words):
     for path in (PROGRAM, LIBRARY):
         if not path.exists():
             sys.exit(f"{path.relative_to(ROOT)} is not there: `make release` makes it first")
-    told = subprocess.run([PROGRAM, "--version"], capture_output=True, text=True).stdout
-    if quick.MARK.strip() in told:
+    if quick.is_unproved(PROGRAM):
         sys.exit("bin/mrjob is not proved: `make` proves it")
     to = Path(words[0]) if words else ROOT / "dist"
     if not words:
