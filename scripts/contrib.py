@@ -109,7 +109,8 @@ def quiet_at_head(count):
             reader, writer = os.pipe()
             os.close(reader)
             with open(given) as asks:
-                ran = subprocess.run([CONTRIB / words[0], *words[1:]], stdin=asks, stdout=writer, stderr=subprocess.PIPE)
+                how = {"stdin": asks, "stdout": writer, "stderr": subprocess.PIPE}
+                ran = subprocess.run([CONTRIB / words[0], *words[1:]], **how)
             os.close(writer)
             is_quiet = b"Error" not in ran.stderr and b"Exception" not in ran.stderr
             count.expect(f"{words[0]} without a reader", (is_quiet, ran.returncode), (True, 141))

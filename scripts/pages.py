@@ -31,7 +31,7 @@ def by_program(program):
 
 
 def by_model():
-    """The same as the tables of docs/MODEL.md have it: of a reason that several calls share, what it is of the first."""
+    """The same as the tables of docs/MODEL.md have it: of a reason that several calls share, that of the first."""
     faults = re.findall(r"^\| (\d+) \| (.*) \|$", section("### Faults"), re.M)
     conditions = re.findall(r"^\| (C\d) \| .* \| (.*) \|$", section("## Certificate"), re.M)
     machine = section("## The master's machine")
