@@ -5,8 +5,8 @@
 
 Made problems, the same in each run, are planned and checked by names and by arrays, over both networks: count and
 cost have to be those of reference_check.py and of `mrjob plan`, and a verdict with its place those of the reference
-and of `mrjob check`, of the same problem as text. Then four threads at once, and the names that the library shows.
-python_package.py tries what the package adds. The last line is 'N passed, M failed'.
+and of `mrjob check`, of the same problem as text. Then waves of up to 1,024 splits, four threads at once, and the
+names that the library shows. python_package.py tries what the package adds. The last line is 'N passed, M failed'.
 """
 import ctypes
 import os
@@ -25,6 +25,8 @@ import reference_text
 from mrjob_plan import Cluster, Network, Prices, Split, Worker, arrays, check, library, plan
 
 COUNT = 2000
+# How many splits the larger waves have, up to the most.
+MANY_SPLITS = [1000, *range(1010, 1025)]
 PROGRAM = sys.argv[1] if len(sys.argv) > 1 else str(ROOT / "bin/mrjob")
 
 
@@ -133,6 +135,19 @@ def agrees():
     return not differ
 
 
+def many():
+    """Splits of one byte on one worker fill its 16 slots at no cost, and the 16 next door at two bytes each."""
+    for splits in MANY_SPLITS:
+        workers = [(0, 16, 1), (0, 16, 1)]
+        wave = arrays.Wave(1, [0], workers, [(1, s, 1, 1) for s in range(splits)], [0] * splits, [])
+        for network in Network:
+            best = arrays.plan(wave, network)
+            verdict = arrays.check(wave, best.starts, best.split_prices, best.worker_prices)
+            if [(it.count, it.cost) for it in (best, verdict)] != [(32, 32)] * 2 or verdict.condition is not None:
+                return print(f"{splits} splits: {best.count} start at {best.cost}, and a check says {verdict}")
+    return True
+
+
 # ---- the rest ----
 
 
@@ -163,7 +178,7 @@ def shown():
 
 def main():
     passed = failed = 0
-    for test in (agrees, threads, shown):
+    for test in (agrees, many, threads, shown):
         holds = bool(test())
         print(f"{test.__name__}: {'ok' if holds else 'FAILED'}", flush=True)
         passed, failed = passed + holds, failed + (not holds)

@@ -5,7 +5,7 @@ reference_run.py say of them.
     differential.py PROGRAM..
 
 The texts are the same in each run: those of `make_texts.py KIND SEED` for the seeds from 1, each front of two
-examples, a script with a death more at each of its places, problems of up to 1,023 splits, and texts at the limits
+examples, a script with a death more at each of its places, problems of up to 1,024 splits, and texts at the limits
 on counts and bytes. A check's answer has to be the reference's. A plan with its prices, over either network, has to
 start as many splits at as little cost as any choice of starts, and to be certified by the reference; without prices
 its lines are the same up to them. A script's report is followed command by command. A job's answer has to be the
@@ -30,9 +30,9 @@ PLANNED = {"problem": 300, "faulty_problem": 200}
 PLAYED = {"script": 1000, "faulty_script": 500}
 RUN = {"job": 2000, "faulty_job": 500}
 RECORDED = {"job": 300}
-# How many splits the larger problems have, up to just below the most: more than a thread takes at once, and more
-# than there are slots for.
-MANY_SPLITS = [129, 200, 256, 257, 512, 1000, 1001, 1010, 1023]
+# How many splits the larger problems have, up to the most, with each size near it: more than a thread takes at once,
+# and more than there are slots for.
+MANY_SPLITS = [129, 200, 256, 257, 512, 1000, 1001, *range(1010, 1025)]
 # More than there are processors, since a job that is stuck mostly waits.
 PROGRAMS_AT_ONCE = 4 * os.cpu_count()
 EXAMPLES = os.path.join(os.path.dirname(os.path.abspath(__file__)), "..", "examples")
