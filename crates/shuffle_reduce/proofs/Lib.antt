@@ -1,3 +1,4 @@
 pub mod CoverLemmas
 pub mod MergeLemmas
 pub mod IndexLemmas
+pub mod OneIndex

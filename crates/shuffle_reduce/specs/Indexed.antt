@@ -18,6 +18,11 @@ pub record IsIndexOfPairs (IsMeant : Pair → Type 0) (entries : List EntryView)
 abbrev pub IsIndexOf : List SplitDocuments → List EntryView → Type 0
 IsIndexOf texts entries = IsIndexOfPairs (IsPairOfTexts texts) entries
 
+-- texts have one index: whoever made it, and in whatever order
+abbrev pub HaveOneIndex : Type 0
+HaveOneIndex = (texts : List SplitDocuments) (entries others : List EntryView) → IsIndexOf texts entries →
+    IsIndexOf texts others → entries ≡ others
+
 -- the same of documents that are not divided into texts
 abbrev pub IsIndexOfDocuments : List Document → List EntryView → Type 0
 IsIndexOfDocuments documents entries = IsIndexOfPairs (IsPairOf documents) entries

@@ -12,6 +12,7 @@ mod counts;
 mod covers;
 mod gather;
 mod index;
+pub mod laws;
 mod part;
 
 pub use covers::are_equal_texts;

@@ -47,6 +47,7 @@ impl PartResult {
     pub fn part(&self) -> PartNo
         ensures value { result ≡ self.now.part }
         ensures in_range { self.now.part < self.now.parts }
+        ensures merged { IsPartOf self.now.texts self.now.part self.now.parts self.now.pairs }
     {
         self.part
     }
