@@ -1,14 +1,16 @@
 #!/usr/bin/env python3
-"""Tries what `mrjob run` tells a terminal: on standard error a line once a second has passed, which is taken away at
-the end; nothing with --quiet, or where standard error is no terminal.
+"""Tries what `mrjob run` and `mrjob play` tell a terminal: on standard error a line once a second has passed, which is
+taken away at the end; nothing with --quiet, or where standard error is no terminal.
 
     progress.py PROGRAM..
 
-The job is stuck, and is told to be so after as many sweeps as take more than two seconds of naps. The last line is
-'N passed, M failed'.
+The job is stuck, and is told to be so after as many sweeps as take more than two seconds of naps. The script has as
+many waves as it may have, and is ended when the first line was told. The last line is 'N passed, M failed'.
 """
 import os
 import pty
+import re
+import select
 import subprocess
 import sys
 
@@ -19,6 +21,9 @@ JOB = b"job 1\nsilence 8\nrack r\nworker a r 1\nsplit s 10\ndoc d s one\nend\n"
 ANSWER = b"stuck 1\nopen s\n"
 CLEAR = b"\r\x1b[K"
 LINE = CLEAR + b"maps 0 of 1, parts 0 of 1, waves 0, deaths 0"
+SCRIPT = b"script 1\nrack r\nworker a r 0\n" + b"".join(b"split s%d 1 a\n" % it for it in range(64))
+SCRIPT += b"begin\n" + 65_536 * b"wave\n" + b"end\n"
+SCRIPT_LINE = re.compile(re.escape(CLEAR) + rb"command ([1-9]\d*) of 65536")
 
 
 def on_terminal(words):
@@ -40,6 +45,24 @@ def on_terminal(words):
     return output, told
 
 
+def told_of_script(program):
+    """The first line that is written of the script on a standard error that is a terminal."""
+    ours, theirs = pty.openpty()
+    ran = subprocess.Popen([program, "play"], stdin=subprocess.PIPE, stdout=subprocess.DEVNULL, stderr=theirs)
+    os.close(theirs)
+    ran.stdin.write(SCRIPT)
+    ran.stdin.close()
+    # (a program that tells nothing is not waited for until it has played all)
+    try:
+        return os.read(ours, 4096) if select.select([ours], [], [], 300)[0] else b""
+    except OSError:
+        return b""
+    finally:
+        ran.kill()
+        ran.wait()
+        os.close(ours)
+
+
 def main(programs):
     passed = failed = 0
     for program in programs:
@@ -51,6 +74,7 @@ def main(programs):
             "a terminal is told": output == ANSWER and told.startswith(LINE) and told.endswith(CLEAR),
             "the line is always the same": set(lines[1:-1]) == {LINE[len(CLEAR):]},
             "--quiet tells nothing": on_terminal([program, "run", "--quiet"]) == (ANSWER, b""),
+            "a terminal is told of a script": bool(SCRIPT_LINE.fullmatch(told_of_script(program))),
         }
         for name, holds in checks.items():
             print(f"{program}: {name}: {'ok' if holds else 'FAILED'}")
