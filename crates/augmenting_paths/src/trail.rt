@@ -42,7 +42,8 @@ impl Trail {
     }
 
     /// Whether a search from a query's start comes to its sink, and then its path, whose nodes are open
-    /// again. It enters each node at most once, and looks at each of its arcs at most once.
+    /// again. It enters each node at most once, and looks at each of its arcs at most once, but for the arc
+    /// to the sink, which is tested whenever the search comes to the node or back to it.
     pub fn search<L: Layout>(
         &mut self,
         network: &Network<L>,

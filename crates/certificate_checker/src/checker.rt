@@ -25,7 +25,7 @@ use std::marker::Model;
 use std::thread::Threads;
 use wave_problem::{MAX_SPLITS, Plan, Problem, SplitCosts};
 
-// How many splits a thread takes at the least: fewer are not sum the start of a thread.
+// How many splits a thread takes at the least: fewer are not worth the start of a thread.
 const SPLITS_PER_THREAD: usize = 128;
 
 // A problem, a plan and prices of one size, with what would be counted again at each place.
