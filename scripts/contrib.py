@@ -134,6 +134,7 @@ def left(count):
         "certify.py": ([], EXAMPLES / "swap.txt"),
         "dimacs_of_problem.py": ([], swap),
         "job_of_files.py": ([TALES], swap),
+        "page_of_history.py": ([CONTRIB / "samples/job.txt", CONTRIB / "samples/job.out"], swap),
         "picture.py": ([swap, plan], swap),
         "problem_of_hdfs.py": (["--slots", CONTRIB / "samples/slots.txt"], CONTRIB / "samples/hdfs_3.txt"),
         "starts_of_plan.py": ([swap], plan),

@@ -64,6 +64,7 @@ else
     start scripts/refused_calls.sh "${programs[@]}"
     start scripts/differential.py "${programs[@]}"
     start scripts/contrib.py "${programs[0]}"
+    start scripts/page.py "${programs[0]}"
     start scripts/c_library.sh "${programs[0]}"
     start scripts/soak.py --short bin/mrjob
     start scripts/hdfs.py "${programs[@]}"
