@@ -1,8 +1,11 @@
 """What `mrjob run` answers to a job: an independent reference for tests.
 
 Without a death that lasts, a job is done where some worker has a slot and each split a holder. Else the splits without
-a holder stay open, or all of them.
+a holder stay open, or all of them. A history is followed event by event, and so is what the calling thread does of
+itself: copies, returns and backups.
 """
+from copy import deepcopy
+
 from reference_play import Master, Wrong
 from reference_text import Fault, read
 
@@ -49,6 +52,79 @@ def happened(master, lines):
     return max(1, len(told))
 
 
+class Policy:
+    """What the calling thread of a run does of itself: the copies after a death, who joins again after a sweep and with
+    which splits, and where a second attempt starts. Workers alone tell `done` and `fail`."""
+
+    def __init__(self, master):
+        self.master = master
+        # of each dead worker, how many of its beats were seen when it died, and what it held
+        self.dead = {}
+        # what is still to be done after the last sweep: copies, and then those that join
+        self.copies, self.rising = [], []
+        # the states since the last event of the calling thread
+        self.states = []
+        self.keep(False)
+
+    def due(self):
+        """The line of what is to be done next, or None."""
+        if self.copies:
+            return self.copies[0]
+        if self.rising:
+            master, held = self.master, self.dead[self.rising[0]][1]
+            splits = [split for split in held if len(master.holders[split]) < 8]
+            return " ".join(["join", master.worker(self.rising[0]), *map(master.split, splits)])
+        return None
+
+    def before(self, line):
+        """An event that comes next."""
+        command, *words = line.split(" ")
+        if command in ("done", "fail"):
+            return
+        due = self.due()
+        if due and line != due or not due and command in ("add", "join"):
+            raise Wrong(f"{line} comes where the calling thread does {due or 'neither'}")
+        if command == "backup":
+            self.is_lowest(*(word.encode() for word in words[1:]))
+        self.held = [[split for split, held in enumerate(self.master.holders) if worker in held]
+                     for worker in range(len(self.master.live))]
+        self.lived = list(self.master.live)
+
+    def is_lowest(self, split, worker):
+        """Each lower worker was refused at some time after the last event of the calling thread."""
+        numbers = self.master.given.numbers
+        for lower in range(numbers["worker"][worker]):
+            answers = [deepcopy(state, self.shared()).backup(numbers["split"][split], lower) for state in self.states]
+            if not any(answer[0].startswith("ignored ") for answer in answers):
+                raise Wrong(f"{self.master.worker(lower)} is lower than {worker.decode()}, and may take the backup")
+
+    def shared(self):
+        """What a copy of a state need not copy."""
+        return {id(self.master.given): self.master.given}
+
+    def keep(self, is_of_worker):
+        """Keeps the state, for what is asked until the next event of the calling thread."""
+        self.states = [*(self.states if is_of_worker else []), deepcopy(self.master, self.shared())]
+
+    def after(self, line):
+        """The event has come."""
+        command, *words = line.split(" ")
+        self.keep(command in ("done", "fail"))
+        if command == "add":
+            self.copies.pop(0)
+        elif command == "join":
+            del self.dead[self.rising.pop(0)]
+        elif command == "sweep":
+            self.sweep([int(word) for word in words])
+
+    def sweep(self, counts):
+        died = [worker for worker, live in enumerate(self.lived) if live and not self.master.live[worker]]
+        if died:
+            self.copies = [" ".join(["add", *line.split(" ")[1::2]]) for line in self.master.copies()[1:]]
+        self.rising = [worker for worker in sorted(self.dead) if self.dead[worker][0] < counts[worker]]
+        self.dead.update((worker, (counts[worker], self.held[worker])) for worker in died)
+
+
 def misrecorded(text, written, status):
     """What is wrong with what `mrjob run --history` answered to a job, or None."""
     try:
@@ -57,9 +133,15 @@ def misrecorded(text, written, status):
         return None if (written, status) == (f"{fault}\n".encode(), 2) else f"the text has {fault}"
     lines = written.decode().split("\n")[:-1]
     master, at = Master(given), 0
+    policy = Policy(master)
     try:
         while at < len(lines) and not lines[at].startswith(("index ", "stuck ")):
+            line = lines[at]
+            policy.before(line)
             at += happened(master, lines[at:])
+            policy.after(line)
+        if policy.due():
+            raise Wrong(f"{policy.due()} is left to do")
     except (Wrong, ValueError, KeyError, IndexError) as wrong:
         return f"line {at + 1}: {wrong}"
     if lines[at:] != master.ending() or not written.endswith(b"\n"):
