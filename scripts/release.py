@@ -181,12 +181,8 @@ def debian(to, room):
 def python(to):
     """The wheel and the source archive of the Python package."""
     env = {**os.environ, "SOURCE_DATE_EPOCH": str(epoch())}
-    if (ROOT / "python/backend.py").exists():
-        words = [sys.executable, ROOT / "python/backend.py", to]
-    else:
-        fixed = f"import time; time.time = lambda: {epoch()}.0; import make_wheel"
-        words = [sys.executable, "-Bc", f"{fixed}; print(make_wheel.build_wheel({str(to)!r}))"]
-    told = run(*words, cwd=ROOT / "python", env=env, stdout=subprocess.PIPE, text=True).stdout
+    words = [sys.executable, ROOT / "python/backend.py", to]
+    told = run(*words, env=env, stdout=subprocess.PIPE, text=True).stdout
     return [to / it for it in told.split()]
 
 
