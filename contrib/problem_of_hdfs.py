@@ -164,7 +164,9 @@ class Names:
         return self.given[kind, thing]
 
     def lines(self) -> Iterator[str]:
-        return (f"{name} {kind} {thing}\n" for (kind, thing), name in self.given.items())
+        for (kind, thing), name in self.given.items():
+            thing = thing.replace("\\", "\\\\").replace("\n", "\\n")
+            yield f"{name} {kind} {thing}\n"
 
 
 def centres_of(racks: Iterable[str], asked: Optional[bool], told: "Counter[str]") -> Dict[str, str]:

@@ -129,14 +129,15 @@ def help_examples(count, program):
 
 def left(count):
     """Each script whose reader has gone away is ended by that, without a word."""
-    swap, plan = EXAMPLES / "plan_swap.txt", EXAMPLES / "plan_swap.out"
+    swap, plan, samples = EXAMPLES / "plan_swap.txt", EXAMPLES / "plan_swap.out", CONTRIB / "samples"
     given = {
         "certify.py": ([], EXAMPLES / "swap.txt"),
         "dimacs_of_problem.py": ([], swap),
         "job_of_files.py": ([TALES], swap),
-        "page_of_history.py": ([CONTRIB / "samples/job.txt", CONTRIB / "samples/job.out"], swap),
+        "page_of_history.py": ([samples / "job.txt", samples / "job.out"], swap),
         "picture.py": ([swap, plan], swap),
-        "problem_of_hdfs.py": (["--slots", CONTRIB / "samples/slots.txt"], CONTRIB / "samples/hdfs_3.txt"),
+        "problem_of_moosefs.py": (["--servers", samples / "moosefs_servers.txt"], samples / "moosefs.txt"),
+        "problem_of_hdfs.py": (["--slots", samples / "slots.txt"], samples / "hdfs_3.txt"),
         "starts_of_plan.py": ([swap], plan),
     }
     count.expect("the scripts whose reader goes away", sorted(given), SCRIPTS)

@@ -1,8 +1,8 @@
 #!/usr/bin/env bash
 # The gate. `rt ci` proves every crate from nothing, tries the must-fail edits and runs the tests. Then, side by side,
 # edits.py tries the edits over the libraries that it left, the C library is built over them and tried, and the scripts
-# try the programs that it built; at last jobs on a Dask cluster, where Dask is installed, and what is handed out. The
-# last line sums up what all of them counted.
+# try the programs that it built; at last a MooseFS and jobs on a Dask cluster, where these are installed, and what is
+# handed out. The last line sums up what all of them counted.
 set -uo pipefail
 cd "$(dirname "$0")/.." || exit 1
 command -v rt > /dev/null || exec scripts/build.py  # (which says where to get it)
@@ -72,7 +72,9 @@ fi
 start scripts/another_ledger.py
 start scripts/edits.py
 count_all
-# (its workers are processes of their own, which want processors)
+# (servers and workers are processes of their own, which want processors)
+start scripts/moosefs.py "${programs[@]}"
+count_all
 start scripts/dask.py "${programs[@]}"
 # (of the program and the library that the gate built)
 start scripts/try_release.py
