@@ -11,6 +11,7 @@ the stroke those within a rack.
 from __future__ import annotations
 
 import argparse
+import os
 import sys
 import time
 import zlib
@@ -151,4 +152,7 @@ def main() -> None:
 
 
 if __name__ == "__main__":
-    main()
+    try:
+        main()
+    except BrokenPipeError:  # (its reader has gone, and Python would write the rest as it ends)
+        os.dup2(os.open(os.devnull, os.O_WRONLY), sys.stdout.fileno())

@@ -119,9 +119,15 @@ def undropped(client: Client) -> Iterator[None]:
 
 
 def write(lines: list[str], path: Optional[str]) -> None:
-    """Writes lines to a file, or to standard output."""
-    with open(path, "w", encoding="utf-8") if path else nullcontext(sys.stdout) as out:
-        out.writelines(f"{line}\n" for line in lines)
+    """Writes lines to a file, or to standard output, as far as its reader wants them."""
+    try:
+        with open(path, "w", encoding="utf-8") if path else nullcontext(sys.stdout) as out:
+            out.writelines(f"{line}\n" for line in lines)
+            out.flush()
+    except BrokenPipeError:
+        if path:
+            raise
+        os.dup2(os.open(os.devnull, os.O_WRONLY), sys.stdout.fileno())  # (where Python writes the rest as it ends)
 
 
 def write_all(job: Job, lines: list[str], asked: argparse.Namespace) -> None:
