@@ -12,6 +12,7 @@ import base64
 import fcntl
 import json
 import os
+import random
 import re
 import select
 import shutil
@@ -24,8 +25,13 @@ from html.parser import HTMLParser
 from pathlib import Path
 
 sys.dont_write_bytecode = True
+import make_texts
 from contrib import CONTRIB, EXAMPLES, TALES, Counted, as_history, said, script
 from made_course import made
+
+from course import course_of
+from page_of_history import prices_by
+from texts import Fault
 
 SAMPLE = CONTRIB / "samples/job.txt"
 VOID = {"meta", "input", "br", "hr", "img", "link"}
@@ -136,6 +142,26 @@ def planned(count, program, room):
         count.expect(f"the waves of {text.name} are certified", [it[4] for it in waves], certified)
     count.none("the page of a run is whole", told(script("page_of_history.py", job, history)[0].decode(),
                                                   history.read_text().splitlines()))
+
+
+def followed(count, program):
+    """The reports of made scripts and the histories of made jobs are followed, and by the state that each wave finds a
+    planner's prices certify it: so who lives, what runs and who holds what is told as the program has it."""
+    for kind, words in (("script", ["play"]), ("job", ["run", "--history"])):
+        wrong, waves = [], 0
+        for seed in range(1, 61):
+            text = make_texts.KINDS[kind](random.Random(seed))
+            answer, _, status = said([program, *words], text)
+            try:
+                course = course_of(text, answer.decode(), prices_by(program))
+            except Fault as fault:
+                wrong.append((seed, status, str(fault)))
+                continue
+            waves += len(course.waves)
+            certified = [(it.prices[0], f"certified {it.count} {it.cost}") for it in course.waves]
+            wrong += [(seed, *it) for it in certified if it[0] != it[1]]
+        count.none(f"what 60 made {kind}s tell is followed", wrong)
+        count.expect(f"the made {kind}s have waves", waves > 60)
 
 
 class Browser:
@@ -389,6 +415,7 @@ def main():
         structure(count, Path(room))
         for program in map(os.path.abspath, given.programs[:1]):
             planned(count, program, Path(room))
+            followed(count, program)
         browsed(count, Path(room), given.shots)
     print(f"{count.passed} passed, {count.failed} failed")
     return 1 if count.failed or not count.passed else 0
