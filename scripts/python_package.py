@@ -354,14 +354,16 @@ def blocks():
     return found + re.findall(r"```python\n(.*?)```", (ROOT / "python/README.md").read_text(), re.S)
 
 
+def printed(block):
+    """What a block's comments say that it prints."""
+    return "".join(f"{it}\n" for it in re.findall(r"^ *print\(.*?\)  +# (.*)$", block, re.M))
+
+
 def documents():
     """Each block runs as it stands, and prints what its comments say."""
-    pairs = [(len(blocks()), 3)]
-    for block in blocks():
-        status, said = run(sys.executable, "-c", block, env=alone(PYTHONPATH=str(ROOT / "python")))
-        wanted = "".join(f"{it}\n" for it in re.findall(r"^ *print\(.*?\)  +# (.*)$", block, re.M))
-        pairs.append(((status, said), (0, wanted)))
-    return differences(pairs)
+    how = {"env": alone(PYTHONPATH=str(ROOT / "python")), "cwd": "/"}
+    pairs = [(run(sys.executable, "-c", block, **how), (0, printed(block))) for block in blocks()]
+    return differences([*pairs, (len(pairs), 3)])
 
 
 TYPES = """
@@ -500,6 +502,7 @@ def installed():
         for words in ([ROOT / "python"], [wheel], ["-e", ROOT / "python"]):
             pairs += [(pip("install", *words), (0, "")), (example(), (0, wanted))]
             pairs += [(version(), (0, (ROOT / "VERSION").read_text()))]
+            pairs += [(run(python, "-c", it, env=alone(), cwd="/"), (0, printed(it))) for it in blocks()]
             pairs += [(pip("uninstall", "--yes", "mrjob-plan"), (0, ""))]
         # (what is made of the source archive has no library)
         pairs += [(pip("install", archive), (0, ""))]
