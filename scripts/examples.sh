@@ -1,6 +1,7 @@
 #!/usr/bin/env bash
 # Runs each example through the built programs, and compares output and status with the files beside it.
-# An example is run as `check`, or with the words of NAME.args where that file stands; a plan over each network too.
+# An example is run as `check`, or with the words of NAME.args where that file stands; a plan over each network too,
+# whose output is that of NAME.NETWORK.out where that file stands.
 # usage: examples.sh PROGRAM..
 set -euo pipefail
 cd "$(dirname "$0")/.."
@@ -8,12 +9,12 @@ room=$(mktemp -d)
 trap 'rm -rf "$room"' EXIT
 passed=0 failed=0
 
-# Runs an example with these words.
-try() { # PROGRAM NAME WORDS..
-    local program=$1 name=$2 status=0
-    shift 2
+# Runs an example with these words, which have this output.
+try() { # PROGRAM NAME OUTPUT WORDS..
+    local program=$1 name=$2 output=$3 status=0
+    shift 3
     "$program" "$@" < "$name.txt" > "$room/out" 2> "$room/err" || status=$?
-    if cmp -s "$room/out" "$name.out" && [ "$status" = "$(cat "$name.status")" ] && [ ! -s "$room/err" ]; then
+    if cmp -s "$room/out" "$output" && [ "$status" = "$(cat "$name.status")" ] && [ ! -s "$room/err" ]; then
         passed=$((passed + 1))
         echo "$program $*: $name.txt: ok"
     else
@@ -28,10 +29,12 @@ for program in "$@"; do
         name=${text%.txt}
         words=(check)
         if [ -f "$name.args" ]; then mapfile -t words < "$name.args"; fi
-        try "$program" "$name" "${words[@]}"
+        try "$program" "$name" "$name.out" "${words[@]}"
         if [ "${words[0]}" = plan ]; then
             for network in direct racks; do
-                try "$program" "$name" "${words[@]}" --network "$network"
+                output=$name.$network.out
+                [ -f "$output" ] || output=$name.out
+                try "$program" "$name" "$output" "${words[@]}" --network "$network"
             done
         fi
     done

@@ -13,6 +13,8 @@ use Rattle.wave_problem.proofs.Bound.{live_known}
 use Rattle.price_certificate.specs.Certificate.{Certifies, Claim, HasOneSize, claim}
 use Rattle.price_certificate.specs.declared.Condition.TheVariants.{Allowed, SplitPrice, WorkerPrice}
 use Rattle.price_certificate.specs.PriceList.{PriceList}
+use Rattle.flow_network.specs.declared.kinds.NetworkKind.{NetworkKind}
+use Rattle.wave_planner.specs.Planned.{IsMadeOver}
 use Rattle.text_lines.specs.Texts.{Word}
 use Rattle.line_rules.specs.declared.purpose.Purpose.TheVariants.{Planning}
 use Rattle.plan_text.specs.Reading.{HasFitLines, IsProblemOf}
@@ -45,10 +47,11 @@ checks_again : (text : List ℕ) (v : ProblemText) (starts : List (Option ℕ)) 
 checks_again text v starts prices with_prices lines read fit sized says short =
     search (arith, certified_text, written_plan_reads_back)
 
-pub plans_read : (text : List ℕ) (v : ProblemText) (with_prices : Bool) (lines : List ℕ) → IsProblemOf text v
-    → HasFitLines Planning text
-    → PlansProblem v.problem v.splits v.workers with_prices lines → PlansRead text with_prices lines
-plans_read text v with_prices lines read fit plans =
+pub plans_read : (text : List ℕ) (v : ProblemText) (network : NetworkKind) (with_prices : Bool)
+    (lines : List ℕ) → IsProblemOf text v → HasFitLines Planning text
+    → PlansProblem v.problem v.splits v.workers network with_prices lines
+    → PlansRead text network with_prices lines
+plans_read text v network with_prices lines read fit plans =
     let c = claim v.problem plans.starts plans.prices in
     let again =
     checks_again text v plans.starts plans.prices with_prices lines read fit plans.sized plans.says in
@@ -93,12 +96,13 @@ small_reward wave limits =
     grind (arith, common_steps)
 
 -- the lines of its count, cost and starts, and then those of its prices if they are asked for
-pub plans_problem : (with_prices : Bool) (ss ws : List Word) (c : Claim) (plan_workers : ℕ) (lines : List ℕ)
-    → length ss ≡ length c.wave.splits → length ws ≡ length c.wave.workers → HasOneSize c plan_workers
-    → Certifies c
-    → IsBest c.wave (pairs_of c.starts) → reward c.wave < 2 ^ 64
+pub plans_problem : (network : NetworkKind) (with_prices : Bool) (ss ws : List Word) (c : Claim)
+    (plan_workers : ℕ) (lines : List ℕ) → length ss ≡ length c.wave.splits
+    → length ws ≡ length c.wave.workers → IsMadeOver network c.wave c.starts c.prices
+    → HasOneSize c plan_workers → Certifies c → IsBest c.wave (pairs_of c.starts)
+    → reward c.wave < 2 ^ 64
     → lines ≡ (wave_line (plan_count c) (plan_cost c) ++ start_lines ss ws c.starts)
     ++ asked_prices with_prices ss ws c.prices
-    → PlansProblem c.wave ss ws with_prices lines
-plans_problem asked ss ws c n lines as_splits as_workers sized certifies best small said =
+    → PlansProblem c.wave ss ws network with_prices lines
+plans_problem network asked ss ws c n lines as_splits as_workers over sized certifies best small said =
     grind (arith, plan_for_names)

@@ -4,6 +4,7 @@ use Rattle.std.proofs.Common.{ℕ, List, Bool, Ok, Err, ◌≡◌, ◌∙◌, re
 use Rattle.price_certificate.specs.Certificate.{Claim}
 use Rattle.price_certificate.proofs.SameBars.{HaveSamePairs, barring, have_same_pairs-sym}
 use Rattle.price_certificate.proofs.SameBars.{certified-faultless, first_failures-equal}
+use Rattle.flow_network.specs.declared.kinds.NetworkKind.{NetworkKind}
 use Rattle.text_lines.specs.Texts.{Word}
 use Rattle.plan_text.specs.Names.{rows_in, splits, workers}
 use Rattle.line_rules.specs.declared.purpose.Purpose.TheVariants.{Checking, Planning}
@@ -60,12 +61,12 @@ one_check_answer text (Err f) (Err g) x y p q =
     let one = one_fault Checking text f g x y p q in (ap Err one.0, one.1)
 
 -- at most one end of planning answers a text
-pub one_plan_answer : (with_prices : Bool) →
-    HasOneAnswer (λ text. PlanAnswer text with_prices) (λ a b. a ≡ b) AnyLines
-one_plan_answer with_prices text (Ok Planned) (Ok Planned) x y g h = (refl, tt)
-one_plan_answer with_prices text (Ok a) (Err f) x y g h =
+pub one_plan_answer : (network : NetworkKind) (with_prices : Bool) →
+    HasOneAnswer (λ text. PlanAnswer text network with_prices) (λ a b. a ≡ b) AnyLines
+one_plan_answer network with_prices text (Ok Planned) (Ok Planned) x y g h = (refl, tt)
+one_plan_answer network with_prices text (Ok a) (Err f) x y g h =
     absurd (reads-faultless Planning text g.statements f.line f.number g.reads h.least)
-one_plan_answer with_prices text (Err f) (Ok b) x y g h =
+one_plan_answer network with_prices text (Err f) (Ok b) x y g h =
     absurd (reads-faultless Planning text h.statements f.line f.number h.reads g.least)
-one_plan_answer with_prices text (Err f) (Err g) x y p q =
+one_plan_answer network with_prices text (Err f) (Err g) x y p q =
     let one = one_fault Planning text f g x y p q in (ap Err one.0, tt)

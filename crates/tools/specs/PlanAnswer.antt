@@ -7,6 +7,8 @@ use Rattle.wave_problem.specs.Wave.{Wave}
 use Rattle.wave_problem.specs.Assignment.{IsBest, pairs_of, total}
 use Rattle.price_certificate.specs.Certificate.{Claim, Certifies, claim}
 use Rattle.price_certificate.specs.PriceList.{PriceList}
+use Rattle.flow_network.specs.declared.kinds.NetworkKind.{NetworkKind}
+use Rattle.wave_planner.specs.Planned.{IsMadeOver}
 use Rattle.line_shapes.specs.Lines.{Statement}
 use Rattle.plan_text.specs.Names.{splits, workers}
 use Rattle.line_rules.specs.Texts.{ReadsAs, longest}
@@ -47,26 +49,29 @@ ChecksAgain text c splits workers =
     → CheckAnswer (with_plan text (lines_of_plan splits workers c.starts c.prices)) (Ok Certified)
     (certified_line (plan_count c) (plan_cost c))
 
--- the lines are on the problem that the text declares
-pub record PlansRead (text : List ℕ) (with_prices : Bool) (lines : List ℕ) : Type 0 where
+-- the lines are on the problem that the text declares, planned over this network
+pub record PlansRead (text : List ℕ) (network : NetworkKind) (with_prices : Bool) (lines : List ℕ)
+    : Type 0 where
   pub statements : List Statement
   pub wave : Wave
   pub starts : List (Option ℕ)
   pub prices : PriceList
   pub reads : ReadsAs Planning text statements
   pub declared : DeclaresWave statements wave
+  pub over : IsMadeOver network wave starts prices
   pub says : SaysPlanned with_prices (claim wave starts prices) (splits statements) (workers statements) lines
   pub checks : ChecksAgain text (claim wave starts prices) (splits statements) (workers statements)
 
--- the lines with which planning ends so
-abbrev pub PlanAnswer : List ℕ → Bool → Result PlanEnd TextFault → List ℕ → Type 0
-PlanAnswer text with_prices (Ok end) lines = PlansRead text with_prices lines
-PlanAnswer text with_prices (Err fault) lines = IsFaulty Planning text fault lines
+-- the lines with which planning over this network ends so
+abbrev pub PlanAnswer : List ℕ → NetworkKind → Bool → Result PlanEnd TextFault → List ℕ → Type 0
+PlanAnswer text network with_prices (Ok end) lines = PlansRead text network with_prices lines
+PlanAnswer text network with_prices (Err fault) lines = IsFaulty Planning text fault lines
 
--- the lines are on a plan of this problem, whose splits and workers have these names
-pub record PlansProblem (wave : Wave) (splits workers : List Word) (with_prices : Bool)
-    (lines : List ℕ) : Type 0 where
+-- the lines are on a plan of this problem over this network, whose splits and workers have these names
+pub record PlansProblem (wave : Wave) (splits workers : List Word) (network : NetworkKind)
+    (with_prices : Bool) (lines : List ℕ) : Type 0 where
   pub starts : List (Option ℕ)
   pub prices : PriceList
   pub sized : IsWritable splits workers starts prices
+  pub over : IsMadeOver network wave starts prices
   pub says : SaysPlanned with_prices (claim wave starts prices) splits workers lines

@@ -22,17 +22,17 @@ use text_reading::{Command, NoAnswer, ToolError, run_command};
 use wave_planner::{NetworkKind, PlanError, Planned, plan_with};
 use wave_problem::Problem;
 
-/// Reads a problem, and writes a best plan of its map starts, with prices if the options ask for them,
-/// or the text's least fault. All lines are made before their first byte is written. The starts and
-/// prices, put with a line `plan` in front of the problem's line `end`, are a text that `check`
-/// certifies, where it has at most 16,777,216 bytes.
+/// Reads a problem, and writes a best plan of its map starts, made over the network of the options, with
+/// prices if they ask for them, or the text's least fault. All lines are made before their first byte is
+/// written. The starts and prices, put with a line `plan` in front of the problem's line `end`, are a text
+/// that `check` certifies, where it has at most 16,777,216 bytes.
 pub fn plan<R: Read, W: Write>(
     alloc: Global,
     reader: &mut R,
     writer: &mut W,
     options: PlanOptions,
 ) -> Result<PlanEnd, ToolError>
-    ensures ran { HasRun (λ text. PlanAnswer text options.prices) NoText
+    ensures ran { HasRun (λ text. PlanAnswer text options.network options.prices) NoText
         (R.remaining reader.old) (R.remaining reader.new)
         (W.contents writer.old) (W.contents writer.new) result }
     ensures never_full { result ≢ Err ToolError.HistoryFull }
@@ -47,11 +47,11 @@ pub struct Planner(PlanOptions);
 impl Command for Planner {
     type End = PlanEnd;
 
-    ghost Answers = { λ planner text. PlanAnswer text planner.0.prices };
+    ghost Answers = { λ planner text. PlanAnswer text planner.0.network planner.0.prices };
 
     ghost Alike = { AnyLines };
 
-    ghost one_answer = { λ planner. one_plan_answer planner.0.prices };
+    ghost one_answer = { λ planner. one_plan_answer planner.0.network planner.0.prices };
 
     fn answer(
         &self,
@@ -77,8 +77,8 @@ fn planned_answer(
     requires splits { length read.now.splits ≡ length read.now.problem.splits }
     requires workers { length read.now.workers ≡ length read.now.problem.workers }
     ensures answer { IfOk result (λ given. (given.1 ≡ Ok PlanEnd.Planned)
-        × PlansProblem read.now.problem read.now.splits read.now.workers options.prices
-        (string_bytes given.0)) }
+        × PlansProblem read.now.problem read.now.splits read.now.workers options.network
+        options.prices (string_bytes given.0)) }
     ensures never_full { result ≢ Err NoAnswer.HistoryFull }
 {
     let lines = plan_lines(alloc, read, options)?;
@@ -94,7 +94,7 @@ fn plan_lines(
     requires splits { length read.now.splits ≡ length read.now.problem.splits }
     requires workers { length read.now.workers ≡ length read.now.problem.workers }
     ensures { IfOk result (λ lines. PlansProblem read.now.problem read.now.splits read.now.workers
-        options.prices (string_bytes lines)) }
+        options.network options.prices (string_bytes lines)) }
 {
     // (a law: there are few workers, and no price is past what can be read back)
     read.problem.limits();

@@ -8,15 +8,15 @@ use Rattle.tools.proofs.planning.plan_lines.Goals as goal
 pub returns : goal.returns
 returns c =
     let v = c.args.read.now in
-    let asked = c.args.options.prices in
+    let asked = c.args.options in
     let best = c.in_ok-best.best in
     let made = claim v.problem best.plan.starts best.prices in
     let front = front_of v.splits v.workers made best.certified.count best.certified.cost best.plan.starts _
     refl c.in_ok-best.ensures.count c.in_ok-best.ensures.cost refl in
     IfOk-weaker c.lines_on.result _ _
-    (λ lines said. plans_problem asked v.splits v.workers made _ _
-    c.requires.splits c.requires.workers c.in_ok-best.ensures.sizes c.in_ok-best.ensures.certifies
-    c.in_ok-best.ensures.best
+    (λ lines said. plans_problem asked.network asked.prices v.splits v.workers made _ _
+    c.requires.splits c.requires.workers c.in_ok-best.ensures.over c.in_ok-best.ensures.sizes
+    c.in_ok-best.ensures.certifies c.in_ok-best.ensures.best
     (small_reward v.problem c.limits.ensures.problem)
-    (said ∙ (λ i. front i ++ asked_prices asked v.splits v.workers best.prices)))
+    (said ∙ (λ i. front i ++ asked_prices asked.prices v.splits v.workers best.prices)))
     c.lines_on.ensures

@@ -12,11 +12,12 @@ use Rattle.tools.proofs.planning.PlannerCommand.answer.Goals as goal
 pub returns-in-Ok-clause-answers : goal.returns-in-Ok-clause-answers
 returns-in-Ok-clause-answers c =
     let text = c.args.text.now in
-    let prices = c.args.self.now.0.prices in
+    let asked = c.args.self.now.0 in
     IfOk-weaker c.planned_answer.result _ _
-    (λ given is. subst (λ (end : Result PlanEnd TextFault). PlanAnswer text prices end (string_bytes given.0))
-    (sym is.0)
-    (plans_read text c.in-Ok.read prices (string_bytes given.0) c.in-Ok.ensures.ok c.in-Ok.ensures.fit is.1))
+    (λ given is. subst (λ (end : Result PlanEnd TextFault).
+    PlanAnswer text asked.network asked.prices end (string_bytes given.0)) (sym is.0)
+    (plans_read text c.in-Ok.read asked.network asked.prices (string_bytes given.0)
+    c.in-Ok.ensures.ok c.in-Ok.ensures.fit is.1))
     c.planned_answer.ensures.answer
 
 pub returns-in_ok-line-in-Err-clause-answers : goal.returns-in_ok-line-in-Err-clause-answers
