@@ -94,28 +94,6 @@ def plain(count):
         count.expect(f"{name} --help", (b"contrib/" in out, wrong, status), (True, "", 0))
 
 
-def quiet_at_head(count):
-    """A script whose reader has gone ends without a word."""
-    workers = "".join(f"worker w{n} r 16\n" for n in range(256))
-    problem = f"problem 1\nrack r\n{workers}" + "".join(f"split s{n} 1 w{n % 256}\n" for n in range(1024)) + "end\n"
-    with tempfile.TemporaryDirectory() as room:
-        text, plan = Path(room) / "text", Path(room) / "plan"
-        text.write_text(problem)
-        plan.write_text("wave 1024 0\n" + "".join(f"start s{n} w{n % 256}\n" for n in range(1024)))
-        rows = ["starts_of_plan.py", text]
-        others = (["dimacs_of_problem.py"], ["job_of_files.py", ROOT / "docs"], ["certify.py"])
-        for words in (rows, [*rows, "--format", "json"], *others):
-            given = plan if words[0].startswith("starts") else text
-            reader, writer = os.pipe()
-            os.close(reader)
-            with open(given) as asks:
-                how = {"stdin": asks, "stdout": writer, "stderr": subprocess.PIPE}
-                ran = subprocess.run([CONTRIB / words[0], *words[1:]], **how)
-            os.close(writer)
-            is_quiet = b"Error" not in ran.stderr and b"Exception" not in ran.stderr
-            count.expect(f"{words[0]} without a reader", (is_quiet, ran.returncode), (True, 141))
-
-
 def help_examples(count, program):
     """The commands in each script's help run."""
     for name in SCRIPTS:
@@ -637,7 +615,6 @@ def main():
         left(count)
         placed(count, Path(room))
         refused(count, Path(room))
-        quiet_at_head(count)
         drawn(count)
         sized(count)
         recorded(count)
