@@ -22,8 +22,8 @@ library:
 lib/libmrjob.a:
 	@scripts/library.py
 
-# The program with its manual page, completions and scripts, and where `make library` has left it the C library, below
-# DESTDIR and PREFIX; and just these taken away.
+# The program with its manual pages, completions, scripts, docs and examples, and where `make library` has left it the C
+# library, below DESTDIR and PREFIX; and just these taken away.
 install: bin/mrjob
 	@scripts/install.py "$(DESTDIR)$(PREFIX)"
 

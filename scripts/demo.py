@@ -62,6 +62,8 @@ def a_program(crates, room):
         print("This is the program built without its proofs, in about two minutes.")
         print("`make` proves every crate that it stands on, and leaves the proved program as bin/mrjob.\n", flush=True)
         quick.build(program)
+    elif quick.is_unproved(program):
+        print("This is bin/mrjob, built without its proofs. `make` leaves the proved program there.\n", flush=True)
     return program
 
 
