@@ -12,8 +12,8 @@ sys.dont_write_bytecode = True
 import pages
 from roff import entry, plain, title, verbatim
 
-# The words that may follow an option, which its help has among its words.
-VALUES = {"--network": ["direct", "racks"]}
+# The words that may follow an option or a command, which its help has among its words.
+VALUES = {"--network": ["direct", "racks"], "explain": ["fault", "condition", "ignored", "status"]}
 
 
 class Help:
@@ -23,7 +23,8 @@ class Help:
         self.text = subprocess.run([program, *words, "--help"], check=True, capture_output=True, text=True).stdout
         self.about, rest = re.match(r"(.*?)\n\nUsage: (.*)", self.text, re.S).groups()
         self.usage, _, rest = rest.partition("\n\n")
-        listed = dict(re.findall(r"^(Commands|Options):\n((?:  .*\n)*)", rest, re.M))
+        listed = dict(re.findall(r"^(Commands|Arguments|Options):\n((?:  .*\n)*)", rest, re.M))
+        self.arguments = re.findall(r"^  ([<[]\w+[]>]) +(.*)$", listed.get("Arguments", ""), re.M)
         self.commands = re.findall(r"^  (\w+) +(.*)$", listed.get("Commands", ""), re.M)
         options = re.findall(r"^ +(?:(-\w), )?(--\w+)(?: <(\w+)>)? +(.*)$", listed["Options"], re.M)
         self.options = [(long, short, value, says) for short, long, value, says in options]
@@ -34,7 +35,10 @@ def labelled(text):
     """A text of which a line that begins with a word and a colon is an entry, and an indented one goes on with it."""
     for part in re.split(r"\n(?=\S)", text):
         head, _, body = part.partition(":")
-        yield from entry(f"{head}:", body) if re.match(r"\w+:  ", part) else [".PP", plain(" ".join(part.split()))]
+        if head == "Try":
+            yield from [".TP", ".B Try:", *"\n.br\n".join(plain(it.strip()) for it in body.split("\n")).split("\n")]
+        else:
+            yield from entry(f"{head}:", body) if re.match(r"\w+:  ", part) else [".PP", plain(" ".join(part.split()))]
 
 
 def paragraphs(text):
@@ -60,6 +64,8 @@ def sections(text):
 
 
 def options_of(given):
+    for name, says in given.arguments:
+        yield from entry(name.strip("[]<>"), says)
     for long, short, value, says in given.options:
         names = ", ".join(filter(None, [short, long])) + (f" {value}" if value else "")
         yield from entry(names, says)
@@ -88,6 +94,8 @@ def bash(whole, commands):
     yield '    if [ "$word" = = ]; then word=; elif [ "$before" = = ]; then before="${COMP_WORDS[COMP_CWORD-2]}"; fi'
     yield '    case "$before" in'
     for option, values in VALUES.items():
+        if not option.startswith("-") and option not in commands:
+            continue
         yield f'        {option}) COMPREPLY=($(compgen -W "{" ".join(values)}" -- "$word")); return ;;'
     yield "    esac"
     yield '    case "$COMP_CWORD ${COMP_WORDS[1]}" in'
@@ -111,6 +119,8 @@ def zsh(whole, commands):
     yield from ["        return", "    fi", "    case $words[2] in"]
     for name, given in commands.items():
         yield f"        {name}) _arguments \\"
+        if name in VALUES:
+            yield f"            {quoted(f'2:kind:({chr(32).join(VALUES[name])})')} \\"
         for long, _, value, about in given.options:
             after = f":{value}:({' '.join(VALUES.get(long, []))})" if value else ""
             given_by = "=" if value else ""  # (--network=racks, or two words)
@@ -124,6 +134,8 @@ def fish(whole, commands):
     yield "complete -c mrjob -f"
     for name, about in whole.commands:
         yield f"complete -c mrjob -n __fish_use_subcommand -a {name} -d {quoted(about)}"
+    for name in (it for it in commands if it in VALUES):
+        yield f"complete -c mrjob -n '__fish_seen_subcommand_from {name}' -a {quoted(' '.join(VALUES[name]))}"
     for name, given in commands.items():
         for long, _, value, about in given.options:
             after = f" -x -a {quoted(' '.join(VALUES.get(long, [])))}" if value else ""
