@@ -36,6 +36,7 @@ function bytes(value) {
   return (at && value < 100 ? value.toFixed(1) : number(Math.round(value))) + " " + units[at];
 }
 
+const some = (count, name) => number(count) + " " + name + (count === 1 ? "" : "s");
 const split = it => D.splits[it.of];
 const workerName = w => D.workers[w][0];
 const work = it => it.kind === 2 ? "part " + it.of : KINDS[it.kind] + " of " + split(it)[0];
@@ -87,14 +88,14 @@ function said(place) {
   switch (keyword) {
     case "wave": {
       const at = D.waves.findIndex(it => it[0] === place);
-      return "Wave " + (at + 1) + ": " + number(+words[0]) + " maps start, at a byte-distance of " + number(+words[1]);
+      return "Wave " + (at + 1) + " starts " + some(+words[0], "map") + ", at a byte-distance of " + number(+words[1]);
     }
     case "backup": case "reduce": return "Started: " + of(attempts[words[0] - 1]);
     case "done": return "Done: " + of(attempts[words[0] - 1]);
     case "fail": return "Failed: " + of(attempts[words[0] - 1]);
     case "withdraw": return "Withdrawn: " + of(attempts[words[0] - 1]);
     case "die": return words[0] + " dies";
-    case "join": return words[0] + " returns with " + number(words.length - 1) + " splits";
+    case "join": return words[0] + " returns with " + some(words.length - 1, "split");
     case "add": return words[1] + " holds " + words[0] + " too";
     case "lose": return words[1] + " holds " + words[0] + " no more";
     case "sweep": return "A sweep reads the beats" + (died.length ? ", and finds dead: " + died.join(", ") : "");
@@ -130,7 +131,7 @@ function moved(wave) {
 
 function aboutWave(at) {
   const wave = D.waves[at], rows = moved(wave);
-  const lines = ["wave " + (at + 1) + ", event " + number(wave[0]) + ": " + number(wave[1]) + " maps, byte-distance " +
+  const lines = ["wave " + (at + 1) + ", event " + number(wave[0]) + ": " + some(wave[1], "map") + ", byte-distance " +
     number(wave[2])];
   for (const steps of STEPS) if (rows[steps][0]) {
     lines.push(number(rows[steps][0]) + " " + SAYS[steps] + ", " + bytes(rows[steps][1]) + (steps ? " moved" : ""));
@@ -228,7 +229,7 @@ function aboutWorker(w) {
   const runs = seen.running[w].map(work);
   return name + " in " + D.racks[rack][0] + (seen.lives[w] ? "" : ", dead") + ": " + runs.length + " of " + slots +
     " slots taken" + (runs.length ? " (" + runs.slice(0, 6).join(", ") + (runs.length > 6 ? ", .." : "") + ")" : "") +
-    "; holds " + number(seen.holds[w]) + " splits; has done " + number(seen.done[w]) + " attempts that stand";
+    "; holds " + some(seen.holds[w], "split") + "; what it has done stands of " + some(seen.done[w], "attempt");
 }
 
 function tables() {

@@ -330,7 +330,7 @@ def by_keys(count, tab, name, last):
     tab.value("document.getElementById('waveOn').focus()")
     tab.key("Enter", text="\r")
     words = tab.value("document.getElementById('said').textContent")
-    count.expect(f"{name}: Enter goes to the first wave", words.startswith("Wave 1: "), True)
+    count.expect(f"{name}: Enter goes to the first wave", words.startswith("Wave 1 starts "), True)
 
 
 def by_pointer(count, tab, name):
