@@ -3,13 +3,14 @@
 
     contrib.py PROGRAM..
 
-The examples in each script's help run. certify.py answers what `check` answers: the examples, 500 made texts and those
-at the limits on counts. The starts of plans come to their cost. A least flow over dimacs_of_problem.py's network, by
-a search of its own, starts and costs what `plan` says. The jobs and scripts of job_of_files.py have the index that is
-made here of the files, lie on workers as HDFS places blocks, and past a limit none is written. The pictures of docs/
-are what picture.py makes of the samples anew, whose answers are a best plan and a report. What `make install` puts into
-an empty folder runs from there, and `make uninstall` leaves nothing. README's commands write what it shows of them. The
-last line counts.
+The examples in each script's help run, and a script whose reader leaves ends quietly. certify.py answers what `check`
+answers: the examples, 500 made texts and those at the limits on counts. The starts of plans come to their cost. A least
+flow over dimacs_of_problem.py's network, by a search of its own, starts and costs what `plan` says. The jobs and
+scripts of job_of_files.py have the index that is made here of the files, lie on workers as HDFS places blocks, and past
+a limit none is written. The pictures of the docs are what picture.py makes of the samples anew, whose answers are a
+best plan and a report; pictures of many shapes fit a page, and a history is drawn as its report is. What `make install`
+puts into an empty folder runs from there, and `make uninstall` leaves nothing. README's commands write what it shows of
+them. The last line counts.
 """
 import ast
 import collections
