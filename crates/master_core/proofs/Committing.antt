@@ -8,7 +8,7 @@ use Rattle.master_state.specs.declared.answers.Wave.{Wave}
 use Rattle.master_state.specs.declared.events.Event.TheVariants as events
 use Rattle.master_state.specs.Refusals.{has_no_room}
 use Rattle.master_state.specs.Changes.{split_started}
-use Rattle.master_state.specs.Steps.{problem_of}
+use Rattle.master_state.specs.Steps.{HasPrices, problem_of}
 use Rattle.master_state.specs.Jobs.{Job, IsCommitted}
 use Rattle.master_state.proofs.Reasons.{attempts_left}
 use Rattle.master_state.proofs.Waves.{are_starts}
@@ -41,19 +41,20 @@ best_may_start {m = m} {j = j} {pairs = pairs} was is best many free =
 
 -- a master that committed a plan is one still
 pub commits : {old new : Inside} {j : Job} (plan : List (Option ℕ)) (wave : Wave) → IsMaster old →
-    job_of old ≡ j → best_in j (pairs_of plan) → no_room_in j wave.count ≡ false →
-    wave.first ≡ length old.starts.items + 1 → wave.count ≡ length (pairs_of plan) →
-    wave.cost ≡ total (problem_of j.setup j.state) (pairs_of plan) → rooms_of new ≡ rooms_of old →
+    job_of old ≡ j → best_in j (pairs_of plan) → HasPrices j.setup j.state plan →
+    no_room_in j wave.count ≡ false → wave.first ≡ length old.starts.items + 1 →
+    wave.count ≡ length (pairs_of plan) → wave.cost ≡ total (problem_of j.setup j.state) (pairs_of plan) → rooms_of new ≡ rooms_of old →
     new.history.items ≡ old.history.items ++ events.Wave wave.first wave.count wave.cost ∷ [] →
     wave.place ≡ length old.history.items + 1 →
     fold (λ now pair. split_started now pair.0 pair.1) (state_of old) (pairs_of plan)
     ≡ record (state_of new) { events = length old.history.items } →
     new.results.items ≡ old.results.items → AreOfSplits (setup_of old) new.splits.items → IsMaster new
-commits {old = old} {new = new} {j = j} plan wave was is best free first count cost rooms history place change
-    results made =
+commits {old = old} {new = new} {j = j} plan wave was is best priced free first count cost rooms history place
+    change results made =
     let committed : IsCommitted (job_of old) plan wave (job_of new) = record {
       change = record {
         best = subst (λ (i : Job). best_in i (pairs_of plan)) (sym is) best;
+        priced = subst (λ (i : Job). HasPrices i.setup i.state plan) (sym is) priced;
         room = ap (λ (i : Job). no_room_in i (length (pairs_of plan))) is ∙ ap (no_room_in j) (sym count)
             ∙ free;
         first_is = first;

@@ -1,4 +1,5 @@
 ghost use Rattle.std.specs.Prelude.{◌≡◌, ◌<◌, length};
+ghost use Rattle.shuffle_reduce.specs.Merged.{IsPartOf};
 ghost use Rattle.master_state.specs.States.{Setup};
 ghost use Rattle.master_state.specs.Refusals.{is_wrong_map, is_wrong_part};
 
@@ -18,7 +19,8 @@ pub fn is_wrong_map(cluster: &Cluster, split: SplitNo, made: &MapResult) -> bool
 
 /// Whether what was made is not of the part, the cluster's number of parts and its texts.
 pub fn is_wrong_part(cluster: &Cluster, part: PartNo, made: &PartResult) -> bool
-    ensures { (setup : Setup) → setup.cluster ≡ cluster.now → result ≡ is_wrong_part setup part made.now }
+    ensures merged { IsPartOf made.now.texts made.now.part made.now.parts made.now.pairs }
+    ensures wrong { (setup : Setup) → setup.cluster ≡ cluster.now → result ≡ is_wrong_part setup part made.now }
 {
     made.part() != part || made.parts() != cluster.parts() || !made.covers(cluster.texts())
 }

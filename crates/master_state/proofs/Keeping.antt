@@ -7,7 +7,7 @@ use Rattle.std.proofs.lemmas.Grind.{common_steps}
 use Rattle.std.proofs.lemmas.List.{append-nil}
 use Rattle.std.proofs.lemmas.List.Elements.{All-nil, All-push}
 use Rattle.std.proofs.lemmas.List.Sums.{sum_by_push}
-use Rattle.shuffle_reduce.specs.Merged.{PartView, same_texts}
+use Rattle.shuffle_reduce.specs.Merged.{IsPartOf, PartView, same_texts}
 use Rattle.shuffle_reduce.proofs.CoverLemmas.{Decides-same_texts}
 use Rattle.master_state.specs.declared.states.Attempt.{Attempt}
 use Rattle.master_state.specs.declared.states.PartState.{PartState}
@@ -17,7 +17,7 @@ use Rattle.master_state.specs.States.{Setup, State}
 use Rattle.master_state.specs.Tests.{is_numbered, is_on, part_runs, part_at, part_running}
 use Rattle.master_state.specs.Tests.{part_is_done, part_is_pending}
 use Rattle.master_state.specs.Refusals.{Call, MapDone, MapFailed, Withdraw, Die, Join, Add, Lose, Sweep}
-use Rattle.master_state.specs.Refusals.{ReduceStart, PartDone, PartFailed, Backup, refusal, reasons}
+use Rattle.master_state.specs.Refusals.{ReduceStart, PartDone, PartFailed, Backup, IsKnown, refusal, reasons}
 use Rattle.master_state.specs.Changes.{after, split_started, died, part_without, part_done_by}
 use Rattle.master_state.specs.Tidy.{IsTidy}
 use Rattle.master_state.specs.Jobs.{AreResults, IsResult, added_by}
@@ -97,10 +97,10 @@ part_ends a (part.Running attempt) run = (refl, ended (is_numbered a attempt) at
 part_ends a part.Done run = absurd (false≢true run)
 
 results_more : (setup : Setup) (s : State) (a : ℕ) (result : PartView) (results : List PartView) →
-    IsTidy setup s →
+    IsTidy setup s → IsPartOf result.texts result.part result.parts result.pairs →
     refusal setup s (PartDone a result) ≡ None → AreResults setup s results →
     AreResults setup (after s (PartDone a result)) (results ++ result ∷ [])
-results_more setup s a result results tidy allowed kept =
+results_more setup s a result results tidy merged allowed kept =
     let none = none_applies (reasons setup s (PartDone a result)) allowed in
     let here = part_running s a in
     let run = found_part s a none.0 in
@@ -116,6 +116,7 @@ results_more setup s a result results tidy allowed kept =
         texts = (Decides-same_texts result.texts setup.cluster.texts).0 (not-false covers parts.1);
         parts = eqb-true result.parts setup.cluster.parts (not-false (result.parts == setup.cluster.parts)
             numbers.1);
+        merged = merged;
       });
       one_each = λ r. sum_by_push (λ (one : PartView). cond (one.part == r) 1 0) results result
           ∙ elim (cases_eq r here) [
@@ -134,26 +135,26 @@ results_more setup s a result results tidy allowed kept =
 
 -- the results after a call are those before, and the one that it adds
 results_after : (setup : Setup) (s : State) (call : Call) (results : List PartView) → IsTidy setup s →
-    refusal setup s call ≡ None → AreResults setup s results →
+    IsKnown setup call → refusal setup s call ≡ None → AreResults setup s results →
     AreResults setup (after s call) (results ++ added_by call)
-results_after setup s (MapDone a result) results tidy allowed kept = results_same (λ r. refl) kept
-results_after setup s (MapFailed a) results tidy allowed kept =
+results_after setup s (MapDone a result) results tidy known allowed kept = results_same (λ r. refl) kept
+results_after setup s (MapFailed a) results tidy known allowed kept =
     results_same (all_done_without (is_numbered a) s) kept
-results_after setup s (Withdraw a) results tidy allowed kept =
+results_after setup s (Withdraw a) results tidy known allowed kept =
     results_same (all_done_without (is_numbered a) s) kept
-results_after setup s (Die w) results tidy allowed kept = results_same (all_done_without (is_on w) s) kept
-results_after setup s (Join w set) results tidy allowed kept = results_same (λ r. refl) kept
-results_after setup s (Add split w) results tidy allowed kept = results_same (λ r. refl) kept
-results_after setup s (Lose split w) results tidy allowed kept = results_same (λ r. refl) kept
-results_after setup s (Sweep counts) results tidy allowed kept =
+results_after setup s (Die w) results tidy known allowed kept = results_same (all_done_without (is_on w) s) kept
+results_after setup s (Join w set) results tidy known allowed kept = results_same (λ r. refl) kept
+results_after setup s (Add split w) results tidy known allowed kept = results_same (λ r. refl) kept
+results_after setup s (Lose split w) results tidy known allowed kept = results_same (λ r. refl) kept
+results_after setup s (Sweep counts) results tidy known allowed kept =
     grind (arith, common_steps, results_same, done_all_died, heard_state)
-results_after setup s ReduceStart results tidy allowed kept =
+results_after setup s ReduceStart results tidy known allowed kept =
     results_same (λ r. done_reduce setup s r allowed) kept
-results_after setup s (PartDone a result) results tidy allowed kept =
-    results_more setup s a result results tidy allowed kept
-results_after setup s (PartFailed a) results tidy allowed kept =
+results_after setup s (PartDone a result) results tidy known allowed kept =
+    results_more setup s a result results tidy known allowed kept
+results_after setup s (PartFailed a) results tidy known allowed kept =
     results_same (all_done_without (is_numbered a) s) kept
-results_after setup s (Backup split w) results tidy allowed kept = results_same (λ r. refl) kept
+results_after setup s (Backup split w) results tidy known allowed kept = results_same (λ r. refl) kept
 
 pub calls_keep : CallsKeep
 calls_keep old new call place kept accepted =
@@ -164,7 +165,8 @@ calls_keep old new call place kept accepted =
       legal = legal-accepted old new call place kept.legal accepted;
       tidy = rw next.setup (tidy_change old.setup old.state call new.state kept.tidy accepted.change);
       results = rw (next.setup, next.results, accepted.change.leads)
-          (results_after old.setup old.state call old.results kept.tidy accepted.change.allowed kept.results);
+          (results_after old.setup old.state call old.results kept.tidy accepted.change.known
+          accepted.change.allowed kept.results);
     }
 
 pub waves_keep : WavesKeep

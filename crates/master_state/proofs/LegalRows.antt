@@ -69,6 +69,7 @@ legal = (
     Some 0 ∷ [],
     record {
       best = certified-best asked (within_reach asked.wave.tree whole.tree.centres_known) certified;
+      priced = (asked.prices, certified);
       room = refl;
       first_is = refl;
       count_is =

@@ -23,6 +23,7 @@ pub mod Problems
 pub mod Keeping
 pub mod Loops
 pub mod Promises
+pub mod Headline
 -- scripts, computed from the definitions alone
 mod Scripts
 mod Rows

@@ -7,7 +7,7 @@ use Rattle.wave_problem.specs.Wave.{IsAdmissible}
 use Rattle.wave_problem.specs.Assignment.{IsBest, pairs_of}
 use Rattle.price_certificate.specs.Certificate.{Claim, Certifies, IsFirstFailure, claim}
 use Rattle.price_certificate.specs.PriceList.{PriceList}
-use Rattle.shuffle_reduce.specs.Merged.{PartView, AreSameTexts}
+use Rattle.shuffle_reduce.specs.Merged.{PartView, AreSameTexts, IsPartOf}
 use Rattle.shuffle_reduce.specs.Gather.{AreOfPart, texts_of_runs}
 use Rattle.shuffle_reduce.specs.Indexed.{count_of}
 use Rattle.worker_table.specs.Workers.{swept, is_silent}
@@ -168,10 +168,11 @@ pub record IsGlance (job : Job) (glance : Glance) : Type 0 where
   pub open_splits : glance.open_splits ≡ count_by (λ split. not (is_done split)) job.state.splits
   pub open_parts : glance.open_parts ≡ count_by (λ part. not (part_is_done part)) job.state.parts
 
--- the result covers the cluster's texts and is of its number of parts
+-- the result covers the cluster's texts, is of its number of parts, and has the pairs of its texts for its part
 pub record IsResult (setup : Setup) (result : PartView) : Type 0 where
   pub texts : AreSameTexts result.texts setup.cluster.texts
   pub parts : result.parts ≡ setup.cluster.parts
+  pub merged : IsPartOf result.texts result.part result.parts result.pairs
 
 -- one result of each done part, and no other
 pub record AreResults (setup : Setup) (s : State) (results : List PartView) : Type 0 where

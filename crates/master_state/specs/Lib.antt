@@ -6,3 +6,4 @@ pub mod Steps
 pub mod Tidy
 pub mod Jobs
 pub mod Laws
+pub mod Headline

@@ -5,7 +5,7 @@ use Rattle.std.specs.List.{list_any, list_all}
 use Rattle.node_ids.specs.Sets.{Has}
 use Rattle.word_map.specs.Texts.{SplitDocuments, same_text}
 use Rattle.word_map.specs.Runs.{MapView}
-use Rattle.shuffle_reduce.specs.Merged.{PartView, same_texts}
+use Rattle.shuffle_reduce.specs.Merged.{IsPartOf, PartView, same_texts}
 use Rattle.worker_table.specs.Workers.{is_live, is_barred, has_free_slot, worker_at}
 use Rattle.block_map.specs.Holdings.{holders_of, is_holder, are_eight, has_eight_among}
 use Rattle.master_state.specs.declared.answers.Why.{Why}
@@ -38,7 +38,8 @@ pub data Call : Type 0 where
 abbrev pub IsPair : Setup → ℕ → ℕ → Type 0
 IsPair setup split w = (split < length setup.cluster.splits) × (w < length setup.cluster.slots)
 
--- what a call asks for: its splits and workers are those of the cluster
+-- what a call asks for: its splits and workers are those of the cluster, and what was merged for a part has the
+-- pairs of its texts for that part
 abbrev pub IsKnown : Setup → Call → Type 0
 IsKnown setup (Die w) = w < length setup.cluster.slots
 IsKnown setup (Join w set) =
@@ -46,6 +47,7 @@ IsKnown setup (Join w set) =
 IsKnown setup (Add split w) = IsPair setup split w
 IsKnown setup (Lose split w) = IsPair setup split w
 IsKnown setup (Backup split w) = IsPair setup split w
+IsKnown setup (PartDone a result) = IsPartOf result.texts result.part result.parts result.pairs
 IsKnown setup call = Unit {0}
 
 -- no place for an event is left

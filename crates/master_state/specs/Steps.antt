@@ -5,6 +5,8 @@ use Rattle.shuffle_reduce.specs.Merged.{PartView}
 use Rattle.wave_problem.specs.declared.lines.WorkerLine.{WorkerLine}
 use Rattle.wave_problem.specs.Wave.{Wave, Split, wave_from}
 use Rattle.wave_problem.specs.Assignment.{IsBest, pairs_of, total}
+use Rattle.price_certificate.specs.Certificate.{Certifies, claim}
+use Rattle.price_certificate.specs.PriceList.{PriceList}
 use Rattle.worker_table.specs.declared.Worker.{Worker}
 use Rattle.master_state.specs.declared.events.Event.{Event}
 use Rattle.master_state.specs.declared.events.Event.TheVariants as events
@@ -31,10 +33,15 @@ problem_of setup s =
     (map (λ line. split_line line.0.0 line.0.1 line.1) (zip (zip setup.cluster.splits s.splits) s.holders))
     s.workers.barred
 
--- a wave makes the starts of ANY plan that is best in the old state
+-- some prices certify the plan in this state
+abbrev pub HasPrices : Setup → State → List (Option ℕ) → Type 0
+HasPrices setup s plan = (prices : PriceList) × Certifies (claim (problem_of setup s) plan prices)
+
+-- a wave makes the starts of ANY plan that is best in the old state, as some prices certify
 pub record IsWave (setup : Setup) (old : State) (first count cost : ℕ) (plan : List (Option ℕ)) (new : State)
     : Type 0 where
   pub best : IsBest (problem_of setup old) (pairs_of plan)
+  pub priced : HasPrices setup old plan
   pub room : has_no_room setup old (length (pairs_of plan)) ≡ false
   pub first_is : first ≡ next_attempt old
   pub count_is : count ≡ length (pairs_of plan)

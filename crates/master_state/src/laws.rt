@@ -2,6 +2,7 @@
 ghost use Rattle.master_state.specs.Laws.{CallsKeep, EveryWaveIsBest, LegalStatesAreTidy, OpeningIsKept};
 ghost use Rattle.master_state.specs.Laws.{PartsAsToldAreRight, ResultsAsToldAreRight, SecondResultsAreOld};
 ghost use Rattle.master_state.specs.Laws.{TheOtherGoesOn, WavesKeep};
+ghost use Rattle.master_state.specs.Headline.{Headline};
 
 /// A state that a legal history leads to keeps its tables in agreement.
 pub fn legal_states_are_tidy()
@@ -34,4 +35,12 @@ pub fn second_results_are_old()
 /// The loss of one of two attempts leaves the other.
 pub fn the_other_goes_on()
     ensures { TheOtherGoesOn }
+{}
+
+/// The headline. After any list of sweeps, deaths, joins, completions, failures and replica changes, each
+/// committed wave starts as many pending splits as any admissible assignment of the state that it changes, at
+/// the least byte-distance among those that start as many, which its prices certify; and where the job is
+/// done, its index is that of one sequential execution.
+pub fn headline()
+    ensures { Headline }
 {}

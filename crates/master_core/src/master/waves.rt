@@ -3,11 +3,11 @@ ghost use Rattle.std.specs.Prelude.{◌≡◌, ◌≢◌, ◌<◌, ◌≤◌, le
 ghost use Rattle.std.specs.Prelude.{IfOk, OnErr, OnOk};
 ghost use Rattle.wave_problem.specs.Assignment.{IsBest, pairs_of};
 ghost use Rattle.price_certificate.specs.declared.Condition.{Condition};
-ghost use Rattle.price_certificate.specs.Certificate.{IsFirstFailure};
+ghost use Rattle.price_certificate.specs.Certificate.{Certifies, IsFirstFailure};
 ghost use Rattle.certificate_checker.specs.Verdict.{IsCertified};
 ghost use Rattle.flow_network.specs.declared.kinds.NetworkKind.{NetworkKind};
 ghost use Rattle.wave_planner.specs.Planned.{IsMadeOver};
-ghost use Rattle.master_state.specs.Steps.{problem_of};
+ghost use Rattle.master_state.specs.Steps.{HasPrices, problem_of};
 ghost use Rattle.master_state.specs.Jobs.{AnswersCommit, IsCommitted, LacksRoomForBest, lacks_room, present};
 ghost use Rattle.master_core.specs.Starts.{HasSizesOf, HasTotals};
 
@@ -72,6 +72,8 @@ impl Master {
     pub fn start_best(&mut self, alloc: Global) -> Result<(Planned, Wave), CommitError>
         ensures over { IfOk result (λ p. IsMadeOver NetworkKind.Racks
             (problem_of self.old.setup self.old.state) p.0.plan.starts p.0.prices) }
+        ensures certifies { IfOk result (λ p.
+            Certifies (present self.old p.0.plan.starts p.0.prices)) }
         ensures committed { IfOk result (λ p. IsCommitted self.old p.0.plan.starts p.1 self.new) }
         ensures full { result ≡ Err CommitError.HistoryFull → LacksRoomForBest self.old }
         ensures fresh { (c : Condition) → result ≢ Err (CommitError.Stale c) }
@@ -86,6 +88,8 @@ impl Master {
     fn best_plan(&self, alloc: Global) -> Result<Planned, CommitError>
         ensures over { IfOk result (λ planned. IsMadeOver NetworkKind.Racks
             (problem_of self.now.setup self.now.state) planned.plan.starts planned.prices) }
+        ensures certifies { IfOk result (λ planned.
+            Certifies (present self.now planned.plan.starts planned.prices)) }
         ensures best { IfOk result (λ planned.
             IsBest (problem_of self.now.setup self.now.state) (pairs_of planned.plan.starts)) }
         ensures counted { IfOk result (λ planned.
@@ -106,6 +110,7 @@ impl Master {
     fn start_in_room(&mut self, plan: &Plan, certified: Certified) -> Result<Wave, CommitError>
         requires few { length plan.now.starts ≤ 1024 }
         requires best { IsBest (problem_of self.old.setup self.old.state) (pairs_of plan.now.starts) }
+        requires priced { HasPrices self.old.setup self.old.state plan.now.starts }
         requires counted { HasTotals self.old plan.now.starts certified }
         ensures committed { IfOk result (λ wave. IsCommitted self.old plan.now.starts wave self.new) }
         ensures full { lacks_room self.old plan.now.starts ≡ true → result ≡ Err CommitError.HistoryFull }
@@ -123,6 +128,7 @@ impl Master {
     // Starts the splits of a plan that is best in the present state, for which there is room.
     fn start_plan(&mut self, plan: &Plan, certified: Certified) -> Wave
         requires best { IsBest (problem_of self.old.setup self.old.state) (pairs_of plan.now.starts) }
+        requires priced { HasPrices self.old.setup self.old.state plan.now.starts }
         requires counted { HasTotals self.old plan.now.starts certified }
         requires room { lacks_room self.old plan.now.starts ≡ false }
         ensures { IsCommitted self.old plan.now.starts result self.new }

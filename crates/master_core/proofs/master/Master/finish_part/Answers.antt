@@ -8,13 +8,13 @@ use Rattle.master_core.proofs.master.Master.finish_part.Goals as goal
 
 pub returns-then-is_wrong_part-clause-answer : goal.returns-then-is_wrong_part-clause-answer
 returns-then-is_wrong_part-clause-answer c =
-    let refused = part_refusal c.self.invariant c.self.view_is c.args.made c.requires c.is_wrong_part.ensures
+    let refused = part_refusal c.self.invariant c.self.view_is c.args.made c.requires c.is_wrong_part.ensures.wrong
     c.if-is_wrong_part.true refl in
     record { refused = refused; same = refl }
 
 pub returns-then-has_no_place-clause-answer : goal.returns-then-has_no_place-clause-answer
 returns-then-has_no_place-clause-answer c =
-    let refused = part_refusal c.self.invariant c.self.view_is c.args.made c.requires c.is_wrong_part.ensures
+    let refused = part_refusal c.self.invariant c.self.view_is c.args.made c.requires c.is_wrong_part.ensures.wrong
     c.if-is_wrong_part.false (sym c.has_no_place.ensures ∙ c.if-has_no_place.true) in
     record { refused = refused; same = refl }
 
@@ -35,8 +35,8 @@ after : (c : goal.After-record_event) →
       history = c.record_event.new.history;
     }) c.args.self.now (PartDone c.args.attempt c.args.made) c.record_event.result
 after c =
-    follows (PartDone c.args.attempt c.args.made) c.self.invariant c.self.view_is tt
-    (part_refusal c.self.invariant c.self.view_is c.args.made c.requires c.is_wrong_part.ensures
+    follows (PartDone c.args.attempt c.args.made) c.self.invariant c.self.view_is c.is_wrong_part.ensures.merged
+    (part_refusal c.self.invariant c.self.view_is c.args.made c.requires c.is_wrong_part.ensures.wrong
     c.if-is_wrong_part.false (sym c.has_no_place.ensures ∙ c.if-has_no_place.false))
     (rw (c.record_event.ensures.capacity, c.record_result.ensures.capacity) refl)
     c.record_event.ensures.items c.record_event.ensures.place

@@ -18,7 +18,7 @@ invariant_of-self c =
       count = c.args.certified.count;
       cost = c.args.certified.cost;
     } in
-    commits c.args.plan.now.starts wave c.self.invariant c.self.view_is c.requires.best
+    commits c.args.plan.now.starts wave c.self.invariant c.self.view_is c.requires.best c.requires.priced
     (ap (has_no_room j.setup j.state) c.requires.counted.count ∙ c.requires.room)
     (omega (arith, c.new-first.ensures, c.len.ensures)) c.requires.counted.count c.requires.counted.cost
     (rw (c.record_event-place.ensures.capacity, c.start_each.ensures.capacity) refl)
