@@ -99,6 +99,8 @@ def try_tarball(count, file, room, tools):
         count.holds("tarball: the program is static", loader not in (prefix / "bin/mrjob").read_bytes()[:4096])
     path = [prefix / "bin", tools]
     program(count, "tarball", path)
+    told = call(ROOT / "scripts/examples.sh", prefix / "bin/mrjob", path=[tools])
+    count.holds("tarball: the program on examples/", told[0] == 0, told[1][-300:])
     commands(count, "tarball", prefix / "share/doc/mrjob", path)
     lib = prefix / "lib"
     flags = [f"-I{prefix}/include", f"-L{lib}", "-lmrjob", f"-Wl,-rpath,{lib}"]
