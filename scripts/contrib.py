@@ -602,6 +602,9 @@ def shown(count, program, room):
     """Each command that the README shows writes the lines below it; it has at most 1,000 words."""
     text = (ROOT / "README.md").read_text()
     count.expect("the README has at most 1,000 words", len(text.split()) <= 1000)
+    named = set(re.findall(r"`mrjob(?:_plan)?[-_](\d[\d.]*\d)", text))
+    changed = re.findall(r"^## (.*)$", (ROOT / "CHANGELOG.md").read_text(), re.M)
+    count.expect("README and CHANGELOG.md have the version", (named, changed[0]), ({version()}, version()))
     (room / "path").mkdir()
     (room / "path/mrjob").symlink_to(program)
     path = [room / "path", os.environ["PATH"]]
