@@ -26,7 +26,7 @@ button:hover { border-color: var(--ink); }
 .track { display: flex; height: 12px; border: 1px solid var(--edge); border-radius: 6px; overflow: hidden; }
 .track i { display: block; height: 100%; }
 .scroll { overflow: auto; }
-section { scroll-margin-top: 110px; }
+section, h2 { scroll-margin-top: 110px; }
 #cluster, .racks { display: flex; flex-wrap: wrap; gap: 10px; align-items: flex-start; }
 .centre { border: 1px solid var(--line); border-radius: 8px; padding: 6px 10px 10px; max-width: 100%; overflow: auto; }
 .rack { background: var(--box); border: 1px solid var(--line); border-radius: 6px; padding: 4px 8px 8px; }
