@@ -17,7 +17,7 @@ use Rattle.price_certificate.specs.Certificate.{claim, Certifies, split_price, w
 use Rattle.tree_planner.specs.declared.nodes.TreeNode.{TreeNode}
 use Rattle.tree_planner.specs.declared.nodes.TreeNode.TheVariants.{Worker, Rack, Centre, Cluster}
 use Rattle.tree_planner.specs.declared.nodes.End.{End}
-use Rattle.tree_planner.specs.Nodes.{parent, is_under, node_above, IsEnd, end_cost}
+use Rattle.tree_planner.specs.Nodes.{parent, is_under, node_above, IsEnd, end_cost, IsKnown}
 use Rattle.tree_planner.specs.declared.nodes.Place.TheVariants.{Stands}
 use Rattle.tree_planner.specs.State.{State, place_of, reach_cost, slots_of}
 use Rattle.tree_planner.specs.State.{standing_under, IsKept}
@@ -172,7 +172,7 @@ module _ (wave : Wave) (state : State) (kept : IsKept wave state) where
       let same = ap (λ (x : ℕ). state.depth (Centre x)) (eqb-true c (centre_at wave.tree w) u) in omega arith
   above-le w Cluster u = omega arith
 
-  module _ (starts : List (Option ℕ)) (prices : PriceList) (near : IsWithinReach wave.tree)
+  module _ (starts : List (Option ℕ)) (prices : PriceList) (near : IsWithinReach wave.tree) (known : IsKnown wave)
       (handed : IsHandedDown wave state starts) (priced : ArePrices wave state starts prices) where
     abbrev price : ℕ → ℕ → ℕ
     price s w = unwrap_or (cost wave s w) 0
@@ -249,7 +249,7 @@ module _ (wave : Wave) (state : State) (kept : IsKept wave state) where
     priced_at_all : (s w : ℕ) (o : Option ℕ) → start_of starts s ≡ o → IsAdmissible wave s w →
         reward wave ≤ split_price prices s + worker_price prices w + price s w
     priced_at_all s w o e a =
-        let offer = end_complete wave s w near a in
+        let offer = end_complete wave s w near known a in
         let cheap = offer.3 in
         let low = above-le w offer.0.node offer.2 in
         let same = priced.usable w (a.live, a.has_slot) in
@@ -284,9 +284,9 @@ module _ (wave : Wave) (state : State) (kept : IsKept wave state) where
     certifies (Spare w) = spare w
 
 pub engine_certifies : EngineCertifies
-engine_certifies wave state starts prices near kept handed priced =
-    certifies wave state kept starts prices near handed priced
+engine_certifies wave state starts prices near known kept handed priced =
+    certifies wave state kept starts prices near known handed priced
 
 pub engine_is_best : EngineIsBest
-engine_is_best wave state starts near kept handed prices priced =
-    certified-best (claim wave starts prices) near (engine_certifies wave state starts prices near kept handed priced)
+engine_is_best wave state starts near known kept handed prices priced =
+    certified-best (claim wave starts prices) near (engine_certifies wave state starts prices near known kept handed priced)

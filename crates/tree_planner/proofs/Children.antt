@@ -12,12 +12,12 @@ use Rattle.wave_problem.proofs.Grouping.{sum_below-same, sum_below-zero, sum_bel
 use Rattle.tree_planner.specs.declared.nodes.TreeNode.{TreeNode}
 use Rattle.tree_planner.specs.declared.nodes.TreeNode.TheVariants.{Worker, Rack, Centre, Cluster}
 use Rattle.tree_planner.specs.declared.nodes.End.{End}
-use Rattle.tree_planner.specs.Nodes.{is_under}
+use Rattle.tree_planner.specs.Nodes.{is_under, IsKnown}
 use Rattle.tree_planner.specs.declared.nodes.Place.{Place}
 use Rattle.tree_planner.specs.declared.nodes.Place.TheVariants.{Stands, Waits, Unshipped}
 use Rattle.tree_planner.specs.State.{State, sum_under, slots_of}
 use Rattle.tree_planner.specs.State.{stands_under, standing_under, IsBalancedBut}
-use Rattle.tree_planner.specs.Units.{IsKnown, HasUnit, UnitGoesOn, NoneStands, FollowedDown}
+use Rattle.tree_planner.specs.Units.{HasUnit, UnitGoesOn, NoneStands, FollowedDown}
 use Rattle.tree_planner.proofs.Under.{stands_known, one_of_sum, under_worker}
 use Rattle.wave_problem.specs.Assignment.{pairs_of, load}
 use Rattle.tree_planner.proofs.Certified.{some_start}

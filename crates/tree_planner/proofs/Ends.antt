@@ -12,7 +12,7 @@ use Rattle.tree_planner.proofs.Costs.{holder_held, Meet, cost-le, cost_is, neare
 use Rattle.tree_planner.specs.declared.nodes.TreeNode.{TreeNode}
 use Rattle.tree_planner.specs.declared.nodes.TreeNode.TheVariants.{Worker, Rack, Centre, Cluster}
 use Rattle.tree_planner.specs.declared.nodes.End.{End}
-use Rattle.tree_planner.specs.Nodes.{parent, is_under, node_above, HasBarUnder, IsEnd, end_cost}
+use Rattle.tree_planner.specs.Nodes.{parent, is_under, node_above, HasBarUnder, IsEnd, end_cost, IsKnown, IsNode}
 
 -- what is under a node is under those above it
 pub under_under : (tree : Tree) (w : ℕ) (b c : TreeNode) → is_under tree (Worker w) b ≡ true
@@ -154,11 +154,19 @@ same_above tree (suc zero) h w l m = ap Rack (sym m)
 same_above tree (suc (suc zero)) h w l m = ap Centre (sym m)
 same_above tree (suc (suc (suc level))) h w l m = refl
 
+-- the nodes above a worker are the tree's
+pub node_known : (wave : Wave) (w level : ℕ) → IsKnown wave → w < length wave.workers
+    → IsNode wave.tree (node_above wave.tree level w)
+node_known wave w zero known l = (let lines = known.lines in omega arith)
+node_known wave w (suc zero) known l = known.racks w l
+node_known wave w (suc (suc zero)) known l = known.centres (slice_index wave.tree.rack_of w) (known.racks w l)
+node_known wave w (suc (suc (suc level))) known l = tt
+
 -- each admissible start has an end above its worker that costs no more
-pub end_complete : (wave : Wave) (s w : ℕ) → IsWithinReach wave.tree → IsAdmissible wave s w
+pub end_complete : (wave : Wave) (s w : ℕ) → IsWithinReach wave.tree → IsKnown wave → IsAdmissible wave s w
     → (e : End) × IsEnd wave s e × (is_under wave.tree (Worker w) e.node ≡ true)
     × (end_cost wave s e ≤ unwrap_or (cost wave s w) 0)
-end_complete wave s w near a =
+end_complete wave s w near known a =
     let best = nearest wave s w near a.held in
     let holder : ℕ = best.holder in
     let level : ℕ = best.level in
@@ -171,6 +179,7 @@ end_complete wave s w near a =
       e,
       record {
         pending = a.pending;
+        known = node_known wave w low.at known (live_known wave w a.live);
         level = best.within;
         holder = holder;
         held = best.among;

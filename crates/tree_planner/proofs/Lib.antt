@@ -1,6 +1,9 @@
 -- the ends of a split, and sums over the workers under a node
 pub mod Costs
 pub mod Ends
+pub mod Filled
+pub mod Listed
+pub mod Added
 pub mod Under
 -- what is read off a state certifies
 pub mod Certified

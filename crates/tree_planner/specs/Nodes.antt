@@ -1,5 +1,5 @@
 -- The nodes of the tree, and on which of them a split may stand.
-use Rattle.std.specs.Prelude.{ℕ, zero, suc, ◌≡◌, ◌*◌, ◌<◌, ◌≤◌, ◌==◌, Bool, true, false, length, slice_index, Contains}
+use Rattle.std.specs.Prelude.{ℕ, zero, suc, ◌≡◌, ◌*◌, ◌<◌, ◌≤◌, ◌==◌, Bool, true, false, length, slice_index, Contains, All, List}
 use Rattle.std.specs.Prelude.{◌⊎◌}
 use Rattle.node_ids.specs.Sets.{HasPair}
 use Rattle.rack_tree.specs.Tree.{Tree, centre_at, reach}
@@ -33,6 +33,25 @@ node_above tree (suc zero) w = Rack (slice_index tree.rack_of w)
 node_above tree (suc (suc zero)) w = Centre (centre_at tree w)
 node_above tree (suc (suc (suc level))) w = Cluster
 
+-- the tree has the node
+abbrev pub IsNode : Tree → TreeNode → Type 0
+IsNode tree (Worker w) = w < length tree.rack_of
+IsNode tree (Rack r) = r < length tree.centre_of
+IsNode tree (Centre c) = c < tree.centres
+IsNode tree Cluster = Unit {0}
+
+-- these are the nodes of the tree
+pub record AreNodes (tree : Tree) (nodes : List TreeNode) : Type 0 where
+  pub known : All (IsNode tree) nodes
+  pub each : (v : TreeNode) → IsNode tree v → Contains nodes v
+
+-- each worker has a line and stands in one of the racks, and each rack in one of the centres
+pub record IsKnown (wave : Wave) : Type 0 where
+  pub lines : length wave.workers ≡ length wave.tree.rack_of
+  pub racks : (w : ℕ) → w < length wave.workers
+      → slice_index wave.tree.rack_of w < length wave.tree.centre_of
+  pub centres : (r : ℕ) → r < length wave.tree.centre_of → slice_index wave.tree.centre_of r < wave.tree.centres
+
 -- a worker under the node is barred for s
 abbrev pub HasBarUnder : Wave → ℕ → TreeNode → Type 0
 HasBarUnder wave s v = (w : ℕ) × (w < length wave.workers) × (is_under wave.tree (Worker w) v ≡ true)
@@ -42,6 +61,7 @@ HasBarUnder wave s v = (w : ℕ) × (w < length wave.workers) × (is_under wave.
 -- tree reaches, or, where that has barred workers under it, one of the largest nodes under it without any.
 pub record IsEnd (wave : Wave) (s : ℕ) (e : End) : Type 0 where
   pub pending : (split_at wave s).pending ≡ true
+  pub known : IsNode wave.tree e.node
   pub level : 2 * e.level ≤ reach wave.tree
   pub holder : ℕ
   pub held : Contains (live_holders wave s) holder

@@ -9,7 +9,7 @@ use Rattle.tree_planner.specs.declared.nodes.TreeNode.{TreeNode}
 use Rattle.tree_planner.specs.declared.nodes.TreeNode.TheVariants.{Worker}
 use Rattle.tree_planner.specs.declared.nodes.End.{End}
 use Rattle.tree_planner.specs.declared.nodes.Place.TheVariants.{Stands, Waits}
-use Rattle.tree_planner.specs.Nodes.{is_under, node_above}
+use Rattle.tree_planner.specs.Nodes.{is_under, node_above, IsKnown}
 use Rattle.tree_planner.specs.State.{State, place_of, standing_under, IsKept}
 
 -- a unit can have come down from a node to a worker: units go to each node on the way
@@ -43,11 +43,11 @@ pub record ArePrices (wave : Wave) (state : State) (starts : List (Option ℕ)) 
 -- the prices certify the plan
 abbrev pub EngineCertifies : Type 0
 EngineCertifies = (wave : Wave) (state : State) (starts : List (Option ℕ)) (prices : PriceList)
-    → IsWithinReach wave.tree → IsKept wave state → IsHandedDown wave state starts
+    → IsWithinReach wave.tree → IsKnown wave → IsKept wave state → IsHandedDown wave state starts
     → ArePrices wave state starts prices → Certifies (claim wave starts prices)
 
 -- so that the plan is best
 abbrev pub EngineIsBest : Type 0
 EngineIsBest = (wave : Wave) (state : State) (starts : List (Option ℕ)) → IsWithinReach wave.tree
-    → IsKept wave state → IsHandedDown wave state starts
+    → IsKnown wave → IsKept wave state → IsHandedDown wave state starts
     → (prices : PriceList) → ArePrices wave state starts prices → IsBest wave (pairs_of starts)

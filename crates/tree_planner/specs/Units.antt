@@ -5,16 +5,10 @@ use Rattle.tree_planner.specs.declared.nodes.TreeNode.{TreeNode}
 use Rattle.tree_planner.specs.declared.nodes.TreeNode.TheVariants.{Worker}
 use Rattle.tree_planner.specs.declared.nodes.End.{End}
 use Rattle.tree_planner.specs.declared.nodes.Place.TheVariants.{Stands, Waits}
-use Rattle.tree_planner.specs.Nodes.{parent}
+use Rattle.tree_planner.specs.Nodes.{parent, IsKnown}
 use Rattle.tree_planner.specs.State.{State, place_of, IsBalancedBut}
 use Rattle.tree_planner.specs.Settled.{HasComeDown, IsHandedDown}
 use Rattle.wave_problem.specs.Assignment.{start_of, pairs_of, load}
-
--- each worker stands in one of the racks, and each rack in one of the centres
-pub record IsKnown (wave : Wave) : Type 0 where
-  pub racks : (w : ℕ) → w < length wave.workers
-      → slice_index wave.tree.rack_of w < length wave.tree.centre_of
-  pub centres : (r : ℕ) → r < length wave.tree.centre_of → slice_index wave.tree.centre_of r < wave.tree.centres
 
 -- units come to the node, or a split stands there
 abbrev pub HasUnit : State → TreeNode → Type 0

@@ -9,6 +9,8 @@
 mod laws;
 mod node_table;
 mod nodes;
+mod tables;
+mod tree_nodes;
 
 pub use laws::{engine_certifies, lowers, moves, raises, slots, unit_goes_on};
 pub use node_table::NodeTable;

@@ -1,56 +1,70 @@
-//! A number for each node of the tree.
-ghost use Rattle.std.specs.Prelude.{◌≡◌, ◌≢◌, ◌+◌, ◌<◌, ◌^◌, length};
-ghost use Rattle.tree_planner.specs.Table.{Table, at_node, HasNode};
+//! A value for each node of the tree.
+ghost use Rattle.std.specs.Prelude.{◌≡◌, ◌≢◌, ◌+◌, ◌<◌, ◌^◌, length, IfOk, replicate};
+ghost use Rattle.tree_planner.specs.Table.{at_or, HasNode, IsOver, IsSized};
 ghost use Rattle.tree_planner.specs.declared.nodes.TreeNode.{TreeNode};
 
 use crate::nodes::TreeNode;
-use std::marker::Model;
+use rack_tree::RackTree;
+use std::alloc::{AllocError, Global};
 
-/// A number for each node of the tree.
+/// A value for each node of the tree.
 #[derive(Drop)]
-pub struct NodeTable {
-    workers: Vec<u64>,
-    racks: Vec<u64>,
-    centres: Vec<u64>,
-    cluster: u64,
+pub struct NodeTable<T> {
+    workers: Vec<T>,
+    racks: Vec<T>,
+    centres: Vec<T>,
+    cluster: T,
 }
 
-impl Model for NodeTable {
-    ghost Value = { Table };
-
-    ghost view = { λ t. record {
-      workers = t.workers.items;
-      racks = t.racks.items;
-      centres = t.centres.items;
-      cluster = t.cluster;
-    } };
+fn filled<T: Copy>(alloc: Global, count: usize, value: T) -> Result<Vec<T>, AllocError>
+    ensures { IfOk result (λ values. values.items ≡ replicate count value) }
+{
+    let mut values = Vec::with_capacity(alloc, count)?;
+    for _k in 0..count {
+        values.push(value)?;
+    }
+    Ok(values)
 }
 
-impl NodeTable {
-    /// The number of a node.
-    pub fn get(&self, node: TreeNode) -> u64
+impl<T: Copy> NodeTable<T> {
+    /// The same value at each node.
+    pub fn new(alloc: Global, tree: &RackTree, value: T) -> Result<Self, AllocError>
+        ensures over { IfOk result (λ table. IsOver tree.now table) }
+        ensures all { IfOk result (λ table. (v : TreeNode) → at_or table value v ≡ value) }
+    {
+        Ok(NodeTable {
+            workers: filled(alloc, tree.workers(), value)?,
+            racks: filled(alloc, tree.racks(), value)?,
+            centres: filled(alloc, tree.centres(), value)?,
+            cluster: value,
+        })
+    }
+
+    /// The value at a node.
+    pub fn get(&self, node: TreeNode) -> T
         requires { HasNode self.now node }
-        ensures { result ≡ at_node self.now node }
+        ensures { (d : T) → result ≡ at_or self.now d node }
     {
         match node {
-            TreeNode::Worker(worker) => self.workers[worker.index()],
-            TreeNode::Rack(rack) => self.racks[rack.index()],
-            TreeNode::Centre(centre) => self.centres[centre.index()],
+            TreeNode::Worker(worker) => self.workers[worker as usize],
+            TreeNode::Rack(rack) => self.racks[rack as usize],
+            TreeNode::Centre(centre) => self.centres[centre as usize],
             TreeNode::Cluster => self.cluster,
         }
     }
 
-    /// Gives the node another number.
-    pub fn set(&mut self, node: TreeNode, number: u64)
+    /// Gives the node another value.
+    pub fn set(&mut self, node: TreeNode, value: T)
         requires { HasNode self.old node }
-        ensures here { at_node self.new node ≡ number }
-        ensures others { (v : TreeNode) → v ≢ node → at_node self.new v ≡ at_node self.old v }
+        ensures here { (d : T) → at_or self.new d node ≡ value }
+        ensures others { (d : T) (v : TreeNode) → v ≢ node → at_or self.new d v ≡ at_or self.old d v }
+        ensures size { IsSized self.old self.new }
     {
         match node {
-            TreeNode::Worker(worker) => self.workers[worker.index()] = number,
-            TreeNode::Rack(rack) => self.racks[rack.index()] = number,
-            TreeNode::Centre(centre) => self.centres[centre.index()] = number,
-            TreeNode::Cluster => self.cluster = number,
+            TreeNode::Worker(worker) => self.workers[worker as usize] = value,
+            TreeNode::Rack(rack) => self.racks[rack as usize] = value,
+            TreeNode::Centre(centre) => self.centres[centre as usize] = value,
+            TreeNode::Cluster => self.cluster = value,
         }
     }
 }

@@ -1,15 +1,14 @@
 //! The nodes of the tree, and where a split is.
-use node_ids::{CentreNo, RackNo, WorkerNo};
 
 /// A node of the tree.
 #[derive(Clone, Copy, Debug, PartialEq, Eq)]
 pub enum TreeNode {
-    /// A worker.
-    Worker(WorkerNo),
-    /// Above the workers of a rack.
-    Rack(RackNo),
-    /// Above the racks of a data centre.
-    Centre(CentreNo),
+    /// A worker, by its number.
+    Worker(u16),
+    /// Above the workers of a rack, by its number.
+    Rack(u16),
+    /// Above the racks of a data centre, by its number.
+    Centre(u8),
     /// Above all data centres.
     Cluster,
 }

@@ -1,0 +1,16 @@
+use Rattle.std.proofs.Common.{◌≡◌, ◌*◌, ◌≤◌, cond}
+use Rattle.wave_problem.specs.Sums.{sum_below}
+use Rattle.tree_planner.specs.declared.nodes.TreeNode.{TreeNode}
+use Rattle.tree_planner.specs.declared.nodes.TreeNode.TheVariants.{Worker}
+use Rattle.tree_planner.specs.Nodes.{is_under}
+use Rattle.tree_planner.specs.State.{slots_of}
+use Rattle.tree_planner.specs.Table.{at_node, IsOver}
+use Rattle.tree_planner.proofs.tables.slots_under.Given as goal
+
+abbrev pub invariant-loop-w : goal.invariant-loop-w
+invariant-loop-w l = record {
+  over : IsOver l.problem.tree l.slots;
+  most : (v : TreeNode) → at_node l.slots v ≤ 16 * l.w;
+  sums : (v : TreeNode) → at_node l.slots v
+      ≡ sum_below l.w (λ x. cond (is_under l.problem.tree (Worker x) v) (slots_of l.problem x) 0);
+}

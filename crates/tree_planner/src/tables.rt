@@ -1,0 +1,111 @@
+//! The state, in tables.
+ghost use Rattle.std.specs.Prelude.{◌≡◌, ◌≢◌, ℕ, ◌+◌, ◌<◌, ◌≤◌, ◌^◌, cond, length, slice_index, IfOk};
+ghost use Rattle.wave_problem.specs.declared.TheConstants.{MAX_SLOTS};
+ghost use Rattle.tree_planner.specs.declared.nodes.TreeNode.{TreeNode};
+ghost use Rattle.tree_planner.specs.declared.nodes.TreeNode.TheVariants.{Worker};
+ghost use Rattle.tree_planner.specs.Nodes.{is_under};
+ghost use Rattle.tree_planner.specs.Slots.{IsFresh};
+ghost use Rattle.tree_planner.specs.State.{slots_of, sum_under};
+ghost use Rattle.tree_planner.specs.Table.{at_node, HasNode, IsOver, IsSized};
+ghost use Rattle.tree_planner.specs.View.{state_of, AreTables};
+
+use crate::node_table::NodeTable;
+use crate::nodes::{Place, TreeNode};
+use node_ids::WorkerNo;
+use std::alloc::{AllocError, Global};
+use wave_problem::Problem;
+
+/// Where each split is, how many units come to each node from its parent, how deep each node lies, and how
+/// many slots of each worker are free.
+#[derive(Drop)]
+pub struct Tables {
+    pub places: Vec<Place>,
+    pub flow: NodeTable<u64>,
+    pub depth: NodeTable<u64>,
+    pub free: Vec<u64>,
+}
+
+/// Tables in which no split is shipped, and all slots are free.
+pub fn fresh_tables(alloc: Global, problem: &Problem) -> Result<Tables, AllocError>
+    ensures tables { IfOk result (λ t. AreTables problem.now t) }
+    ensures fresh { IfOk result (λ t. IsFresh problem.now (state_of t)) }
+{
+    let flow = NodeTable::new(alloc, problem.tree(), 0)?;
+    let depth = NodeTable::new(alloc, problem.tree(), 0)?;
+    let free = free_slots(alloc, problem)?;
+    Ok(Tables {
+        places: vec![in alloc; Place::Unshipped; problem.splits()]?,
+        flow,
+        depth,
+        free,
+    })
+}
+
+// The slots that each worker can give.
+fn free_slots(alloc: Global, problem: &Problem) -> Result<Vec<u64>, AllocError>
+    ensures size { IfOk result (λ free. length free.items ≡ length problem.now.workers) }
+    ensures slots { IfOk result (λ free. (w : ℕ) → slice_index free.items w ≡ slots_of problem.now w) }
+{
+    let mut free = Vec::new(alloc);
+    for w in 0..problem.workers() {
+        free.push(slots_of(problem, WorkerNo::new(w as u16)))?;
+    }
+    Ok(free)
+}
+
+/// The slots that a worker can give.
+pub fn slots_of(problem: &Problem, worker: WorkerNo) -> u64
+    requires { worker < length problem.now.workers }
+    ensures slots { result ≡ slots_of problem.now worker }
+    ensures most { result ≤ MAX_SLOTS }
+{
+    if problem.is_live(worker) {
+        u64::from(problem.free(worker))
+    } else {
+        0
+    }
+}
+
+/// How many slots there are under each node.
+pub fn slots_under(alloc: Global, problem: &Problem) -> Result<NodeTable<u64>, AllocError>
+    ensures over { IfOk result (λ slots. IsOver problem.now.tree slots) }
+    ensures sums { IfOk result (λ slots. (v : TreeNode)
+        → at_node slots v ≡ sum_under problem.now v (slots_of problem.now)) }
+{
+    let mut slots = NodeTable::new(alloc, problem.tree(), 0)?;
+    for w in 0..problem.workers() {
+        let worker = WorkerNo::new(w as u16);
+        let more = slots_of(problem, worker);
+        add_above(problem, &mut slots, worker, more);
+    }
+    Ok(slots)
+}
+
+// Adds to the numbers of a worker and of the nodes above it.
+fn add_above(problem: &Problem, numbers: &mut NodeTable<u64>, worker: WorkerNo, more: u64)
+    requires worker { worker < length problem.now.workers }
+    requires over { IsOver problem.now.tree numbers.old }
+    requires small { (v : TreeNode) → at_node numbers.old v + more < 2 ^ 64 }
+    ensures size { IsSized numbers.old numbers.new }
+    ensures added { (v : TreeNode) → at_node numbers.new v
+        ≡ at_node numbers.old v + cond (is_under problem.now.tree (Worker worker) v) more 0 }
+{
+    let rack = problem.tree().rack_of(worker);
+    let centre = problem.tree().centre_of(rack);
+    add(numbers, TreeNode::Worker(worker.index() as u16), more);
+    add(numbers, TreeNode::Rack(rack.index() as u16), more);
+    add(numbers, TreeNode::Centre(centre.index() as u8), more);
+    add(numbers, TreeNode::Cluster, more);
+}
+
+// Adds to the number of a node.
+fn add(numbers: &mut NodeTable<u64>, node: TreeNode, more: u64)
+    requires node { HasNode numbers.old node }
+    requires small { at_node numbers.old node + more < 2 ^ 64 }
+    ensures here { at_node numbers.new node ≡ at_node numbers.old node + more }
+    ensures others { (v : TreeNode) → v ≢ node → at_node numbers.new v ≡ at_node numbers.old v }
+    ensures size { IsSized numbers.old numbers.new }
+{
+    let sum = numbers.get(node) + more;
+    numbers.set(node, sum);
+}
