@@ -211,12 +211,12 @@ def greatest(prices, most=4):
 
 def notes_of(wave, pending):
     """What waits, and the greatest prices of splits and of slots."""
-    waiting = [s for s in pending if wave.start[s] is None]
+    waiting, others = [s for s in pending if wave.start[s] is None], {*wave.splits} - {*pending}
     notes = []
     for words, some in (
         ("wait for a slot", [s for s in waiting if wave.is_open[s]]),
         ("without a live holder", [s for s in waiting if not wave.is_open[s]]),
-        ("not pending", [s for s in wave.splits if s not in set(pending)]),
+        ("not pending", sorted(others)),
     ):
         if some:
             notes.append(f"{words}, {len(some):,}: {listed([wave.split_names[s] for s in some])}")
