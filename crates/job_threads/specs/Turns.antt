@@ -1,10 +1,18 @@
 -- The turns of the calling thread.
 use Rattle.std.specs.Prelude.{ℕ, ◌+◌, ◌-◌, ◌%◌, ◌^◌, ◌==◌, ◌&&◌, ◌||◌, nat_le, nat_lt, min, not, Bool}
-use Rattle.std.specs.Prelude.{true, false}
+use Rattle.std.specs.Prelude.{◌≡◌, true, false, List, Option, Some, None}
+use Rattle.std.specs.List.{list_all}
 use Rattle.std.specs.Prelude.{if◌then◌else◌}
 use Rattle.master_state.specs.declared.answers.Glance.{Glance}
 use Rattle.job_threads.specs.declared.gate.Turn.{Turn}
 use Rattle.job_threads.specs.declared.gate.Turn.TheVariants.{On, Sweep, Backup}
+use Rattle.job_threads.specs.declared.holdings.Holding.{Holding}
+use Rattle.job_threads.specs.Watching.{HaveBeaten, WatchValue}
+
+-- a gate's sweep counts where the last one was at least the gate's gap ago, or there was none
+abbrev pub is_due : Option ℕ → ℕ → Bool
+is_due (Some since) gap = nat_le gap since
+is_due None gap = true
 
 -- in how many turns, one after the other, nothing started; it stays at the greatest number that a u64 has
 abbrev pub idle_after : ℕ → Bool → ℕ
@@ -14,6 +22,17 @@ idle_after idle false = min (idle + 1) (2 ^ 64 - 1)
 -- nothing runs, and nothing can start
 abbrev pub is_still : Glance → Bool
 is_still glance = glance.running == 0 && (not glance.ready && not glance.reducible)
+
+-- no worker is dead, and none was stopped
+abbrev pub are_well : List Holding → Bool
+are_well workers = list_all (λ h. not h.is_dead && not h.is_stopped) workers
+
+-- Nothing runs, nothing can start, all workers are well, and each has beaten since the last sweep. Then another
+-- sweep finds nobody silent, and changes nothing of it: it is made at once.
+pub record IsPastHelp (glance : Glance) (workers : List Holding) (watch : WatchValue) : Type 0 where
+  pub still : is_still glance ≡ true
+  pub well : are_well workers ≡ true
+  pub beaten : HaveBeaten watch
 
 -- how many sweeps, one after the other, saw no dead worker rise while it was so: after a glance, and after a
 -- sweep

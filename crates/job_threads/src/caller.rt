@@ -1,12 +1,14 @@
-ghost use Rattle.std.specs.Prelude.{◌≡◌, ◌<◌, ◌≤◌, OnOk};
+ghost use Rattle.std.specs.Prelude.{◌≡◌, ◌↔◌, ◌<◌, ◌≤◌, IsTrue, OnOk};
+ghost use Rattle.std.specs.Duration.{as_nanos};
+ghost use Rattle.std.specs.Option.{option_map};
 ghost use Rattle.job_threads.specs.Holdings.{changed_at, stopped};
 ghost use Rattle.job_threads.specs.Turns.{has_ended, idle_after, is_still, nap_micros, quiet_after};
-ghost use Rattle.job_threads.specs.Turns.{quiet_swept};
+ghost use Rattle.job_threads.specs.Turns.{are_well, IsPastHelp, is_due, quiet_swept};
 
 use crate::beats::Watch;
 use crate::common::Common;
 use crate::gate::{Gate, NAPS_FROM, Turn};
-use crate::holdings::Holdings;
+use crate::holdings::{Holding, Holdings};
 use crate::lanes::LaneEnd;
 use crate::observer::{Observer, Progress};
 use crate::outcome::RunError;
@@ -18,7 +20,7 @@ use std::rt::Clock;
 use std::sync::ledger::Ledger;
 use std::sync::{Arc, Wait};
 use std::thread;
-use std::time::Duration;
+use std::time::{Duration, Instant};
 use word_map::SplitText;
 
 // What the calling thread has.
@@ -105,11 +107,10 @@ impl<L: Ledger> Caller<L> {
         self.count_idle(started);
         self.rest(rt);
         match common.gate.turn(self.idle) {
-            Turn::On => Ok(()),
+            Turn::On => self.sweep_on(rt, alloc, common, glance, false),
             Turn::Sweep => {
-                let rose = self.sweep(rt, alloc, common)?;
-                self.count_quiet(is_still(glance), rose);
-                Ok(())
+                let due = is_due(self.since(rt), common.gate.least_gap());
+                self.sweep_on(rt, alloc, common, glance, due)
             }
             Turn::Backup => {
                 if self.back_up(rt, common)? {
@@ -123,6 +124,37 @@ impl<L: Ledger> Caller<L> {
             }
             Turn::Over => Err(RunError::GateLimit),
         }
+    }
+
+    // Sweeps where one is due, and at once where the job is past help, so that it is told stuck soon.
+    fn sweep_on<G: Gate, R: Wait + Clock>(
+        &mut self,
+        rt: &R,
+        alloc: Global,
+        common: &Common<'_, L, G>,
+        glance: &Glance,
+        due: bool,
+    ) -> Result<(), RunError> {
+        if !due && !self.is_past_help(glance) {
+            return Ok(());
+        }
+        self.watch.told_at = Instant::now(rt).ok();
+        let rose = self.sweep(rt, alloc, common)?;
+        self.count_quiet(is_still(glance), rose);
+        Ok(())
+    }
+
+    // How long ago the last sweep was; nothing where there was none, or there is no clock.
+    fn since<R: Clock>(&self, rt: &R) -> Option<Duration> {
+        self.watch.told_at?.elapsed(rt).ok()
+    }
+
+    // Whether nothing runs and nothing can start, all workers are well, and each has beaten since the last
+    // sweep. So another sweep finds none of them silent, and no sweep can change that.
+    fn is_past_help(&mut self, glance: &Glance) -> bool
+        ensures { IsTrue result ↔ IsPastHelp glance.now self.old.holdings.workers.items self.new.watch }
+    {
+        is_still(glance) && are_well(&self.holdings.workers) && self.watch.have_beaten()
     }
 
     fn count_idle(&mut self, started: bool)
@@ -184,4 +216,26 @@ fn nap_micros(idle: u64) -> u64
     } else {
         300
     }
+}
+
+// Whether a gate's sweep comes late enough after the last one.
+fn is_due(since: Option<Duration>, gap: Duration) -> bool
+    ensures { result ≡ is_due (option_map as_nanos since) (as_nanos gap) }
+{
+    match since {
+        Some(passed) => gap.as_nanos() <= passed.as_nanos(),
+        None => true,
+    }
+}
+
+// Whether no worker is dead, and none was stopped.
+fn are_well(workers: &[Holding]) -> bool
+    ensures { result ≡ are_well workers.now }
+{
+    for worker in workers {
+        if worker.is_dead || worker.is_stopped {
+            return false;
+        }
+    }
+    true
 }

@@ -1,9 +1,11 @@
-ghost use Rattle.std.specs.Prelude.{◌≡◌};
+ghost use Rattle.std.specs.Prelude.{◌≡◌, ◌*◌, ◌^◌};
+ghost use Rattle.std.specs.Duration.{as_nanos};
 ghost use Rattle.job_threads.specs.Turns.{plain_turn};
 
 use lane_queue::Order;
 use node_ids::WorkerNo;
 use std::thread;
+use std::time::Duration;
 
 // From this idle turn on the calling thread naps now and then.
 pub(crate) const NAPS_FROM: u64 = 64;
@@ -40,28 +42,47 @@ pub trait Gate: Sync {
 
     /// Once a turn of the calling thread. In so many turns, one after the other, nothing started.
     fn turn(&self, idle: u64) -> Turn;
+
+    /// A Sweep that is answered within so long of the last sweep is passed over. None is, where a gate does
+    /// not say.
+    fn least_gap(&self) -> Duration {
+        Duration::ZERO
+    }
 }
 
 /// The gate of a plain run. It yields once a turn until the calling thread naps between them, which is from
 /// the 64th idle turn on, and answers Sweep at the positive multiples of 65,536 idle turns, Backup at the odd
-/// multiples of 32,768, else On.
+/// multiples of 32,768, else On. Two seconds lie between its sweeps, so that a worker must be silent for some
+/// seconds to be dead, however fast turns are.
 #[derive(Clone, Copy, Debug)]
 pub struct PlainGate;
 
 impl Gate for PlainGate {
-    fn before_map(&self, _order: &Order) -> Go {
+    fn before_map(&self, _order: &Order) -> Go
+        ensures { result ≡ Go.On }
+    {
         Go::On
     }
 
-    fn after_map(&self, _order: &Order) -> Go {
+    fn after_map(&self, _order: &Order) -> Go
+        ensures { result ≡ Go.On }
+    {
         Go::On
     }
 
-    fn turn(&self, idle: u64) -> Turn {
+    fn turn(&self, idle: u64) -> Turn
+        ensures { result ≡ plain_turn idle }
+    {
         if idle < NAPS_FROM {
             thread::yield_now();
         }
         plain_turn(idle)
+    }
+
+    fn least_gap(&self) -> Duration
+        ensures { as_nanos result ≡ 2 * 10 ^ 9 }
+    {
+        Duration::from_secs(2)
     }
 }
 

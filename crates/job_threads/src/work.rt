@@ -5,7 +5,7 @@ ghost use Rattle.master_state.specs.declared.events.Event.{Event};
 ghost use Rattle.shuffle_reduce.specs.Gather.{texts_of_runs};
 ghost use Rattle.job_threads.specs.Steps.{Performs, Tells};
 
-use crate::beats::Pulse;
+use crate::beats::{Beating, Pulse};
 use crate::common::{Common, judge, judge_go};
 use crate::gate::Gate;
 use crate::lanes::LaneEnd;
@@ -14,14 +14,14 @@ use lane_queue::Order;
 use master_state::{Answer, Why};
 use node_ids::{AttemptNo, PartNo, WorkerNo};
 use shared_master::Hand;
-use shuffle_reduce::{PartResult, are_of_part, merge};
+use shuffle_reduce::{PartResult, are_of_part, merge_paced};
 use std::alloc::Global;
 use std::rt::Clock;
 use std::sync::ledger::Ledger;
 use std::sync::{Arc, Wait};
 use std::thread;
 use std::time::Duration;
-use word_map::{MapResult, Run, SplitText, map_split};
+use word_map::{MapResult, Run, SplitText, map_split_paced};
 
 // After so many takes without an order a worker sleeps at each further one.
 const EAGER_TAKES: u32 = 16;
@@ -45,7 +45,8 @@ pub(crate) struct Back<L: Ledger> {
     pub(crate) end: Result<(), RunError>,
 }
 
-// Beats, takes orders and does them, until the run is over or the worker is stopped.
+// Beats, takes orders and does them, until the run is over or the worker is stopped. It beats also while it
+// maps and merges.
 pub(crate) fn work<L: Ledger, G: Gate, R: Wait + Clock>(
     rt: &R,
     alloc: Global,
@@ -56,20 +57,20 @@ pub(crate) fn work<L: Ledger, G: Gate, R: Wait + Clock>(
         number,
         mut hand,
         mut orders,
-        mut pulse,
+        pulse,
     } = worker;
+    let beating = Beating::new(pulse, &common.flags, number);
     let mut end = Ok(());
     let mut empty = 0;
     for _ in rt.forever() {
-        if !common.flags.go_on(number) {
+        if !beating.beat() {
             break;
         }
-        pulse.beat();
         match orders.take(rt) {
             Some(order) => {
                 empty = 0;
                 if !orders.is_lost(&order) {
-                    end = perform(rt, alloc, common, number, &mut hand, &order);
+                    end = perform(rt, alloc, common, &beating, &mut hand, &order);
                 }
             }
             None => empty = wait(rt, empty),
@@ -97,7 +98,7 @@ fn perform<L: Ledger, G: Gate, R: Wait>(
     rt: &R,
     alloc: Global,
     common: &Common<'_, L, G>,
-    number: WorkerNo,
+    beating: &Beating<'_>,
     hand: &mut Hand<L>,
     order: &Order,
 ) -> Result<(), RunError>
@@ -106,8 +107,8 @@ fn perform<L: Ledger, G: Gate, R: Wait>(
     match order {
         Order::Map(attempt, text) => {
             judge_go(common.gate.before_map(order))?;
-            let made = mapped(alloc, common, text);
-            if !common.flags.go_on(number) {
+            let made = mapped(alloc, common, beating, text);
+            if !beating.beat() {
                 return Ok(());
             }
             let answer = tell_map(rt, common, hand, *attempt, made);
@@ -115,8 +116,8 @@ fn perform<L: Ledger, G: Gate, R: Wait>(
             judge_go(common.gate.after_map(order))
         }
         Order::Reduce(attempt, part, runs) => {
-            let made = reduced(alloc, common, *part, runs);
-            if !common.flags.go_on(number) {
+            let made = reduced(alloc, common, beating, *part, runs);
+            if !beating.beat() {
                 return Ok(());
             }
             let answer = tell_reduce(rt, common, hand, *attempt, made);
@@ -129,18 +130,20 @@ fn perform<L: Ledger, G: Gate, R: Wait>(
 fn mapped<L: Ledger, G: Gate>(
     alloc: Global,
     common: &Common<'_, L, G>,
+    beating: &Beating<'_>,
     text: &Arc<SplitText>,
 ) -> Option<MapResult>
     ensures text { IfSome result (λ made. made.text ≡ arc_value text.now) }
     ensures parts { IfSome result (λ made. made.parts ≡ common.now.parts) }
 {
-    map_split(alloc, Arc::try_clone(text).ok()?, common.parts).ok()
+    map_split_paced(alloc, Arc::try_clone(text).ok()?, common.parts, beating).ok()
 }
 
 // The part of the words; none also where the runs are not what a merge asks for.
 fn reduced<L: Ledger, G: Gate>(
     alloc: Global,
     common: &Common<'_, L, G>,
+    beating: &Beating<'_>,
     part: PartNo,
     runs: &[Arc<Run>],
 ) -> Option<PartResult>
@@ -151,7 +154,7 @@ fn reduced<L: Ledger, G: Gate>(
     if part.index() >= common.parts || !are_of_part(runs, part, common.parts) {
         return None;
     }
-    merge(alloc, common.parts, part, runs).ok()
+    merge_paced(alloc, common.parts, part, runs, beating).ok()
 }
 
 // Tells the master what became of a map attempt.

@@ -12,7 +12,7 @@ returns-in_ok-judge-in-Map g c =
     rw c.in-Map.is
     (inr (is_some c.mapped-made.result, c.tell_map-answer.result, c.tell_map-answer.ensures))
 
-pub returns-else-not-go_on-2 : goal.returns-else-not-go_on-2
-returns-else-not-go_on-2 g c =
+pub returns-else-not-beat-2 : goal.returns-else-not-beat-2
+returns-else-not-beat-2 g c =
     rw c.in-Reduce.is
     (inr (is_some c.reduced-made.result, c.tell_reduce-answer.result, c.tell_reduce-answer.ensures))
