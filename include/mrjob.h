@@ -226,6 +226,49 @@ static inline uint32_t mrjob_check(const struct mrjob_wave *wave,
                                   verdict);
 }
 
+/* ---- what a status says, and where ---- */
+
+/* What a status says, in words that stay where they are; of a number that is no status, that it is none. */
+static inline const char *mrjob_status_text(uint32_t status)
+{
+    switch (status) {
+    case MRJOB_OK: return "planned, or certified";
+    case MRJOB_REFUSED: return "a condition fails";
+    case MRJOB_BAD_RACKS: return "too many data centres or racks, or a rack in no data centre";
+    case MRJOB_BAD_WORKERS: return "too many workers, or one in no rack or with too many slots";
+    case MRJOB_BAD_SPLITS: return "too many splits, or one with too many bytes or holders";
+    case MRJOB_BAD_BARRED: return "a barred pair of no split or of no worker";
+    case MRJOB_BAD_HOLDERS: return "a holder that is no worker, or that a split has twice";
+    case MRJOB_BAD_LENGTH: return "not one start and price for each split and one price for each worker";
+    case MRJOB_BAD_STARTS: return "a start on no worker";
+    case MRJOB_BAD_NETWORK: return "no such network";
+    case MRJOB_NO_MEMORY: return "no memory";
+    default: return "no status";
+    }
+}
+
+/* In place of a place in an array: none. */
+#define MRJOB_NOWHERE SIZE_MAX
+
+/* The library's function for the next one, which other languages call: it writes the place and answers 1, or
+ * answers 0 where there is none. It wants addresses that are not null. */
+uint32_t mrjob_unfit(const struct mrjob_wave *wave, const uint16_t *starts, size_t starts_len,
+                     uint32_t status, size_t *place);
+
+/* Where the first row stands for which a call answered this status: of MRJOB_BAD_RACKS a rack, of
+ * MRJOB_BAD_WORKERS a worker, of MRJOB_BAD_SPLITS and MRJOB_BAD_HOLDERS a split, of MRJOB_BAD_BARRED a
+ * pair, of MRJOB_BAD_STARTS a start. MRJOB_NOWHERE where each row alone is fit, so that there are too many,
+ * and of every other status. */
+static inline size_t mrjob_unfit_place(const struct mrjob_wave *wave,
+                                       const uint16_t *starts, size_t starts_len, uint32_t status)
+{
+    const struct mrjob_nothing nothing = MRJOB_NOTHING;
+    const struct mrjob_wave filled = mrjob_without_null(wave, &nothing);
+    size_t place = MRJOB_NOWHERE;
+    mrjob_unfit(&filled, starts_len ? starts : nothing.numbers, starts_len, status, &place);
+    return place;
+}
+
 /* ---- how the structs lie in memory ---- */
 
 #ifdef __cplusplus

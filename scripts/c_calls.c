@@ -212,6 +212,49 @@ static void test_statuses(void)
     given.network = UINT32_MAX, count(answers(PLAN_RACKS, MRJOB_BAD_NETWORK), "the greatest number of a network");
 }
 
+/* A check answers this status, and the first row that is not fit stands at this place. */
+static void count_place(uint32_t status, size_t place, const char *name)
+{
+    const size_t found = mrjob_unfit_place(&given.wave, given.starts, given.starts_len, status);
+    count(answers(CHECK, status) && found == place, name);
+}
+
+static void test_places(void)
+{
+    make(), given.wave.centres = 9, count_place(MRJOB_BAD_RACKS, MRJOB_NOWHERE, "9 data centres are nowhere");
+    make(), given.centre_of[1] = 1, count_place(MRJOB_BAD_RACKS, 1, "the place of a rack in no data centre");
+    given.centre_of[0] = 1, count_place(MRJOB_BAD_RACKS, 0, "the first of two racks");
+    make(), given.workers[1].rack = 2, count_place(MRJOB_BAD_WORKERS, 1, "the place of a worker in no rack");
+    given.workers[0].free = 17, count_place(MRJOB_BAD_WORKERS, 0, "the first of two workers");
+    make(), given.splits[1].bytes = MRJOB_MAX_BYTES + 1, count_place(MRJOB_BAD_SPLITS, 1, "the place of a great split");
+    given.splits[0].holder_count = 9, count_place(MRJOB_BAD_SPLITS, 0, "the first of two splits");
+    make(), given.splits[1].first_holder = UINT32_MAX, count_place(MRJOB_BAD_SPLITS, 1, "of a holder past the last");
+    make(), given.barred[0].worker = 2, count_place(MRJOB_BAD_BARRED, 0, "the place of a pair of no worker");
+    make(), given.holders[1] = 2, count_place(MRJOB_BAD_HOLDERS, 1, "the place of a split held by no worker");
+    make(), given.splits[0].holder_count = 2, count_place(MRJOB_BAD_HOLDERS, 0, "the place of a split held twice");
+    make(), given.starts[1] = 2, count_place(MRJOB_BAD_STARTS, 1, "the place of a start on no worker");
+    make(), given.worker_prices_len = 1, count_place(MRJOB_BAD_LENGTH, MRJOB_NOWHERE, "lengths are nowhere");
+    struct mrjob_wave wave;
+    memset(&wave, 0, sizeof wave);
+    for (uint32_t status = 0; status < 12; status++) {
+        count(mrjob_unfit_place(&wave, NULL, 0, status) == MRJOB_NOWHERE, "in a wave of nothing all is fit");
+    }
+}
+
+/* Each status has words of its own, and other numbers have none. */
+static void test_texts(void)
+{
+    for (uint32_t status = MRJOB_OK; status <= MRJOB_NO_MEMORY; status++) {
+        int holds = strcmp(mrjob_status_text(status), "no status") != 0;
+        for (uint32_t other = MRJOB_OK; other < status; other++) {
+            holds &= strcmp(mrjob_status_text(status), mrjob_status_text(other)) != 0;
+        }
+        count(holds, "a status has words of its own");
+    }
+    count(!strcmp(mrjob_status_text(MRJOB_NO_MEMORY + 1), "no status"), "a number that is no status");
+    count(!strcmp(mrjob_status_text(MRJOB_BAD_NETWORK), "no such network"), "the words of a network that is none");
+}
+
 /* Arrays of no elements, by null and by an address that is not aligned, in a wave of nothing and of splits alone. */
 static void test_nothing(void)
 {
@@ -347,6 +390,8 @@ int main(void)
     count(mrjob_version() == MRJOB_VERSION, "the library has the header's version");
     test_answers();
     test_statuses();
+    test_places();
+    test_texts();
     test_nothing();
     for (stays_refused = 0; stays_refused < 2; stays_refused++) {
         for (int which = PLAN_RACKS; which <= CHECK; which++) test_refusals(which);

@@ -8,6 +8,7 @@
 ghost use Rattle.std.specs.Prelude.{◌≡◌};
 
 mod checks;
+mod places;
 mod plans;
 mod status;
 

@@ -19,7 +19,7 @@ pub fn are_starts_fit(starts: &[u16], workers: usize) -> bool
     starts.iter().all(|start| is_start_fit(*start, workers))
 }
 
-fn is_start_fit(start: u16, workers: usize) -> bool
+pub(crate) fn is_start_fit(start: u16, workers: usize) -> bool
     ensures { IsTrue result ↔ IsStartFit workers start }
 {
     start == NO_WORKER || (start as usize) < workers

@@ -103,7 +103,7 @@ fn are_each_fit(rows: &WaveRows<'_>) -> bool
     rows.splits.iter().all(|row| is_split_fit(holders, row))
 }
 
-fn is_split_fit(holders: usize, row: &SplitRow) -> bool
+pub(crate) fn is_split_fit(holders: usize, row: &SplitRow) -> bool
     ensures { IsTrue result ↔ IsSplitFit holders row.now }
 {
     row.bytes <= MAX_BYTES
@@ -121,7 +121,7 @@ fn are_bars_fit(rows: &WaveRows<'_>) -> bool
         .all(|pair| is_pair_known(splits, workers, pair))
 }
 
-fn is_pair_known(splits: usize, workers: usize, pair: &PairRow) -> bool
+pub(crate) fn is_pair_known(splits: usize, workers: usize, pair: &PairRow) -> bool
     ensures { IsTrue result ↔ IsPairKnown splits workers pair.now }
 {
     (pair.split as usize) < splits && (pair.worker as usize) < workers
@@ -140,7 +140,7 @@ fn are_holders_fit(rows: &WaveRows<'_>) -> bool
     true
 }
 
-fn is_held_well(workers: usize, holders: &[u16], row: &SplitRow) -> bool
+pub(crate) fn is_held_well(workers: usize, holders: &[u16], row: &SplitRow) -> bool
     requires { IsSplitFit (length holders.now) row.now }
     ensures { IsTrue result ↔ IsHeldWell workers (split_of holders.now row.now) }
 {

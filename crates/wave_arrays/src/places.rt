@@ -1,0 +1,99 @@
+//! Where the first row stands that is not fit. Nothing here takes memory.
+ghost use Rattle.std.specs.Prelude.{◌<◌, ◌↔◌, IsTrue, length};
+ghost use Rattle.wave_arrays.specs.Claims.{IsStartFit};
+ghost use Rattle.wave_arrays.specs.Places.{HasFitHolders, IsFirstUnfit, IsWorkerFit};
+ghost use Rattle.wave_arrays.specs.Rows.{IsPairKnown, IsSplitFit};
+
+use crate::claims::is_start_fit;
+use crate::fit::{is_held_well, is_pair_known, is_split_fit};
+use crate::rows::{SplitRow, WaveRows, WorkerRow};
+use wave_problem::MAX_SLOTS;
+
+/// The first rack that stands in no centre.
+pub fn unfit_rack(rows: &WaveRows<'_>) -> Option<usize>
+    ensures { IsFirstUnfit (λ centre. centre < rows.now.centres) rows.now.centre_of.now result }
+{
+    let centres = rows.centres;
+    for place in 0..rows.centre_of.len() {
+        if rows.centre_of[place] as usize >= centres {
+            return Some(place);
+        }
+    }
+    None
+}
+
+/// The first worker that stands in no rack or has too many slots.
+pub fn unfit_worker(rows: &WaveRows<'_>) -> Option<usize>
+    ensures { IsFirstUnfit (IsWorkerFit (length rows.now.centre_of.now)) rows.now.workers.now result }
+{
+    let racks = rows.centre_of.len();
+    for place in 0..rows.workers.len() {
+        if !is_worker_fit(racks, &rows.workers[place]) {
+            return Some(place);
+        }
+    }
+    None
+}
+
+fn is_worker_fit(racks: usize, row: &WorkerRow) -> bool
+    ensures { IsTrue result ↔ IsWorkerFit racks row.now }
+{
+    (row.rack as usize) < racks && row.free <= MAX_SLOTS
+}
+
+/// The first split that has too many bytes or holders, or holders past the last.
+pub fn unfit_split(rows: &WaveRows<'_>) -> Option<usize>
+    ensures { IsFirstUnfit (IsSplitFit (length rows.now.holders.now)) rows.now.splits.now result }
+{
+    let holders = rows.holders.len();
+    for place in 0..rows.splits.len() {
+        if !is_split_fit(holders, &rows.splits[place]) {
+            return Some(place);
+        }
+    }
+    None
+}
+
+/// The first barred pair of no split or of no worker.
+pub fn unfit_pair(rows: &WaveRows<'_>) -> Option<usize>
+    ensures { IsFirstUnfit (IsPairKnown (length rows.now.splits.now) (length rows.now.workers.now))
+        rows.now.barred.now result }
+{
+    let (splits, workers) = (rows.splits.len(), rows.workers.len());
+    for place in 0..rows.barred.len() {
+        if !is_pair_known(splits, workers, &rows.barred[place]) {
+            return Some(place);
+        }
+    }
+    None
+}
+
+/// The first split that is not fit, or has a holder that is no worker or stands twice.
+pub fn unfit_holders(rows: &WaveRows<'_>) -> Option<usize>
+    ensures { IsFirstUnfit (HasFitHolders rows.now) rows.now.splits.now result }
+{
+    for place in 0..rows.splits.len() {
+        if !has_fit_holders(rows, &rows.splits[place]) {
+            return Some(place);
+        }
+    }
+    None
+}
+
+fn has_fit_holders(rows: &WaveRows<'_>, row: &SplitRow) -> bool
+    ensures { IsTrue result ↔ HasFitHolders rows.now row.now }
+{
+    is_split_fit(rows.holders.len(), row) && is_held_well(rows.workers.len(), rows.holders, row)
+}
+
+/// The first start on no worker that does not say none.
+pub fn unfit_start(starts: &[u16], workers: usize) -> Option<usize>
+    ensures { IsFirstUnfit (IsStartFit workers) starts.now result }
+{
+    for place in 0..starts.len() {
+        if !is_start_fit(starts[place], workers) {
+            return Some(place);
+        }
+    }
+    None
+}
