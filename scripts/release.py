@@ -74,23 +74,26 @@ def link(objects, program):
 
 
 def program_object(room):
-    """The object that bin/mrjob was linked from: what rt left of it or, where that is of another program, made anew."""
+    """The object that bin/mrjob was linked from: what rt left of it or, where that is of another program, made anew.
+    None where neither gives the bytes of bin/mrjob."""
     crates = read_crates()
     crate = crates["mrjob"]
     left, made, linked = crate.folder / "out/mrjob.o", room / "mrjob.o", room / "linked"
     for path in (left, made):
         if path == made:
             words = [*rattle_words("build", crate, crates), "--toolchain", kit() / "toolchain", "--backend", "llvm"]
-            run(*words, "-o", made, cwd=crate.folder, stdout=subprocess.DEVNULL)
+            subprocess.run([str(it) for it in [*words, "-o", made]], cwd=crate.folder, stdout=subprocess.DEVNULL)
         if path.exists():
             link([path], linked)
             if linked.read_bytes() == PROGRAM.read_bytes():
                 return path
-    sys.exit("bin/mrjob is not what `make` or `rt ci` made of crates/mrjob: `make` proves and builds it anew")
+    return None
 
 
 def static_program(room, of_program):
-    """The program of this object with the C library in it, or None where this machine can link none."""
+    """The program of this object with the C library in it, or None where there is no object, or no such library."""
+    if of_program is None:
+        return None
     program = room / "static"
     words = ["cc", "-static", "-s", "-Wl,--gc-sections", "-Wl,--build-id=none", "-o", program]
     words += [of_program, kit() / "c/libos_c.a", kit() / "c/liblibc_c.a"]
@@ -209,7 +212,10 @@ def main(words):
     if not words:
         shutil.rmtree(to, ignore_errors=True)
     with tempfile.TemporaryDirectory() as room:
-        for it in make(to.resolve(), Path(room), program_object(Path(room))):
+        of_program = program_object(Path(room))
+        if of_program is None:
+            sys.exit("bin/mrjob is not what was made of crates/mrjob: `make` proves and builds it anew")
+        for it in make(to.resolve(), Path(room), of_program):
             print(f"{it.stat().st_size:>10,} {it.name}")
 
 

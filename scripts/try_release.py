@@ -46,6 +46,8 @@ def call(*words, path=(), folder=None, **more):
 def made_twice(count, room):
     """Makes all twice, the second time elsewhere and with another mask of modes, and returns the first."""
     folders, made, of_program = [room / "first", room / "another/second"], [], release.program_object(room)
+    if of_program is None:
+        print("rt has left no object of bin/mrjob, so the tarball has bin/mrjob itself")
     for folder, mask in zip(folders, (0o022, 0o077)):
         before = os.umask(mask)
         with tempfile.TemporaryDirectory(dir=room) as inner:
