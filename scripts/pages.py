@@ -75,7 +75,9 @@ def texts(program):
 
 
 def code(text):
-    """Code with no line too wide: a remark at a line's end is broken, and a function's parameters stand in column 5."""
+    """Code with no line too wide: a remark at a line's end is broken, and a function's parameters stand in column 5. Of
+    a function with its body there is the head."""
+    text = re.sub(r"^([^{;]*\))\s*\{.*", r"\1;", text, flags=re.S)
     text = re.sub(r"^static inline ", "", text)
     text = re.sub(r"\s*MRJOB_NAMED\([^)]*\)", "", text)
     if re.match(r"[^{]*\(", text) and text.endswith(";"):
@@ -111,7 +113,8 @@ def header():
     yield from [".SH SYNOPSIS", *verbatim("#include <mrjob.h>\n\ncc program.c $(pkg-config --cflags --libs mrjob)")]
     about = re.sub(r"^  - ", "- ", about, flags=re.M).replace(":\n- ", ":\n\n- ")
     yield from [".SH DESCRIPTION", *of_markdown(about)]
-    rest = rest[rest.index("/* ---- bounds") : rest.index("/* ---- the library's own")]
+    rest = rest[rest.index("/* ---- bounds") : rest.index("/* ---- how the structs")]
+    rest = re.sub(r"/\* ---- the library's own.*?(?=/\* ---- |$)", "", rest, flags=re.S)
     for part in re.split(r"\n\n+", rest.strip("\n")):
         head = re.match(r"/\* ---- (.*) ---- \*/$", part)
         if head:
