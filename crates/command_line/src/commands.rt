@@ -124,6 +124,8 @@ const RUN_TEXTS: &str = "\
 Input:   a job, as text on standard input: a cluster of at most 32 workers, and its documents
 Output:  the index of the documents, or the splits that are not done; or `line LINE: fault NUMBER`;
          with --history, before these, what was done in the words of a script and its report
+Deaths:  a worker whose thread gets no processor for some twice as many seconds as `silence` says,
+         6 where it is absent, passes for dead, and what it ran is run again
 Status:  0 every part is done, 1 stuck, 2 fault, 5 history full, 6 torn or no thread; `mrjob --help`
          has the others
 Try:     mrjob run < examples/run_words.txt
