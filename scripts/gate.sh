@@ -60,6 +60,7 @@ else
     install -m 755 "${programs[0]}" bin/mrjob
     start scripts/examples.sh "${programs[@]}"
     start scripts/statuses.sh "${programs[@]}"
+    start scripts/explained.py "${programs[@]}"
     start scripts/progress.py "${programs[@]}"
     start scripts/refused_calls.sh "${programs[@]}"
     start scripts/differential.py "${programs[@]}"

@@ -49,6 +49,12 @@ for program in "$@"; do
     expect "help on planning" "$(given plan --help < "$text")" 0 words nothing
     expect "help on playing" "$(given play --help < "$text")" 0 words nothing
     expect "help on running" "$(given run --help < "$text")" 0 words nothing
+    expect "help on explaining" "$(given explain --help < "$text")" 0 words nothing
+    expect "an explanation" "$(given explain C6 < "$text")" 0 \
+        "condition C6: the two prices and the cost of each started pair come to K" nothing
+    expect "an explanation of nothing" "$(given explain C9 < "$text")" 64 nothing words
+    expect "a refusal that is explained" "$(given check --explain < examples/nearest_first.txt)" 1 "refused C6 s a" \
+        "condition C6: the two prices and the cost of each started pair come to K"
     expect "an unknown option" "$(given plan --price < "$text")" 64 nothing words
     expect "an unknown network" "$(given plan --network ring < "$text")" 64 nothing words
     expect "a network for a check" "$(given check --network racks < "$text")" 64 nothing words
@@ -81,6 +87,10 @@ for program in "$@"; do
     status=0
     "$program" run < examples/run_words.txt > /dev/full 2> "$room/err" || status=$?
     expect "an output that takes no index" "$status" 4 nothing "mrjob: write fault"
+    status=0
+    "$program" explain > /dev/full 2> "$room/err" || status=$?
+    : > "$room/out"
+    expect "explanations to an output that takes nothing" "$status" 4 nothing "mrjob: write fault"
     status=0
     "$program" --help > /dev/full 2> "$room/err" || status=$?
     : > "$room/out"

@@ -1,16 +1,26 @@
+use explanations::Entry;
 use flow_network::NetworkKind;
 
 /// A command with its options.
 #[derive(Clone, Copy, Debug, PartialEq, Eq)]
 pub enum Ask {
     /// Check a plan by its prices.
-    Check,
+    Check(CheckOptions),
     /// Plan a job's map starts.
     Plan(PlanOptions),
     /// Play a script of a job.
     Play(PlayOptions),
     /// Run a job on threads.
     Run(RunOptions),
+    /// Say what this line of the table of explanations says, or each, where none is named.
+    Explain(Option<Entry>),
+}
+
+/// What is told of a check.
+#[derive(Clone, Copy, Debug, PartialEq, Eq)]
+pub struct CheckOptions {
+    /// Standard error says what a fault or a refusal means.
+    pub explain: bool,
 }
 
 /// How a plan is to be made and what is written of it.
@@ -20,6 +30,8 @@ pub struct PlanOptions {
     pub prices: bool,
     /// The network over which the plan is sought.
     pub network: NetworkKind,
+    /// Standard error says what a fault means.
+    pub explain: bool,
 }
 
 /// What is told while a script is played.
@@ -27,6 +39,8 @@ pub struct PlanOptions {
 pub struct PlayOptions {
     /// A terminal is not told how far it is.
     pub quiet: bool,
+    /// Standard error says what a fault means, and why commands were ignored.
+    pub explain: bool,
 }
 
 /// What is written of a run, and told while it lasts.
@@ -36,6 +50,8 @@ pub struct RunOptions {
     pub history: bool,
     /// A terminal is not told how far it is.
     pub quiet: bool,
+    /// Standard error says what a fault means.
+    pub explain: bool,
 }
 
 /// Why the words ask for no command.

@@ -1,9 +1,12 @@
 ghost use Rattle.std.specs.Prelude.{◌≡◌, IfOk, false, true};
 ghost use Rattle.clap.specs.Words.{App, app_of, new_app, rule_of, with_subcommand};
-ghost use Rattle.command_line.specs.Commands.{flag, mrjob, network, plan, play, run};
+ghost use Rattle.command_line.specs.Commands.{check, explain, flag, mrjob, network, plan, play, run, word};
 
 use clap::{Arg, ArgAction, Command};
 use std::alloc::{AllocError, Global};
+
+/// The version of the program, as the file VERSION has it.
+pub(crate) const VERSION: &str = "1.1.0";
 
 const ABOUT: &str = "\
 Plans the map starts of a MapReduce job at the least byte-distance, certifies plans by prices, plays
@@ -48,6 +51,10 @@ Example of an input, which is answered by `certified 1 0`:
   price s 41
   price a 0
   end";
+
+const EXPLAIN_HELP: &str =
+    "Says on standard error what a fault, a refusal or an ignored command means; it does so unasked \
+     where that is a terminal";
 
 const PLAN_ABOUT: &str = "Plans a job's map starts at the least byte-distance";
 
@@ -149,6 +156,21 @@ It is answered by:
   word dog e
   word the d e";
 
+const EXPLAIN_ABOUT: &str = "Says what a fault, a condition, a reason or a status means";
+
+const KIND_HELP: &str = "fault, condition, ignored or status; or a condition's name alone";
+
+const NAME_HELP: &str = "The number, of a condition the name";
+
+const EXPLAIN_TEXTS: &str = "\
+Output:  `KIND NAME: SENTENCE`, or without words this line of each fault, condition, reason and status
+Status:  0, or 64 where nothing is said of the words
+Try:     mrjob explain fault 5
+         mrjob explain C6
+         mrjob explain ignored 12
+         mrjob explain status 6
+More:    docs/MODEL.md";
+
 // A command of this name with its texts.
 fn command_of<'a>(alloc: Global, name: &'a str, about: &'a str, texts: &'a str) -> Command<'a>
     ensures { app_of result ≡ new_app name.now }
@@ -167,6 +189,14 @@ fn flag_of<'a>(alloc: Global, name: &'a str, help: &'a str) -> Arg<'a>
         .action(ArgAction::SetTrue)
 }
 
+// A word of this name in its place, which need not be there; help shows it as told.
+fn word_of<'a>(alloc: Global, name: &'a str, shown: &'a str, help: &'a str) -> Arg<'a>
+    ensures rule { rule_of result ≡ word name.now }
+    ensures local { result.global ≡ false }
+{
+    Arg::new(alloc, name).help(help).value_name(shown)
+}
+
 fn network_option<'a>(alloc: Global) -> Arg<'a>
     ensures rule { rule_of result ≡ network }
     ensures local { result.global ≡ false }
@@ -178,10 +208,22 @@ fn network_option<'a>(alloc: Global) -> Arg<'a>
         .default_value("racks")
 }
 
+fn check_command<'a>(alloc: Global) -> Result<Command<'a>, AllocError>
+    ensures { IfOk result (λ command. app_of command ≡ check) }
+{
+    command_of(alloc, "check", CHECK_ABOUT, CHECK_TEXTS).arg(flag_of(
+        alloc,
+        "explain",
+        EXPLAIN_HELP,
+    ))
+}
+
 fn play_command<'a>(alloc: Global) -> Result<Command<'a>, AllocError>
     ensures { IfOk result (λ command. app_of command ≡ play) }
 {
-    command_of(alloc, "play", PLAY_ABOUT, PLAY_TEXTS).arg(flag_of(alloc, "quiet", QUIET_HELP))
+    command_of(alloc, "play", PLAY_ABOUT, PLAY_TEXTS)
+        .arg(flag_of(alloc, "quiet", QUIET_HELP))?
+        .arg(flag_of(alloc, "explain", EXPLAIN_HELP))
 }
 
 fn run_command<'a>(alloc: Global) -> Result<Command<'a>, AllocError>
@@ -189,7 +231,17 @@ fn run_command<'a>(alloc: Global) -> Result<Command<'a>, AllocError>
 {
     command_of(alloc, "run", RUN_ABOUT, RUN_TEXTS)
         .arg(flag_of(alloc, "history", HISTORY_HELP))?
-        .arg(flag_of(alloc, "quiet", QUIET_HELP))
+        .arg(flag_of(alloc, "quiet", QUIET_HELP))?
+        .arg(flag_of(alloc, "explain", EXPLAIN_HELP))
+}
+
+/// The command that explains.
+pub(crate) fn explain_command<'a>(alloc: Global) -> Result<Command<'a>, AllocError>
+    ensures { IfOk result (λ command. app_of command ≡ explain) }
+{
+    command_of(alloc, "explain", EXPLAIN_ABOUT, EXPLAIN_TEXTS)
+        .arg(word_of(alloc, "kind", "KIND", KIND_HELP))?
+        .arg(word_of(alloc, "name", "NAME", NAME_HELP))
 }
 
 /// The command that plans.
@@ -198,7 +250,8 @@ pub(crate) fn plan_command<'a>(alloc: Global) -> Result<Command<'a>, AllocError>
 {
     command_of(alloc, "plan", PLAN_ABOUT, PLAN_TEXTS)
         .arg(flag_of(alloc, "prices", PRICES_HELP))?
-        .arg(network_option(alloc))
+        .arg(network_option(alloc))?
+        .arg(flag_of(alloc, "explain", EXPLAIN_HELP))
 }
 
 // The commands with one more, where there was memory to make it.
@@ -216,11 +269,12 @@ fn with_command<'a>(
 pub(crate) fn all_commands<'a>(alloc: Global) -> Result<Command<'a>, AllocError>
     ensures { IfOk result (λ commands. app_of commands ≡ mrjob) }
 {
-    let check = command_of(alloc, "check", CHECK_ABOUT, CHECK_TEXTS);
     let commands = command_of(alloc, "mrjob", ABOUT, STATUSES)
-        .subcommand_required(true)
-        .subcommand(check)?;
+        .version(VERSION)
+        .subcommand_required(true);
+    let commands = with_command(commands, check_command(alloc))?;
     let commands = with_command(commands, plan_command(alloc))?;
     let commands = with_command(commands, play_command(alloc))?;
-    with_command(commands, run_command(alloc))
+    let commands = with_command(commands, run_command(alloc))?;
+    with_command(commands, explain_command(alloc))
 }

@@ -7,40 +7,37 @@
 #![tactic(auto)]
 
 ghost use Rattle.std.specs.Prelude.{◌≡◌, [], Err, IfOk, IsOk, MatchOption, Ok, Some, codes, map};
+ghost use Rattle.std.specs.Option.{option_map};
 ghost use Rattle.clap.specs.Walk.{texts};
 ghost use Rattle.clap.specs.Words.{first_value, found_of, kind_of};
 ghost use Rattle.clap.specs.declared.error.kind.ErrorKind.TheVariants.{InvalidValue};
-ghost use Rattle.command_line.specs.Commands.{AsksBy, HasFault, IsOneOf, NamesNoNetwork, RefusesNetwork};
-ghost use Rattle.command_line.specs.Commands.{command_in, command_word, faults_in, flag_in, is_set, mrjob};
-ghost use Rattle.command_line.specs.Commands.{value_in, word_of};
+ghost use Rattle.command_line.specs.Commands.{AsksBy, HasFault, IsOneOf, IsRefusedBy, NamesNoNetwork};
+ghost use Rattle.command_line.specs.Commands.{NamesNoRow, RefusesValue, asked_row, command_in, command_word};
+ghost use Rattle.command_line.specs.Commands.{faults_in, is_set, mrjob, value_in, word_of};
+ghost use Rattle.explanations.specs.Table.{row_of};
 
 pub mod asked;
 mod commands;
 
-use crate::asked::{Ask, AskError, PlanOptions, PlayOptions, RunOptions};
-use crate::commands::{all_commands, plan_command};
-use clap::ArgMatches;
+use crate::asked::{Ask, AskError, CheckOptions, PlanOptions, PlayOptions, RunOptions};
+use crate::commands::{all_commands, explain_command, plan_command};
 use clap::error::ErrorKind;
+use clap::{ArgMatches, Command};
+use explanations::{Entry, entry_named};
 use flow_network::NetworkKind;
-use std::alloc::Global;
+use std::alloc::{AllocError, Global};
 
 const UNKNOWN_NETWORK: &str = "\
 invalid value for '--network <NETWORK>'
   [possible values: direct, racks]";
 
+const UNKNOWN_ROW: &str = "\
+nothing is said of these words; `mrjob explain` alone says all that is said";
+
 /// The command that the words ask for with its options, the program's name being the first word.
 pub fn ask<'a>(alloc: Global, words: &'a [&'a str]) -> Result<Ask, AskError>
     ensures command { IfOk result (λ ask. command_in (texts words.entry.now) ≡ Some (command_word ask)) }
-    ensures flag { (options : _) → result ≡ Ok (Ask.Plan options)
-        → options.prices ≡ flag_in (codes "prices") (texts words.entry.now) }
-    ensures history { (options : _) → result ≡ Ok (Ask.Run options)
-        → options.history ≡ flag_in (codes "history") (texts words.entry.now) }
-    ensures play_quiet { (options : _) → result ≡ Ok (Ask.Play options)
-        → options.quiet ≡ flag_in (codes "quiet") (texts words.entry.now) }
-    ensures run_quiet { (options : _) → result ≡ Ok (Ask.Run options)
-        → options.quiet ≡ flag_in (codes "quiet") (texts words.entry.now) }
-    ensures network { (options : _) → result ≡ Ok (Ask.Plan options)
-        → value_in (codes "network") (texts words.entry.now) ≡ Some (word_of options.network) }
+    ensures options { IfOk result (AsksBy (λ id. value_in id (texts words.entry.now))) }
 
     // An answer comes only for words in which clap finds no fault, and a fault is one that the words
     // have: a mistake, or their wish for help.
@@ -69,26 +66,70 @@ fn ask_by_name(alloc: Global, name: &str, options: &ArgMatches) -> Result<Ask, A
     ensures command { IfOk result (λ ask. name.now ≡ command_word ask) }
     ensures options { IfOk result (AsksBy (first_value (found_of options.now))) }
     ensures fault { (error : _) → result ≡ Err (AskError.Fault error)
-        → (kind_of error ≡ InvalidValue)
-        × NamesNoNetwork (first_value (found_of options.now) (codes "network")) }
+        → (kind_of error ≡ InvalidValue) × IsRefusedBy (Some name.now) (first_value (found_of options.now)) }
 {
     match name {
-        "check" => Ok(Ask::Check),
-        "plan" => match network_named(options) {
-            Some(network) => Ok(Ask::Plan(PlanOptions {
-                prices: is_given(options, "prices"),
-                network,
-            })),
-            None => Err(unknown_network(alloc)),
-        },
+        "check" => Ok(Ask::Check(CheckOptions {
+            explain: is_given(options, "explain"),
+        })),
+        "plan" => ask_for_plan(alloc, options),
         "play" => Ok(Ask::Play(PlayOptions {
             quiet: is_given(options, "quiet"),
+            explain: is_given(options, "explain"),
         })),
         "run" => Ok(Ask::Run(RunOptions {
             history: is_given(options, "history"),
             quiet: is_given(options, "quiet"),
+            explain: is_given(options, "explain"),
         })),
+        "explain" => ask_for_rows(alloc, options),
         _ => unreachable!(),
+    }
+}
+
+// The plan that is asked for.
+fn ask_for_plan(alloc: Global, options: &ArgMatches) -> Result<Ask, AskError>
+    ensures plan { IfOk result (λ ask. command_word ask ≡ codes "plan") }
+    ensures options { IfOk result (AsksBy (first_value (found_of options.now))) }
+    ensures fault { (error : _) → result ≡ Err (AskError.Fault error)
+        → (kind_of error ≡ InvalidValue)
+        × NamesNoNetwork (first_value (found_of options.now) (codes "network")) }
+{
+    match network_named(options) {
+        Some(network) => Ok(Ask::Plan(PlanOptions {
+            prices: is_given(options, "prices"),
+            network,
+            explain: is_given(options, "explain"),
+        })),
+        None => Err(no_value(plan_command(alloc), UNKNOWN_NETWORK)),
+    }
+}
+
+// The rows of the table that are asked for.
+fn ask_for_rows(alloc: Global, words: &ArgMatches) -> Result<Ask, AskError>
+    ensures explain { IfOk result (λ ask. command_word ask ≡ codes "explain") }
+    ensures options { IfOk result (AsksBy (first_value (found_of words.now))) }
+    ensures fault { (error : _) → result ≡ Err (AskError.Fault error)
+        → (kind_of error ≡ InvalidValue)
+        × NamesNoRow (first_value (found_of words.now) (codes "kind"))
+        (first_value (found_of words.now) (codes "name")) }
+{
+    let Some(kind) = words.get_str("kind") else {
+        return Ok(Ask::Explain(None));
+    };
+    match row_asked(kind, words.get_str("name")) {
+        Some(entry) => Ok(Ask::Explain(Some(entry))),
+        None => Err(no_value(explain_command(alloc), UNKNOWN_ROW)),
+    }
+}
+
+// The row of the table that these words name; one word is the name of a condition.
+fn row_asked(kind: &str, name: Option<&str>) -> Option<Entry>
+    ensures { option_map row_of result ≡ asked_row (Some kind.now) (option_map (λ n. n.now) name.entry) }
+{
+    match name {
+        Some(name) => entry_named(kind, name),
+        None => entry_named("condition", kind),
     }
 }
 
@@ -115,14 +156,14 @@ fn network_named(options: &ArgMatches) -> Option<NetworkKind>
     }
 }
 
-// The fault of words that name another network.
-fn unknown_network(alloc: Global) -> AskError
-    ensures { RefusesNetwork result }
+// The fault of words that have a value which is none.
+fn no_value(command: Result<Command<'_>, AllocError>, text: &str) -> AskError
+    ensures { RefusesValue result }
 {
-    let Ok(mut command) = plan_command(alloc) else {
+    let Ok(mut command) = command else {
         return AskError::Memory;
     };
-    match command.error(ErrorKind::InvalidValue, UNKNOWN_NETWORK) {
+    match command.error(ErrorKind::InvalidValue, text) {
         Ok(error) => AskError::Fault(error),
         Err(_) => AskError::Memory,
     }

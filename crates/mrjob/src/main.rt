@@ -8,11 +8,13 @@
 ghost use Rattle.std.specs.Prelude.{◌≡◌};
 ghost use Rattle.mrjob.specs.Ending.{ending_of_error, ending_of_play, ending_of_run};
 
+mod aside;
 mod terminal;
 
+use crate::aside::Aside;
 use crate::terminal::Terminal;
 use command_line::ask;
-use command_line::asked::{Ask, AskError};
+use command_line::asked::{Ask, AskError, CheckOptions, PlanOptions, PlayOptions, RunOptions};
 use job_run::{
     PlainGate, PlayEnd, RunEnd, RunError, RunTextError, play_observed, run_text_observed,
 };
@@ -22,7 +24,7 @@ use std::sync::Wait;
 use std::thread::Threads;
 use std::{env, io};
 use text_reading::ToolError;
-use tools::{Ending, Message, check_on, plan};
+use tools::{Ending, Message, check_on, explain, plan};
 
 fn main(rt: HostRuntime) -> ExitCode {
     let ending = run(&rt, &rt);
@@ -85,32 +87,70 @@ fn run_command(
     threads: &(impl Threads + Wait + Clock + Sync),
     ask: Ask,
 ) -> Ending {
-    let (alloc, mut input, mut output) = (rt.alloc(), rt.stdin(), rt.stdout());
     match ask {
-        Ask::Check => Ending::of_check(check_on(threads, alloc, &mut input, &mut output)),
-        Ask::Plan(options) => Ending::of_plan(plan(alloc, &mut input, &mut output, options)),
-        Ask::Play(options) => {
-            let told = Terminal::new(rt, options.quiet);
-            let end = play_observed(alloc, &mut input, &mut output, &told);
-            told.clear();
-            of_play(end)
-        }
-        Ask::Run(options) => {
-            let told = Terminal::new(rt, options.quiet);
-            let history = options.history;
-            let end = run_text_observed(
-                threads,
-                alloc,
-                &mut input,
-                &mut output,
-                &PlainGate,
-                &told,
-                history,
-            );
-            told.clear();
-            of_run(end)
+        Ask::Check(options) => run_check(rt, threads, options),
+        Ask::Plan(options) => run_plan(rt, options),
+        Ask::Play(options) => run_play(rt, options),
+        Ask::Run(options) => run_job(rt, threads, options),
+        Ask::Explain(entry) => {
+            Ending::of_explaining(explain(rt.alloc(), &mut rt.stdout(), entry))
         }
     }
+}
+
+fn run_check(rt: &HostRuntime, threads: &(impl Threads + Sync), options: CheckOptions) -> Ending {
+    let aside = Aside::new(rt, options.explain);
+    let mut input = aside.reader();
+    let end = check_on(threads, rt.alloc(), &mut input, &mut rt.stdout());
+    aside.tell_check(&input, &end);
+    Ending::of_check(end)
+}
+
+fn run_plan(rt: &HostRuntime, options: PlanOptions) -> Ending {
+    let aside = Aside::new(rt, options.explain);
+    let mut input = aside.reader();
+    let end = plan(rt.alloc(), &mut input, &mut rt.stdout(), options);
+    if let Err(error) = end {
+        aside.tell_fault(&input, error);
+    }
+    Ending::of_plan(end)
+}
+
+fn run_play(rt: &HostRuntime, options: PlayOptions) -> Ending {
+    let aside = Aside::new(rt, options.explain);
+    let (mut input, mut output) = (aside.reader(), aside.writer());
+    let told = Terminal::new(rt, options.quiet);
+    let end = play_observed(rt.alloc(), &mut input, &mut output, &told);
+    told.clear();
+    match end {
+        Ok(_) => aside.tell_reasons(&output),
+        Err(error) => aside.tell_fault(&input, error),
+    }
+    of_play(end)
+}
+
+fn run_job(
+    rt: &HostRuntime,
+    threads: &(impl Threads + Wait + Clock + Sync),
+    options: RunOptions,
+) -> Ending {
+    let aside = Aside::new(rt, options.explain);
+    let mut input = aside.reader();
+    let told = Terminal::new(rt, options.quiet);
+    let end = run_text_observed(
+        threads,
+        rt.alloc(),
+        &mut input,
+        &mut rt.stdout(),
+        &PlainGate,
+        &told,
+        options.history,
+    );
+    told.clear();
+    if let Err(RunTextError::Tool(error)) = end {
+        aside.tell_fault(&input, error);
+    }
+    of_run(end)
 }
 
 // The end of a program whose playing ended so.

@@ -1,5 +1,6 @@
 use command_line::ask;
 use command_line::asked::{Ask, AskError, PlanOptions};
+use explanations::said;
 use std::alloc::Global;
 use std::process::Abort;
 use tools::Ending;
@@ -9,7 +10,7 @@ use wave_planner::NetworkKind;
 fn options_in(alloc: Global, words: &[&str]) -> Option<PlanOptions> {
     match ask(alloc, words) {
         Ok(Ask::Plan(options)) => Some(options),
-        Ok(Ask::Check | Ask::Play(_) | Ask::Run(_)) | Err(_) => None,
+        Ok(Ask::Check(_) | Ask::Play(_) | Ask::Run(_) | Ask::Explain(_)) | Err(_) => None,
     }
 }
 
@@ -52,17 +53,60 @@ fn plan_is_asked_for(rt: HostRuntime) {
         ),
     ];
     for (words, prices, network) in plans {
-        let wanted = PlanOptions { prices, network };
+        let wanted = PlanOptions {
+            prices,
+            network,
+            explain: false,
+        };
         assert_eq!(&rt; options_in(rt.alloc(), words), Some(wanted), "{words:?}");
     }
 }
 
+// What the table says of the words that are asked for.
+fn said_of(alloc: Global, words: &[&str]) -> Option<String> {
+    match ask(alloc, words) {
+        Ok(Ask::Explain(entry)) => said(alloc, entry).ok(),
+        Ok(Ask::Check(_) | Ask::Plan(_) | Ask::Play(_) | Ask::Run(_)) | Err(_) => None,
+    }
+}
+
+#[test]
+fn rows_are_asked_for(rt: HostRuntime) {
+    let rows: [(&[&str], &str); 3] = [
+        (
+            &["mrjob", "explain", "fault", "5"],
+            "fault 5: a number is out of its range\n",
+        ),
+        (
+            &["mrjob", "explain", "C3"],
+            "condition C3: no worker has more starts than free slots\n",
+        ),
+        (
+            &["mrjob", "explain", "ignored", "13"],
+            "ignored 13: the pair is barred\n",
+        ),
+    ];
+    for (words, line) in rows {
+        let said = said_of(rt.alloc(), words).expect(&rt, "nothing");
+        assert_eq!(rt; said.as_str(), line);
+    }
+    let all = said_of(rt.alloc(), &["mrjob", "explain"]).expect(&rt, "nothing");
+    assert!(rt;
+        all.as_str().ends_with("status 64: usage: the words of the command line ask for nothing\n")
+    );
+}
+
 #[test]
 fn wrong_words_are_usage(rt: HostRuntime) {
-    let wrong: [(&[&str], &str); 9] = [
+    let wrong: [(&[&str], &str); 11] = [
         (&["mrjob"], "requires a subcommand"),
         (&["mrjob", "fly"], "unrecognized subcommand 'fly'"),
-        (&["mrjob", "--version"], "unexpected argument '--version'"),
+        (
+            &["mrjob", "check", "--version"],
+            "unexpected argument '--version'",
+        ),
+        (&["mrjob", "explain", "fault", "15"], "nothing is said"),
+        (&["mrjob", "explain", "fault"], "nothing is said"),
         (&["mrjob", "check", "x"], "unexpected argument 'x'"),
         (&["mrjob", "play", "-p"], "unexpected argument '-p'"),
         (
@@ -89,8 +133,10 @@ fn wrong_words_are_usage(rt: HostRuntime) {
 
 #[test]
 fn help_is_no_usage(rt: HostRuntime) {
-    let helps: [(&[&str], &str); 6] = [
+    let helps: [(&[&str], &str); 8] = [
         (&["mrjob", "--help"], "Statuses:"),
+        (&["mrjob", "--version"], "mrjob 1.1.0\n"),
+        (&["mrjob", "help", "explain"], "mrjob explain C6"),
         (&["mrjob", "help", "check"], "Input:"),
         (&["mrjob", "plan", "--help"], "[default: racks]"),
         (&["mrjob", "help", "plan"], "price a 0"),

@@ -27,6 +27,10 @@ abbrev pub ending_of_plan : Result PlanEnd ToolError → Ending
 ending_of_plan (Ok end) = Well
 ending_of_plan (Err error) = Failed error
 
+abbrev pub ending_of_explaining : Result (Unit {0}) ToolError → Ending
+ending_of_explaining (Ok done) = Well
+ending_of_explaining (Err error) = Failed error
+
 -- help and the version were asked for; every other kind is wrong usage
 abbrev pub ending_of_kind : ErrorKind → Ending
 ending_of_kind DisplayHelp = Well

@@ -1,7 +1,7 @@
 ghost use Rattle.std.specs.Prelude.{◌≡◌};
 ghost use Rattle.std.specs.Option.{option_map};
-ghost use Rattle.tools.specs.Ending.{told, ending_of_asking, ending_of_check, ending_of_plan, message_of};
-ghost use Rattle.tools.specs.Ending.{status_of};
+ghost use Rattle.tools.specs.Ending.{told, ending_of_asking, ending_of_check, ending_of_explaining};
+ghost use Rattle.tools.specs.Ending.{ending_of_plan, message_of, status_of};
 
 use command_line::asked::AskError;
 use price_certificate::Condition;
@@ -25,7 +25,7 @@ pub enum PlanEnd {
 /// How the program ends.
 #[derive(Clone, Copy, Debug, PartialEq, Eq)]
 pub enum Ending {
-    /// A plan was certified or made, the parts of a script or a job are all done, or help was given.
+    /// A plan was certified or made, the parts of a script or a job are all done, or words were explained.
     Well,
     /// A condition refuses the plan.
     Refused,
@@ -68,6 +68,16 @@ impl Ending {
     {
         match end {
             Ok(PlanEnd::Planned) => Ending::Well,
+            Err(error) => Ending::Failed(error),
+        }
+    }
+
+    /// The end of a program that was asked what numbers mean.
+    pub fn of_explaining(end: Result<(), ToolError>) -> Ending
+        ensures { result ≡ ending_of_explaining end }
+    {
+        match end {
+            Ok(()) => Ending::Well,
             Err(error) => Ending::Failed(error),
         }
     }

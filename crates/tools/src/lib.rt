@@ -3,13 +3,15 @@
 //! `check` reads a problem, a plan and prices, and writes whether the prices certify the plan; `check_on`
 //! writes the same by many threads; `plan` reads a problem and writes a best plan. Each is a `Command` of
 //! `text_reading`, run by its `run_command`; `specs/CheckAnswer.antt` and `specs/PlanAnswer.antt` say which
-//! lines answer a text. `Ending` has the statuses and the words with which the program ends.
+//! lines answer a text. `explain` writes what numbers mean. `Ending` has the statuses and the words with which the program ends.
 #![tactic(auto)]
 
 pub mod checking;
 pub mod ending;
+pub mod explaining;
 pub mod planning;
 
 pub use checking::{check, check_on};
 pub use ending::{CheckEnd, Ending, Message, PlanEnd};
+pub use explaining::explain;
 pub use planning::plan;

@@ -1,4 +1,4 @@
-use Rattle.std.proofs.Common.{◌≡◌, ◌∙◌, None, Ok, Option, ap, arith, codes, inl, inr}
+use Rattle.std.proofs.Common.{◌≡◌, None, Option, Some, arith, inl, inr, refl}
 use Rattle.std.proofs.Common.{rules, subst, sym}
 use Rattle.std.proofs.lemmas.Result.{IfOk-weaker}
 use Rattle.std.specs.Prelude.{IfOk, map}
@@ -7,9 +7,7 @@ use Rattle.clap.specs.Kinds.{IsAmong}
 use Rattle.clap.specs.Words.{kind_of}
 use Rattle.clap.specs.declared.error.Error.{Error}
 use Rattle.clap.specs.declared.error.kind.ErrorKind.TheVariants.{OutOfMemory}
-use Rattle.clap.specs.Matches.{first_value, found_of}
-use Rattle.command_line.specs.declared.asked.Ask.{Ask}
-use Rattle.command_line.specs.Commands.{AsksBy, IsOneOf, NamesNoNetwork, faults_in, is_set, mrjob}
+use Rattle.command_line.specs.Commands.{AsksBy, IsOneOf, IsRefusedBy, command_in, faults_in, mrjob, value_in}
 use Rattle.command_line.proofs.Mrjob.{faulted, found_named, found_value, named_in, unfaulted}
 use Rattle.command_line.proofs.ask.Goals as goal
 
@@ -21,25 +19,25 @@ ask_by_name-requires c =
 
 pub returns-in-Some : goal.returns-in-Some
 returns-in-Some c =
-    let text = first_value (found_of c.in-Some.options.now) in
+    let words = texts c.args.words.now in
     let found = found_value c.in-Ok.commands _ c.in-Ok.ensures c.in-Ok-try_get_matches_from.matches
     c.in-Ok-try_get_matches_from.ensures.matches c.in-Some.options.now c.in-Some.ensures.rows in
-    let asks : (ask : Ask) → c.ask_by_name.result ≡ Ok ask → AsksBy text ask =
-    λ ask is. subst (λ r. IfOk r (AsksBy text)) is c.ask_by_name.ensures.options in
+    let named : (name : Text) → c.in-Some.name.now ≡ name → command_in words ≡ Some name =
+    λ name is. named_in c.in-Ok.commands _ c.in-Ok.ensures c.in-Ok-try_get_matches_from.matches
+    c.in-Ok-try_get_matches_from.ensures.matches _ name c.in-Some.ensures.name is in
     record {
-      command = IfOk-weaker c.ask_by_name.result _ _
-          (λ ask is. named_in c.in-Ok.commands _ c.in-Ok.ensures c.in-Ok-try_get_matches_from.matches
-          c.in-Ok-try_get_matches_from.ensures.matches _ _ c.in-Some.ensures.name is)
-          c.ask_by_name.ensures.command;
-      flag = λ options is. (asks _ is).0 ∙ ap is_set (found (codes "prices"));
-      history = λ options is. (asks _ is).0 ∙ ap is_set (found (codes "history"));
-      play_quiet = λ options is. asks _ is ∙ ap is_set (found (codes "quiet"));
-      run_quiet = λ options is. (asks _ is).1 ∙ ap is_set (found (codes "quiet"));
-      network = λ options is. sym (found (codes "network")) ∙ (asks _ is).1;
+      command = IfOk-weaker c.ask_by_name.result _ _ (λ ask is. named _ is) c.ask_by_name.ensures.command;
+      options = subst (λ (text : Text → Option Text). IfOk c.ask_by_name.result (AsksBy text))
+          (λ i id. found id i) c.ask_by_name.ensures.options;
       ok = λ ok. unfaulted c.in-Ok.commands _ c.in-Ok.ensures c.in-Ok-try_get_matches_from.ensures.kinds;
       fault = λ error is.
           let none = c.ask_by_name.ensures.fault error is in
-          inr (none.0, subst NamesNoNetwork (found (codes "network")) none.1);
+          inr (
+            none.0,
+            subst (λ (name : Option Text). IsRefusedBy name (λ id. value_in id words)) (sym (named _ refl))
+                (subst (λ (text : Text → Option Text). IsRefusedBy (Some c.in-Some.name.now) text)
+                (λ i id. found id i) none.1),
+          );
     }
 
 pub returns-in-Err-2-clause-fault : goal.returns-in-Err-2-clause-fault
