@@ -2,6 +2,7 @@
 import re
 import subprocess
 import textwrap
+from functools import lru_cache
 
 from crates import ROOT
 from roff import WIDEST, bare, entry, of_markdown, plain, title, verbatim
@@ -24,27 +25,15 @@ def section(name, file="docs/MODEL.md"):
     return (rest[: stop.start()] if stop else rest).replace(" (see its machine below)", "")
 
 
+@lru_cache(maxsize=None)
 def by_program(program):
-    """Each fault, condition and reason with its sentence, as the program explains them; none by one that does not."""
-    ran = subprocess.run([program, "explain"], capture_output=True, text=True)
-    return re.findall(r"^(\w+) (\w+): (.*)$", ran.stdout, re.M) if ran.returncode == 0 else []
-
-
-def by_model():
-    """The same as the tables of docs/MODEL.md have it: of a reason that several calls share, that of the first."""
-    faults = re.findall(r"^\| (\d+) \| (.*) \|$", section("### Faults"), re.M)
-    conditions = re.findall(r"^\| (C\d) \| .* \| (.*) \|$", section("## Certificate"), re.M)
-    machine = section("## The master's machine")
-    rows = " ; ".join(re.findall(r"^\| [^|]+ \| ([^|]+) \| .*\|$", machine, re.M))
-    reasons = {int(number): says for number, says in reversed(re.findall(r"(\d+) ([^;|]+?) *(?=;)", rows + ";"))}
-    reasons[9] = "the room for events, attempts or sweeps is used up"
-    told = [("fault", number, says) for number, says in faults] + [("condition", *it) for it in conditions]
-    return [*told, *(("ignored", str(number), reasons[number]) for number in sorted(reasons))]
+    """Each fault, condition, reason and status with its sentence, as the program explains them."""
+    ran = subprocess.run([program, "explain"], check=True, capture_output=True, text=True)
+    return re.findall(r"^(\w+) (\w+): (.*)$", ran.stdout, re.M)
 
 
 def sentences(program, kind):
-    told = by_program(program) or by_model()
-    return [line for of, name, says in told if of == kind for line in entry(name, bare(says))]
+    return [line for of, name, says in by_program(program) if of == kind for line in entry(name, bare(says))]
 
 
 def but_tables(text):
