@@ -47,7 +47,7 @@ usable_or_not : (wave : Wave) (w : ℕ) → IsUsable wave.workers w ⊎ (IsUsabl
 usable_or_not wave w = grind arith
 
 -- a worker is under a node where that is one of the four above it
-which_above : (tree : Tree) (w : ℕ) (v : TreeNode) → is_under tree (Worker w) v ≡ true
+pub which_above : (tree : Tree) (w : ℕ) (v : TreeNode) → is_under tree (Worker w) v ≡ true
     → (level : ℕ) × (level < 4) × (v ≡ node_above tree level w)
 which_above tree w (Worker x) u = (0, omega arith, ap Worker (eqb-true x w u))
 which_above tree w (Rack r) u = (1, omega arith, ap Rack (eqb-true r (slice_index tree.rack_of w) u))

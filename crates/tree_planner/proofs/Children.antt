@@ -27,7 +27,7 @@ use Rattle.tree_planner.proofs.Moved.{one, under_own}
 abbrev sum_of : ℕ → (ℕ → Bool) → (ℕ → ℕ) → ℕ
 sum_of n test f = sum_below n (λ i. cond (test i) (f i) 0)
 
-some_of_sum : (n : ℕ) (test : ℕ → Bool) (f : ℕ → ℕ) → 0 < sum_of n test f
+pub some_of_sum : (n : ℕ) (test : ℕ → Bool) (f : ℕ → ℕ) → 0 < sum_of n test f
     → (i : ℕ) × (i < n) × (test i ≡ true) × (0 < f i)
 some_of_sum zero test f l = absurd (omega arith)
 some_of_sum (suc n) test f l = elim (cases_lt 0 (sum_of n test f)) [

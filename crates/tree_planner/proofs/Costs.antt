@@ -21,6 +21,9 @@ Meet tree (suc zero) h w = slice_index tree.rack_of h ≡ slice_index tree.rack_
 Meet tree (suc (suc zero)) h w = centre_at tree h ≡ centre_at tree w
 Meet tree (suc (suc (suc level))) h w = Unit {0}
 
+pub scaled-le : (a b : ℕ) → a ≤ 67108864 → b ≤ 6 → a * b ≤ 402653184
+scaled-le a b few small = let most = mul-le-mul_left a small in omega arith
+
 pub holder_held : (wave : Wave) (s h : ℕ) → Contains (live_holders wave s) h
     → 0 < length (live_holders wave s)
 holder_held wave s h a = let some = a.1 in omega arith

@@ -52,7 +52,7 @@ own_above tree (suc zero) w = eq-eqb (slice_index tree.rack_of w) (slice_index t
 own_above tree (suc (suc zero)) w = eq-eqb (centre_at tree w) (centre_at tree w) refl
 own_above tree (suc (suc (suc level))) w = refl
 
-reach_few : (tree : Tree) (level : ℕ) → 2 * level ≤ reach tree → level < 4
+pub reach_few : (tree : Tree) (level : ℕ) → 2 * level ≤ reach tree → level < 4
 reach_few tree level l = grind arith
 
 -- an end costs no less than a start on a worker under it, which is admissible

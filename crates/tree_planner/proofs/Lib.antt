@@ -13,3 +13,6 @@ pub mod Moved
 pub mod Given
 -- units go on
 pub mod Children
+pub mod Improved
+pub mod Counted
+pub mod Looked

@@ -9,6 +9,8 @@
 mod laws;
 mod node_table;
 mod nodes;
+mod search;
+mod split_ends;
 mod tables;
 mod tree_nodes;
 

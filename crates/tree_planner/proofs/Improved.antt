@@ -1,0 +1,390 @@
+-- What stays where nodes come nearer.
+use Rattle.std.proofs.Common.{◌≡◌, ℕ, ◌+◌, ◌<◌, ◌≤◌, min, refl, sym, ap, ◌∙◌, subst, inl, inr, ◌⊎◌, arith}
+use Rattle.std.specs.Prelude.{◌≢◌}
+use Rattle.std.proofs.lemmas.Bool.{cases_lt}
+use Rattle.tree_planner.specs.declared.node_table.NodeTable.{NodeTable}
+use Rattle.tree_planner.specs.declared.nodes.End.{End}
+use Rattle.tree_planner.specs.declared.nodes.TreeNode.{TreeNode}
+use Rattle.tree_planner.specs.declared.nodes.TreeNode.TheVariants.{Worker, Cluster}
+use Rattle.tree_planner.specs.declared.search.Goal.{Goal}
+use Rattle.tree_planner.specs.declared.search.Goal.TheVariants.{Wait, Slot, Off}
+use Rattle.tree_planner.specs.declared.search.Ground.{Ground}
+use Rattle.tree_planner.specs.declared.search.Search.{Search}
+use Rattle.tree_planner.specs.declared.search.Step.{Step}
+use Rattle.tree_planner.specs.declared.search.Step.TheVariants.{Start, Down, Up, Over}
+use Rattle.tree_planner.specs.Nodes.{parent, IsEnd}
+use Rattle.tree_planner.specs.State.{reach_cost}
+use Rattle.tree_planner.specs.Searching.{order_at, far_at, step_at, state_at, wave_of, EndsIn, GoesAllOver, HasLookedFrom, IsNearest, Settles}
+use Rattle.tree_planner.specs.Searching.{HasStarted, IsStartedAt, Improves, IsAt, IsBefore, IsDown, IsNearer, IsSearching, LeadsTo}
+use Rattle.tree_planner.specs.Table.{at_or, IsOver}
+use Rattle.tree_planner.proofs.Moved.{same_or_not}
+
+pub improves_refl : (s : Search) → Improves s s
+improves_refl s = record {
+  nearer = record {
+    split = refl;
+    least = refl;
+    limit = refl;
+    bound = omega arith;
+    far = λ v. omega arith;
+    settled = λ u l. refl;
+  };
+  looked = refl;
+  order = refl;
+}
+
+pub same_order : (old new : Search) → Improves old new → (v : TreeNode) → order_at new v ≡ order_at old v
+same_order old new i v = ap (λ (t : NodeTable ℕ). at_or t 0 v) i.order
+
+-- what holds of a search holds of one that came nearer, whose order goes on
+module _ (old new : Search) (i : IsNearer old new)
+    (before_kept : (u x : TreeNode) → IsBefore old u x → IsBefore new u x)
+    (some_kept : (u : TreeNode) → 0 < order_at old u → 0 < order_at new u) where
+  pub leads_kept : (g : Ground) (x : TreeNode) (d : ℕ) (step : Step) → LeadsTo g old x d step → LeadsTo g new x d step
+  leads_kept g x d (Start level) l = record {
+    is_end = subst (λ s. IsEnd (wave_of g) s (record { node = x; level = level })) (sym i.split) l.is_end;
+    cost =
+        (let same = ap (λ s. reach_cost (wave_of g) (state_at g) s (record { node = x; level = level })) i.split in
+        let least = i.least in
+        let cost = l.cost in
+        omega arith);
+  }
+  leads_kept g x d Down l = record {
+    hangs = l.hangs;
+    before = before_kept _ x l.before;
+    room = l.room;
+    cost = (let same = i.settled _ l.before.0 in let cost = l.cost in omega arith);
+  }
+  leads_kept g x d (Up c) l = record {
+    known = l.known;
+    hangs = l.hangs;
+    above = l.above;
+    before = before_kept c x l.before;
+    some = l.some;
+    cost = (let same = i.settled c l.before.0 in let cost = l.cost in omega arith);
+  }
+  leads_kept g x d (Over t level) l = record {
+    from = l.from;
+    stands = l.stands;
+    is_end = l.is_end;
+    before = before_kept l.from.node x l.before;
+    cost = (let same = i.settled l.from.node l.before.0 in let cost = l.cost in omega arith);
+  }
+
+  pub ends_kept : (g : Ground) (bound : ℕ) (goal : Goal) → EndsIn g old bound goal → EndsIn g new bound goal
+  ends_kept g bound Wait e = e ∙ sym i.limit
+  ends_kept g bound (Slot w) e = record {
+    known = e.known;
+    some = e.some;
+    reached =
+        (let same = i.settled (Worker w) e.settled in let limit = i.limit in let near = e.reached in omega arith);
+    settled = some_kept (Worker w) e.settled;
+    near = (let same = i.settled (Worker w) e.settled in let near = e.near in omega arith);
+  }
+  ends_kept g bound (Off t) e = record {
+    from = e.from;
+    stands = e.stands;
+    reached =
+        (let same = i.settled e.from.node e.settled in let limit = i.limit in let near = e.reached in omega arith);
+    settled = some_kept e.from.node e.settled;
+    near = (let same = i.settled e.from.node e.settled in let near = e.near in omega arith);
+  }
+
+module _ (old new : Search) (i : IsNearer old new) where
+  pub down_kept : (g : Ground) (c v : TreeNode) → 0 < order_at old c → IsDown g old c v → IsDown g new c v
+  down_kept g c v some down = λ is room.
+      (let before = down is room in
+      let same = i.settled c some in
+      let bound = i.bound in
+      let far = i.far v in
+      omega arith)
+
+  pub over_kept : (g : Ground) (c : TreeNode) (t : ℕ) → 0 < order_at old c → GoesAllOver g old c t
+      → GoesAllOver g new c t
+  over_kept g c t some all = record {
+    over = λ e x stands is is_end.
+        (let before = all.over e x stands is is_end in
+        let settled : 0 < order_at old e.node = subst (λ v. 0 < order_at old v) (sym is) some in
+        let same = i.settled e.node settled in
+        let bound = i.bound in
+        let far = i.far x.node in
+        omega arith);
+    out = λ e stands is.
+        (let before = all.out e stands is in
+        let settled : 0 < order_at old e.node = subst (λ v. 0 < order_at old v) (sym is) some in
+        let same = i.settled e.node settled in
+        let bound = i.bound in
+        omega arith);
+  }
+
+  pub looked_kept : (g : Ground) (u : TreeNode) → 0 < order_at old u → HasLookedFrom g old u → HasLookedFrom g new u
+  looked_kept g u some looked = record {
+    down = λ v is room.
+        (let before = looked.down v is room in
+        let same = i.settled u some in let bound = i.bound in let far = i.far v in omega arith);
+    up = λ flows.
+        (let before = looked.up flows in
+        let same = i.settled u some in let bound = i.bound in let far = i.far (parent (wave_of g).tree u) in omega arith);
+    over = λ s e x stands is is_end.
+        (let before = looked.over s e x stands is is_end in
+        let same = i.settled u some in let bound = i.bound in let far = i.far x.node in omega arith);
+    out = λ s e stands is.
+        (let before = looked.out s e stands is in
+        let same = i.settled u some in let bound = i.bound in omega arith);
+    bottom = λ w known is free.
+        (let before = looked.bottom w known is free in
+        let same = i.settled u some in let bound = i.bound in omega arith);
+  }
+
+  pub start_kept : (g : Ground) (x : End) → IsStartedAt g old x → IsStartedAt g new x
+  start_kept g x before =
+      (let same = ap (λ s. reach_cost (wave_of g) (state_at g) s x) i.split in
+      let least = i.least in
+      let bound = i.bound in
+      let far = i.far x.node in
+      omega arith)
+
+  pub started_kept : (g : Ground) → HasStarted g old → HasStarted g new
+  started_kept g started = λ x is.
+      start_kept g x (started x (subst (λ s. IsEnd (wave_of g) s x) i.split is))
+
+module _ (old new : Search) (i : Improves old new) where
+  pub before_same : (u x : TreeNode) → IsBefore old u x → IsBefore new u x
+  before_same u x b = (
+    (let one = same_order old new i u in let some = b.0 in omega arith),
+    elim b.1 [
+      | inl none ↦ inl (same_order old new i x ∙ none)
+      | inr less ↦ inr (let one = same_order old new i u in let two = same_order old new i x in omega arith)
+    ],
+  )
+
+  pub some_same : (u : TreeNode) → 0 < order_at old u → 0 < order_at new u
+  some_same u some = (let one = same_order old new i u in omega arith)
+
+  pub at_kept : (c : TreeNode) → IsAt old c → IsAt new c
+  at_kept c at = record {
+    settled = (let one = same_order old new i c in let some = at.settled in omega arith);
+    reached =
+        (let same = i.nearer.settled c at.settled in let limit = i.nearer.limit in let near = at.reached in omega arith);
+    last = λ u some.
+        (let order = same_order old new i u in
+        let before : 0 < order_at old u = omega arith in
+        let one = i.nearer.settled u before in
+        let two = i.nearer.settled c at.settled in
+        let last = at.last u before in
+        omega arith);
+  }
+
+pub improves_trans : (a b c : Search) → Improves a b → Improves b c → Improves a c
+improves_trans a b c i j = record {
+  nearer = record {
+    split = j.nearer.split ∙ i.nearer.split;
+    least = j.nearer.least ∙ i.nearer.least;
+    limit = j.nearer.limit ∙ i.nearer.limit;
+    bound = (let one = i.nearer.bound in let two = j.nearer.bound in omega arith);
+    far = λ v. (let one = i.nearer.far v in let two = j.nearer.far v in omega arith);
+    settled = λ u some.
+        (let one = i.nearer.settled u some in
+        let two = j.nearer.settled u (some_same a b i u some) in
+        omega arith);
+  };
+  looked = j.looked ∙ i.looked;
+  order = j.order ∙ i.order;
+}
+
+-- a node that was come to nearer
+module _ (old : Search) (far : NodeTable ℕ) (how : NodeTable Step) (node : TreeNode) (distance : ℕ) (step : Step)
+    (bound : distance < old.bound) (near : distance < far_at old node)
+    (beyond : (u : TreeNode) → 0 < order_at old u → far_at old u ≤ distance)
+    (here : (d : ℕ) → at_or far d node ≡ distance)
+    (others : (d : ℕ) (v : TreeNode) → v ≢ node → at_or far d v ≡ at_or old.far d v)
+    (how_here : (d : Step) → at_or how d node ≡ step)
+    (how_others : (d : Step) (v : TreeNode) → v ≢ node → at_or how d v ≡ at_or old.how d v) where
+  abbrev reached : Search
+  reached = record old { far = far; how = how }
+
+  is_open : order_at old node ≡ 0
+  is_open = elim (cases_lt 0 (order_at old node)) [
+    | inl some ↦ absurd (let past = beyond node some in omega arith)
+    | inr none ↦ omega arith
+  ]
+
+  reach_nearer : IsNearer old reached
+  reach_nearer = record {
+    split = refl;
+    least = refl;
+    limit = refl;
+    bound = omega arith;
+    far = λ v. elim (same_or_not v node) [
+      | inl e ↦
+          (let now = here old.limit in
+          let a = ap (far_at reached) e in
+          let b = ap (far_at old) e in
+          omega arith)
+      | inr n ↦ (let same = others old.limit v n in omega arith)
+    ];
+    settled = λ u some. others old.limit u (λ e. (let none = is_open in
+        let a = ap (order_at old) e in omega arith));
+  }
+
+  pub reach_improves : Improves old reached
+  reach_improves = record { nearer = reach_nearer; looked = refl; order = refl }
+
+  pub reach_kept : (g : Ground) → IsOver (wave_of g).tree far → IsOver (wave_of g).tree how → IsSearching g old
+      → (order_at old node ≡ 0 → LeadsTo g old node distance step) → IsSearching g reached
+  reach_kept g over_far over_how s leads = record {
+    far = over_far;
+    how = over_how;
+    order = s.order;
+    limit = s.limit;
+    bound = s.bound;
+    most = λ v. (let less = reach_nearer.far v in let most = s.most v in omega arith);
+    few = s.few;
+    steps = λ v less. elim (same_or_not v node) [
+      | inl e ↦ subst (λ v. LeadsTo g reached v (far_at reached v) (step_at reached v)) (sym e)
+          (subst (λ d. LeadsTo g reached node d (step_at reached node)) (sym (here old.limit))
+          (subst (λ st. LeadsTo g reached node distance st) (sym (how_here Down))
+          (leads_kept old reached reach_nearer (λ u x b. b) (λ u some. some) g node distance step (leads is_open))))
+      | inr n ↦
+          (let same = others old.limit v n in
+          subst (λ d. LeadsTo g reached v d (step_at reached v)) (sym same)
+          (subst (λ st. LeadsTo g reached v (far_at old v) st) (sym (how_others Down v n))
+          (leads_kept old reached reach_nearer (λ u x b. b) (λ u some. some) g v (far_at old v) (step_at old v) (s.steps v (omega arith)))))
+    ];
+    level = λ u v some none.
+        (let one = reach_nearer.settled u some in
+        elim (same_or_not v node) [
+          | inl e ↦
+              (let now = here old.limit in
+              let a = ap (far_at reached) e in
+              let past = beyond u some in
+              omega arith)
+          | inr n ↦ (let same = others old.limit v n in let level = s.level u v some none in omega arith)
+        ]);
+    goal = ends_kept old reached reach_nearer (λ u x b. b) (λ u some. some) g old.bound old.goal s.goal;
+  }
+
+-- an end of a way that was come to nearer
+module _ (old : Search) (goal : Goal) (distance : ℕ) (bound : distance < old.bound) where
+  abbrev arrived : Search
+  arrived = record old { bound = distance; goal = goal }
+
+  arrive_nearer : IsNearer old arrived
+  arrive_nearer = record {
+    split = refl;
+    least = refl;
+    limit = refl;
+    bound = omega arith;
+    far = λ v. omega arith;
+    settled = λ u some. refl;
+  }
+
+  pub arrive_improves : Improves old arrived
+  arrive_improves = record { nearer = arrive_nearer; looked = refl; order = refl }
+
+  pub arrive_kept : (g : Ground) → IsSearching g old → EndsIn g old distance goal → IsSearching g arrived
+  arrive_kept g s ends = record {
+    far = s.far;
+    how = s.how;
+    order = s.order;
+    limit = s.limit;
+    bound = (let most = s.bound in omega arith);
+    most = s.most;
+    few = s.few;
+    steps = λ v less. leads_kept old arrived arrive_nearer (λ u x b. b) (λ u some. some) g v (far_at old v) (step_at old v) (s.steps v less);
+    level = s.level;
+    goal = ends_kept old arrived arrive_nearer (λ u x b. b) (λ u some. some) g distance goal ends;
+  }
+
+-- a node that is looked from next
+module _ (g : Ground) (old : Search) (order : NodeTable ℕ) (c : TreeNode) (s : IsSearching g old)
+    (nearest : IsNearest g old c) (over : IsOver (wave_of g).tree order)
+    (here : at_or order 0 c ≡ old.looked + 1)
+    (others : (v : TreeNode) → v ≢ c → at_or order 0 v ≡ order_at old v) where
+  abbrev settled : Search
+  settled = record old { order = order; looked = old.looked + 1 }
+
+  settle_nearer : IsNearer old settled
+  settle_nearer = record {
+    split = refl;
+    least = refl;
+    limit = refl;
+    bound = omega arith;
+    far = λ v. omega arith;
+    settled = λ u some. refl;
+  }
+
+  other : (u : TreeNode) → 0 < order_at old u → u ≢ c
+  other u some e = (let none = nearest.fresh in let a = ap (order_at old) e in omega arith)
+
+  before_next : (u x : TreeNode) → IsBefore old u x → IsBefore settled u x
+  before_next u x b =
+      let same = others u (other u b.0) in
+      let few = s.few u in
+      let some = b.0 in (
+        omega arith,
+        elim (same_or_not x c) [
+          | inl e ↦ inr (let a = ap (order_at settled) e in omega arith)
+          | inr n ↦ (let as_it_was = others x n in elim b.1 [
+            | inl none ↦ inl (omega arith)
+            | inr less ↦ inr (omega arith)
+          ])
+        ],
+      )
+
+  some_next : (u : TreeNode) → 0 < order_at old u → 0 < order_at settled u
+  some_next u some = (let same = others u (other u some) in omega arith)
+
+  was_open : (v : TreeNode) → order_at settled v ≡ 0 → order_at old v ≡ 0
+  was_open v none = elim (same_or_not v c) [
+    | inl e ↦ absurd (let a = ap (order_at settled) e in omega arith)
+    | inr n ↦ (let same = others v n in omega arith)
+  ]
+
+  -- no node that was looked from is farther than it, and none that was not is nearer
+  settled-le : (u : TreeNode) → 0 < order_at settled u → far_at old u ≤ far_at old c
+  settled-le u some = elim (same_or_not u c) [
+    | inl e ↦ (let a = ap (far_at old) e in omega arith)
+    | inr n ↦ (let same = others u n in s.level u c (omega arith) nearest.fresh)
+  ]
+
+  pub settle_kept : IsSearching g settled
+  settle_kept = record {
+    far = s.far;
+    how = s.how;
+    order = over;
+    limit = s.limit;
+    bound = s.bound;
+    most = s.most;
+    few = λ v. elim (same_or_not v c) [
+      | inl e ↦ (let a = ap (order_at settled) e in omega arith)
+      | inr n ↦ (let same = others v n in let few = s.few v in omega arith)
+    ];
+    steps = λ v less. leads_kept old settled settle_nearer before_next some_next g v (far_at old v) (step_at old v)
+        (s.steps v less);
+    level = λ u v some none.
+        (let one = settled-le u some in let two = nearest.least v (was_open v none) in omega arith);
+    goal = ends_kept old settled settle_nearer before_next some_next g old.bound old.goal s.goal;
+  }
+
+  pub settle_at : IsAt settled c
+  settle_at = record {
+    settled = (let now = here in omega arith);
+    reached = (let near = nearest.near in let most = s.bound in omega arith);
+    last = settled-le;
+  }
+
+  pub settles_then : (new : Search) → Improves settled new → Settles old new c
+  settles_then new i = record {
+    nearer = record {
+      split = i.nearer.split;
+      least = i.nearer.least;
+      limit = i.nearer.limit;
+      bound = i.nearer.bound;
+      far = i.nearer.far;
+      settled = λ u some. i.nearer.settled u (some_next u some);
+    };
+    looked = i.looked;
+    here = same_order settled new i c ∙ here;
+    others = λ v n. same_order settled new i v ∙ others v n;
+  }

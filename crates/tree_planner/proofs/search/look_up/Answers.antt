@@ -1,0 +1,24 @@
+use Rattle.std.proofs.Common.{arith, inl, sym, ap}
+use Rattle.tree_planner.specs.Searching.{state_at}
+use Rattle.tree_planner.proofs.search.look_up.Goals as goal
+
+pub overflow_add-distance : goal.overflow_add-distance
+overflow_add-distance c =
+    let most = c.requires.searching.most c.args.node in
+    let limit = c.requires.searching.limit in
+    let small = c.requires.ground.small in
+    omega arith
+
+pub returns-then-flow_of-gt0-clause-searching : goal.returns-then-flow_of-gt0-clause-searching
+returns-then-flow_of-gt0-clause-searching c =
+    c.reach.ensures.kept c.args.ground.now c.requires.searching (λ none. record {
+      known = c.requires.known;
+      hangs = λ e.
+          (let top = c.requires.ground.kept.balanced.top in
+          let same = ap (state_at c.args.ground.now).flow e in
+          omega arith);
+      above = sym c.above-up.ensures.node;
+      before = (c.requires.at.settled, inl none);
+      some = omega arith;
+      cost = omega arith;
+    })

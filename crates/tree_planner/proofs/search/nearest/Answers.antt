@@ -1,0 +1,14 @@
+use Rattle.std.proofs.Common.{◌≡◌, ◌≤◌, arith}
+use Rattle.tree_planner.specs.declared.nodes.TreeNode.TheVariants.{Worker}
+use Rattle.tree_planner.specs.Searching.{far_at, far_of, order_at}
+use Rattle.tree_planner.proofs.Looked.{at_each, found_nearest}
+use Rattle.tree_planner.proofs.search.nearest.Goals as goal
+
+pub returns : goal.returns
+returns c =
+    let g = c.args.ground.now in
+    let search = c.args.search.now in
+    found_nearest g search c.loop-node.best c.requires.searching c.loop-node.invariant.fresh
+    (λ v known. at_each g.nodes.now (Worker 0)
+    (λ v. order_at search v ≡ 0 → far_of search c.loop-node.best ≤ far_at search v)
+    (λ k l. c.loop-node.invariant.seen k (omega arith)) v (c.requires.ground.nodes.each v known))

@@ -1,0 +1,212 @@
+-- What a search for a slot keeps to, and what it finds.
+use Rattle.std.specs.Prelude.{ℕ, ◌≡◌, ◌≢◌, ◌+◌, ◌^◌, ◌<◌, ◌≤◌, ◌⊎◌, min, length, Option, Some, None, MatchOption}
+use Rattle.wave_problem.specs.declared.TheConstants.{MAX_SPLITS}
+use Rattle.wave_problem.specs.Wave.{Wave, reward}
+use Rattle.tree_planner.specs.declared.nodes.End.{End}
+use Rattle.tree_planner.specs.declared.nodes.Place.TheVariants.{Stands}
+use Rattle.tree_planner.specs.declared.nodes.TreeNode.{TreeNode}
+use Rattle.tree_planner.specs.declared.nodes.TreeNode.TheVariants.{Worker, Cluster}
+use Rattle.tree_planner.specs.declared.search.Goal.{Goal}
+use Rattle.tree_planner.specs.declared.search.Goal.TheVariants.{Wait, Slot, Off}
+use Rattle.tree_planner.specs.declared.search.Ground.{Ground}
+use Rattle.tree_planner.specs.declared.search.Search.{Search}
+use Rattle.tree_planner.specs.declared.search.Step.{Step}
+use Rattle.tree_planner.specs.declared.search.Step.TheVariants.{Start, Down, Up, Over}
+use Rattle.tree_planner.specs.Ends.{AreEnds}
+use Rattle.tree_planner.specs.Moves.{IsLookedFrom}
+use Rattle.tree_planner.specs.Nodes.{parent, AreNodes, IsEnd, IsKnown, IsNode}
+use Rattle.tree_planner.specs.State.{State, place_of, reach_cost, slots_of, sum_under, IsKept}
+use Rattle.tree_planner.specs.Table.{at_node, at_or, IsOver}
+use Rattle.tree_planner.specs.View.{state_of, AreTables}
+
+abbrev pub wave_of : Ground → Wave
+wave_of g = g.problem.now
+
+abbrev pub state_at : Ground → State
+state_at g = state_of g.tables.now
+
+-- what a search stands on: a state that is kept to, none of whose nodes lies deeper than the reward
+pub record IsGround (g : Ground) : Type 0 where
+  pub known : IsKnown (wave_of g)
+  pub small : reward (wave_of g) < 2 ^ 40
+  pub few : length (wave_of g).splits ≤ MAX_SPLITS
+  pub nodes : AreNodes (wave_of g).tree g.nodes.now
+  pub ends : AreEnds (wave_of g) g.ends.now
+  pub over : IsOver (wave_of g).tree g.slots.now
+  pub slots : (v : TreeNode) → at_node g.slots.now v ≡ sum_under (wave_of g) v (slots_of (wave_of g))
+  pub tables : AreTables (wave_of g) g.tables.now
+  pub low : (v : TreeNode) → (state_at g).depth v ≤ reward (wave_of g)
+  pub kept : IsKept (wave_of g) (state_at g)
+
+-- how far a node is at most: as the search came to it, or as far as it may go
+abbrev pub far_at : Search → TreeNode → ℕ
+far_at search v = at_or search.far search.limit v
+
+-- as which one it was looked from, from 1, or 0 if it was not yet
+abbrev pub order_at : Search → TreeNode → ℕ
+order_at search v = at_or search.order 0 v
+
+-- how it was come to
+abbrev pub step_at : Search → TreeNode → Step
+step_at search v = at_or search.how Down v
+
+-- the first was looked from, before the second was
+abbrev pub IsBefore : Search → TreeNode → TreeNode → Type 0
+IsBefore search u x = (0 < order_at search u) × ((order_at search x ≡ 0) ⊎ (order_at search u < order_at search x))
+
+-- the split that is to be shipped has an end there, at no more than this distance
+pub record StartsAt (g : Ground) (search : Search) (x : TreeNode) (distance level : ℕ) : Type 0 where
+  pub is_end : IsEnd (wave_of g) search.split (record { node = x; level = level })
+  pub cost : reach_cost (wave_of g) (state_at g) search.split (record { node = x; level = level })
+      ≤ distance + search.least
+
+-- a unit more can go down to the node, at no more than this distance
+pub record GoesDown (g : Ground) (search : Search) (x : TreeNode) (distance : ℕ) : Type 0 where
+  pub hangs : x ≢ Cluster
+  pub before : IsBefore search (parent (wave_of g).tree x) x
+  pub room : (state_at g).flow x < sum_under (wave_of g) x (slots_of (wave_of g))
+  pub cost : far_at search (parent (wave_of g).tree x) + (state_at g).depth x
+      ≤ distance + (state_at g).depth (parent (wave_of g).tree x)
+
+-- a unit less can go down from it to c
+pub record GoesUp (g : Ground) (search : Search) (x : TreeNode) (distance : ℕ) (c : TreeNode) : Type 0 where
+  pub known : IsNode (wave_of g).tree c
+  pub hangs : c ≢ Cluster
+  pub above : parent (wave_of g).tree c ≡ x
+  pub before : IsBefore search c x
+  pub some : 0 < (state_at g).flow c
+  pub cost : far_at search c + (state_at g).depth x ≤ distance + (state_at g).depth c
+
+-- the split t can go over to it
+pub record GoesOver (g : Ground) (search : Search) (x : TreeNode) (distance t level : ℕ) : Type 0 where
+  pub from : End
+  pub stands : place_of (state_at g) t ≡ Stands from
+  pub is_end : IsEnd (wave_of g) t (record { node = x; level = level })
+  pub before : IsBefore search from.node x
+  pub cost : far_at search from.node
+      + reach_cost (wave_of g) (state_at g) t (record { node = x; level = level })
+      ≤ distance + reach_cost (wave_of g) (state_at g) t from
+
+-- a step leads to a node, at no more than this distance
+abbrev pub LeadsTo : Ground → Search → TreeNode → ℕ → Step → Type 0
+LeadsTo g search x distance (Start level) = StartsAt g search x distance level
+LeadsTo g search x distance Down = GoesDown g search x distance
+LeadsTo g search x distance (Up c) = GoesUp g search x distance c
+LeadsTo g search x distance (Over t level) = GoesOver g search x distance t level
+
+-- a worker has a free slot, at no more than the bound
+pub record EndsInSlot (g : Ground) (search : Search) (bound w : ℕ) : Type 0 where
+  pub known : w < length (wave_of g).workers
+  pub some : 0 < (state_at g).free w
+  pub reached : far_at search (Worker w) < search.limit
+  pub settled : 0 < order_at search (Worker w)
+  pub near : far_at search (Worker w) ≤ bound
+
+-- a split can be sent off
+pub record EndsOff (g : Ground) (search : Search) (bound t : ℕ) : Type 0 where
+  pub from : End
+  pub stands : place_of (state_at g) t ≡ Stands from
+  pub reached : far_at search from.node < search.limit
+  pub settled : 0 < order_at search from.node
+  pub near : far_at search from.node + reward (wave_of g) ≤ bound + reach_cost (wave_of g) (state_at g) t from
+
+-- a way ends there, at no more than the bound
+abbrev pub EndsIn : Ground → Search → ℕ → Goal → Type 0
+EndsIn g search bound Wait = bound ≡ search.limit
+EndsIn g search bound (Slot w) = EndsInSlot g search bound w
+EndsIn g search bound (Off t) = EndsOff g search bound t
+
+-- what a search keeps to
+pub record IsSearching (g : Ground) (search : Search) : Type 0 where
+  pub far : IsOver (wave_of g).tree search.far
+  pub how : IsOver (wave_of g).tree search.how
+  pub order : IsOver (wave_of g).tree search.order
+  pub limit : search.limit + search.least ≡ reward (wave_of g)
+  pub bound : search.bound ≤ search.limit
+  pub most : (v : TreeNode) → far_at search v ≤ search.limit
+  pub few : (v : TreeNode) → order_at search v ≤ search.looked
+  pub steps : (v : TreeNode) → far_at search v < search.limit
+      → LeadsTo g search v (far_at search v) (step_at search v)
+  pub level : (u v : TreeNode) → 0 < order_at search u → order_at search v ≡ 0 → far_at search u ≤ far_at search v
+  pub goal : EndsIn g search search.bound search.goal
+
+-- an end of the split was come to, or lies past the bound
+abbrev pub IsStartedAt : Ground → Search → End → Type 0
+IsStartedAt g search x = min search.bound (far_at search x.node) + search.least
+    ≤ reach_cost (wave_of g) (state_at g) search.split x
+
+abbrev pub HasStarted : Ground → Search → Type 0
+HasStarted g search = (x : End) → IsEnd (wave_of g) search.split x → IsStartedAt g search x
+
+-- the node has been looked from
+abbrev pub HasLookedFrom : Ground → Search → TreeNode → Type 0
+HasLookedFrom g search u = IsLookedFrom (wave_of g) (state_at g) (far_at search) search.bound u
+
+-- nodes that were not looked from may have come nearer, and the goal
+pub record IsNearer (old new : Search) : Type 0 where
+  pub split : new.split ≡ old.split
+  pub least : new.least ≡ old.least
+  pub limit : new.limit ≡ old.limit
+  pub bound : new.bound ≤ old.bound
+  pub far : (v : TreeNode) → far_at new v ≤ far_at old v
+  pub settled : (u : TreeNode) → 0 < order_at old u → far_at new u ≡ far_at old u
+
+-- and nothing else
+pub record Improves (old new : Search) : Type 0 where
+  pub nearer : IsNearer old new
+  pub looked : new.looked ≡ old.looked
+  pub order : new.order ≡ old.order
+
+-- the search looks from this node, and no other that it has looked from is farther
+pub record IsAt (search : Search) (c : TreeNode) : Type 0 where
+  pub settled : 0 < order_at search c
+  pub reached : far_at search c < search.limit
+  pub last : (u : TreeNode) → 0 < order_at search u → far_at search u ≤ far_at search c
+
+-- what a search finds: it has looked from each node nearer than the goal
+pub record IsSearched (g : Ground) (search : Search) : Type 0 where
+  pub searching : IsSearching g search
+  pub started : HasStarted g search
+  pub looked : (u : TreeNode) → far_at search u < search.bound → HasLookedFrom g search u
+
+-- the nearest node that was not looked from, nearer than the bound
+pub record IsNearest (g : Ground) (search : Search) (c : TreeNode) : Type 0 where
+  pub known : IsNode (wave_of g).tree c
+  pub fresh : order_at search c ≡ 0
+  pub near : far_at search c < search.bound
+  pub least : (v : TreeNode) → order_at search v ≡ 0 → far_at search c ≤ far_at search v
+
+-- a node that may be looked from next, if any
+abbrev pub IsFresh : Ground → Search → Option TreeNode → Type 0
+IsFresh g search best = MatchOption best (Unit {0})
+    (λ c. IsNode (wave_of g).tree c × (order_at search c ≡ 0) × (far_at search c < search.bound))
+
+-- how far it is, or how far the goal is
+abbrev pub far_of : Search → Option TreeNode → ℕ
+far_of search None = search.bound
+far_of search (Some c) = far_at search c
+
+-- c was looked from next
+pub record Settles (old new : Search) (c : TreeNode) : Type 0 where
+  pub nearer : IsNearer old new
+  pub looked : new.looked ≡ old.looked + 1
+  pub here : order_at new c ≡ old.looked + 1
+  pub others : (v : TreeNode) → v ≢ c → order_at new v ≡ order_at old v
+
+-- the step down from c to v was taken
+abbrev pub IsDown : Ground → Search → TreeNode → TreeNode → Type 0
+IsDown g search c v = parent (wave_of g).tree v ≡ c
+    → (state_at g).flow v < sum_under (wave_of g) v (slots_of (wave_of g))
+    → min search.bound (far_at search v) + (state_at g).depth c ≤ far_at search c + (state_at g).depth v
+
+-- the step of t from an end to another was taken
+abbrev pub IsOverTo : Ground → Search → End → ℕ → End → Type 0
+IsOverTo g search e t x = min search.bound (far_at search x.node) + reach_cost (wave_of g) (state_at g) t e
+    ≤ far_at search e.node + reach_cost (wave_of g) (state_at g) t x
+
+-- all steps of t, where it stands on c, were taken
+pub record GoesAllOver (g : Ground) (search : Search) (c : TreeNode) (t : ℕ) : Type 0 where
+  pub over : (e x : End) → place_of (state_at g) t ≡ Stands e → e.node ≡ c → IsEnd (wave_of g) t x
+      → IsOverTo g search e t x
+  pub out : (e : End) → place_of (state_at g) t ≡ Stands e → e.node ≡ c
+      → search.bound + reach_cost (wave_of g) (state_at g) t e ≤ far_at search e.node + reward (wave_of g)
