@@ -32,6 +32,15 @@ expect() { # NAME STATUS WANTED-STATUS WANTED-OUT WANTED-ERR
     fi
 }
 
+# Runs the program with these words and an output that nobody reads, and tells the status.
+left() { # WORDS..
+    python3 -c '
+import os, subprocess, sys
+reader, writer = os.pipe()
+os.close(reader)
+print(subprocess.run(sys.argv[1:], stdout=writer).returncode)' "$program" "$@" 2> "$room/err"
+}
+
 # Runs the program with these words on standard input, and tells the status.
 given() { # WORDS..
     local status=0
@@ -81,6 +90,12 @@ for program in "$@"; do
     expect "a script that cannot be read" "$(given play < /)" 4 nothing "mrjob: read fault"
     expect "a job that cannot be read" "$(given run < /)" 4 nothing "mrjob: read fault"
     status=0
+    : > "$room/out"
+    expect "a check without a reader" "$(left check < "$text")" 141 nothing nothing
+    expect "a plan without a reader" "$(left plan < examples/plan_swap.txt)" 141 nothing nothing
+    expect "a report without a reader" "$(left play < examples/play_first.txt)" 141 nothing nothing
+    expect "an index without a reader" "$(left run < examples/run_words.txt)" 141 nothing nothing
+    expect "explanations without a reader" "$(left explain)" 141 nothing nothing
     "$program" check < "$text" > /dev/full 2> "$room/err" || status=$?
     : > "$room/out"
     expect "an output that takes nothing" "$status" 4 nothing "mrjob: write fault"

@@ -8,12 +8,14 @@ const IGNORED: &[u8] = b"ignored ";
 // Numbers from here on are no reasons.
 const REASONS: u8 = 32;
 
-/// A writer that hears for which reasons commands were ignored, by the lines that it passes on.
+/// A writer that hears for which reasons commands were ignored, by the lines that it passes on, and whether its
+/// reader has gone.
 #[derive(Drop)]
 pub struct Listening<W: Write> {
     writer: W,
     listens: bool,
     heard: Heard,
+    is_left: bool,
 }
 
 // What was heard of the present line, and of all lines before.
@@ -40,12 +42,26 @@ impl<W: Write> Listening<W> {
                 number: 0,
                 reasons: 0,
             },
+            is_left: false,
         }
     }
 
     /// Whether a command was ignored for this reason.
     pub fn has_heard(&self, reason: u8) -> bool {
         reason < REASONS && self.heard.reasons & (1 << reason) != 0
+    }
+
+    /// Whether a write failed because nobody reads any more.
+    pub fn is_left(&self) -> bool {
+        self.is_left
+    }
+
+    fn note(&mut self, error: &io::Error)
+        ensures { W.contents self.new.writer ≡ W.contents self.old.writer }
+    {
+        if error.kind() == io::ErrorKind::BrokenPipe {
+            self.is_left = true;
+        }
     }
 }
 
@@ -90,14 +106,27 @@ impl<W: Write> Write for Listening<W> {
     ghost contents = { λ listening. W.contents listening.writer };
 
     fn write(&mut self, buf: &[u8]) -> io::Result<usize> {
-        let count = self.writer.write(buf)?;
-        if self.listens {
-            self.heard.hear_all(&buf[..count]);
+        match self.writer.write(buf) {
+            Ok(count) => {
+                if self.listens {
+                    self.heard.hear_all(&buf[..count]);
+                }
+                Ok(count)
+            }
+            Err(error) => {
+                self.note(&error);
+                Err(error)
+            }
         }
-        Ok(count)
     }
 
     fn flush(&mut self) -> io::Result<()> {
-        self.writer.flush()
+        match self.writer.flush() {
+            Ok(()) => Ok(()),
+            Err(error) => {
+                self.note(&error);
+                Err(error)
+            }
+        }
     }
 }

@@ -134,4 +134,6 @@ table =
     (codes "a job's history is not made of its threads' calls, or a thread could not be started")
     ∷ status (codes "64")
     (codes "usage: the words of the command line ask for nothing")
+    ∷ status (codes "141")
+    (codes "the reader of the answer has gone")
     ∷ []

@@ -16,7 +16,7 @@ pub struct Entry {
 }
 
 // Faults, conditions, the reasons of ignored commands, statuses.
-const ENTRIES: [Entry; 43] = [
+const ENTRIES: [Entry; 44] = [
     Entry {
         kind: "fault",
         name: "1",
@@ -231,6 +231,11 @@ const ENTRIES: [Entry; 43] = [
         kind: "status",
         name: "64",
         sentence: "usage: the words of the command line ask for nothing",
+    },
+    Entry {
+        kind: "status",
+        name: "141",
+        sentence: "the reader of the answer has gone",
     },
 ];
 

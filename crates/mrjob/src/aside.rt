@@ -25,8 +25,13 @@ impl<'a> Aside<'a> {
         Copying::new(self.rt.alloc(), self.rt.stdin(), self.explains)
     }
 
-    // Standard output, which is listened to where ignored commands would be told.
+    // Standard output.
     pub(crate) fn writer(&self) -> Listening<Stdout> {
+        Listening::new(self.rt.stdout(), false)
+    }
+
+    // Standard output, which is listened to where ignored commands would be told.
+    pub(crate) fn listening_writer(&self) -> Listening<Stdout> {
         Listening::new(self.rt.stdout(), self.explains)
     }
 

@@ -13,11 +13,14 @@ mod terminal;
 
 use crate::aside::Aside;
 use crate::terminal::Terminal;
+use answer_notes::Listening;
 use command_line::ask;
 use command_line::asked::{Ask, AskError, CheckOptions, PlanOptions, PlayOptions, RunOptions};
+use explanations::Entry;
 use job_run::{
     PlainGate, PlayEnd, RunEnd, RunError, RunTextError, play_observed, run_text_observed,
 };
+use std::io::Stdout;
 use std::process::ExitCode;
 use std::rt::Clock;
 use std::sync::Wait;
@@ -92,33 +95,39 @@ fn run_command(
         Ask::Plan(options) => run_plan(rt, options),
         Ask::Play(options) => run_play(rt, options),
         Ask::Run(options) => run_job(rt, threads, options),
-        Ask::Explain(entry) => {
-            Ending::of_explaining(explain(rt.alloc(), &mut rt.stdout(), entry))
-        }
+        Ask::Explain(entry) => run_explain(rt, entry),
     }
+}
+
+fn run_explain(rt: &HostRuntime, entry: Option<Entry>) -> Ending {
+    let mut output = Aside::new(rt, false).writer();
+    or_left(
+        Ending::of_explaining(explain(rt.alloc(), &mut output, entry)),
+        &output,
+    )
 }
 
 fn run_check(rt: &HostRuntime, threads: &(impl Threads + Sync), options: CheckOptions) -> Ending {
     let aside = Aside::new(rt, options.explain);
-    let mut input = aside.reader();
-    let end = check_on(threads, rt.alloc(), &mut input, &mut rt.stdout());
+    let (mut input, mut output) = (aside.reader(), aside.writer());
+    let end = check_on(threads, rt.alloc(), &mut input, &mut output);
     aside.tell_check(&input, &end);
-    Ending::of_check(end)
+    or_left(Ending::of_check(end), &output)
 }
 
 fn run_plan(rt: &HostRuntime, options: PlanOptions) -> Ending {
     let aside = Aside::new(rt, options.explain);
-    let mut input = aside.reader();
-    let end = plan(rt.alloc(), &mut input, &mut rt.stdout(), options);
+    let (mut input, mut output) = (aside.reader(), aside.writer());
+    let end = plan(rt.alloc(), &mut input, &mut output, options);
     if let Err(error) = end {
         aside.tell_fault(&input, error);
     }
-    Ending::of_plan(end)
+    or_left(Ending::of_plan(end), &output)
 }
 
 fn run_play(rt: &HostRuntime, options: PlayOptions) -> Ending {
     let aside = Aside::new(rt, options.explain);
-    let (mut input, mut output) = (aside.reader(), aside.writer());
+    let (mut input, mut output) = (aside.reader(), aside.listening_writer());
     let told = Terminal::new(rt, options.quiet);
     let end = play_observed(rt.alloc(), &mut input, &mut output, &told);
     told.clear();
@@ -126,7 +135,7 @@ fn run_play(rt: &HostRuntime, options: PlayOptions) -> Ending {
         Ok(_) => aside.tell_reasons(&output),
         Err(error) => aside.tell_fault(&input, error),
     }
-    of_play(end)
+    or_left(of_play(end), &output)
 }
 
 fn run_job(
@@ -135,13 +144,13 @@ fn run_job(
     options: RunOptions,
 ) -> Ending {
     let aside = Aside::new(rt, options.explain);
-    let mut input = aside.reader();
+    let (mut input, mut output) = (aside.reader(), aside.writer());
     let told = Terminal::new(rt, options.quiet);
     let end = run_text_observed(
         threads,
         rt.alloc(),
         &mut input,
-        &mut rt.stdout(),
+        &mut output,
         &PlainGate,
         &told,
         options.history,
@@ -150,7 +159,15 @@ fn run_job(
     if let Err(RunTextError::Tool(error)) = end {
         aside.tell_fault(&input, error);
     }
-    of_run(end)
+    or_left(of_run(end), &output)
+}
+
+// A write that failed since nobody reads any more needs no words.
+fn or_left(ending: Ending, output: &Listening<Stdout>) -> Ending {
+    match ending {
+        Ending::Failed(ToolError::Write) if output.is_left() => Ending::Left,
+        _ => ending,
+    }
 }
 
 // The end of a program whose playing ended so.

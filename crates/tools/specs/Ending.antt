@@ -13,8 +13,8 @@ use Rattle.text_reading.specs.declared.tool_error.ToolError.TheVariants.{Write}
 use Rattle.tools.specs.declared.ending.CheckEnd.{CheckEnd}
 use Rattle.tools.specs.declared.ending.CheckEnd.TheVariants as check
 use Rattle.tools.specs.declared.ending.Ending.{Ending}
-use Rattle.tools.specs.declared.ending.Ending.TheVariants.{Failed, GateLimit, Misused, NoThread, Refused}
-use Rattle.tools.specs.declared.ending.Ending.TheVariants.{Stuck, Torn, Well}
+use Rattle.tools.specs.declared.ending.Ending.TheVariants.{Failed, GateLimit, Left, Misused, NoThread}
+use Rattle.tools.specs.declared.ending.Ending.TheVariants.{Refused, Stuck, Torn, Well}
 use Rattle.tools.specs.declared.ending.Message.{Message}
 use Rattle.tools.specs.declared.ending.PlanEnd.{PlanEnd}
 
@@ -54,6 +54,7 @@ status_of (Torn place) = 6
 status_of NoThread = 6
 status_of GateLimit = 6
 status_of Misused = 64
+status_of Left = 141
 
 -- the digits of a number that follows
 abbrev pub digits_of : Option ℕ → List ℕ

@@ -41,6 +41,8 @@ pub enum Ending {
     NoThread,
     /// What a job asks as it runs has ended it.
     GateLimit,
+    /// The reader of the answer has gone.
+    Left,
 }
 
 /// What is told on standard error, without its line feed: words, and a number after them where there is one.
@@ -106,6 +108,7 @@ impl Ending {
             Ending::Failed(ToolError::HistoryFull) => 5,
             Ending::Torn(_) | Ending::NoThread | Ending::GateLimit => 6,
             Ending::Misused => 64,
+            Ending::Left => 141,
         }
     }
 
@@ -125,7 +128,7 @@ impl Ending {
             Ending::NoThread => Some(plain("mrjob: no thread")),
             Ending::GateLimit => Some(plain("mrjob: gate limit")),
             Ending::Failed(ToolError::Text(_)) => None,
-            Ending::Well | Ending::Refused | Ending::Stuck | Ending::Misused => None,
+            Ending::Well | Ending::Refused | Ending::Stuck | Ending::Misused | Ending::Left => None,
         }
     }
 }
