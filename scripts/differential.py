@@ -33,7 +33,7 @@ RECORDED = {"job": 300}
 # How many splits the larger problems have, up to the most, with each size near it: more than a thread takes at once,
 # and more than there are slots for.
 MANY_SPLITS = [129, 200, 256, 257, 512, 1000, 1001, *range(1010, 1025)]
-# More than there are processors, since a job that is stuck mostly waits.
+# More than there are processors, since a job's threads nap where they have nothing to do.
 PROGRAMS_AT_ONCE = 4 * os.cpu_count()
 EXAMPLES = os.path.join(os.path.dirname(os.path.abspath(__file__)), "..", "examples")
 
@@ -86,7 +86,7 @@ def many(splits):
 
 def full_of_bytes(over):
     """A job of as many bytes as a text may have, or one more."""
-    front, end = b"job 1\nsilence 1000\nrack r\nworker a r 1\nsplit s 1 a\ndoc d s ", b"\nend\n"
+    front, end = b"job 1\nrack r\nworker a r 1\nsplit s 1 a\ndoc d s ", b"\nend\n"
     room = MAX_TEXT_BYTES + over - len(front) - len(end)
     return front + (b"some words " * room)[:room] + end
 

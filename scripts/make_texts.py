@@ -295,8 +295,7 @@ def job_lines(rnd):
         scenario.free = [min(free, 16) for free in scenario.free]
         scenario.holders = [held or [rnd.randrange(scenario.workers)] for held in scenario.holders]
     racks, workers, splits = scenario.cluster()
-    # (a job that is stuck ends after so many sweeps, each of which takes a while)
-    settings = [f"parts {rnd.randint(1, 4)}", f"target {rnd.randint(1, 8)}", "silence 1"]
+    settings = [f"parts {rnd.randint(1, 4)}", f"target {rnd.randint(1, 8)}", "silence 3"]
     head = [*racks, *workers, *splits, *documents_of(rnd, scenario)]
     for line in settings:
         head.insert(rnd.randint(0, len(head)), line)
@@ -311,12 +310,27 @@ def job(rnd):
 def wide_job(rnd):
     """A job of 32 workers, 64 parts and 300 splits."""
     words, workers = ["one", "two", "The", "the", "x1y", "zebra"], [f"w{at}" for at in range(32)]
-    lines = ["job 1", "parts 64", "silence 1", "rack r", "rack q"]
+    lines = ["job 1", "parts 64", "rack r", "rack q"]
     lines += [f"worker {name} {rnd.choice('rq')} {rnd.choice([1, 16])}" for name in workers]
     for at in range(300):
         lines.append(" ".join([f"split s{at} {rnd.randint(0, 99)}", *rnd.sample(workers, rnd.randint(1, 8))]))
         lines.append(" ".join([f"doc d{at} s{at}", *rnd.choices(words, k=9)]))
     return text_of([*lines, "end"])
+
+
+def long_word(number):
+    """Another word of five letters for each number below 26^5."""
+    letters = []
+    for _ in range(5):
+        number, letter = divmod(number, 26)
+        letters.append(chr(ord("a") + letter))
+    return "".join(letters)
+
+
+def long_job(rnd, count):
+    """A job of one worker, with one split of so many words, each another one, in any order."""
+    words = [long_word(number) for number in rnd.sample(range(26**5), count)]
+    return text_of(["job 1", "rack r", "worker a r 1", "split s 10 a", " ".join(["doc d s", *words]), "end"])
 
 
 def faulty_job(rnd):

@@ -4,23 +4,27 @@ taken away at the end; nothing with --quiet, or where standard error is no termi
 
     progress.py PROGRAM..
 
-The job is stuck, and is told to be so after as many sweeps as take more than two seconds of naps. The script has as
-many waves as it may have, and is ended when the first line was told. The last line is 'N passed, M failed'.
+The job has one map of so many words that it lasts for some seconds, beside a short one. The script has as many waves
+as it may have, and is ended when the first line was told. The last line is 'N passed, M failed'.
 """
 import os
 import pty
+import random
 import re
 import select
 import subprocess
 import sys
 
 sys.dont_write_bytecode = True
-import crates  # (it ends a script quietly where head does)
+import make_texts
+import reference_run
 
-JOB = b"job 1\nsilence 8\nrack r\nworker a r 1\nsplit s 10\ndoc d s one\nend\n"
-ANSWER = b"stuck 1\nopen s\n"
+JOB = make_texts.long_job(random.Random(1), 1_000_000).replace(
+    b"end\n", b"worker b r 1\nsplit t 10 b\ndoc e t one\nparts 3\nend\n"
+)
+ANSWER = reference_run.answer(JOB)[0]
 CLEAR = b"\r\x1b[K"
-LINE = CLEAR + b"maps 0 of 1, parts 0 of 1, waves 0, deaths 0"
+LINE = re.compile(rb"maps [012] of 2, parts [0-3] of 3, waves 1, deaths 0")
 SCRIPT = b"script 1\nrack r\nworker a r 0\n" + b"".join(b"split s%d 1 a\n" % it for it in range(64))
 SCRIPT += b"begin\n" + 65_536 * b"wave\n" + b"end\n"
 SCRIPT_LINE = re.compile(re.escape(CLEAR) + rb"command ([1-9]\d*) of 65536")
@@ -71,8 +75,9 @@ def main(programs):
         lines = told.split(CLEAR)
         checks = {
             "elsewhere nothing is told": (plain.stdout, plain.stderr) == (ANSWER, b""),
-            "a terminal is told": output == ANSWER and told.startswith(LINE) and told.endswith(CLEAR),
-            "the line is always the same": set(lines[1:-1]) == {LINE[len(CLEAR):]},
+            "a terminal is told": output == ANSWER and len(lines) > 2 and told.startswith(CLEAR) and lines[-1] == b"",
+            "each line says how far it is": all(LINE.fullmatch(line) for line in lines[1:-1]),
+            "it goes forward": lines[1:-1] == sorted(lines[1:-1]),
             "--quiet tells nothing": on_terminal([program, "run", "--quiet"]) == (ANSWER, b""),
             "a terminal is told of a script": bool(SCRIPT_LINE.fullmatch(told_of_script(program))),
         }

@@ -6,8 +6,9 @@
 - The made jobs of job_tests under their made gates, 10,000 of them; and how many blocks of memory a process holds at
   the end of one of 32 workers, and of 1,000.
 - Jobs of make_texts.py by `mrjob run`: bound to one processor, as 300 of the made jobs are, and at the lowest priority
-  beside a spinning process for each processor. Each has its own index, or is stuck, with all that nobody holds among
-  what is left.
+  beside a spinning process for each processor. Each has its own index, or is stuck with just what nobody holds.
+- Long jobs, of one split of up to 1,500,000 words, each another one: bound to one processor beside eight spinning
+  processes. No map is given up or made again.
 - A script of 65,536 commands, more than 1,000 waves among them, followed by reference_play.py.
 
 A failing seed can be run alone: with SEEDS="17 17" in the environment the tests of job_tests run
@@ -23,6 +24,7 @@ import tempfile
 import time
 from collections import Counter
 from concurrent.futures import ThreadPoolExecutor
+from contextlib import contextmanager
 from pathlib import Path
 
 sys.dont_write_bytecode = True
@@ -47,6 +49,7 @@ class Sizes:
         self.crowded = 0 if is_short else 300
         self.held = 100 if is_short else 1_000
         self.jobs = 12 if is_short else 200
+        self.words = [400_000] if is_short else [1_500_000, 1_500_000, 400_000]
         self.commands = 4_000 if is_short else 65_536
 
 
@@ -128,37 +131,30 @@ def job_texts(count):
 
 
 def wrong_run(said, text):
-    """Whether a job was stuck by its schedule alone; and what is wrong, or None."""
+    """What is wrong with how a job ended, or None."""
     wanted, (lines, status, words) = reference_run.answer(text), said
     if (lines, status) == wanted:
-        return False, None
-    first, *rest = lines.decode().split("\n")[:-1] or [""]
-    left = [line for line in wanted[0].decode().split("\n") if line.startswith("open ")]
-    splits = [f"open {name}" for name in re.findall(r"^split (\S+)", text.decode(), re.M)]
-    is_stuck = status == 1 and first == f"stuck {len(rest)}" and rest == [line for line in splits if line in rest]
-    if is_stuck and set(left) <= set(rest):
-        # (a thread that gets no processor for long enough passes for dead, and what it holds for lost)
-        return True, None
-    return False, f"it ends with {status}, {words}, {lines}, and the reference with {wanted}"
+        return None
+    return f"it ends with {status}, {words}, {lines[:999]}, and the reference with {wanted[1]}, {wanted[0][:999]}"
 
 
 def run_all(program, before, texts, pool):
-    stuck = done = 0
+    done = 0
     began = time.monotonic()
     longest = 0
     for (name, text), (said, took) in zip(texts, pool.map(lambda it: timed_run(program, before, it[1]), texts)):
-        is_stuck, wrong = wrong_run(said, text)
+        wrong = wrong_run(said, text)
         if wrong:
             raise Failure(f"{' '.join(before)}, {name}: {wrong}")
-        stuck, done, longest = stuck + is_stuck, done + (said[1] == 0), max(longest, took)
+        done, longest = done + (said[1] == 0), max(longest, took)
     whole = time.monotonic() - began
-    return (f"{len(texts)} runs: {done} done, {len(texts) - done} stuck, of these {stuck} by the schedule; "
+    return (f"{len(texts)} runs: {done} done, {len(texts) - done} stuck, none by its schedule; "
             f"{whole:.0f} s, the longest {longest:.1f} s")
 
 
-def timed_run(program, before, text):
+def timed_run(program, before, text, *words):
     began = time.monotonic()
-    return ran([*before, program, "run"], text), time.monotonic() - began
+    return ran([*before, program, "run", *words], text), time.monotonic() - began
 
 
 def on_one_processor(program, sizes, pool):
@@ -168,17 +164,43 @@ def on_one_processor(program, sizes, pool):
     return f"{told}; {run_gates(before, sizes.crowded, pool)}" if sizes.crowded else told
 
 
-def beside_spinners(program, sizes, pool):
-    """Jobs at the lowest priority, beside as many spinning processes as there are processors."""
-    # (they end with this process, however it ends)
-    spin = ["/bin/sh", "-c", "while kill -0 $0; do :; done", str(os.getpid())]
-    spinners = [subprocess.Popen(spin, stderr=subprocess.DEVNULL) for _ in PROCESSORS]
+@contextmanager
+def spinning(before, count):
+    """So many processes that spin. They end with this process, however it ends."""
+    spin = [*before, "/bin/sh", "-c", "while kill -0 $0; do :; done", str(os.getpid())]
+    spinners = [subprocess.Popen(spin, stderr=subprocess.DEVNULL) for _ in range(count)]
     try:
-        return run_all(program, ["nice", "-n", "19"], job_texts(sizes.jobs), pool)
+        yield
     finally:
         for spinner in spinners:
             spinner.kill()
             spinner.wait()
+
+
+def beside_spinners(program, sizes, pool):
+    """Jobs at the lowest priority, beside as many spinning processes as there are processors."""
+    with spinning([], len(PROCESSORS)):
+        return run_all(program, ["nice", "-n", "19"], job_texts(sizes.jobs), pool)
+
+
+def long_maps(program, sizes, _pool):
+    """Long jobs on one processor beside eight spinning processes, one after the other: none is given up, and none of
+    their maps and merges made again."""
+    before = ["taskset", "-c", str(PROCESSORS[0])]
+    longest = sweeps = 0
+    with spinning(before, 8):
+        for seed, count in enumerate(sizes.words, 1):
+            text = make_texts.long_job(random.Random(seed), count)
+            (lines, status, words), took = timed_run(program, before, text, "--history")
+            at = lines.find(b"index ")
+            events = [line.split(b" ")[0] for line in lines[: max(at, 0)].split(b"\n")]
+            kinds = Counter(word for word in events if word not in (b"sweep", b""))
+            once = {b"wave": 1, b"start": 1, b"reduce": 1, b"done": 2}
+            wanted, wanted_status = reference_run.answer(text)
+            if (status, kinds, lines[max(at, 0) :]) != (wanted_status, once, wanted):
+                raise Failure(f"{count} words: status {status}, {words}, {dict(kinds)}: {lines[:999]}")
+            longest, sweeps = max(longest, took), sweeps + events.count(b"sweep")
+    return f"{len(sizes.words)} runs: all done, by one map and one merge each; {sweeps} sweeps, the longest {longest:.1f} s"
 
 
 # Scripts by `mrjob play`.
@@ -249,7 +271,7 @@ def main(words):
     parts = [made_gates] if sizes.gates else []
     passed = failed = 0
     with ThreadPoolExecutor(len(PROCESSORS)) as pool:
-        for part in [*parts, memory, on_one_processor, beside_spinners, long_script]:
+        for part in [*parts, memory, on_one_processor, beside_spinners, long_maps, long_script]:
             name = part.__name__.replace("_", " ")
             try:
                 print(f"{name}: {part(program, sizes, pool)}", flush=True)
