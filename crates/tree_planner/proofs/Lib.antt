@@ -16,3 +16,9 @@ pub mod Children
 pub mod Improved
 pub mod Counted
 pub mod Looked
+pub mod Tight
+pub mod Followed
+pub mod Deeper
+pub mod Known
+pub mod Barred
+pub mod Tops

@@ -36,13 +36,13 @@ under_own tree (Centre c) = eq-eqb c c refl
 under_own tree Cluster = refl
 
 -- the parent of a node is under the others above it, and not under the node
-parent_not_under : (tree : Tree) (c : TreeNode) → c ≢ Cluster → is_under tree (parent tree c) c ≡ false
+pub parent_not_under : (tree : Tree) (c : TreeNode) → c ≢ Cluster → is_under tree (parent tree c) c ≡ false
 parent_not_under tree (Worker w) off = refl
 parent_not_under tree (Rack r) off = refl
 parent_not_under tree (Centre c) off = refl
 parent_not_under tree Cluster off = absurd (off refl)
 
-parent_under : (tree : Tree) (c u : TreeNode) → u ≢ c → is_under tree c u ≡ is_under tree (parent tree c) u
+pub parent_under : (tree : Tree) (c u : TreeNode) → u ≢ c → is_under tree c u ≡ is_under tree (parent tree c) u
 parent_under tree (Worker w) (Worker x) n = ne_eqb x w (λ e. n (ap Worker e))
 parent_under tree (Rack q) (Rack r) n = ne_eqb r q (λ e. n (ap Rack e))
 parent_under tree (Centre d) (Centre c) n = ne_eqb c d (λ e. n (ap Centre e))
@@ -137,11 +137,11 @@ pushes_up wave old new c kept off tight some to =
     }
 
 module _ (wave : Wave) (old new : State) (s : ℕ) (place : Place) (to : IsPlaced old new s place) where
-  here_now : place_of new s ≡ place
+  pub here_now : place_of new s ≡ place
   here_now = ap (λ places. place_of (record old { places = places }) s) to.places
       ∙ get_or-set_same old.places s place Waits to.known
 
-  other_now : (t : ℕ) → t ≢ s → place_of new t ≡ place_of old t
+  pub other_now : (t : ℕ) → t ≢ s → place_of new t ≡ place_of old t
   other_now t n = ap (λ places. place_of (record old { places = places }) t) to.places
       ∙ get_or-set_other old.places s t place Waits n
 
@@ -206,7 +206,7 @@ module _ (wave : Wave) (old new : State) (s : ℕ) (place : Place) (to : IsPlace
         omega arith);
   }
 
-  counts : (v : TreeNode) → standing_under wave new v
+  pub counts : (v : TreeNode) → standing_under wave new v
       + cond {A = ℕ} (stands_under wave.tree v (place_of old s)) 1 0
       ≡ standing_under wave old v + cond {A = ℕ} (stands_under wave.tree v place) 1 0
   counts v = ap (λ places. standing_under wave (record old { places = places }) v

@@ -1,12 +1,13 @@
 -- Sums over the workers under a node, and splits that stand there.
-use Rattle.std.proofs.Common.{◌≡◌, ℕ, zero, suc, ◌<◌, ◌≤◌, Bool, true, false, cond, length, refl}
+use Rattle.std.proofs.Common.{◌≡◌, ℕ, zero, suc, ◌*◌, ◌<◌, ◌≤◌, Bool, true, false, cond, length, refl}
 use Rattle.std.proofs.Common.{ap, ◌∙◌, inl, inr, arith, get_or}
 use Rattle.std.specs.Prelude.{◌==◌}
 use Rattle.std.proofs.lemmas.Bool.{cases_Bool, cases_eq, cases_lt, ne_eqb}
 use Rattle.std.proofs.lemmas.List.{get_or_past}
 use Rattle.std.proofs.lemmas.List.Sums.{get_or-le-sum_by}
 use Rattle.wave_problem.specs.Sums.{sum_below}
-use Rattle.wave_problem.specs.Wave.{Wave, IsUsable, worker_at}
+use Rattle.wave_problem.specs.declared.lines.WorkerLine.{WorkerLine}
+use Rattle.wave_problem.specs.Wave.{Wave, IsUsable, IsWithinLimits, worker_at}
 use Rattle.wave_problem.proofs.Grouping.{sum_below-same, sum_below-zero, sum_below-one}
 use Rattle.tree_planner.specs.declared.nodes.TreeNode.{TreeNode}
 use Rattle.tree_planner.specs.declared.nodes.TreeNode.TheVariants.{Worker}
@@ -82,3 +83,31 @@ counted wave state s e v stands under =
     ap (λ (p : Place). cond {A = ℕ} (stands_under wave.tree v p) 1 0) stands
     ∙ ap (λ (b : Bool). cond {A = ℕ} b 1 0) under in
     omega arith
+
+sum_below-most : (n m : ℕ) (f : ℕ → ℕ) → ((w : ℕ) → f w ≤ m) → sum_below n f ≤ m * n
+sum_below-most zero m f few = omega arith
+sum_below-most (suc n) m f few = (let rest = sum_below-most n m f few in let last = few n in grind arith)
+
+-- no node has more slots under it than all workers together may have
+pub slots-most : (wave : Wave) → IsWithinLimits wave → (v : TreeNode) → sum_under wave v (slots_of wave) ≤ 4096
+slots-most wave within v =
+    let most = sum_below-most (length wave.workers) 16
+    (λ w. cond (is_under wave.tree (Worker w) v) (slots_of wave w) 0) (λ w. few w (is_under wave.tree (Worker w) v)) in
+    let workers = within.few_workers in
+    omega arith
+  where
+    line : (w : ℕ) → (worker_at wave w).free ≤ 16
+    line w = elim (cases_lt w (length wave.workers)) [
+      | inl known ↦ within.slots w _ known
+      | inr past ↦
+          (let none : (worker_at wave w).free ≡ 0 =
+          ap (λ (l : WorkerLine). l.free) (get_or_past wave.workers w (record { live = false; free = 0 }) past) in
+          omega arith)
+    ]
+
+    few : (w : ℕ) (b : Bool) → cond b (slots_of wave w) 0 ≤ 16
+    few w true = (let most = line w in elim (cases_Bool (worker_at wave w).live) [
+      | inl live ↦ rw live most
+      | inr dead ↦ rw dead (omega arith)
+    ])
+    few w false = omega arith

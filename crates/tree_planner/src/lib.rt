@@ -6,6 +6,7 @@
 //! waves of `wave_problem` and the certificate of `price_certificate`.
 #![tactic(auto)]
 
+mod follow;
 mod laws;
 mod node_table;
 mod nodes;

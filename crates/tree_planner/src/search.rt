@@ -1,5 +1,5 @@
 //! A search for the cheapest way to give one split a slot.
-ghost use Rattle.std.specs.Prelude.{◌≡◌, ◌≢◌, ◌+◌, ◌*◌, ◌<◌, ◌≤◌, ◌^◌, min, ℕ, length, IfOk, MatchOption, Contains, IsTrue, ◌↔◌};
+ghost use Rattle.std.specs.Prelude.{◌≡◌, ◌≢◌, ◌+◌, ◌*◌, ◌<◌, ◌≤◌, ◌^◌, min, ℕ, length, IfOk, MatchOption, Contains, ◌↔◌};
 ghost use Rattle.wave_problem.specs.declared.TheConstants.{MAX_BYTES};
 ghost use Rattle.wave_problem.specs.Wave.{reward};
 ghost use Rattle.tree_planner.specs.declared.nodes.End.{End};
@@ -18,7 +18,7 @@ use crate::node_table::NodeTable;
 use crate::nodes::{End, Place, TreeNode};
 use crate::split_ends::Ends;
 use crate::tables::Tables;
-use crate::tree_nodes::parent;
+use crate::tree_nodes::{is_same, parent};
 use node_ids::{SplitNo, WorkerNo};
 use std::alloc::{AllocError, Global};
 use wave_problem::Problem;
@@ -49,6 +49,7 @@ pub enum Goal {
 
 /// What a search stands on: a problem with the tree's nodes, the splits' ends and the slots under each node,
 /// and the tables of the state.
+#[derive(Drop)]
 pub struct Ground<'a> {
     pub problem: &'a Problem,
     pub nodes: &'a [TreeNode],
@@ -150,13 +151,6 @@ fn slots_at(ground: &Ground<'_>, node: TreeNode) -> u64
     ensures { result ≡ sum_under (wave_of ground.now) node (slots_of (wave_of ground.now)) }
 {
     ground.slots.get(node)
-}
-
-// Whether two nodes are the same.
-fn is_same(one: TreeNode, other: TreeNode) -> bool
-    ensures { IsTrue result ↔ (one ≡ other) }
-{
-    one == other
 }
 
 // The node from which a node hangs.

@@ -1,5 +1,5 @@
 //! Ways up the tree, and all of its nodes.
-ghost use Rattle.std.specs.Prelude.{◌≡◌, ◌<◌, length, IfOk, All, Contains};
+ghost use Rattle.std.specs.Prelude.{◌≡◌, ◌<◌, ◌↔◌, length, IsTrue, IfOk, All, Contains};
 ghost use Rattle.tree_planner.specs.Nodes.{AreNodes, IsNode, node_above, parent};
 
 use crate::nodes::TreeNode;
@@ -21,6 +21,13 @@ pub fn parent(tree: &RackTree, node: TreeNode) -> TreeNode
         TreeNode::Centre(_) => TreeNode::Cluster,
         TreeNode::Cluster => TreeNode::Cluster,
     }
+}
+
+/// Whether two nodes are the same.
+pub fn is_same(one: TreeNode, other: TreeNode) -> bool
+    ensures { IsTrue result ↔ (one ≡ other) }
+{
+    one == other
 }
 
 /// The node so many levels above a worker.

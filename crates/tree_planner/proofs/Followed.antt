@@ -1,0 +1,217 @@
+-- A hole goes back along a way that costs nothing.
+use Rattle.std.specs.Prelude.{MatchOption}
+use Rattle.std.proofs.Common.{◌≡◌, ℕ, ◌+◌, ◌-◌, ◌<◌, ◌≤◌, ◌↔◌, Option, Some, None, refl, sym, ap, ◌∙◌, subst, inl, inr, arith}
+use Rattle.std.specs.Prelude.{◌≢◌}
+use Rattle.std.proofs.lemmas.Bool.{cases_eq}
+use Rattle.wave_problem.specs.Wave.{Wave, reward}
+use Rattle.tree_planner.specs.declared.nodes.End.{End}
+use Rattle.tree_planner.specs.declared.nodes.Place.{Place}
+use Rattle.tree_planner.specs.declared.nodes.Place.TheVariants.{Stands, Waits, Unshipped}
+use Rattle.tree_planner.specs.declared.nodes.TreeNode.{TreeNode}
+use Rattle.tree_planner.specs.declared.nodes.TreeNode.TheVariants.{Worker}
+use Rattle.tree_planner.specs.declared.search.Goal.{Goal}
+use Rattle.tree_planner.specs.declared.search.Goal.TheVariants.{Wait, Slot, Off}
+use Rattle.tree_planner.specs.declared.search.Search.{Search}
+use Rattle.tree_planner.specs.declared.search.Step.{Step}
+use Rattle.tree_planner.specs.declared.search.Step.TheVariants.{Start, Down, Up, Over}
+use Rattle.tree_planner.specs.Moves.{IsFlowSet, IsPlaced, IsTaken}
+use Rattle.tree_planner.specs.Nodes.{parent, IsEnd, IsNode}
+use Rattle.tree_planner.specs.State.{State, place_of, reach_cost, IsKept, IsKeptBut}
+use Rattle.tree_planner.specs.Searching.{order_at, step_at}
+use Rattle.tree_planner.specs.Way.{left_of, AreOthersSame, IsFollowing, IsOnWay, IsReady, IsTight, IsTightGoal}
+use Rattle.tree_planner.proofs.Moved.{pushes_down, pushes_up, hands_over, sends_off, takes_slot, ships, lets_wait}
+use Rattle.tree_planner.proofs.Moved.{here_now, other_now}
+
+module _ (wave : Wave) (now new : State) (search : Search) (x : TreeNode) (f : IsFollowing wave now search x) where
+  pub tight_at : (step : Step) → step_at search x ≡ step → IsTight wave f.first search x step
+  tight_at step e = subst (λ st. IsTight wave f.first search x st) e (f.ready.steps x f.from)
+
+  reach_same : (t : ℕ) (e : End) → reach_cost wave now t e ≡ reach_cost wave f.first t e
+  reach_same t e = ap (λ depth. reach_cost wave (record now { depth = depth }) t e) f.depth
+
+  pub follow_down : step_at search x ≡ Down → IsNode wave.tree (parent wave.tree x)
+      → IsFlowSet now new x (now.flow x + 1) → IsFollowing wave new search (parent wave.tree x)
+  follow_down step known set =
+      let t = tight_at Down step in
+      let a = ap (λ d. d (parent wave.tree x)) f.depth in
+      let b = ap (λ d. d x) f.depth in
+      let tight = t.tight in
+      let before = t.before in
+      record {
+        first = f.first;
+        ready = f.ready;
+        kept = pushes_down wave now new x f.kept t.hangs (omega arith) set;
+        known = known;
+        depth = set.depth ∙ f.depth;
+        from = t.from;
+        unshipped = ap (λ places. place_of (record now { places = places }) search.split) set.places ∙ f.unshipped;
+        flows = λ c less. set.others c (λ e. (let same = ap (λ v. order_at search v) e in omega arith))
+            ∙ f.flows c (omega arith);
+        places = λ t e stands less. ap (λ places. place_of (record now { places = places }) t) set.places
+            ∙ f.places t e stands (omega arith);
+      }
+
+  pub follow_up : (c : TreeNode) → step_at search x ≡ Up c → IsFlowSet now new c (now.flow c - 1)
+      → IsFollowing wave new search c
+  follow_up c step set =
+      let t = tight_at (Up c) step in
+      let a = ap (λ d. d x) f.depth in
+      let b = ap (λ d. d c) f.depth in
+      let p = ap now.depth t.above in
+      let tight = t.tight in
+      let before = t.before in
+      let some = t.some in
+      let same = f.flows c before in
+      record {
+        first = f.first;
+        ready = f.ready;
+        kept = pushes_up wave now new c (subst (λ v. IsKeptBut wave now (Some v)) (sym t.above) f.kept) t.hangs
+            (omega arith) (omega arith) set;
+        known = t.known;
+        depth = set.depth ∙ f.depth;
+        from = t.from;
+        unshipped = ap (λ places. place_of (record now { places = places }) search.split) set.places ∙ f.unshipped;
+        flows = λ d less. set.others d (λ e. (let same = ap (λ v. order_at search v) e in omega arith))
+            ∙ f.flows d (omega arith);
+        places = λ t e stands less. ap (λ places. place_of (record now { places = places }) t) set.places
+            ∙ f.places t e stands (omega arith);
+      }
+
+  -- where the split stands that goes over
+  pub stood : (t level : ℕ) → step_at search x ≡ Over t level → (e : End) × (place_of now t ≡ Stands e)
+      × IsNode wave.tree e.node
+  stood t level step =
+      let o = tight_at (Over t level) step in (
+        o.end,
+        f.places t o.end o.stands o.before,
+        (f.kept.cheapest.ends t o.end (f.places t o.end o.stands o.before)).known,
+      )
+
+  pub follow_over : (t level : ℕ) (e : End) → step_at search x ≡ Over t level → place_of now t ≡ Stands e
+      → IsPlaced now new t (Stands (record { node = x; level = level })) → IsFollowing wave new search e.node
+  follow_over t level e step stands set =
+      let o = tight_at (Over t level) step in
+      let to : End = record { node = x; level = level } in
+      let was = f.places t o.end o.stands o.before in
+      let same : o.end ≡ e = grind arith in
+      let order = ap (λ (e : End). order_at search e.node) same in
+      let before = o.before in
+      let a = reach_same t to in
+      let b = reach_same t o.end in
+      let cost = ap (λ (e : End). reach_cost wave now t e) same in
+      let tight = o.tight in
+      let other : search.split ≢ t = λ is.
+      (let a = ap (λ s. place_of now s) is in let b = f.unshipped in cc) in
+      record {
+        first = f.first;
+        ready = f.ready;
+        kept = hands_over wave now new t e to f.kept stands o.is_end (omega arith) set;
+        known = (f.kept.cheapest.ends t e stands).known;
+        depth = set.depth ∙ f.depth;
+        from = subst (λ (e : End). IsOnWay search e.node) same o.from;
+        unshipped = other_now wave now new t (Stands to) set search.split other ∙ f.unshipped;
+        flows = λ c less. ap (λ g. g c) set.flow ∙ f.flows c (omega arith);
+        places = λ u d stands_there less. other_now wave now new t (Stands to) set u (λ is.
+            (let p = ap (λ s. place_of f.first s) is in
+            let q = o.stands in
+            let one : d ≡ o.end = grind arith in
+            let r = ap (λ (e : End). order_at search e.node) one in
+            omega arith)) ∙ f.places u d stands_there (omega arith);
+      }
+
+  pub follow_start : (level : ℕ) → step_at search x ≡ Start level
+      → IsPlaced now new search.split (Stands (record { node = x; level = level })) → IsKept wave new
+  follow_start level step set =
+      let t = tight_at (Start level) step in
+      let e : End = record { node = x; level = level } in
+      let a = reach_same search.split e in
+      let most = t.below_waiting in
+      ships wave now new search.split e f.kept f.unshipped t.is_end
+      (λ y is. (let b = reach_same search.split y in let least = t.least y is in omega arith)) (omega arith) set
+
+module _ (wave : Wave) (old new : State) (search : Search) (r : IsReady wave old search) where
+  goal_at : (goal : Goal) → search.goal ≡ goal → IsTightGoal wave old search goal
+  goal_at goal e = subst (λ goal. IsTightGoal wave old search goal) e r.goal
+
+  pub follow_wait : search.goal ≡ Wait → IsPlaced old new search.split Waits → IsKept wave new
+  follow_wait goal set = lets_wait wave old new search.split r.kept r.unshipped (goal_at Wait goal) set
+
+  pub follow_slot : (w : ℕ) → search.goal ≡ Slot w → IsTaken wave old new w → IsFollowing wave new search (Worker w)
+  follow_slot w goal set =
+      let t = goal_at (Slot w) goal in
+      record {
+        first = old;
+        ready = r;
+        kept = takes_slot wave old new w r.kept set;
+        known = t.known;
+        depth = set.depth;
+        from = t.from;
+        unshipped = ap (λ places. place_of (record old { places = places }) search.split) set.places ∙ r.unshipped;
+        flows = λ c less. ap (λ g. g c) set.flow;
+        places = λ t e stands less. ap (λ places. place_of (record old { places = places }) t) set.places ∙ stands;
+      }
+
+  pub off_stood : (t : ℕ) → search.goal ≡ Off t → (e : End) × (place_of old t ≡ Stands e)
+  off_stood t goal = let o = goal_at (Off t) goal in (o.end, o.stands)
+
+  pub follow_off : (t : ℕ) (e : End) → search.goal ≡ Off t → place_of old t ≡ Stands e → IsPlaced old new t Waits
+      → IsFollowing wave new search e.node
+  follow_off t e goal stands set =
+      let o = goal_at (Off t) goal in
+      let was = o.stands in
+      let same : o.end ≡ e = grind arith in
+      let cost = ap (λ (e : End). reach_cost wave old t e) same in
+      let tight = o.tight in
+      let other : search.split ≢ t = λ is.
+      (let a = ap (λ s. place_of old s) is in let b = r.unshipped in cc) in
+      record {
+        first = old;
+        ready = r;
+        kept = sends_off wave old new t e r.kept stands (omega arith) set;
+        known = (r.kept.cheapest.ends t e stands).known;
+        depth = set.depth;
+        from = subst (λ (e : End). IsOnWay search e.node) same o.from;
+        unshipped = other_now wave old new t Waits set search.split other ∙ r.unshipped;
+        flows = λ c less. ap (λ g. g c) set.flow;
+        places = λ u d stands_there less. other_now wave old new t Waits set u (λ is.
+            (let p = ap (λ s. place_of old s) is in
+            let q = o.stands in
+            let one : d ≡ o.end = grind arith in
+            let r = ap (λ (e : End). order_at search e.node) one in
+            let s = ap (λ (e : End). order_at search e.node) same in
+            omega arith)) ∙ stands_there;
+      }
+
+-- a step back brings the end nearer
+pub hole_less : (search : Search) (node : TreeNode) (o : Option TreeNode) (A : Type 0) (B : TreeNode → Type 0)
+    → MatchOption o A (λ from. B from × (order_at search from < order_at search node))
+    → left_of search o < left_of search (Some node)
+hole_less search node None A B h = omega arith
+hole_less search node (Some v) A B h = (let less = h.1 in omega arith)
+
+pub hole_kept : (search : Search) (node : TreeNode) (o : Option TreeNode) (A : Type 0) (B : TreeNode → Type 0)
+    → MatchOption o A (λ from. B from × (order_at search from < order_at search node)) → MatchOption o A B
+hole_kept search node None A B h = h
+hole_kept search node (Some v) A B h = h.0
+
+pub others_trans : (a b c : State) (s : ℕ) → AreOthersSame a b s → AreOthersSame b c s → AreOthersSame a c s
+others_trans a b c s p q = λ t n. (λ is. (p t n).0 ((q t n).0 is), λ is. (q t n).1 ((p t n).1 is))
+
+-- a split that stands has gone to another place, or the one that is shipped has
+pub others_same : (wave : Wave) (old new : State) (t s : ℕ) (place : Place) → IsPlaced old new t place
+    → (t ≢ s → (place_of old t ≡ Unshipped → ⊥) × (place ≡ Unshipped → ⊥)) → AreOthersSame old new s
+others_same wave old new t s place set both u n = elim (cases_eq u t) [
+  | inl e ↦
+      (let off = both (λ is. n (e ∙ is)) in
+      let now = ap (λ u. place_of new u) e ∙ here_now wave old new t place set in
+      let was = ap (λ u. place_of old u) e in
+      (λ is. absurd (off.1 (sym now ∙ is)), λ is. absurd (off.0 (sym was ∙ is))))
+  | inr m ↦
+      (let same = other_now wave old new t place set u m in
+      (λ is. sym same ∙ is, λ is. same ∙ is))
+]
+
+pub others_kept : (old new : State) (s : ℕ) → new.places ≡ old.places → AreOthersSame old new s
+others_kept old new s same t n =
+    let at = ap (λ places. place_of (record old { places = places }) t) same in
+    (λ is. sym at ∙ is, λ is. at ∙ is)

@@ -1,0 +1,181 @@
+-- Along the way that a search found no step costs anything once the depths have risen.
+use Rattle.std.proofs.Common.{◌≡◌, ℕ, ◌+◌, ◌-◌, ◌<◌, ◌≤◌, min, Option, None, refl, sym, ap, ◌∙◌, inl, inr, ◌⊎◌, arith}
+use Rattle.wave_problem.specs.Wave.{Wave, reward}
+use Rattle.tree_planner.specs.declared.node_table.NodeTable.{NodeTable}
+use Rattle.tree_planner.specs.declared.nodes.End.{End}
+use Rattle.tree_planner.specs.declared.nodes.Place.TheVariants.{Stands, Unshipped}
+use Rattle.tree_planner.specs.declared.nodes.TreeNode.{TreeNode}
+use Rattle.tree_planner.specs.declared.nodes.TreeNode.TheVariants.{Worker}
+use Rattle.tree_planner.specs.declared.search.Goal.{Goal}
+use Rattle.tree_planner.specs.declared.search.Goal.TheVariants.{Wait, Slot, Off}
+use Rattle.tree_planner.specs.declared.search.Ground.{Ground}
+use Rattle.tree_planner.specs.declared.search.Search.{Search}
+use Rattle.tree_planner.specs.declared.search.Step.{Step}
+use Rattle.tree_planner.specs.declared.search.Step.TheVariants.{Start, Down, Up, Over}
+use Rattle.tree_planner.specs.Moves.{AreDistances}
+use Rattle.tree_planner.specs.Nodes.{parent, IsEnd, IsKnown, end_cost}
+use Rattle.tree_planner.specs.State.{State, place_of, reach_cost, IsKept}
+use Rattle.tree_planner.specs.Searching.{far_at, order_at, state_at, step_at, wave_of, EndsIn, IsBefore, IsGround}
+use Rattle.tree_planner.specs.Searching.{IsSearched, LeadsTo}
+use Rattle.tree_planner.specs.Way.{AreDeeper, IsOnWay, IsReady, IsTight, IsTightGoal}
+use Rattle.tree_planner.proofs.Raised.{raises, caps, search_ends}
+
+module _ (g : Ground) (ground : IsGround g) (search : Search) (s : IsSearched g search) where
+  abbrev wave : Wave
+  wave = wave_of g
+
+  abbrev state : State
+  state = state_at g
+
+  abbrev far : TreeNode → ℕ
+  far v = far_at search v
+
+  abbrev bound : ℕ
+  bound = search.bound
+
+  abbrev raised : State
+  raised = record state { depth = λ v. state.depth v + (bound - far v) }
+
+  distances : AreDistances wave state (λ v. far_at search v) bound
+  distances = search_ends wave state (λ v. far_at search v) bound None ground.kept s.looked
+
+  kept_raised : IsKept wave raised
+  kept_raised = raises wave state raised (λ v. far_at search v) bound None ground.kept distances (record {
+    places = refl;
+    flow = refl;
+    free = refl;
+    depth = λ v. refl;
+  })
+
+  module _ (new : State) (places : new.places ≡ state.places) (flow : new.flow ≡ state.flow)
+      (free : new.free ≡ state.free)
+      (deeper : (v : TreeNode) → new.depth v ≡ min (reward wave) (state.depth v + (bound - far v))) where
+    kept_new : IsKept wave new
+    kept_new = caps wave raised new None kept_raised (record {
+      places = places;
+      flow = flow;
+      free = free;
+      depth = deeper;
+    })
+
+    place_same : (t : ℕ) → place_of new t ≡ place_of state t
+    place_same t = ap (λ places. place_of (record state { places = places }) t) places
+
+    on_way : (u x : TreeNode) → IsBefore search u x → far u ≤ far x → IsOnWay search x → IsOnWay search u
+    on_way u x before less x_on = record {
+      settled = before.0;
+      reached = (let r = x_on.reached in omega arith);
+      near = (let n = x_on.near in omega arith);
+    }
+
+    earlier : (u x : TreeNode) → IsBefore search u x → IsOnWay search x → order_at search u < order_at search x
+    earlier u x before on = elim before.1 [
+      | inl none ↦ absurd (let some = on.settled in omega arith)
+      | inr less ↦ less
+    ]
+
+    -- no end of the split costs less than the bound lets it
+    start-le : (y : End) → IsEnd wave search.split y → bound + search.least ≤ reach_cost wave new search.split y
+    start-le y is =
+        let started = s.started y is in
+        let limit = s.searching.limit in
+        let most = s.searching.bound in
+        let depth = deeper y.node in
+        omega arith
+
+    tight : (x : TreeNode) → IsOnWay search x → (step : Step) → LeadsTo g search x (far x) step
+        → IsTight wave new search x step
+    tight x on (Start level) l =
+        let e : End = record { node = x; level = level } in
+        let depth = deeper x in
+        let cost = l.cost in
+        let near = on.near in
+        let limit = s.searching.limit in
+        let most = s.searching.bound in
+        let upper : reach_cost wave new search.split e ≤ bound + search.least = omega arith in
+        record {
+          is_end = l.is_end;
+          least = λ y is. (let lower = start-le y is in omega arith);
+          below_waiting = omega arith;
+        }
+    tight x on Down l =
+        let p = parent wave.tree x in
+        let level = ground.kept.level.down x l.room in
+        let step = distances.down x l.room in
+        let cost = l.cost in
+        let near = on.near in
+        let less : far p ≤ far x = omega arith in
+        let one = deeper x in
+        let two = deeper p in
+        record {
+          hangs = l.hangs;
+          tight = omega arith;
+          from = on_way p x l.before less on;
+          before = earlier p x l.before on;
+        }
+    tight x on (Up c) l =
+        let level = ground.kept.level.up c l.some in
+        let step = distances.up c l.some in
+        let same_depth = ap state.depth l.above in
+        let same_far = ap (λ v. far v) l.above in
+        let cost = l.cost in
+        let near = on.near in
+        let less : far c ≤ far x = omega arith in
+        let one = deeper x in
+        let two = deeper c in
+        record {
+          known = l.known;
+          hangs = l.hangs;
+          above = l.above;
+          tight = omega arith;
+          some = (let same = ap (λ f. f c) flow in let some = l.some in omega arith);
+          from = on_way c x l.before less on;
+          before = earlier c x l.before on;
+        }
+    tight x on (Over t level) l =
+        let e : End = record { node = x; level = level } in
+        let f : End = l.from in
+        let least = ground.kept.cheapest.least t f e l.stands l.is_end in
+        let step = distances.over t f e l.stands l.is_end in
+        let below = kept_raised.cheapest.below_waiting t f l.stands in
+        let cost = l.cost in
+        let near = on.near in
+        let less : far f.node ≤ far x = omega arith in
+        let one = deeper x in
+        let two = deeper f.node in
+        record {
+          end = f;
+          stands = place_same t ∙ l.stands;
+          is_end = l.is_end;
+          tight = omega arith;
+          from = on_way f.node x l.before less on;
+          before = earlier f.node x l.before on;
+        }
+
+    tight_goal : (goal : Goal) → EndsIn g search bound goal → IsTightGoal wave new search goal
+    tight_goal Wait ends = λ y is. (let lower = start-le y is in let limit = s.searching.limit in omega arith)
+    tight_goal (Slot w) ends = record {
+      known = (let lines = ground.known.lines in let l = ends.known in omega arith);
+      some = (let same = ap (λ f. f w) free in let some = ends.some in omega arith);
+      from = record { settled = ends.settled; reached = ends.reached; near = ends.near };
+    }
+    tight_goal (Off t) ends =
+        let f : End = ends.from in
+        let below = kept_raised.cheapest.below_waiting t f ends.stands in
+        let before = ground.kept.cheapest.below_waiting t f ends.stands in
+        let near = ends.near in
+        let depth = deeper f.node in
+        record {
+          end = f;
+          stands = place_same t ∙ ends.stands;
+          tight = omega arith;
+          from = record { settled = ends.settled; reached = ends.reached; near = omega arith };
+        }
+
+    pub ready : place_of state search.split ≡ Unshipped → IsReady wave new search
+    ready unshipped = record {
+      kept = kept_new;
+      unshipped = place_same search.split ∙ unshipped;
+      steps = λ v on. tight v on (step_at search v) (s.searching.steps v on.reached);
+      goal = tight_goal search.goal s.searching.goal;
+    }

@@ -1,0 +1,11 @@
+use Rattle.std.proofs.Common.{◌≡◌, ℕ, ◌<◌, ◌↔◌, length, Contains}
+use Rattle.tree_planner.specs.declared.nodes.End.{End}
+use Rattle.tree_planner.specs.Ends.{ends_at}
+use Rattle.tree_planner.specs.Nodes.{IsEnd}
+use Rattle.tree_planner.proofs.split_ends.all_ends.Given as goal
+
+abbrev pub invariant-loop-s : goal.invariant-loop-s
+invariant-loop-s l = record {
+  size : length l.all.items ≡ l.s;
+  each : (s : ℕ) → s < l.s → (e : End) → Contains (ends_at l.all.items s) e ↔ IsEnd l.problem s e;
+}

@@ -1,0 +1,44 @@
+-- Under which nodes workers are barred for a split, and the ends that this leaves it.
+use Rattle.std.specs.Prelude.{ℕ, zero, suc, ◌≡◌, ◌*◌, ◌<◌, ◌≤◌, ◌⊎◌, ◌↔◌, Bool, true, false, cond, Option, Some, None}
+use Rattle.std.specs.Prelude.{IfSome}
+use Rattle.node_ids.specs.Sets.{has_number, place_of_pair}
+use Rattle.rack_tree.specs.Tree.{reach}
+use Rattle.wave_problem.specs.Wave.{Wave, worker_at}
+use Rattle.tree_planner.specs.declared.node_table.NodeTable.{NodeTable}
+use Rattle.tree_planner.specs.declared.nodes.End.{End}
+use Rattle.tree_planner.specs.declared.nodes.TreeNode.{TreeNode}
+use Rattle.tree_planner.specs.declared.nodes.TreeNode.TheVariants.{Worker}
+use Rattle.tree_planner.specs.Nodes.{is_under, node_above, parent, HasBarUnder, IsNode}
+use Rattle.tree_planner.specs.Table.{at_or, IsOver}
+
+-- whether the table marks the node; no table marks none
+abbrev pub bar_at : Option (NodeTable Bool) → TreeNode → Bool
+bar_at None v = false
+bar_at (Some table) v = at_or table false v
+
+-- the nodes are marked under which workers are barred
+pub record AreBars (wave : Wave) (s : ℕ) (bars : Option (NodeTable Bool)) : Type 0 where
+  pub over : IfSome bars (λ table. IsOver wave.tree table)
+  pub each : (v : TreeNode) → IsNode wave.tree v → (bar_at bars v ≡ true) ↔ HasBarUnder wave s v
+
+-- whether one of the first n workers is barred and stands under the node
+abbrev pub bar_below : Wave → ℕ → TreeNode → ℕ → Bool
+bar_below wave s v zero = false
+bar_below wave s v (suc n) = cond
+    (cond (is_under wave.tree (Worker n) v) (has_number wave.barred (place_of_pair s n)) false) true
+    (bar_below wave s v n)
+
+-- the end is the node of another, or one of the largest nodes under it without bars, at its level
+pub record IsTopEnd (wave : Wave) (s : ℕ) (top e : End) : Type 0 where
+  pub known : IsNode wave.tree e.node
+  pub level : e.level ≡ top.level
+  pub near : is_under wave.tree e.node top.node ≡ true
+  pub no_bar : HasBarUnder wave s e.node → ⊥
+  pub largest : (e.node ≡ top.node) ⊎ HasBarUnder wave s (parent wave.tree e.node)
+
+-- so it is with a node above a live holder, no farther up than the tree reaches
+pub record IsLevelEnd (wave : Wave) (s holder : ℕ) (e : End) : Type 0 where
+  pub live : (worker_at wave holder).live ≡ true
+  pub level : ℕ
+  pub within : 2 * level ≤ reach wave.tree
+  pub top : IsTopEnd wave s (record { node = node_above wave.tree level holder; level = level }) e
