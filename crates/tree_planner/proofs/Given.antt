@@ -91,7 +91,7 @@ joins wave old new s x kept waits is tight to = record {
 }
 
 -- what is under a node is under its parent
-under_parent : (tree : Tree) (x v : TreeNode) → is_under tree x v ≡ true → is_under tree x (parent tree v) ≡ true
+pub under_parent : (tree : Tree) (x v : TreeNode) → is_under tree x v ≡ true → is_under tree x (parent tree v) ≡ true
 under_parent tree (Worker w) (Worker v) u = grind (arith, eqb-true, eq-eqb)
 under_parent tree (Worker w) (Rack r) u = grind (arith, eqb-true, eq-eqb)
 under_parent tree (Rack q) (Rack r) u = grind (arith, eqb-true, eq-eqb)

@@ -22,3 +22,5 @@ pub mod Deeper
 pub mod Known
 pub mod Barred
 pub mod Tops
+pub mod Handed
+pub mod Starts

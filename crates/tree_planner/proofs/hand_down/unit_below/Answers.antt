@@ -1,0 +1,8 @@
+use Rattle.std.proofs.Common.{arith}
+use Rattle.tree_planner.proofs.Handed.{unit_there}
+use Rattle.tree_planner.proofs.hand_down.unit_below.Goals as goal
+
+pub unreachable-requires : goal.unreachable-requires
+unreachable-requires c =
+    unit_there c.args.problem.now c.args.nodes.now c.args.left.now c.args.node c.requires.racks c.requires.nodes
+    c.requires.inner c.requires.unit (λ k l. c.loop-below.invariant k (omega arith))

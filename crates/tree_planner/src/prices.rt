@@ -1,0 +1,112 @@
+//! Prices read off the depths.
+ghost use Rattle.std.specs.Prelude.{◌≡◌, ◌+◌, ◌-◌, ◌<◌, ◌≤◌, ℕ, IfOk, MatchOption, length, slice_index, unwrap_or, Some, None};
+ghost use Rattle.wave_problem.specs.Assignment.{start_of};
+ghost use Rattle.wave_problem.specs.Wave.{cost, reward, IsUsable};
+ghost use Rattle.tree_planner.specs.Nodes.{node_above};
+ghost use Rattle.tree_planner.specs.Settled.{deepest_above, ArePrices};
+ghost use Rattle.tree_planner.specs.Priced.{AreWorkerPrices, IsSplitPrice, IsWorkerPrice};
+ghost use Rattle.tree_planner.specs.View.{state_of, AreTables};
+
+use crate::tables::Tables;
+use crate::tree_nodes::node_above;
+use node_ids::{SplitNo, WorkerNo};
+use price_certificate::Prices;
+use std::alloc::{AllocError, Global};
+use wave_problem::{Plan, Problem};
+
+/// The price of a worker's slots is the greatest depth above it, where it lives and has some; that of a
+/// split that starts is what this and its cost leave of the reward, and that of any other 0.
+pub fn prices_of(
+    alloc: Global,
+    problem: &Problem,
+    tables: &Tables,
+    plan: &Plan,
+) -> Result<Prices, AllocError>
+    requires tables { AreTables problem.now tables.now }
+    requires splits { length plan.now.starts ≡ length problem.now.splits }
+    requires workers { plan.now.workers ≡ length problem.now.workers }
+    ensures splits { IfOk result (λ prices. length prices.splits ≡ length problem.now.splits) }
+    ensures workers { IfOk result (λ prices. length prices.workers ≡ length problem.now.workers) }
+    ensures prices { IfOk result
+        (λ prices. ArePrices problem.now (state_of tables.now) plan.now.starts prices) }
+{
+    let workers = worker_prices(alloc, problem, tables)?;
+    let splits = split_prices(alloc, problem, plan, &workers)?;
+    Ok(Prices::from_lists(splits, workers))
+}
+
+fn worker_prices(alloc: Global, problem: &Problem, tables: &Tables) -> Result<Vec<u64>, AllocError>
+    requires { AreTables problem.now tables.now }
+    ensures size { IfOk result (λ prices. length prices.items ≡ length problem.now.workers) }
+    ensures prices { IfOk result (λ prices. AreWorkerPrices problem.now (state_of tables.now) prices.items) }
+{
+    let mut prices = Vec::new(alloc);
+    for w in 0..problem.workers() {
+        prices.push(worker_price(problem, tables, WorkerNo::new(w as u16)))?;
+    }
+    Ok(prices)
+}
+
+fn worker_price(problem: &Problem, tables: &Tables, worker: WorkerNo) -> u64
+    requires tables { AreTables problem.now tables.now }
+    requires worker { worker < length problem.now.workers }
+    ensures { IsWorkerPrice problem.now (state_of tables.now) worker result }
+{
+    if !problem.is_live(worker) || problem.free(worker) == 0 {
+        return 0;
+    }
+    let below = depth_above(problem, tables, 0, worker).max(depth_above(
+        problem, tables, 1, worker,
+    ));
+    let above = depth_above(problem, tables, 2, worker).max(depth_above(
+        problem, tables, 3, worker,
+    ));
+    below.max(above)
+}
+
+fn depth_above(problem: &Problem, tables: &Tables, level: u8, worker: WorkerNo) -> u64
+    requires tables { AreTables problem.now tables.now }
+    requires worker { worker < length problem.now.workers }
+    ensures { result ≡ (state_of tables.now).depth (node_above problem.now.tree level worker) }
+{
+    tables.depth.get(node_above(problem.tree(), level, worker))
+}
+
+fn split_prices(
+    alloc: Global,
+    problem: &Problem,
+    plan: &Plan,
+    workers: &[u64],
+) -> Result<Vec<u64>, AllocError>
+    requires splits { length plan.now.starts ≡ length problem.now.splits }
+    requires plan { plan.now.workers ≡ length problem.now.workers }
+    requires workers { length workers.now ≡ length problem.now.workers }
+    ensures size { IfOk result (λ prices. length prices.items ≡ length problem.now.splits) }
+    ensures prices { IfOk result (λ prices. (s : ℕ) → s < length problem.now.splits
+        → IsSplitPrice problem.now plan.now.starts workers.now s (slice_index prices.items s)) }
+{
+    let mut prices = Vec::new(alloc);
+    for s in 0..problem.splits() {
+        prices.push(split_price(problem, plan, workers, SplitNo::new(s as u16)))?;
+    }
+    Ok(prices)
+}
+
+fn split_price(problem: &Problem, plan: &Plan, workers: &[u64], split: SplitNo) -> u64
+    requires splits { length plan.now.starts ≡ length problem.now.splits }
+    requires plan { plan.now.workers ≡ length problem.now.workers }
+    requires workers { length workers.now ≡ length problem.now.workers }
+    requires split { split < length problem.now.splits }
+    ensures { IsSplitPrice problem.now plan.now.starts workers.now split result }
+{
+    match plan.of(split) {
+        Some(worker) => {
+            let cost = problem.cost(split, worker).unwrap_or(0);
+            problem
+                .reward()
+                .saturating_sub(workers[worker.index()])
+                .saturating_sub(cost)
+        }
+        None => 0,
+    }
+}
