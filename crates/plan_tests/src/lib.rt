@@ -15,6 +15,8 @@ mod clusters;
 #[cfg(test)]
 mod distances;
 #[cfg(test)]
+mod engine;
+#[cfg(test)]
 mod flows;
 #[cfg(test)]
 mod networks;
