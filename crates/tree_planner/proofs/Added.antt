@@ -1,8 +1,8 @@
 -- Numbers added at a worker and at the nodes above it.
-use Rattle.std.proofs.Common.{◌≡◌, ℕ, zero, suc, ◌+◌, ◌*◌, ◌<◌, ◌≤◌, Bool, true, false, cond, refl, sym, ap, ◌∙◌, inl, inr, arith}
-use Rattle.std.proofs.Common.{length, slice_index, add-one}
+use Rattle.std.proofs.Common.{◌≡◌, ℕ, ◌+◌, ◌≤◌, Bool, true, false, cond, ap, ◌∙◌, inl, inr, arith}
+use Rattle.std.proofs.Common.{slice_index, add-one}
 use Rattle.std.specs.Prelude.{◌≢◌}
-use Rattle.std.proofs.lemmas.Bool.{cases_lt, eq-eqb, ne_eqb}
+use Rattle.std.proofs.lemmas.Bool.{eq-eqb, ne_eqb}
 use Rattle.rack_tree.specs.Tree.{Tree, centre_at}
 use Rattle.wave_problem.specs.Sums.{sum_below}
 use Rattle.tree_planner.specs.declared.node_table.NodeTable.{NodeTable}

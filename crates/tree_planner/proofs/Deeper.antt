@@ -1,14 +1,13 @@
 -- The depths after a search.
-use Rattle.std.proofs.Common.{◌≡◌, ℕ, ◌+◌, ◌-◌, ◌<◌, ◌≤◌, min, length, get_or, ap, ◌∙◌, subst, sym, inl, inr, arith}
+use Rattle.std.proofs.Common.{◌≡◌, ℕ, ◌<◌, length, get_or, ◌∙◌, subst, sym, inl, inr, arith}
 use Rattle.std.specs.Prelude.{◌≢◌}
-use Rattle.wave_problem.specs.Wave.{reward}
 use Rattle.tree_planner.specs.declared.node_table.NodeTable.{NodeTable}
 use Rattle.tree_planner.specs.declared.nodes.TreeNode.{TreeNode}
 use Rattle.tree_planner.specs.declared.nodes.TreeNode.TheVariants.{Worker}
 use Rattle.tree_planner.specs.declared.search.Ground.{Ground}
 use Rattle.tree_planner.specs.declared.search.Search.{Search}
 use Rattle.tree_planner.specs.Nodes.{IsNode}
-use Rattle.tree_planner.specs.Searching.{far_at, state_at, wave_of, IsGround, IsSearched}
+use Rattle.tree_planner.specs.Searching.{wave_of, IsGround, IsSearched}
 use Rattle.tree_planner.specs.Table.{at_node, at_or, IsOver}
 use Rattle.tree_planner.specs.Way.{AreDeeper, IsDeeper}
 use Rattle.tree_planner.proofs.Looked.{at_each, known_or_not}

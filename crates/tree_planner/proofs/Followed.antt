@@ -1,9 +1,9 @@
 -- A hole goes back along a way that costs nothing.
 use Rattle.std.specs.Prelude.{MatchOption}
-use Rattle.std.proofs.Common.{◌≡◌, ℕ, ◌+◌, ◌-◌, ◌<◌, ◌≤◌, ◌↔◌, Option, Some, None, refl, sym, ap, ◌∙◌, subst, inl, inr, arith}
+use Rattle.std.proofs.Common.{◌≡◌, ℕ, ◌+◌, ◌-◌, ◌<◌, Option, Some, None, sym, ap, ◌∙◌, subst, inl, inr, arith}
 use Rattle.std.specs.Prelude.{◌≢◌}
 use Rattle.std.proofs.lemmas.Bool.{cases_eq}
-use Rattle.wave_problem.specs.Wave.{Wave, reward}
+use Rattle.wave_problem.specs.Wave.{Wave}
 use Rattle.tree_planner.specs.declared.nodes.End.{End}
 use Rattle.tree_planner.specs.declared.nodes.Place.{Place}
 use Rattle.tree_planner.specs.declared.nodes.Place.TheVariants.{Stands, Waits, Unshipped}
@@ -15,7 +15,7 @@ use Rattle.tree_planner.specs.declared.search.Search.{Search}
 use Rattle.tree_planner.specs.declared.search.Step.{Step}
 use Rattle.tree_planner.specs.declared.search.Step.TheVariants.{Start, Down, Up, Over}
 use Rattle.tree_planner.specs.Moves.{IsFlowSet, IsPlaced, IsTaken}
-use Rattle.tree_planner.specs.Nodes.{parent, IsEnd, IsNode}
+use Rattle.tree_planner.specs.Nodes.{parent, IsNode}
 use Rattle.tree_planner.specs.State.{State, place_of, reach_cost, IsKept, IsKeptBut}
 use Rattle.tree_planner.specs.Searching.{order_at, step_at}
 use Rattle.tree_planner.specs.Way.{left_of, AreOthersSame, IsFollowing, IsOnWay, IsReady, IsTight, IsTightGoal}

@@ -1,6 +1,6 @@
 -- A unit goes down from a node to a worker.
-use Rattle.std.proofs.Common.{◌≡◌, ℕ, zero, suc, ◌+◌, ◌-◌, ◌<◌, ◌≤◌, Bool, true, false, cond, List, Option, None, refl, sym, ap, ◌∙◌}
-use Rattle.std.proofs.Common.{subst, inl, inr, ◌⊎◌, arith, length, get_or, get_or-set_same}
+use Rattle.std.proofs.Common.{◌≡◌, ℕ, zero, suc, ◌+◌, ◌-◌, ◌<◌, ◌≤◌, Bool, true, cond, List, None, refl, sym, ap, ◌∙◌}
+use Rattle.std.proofs.Common.{subst, inl, inr, arith, length, get_or, get_or-set_same}
 use Rattle.std.specs.Prelude.{◌≢◌, ◌==◌, slice_set}
 use Rattle.std.proofs.lemmas.Bool.{cases_lt, eq-eqb, false≢true, ne_eqb}
 use Rattle.std.proofs.lemmas.List.{length-set, set-set}
@@ -15,7 +15,7 @@ use Rattle.tree_planner.specs.Handing.{landed, HasUnitAt, IsUnitAt}
 use Rattle.tree_planner.specs.Nodes.{parent, is_under, node_above, AreNodes, IsKnown}
 use Rattle.tree_planner.specs.Table.{at_node}
 use Rattle.tree_planner.specs.Settled.{HasComeDown}
-use Rattle.tree_planner.specs.State.{State, place_of, sum_under, slots_of, stands_under, standing_under, IsBalancedBut}
+use Rattle.tree_planner.specs.State.{State, place_of, slots_of, stands_under, IsBalancedBut}
 use Rattle.tree_planner.proofs.Certified.{which_above}
 use Rattle.tree_planner.proofs.Children.{unit_goes_on}
 use Rattle.tree_planner.proofs.Looked.{at_each, room_known}

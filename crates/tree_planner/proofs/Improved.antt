@@ -1,11 +1,11 @@
 -- What stays where nodes come nearer.
-use Rattle.std.proofs.Common.{◌≡◌, ℕ, ◌+◌, ◌<◌, ◌≤◌, min, refl, sym, ap, ◌∙◌, subst, inl, inr, ◌⊎◌, arith}
+use Rattle.std.proofs.Common.{◌≡◌, ℕ, ◌+◌, ◌<◌, ◌≤◌, refl, sym, ap, ◌∙◌, subst, inl, inr, arith}
 use Rattle.std.specs.Prelude.{◌≢◌}
 use Rattle.std.proofs.lemmas.Bool.{cases_lt}
 use Rattle.tree_planner.specs.declared.node_table.NodeTable.{NodeTable}
 use Rattle.tree_planner.specs.declared.nodes.End.{End}
 use Rattle.tree_planner.specs.declared.nodes.TreeNode.{TreeNode}
-use Rattle.tree_planner.specs.declared.nodes.TreeNode.TheVariants.{Worker, Cluster}
+use Rattle.tree_planner.specs.declared.nodes.TreeNode.TheVariants.{Worker}
 use Rattle.tree_planner.specs.declared.search.Goal.{Goal}
 use Rattle.tree_planner.specs.declared.search.Goal.TheVariants.{Wait, Slot, Off}
 use Rattle.tree_planner.specs.declared.search.Ground.{Ground}

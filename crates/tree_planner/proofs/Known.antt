@@ -1,5 +1,5 @@
 -- The racks and centres of a problem are known.
-use Rattle.std.proofs.Common.{◌<◌, length, arith}
+use Rattle.std.proofs.Common.{arith}
 use Rattle.rack_tree.specs.View as tree
 use Rattle.wave_problem.specs.Wave.{Wave, IsWithinLimits}
 use Rattle.tree_planner.specs.Nodes.{IsKnown}

@@ -24,3 +24,4 @@ pub mod Barred
 pub mod Tops
 pub mod Handed
 pub mod Starts
+pub mod Standing

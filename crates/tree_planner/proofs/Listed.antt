@@ -1,6 +1,6 @@
 -- All nodes of a tree in a list.
-use Rattle.std.proofs.Common.{◌≡◌, ℕ, ◌+◌, ◌<◌, List, [], ◌∷◌, ◌++◌, length, All, Contains, arith}
-use borrow.Author.Count.{below_more, below_none}
+use Rattle.std.proofs.Common.{ℕ, ◌+◌, ◌<◌, List, [], ◌∷◌, ◌++◌, length, All, Contains, arith}
+use borrow.Author.Count.{below_more}
 use Rattle.std.proofs.lemmas.List.Elements.{All-nil, All-push, Contains-append_left, Contains-push}
 use Rattle.rack_tree.specs.Tree.{Tree}
 use Rattle.tree_planner.specs.declared.nodes.TreeNode.{TreeNode}

@@ -1,7 +1,7 @@
 -- Starts of one split more.
-use Rattle.std.proofs.Common.{◌≡◌, ℕ, zero, suc, ◌+◌, ◌<◌, ◌≤◌, cond, List, [], ◌∷◌, ◌++◌, length, Option, Some, None, get_or}
+use Rattle.std.proofs.Common.{◌≡◌, ℕ, ◌+◌, ◌<◌, ◌≤◌, cond, List, [], ◌∷◌, ◌++◌, length, Option, Some, None}
 use Rattle.std.proofs.Common.{refl, sym, ap, ◌∙◌, subst, inl, inr, arith, length-append, get_or-set_same, get_or-set_other}
-use Rattle.std.specs.Prelude.{◌≢◌, ◌==◌}
+use Rattle.std.specs.Prelude.{◌==◌}
 use Rattle.std.proofs.lemmas.Bool.{cases_eq, cases_lt}
 use Rattle.std.proofs.lemmas.List.{get_or_append_left, get_or_past, get_or_push}
 use Rattle.std.proofs.lemmas.List.Sums.{sum_by-cons}
@@ -12,7 +12,7 @@ use Rattle.tree_planner.specs.declared.nodes.End.{End}
 use Rattle.tree_planner.specs.declared.nodes.Place.{Place}
 use Rattle.tree_planner.specs.declared.nodes.Place.TheVariants.{Stands, Unshipped, Waits}
 use Rattle.tree_planner.specs.declared.nodes.TreeNode.{TreeNode}
-use Rattle.tree_planner.specs.Handing.{landed, IsHandedTo, IsUnitAt}
+use Rattle.tree_planner.specs.Handing.{landed, IsHandedTo}
 use Rattle.tree_planner.specs.Nodes.{IsKnown}
 use Rattle.tree_planner.specs.Settled.{HasComeDown, IsHandedDown}
 use Rattle.tree_planner.specs.State.{State, place_of, IsBalancedBut, IsKept}

@@ -1,11 +1,9 @@
 -- Along the way that a search found no step costs anything once the depths have risen.
-use Rattle.std.proofs.Common.{◌≡◌, ℕ, ◌+◌, ◌-◌, ◌<◌, ◌≤◌, min, Option, None, refl, sym, ap, ◌∙◌, inl, inr, ◌⊎◌, arith}
+use Rattle.std.proofs.Common.{◌≡◌, ℕ, ◌+◌, ◌-◌, ◌<◌, ◌≤◌, min, None, refl, ap, ◌∙◌, inl, inr, arith}
 use Rattle.wave_problem.specs.Wave.{Wave, reward}
-use Rattle.tree_planner.specs.declared.node_table.NodeTable.{NodeTable}
 use Rattle.tree_planner.specs.declared.nodes.End.{End}
-use Rattle.tree_planner.specs.declared.nodes.Place.TheVariants.{Stands, Unshipped}
+use Rattle.tree_planner.specs.declared.nodes.Place.TheVariants.{Unshipped}
 use Rattle.tree_planner.specs.declared.nodes.TreeNode.{TreeNode}
-use Rattle.tree_planner.specs.declared.nodes.TreeNode.TheVariants.{Worker}
 use Rattle.tree_planner.specs.declared.search.Goal.{Goal}
 use Rattle.tree_planner.specs.declared.search.Goal.TheVariants.{Wait, Slot, Off}
 use Rattle.tree_planner.specs.declared.search.Ground.{Ground}
@@ -13,11 +11,11 @@ use Rattle.tree_planner.specs.declared.search.Search.{Search}
 use Rattle.tree_planner.specs.declared.search.Step.{Step}
 use Rattle.tree_planner.specs.declared.search.Step.TheVariants.{Start, Down, Up, Over}
 use Rattle.tree_planner.specs.Moves.{AreDistances}
-use Rattle.tree_planner.specs.Nodes.{parent, IsEnd, IsKnown, end_cost}
+use Rattle.tree_planner.specs.Nodes.{parent, IsEnd}
 use Rattle.tree_planner.specs.State.{State, place_of, reach_cost, IsKept}
 use Rattle.tree_planner.specs.Searching.{far_at, order_at, state_at, step_at, wave_of, EndsIn, IsBefore, IsGround}
 use Rattle.tree_planner.specs.Searching.{IsSearched, LeadsTo}
-use Rattle.tree_planner.specs.Way.{AreDeeper, IsOnWay, IsReady, IsTight, IsTightGoal}
+use Rattle.tree_planner.specs.Way.{IsOnWay, IsReady, IsTight, IsTightGoal}
 use Rattle.tree_planner.proofs.Raised.{raises, caps, search_ends}
 
 module _ (g : Ground) (ground : IsGround g) (search : Search) (s : IsSearched g search) where

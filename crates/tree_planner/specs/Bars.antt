@@ -1,5 +1,5 @@
 -- Under which nodes workers are barred for a split, and the ends that this leaves it.
-use Rattle.std.specs.Prelude.{ℕ, zero, suc, ◌≡◌, ◌*◌, ◌<◌, ◌≤◌, ◌⊎◌, ◌↔◌, Bool, true, false, cond, Option, Some, None}
+use Rattle.std.specs.Prelude.{ℕ, zero, suc, ◌≡◌, ◌*◌, ◌≤◌, ◌⊎◌, ◌↔◌, Bool, true, false, cond, Option, Some, None}
 use Rattle.std.specs.Prelude.{IfSome}
 use Rattle.node_ids.specs.Sets.{has_number, place_of_pair}
 use Rattle.rack_tree.specs.Tree.{reach}

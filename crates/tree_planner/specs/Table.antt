@@ -4,7 +4,6 @@ use Rattle.rack_tree.specs.Tree.{Tree}
 use Rattle.tree_planner.specs.declared.node_table.NodeTable.{NodeTable}
 use Rattle.tree_planner.specs.declared.nodes.TreeNode.{TreeNode}
 use Rattle.tree_planner.specs.declared.nodes.TreeNode.TheVariants.{Worker, Rack, Centre, Cluster}
-use Rattle.tree_planner.specs.Nodes.{IsNode}
 
 -- the value at a node, or d where the table has no such node
 abbrev pub at_or : {T : Type 0} → NodeTable T → T → TreeNode → T

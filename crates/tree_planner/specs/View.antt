@@ -1,5 +1,5 @@
 -- The tables as a state.
-use Rattle.std.specs.Prelude.{ℕ, ◌≡◌, length, slice_index}
+use Rattle.std.specs.Prelude.{◌≡◌, length, slice_index}
 use Rattle.wave_problem.specs.Wave.{Wave}
 use Rattle.tree_planner.specs.declared.tables.Tables.{Tables}
 use Rattle.tree_planner.specs.State.{State}

@@ -3,7 +3,7 @@ use Rattle.std.specs.Prelude.{ℕ, ◌≡◌, ◌≢◌, ◌+◌, ◌-◌, ◌<�
 use Rattle.wave_problem.specs.Wave.{Wave, reward}
 use Rattle.tree_planner.specs.declared.node_table.NodeTable.{NodeTable}
 use Rattle.tree_planner.specs.declared.nodes.End.{End}
-use Rattle.tree_planner.specs.declared.nodes.Place.TheVariants.{Stands, Waits, Unshipped}
+use Rattle.tree_planner.specs.declared.nodes.Place.TheVariants.{Stands, Unshipped}
 use Rattle.tree_planner.specs.declared.nodes.TreeNode.{TreeNode}
 use Rattle.tree_planner.specs.declared.nodes.TreeNode.TheVariants.{Worker, Cluster}
 use Rattle.tree_planner.specs.declared.search.Goal.{Goal}

@@ -146,8 +146,8 @@ pub fn plan(alloc: Global, problem: &Problem) -> Result<(Plan, Prices), AllocErr
     read_off(alloc, problem, &base, &tables)
 }
 
-// The plan and the prices that the tables show.
-fn read_off(
+/// The plan and the prices that the tables show.
+pub fn read_off(
     alloc: Global,
     problem: &Problem,
     fixed: &Fixed,

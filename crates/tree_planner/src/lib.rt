@@ -9,6 +9,7 @@
 mod engine;
 mod follow;
 mod hand_down;
+mod kept;
 mod laws;
 mod node_table;
 mod nodes;
@@ -19,6 +20,7 @@ mod tables;
 mod tree_nodes;
 
 pub use engine::plan;
+pub use kept::Engine;
 pub use laws::{engine_certifies, lowers, moves, raises, slots, unit_goes_on};
 pub use node_table::NodeTable;
 pub use nodes::{End, Place, TreeNode};

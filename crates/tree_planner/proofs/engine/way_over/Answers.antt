@@ -1,4 +1,4 @@
-use Rattle.std.proofs.Common.{◌≡◌, ◌∙◌, ap, refl}
+use Rattle.std.proofs.Common.{◌∙◌, ap, refl}
 use Rattle.tree_planner.specs.Engine.{with_depth}
 use Rattle.tree_planner.specs.Searching.{state_at}
 use Rattle.tree_planner.specs.State.{place_of}

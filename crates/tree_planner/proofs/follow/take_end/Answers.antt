@@ -1,7 +1,6 @@
-use Rattle.std.proofs.Common.{◌≡◌, ◌∙◌, sym}
-use Rattle.tree_planner.specs.declared.nodes.Place.TheVariants.{Unshipped, Waits}
+use Rattle.tree_planner.specs.declared.nodes.Place.TheVariants.{Waits}
 use Rattle.tree_planner.specs.View.{state_of}
-use Rattle.tree_planner.proofs.Followed.{follow_off, follow_slot, follow_wait, others_same, others_kept, off_stood}
+use Rattle.tree_planner.proofs.Followed.{follow_off, follow_slot, follow_wait}
 use Rattle.tree_planner.proofs.Moved.{here_now}
 use Rattle.tree_planner.proofs.follow.take_end.Goals as goal
 

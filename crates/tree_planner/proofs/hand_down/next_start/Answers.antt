@@ -1,4 +1,4 @@
-use Rattle.std.proofs.Common.{◌≡◌, ℕ, ◌<◌, ◌++◌, ◌∷◌, [], ◌∙◌, length, Option, Some, refl, sym, subst, arith}
+use Rattle.std.proofs.Common.{◌≡◌, ℕ, ◌<◌, ◌++◌, ◌∷◌, [], ◌∙◌, length, Some, refl, sym, subst, arith}
 use Rattle.tree_planner.specs.declared.nodes.Place.TheVariants.{Stands}
 use Rattle.tree_planner.specs.Handing.{IsHandedTo}
 use Rattle.tree_planner.specs.State.{place_of}

@@ -1,6 +1,6 @@
 use Rattle.std.proofs.Common.{◌<◌, ◌∙◌, arith, sym, subst, inl, inr}
 use Rattle.tree_planner.specs.Searching.{order_at, HasLookedFrom}
-use Rattle.tree_planner.proofs.Counted.{open_count, open_less}
+use Rattle.tree_planner.proofs.Counted.{open_less}
 use Rattle.tree_planner.proofs.Improved.{looked_kept, started_kept}
 use Rattle.tree_planner.proofs.Moved.{same_or_not}
 use Rattle.tree_planner.proofs.search.run.Goals as goal

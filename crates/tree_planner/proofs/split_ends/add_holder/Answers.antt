@@ -1,5 +1,4 @@
-use Rattle.std.proofs.Common.{◌≡◌, ℕ, ◌+◌, ◌<◌, ◌↔◌, ◌⊎◌, ◌∙◌, ap, sym, subst, Contains, arith, inl, inr}
-use Rattle.tree_planner.specs.declared.nodes.End.{End}
+use Rattle.std.proofs.Common.{ℕ, ◌↔◌, ◌⊎◌, ◌∙◌, ap, sym, subst, Contains, arith, inl, inr}
 use Rattle.rack_tree.specs.Tree.{Tree, reach}
 use Rattle.tree_planner.specs.Bars.{IsTopEnd}
 use Rattle.tree_planner.specs.Nodes.{node_above}

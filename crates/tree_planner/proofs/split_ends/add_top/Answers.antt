@@ -1,6 +1,5 @@
-use Rattle.std.proofs.Common.{◌≡◌, ◌↔◌, ◌⊎◌, ◌∙◌, sym, subst, take, Contains, get_or, arith, inl, inr}
+use Rattle.std.proofs.Common.{◌↔◌, ◌⊎◌, ◌∙◌, sym, subst, Contains, arith, inl, inr}
 use Rattle.std.proofs.lemmas.Bool.{false≢true}
-use Rattle.tree_planner.specs.declared.nodes.TreeNode.TheVariants.{Worker}
 use Rattle.tree_planner.specs.Bars.{IsTopEnd}
 use Rattle.tree_planner.proofs.Tops.{all_taken, join, push_top, taken_more}
 use Rattle.tree_planner.proofs.split_ends.add_top.Goals as goal

@@ -1,5 +1,4 @@
-use Rattle.std.proofs.Common.{◌≡◌, ◌+◌, ◌<◌, ◌++◌, ◌∷◌, [], length, sym, subst, arith}
-use Rattle.tree_planner.specs.declared.nodes.TreeNode.TheVariants.{Centre, Rack, Worker}
+use Rattle.std.proofs.Common.{◌≡◌, ◌+◌, length, sym, subst, arith}
 use Rattle.tree_planner.proofs.Listed.{IsListed, list_centre, list_rack, list_worker, all_listed}
 use Rattle.tree_planner.proofs.tree_nodes.all_nodes.Goals as goal
 

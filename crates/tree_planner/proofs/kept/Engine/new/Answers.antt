@@ -1,0 +1,8 @@
+use Rattle.tree_planner.proofs.Standing.{begins_standing}
+use Rattle.tree_planner.proofs.kept.Engine.new.Goals as goal
+
+pub invariant_of-result : goal.invariant_of-result
+invariant_of-result c = (
+  c.in_ok-fixed.ensures,
+  begins_standing c.args.problem c.in_ok-tables.tables c.in_ok-tables.ensures.tables c.in_ok-tables.ensures.fresh,
+)

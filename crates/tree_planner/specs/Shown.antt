@@ -1,0 +1,13 @@
+-- What is known of an engine from outside.
+use Rattle.wave_problem.specs.Wave.{Wave}
+use Rattle.tree_planner.specs.declared.tables.Tables.{Tables}
+use Rattle.tree_planner.specs.State.{State}
+use Rattle.tree_planner.specs.View.{state_of}
+
+-- a wave, and the tables of the state of its splits
+pub record Shown : Type 0 where
+  pub wave : Wave
+  pub tables : Tables
+
+abbrev pub state_in : Shown → State
+state_in shown = state_of shown.tables
