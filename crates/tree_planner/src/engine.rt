@@ -86,7 +86,8 @@ fn way_and_depths(
     ensures how { IfOk result (λ pair. IsOver problem.now.tree pair.0.how) }
     ensures over { IfOk result (λ pair. IsOver problem.now.tree pair.1) }
     ensures low { IfOk result (λ pair. (v : TreeNode) → at_node pair.1 v ≤ reward problem.now) }
-    ensures ready { IfOk result (λ pair. IsReady problem.now (with_depth (state_of tables.now) pair.1) pair.0) }
+    ensures ready { IfOk result
+        (λ pair. IsReady problem.now (with_depth (state_of tables.now) pair.1) pair.0) }
 {
     let ground = Ground {
         problem,
