@@ -92,7 +92,8 @@ fn rows_are_asked_for(rt: HostRuntime) {
     }
     let all = said_of(rt.alloc(), &["mrjob", "explain"]).expect(&rt, "nothing");
     assert!(rt;
-        all.as_str().ends_with("status 64: usage: the words of the command line ask for nothing\n")
+        all.as_str()
+            .ends_with("status 141: the reader of the answer has gone\n")
     );
 }
 
