@@ -3,7 +3,7 @@
 
 The page is one file that needs no network. It has the cluster as racks with what runs after each event, a time line of
 attempts by worker, and of each wave what it moved. A slider goes from event to event, by arrow keys too. The texts have
-no prices. With --planner the program is asked for those of each wave, and whether they certify it.
+no prices. With --planner the program is asked for the prices of each wave, and whether they certify it.
 
     contrib/page_of_history.py contrib/samples/job.txt contrib/samples/job.out > job.html
     contrib/page_of_history.py --planner bin/mrjob contrib/samples/job.txt contrib/samples/job.out > job.html
