@@ -8,10 +8,10 @@ ghost use Rattle.certificate_checker.specs.Floors.{AreFloors};
 use node_ids::RackNo;
 use rack_tree::MAX_RACKS;
 
-/// What a free slot of a live worker costs at the least: among all workers, and in each rack. It is no more
-/// than the reward, also where there is no such slot. A worker is a live holder, or of a holder's rack, or at
-/// least 4 steps away: so three kinds of tests by these floors settle most splits, and only what they do not
-/// settle is gone through pair by pair.
+/// Lower bounds of the price of a live worker's free slot: over all workers, and in each rack. A bound is at
+/// most the reward, even if there is no such slot. A worker holds the split, or shares a rack with a holder,
+/// or is at least 4 steps away. So three tests by these bounds settle most splits; only the others are tested
+/// pair by pair.
 #[derive(Clone, Copy)]
 pub struct Floors {
     pub all: u64,

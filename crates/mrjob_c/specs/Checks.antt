@@ -6,7 +6,7 @@ use Rattle.price_certificate.specs.declared.Condition.TheVariants.{Open, Allowed
 use Rattle.price_certificate.specs.declared.Condition.TheVariants.{WorkerPrice, Priced, Tight, Unstarted}
 use Rattle.price_certificate.specs.declared.Condition.TheVariants.{Spare}
 use Rattle.price_certificate.specs.Certificate.{claim, Certifies, Claim, IsFirstFailure}
-use Rattle.wave_arrays.specs.declared.rows.WaveRows.{WaveRows}
+use Rattle.wave_arrays.specs.declared.array_rows.WaveRows.{WaveRows}
 use Rattle.wave_arrays.specs.Rows.{wave_in}
 use Rattle.wave_arrays.specs.Claims.{prices_in, start_in}
 use Rattle.mrjob_c.specs.declared.checks.Verdict.{Verdict}

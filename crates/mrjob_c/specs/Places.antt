@@ -3,7 +3,7 @@ use Rattle.std.specs.Prelude.{ℕ, ◌≡◌, ◌<◌, ◌⊎◌, List, Option, 
 use Rattle.wave_arrays.specs.Claims.{IsStartFit}
 use Rattle.wave_arrays.specs.Places.{HasFitHolders, IsFirstUnfit, IsWorkerFit}
 use Rattle.wave_arrays.specs.Rows.{IsPairKnown, IsSplitFit}
-use Rattle.wave_arrays.specs.declared.rows.WaveRows.{WaveRows}
+use Rattle.wave_arrays.specs.declared.array_rows.WaveRows.{WaveRows}
 
 -- a status that is of no rows
 abbrev pub IsOther : ℕ → Type 0

@@ -3,7 +3,7 @@ use Rattle.std.specs.Prelude.{ℕ, ◌==◌, List, if◌then◌else◌, map}
 use Rattle.flow_network.specs.declared.kinds.NetworkKind.{NetworkKind}
 use Rattle.flow_network.specs.declared.kinds.NetworkKind.TheVariants.{Direct, Racks}
 use Rattle.wave_planner.specs.Planned.{IsMadeOver}
-use Rattle.wave_arrays.specs.declared.rows.WaveRows.{WaveRows}
+use Rattle.wave_arrays.specs.declared.array_rows.WaveRows.{WaveRows}
 use Rattle.wave_arrays.specs.Claims.{prices_in, start_in}
 use Rattle.wave_arrays.specs.Rows.{wave_in}
 use Rattle.mrjob_c.specs.Checks.{claim_in, IsBestBy}

@@ -1,7 +1,7 @@
 -- What a call answers where it writes nothing, and what is so then.
 use Rattle.std.specs.Prelude.{ℕ, ◌≡◌, ◌<◌, List, length}
 use Rattle.wave_arrays.specs.declared.fit.RowsError.TheVariants.{Racks, Workers, Splits, Bars, Holders}
-use Rattle.wave_arrays.specs.declared.rows.WaveRows.{WaveRows}
+use Rattle.wave_arrays.specs.declared.array_rows.WaveRows.{WaveRows}
 use Rattle.wave_arrays.specs.Claims.{AreStartsFit}
 use Rattle.wave_arrays.specs.Refusals.{IsRefusal}
 use Rattle.wave_arrays.specs.Rows.{AreFit}

@@ -48,7 +48,7 @@ some_start n w (Some v ∷ rest) l = elim (cases_eq v w) [
       )) in (suc found.0, found.1))
 ]
 
-usable_or_not : (wave : Wave) (w : ℕ) → IsUsable wave.workers w ⊎ (IsUsable wave.workers w → ⊥)
+pub usable_or_not : (wave : Wave) (w : ℕ) → IsUsable wave.workers w ⊎ (IsUsable wave.workers w → ⊥)
 usable_or_not wave w = grind arith
 
 module _ (wave : Wave) (nodes : WaveNodes) (arcs : List FlowArc) (flows : List ℕ) (starts : List (Option ℕ))

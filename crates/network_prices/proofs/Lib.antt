@@ -12,7 +12,11 @@ pub mod Sources
 pub mod Priced
 pub mod Certified
 -- an assignment is a flow
+pub mod Waiting
+pub mod Routes
 pub mod Routed
+-- what prices certify is read off a least-cost flow
+pub mod Potentials
 -- units are handed on
 pub mod Units
 pub mod Places

@@ -1,14 +1,13 @@
--- An admissible assignment is a flow of the same cost: at first the unit of each pending split waits, and
--- then one start after the other leads its split's unit to the worker.
-use Rattle.std.proofs.Common.{◌≡◌, ℕ, zero, suc, ◌+◌, ◌-◌, ◌*◌, ◌<◌, ◌≤◌, Bool, true, false, cond, List, []}
+-- An admissible assignment is a flow of the same cost: where the unit of each pending split waits, one start
+-- after the other leads its split's unit to the worker.
+use Rattle.std.proofs.Common.{◌≡◌, ℕ, suc, ◌+◌, ◌-◌, ◌<◌, ◌≤◌, Bool, true, false, cond, List, []}
 use Rattle.std.proofs.Common.{◌∷◌, length, get_or, refl, sym, ap, ◌∙◌, subst, inl, inr, arith, unwrap_or}
-use Rattle.std.proofs.Common.{get_or-set_same, Option, replicate, Contains}
+use Rattle.std.proofs.Common.{get_or-set_same, Option, Contains}
 use Rattle.std.specs.Prelude.{◌==◌}
-use Rattle.std.proofs.lemmas.Bool.{cases_Bool, cases_eq, eq-eqb, ne_eqb, false≢true}
-use Rattle.std.proofs.lemmas.List.{length-append, length-replicate}
+use Rattle.std.proofs.lemmas.Bool.{cases_eq, cases_lt, false≢true}
 use Rattle.std.proofs.lemmas.List.Elements.{All-head, All-tail}
 use Rattle.std.proofs.lemmas.List.Sums.{sum_by-cons}
-use Rattle.std.proofs.Math.Nat.{mul-suc, add-mul}
+use Rattle.std.proofs.Math.Nat.{mul-suc}
 use Rattle.flow_network.specs.declared.arcs.FlowArc.{FlowArc}
 use Rattle.flow_network.specs.declared.arcs.ArcNo.{ArcNo}
 use Rattle.flow_network.specs.declared.arcs.ArcNo.TheVariants.{Forward, Reverse}
@@ -18,21 +17,21 @@ use Rattle.flow_network.specs.Laws.{flow_cost, outroom}
 use Rattle.flow_network.proofs.Balance.{length-shifted, kept_shift, outflow_forward, outflow_back}
 use Rattle.flow_network.proofs.Balance.{flow_cost_forward, flow_cost_back, push_balance}
 use Rattle.flow_network.proofs.Members.{Contains-nil, Contains-here, Contains-there, Contains-cons}
-use Rattle.flow_network.proofs.Members.{Contains-one, replicated_at}
+use Rattle.flow_network.proofs.Members.{Contains-one}
 use Rattle.flow_network.proofs.Pushing.{residual_path, pushed_within}
 use Rattle.flow_network.proofs.Room.{room_above, inflow-ge}
-use Rattle.augmenting_paths.specs.Shipping.{standing, IsShipment}
-use Rattle.augmenting_paths.proofs.Shipped.{standing-push, length-pushed, inflow_zero, outflow_zero}
+use Rattle.augmenting_paths.proofs.Shipped.{length-pushed}
 use Rattle.wave_problem.specs.Wave.{Wave, IsAdmissible, IsUsable, split_at, worker_at, cost, reward}
 use Rattle.wave_problem.specs.Assignment.{IsAssignment, load, times_started, total, pairs_of}
 use Rattle.wave_problem.proofs.Bound.{pending_known}
 use Rattle.network_prices.specs.Ways.{IsInner, IsWay}
-use Rattle.network_prices.specs.Pending.{pending_below}
 use Rattle.network_prices.specs.Networks.{WaveNodes, way_of, IsArcFrom, IsWaveNetwork}
 use Rattle.network_prices.specs.Prices.{IsShipped, CostsAsMuch, AssignmentIsFlow, CheapestCostsAsPlan}
-use Rattle.network_prices.proofs.Pending.{pending-more, pending-same, pending_mono, one_each, balanced}
+use Rattle.network_prices.proofs.Pending.{one_each, balanced}
 use Rattle.network_prices.proofs.Sums.{outflow-ge, outflow-ge_two, outroom-ge, outroom-ge_two}
-use Rattle.network_prices.proofs.Costs.{flow_cost_zero}
+use Rattle.network_prices.proofs.Waiting.{own_on, unit_off, unit_on, WaitsAt, all_wait}
+use Rattle.network_prices.proofs.Routes.{shift_one, CameOn, came_more, came_after, IsDescent, IsTakenBy}
+use Rattle.network_prices.proofs.Routes.{AreRoutes}
 use Rattle.network_prices.specs.Prices.{IsReadOff}
 use Rattle.price_certificate.specs.PriceList.{PriceList}
 use Rattle.price_certificate.specs.Certificate.{claim, Certifies}
@@ -62,15 +61,6 @@ way_inner arcs sources sink v x (u ∷ way) is i = elim (Contains-cons v (u ∷ 
   | inr on ↦ way_inner arcs sources sink u x way is.2 on
 ]
 
-own_on : (nodes : WaveNodes) (w : ℕ) {x : ℕ} → x ≡ nodes.worker w → Contains (way_of nodes w) x
-own_on nodes w e = subst (Contains (way_of nodes w)) (sym e) (Contains-here (nodes.above w) (nodes.worker w))
-
-unit_off : (u v : ℕ) → (u ≡ v → ⊥) → unit_at u v ≡ 0
-unit_off u v n = ap (λ (b : Bool). cond b 1 0) (ne_eqb u v n)
-
-unit_on : (u v : ℕ) → u ≡ v → unit_at u v ≡ 1
-unit_on u v e = ap (λ (b : Bool). cond b 1 0) (eq-eqb u v e)
-
 is_reverse : ArcNo → Bool
 is_reverse (Forward k) = false
 is_reverse (Reverse k) = true
@@ -79,13 +69,8 @@ reverse_apart : (i j : ℕ) → Reverse i ≡ Forward j → ⊥
 unfolding is_reverse
 reverse_apart i j e = false≢true (sym (ap is_reverse e))
 
--- the unit of a split waits
-abbrev WaitsAt : Wave → WaveNodes → List FlowArc → List ℕ → ℕ → Type 0
-WaitsAt wave nodes arcs flows s = (k : ℕ) × IsArcFrom arcs k s nodes.unstarted 1 (reward wave)
-    × (0 < get_or flows k 0)
-
--- the flow that these starts make
-record Carries (wave : Wave) (nodes : WaveNodes) (arcs : List FlowArc)
+-- the flow that these starts make: but for what waits it has their units alone
+pub record Carries (wave : Wave) (nodes : WaveNodes) (arcs : List FlowArc)
     (network : IsWaveNetwork wave nodes arcs)
     (pairs : List (ℕ × ℕ)) (flows : List ℕ) : Type 0 where
   pub shipped : IsShipped wave nodes arcs flows
@@ -94,19 +79,10 @@ record Carries (wave : Wave) (nodes : WaveNodes) (arcs : List FlowArc)
   pub loads : (w : ℕ) → IsUsable wave.workers w → outflow arcs flows (nodes.worker w) ≡ load pairs w
   pub rests : outflow arcs flows nodes.unstarted ≡ get_or flows network.rest.0 0
   pub costs : CostsAsMuch wave arcs flows pairs
-
--- the units of the splits below n wait
-record AllWait (wave : Wave) (nodes : WaveNodes) (arcs : List FlowArc)
-    (network : IsWaveNetwork wave nodes arcs)
-    (n : ℕ) (flows : List ℕ) : Type 0 where
-  pub shipment : IsShipment arcs (pending_below wave n) nodes.sink flows
-  pub unused : (s k : ℕ) → n ≤ s → s < length wave.splits → k < length arcs → (arc_at arcs k).from ≡ s →
-      get_or flows k 0 ≡ 0
-  pub waits : (s : ℕ) → (split_at wave s).pending ≡ true → s < n → WaitsAt wave nodes arcs flows s
-  pub loads : (w : ℕ) → IsUsable wave.workers w → outflow arcs flows (nodes.worker w) ≡ 0
-  pub rests : outflow arcs flows nodes.unstarted ≡ get_or flows network.rest.0 0
-  pub resting : get_or flows network.rest.0 0 ≡ length (pending_below wave n)
-  pub costs : flow_cost arcs flows ≡ reward wave * length (pending_below wave n)
+  pub units : ℕ → ℕ
+  pub routes : AreRoutes wave nodes arcs pairs units
+  pub only : (k : ℕ) → ((arc_at arcs k).from ≡ nodes.unstarted → ⊥)
+      → ((arc_at arcs k).to ≡ nodes.unstarted → ⊥) → get_or flows k 0 ≡ units k
 
 module _ (wave : Wave) (nodes : WaveNodes) (arcs : List FlowArc)
     (network : IsWaveNetwork wave nodes arcs) where
@@ -189,7 +165,7 @@ module _ (wave : Wave) (nodes : WaveNodes) (arcs : List FlowArc)
     Leads v n path = IsPath arcs flows path v nodes.sink × IsDistinct path × AllLow n path
         × ((i : ℕ) × (i < length arcs) × ((arc_at arcs i).from ≡ v)
         × (get_or flows i 0 < (arc_at arcs i).capacity))
-        × Adds path
+        × Adds path × ((gains : ℕ → ℕ) × IsDescent nodes arcs w v path gains)
 
     base : Leads (nodes.worker w) (length (nodes.above w)) (Forward (network.slot w u).0 ∷ [])
     base =
@@ -219,14 +195,71 @@ module _ (wave : Wave) (nodes : WaveNodes) (arcs : List FlowArc)
             (let more = flow_cost_forward arcs f slot.0 size is.listed in
                 let free = is.cost_is in omega arith),
           ),
+          (
+            unit_at slot.0,
+            record {
+              each = λ f k size. shift_one f slot.0 k (omega arith);
+              listed = λ k some. elim (cases_eq slot.0 k) [
+                | inl e ↦ (let l = is.listed in omega arith)
+                | inr n ↦ absurd (let none = unit_off slot.0 k n in omega arith)
+              ];
+              takes = λ k some. elim (cases_eq slot.0 k) [
+                | inl e ↦ inl (sym (ap (λ (j : ℕ). (arc_at arcs j).from) e) ∙ is.from_is)
+                | inr n ↦ absurd (let none = unit_off slot.0 k n in omega arith)
+              ];
+              came = ([], refl);
+            },
+          ),
+        )
+
+    -- the unit takes the feeding arc first
+    fed_descent : (v x : ℕ) (rest : List ℕ) (path : List ArcNo)
+        (way : IsWay arcs splits nodes.sink (v ∷ (x ∷ rest))) → Contains (way_of nodes w) v
+        → ((gains : ℕ → ℕ) × IsDescent nodes arcs w v path gains)
+        → (gains : ℕ → ℕ) × IsDescent nodes arcs w x (Forward way.1.feed ∷ path) gains
+    fed_descent v x rest path way here below =
+        let fed = way.1 in
+        let k : ℕ = fed.feed in
+        let old : ℕ → ℕ = below.0 in
+        let gains : ℕ → ℕ = λ j. unit_at k j + old j in
+        let first = unit_on k k refl in
+        let up : (p : List ℕ) (z : ℕ) → CameOn arcs old p v z → (q : List ℕ) × CameOn arcs gains q x z =
+        λ p z came.
+        (let more = came_more arcs old gains (λ j some. omega arith) p v z came in
+        let after = came_after arcs gains k fed.listed (omega arith) p z
+        (subst (λ (y : ℕ). CameOn arcs gains p y z) (sym fed.to_is) more) in
+        (after.0, subst (λ (y : ℕ). CameOn arcs gains after.0 y z) fed.from_is after.1)) in (
+          gains,
+          record {
+            each = λ f j size.
+                (let then = below.1.each (shifted f (Forward k)) j (length-shifted f (Forward k) ∙ size) in
+                let listed = fed.listed in
+                let one = shift_one f k j (omega arith) in omega arith);
+            listed = λ j some. elim (cases_eq k j) [
+              | inl e ↦ (let l = fed.listed in omega arith)
+              | inr n ↦ below.1.listed j (let none = unit_off k j n in omega arith)
+            ];
+            takes = λ j some. elim (cases_eq k j) [
+              | inl e ↦ inr (
+                subst (Contains (way_of nodes w)) (sym fed.to_is ∙ ap (λ (i : ℕ). (arc_at arcs i).to) e) here,
+                sym (ap (λ (i : ℕ). (arc_at arcs i).cost) e) ∙ fed.without_cost,
+                ([], sym (ap (λ (i : ℕ). (arc_at arcs i).from) e) ∙ fed.from_is),
+              )
+              | inr n ↦ elim (below.1.takes j (let none = unit_off k j n in omega arith)) [
+                | inl from ↦ inl from
+                | inr on ↦ inr (on.0, on.1, up on.2.0 (arc_at arcs j).from on.2.1)
+              ]
+            ];
+            came = up below.1.came.0 (nodes.worker w) below.1.came.1;
+          },
         )
 
     -- one arc higher
     higher : (v x : ℕ) (rest : List ℕ) (path : List ArcNo)
         (way : IsWay arcs splits nodes.sink (v ∷ (x ∷ rest)))
-        → Contains (nodes.above w) x → Leads v (length (x ∷ rest)) path →
+        → Contains (way_of nodes w) v → Contains (nodes.above w) x → Leads v (length (x ∷ rest)) path →
         Leads x (length rest) (Forward way.1.feed ∷ path)
-    higher v x rest path way on leads =
+    higher v x rest path way here on leads =
         let fed = way.1 in
         let i = leads.3 in
         let some : get_or flows fed.feed 0 < (arc_at arcs fed.feed).capacity =
@@ -267,19 +300,21 @@ module _ (wave : Wave) (nodes : WaveNodes) (arcs : List FlowArc)
                 (let step = then.2 in let here = flow_cost_forward arcs f fed.feed size fed.listed in
                     let free = fed.without_cost in omega arith),
               )),
+          fed_descent v x rest path way here leads.5,
         )
 
     -- from any node of the way
     descend : (rest : List ℕ) (v x : ℕ) (path : List ArcNo) → IsWay arcs splits nodes.sink (v ∷ rest) →
-        ((y : ℕ) → Contains rest y → Contains (nodes.above w) y)
+        ((y : ℕ) → Contains rest y → Contains (nodes.above w) y) → Contains (way_of nodes w) v
         → Leads v (length rest) path → Contains (v ∷ rest) x → (n : ℕ) × (down : List ArcNo) × Leads x n down
-    descend [] v x path way on leads i =
+    descend [] v x path way on here leads i =
         (0, path, subst (λ (z : ℕ). Leads z 0 path) (Contains-one v x i) leads)
-    descend (y ∷ rest) v x path way on leads i = elim (Contains-cons v (y ∷ rest) x i) [
+    descend (y ∷ rest) v x path way on here leads i = elim (Contains-cons v (y ∷ rest) x i) [
       | inl e ↦ (length (y ∷ rest), path, subst (λ (z : ℕ). Leads z (length (y ∷ rest)) path) e leads)
       | inr there ↦ descend rest y x (Forward way.1.feed ∷ path) way.2
           (λ z k. on z (Contains-there y rest z k))
-          (higher v y rest path way (on y (Contains-here rest y)) leads) there
+          (Contains-there (nodes.worker w) (nodes.above w) y (on y (Contains-here rest y)))
+          (higher v y rest path way here (on y (Contains-here rest y)) leads) there
     ]
 
     -- the start's arc, and those that the waiting unit gives back
@@ -339,7 +374,8 @@ module _ (wave : Wave) (nodes : WaveNodes) (arcs : List FlowArc)
     down : (n : ℕ) × (path : List ArcNo) × Leads (arc_at arcs offer).to n path
     down =
         descend (nodes.above w) (nodes.worker w) (arc_at arcs offer).to (Forward (network.slot w u).0 ∷ [])
-        (network.ways w u) (λ y i. i) base (network.complete s w may).1.on_way
+        (network.ways w u) (λ y i. i) (Contains-here (nodes.above w) (nodes.worker w)) base
+        (network.complete s w may).1.on_way
 
     abbrev path : List ArcNo
     path = Reverse rest ∷ (Reverse wait ∷ (Forward offer ∷ down.1))
@@ -471,8 +507,84 @@ module _ (wave : Wave) (nodes : WaveNodes) (arcs : List FlowArc)
       | inr n ↦ unit_off (nodes.worker w) (nodes.worker x) (λ e. n (network.own w x e)) ∙ sym (unit_off w x n)
     ]
 
+    -- the units of the other starts, with the unit of this start
+    abbrev gains : ℕ → ℕ
+    gains = down.2.5.0
+
+    abbrev units : ℕ → ℕ
+    units = λ k. state.units k + (unit_at offer k + gains k)
+
+    first_unit : 0 < units offer
+    first_unit = let one = unit_on offer offer refl in omega arith
+
+    -- the unit of the start takes the offer first
+    came_by_offer : (p : List ℕ) (z : ℕ) → CameOn arcs gains p (arc_at arcs offer).to z
+        → (q : List ℕ) × CameOn arcs units q s z
+    came_by_offer p z came =
+        let more = came_more arcs gains units (λ k some. omega arith) p (arc_at arcs offer).to z came in
+        let after = came_after arcs units offer (network.complete s w may).1.listed first_unit p z more in
+        (after.0, subst (λ (y : ℕ). CameOn arcs units after.0 y z) from_offer after.1)
+
+    came_still : (p : List ℕ) (x z : ℕ) → CameOn arcs state.units p x z → CameOn arcs units p x z
+    came_still p x z = came_more arcs state.units units (λ k some. omega arith) p x z
+
+    taken_by_start : (k : ℕ) → 0 < unit_at offer k + gains k → IsTakenBy wave nodes arcs units k s w
+    taken_by_start k some = elim (cases_eq offer k) [
+      | inl e ↦ inr (
+        subst (Contains (way_of nodes w)) (ap (λ (j : ℕ). (arc_at arcs j).to) e)
+            (network.complete s w may).1.on_way,
+        subst (λ (c : ℕ). c ≤ unwrap_or (cost wave s w) 0) (ap (λ (j : ℕ). (arc_at arcs j).cost) e)
+            (network.complete s w may).1.at_most,
+        ([], sym (ap (λ (j : ℕ). (arc_at arcs j).from) e) ∙ from_offer),
+      )
+      | inr n ↦ elim (down.2.5.1.takes k (let none = unit_off offer k n in omega arith)) [
+        | inl from ↦ inl from
+        | inr on ↦ (let free = on.1 in
+            inr (on.0, omega arith, came_by_offer on.2.0 (arc_at arcs k).from on.2.1))
+      ]
+    ]
+
+    taken_still : (k x v : ℕ) → IsTakenBy wave nodes arcs state.units k x v
+        → IsTakenBy wave nodes arcs units k x v
+    taken_still k x v (inl from) = inl from
+    taken_still k x v (inr on) = inr (on.0, on.1, (on.2.0, came_still on.2.0 x (arc_at arcs k).from on.2.1))
+
+    routes : AreRoutes wave nodes arcs ((s, w) ∷ pairs) units
+    routes = record {
+      came = λ x v on. elim (Contains-cons (s, w) pairs (x, v) on) [
+        | inl e ↦ subst (λ (pair : ℕ × ℕ). (path : List ℕ) × CameOn arcs units path pair.0
+            (nodes.worker pair.1)) e (came_by_offer down.2.5.1.came.0 (nodes.worker w) down.2.5.1.came.1)
+        | inr old ↦ (let was = state.routes.came x v old in
+            (was.0, came_still was.0 x (nodes.worker v) was.1))
+      ];
+      listed = λ k some. elim (cases_eq offer k) [
+        | inl e ↦ (let l = (network.complete s w may).1.listed in omega arith)
+        | inr n ↦ elim (cases_lt 0 (state.units k)) [
+          | inl old ↦ state.routes.listed k old
+          | inr none ↦ down.2.5.1.listed k (let off = unit_off offer k n in omega arith)
+        ]
+      ];
+      taken = λ k some. elim (cases_lt 0 (state.units k)) [
+        | inl old ↦ (let was = state.routes.taken k old in
+            (was.0, was.1, Contains-there (s, w) pairs (was.0, was.1) was.2, taken_still k was.0 was.1 was.3))
+        | inr none ↦ (s, w, Contains-here pairs (s, w), taken_by_start k (omega arith))
+      ];
+    }
+
     carried : Carries wave nodes arcs network ((s, w) ∷ pairs) after
     carried = record {
+      units = units;
+      routes = routes;
+      only = λ k from to.
+          (let was = state.only k from to in
+          let then = down.2.5.1.each with_offer k size_3 in
+          let listed = (network.complete s w may).1.listed in let size = size_2 in
+          let one = shift_one without_wait offer k (omega arith) in
+          let unwaited = kept_shift without_rest (Reverse wait) k
+          (λ e. to (sym (ap (λ (j : ℕ). (arc_at arcs j).to) e) ∙ wait_is.to_is)) in
+          let unrested = kept_shift flows (Reverse rest) k
+          (λ e. from (sym (ap (λ (j : ℕ). (arc_at arcs j).from) e) ∙ from_rest)) in
+          omega arith);
       shipped = record {
         sizes = length-pushed path flows ∙ state.shipped.sizes;
         within = pushed_within arcs flows path after
@@ -545,191 +657,11 @@ module _ (wave : Wave) (nodes : WaveNodes) (arcs : List FlowArc)
           omega arith);
     }
 
-  none_waits : AllWait wave nodes arcs network 0 (replicate (length arcs) 0)
-  none_waits =
-      let flows : List ℕ = replicate (length arcs) 0 in
-      let idle : (k : ℕ) → get_or flows k 0 ≡ 0 = λ k. replicated_at (length arcs) k 0 in
-      record {
-        shipment = record {
-          sizes = length-replicate (length arcs) 0;
-          within = λ k l. (let z = idle k in omega arith);
-          balance = λ v. (let i = inflow_zero arcs flows v idle in let o = outflow_zero arcs flows v idle in
-              omega arith);
-        };
-        unused = λ s k a b c d. idle k;
-        waits = λ s p l. absurd (omega arith);
-        loads = λ w u. outflow_zero arcs flows (nodes.worker w) idle;
-        rests = outflow_zero arcs flows nodes.unstarted idle ∙ sym (idle network.rest.0);
-        resting = idle network.rest.0;
-        costs = (let free = flow_cost_zero arcs flows idle in omega arith);
-      }
-
-  module _ (n : ℕ) (flows : List ℕ) (low : n < splits) (state : AllWait wave nodes arcs network n flows)
-      (p : (split_at wave n).pending ≡ true) where
-    abbrev own : ℕ
-    own = (network.wait n p).0
-
-    own_is : IsArcFrom arcs own n nodes.unstarted 1 (reward wave)
-    own_is = (network.wait n p).1
-
-    abbrev on : ℕ
-    on = network.rest.0
-
-    apart : own ≡ on → ⊥
-    apart e =
-        let same = ap (λ (k : ℕ). (arc_at arcs k).from) e in
-        let a = own_is.from_is in let b = network.rest.2.from_is in
-        let past = network.rest_inner.no_source in omega arith
-
-    one_longer : length (pending_below wave (suc n)) ≡ suc (length (pending_below wave n))
-    one_longer = let size = length-append (pending_below wave n) (n ∷ []) in
-        let more = ap (λ (z : List ℕ). length z) (pending-more wave n p) in omega arith
-
-    abbrev waiting_path : List ArcNo
-    waiting_path = Forward own ∷ (Forward on ∷ [])
-
-    leads_to_sink : IsPath arcs flows waiting_path n nodes.sink
-    leads_to_sink =
-        let none = state.unused n own (omega arith) low own_is.listed own_is.from_is in
-        let one = own_is.capacity_is in
-        let is = network.rest.2 in let cap = is.capacity_is in let enough = network.rest.3 in
-        let some = state.resting in let size = one_longer in
-        let all = pending_mono wave (suc n) splits (omega arith) in (
-          record { listed = own_is.listed; room = omega arith },
-          own_is.from_is,
-          (record { listed = is.listed; room = omega arith }, is.from_is ∙ sym own_is.to_is, is.to_is),
-        )
-
-    twice : IsDistinct waiting_path
-    twice = (((λ e. apart (ap arc_index e)), tt), (tt, tt))
-
-    abbrev first : List ℕ
-    first = shifted flows (Forward own)
-
-    abbrev both : List ℕ
-    both = shifted first (Forward on)
-
-    first_size : length first ≡ length arcs
-    first_size = length-shifted flows (Forward own) ∙ state.shipment.sizes
-
-    kept : (k : ℕ) → (own ≡ k → ⊥) → (on ≡ k → ⊥) → get_or both k 0 ≡ get_or flows k 0
-    kept k a b = kept_shift first (Forward on) k b ∙ kept_shift flows (Forward own) k a
-
-    out_of : (v : ℕ) → splits ≤ v → outflow arcs both v ≡ outflow arcs flows v + unit_at nodes.unstarted v
-    out_of v past =
-        let a = outflow_forward arcs flows own v state.shipment.sizes own_is.listed in
-        let a' = ap (λ (z : ℕ). unit_at z v) own_is.from_is in
-        let off = unit_off n v (λ e. omega arith) in
-        let b = outflow_forward arcs first on v first_size network.rest.2.listed in
-        let b' = ap (λ (z : ℕ). unit_at z v) network.rest.2.from_is in
-        omega arith
-
-    rest_more : get_or both on 0 ≡ get_or flows on 0 + 1
-    rest_more =
-        let listed = network.rest.2.listed in let size = first_size in
-        get_or-set_same first on (get_or first on 0 + 1) 0 (omega arith)
-        ∙ ap (λ (z : ℕ). z + 1) (kept_shift flows (Forward own) on apart)
-
-    own_more : get_or both own 0 ≡ get_or flows own 0 + 1
-    own_more =
-        let listed = own_is.listed in let size = state.shipment.sizes in
-        kept_shift first (Forward on) own (λ e. apart (sym e))
-        ∙ get_or-set_same flows own (get_or flows own 0 + 1) 0 (omega arith)
-
-    one_waits : AllWait wave nodes arcs network (suc n) both
-    one_waits = record {
-      shipment = record {
-        sizes = length-shifted first (Forward on) ∙ first_size;
-        within = pushed_within arcs flows waiting_path both
-            (record {
-              sizes = state.shipment.sizes;
-              within = state.shipment.within;
-              distinct = twice;
-              residual = residual_path arcs flows waiting_path n nodes.sink leads_to_sink;
-              rest_is = refl;
-            });
-        balance = λ v.
-            (let moved = push_balance arcs flows waiting_path n nodes.sink v state.shipment.sizes twice
-            leads_to_sink in
-            let old = state.shipment.balance v in
-            let times = ap (λ (ps : List ℕ). standing ps v) (pending-more wave n p)
-            ∙ standing-push v (pending_below wave n) n in
-            let units = ap (λ (z : ℕ). z * unit_at nodes.sink v) one_longer
-            ∙ ap (λ (z : ℕ). z * unit_at nodes.sink v)
-            (let e : suc (length (pending_below wave n)) ≡ length (pending_below wave n) + 1 =
-            omega arith in e)
-            ∙ add-mul (length (pending_below wave n)) 1 (unit_at nodes.sink v) in
-            omega arith);
-      };
-      unused = λ s k past l listed from.
-          (let same = kept k
-          (λ e. (let from' = ap (λ (j : ℕ). (arc_at arcs j).from) e in let a = own_is.from_is in
-          absurd (omega arith)))
-          (λ e. (let from' = ap (λ (j : ℕ). (arc_at arcs j).from) e in let a = network.rest.2.from_is in
-          let high = network.rest_inner.no_source in absurd (omega arith))) in
-          same ∙ state.unused s k (omega arith) l listed from);
-      waits = λ s q l. elim (cases_eq s n) [
-        | inl e ↦ (let more = own_more in
-            subst (WaitsAt wave nodes arcs both) (sym e) (own, own_is, omega arith))
-        | inr d ↦ (let old = state.waits s q (omega arith) in let some = old.2 in
-            let known = pending_known wave s q in
-            let same = kept old.0
-            (λ e. d (sym old.1.from_is ∙ sym (ap (λ (j : ℕ). (arc_at arcs j).from) e) ∙ own_is.from_is))
-            (λ e. (let from' = ap (λ (j : ℕ). (arc_at arcs j).from) e in let a = network.rest.2.from_is in
-            let b = old.1.from_is in let high = network.rest_inner.no_source in absurd (omega arith))) in
-            (old.0, old.1, omega arith))
-      ];
-      loads = λ w u.
-          (let all = out_of (nodes.worker w) (network.known w) in
-          let off = unit_off nodes.unstarted (nodes.worker w) (λ e. network.apart w u (own_on nodes w e)) in
-          let old = state.loads w u in omega arith);
-      rests =
-          (let all = out_of nodes.unstarted network.rest_inner.no_source in
-          let one = unit_on nodes.unstarted nodes.unstarted refl in
-          let old = state.rests in let more = rest_more in omega arith);
-      resting = (let old = state.resting in let more = rest_more in let size = one_longer in omega arith);
-      costs =
-          (let a = flow_cost_forward arcs flows own state.shipment.sizes own_is.listed in
-          let a' = own_is.cost_is in
-          let b = flow_cost_forward arcs first on first_size network.rest.2.listed in
-          let b' = network.rest.2.cost_is in
-          let old = state.costs in
-          let more = ap (λ (z : ℕ). reward wave * z) one_longer
-          ∙ mul-suc (reward wave) (length (pending_below wave n)) in
-          omega arith);
-    }
-
-  idle_passed : (n : ℕ) (flows : List ℕ) → AllWait wave nodes arcs network n flows →
-      (split_at wave n).pending ≡ false → AllWait wave nodes arcs network (suc n) flows
-  idle_passed n flows state f =
-      let same : pending_below wave n ≡ pending_below wave (suc n) = sym (pending-same wave n f) in
-      record {
-        shipment = subst (λ (z : List ℕ). IsShipment arcs z nodes.sink flows) same state.shipment;
-        unused = λ s k past l listed from. state.unused s k (omega arith) l listed from;
-        waits = λ s q l. elim (cases_eq s n) [
-          | inl e ↦ absurd (false≢true (sym f ∙ sym (ap (λ (z : ℕ). (split_at wave z).pending) e) ∙ q))
-          | inr d ↦ state.waits s q (omega arith)
-        ];
-        loads = state.loads;
-        rests = state.rests;
-        resting = state.resting ∙ ap (λ (z : List ℕ). length z) same;
-        costs = state.costs ∙ ap (λ (z : List ℕ). reward wave * length z) same;
-      }
-
-  all_wait : (n : ℕ) → n ≤ splits → (flows : List ℕ) × AllWait wave nodes arcs network n flows
-  all_wait zero l = (replicate (length arcs) 0, none_waits)
-  all_wait (suc n) l =
-      let before = all_wait n (omega arith) in
-      elim (cases_Bool (split_at wave n).pending) [
-        | inl p ↦ (both n before.0 (omega arith) before.1 p, one_waits n before.0 (omega arith) before.1 p)
-        | inr f ↦ (before.0, idle_passed n before.0 before.1 f)
-      ]
-
   -- without a start, and with one more after the other
-  all_carried : (pairs : List (ℕ × ℕ)) → IsAssignment wave pairs →
+  pub all_carried : (pairs : List (ℕ × ℕ)) → IsAssignment wave pairs →
       (flows : List ℕ) × Carries wave nodes arcs network pairs flows
   all_carried [] is =
-      let first = all_wait splits (omega arith) in
+      let first = all_wait wave nodes arcs network splits (omega arith) in
       let state = first.1 in (
         first.0,
         record {
@@ -738,6 +670,13 @@ module _ (wave : Wave) (nodes : WaveNodes) (arcs : List FlowArc)
           loads = state.loads;
           rests = state.rests;
           costs = (let spent = state.costs in let none : total wave [] ≡ 0 = refl in omega arith);
+          units = λ k. 0;
+          routes = record {
+            came = λ s w on. absurd (Contains-nil (s, w) on);
+            listed = λ k some. absurd (omega arith);
+            taken = λ k some. absurd (omega arith);
+          };
+          only = state.only;
         },
       )
   all_carried ((s, w) ∷ pairs) is =

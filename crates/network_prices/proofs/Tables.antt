@@ -97,6 +97,76 @@ module _ {D : Type 0} (wanted : D → Type 0) (arc : D → FlowArc) where
     rising = rows.rising;
   }
 
+  -- an arc of the table that leads from u to x
+  abbrev pub IsAt : ℕ → ℕ → D → Type 0
+  IsAt u x d = wanted d × ((arc d).from ≡ u) × ((arc d).to ≡ x)
+
+  -- Where it can be told of each place whether an arc of the table is there, and two at one place are the
+  -- same, some list has the arcs of the table.
+  module _ (rows columns : ℕ)
+      (inside : (d : D) → wanted d → ((arc d).from < rows) × ((arc d).to < columns))
+      (one : (d e : D) → wanted d → wanted e → (arc d).from ≡ (arc e).from → (arc d).to ≡ (arc e).to
+      → arc d ≡ arc e)
+      (told : (u x : ℕ) → u < rows → x < columns → ((d : D) × IsAt u x d) ⊎ ((d : D) → IsAt u x d → ⊥)) where
+    abbrev ListTo : ℕ → ℕ → Type 0
+    ListTo u x = (arcs : List FlowArc) × AreRowsTo wanted arc u x arcs
+
+    -- what stands before the next place stands before this one, or here
+    at_most : (u x : ℕ) (e : D) → IsBefore (arc e) u (suc x)
+        → IsBefore (arc e) u x ⊎ (((arc e).from ≡ u) × ((arc e).to ≡ x))
+    at_most u x e (inl less) = inl (inl less)
+    at_most u x e (inr b) = elim (cases_eq (arc e).to x) [
+      | inl same ↦ inr (b.0, same)
+      | inr other ↦ inl (inr (b.0, (let less = b.1 in omega arith)))
+    ]
+
+    to_place : (u x : ℕ) → u < rows → x ≤ columns → ListTo u 0 → ListTo u x
+    to_place u zero l m begun = begun
+    to_place u (suc x) l m begun =
+        let before = to_place u x l (omega arith) begun in
+        elim (told u x l (omega arith)) [
+          | inl found ↦ (
+            before.0 ++ arc found.0 ∷ [],
+            take u x u (suc x) found.0 before.0 found.1.0
+                (let to = found.1.2 in inr (sym found.1.1, omega arith))
+                (let to = found.1.2 in inr (found.1.1, omega arith))
+                (λ e want b. elim (at_most u x e b) [
+                  | inl was ↦ inl was
+                  | inr here ↦ inr (one e found.0 want found.1.0 (here.0 ∙ sym found.1.1)
+                      (here.1 ∙ sym found.1.2))
+                ])
+                before.1,
+          )
+          | inr none ↦ (
+            before.0,
+            pass u x u (suc x) before.0 (inr (refl, omega arith))
+                (λ e want b. elim (at_most u x e b)
+                [ inl was ↦ was | inr here ↦ absurd (none e (want, here.0, here.1)) ])
+                before.1,
+          )
+        ]
+
+    to_row : (u : ℕ) → u ≤ rows → ListTo u 0
+    to_row zero l = ([], nothing)
+    to_row (suc u) l =
+        let row = to_place u columns (omega arith) (omega arith) (to_row u (omega arith)) in (
+          row.0,
+          pass u columns (suc u) 0 row.0 (inl (omega arith))
+              (λ e want b. elim b [
+                | inr never ↦ absurd (let none = never.1 in omega arith)
+                | inl less ↦ elim (cases_eq (arc e).from u) [
+                  | inl same ↦ inr (same, (inside e want).1)
+                  | inr other ↦ inl (omega arith)
+                ]
+              ])
+              row.1,
+        )
+
+    pub rows_exist : (arcs : List FlowArc) × AreRows wanted arc arcs
+    rows_exist =
+        let all = to_row rows (omega arith) in
+        (all.0, all_rows rows 0 all.0 (λ e want. inl (inside e want).0) all.1)
+
   module _ {L : Type 0} (sized : L → Type 0) where
     pub built_nothing : (network : Flow L) → sized network.layout → network.arcs ≡ [] → network.flows ≡ []
         → IsBuiltTo wanted arc sized 0 0 0 network

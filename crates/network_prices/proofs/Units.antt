@@ -46,10 +46,6 @@ pub left_set : (places : List ℕ) (i u v : ℕ) → HaveLeft places u i → i <
     → HaveLeft (set places i v) u (i + 1)
 left_set places i u v left l apart s m e = grind (arith, cases_eq, get_or-set_same, get_or-set_other)
 
-either : (b : Bool) (f : ℕ) → f ≡ 0 → cond b f 0 ≡ 0
-either true f e = e
-either false f e = refl
-
 -- no unit moves
 pub none_moved : (places : List ℕ) (u v units : ℕ) → units ≡ 0 → IsMoved places places u v units
 none_moved places u v units e = grind arith

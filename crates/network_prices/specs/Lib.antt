@@ -9,3 +9,5 @@ pub mod Prices
 pub mod Pricing
 pub mod Layers
 pub mod HandOn
+-- and that what prices certify is read off some
+pub mod Duals

@@ -1,4 +1,5 @@
 //! The laws that tie prices, plans and assignments to flows.
+ghost use Rattle.network_prices.specs.Duals.{CertifiedIsReadOff};
 ghost use Rattle.network_prices.specs.Prices.{AssignmentIsFlow, CheapestCostsAsPlan, FlowIsAssignment};
 ghost use Rattle.network_prices.specs.Prices.{PricesCertify};
 
@@ -21,4 +22,11 @@ pub fn flow_is_assignment()
 /// So a cheapest flow costs what the plan read off it does.
 pub fn cheapest_costs_as_plan()
     ensures { CheapestCostsAsPlan }
+{}
+
+/// And conversely: a plan and prices that certify it are read off a least-cost flow of each network of the
+/// wave that lies in layers, however they were found. A node above the workers lies as deep as the cheapest
+/// slot under it.
+pub fn certified_is_read_off()
+    ensures { CertifiedIsReadOff }
 {}

@@ -3,9 +3,9 @@
 //! A network is seen by its nodes: each worker's, the way up from there to the root, that of the splits
 //! which are not started, the sink. Upward the layer promises that units are handed on to where the flow
 //! takes them, and laws, whatever nodes hang above the workers: admissible assignments are flows and flows
-//! are assignments, and the prices read off the potentials certify the plan read off a least-cost flow. The
-//! price of a split is the same for all of them (`split_prices`). Stands on the flows of `augmenting_paths`
-//! and on `price_certificate`.
+//! are assignments, the prices read off the potentials certify the plan read off a least-cost flow, and what
+//! prices certify is read off one. The price of a split is the same for all of them (`split_prices`). Stands
+//! on the flows of `augmenting_paths` and on `price_certificate`.
 #![tactic(auto)]
 
 mod decomposing;
@@ -17,7 +17,10 @@ mod splits;
 mod wave_network;
 
 pub use decomposing::decompose_flow;
-pub use laws::{assignment_is_flow, cheapest_costs_as_plan, flow_is_assignment, prices_certify};
+pub use laws::{
+    assignment_is_flow, certified_is_read_off, cheapest_costs_as_plan, flow_is_assignment,
+    prices_certify,
+};
 pub use planning::priced_plan;
 pub use pricing::prices_of;
 pub use reading::{plan_of, read_plan};

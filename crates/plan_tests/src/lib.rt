@@ -17,6 +17,8 @@ mod distances;
 #[cfg(test)]
 mod engine;
 #[cfg(test)]
+mod events;
+#[cfg(test)]
 mod flows;
 #[cfg(test)]
 mod networks;

@@ -37,8 +37,8 @@ pub const NONE: usize = 4;
 /// One data centre of three racks.
 pub const ONE_CENTRE: (u8, [u8; 3]) = (1, [0, 0, 0]);
 
-/// A small problem by its live workers, each with its rack and its free slots, its pending splits, each with
-/// its bytes, its holder and the worker on which it is barred, and its data centres with that of each rack.
+/// A small problem: the live workers (rack, free slots), the pending splits (bytes, holder, barred worker),
+/// and the number of data centres with the centre of each rack.
 #[derive(Clone, Copy)]
 pub struct Row {
     pub workers: &'static [(u16, u8)],
@@ -200,6 +200,14 @@ impl Small {
         }
         let steps = self.least_distance(s, w)?;
         Some(split.bytes.wrapping_mul(steps))
+    }
+
+    /// What a start of a split on a worker costs, where it may be made.
+    pub fn start_cost(&self, s: usize, w: usize) -> Option<u64> {
+        if s < 4 && w < 4 {
+            return self.cost(s, w);
+        }
+        None
     }
 
     // What a choice is worth that gives each split a worker's place, or 4 for none; none if it is not

@@ -1,20 +1,21 @@
 -- Numbers added at a worker and at the nodes above it.
 use Rattle.std.proofs.Common.{◌≡◌, ℕ, ◌+◌, ◌≤◌, Bool, true, false, cond, ap, ◌∙◌, inl, inr, arith}
 use Rattle.std.proofs.Common.{slice_index, add-one}
-use Rattle.std.specs.Prelude.{◌≢◌}
 use Rattle.std.proofs.lemmas.Bool.{eq-eqb, ne_eqb}
 use Rattle.rack_tree.specs.Tree.{Tree, centre_at}
 use Rattle.wave_problem.specs.Sums.{sum_below}
-use Rattle.tree_planner.specs.declared.node_table.NodeTable.{NodeTable}
-use Rattle.tree_planner.specs.declared.nodes.TreeNode.{TreeNode}
-use Rattle.tree_planner.specs.declared.nodes.TreeNode.TheVariants.{Worker, Rack, Centre, Cluster}
-use Rattle.tree_planner.specs.Nodes.{is_under}
-use Rattle.tree_planner.specs.Table.{at_node, HasNode, IsOver, IsSized}
-use Rattle.tree_planner.specs.Nodes.{IsNode}
-use Rattle.tree_planner.proofs.Moved.{same_or_not}
+use Rattle.tree_flow.specs.declared.node_table.NodeTable.{NodeTable}
+use Rattle.tree_flow.specs.declared.nodes.TreeNode.{TreeNode}
+use Rattle.tree_flow.specs.declared.nodes.TreeNode.TheVariants.{Worker, Rack, Centre, Cluster}
+use Rattle.tree_flow.specs.Nodes.{is_under}
+use Rattle.tree_flow.specs.Table.{at_node, HasNode, IsOver, IsSized}
+use Rattle.tree_flow.specs.Nodes.{IsNode}
+use Rattle.tree_planner.specs.Events.{IsAdded}
+use Rattle.tree_flow.proofs.Moved.{same_or_not}
 
 -- a table of the tree has each node of the tree
-pub has_node : {T : Type 0} (tree : Tree) (table : NodeTable T) (v : TreeNode) → IsOver tree table → IsNode tree v
+pub has_node : {T : Type 0} (tree : Tree) (table : NodeTable T) (v : TreeNode) → IsOver tree table
+    → IsNode tree v
     → HasNode table v
 has_node tree table (Worker w) over l = (let size = over.workers in omega arith)
 has_node tree table (Rack r) over l = (let size = over.racks in omega arith)
@@ -35,11 +36,6 @@ cond-le false n = omega arith
 
 pub next_sum : (n : ℕ) (f : ℕ → ℕ) → sum_below (n + 1) f ≡ sum_below n f + f n
 next_sum n f = ap (λ (m : ℕ). sum_below m f) (add-one n)
-
--- one node's number has grown
-abbrev pub IsAdded : NodeTable ℕ → NodeTable ℕ → TreeNode → ℕ → Type 0
-IsAdded old new node more = (at_node new node ≡ at_node old node + more)
-    × ((v : TreeNode) → v ≢ node → at_node new v ≡ at_node old v)
 
 module _ (tree : Tree) (w more : ℕ) (a b c d e : NodeTable ℕ)
     (one : IsAdded a b (Worker w) more) (two : IsAdded b c (Rack (slice_index tree.rack_of w)) more)

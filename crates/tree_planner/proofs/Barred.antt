@@ -1,18 +1,25 @@
 -- Under which nodes workers are barred.
 use Rattle.std.proofs.Common.{◌≡◌, ℕ, zero, suc, ◌+◌, ◌<◌, Bool, true, false, cond, refl, ap, ◌∙◌}
 use Rattle.std.proofs.Common.{subst, inl, inr, ◌↔◌, arith, length, slice_index, add-one}
-use Rattle.std.specs.Prelude.{◌≢◌}
+use Rattle.std.specs.Prelude.{◌≢◌, IfSome, Option, Some, None}
 use Rattle.std.proofs.lemmas.Bool.{cases_Bool, cases_eq, eq-eqb, ne_eqb, false≢true}
 use Rattle.node_ids.specs.Sets.{HasPair, has_number, place_of_pair}
 use Rattle.rack_tree.specs.Tree.{Tree, centre_at}
 use Rattle.wave_problem.specs.Wave.{Wave}
-use Rattle.tree_planner.specs.declared.node_table.NodeTable.{NodeTable}
-use Rattle.tree_planner.specs.declared.nodes.TreeNode.{TreeNode}
-use Rattle.tree_planner.specs.declared.nodes.TreeNode.TheVariants.{Worker, Rack, Centre, Cluster}
+use Rattle.tree_flow.specs.declared.node_table.NodeTable.{NodeTable}
+use Rattle.tree_flow.specs.declared.nodes.TreeNode.{TreeNode}
+use Rattle.tree_flow.specs.declared.nodes.TreeNode.TheVariants.{Worker, Rack, Centre, Cluster}
 use Rattle.tree_planner.specs.Bars.{bar_below}
-use Rattle.tree_planner.specs.Nodes.{is_under, HasBarUnder}
-use Rattle.tree_planner.specs.Table.{at_or}
-use Rattle.tree_planner.proofs.Moved.{same_or_not}
+use Rattle.tree_flow.specs.Nodes.{is_under, HasBarUnder, IsNode}
+use Rattle.tree_flow.specs.Table.{at_or, HasNode, IsOver}
+use Rattle.tree_planner.proofs.Added.{has_node}
+use Rattle.tree_flow.proofs.Moved.{same_or_not}
+
+-- a table of marks, if there is one, has each node of the tree
+pub has_entry : (tree : Tree) (bars : Option (NodeTable Bool)) (v : TreeNode)
+    → IfSome bars (λ table. IsOver tree table) → IsNode tree v → IfSome bars (λ table. HasNode table v)
+has_entry tree None v over known = tt
+has_entry tree (Some table) v over known = has_node tree table v over known
 
 -- one node was marked
 abbrev pub IsMarked : NodeTable Bool → NodeTable Bool → TreeNode → Type 0

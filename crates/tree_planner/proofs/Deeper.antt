@@ -1,43 +1,67 @@
 -- The depths after a search.
-use Rattle.std.proofs.Common.{◌≡◌, ℕ, ◌<◌, length, get_or, ◌∙◌, subst, sym, inl, inr, arith}
+use Rattle.std.proofs.Common.{◌≡◌, ℕ, ◌+◌, ◌-◌, ◌^◌, ◌<◌, ◌≤◌, min, ap, ◌∙◌, subst, refl, sym, inl, inr, arith}
 use Rattle.std.specs.Prelude.{◌≢◌}
-use Rattle.tree_planner.specs.declared.node_table.NodeTable.{NodeTable}
-use Rattle.tree_planner.specs.declared.nodes.TreeNode.{TreeNode}
-use Rattle.tree_planner.specs.declared.nodes.TreeNode.TheVariants.{Worker}
-use Rattle.tree_planner.specs.declared.search.Ground.{Ground}
+use Rattle.std.proofs.lemmas.Bool.{cases_lt}
+use Rattle.rack_tree.specs.Tree.{Tree}
+use Rattle.tree_flow.specs.declared.node_table.NodeTable.{NodeTable}
+use Rattle.tree_flow.specs.declared.nodes.TreeNode.{TreeNode}
 use Rattle.tree_planner.specs.declared.search.Search.{Search}
-use Rattle.tree_planner.specs.Nodes.{IsNode}
-use Rattle.tree_planner.specs.Searching.{wave_of, IsGround, IsSearched}
-use Rattle.tree_planner.specs.Table.{at_node, at_or, IsOver}
+use Rattle.tree_flow.specs.Table.{at_node}
+use Rattle.tree_planner.specs.Searching.{far_at, reached_at, HasReached}
 use Rattle.tree_planner.specs.Way.{AreDeeper, IsDeeper}
-use Rattle.tree_planner.proofs.Looked.{at_each, known_or_not}
-use Rattle.tree_planner.proofs.Moved.{same_or_not}
 
--- a node that was set, and the others as they were
-pub deeper_set : (g : Ground) (search : Search) (old new : NodeTable ℕ) (node : TreeNode) (depth : ℕ)
-    → ((d : ℕ) → at_or new d node ≡ depth) → ((d : ℕ) (v : TreeNode) → v ≢ node → at_or new d v ≡ at_or old d v)
-    → IsDeeper g search node depth → (x : TreeNode) → IsDeeper g search x (at_node old x)
-    → IsDeeper g search x (at_node new x)
-deeper_set g search old new node depth here others is x before = elim (same_or_not x node) [
-  | inl e ↦ subst (λ x. IsDeeper g search x (at_node new x)) (sym e) (here 0 ∙ is)
-  | inr n ↦ others 0 x n ∙ before
-]
+-- of the nodes that were come to the first k lie deeper, and all others as before
+pub record AreDeeperTo (most : ℕ) (old : NodeTable ℕ) (search : Search) (new : NodeTable ℕ) (k : ℕ) : Type 0 where
+  pub done : (j : ℕ) → j < k → IsDeeper most old search new (reached_at search j)
+  pub left : (v : TreeNode) → ((j : ℕ) → j < k → reached_at search j ≢ v) → at_node new v ≡ at_node old v
 
-pub all_deeper : (g : Ground) (search : Search) (depth : NodeTable ℕ) → IsGround g → IsSearched g search
-    → IsOver (wave_of g).tree depth
-    → ((k : ℕ) → k < length g.nodes.now
-    → IsDeeper g search (get_or g.nodes.now k (Worker 0)) (at_node depth (get_or g.nodes.now k (Worker 0))))
-    → AreDeeper g search depth
-all_deeper g search depth ground s over each v =
-    let known = λ (is : IsNode (wave_of g).tree v). at_each g.nodes.now (Worker 0) (λ v. IsDeeper g search v (at_node depth v)) each v
-    (ground.nodes.each v is) in
-    elim (known_or_not (wave_of g).tree depth 0 over v) [
-      | inl is ↦ known is
-      | inr none ↦ elim (known_or_not (wave_of g).tree g.tables.now.depth 0 ground.tables.depth v) [
-        | inl is ↦ known is
-        | inr flat ↦ elim (known_or_not (wave_of g).tree search.far search.limit s.searching.far v) [
-          | inl is ↦ known is
-          | inr past ↦ (let most = s.searching.bound in omega arith)
-        ]
-      ]
-    ]
+pub first_deeper : (most : ℕ) (old : NodeTable ℕ) (search : Search) → AreDeeperTo most old search old 0
+first_deeper most old search = record { done = λ j l. absurd (omega arith); left = λ v none. refl }
+
+module _ (tree : Tree) (search : Search) (r : HasReached tree search) (most : ℕ) (old : NodeTable ℕ) where
+  pub left_at : (now : NodeTable ℕ) (k : ℕ) → k < search.reached.count → AreDeeperTo most old search now k
+      → at_node now (reached_at search k) ≡ at_node old (reached_at search k)
+  left_at now k l before = before.left (reached_at search k) (λ j m. r.once j k m l)
+
+  pub deeper_next : (now new : NodeTable ℕ) (k : ℕ) (node : TreeNode) → node ≡ reached_at search k
+      → k < search.reached.count → AreDeeperTo most old search now k
+      → at_node new node ≡ min most (at_node now node + (search.bound - far_at search node))
+      → ((v : TreeNode) → v ≢ node → at_node new v ≡ at_node now v) → AreDeeperTo most old search new (k + 1)
+  deeper_next now new k node is l before at at_others =
+      let a = ap (at_node new) is in
+      let b = ap (at_node now) is in
+      let f = ap (far_at search) is in
+      let here : at_node new (reached_at search k)
+      ≡ min most (at_node now (reached_at search k) + (search.bound - far_at search (reached_at search k))) = omega arith in
+      let others : (v : TreeNode) → v ≢ reached_at search k → at_node new v ≡ at_node now v =
+      (λ v n. at_others v (λ e. n (e ∙ is))) in
+      record {
+        done = λ j m. elim (cases_lt j k) [
+          | inl less ↦
+              (let same = others (reached_at search j) (r.once j k less l) in
+              let done = before.done j less in
+              omega arith)
+          | inr past ↦
+              (let e : k ≡ j = omega arith in
+              subst (λ j. IsDeeper most old search new (reached_at search j)) e
+              (let same = left_at now k l before in omega arith))
+        ];
+        left = λ v none.
+            (others v (λ e. none k (omega arith) (sym e)) ∙ before.left v (λ j m. none j (omega arith)));
+      }
+
+  pub all_deeper : (new : NodeTable ℕ) → most < 2 ^ 40 → ((v : TreeNode) → at_node old v ≤ most)
+      → search.bound ≤ search.limit → search.limit ≤ most
+      → AreDeeperTo most old search new search.reached.count → AreDeeper most old search new
+  all_deeper new small low bound limit all v = elim (cases_lt (far_at search v) (2 ^ 40)) [
+    | inl near ↦
+        (let at = r.each v near in
+        subst (λ v. IsDeeper most old search new v) at.2 (all.done at.0 at.1))
+    | inr past ↦
+        (let same = all.left v (λ j m e.
+        (let near = r.near j m in
+        let is = ap (far_at search) e in
+        omega arith)) in
+        let below = low v in
+        omega arith)
+  ]

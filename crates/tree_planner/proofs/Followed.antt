@@ -4,23 +4,22 @@ use Rattle.std.proofs.Common.{◌≡◌, ℕ, ◌+◌, ◌-◌, ◌<◌, Option,
 use Rattle.std.specs.Prelude.{◌≢◌}
 use Rattle.std.proofs.lemmas.Bool.{cases_eq}
 use Rattle.wave_problem.specs.Wave.{Wave}
-use Rattle.tree_planner.specs.declared.nodes.End.{End}
-use Rattle.tree_planner.specs.declared.nodes.Place.{Place}
-use Rattle.tree_planner.specs.declared.nodes.Place.TheVariants.{Stands, Waits, Unshipped}
-use Rattle.tree_planner.specs.declared.nodes.TreeNode.{TreeNode}
-use Rattle.tree_planner.specs.declared.nodes.TreeNode.TheVariants.{Worker}
+use Rattle.tree_flow.specs.declared.nodes.End.{End}
+use Rattle.tree_flow.specs.declared.nodes.Place.{Place}
+use Rattle.tree_flow.specs.declared.nodes.Place.TheVariants.{Stands, Waits, Unshipped}
+use Rattle.tree_flow.specs.declared.nodes.TreeNode.{TreeNode}
 use Rattle.tree_planner.specs.declared.search.Goal.{Goal}
 use Rattle.tree_planner.specs.declared.search.Goal.TheVariants.{Wait, Slot, Off}
 use Rattle.tree_planner.specs.declared.search.Search.{Search}
 use Rattle.tree_planner.specs.declared.search.Step.{Step}
 use Rattle.tree_planner.specs.declared.search.Step.TheVariants.{Start, Down, Up, Over}
-use Rattle.tree_planner.specs.Moves.{IsFlowSet, IsPlaced, IsTaken}
-use Rattle.tree_planner.specs.Nodes.{parent, IsNode}
-use Rattle.tree_planner.specs.State.{State, place_of, reach_cost, IsKept, IsKeptBut}
+use Rattle.tree_flow.specs.Moves.{IsFlowSet, IsPlaced}
+use Rattle.tree_flow.specs.Nodes.{parent, IsNode}
+use Rattle.tree_flow.specs.State.{State, place_of, reach_cost, sum_under, IsKept, IsKeptBut}
 use Rattle.tree_planner.specs.Searching.{order_at, step_at}
-use Rattle.tree_planner.specs.Way.{left_of, AreOthersSame, IsFollowing, IsOnWay, IsReady, IsTight, IsTightGoal}
-use Rattle.tree_planner.proofs.Moved.{pushes_down, pushes_up, hands_over, sends_off, takes_slot, ships, lets_wait}
-use Rattle.tree_planner.proofs.Moved.{here_now, other_now}
+use Rattle.tree_planner.specs.Way.{left_of, AreOthersSame, IsFollowing, IsOnWay, IsReady, IsTight, IsTightGoal, SlotIsTight}
+use Rattle.tree_flow.proofs.Moved.{pushes_down, pushes_up, hands_over, sends_off, ships, lets_wait}
+use Rattle.tree_flow.proofs.Moved.{here_now, other_now}
 
 module _ (wave : Wave) (now new : State) (search : Search) (x : TreeNode) (f : IsFollowing wave now search x) where
   pub tight_at : (step : Step) → step_at search x ≡ step → IsTight wave f.first search x step
@@ -45,8 +44,8 @@ module _ (wave : Wave) (now new : State) (search : Search) (x : TreeNode) (f : I
         depth = set.depth ∙ f.depth;
         from = t.from;
         unshipped = ap (λ places. place_of (record now { places = places }) search.split) set.places ∙ f.unshipped;
-        flows = λ c less. set.others c (λ e. (let same = ap (λ v. order_at search v) e in omega arith))
-            ∙ f.flows c (omega arith);
+        flows = λ c some less. set.others c (λ e. (let same = ap (λ v. order_at search v) e in omega arith))
+            ∙ f.flows c some (omega arith);
         places = λ t e stands less. ap (λ places. place_of (record now { places = places }) t) set.places
             ∙ f.places t e stands (omega arith);
       }
@@ -61,7 +60,7 @@ module _ (wave : Wave) (now new : State) (search : Search) (x : TreeNode) (f : I
       let tight = t.tight in
       let before = t.before in
       let some = t.some in
-      let same = f.flows c before in
+      let same = f.flows c t.from.settled before in
       record {
         first = f.first;
         ready = f.ready;
@@ -71,8 +70,8 @@ module _ (wave : Wave) (now new : State) (search : Search) (x : TreeNode) (f : I
         depth = set.depth ∙ f.depth;
         from = t.from;
         unshipped = ap (λ places. place_of (record now { places = places }) search.split) set.places ∙ f.unshipped;
-        flows = λ d less. set.others d (λ e. (let same = ap (λ v. order_at search v) e in omega arith))
-            ∙ f.flows d (omega arith);
+        flows = λ d more less. set.others d (λ e. (let same = ap (λ v. order_at search v) e in omega arith))
+            ∙ f.flows d more (omega arith);
         places = λ t e stands less. ap (λ places. place_of (record now { places = places }) t) set.places
             ∙ f.places t e stands (omega arith);
       }
@@ -110,7 +109,7 @@ module _ (wave : Wave) (now new : State) (search : Search) (x : TreeNode) (f : I
         depth = set.depth ∙ f.depth;
         from = subst (λ (e : End). IsOnWay search e.node) same o.from;
         unshipped = other_now wave now new t (Stands to) set search.split other ∙ f.unshipped;
-        flows = λ c less. ap (λ g. g c) set.flow ∙ f.flows c (omega arith);
+        flows = λ c some less. ap (λ g. g c) set.flow ∙ f.flows c some (omega arith);
         places = λ u d stands_there less. other_now wave now new t (Stands to) set u (λ is.
             (let p = ap (λ s. place_of f.first s) is in
             let q = o.stands in
@@ -136,19 +135,24 @@ module _ (wave : Wave) (old new : State) (search : Search) (r : IsReady wave old
   pub follow_wait : search.goal ≡ Wait → IsPlaced old new search.split Waits → IsKept wave new
   follow_wait goal set = lets_wait wave old new search.split r.kept r.unshipped (goal_at Wait goal) set
 
-  pub follow_slot : (w : ℕ) → search.goal ≡ Slot w → IsTaken wave old new w → IsFollowing wave new search (Worker w)
-  follow_slot w goal set =
-      let t = goal_at (Slot w) goal in
+  pub goal_slot : (v : TreeNode) → search.goal ≡ Slot v → SlotIsTight wave old search v
+  goal_slot v goal = goal_at (Slot v) goal
+
+  pub follow_slot : (v : TreeNode) → search.goal ≡ Slot v → IsKeptBut wave new (Some v) → new.places ≡ old.places
+      → new.depth ≡ old.depth → ((c : TreeNode) → sum_under wave c old.free ≡ 0 → new.flow c ≡ old.flow c)
+      → IsFollowing wave new search v
+  follow_slot v goal kept places depth flows =
+      let t = goal_at (Slot v) goal in
       record {
         first = old;
         ready = r;
-        kept = takes_slot wave old new w r.kept set;
+        kept = kept;
         known = t.known;
-        depth = set.depth;
+        depth = depth;
         from = t.from;
-        unshipped = ap (λ places. place_of (record old { places = places }) search.split) set.places ∙ r.unshipped;
-        flows = λ c less. ap (λ g. g c) set.flow;
-        places = λ t e stands less. ap (λ places. place_of (record old { places = places }) t) set.places ∙ stands;
+        unshipped = ap (λ places. place_of (record old { places = places }) search.split) places ∙ r.unshipped;
+        flows = λ c some less. flows c (t.shut c some less);
+        places = λ t e stands less. ap (λ places. place_of (record old { places = places }) t) places ∙ stands;
       }
 
   pub off_stood : (t : ℕ) → search.goal ≡ Off t → (e : End) × (place_of old t ≡ Stands e)
@@ -172,7 +176,7 @@ module _ (wave : Wave) (old new : State) (search : Search) (r : IsReady wave old
         depth = set.depth;
         from = subst (λ (e : End). IsOnWay search e.node) same o.from;
         unshipped = other_now wave old new t Waits set search.split other ∙ r.unshipped;
-        flows = λ c less. ap (λ g. g c) set.flow;
+        flows = λ c some less. ap (λ g. g c) set.flow;
         places = λ u d stands_there less. other_now wave old new t Waits set u (λ is.
             (let p = ap (λ s. place_of old s) is in
             let q = o.stands in

@@ -1,27 +1,29 @@
 -- A unit goes down from a node to a worker.
-use Rattle.std.proofs.Common.{◌≡◌, ℕ, zero, suc, ◌+◌, ◌-◌, ◌<◌, ◌≤◌, Bool, true, cond, List, None, refl, sym, ap, ◌∙◌}
+use Rattle.std.proofs.Common.{◌≡◌, ℕ, zero, suc, ◌+◌, ◌-◌, ◌<◌, ◌≤◌, Bool, true, cond, None, refl, sym, ap, ◌∙◌}
 use Rattle.std.proofs.Common.{subst, inl, inr, arith, length, get_or, get_or-set_same}
 use Rattle.std.specs.Prelude.{◌≢◌, ◌==◌, slice_set}
 use Rattle.std.proofs.lemmas.Bool.{cases_lt, eq-eqb, false≢true, ne_eqb}
 use Rattle.std.proofs.lemmas.List.{length-set, set-set}
 use Rattle.rack_tree.specs.Tree.{Tree}
 use Rattle.wave_problem.specs.Wave.{Wave}
-use Rattle.tree_planner.specs.declared.nodes.End.{End}
-use Rattle.tree_planner.specs.declared.nodes.Place.TheVariants.{Stands, Unshipped, Waits}
-use Rattle.tree_planner.specs.declared.nodes.TreeNode.{TreeNode}
-use Rattle.tree_planner.specs.declared.nodes.TreeNode.TheVariants.{Worker, Rack, Centre, Cluster}
-use Rattle.tree_planner.specs.declared.node_table.NodeTable.{NodeTable}
+use Rattle.tree_flow.specs.declared.nodes.End.{End}
+use Rattle.tree_flow.specs.declared.nodes.Place.TheVariants.{Stands, Unshipped, Waits}
+use Rattle.tree_flow.specs.declared.nodes.TreeNode.{TreeNode}
+use Rattle.tree_flow.specs.declared.nodes.TreeNode.TheVariants.{Worker, Rack, Centre, Cluster}
+use Rattle.tree_flow.specs.declared.node_table.NodeTable.{NodeTable}
 use Rattle.tree_planner.specs.Handing.{landed, HasUnitAt, IsUnitAt}
-use Rattle.tree_planner.specs.Nodes.{parent, is_under, node_above, AreNodes, IsKnown}
-use Rattle.tree_planner.specs.Table.{at_node}
-use Rattle.tree_planner.specs.Settled.{HasComeDown}
-use Rattle.tree_planner.specs.State.{State, place_of, slots_of, stands_under, IsBalancedBut}
-use Rattle.tree_planner.proofs.Certified.{which_above}
-use Rattle.tree_planner.proofs.Children.{unit_goes_on}
+use Rattle.tree_flow.specs.Nodes.{parent, is_under, node_above, IsKnown}
+use Rattle.tree_flow.specs.Table.{at_node}
+use Rattle.tree_flow.specs.Settled.{HasComeDown}
+use Rattle.tree_flow.specs.State.{State, place_of, slots_of, stands_under, IsBalancedBut}
+use Rattle.tree_flow.proofs.Certified.{which_above}
+use Rattle.tree_planner.specs.declared.children.Children.{Children}
+use Rattle.tree_planner.specs.Hanging.{hanging, AreChildren}
+use Rattle.tree_flow.proofs.Children.{unit_goes_on}
 use Rattle.tree_planner.proofs.Looked.{at_each, room_known}
-use Rattle.tree_planner.proofs.Ends.{above_above, own_above, under_under}
-use Rattle.tree_planner.proofs.Given.{under_parent}
-use Rattle.tree_planner.proofs.Moved.{counts, one, parent_not_under, parent_under, same_or_not, sum_less, under_own}
+use Rattle.tree_flow.proofs.Ends.{above_above, own_above, under_under}
+use Rattle.tree_flow.proofs.Given.{under_parent}
+use Rattle.tree_flow.proofs.Moved.{counts, one, parent_not_under, parent_under, same_or_not, sum_less, under_own}
 
 -- a split goes on to a node that hangs from where it stands, with one of the units that come there
 module _ (wave : Wave) (now : State) (s : ℕ) (e : End) (c : TreeNode) (flow : TreeNode → ℕ)
@@ -203,18 +205,22 @@ height_less tree (Centre c) off = omega arith
 height_less tree Cluster off = absurd (off refl)
 
 -- where a unit is, some unit goes to one of the nodes that hang from it
-pub unit_there : (wave : Wave) (nodes : List TreeNode) (left : NodeTable ℕ) (v : TreeNode) → IsKnown wave
-    → AreNodes wave.tree nodes → ((w : ℕ) → v ≢ Worker w) → HasUnitAt wave left v
-    → ((k : ℕ) → k < length nodes → parent wave.tree (get_or nodes k (Worker 0)) ≡ v
-    → 0 < at_node left (get_or nodes k (Worker 0)) → ⊥) → ⊥
-unit_there wave nodes left v known all inner unit none =
+pub unit_there : (wave : Wave) (children : Children) (left : NodeTable ℕ) (v : TreeNode) → IsKnown wave
+    → AreChildren wave.tree children → ((w : ℕ) → v ≢ Worker w) → HasUnitAt wave left v
+    → ((k : ℕ) → k < length (hanging children v) → at_node left (get_or (hanging children v) k (Worker 0)) ≡ 0) → ⊥
+unit_there wave children left v known all inner unit none =
     let u = unit.3 in
     let found = unit_goes_on wave unit.0 v known u.balanced inner (inr (unit.1, unit.2, u.stands, u.at)) in
     let each = u.balanced.each found.0 in
     let some = found.2 in
     let flow = u.flow found.0 in
-    at_each nodes (Worker 0) (λ x. parent wave.tree x ≡ v → 0 < at_node left x → ⊥) none found.0
-    (all.each found.0 (room_known wave known found.0 (slots_of wave) (omega arith))) found.1 (omega arith)
+    let is = room_known wave known found.0 (slots_of wave) (omega arith) in
+    let zero = at_each (hanging children v) (Worker 0) (λ x. at_node left x ≡ 0) none found.0 ((all.each v found.0).1 (record {
+      known = is;
+      below = λ e. (let top = u.balanced.top in let same = ap unit.0.flow e in omega arith);
+      above = found.1;
+    })) in
+    omega arith
 
 -- no unit comes to the cluster
 pub not_cluster : (wave : Wave) (left : NodeTable ℕ) (v c : TreeNode) → HasUnitAt wave left v → 0 < at_node left c

@@ -1,23 +1,30 @@
 -- What stays where nodes come nearer.
-use Rattle.std.proofs.Common.{◌≡◌, ℕ, ◌+◌, ◌<◌, ◌≤◌, refl, sym, ap, ◌∙◌, subst, inl, inr, arith}
-use Rattle.std.specs.Prelude.{◌≢◌}
-use Rattle.std.proofs.lemmas.Bool.{cases_lt}
-use Rattle.tree_planner.specs.declared.node_table.NodeTable.{NodeTable}
-use Rattle.tree_planner.specs.declared.nodes.End.{End}
-use Rattle.tree_planner.specs.declared.nodes.TreeNode.{TreeNode}
-use Rattle.tree_planner.specs.declared.nodes.TreeNode.TheVariants.{Worker}
+use Rattle.std.proofs.Common.{◌≡◌, ℕ, ◌+◌, ◌^◌, ◌<◌, ◌≤◌, refl, sym, ap, ◌∙◌, subst, inl, inr, arith, length}
+use Rattle.std.proofs.Common.{count_by, get_or, get_or-set_same, get_or-set_other, slice_set}
+use Rattle.std.specs.Prelude.{◌≢◌, nat_lt}
+use Rattle.std.proofs.lemmas.Bool.{cases_lt, le-ltb, lt-ltb, ltb-true}
+use Rattle.rack_tree.specs.Tree.{Tree}
+use Rattle.tree_flow.specs.declared.nodes.TreeNode.TheVariants.{Cluster}
+use Rattle.tree_planner.specs.declared.reached.Reached.{Reached}
+use Rattle.tree_planner.specs.Searching.{has_come, reached_at, HasReached, HasRoom, HasTables, IsGround}
+use Rattle.tree_planner.proofs.Counted.{count_grows, count_less}
+use Rattle.tree_planner.proofs.Room.{room_left}
+use Rattle.tree_flow.specs.declared.node_table.NodeTable.{NodeTable}
+use Rattle.tree_flow.specs.declared.nodes.End.{End}
+use Rattle.tree_flow.specs.declared.nodes.TreeNode.{TreeNode}
 use Rattle.tree_planner.specs.declared.search.Goal.{Goal}
 use Rattle.tree_planner.specs.declared.search.Goal.TheVariants.{Wait, Slot, Off}
 use Rattle.tree_planner.specs.declared.search.Ground.{Ground}
 use Rattle.tree_planner.specs.declared.search.Search.{Search}
 use Rattle.tree_planner.specs.declared.search.Step.{Step}
 use Rattle.tree_planner.specs.declared.search.Step.TheVariants.{Start, Down, Up, Over}
-use Rattle.tree_planner.specs.Nodes.{parent, IsEnd}
-use Rattle.tree_planner.specs.State.{reach_cost}
+use Rattle.tree_flow.specs.Nodes.{parent, IsEnd, IsNode}
+use Rattle.tree_flow.specs.State.{reach_cost, sum_under}
 use Rattle.tree_planner.specs.Searching.{order_at, far_at, step_at, state_at, wave_of, EndsIn, GoesAllOver, HasLookedFrom, IsNearest, Settles}
+use Rattle.tree_planner.specs.Searching.{EndsInSlot, IsFound, IsLastOne}
 use Rattle.tree_planner.specs.Searching.{HasStarted, IsStartedAt, Improves, IsAt, IsBefore, IsDown, IsNearer, IsSearching, LeadsTo}
-use Rattle.tree_planner.specs.Table.{at_or, IsOver}
-use Rattle.tree_planner.proofs.Moved.{same_or_not}
+use Rattle.tree_flow.specs.Table.{at_or, IsOver}
+use Rattle.tree_flow.proofs.Moved.{same_or_not}
 
 pub improves_refl : (s : Search) → Improves s s
 improves_refl s = record {
@@ -73,13 +80,11 @@ module _ (old new : Search) (i : IsNearer old new)
 
   pub ends_kept : (g : Ground) (bound : ℕ) (goal : Goal) → EndsIn g old bound goal → EndsIn g new bound goal
   ends_kept g bound Wait e = e ∙ sym i.limit
-  ends_kept g bound (Slot w) e = record {
+  ends_kept g bound (Slot v) e = record {
     known = e.known;
     some = e.some;
-    reached =
-        (let same = i.settled (Worker w) e.settled in let limit = i.limit in let near = e.reached in omega arith);
-    settled = some_kept (Worker w) e.settled;
-    near = (let same = i.settled (Worker w) e.settled in let near = e.near in omega arith);
+    reached = (let less = i.far v in let limit = i.limit in let near = e.reached in omega arith);
+    near = (let less = i.far v in let near = e.near in omega arith);
   }
   ends_kept g bound (Off t) e = record {
     from = e.from;
@@ -194,14 +199,18 @@ improves_trans a b c i j = record {
 
 -- a node that was come to nearer
 module _ (old : Search) (far : NodeTable ℕ) (how : NodeTable Step) (node : TreeNode) (distance : ℕ) (step : Step)
-    (bound : distance < old.bound) (near : distance < far_at old node)
+    (bound : distance < old.bound) (near : distance < far_at old node) (short : distance < 2 ^ 40) (b : ℕ) (end : Goal) (less : b ≤ old.bound)
     (beyond : (u : TreeNode) → 0 < order_at old u → far_at old u ≤ distance)
     (here : (d : ℕ) → at_or far d node ≡ distance)
     (others : (d : ℕ) (v : TreeNode) → v ≢ node → at_or far d v ≡ at_or old.far d v)
     (how_here : (d : Step) → at_or how d node ≡ step)
-    (how_others : (d : Step) (v : TreeNode) → v ≢ node → at_or how d v ≡ at_or old.how d v) where
+    (how_others : (d : Step) (v : TreeNode) → v ≢ node → at_or how d v ≡ at_or old.how d v)
+    (row : Reached) (row_room : length row.nodes.items ≡ length old.reached.nodes.items)
+    (row_count : 2 ^ 40 ≤ far_at old node → row.count ≡ old.reached.count + 1)
+    (row_node : 2 ^ 40 ≤ far_at old node → row.nodes.items ≡ slice_set old.reached.nodes.items old.reached.count node)
+    (row_same : far_at old node < 2 ^ 40 → row ≡ old.reached) where
   abbrev reached : Search
-  reached = record old { far = far; how = how }
+  reached = record old { far = far; how = how; reached = row; bound = b; goal = end }
 
   is_open : order_at old node ≡ 0
   is_open = elim (cases_lt 0 (order_at old node)) [
@@ -217,36 +226,127 @@ module _ (old : Search) (far : NodeTable ℕ) (how : NodeTable Step) (node : Tre
     bound = omega arith;
     far = λ v. elim (same_or_not v node) [
       | inl e ↦
-          (let now = here old.limit in
+          (let now = here (2 ^ 40) in
           let a = ap (far_at reached) e in
           let b = ap (far_at old) e in
           omega arith)
-      | inr n ↦ (let same = others old.limit v n in omega arith)
+      | inr n ↦ (let same = others (2 ^ 40) v n in omega arith)
     ];
-    settled = λ u some. others old.limit u (λ e. (let none = is_open in
+    settled = λ u some. others (2 ^ 40) u (λ e. (let none = is_open in
         let a = ap (order_at old) e in omega arith));
   }
+
+  far_there : far_at reached node ≡ distance
+  far_there = here (2 ^ 40)
+
+  -- the row has the node, where it was not come to before
+  row_kept : (tree : Tree) → IsNode tree node → HasReached tree old → old.bound ≤ old.limit → old.limit < 2 ^ 40
+      → (2 ^ 40 ≤ far_at old node → HasRoom old) → HasReached tree reached
+  row_kept tree known r most short room = elim (cases_lt (far_at old node) (2 ^ 40)) [
+    | inl before ↦
+        (let same = row_same before in
+        subst (λ row. HasReached tree (record old { far = far; how = how; reached = row; bound = b; goal = end })) (sym same)
+        (record {
+          room = r.room;
+          known = r.known;
+          near = λ k l. (let less = reach_nearer.far (reached_at old k) in let near = r.near k l in omega arith);
+          once = r.once;
+          each = λ v near. elim (same_or_not v node) [
+            | inl e ↦ r.each v (let a = ap (far_at old) e in omega arith)
+            | inr n ↦ r.each v (let same = others (2 ^ 40) v n in omega arith)
+          ];
+          looked = λ v some. (let less = reach_nearer.far v in let near = r.looked v some in omega arith);
+        }))
+    | inr fresh ↦
+        (let count = row_count fresh in
+        let set = row_node fresh in
+        let space = room fresh in
+        let own : reached_at reached old.reached.count ≡ node =
+        ap (λ items. get_or items old.reached.count Cluster) set
+        ∙ get_or-set_same old.reached.nodes.items old.reached.count node Cluster space in
+        let other : (k : ℕ) → k < old.reached.count → reached_at reached k ≡ reached_at old k =
+        (λ k l. ap (λ items. get_or items k Cluster) set
+        ∙ get_or-set_other old.reached.nodes.items old.reached.count k node Cluster (λ e. omega arith)) in
+        record {
+          room = (let size = row_room in omega arith);
+          known = λ k l. elim (cases_lt k old.reached.count) [
+            | inl less ↦ subst (IsNode tree) (sym (other k less)) (r.known k less)
+            | inr past ↦
+                (let e : k ≡ old.reached.count = omega arith in
+                subst (IsNode tree) (sym (ap (reached_at reached) e ∙ own)) known)
+          ];
+          near = λ k l. elim (cases_lt k old.reached.count) [
+            | inl less ↦
+                (let one = ap (far_at reached) (other k less) in
+                let closer = reach_nearer.far (reached_at old k) in
+                let near = r.near k less in
+                omega arith)
+            | inr past ↦
+                (let e : k ≡ old.reached.count = omega arith in
+                let one = ap (far_at reached) (ap (reached_at reached) e ∙ own) in
+                let there = far_there in
+                omega arith)
+          ];
+          once = λ j k l m. elim (cases_lt k old.reached.count) [
+            | inl less ↦
+                (λ e. r.once j k l less (sym (other j (omega arith)) ∙ e ∙ other k less))
+            | inr past ↦
+                (λ e.
+                (let last : k ≡ old.reached.count = omega arith in
+                let first : j < old.reached.count = omega arith in
+                let near = r.near j first in
+                let is = ap (far_at old) (sym (other j first) ∙ e ∙ ap (reached_at reached) last ∙ own) in
+                omega arith))
+          ];
+          each = λ v near. elim (same_or_not v node) [
+            | inl e ↦ (old.reached.count, omega arith, own ∙ sym e)
+            | inr n ↦
+                (let at = r.each v (let same = others (2 ^ 40) v n in omega arith) in
+                (at.0, (let l = at.1 in omega arith), other at.0 at.1 ∙ at.2))
+          ];
+          looked = λ v some. (let less = reach_nearer.far v in let near = r.looked v some in omega arith);
+        })
+  ]
+
+  -- no more stand in it than nodes that were come to
+  row_fit : (g : Ground) → IsGround g → IsNode (wave_of g).tree node
+      → old.reached.count ≤ count_by (has_come old) g.nodes.now → row.count ≤ count_by (has_come reached) g.nodes.now
+  row_fit g ground known fit = elim (cases_lt (far_at old node) (2 ^ 40)) [
+    | inl before ↦
+        (let same = ap (λ (r : Reached). r.count) (row_same before) in
+        let grows = count_grows (has_come old) (has_come reached) (λ v come. lt-ltb (far_at reached v) (2 ^ 40)
+        (let less = reach_nearer.far v in let near = ltb-true (far_at old v) (2 ^ 40) come in omega arith)) g.nodes.now in
+        omega arith)
+    | inr fresh ↦
+        (let count = row_count fresh in
+        let more = count_less (has_come reached) (has_come old) node
+        (lt-ltb (far_at reached node) (2 ^ 40) (let there = far_there in omega arith)) (le-ltb (far_at old node) (2 ^ 40) fresh)
+        (λ v n. ap (λ (d : ℕ). nat_lt d (2 ^ 40)) (sym (others (2 ^ 40) v n))) g.nodes.now (ground.nodes.each node known) in
+        omega arith)
+  ]
 
   pub reach_improves : Improves old reached
   reach_improves = record { nearer = reach_nearer; looked = refl; order = refl }
 
-  pub reach_kept : (g : Ground) → IsOver (wave_of g).tree far → IsOver (wave_of g).tree how → IsSearching g old
-      → (order_at old node ≡ 0 → LeadsTo g old node distance step) → IsSearching g reached
-  reach_kept g over_far over_how s leads = record {
-    far = over_far;
-    how = over_how;
-    order = s.order;
+  pub reach_kept : (g : Ground) → IsGround g → IsNode (wave_of g).tree node → IsOver (wave_of g).tree far → IsOver (wave_of g).tree how → IsSearching g old
+      → (order_at old node ≡ 0 → LeadsTo g old node distance step) → EndsIn g reached b end
+      → ((v : TreeNode) → 0 < sum_under (wave_of g) v (state_at g).free → b ≤ far_at reached v) → IsSearching g reached
+  reach_kept g ground known over_far over_how s leads ends bottom = record {
+    tables = record { far = over_far; how = over_how; order = s.tables.order };
+    reached = row_kept (wave_of g).tree known s.reached s.bound (let small = ground.small in let limit = s.limit in omega arith)
+        (room_left g old ground s node known);
+    room = row_room ∙ s.room;
+    fit = row_fit g ground known s.fit;
     limit = s.limit;
-    bound = s.bound;
-    most = λ v. (let less = reach_nearer.far v in let most = s.most v in omega arith);
+    bound = (let most = s.bound in omega arith);
     few = s.few;
     steps = λ v less. elim (same_or_not v node) [
       | inl e ↦ subst (λ v. LeadsTo g reached v (far_at reached v) (step_at reached v)) (sym e)
-          (subst (λ d. LeadsTo g reached node d (step_at reached node)) (sym (here old.limit))
+          (subst (λ d. LeadsTo g reached node d (step_at reached node)) (sym (here (2 ^ 40)))
           (subst (λ st. LeadsTo g reached node distance st) (sym (how_here Down))
           (leads_kept old reached reach_nearer (λ u x b. b) (λ u some. some) g node distance step (leads is_open))))
       | inr n ↦
-          (let same = others old.limit v n in
+          (let same = others (2 ^ 40) v n in
           subst (λ d. LeadsTo g reached v d (step_at reached v)) (sym same)
           (subst (λ st. LeadsTo g reached v (far_at old v) st) (sym (how_others Down v n))
           (leads_kept old reached reach_nearer (λ u x b. b) (λ u some. some) g v (far_at old v) (step_at old v) (s.steps v (omega arith)))))
@@ -255,14 +355,49 @@ module _ (old : Search) (far : NodeTable ℕ) (how : NodeTable Step) (node : Tre
         (let one = reach_nearer.settled u some in
         elim (same_or_not v node) [
           | inl e ↦
-              (let now = here old.limit in
+              (let now = here (2 ^ 40) in
               let a = ap (far_at reached) e in
               let past = beyond u some in
               omega arith)
-          | inr n ↦ (let same = others old.limit v n in let level = s.level u v some none in omega arith)
+          | inr n ↦ (let same = others (2 ^ 40) v n in let level = s.level u v some none in omega arith)
         ]);
-    goal = ends_kept old reached reach_nearer (λ u x b. b) (λ u some. some) g old.bound old.goal s.goal;
+    goal = ends;
+    bottom = bottom;
+    shut = s.shut;
   }
+
+  far_other : (v : TreeNode) → v ≢ node → far_at reached v ≡ far_at old v
+  far_other v n = others (2 ^ 40) v n
+
+  -- a slot is free under it, and a way ends there, or none is
+  pub ends_there : (g : Ground) → IsSearching g old → IsNode (wave_of g).tree node
+      → 0 < sum_under (wave_of g) node (state_at g).free → b ≡ distance → EndsInSlot g reached b node
+  ends_there g s known some is = record {
+    known = known;
+    some = some;
+    reached = (let now = here (2 ^ 40) in let most = s.bound in omega arith);
+    near = (let now = here (2 ^ 40) in omega arith);
+  }
+
+  pub bottom_there : (g : Ground) → IsSearching g old → b ≡ distance
+      → (v : TreeNode) → 0 < sum_under (wave_of g) v (state_at g).free → b ≤ far_at reached v
+  bottom_there g s is v some = elim (same_or_not v node) [
+    | inl e ↦ (let now = here (2 ^ 40) in let a = ap (far_at reached) e in omega arith)
+    | inr n ↦ (let same = far_other v n in let past = s.bottom v some in omega arith)
+  ]
+
+  pub bottom_shut : (g : Ground) → IsSearching g old → b ≡ old.bound
+      → (0 < sum_under (wave_of g) node (state_at g).free → ⊥)
+      → (v : TreeNode) → 0 < sum_under (wave_of g) v (state_at g).free → b ≤ far_at reached v
+  bottom_shut g s is none v some = elim (same_or_not v node) [
+    | inl e ↦ absurd (none (subst (λ v. 0 < sum_under (wave_of g) v (state_at g).free) e some))
+    | inr n ↦ (let same = far_other v n in let past = s.bottom v some in omega arith)
+  ]
+
+  pub ends_same : (g : Ground) → IsSearching g old → b ≡ old.bound → end ≡ old.goal → EndsIn g reached b end
+  ends_same g s is goal = subst (λ (n : ℕ). EndsIn g reached n end) (sym is)
+      (subst (λ goal. EndsIn g reached old.bound goal) (sym goal)
+      (ends_kept old reached reach_nearer (λ u x b. b) (λ u some. some) g old.bound old.goal s.goal))
 
 -- an end of a way that was come to nearer
 module _ (old : Search) (goal : Goal) (distance : ℕ) (bound : distance < old.bound) where
@@ -284,21 +419,30 @@ module _ (old : Search) (goal : Goal) (distance : ℕ) (bound : distance < old.b
 
   pub arrive_kept : (g : Ground) → IsSearching g old → EndsIn g old distance goal → IsSearching g arrived
   arrive_kept g s ends = record {
-    far = s.far;
-    how = s.how;
-    order = s.order;
+    tables = record { far = s.tables.far; how = s.tables.how; order = s.tables.order };
+    reached = record {
+      room = s.reached.room;
+      known = s.reached.known;
+      near = s.reached.near;
+      once = s.reached.once;
+      each = s.reached.each;
+      looked = s.reached.looked;
+    };
+    room = s.room;
+    fit = s.fit;
     limit = s.limit;
     bound = (let most = s.bound in omega arith);
-    most = s.most;
     few = s.few;
     steps = λ v less. leads_kept old arrived arrive_nearer (λ u x b. b) (λ u some. some) g v (far_at old v) (step_at old v) (s.steps v less);
     level = s.level;
     goal = ends_kept old arrived arrive_nearer (λ u x b. b) (λ u some. some) g distance goal ends;
+    bottom = λ v some. (let past = s.bottom v some in omega arith);
+    shut = s.shut;
   }
 
 -- a node that is looked from next
 module _ (g : Ground) (old : Search) (order : NodeTable ℕ) (c : TreeNode) (s : IsSearching g old)
-    (nearest : IsNearest g old c) (over : IsOver (wave_of g).tree order)
+    (fresh : order_at old c ≡ 0) (over : IsOver (wave_of g).tree order)
     (here : at_or order 0 c ≡ old.looked + 1)
     (others : (v : TreeNode) → v ≢ c → at_or order 0 v ≡ order_at old v) where
   abbrev settled : Search
@@ -315,7 +459,7 @@ module _ (g : Ground) (old : Search) (order : NodeTable ℕ) (c : TreeNode) (s :
   }
 
   other : (u : TreeNode) → 0 < order_at old u → u ≢ c
-  other u some e = (let none = nearest.fresh in let a = ap (order_at old) e in omega arith)
+  other u some e = (let none = fresh in let a = ap (order_at old) e in omega arith)
 
   before_next : (u x : TreeNode) → IsBefore old u x → IsBefore settled u x
   before_next u x b =
@@ -345,30 +489,77 @@ module _ (g : Ground) (old : Search) (order : NodeTable ℕ) (c : TreeNode) (s :
   settled-le : (u : TreeNode) → 0 < order_at settled u → far_at old u ≤ far_at old c
   settled-le u some = elim (same_or_not u c) [
     | inl e ↦ (let a = ap (far_at old) e in omega arith)
-    | inr n ↦ (let same = others u n in s.level u c (omega arith) nearest.fresh)
+    | inr n ↦ (let same = others u n in s.level u c (omega arith) fresh)
   ]
 
-  pub settle_kept : IsSearching g settled
-  settle_kept = record {
-    far = s.far;
-    how = s.how;
-    order = over;
+  settle_steps : (v : TreeNode) → far_at old v < old.limit → LeadsTo g settled v (far_at old v) (step_at old v)
+  settle_steps v less = leads_kept old settled settle_nearer before_next some_next g v (far_at old v) (step_at old v)
+      (s.steps v less)
+
+  settle_tables : HasTables (wave_of g).tree old → HasTables (wave_of g).tree settled
+  settle_tables t = record { far = t.far; how = t.how; order = over }
+
+  settle_reached : HasReached (wave_of g).tree old → far_at old c < old.limit → HasReached (wave_of g).tree settled
+  settle_reached r reached = record {
+    room = r.room;
+    known = r.known;
+    near = r.near;
+    once = r.once;
+    each = r.each;
+    looked = λ v some. elim (same_or_not v c) [
+      | inl e ↦ (let a = ap (far_at old) e in omega arith)
+      | inr n ↦ r.looked v (let same = others v n in omega arith)
+    ];
+  }
+
+  pub settle_kept : IsNearest g old c → IsSearching g settled
+  settle_kept nearest = record {
+    tables = settle_tables s.tables;
+    reached = settle_reached s.reached (let near = nearest.near in let most = s.bound in omega arith);
+    room = s.room;
+    fit = s.fit;
     limit = s.limit;
     bound = s.bound;
-    most = s.most;
     few = λ v. elim (same_or_not v c) [
       | inl e ↦ (let a = ap (order_at settled) e in omega arith)
       | inr n ↦ (let same = others v n in let few = s.few v in omega arith)
     ];
-    steps = λ v less. leads_kept old settled settle_nearer before_next some_next g v (far_at old v) (step_at old v)
-        (s.steps v less);
+    steps = settle_steps;
     level = λ u v some none.
         (let one = settled-le u some in let two = nearest.least v (was_open v none) in omega arith);
     goal = ends_kept old settled settle_nearer before_next some_next g old.bound old.goal s.goal;
+    bottom = s.bottom;
+    shut = λ v some. elim (same_or_not v c) [
+      | inl e ↦ subst (λ v. sum_under (wave_of g) v (state_at g).free ≡ 0) (sym e)
+          (elim (cases_lt 0 (sum_under (wave_of g) c (state_at g).free)) [
+            | inl more ↦ absurd (let past = s.bottom c more in let near = nearest.near in omega arith)
+            | inr none ↦ omega arith
+          ])
+      | inr n ↦ s.shut v (let same = others v n in omega arith)
+    ];
   }
 
-  pub settle_at : IsAt settled c
-  settle_at = record {
+  -- at the end of the search
+  pub settle_found : old.goal ≡ Slot c → far_at old c < old.limit → IsFound g settled
+  settle_found goal reached = record {
+    tables = settle_tables s.tables;
+    reached = settle_reached s.reached reached;
+    room = s.room;
+    limit = s.limit;
+    bound = s.bound;
+    steps = settle_steps;
+    goal = ends_kept old settled settle_nearer before_next some_next g old.bound old.goal s.goal;
+    last = subst (λ goal. IsLastOne g settled goal) (sym goal) (
+      (let now = here in omega arith),
+      λ x some less. elim (same_or_not x c) [
+        | inl e ↦ absurd (let a = ap (order_at settled) e in omega arith)
+        | inr n ↦ s.shut x (let same = others x n in omega arith)
+      ],
+    );
+  }
+
+  pub settle_at : IsNearest g old c → IsAt settled c
+  settle_at nearest = record {
     settled = (let now = here in omega arith);
     reached = (let near = nearest.near in let most = s.bound in omega arith);
     last = settled-le;

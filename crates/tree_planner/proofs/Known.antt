@@ -2,7 +2,7 @@
 use Rattle.std.proofs.Common.{arith}
 use Rattle.rack_tree.specs.View as tree
 use Rattle.wave_problem.specs.Wave.{Wave, IsWithinLimits}
-use Rattle.tree_planner.specs.Nodes.{IsKnown}
+use Rattle.tree_flow.specs.Nodes.{IsKnown}
 
 pub is_known : (wave : Wave) → IsWithinLimits wave → tree.IsWithinLimits wave.tree → IsKnown wave
 is_known wave within limits = record {

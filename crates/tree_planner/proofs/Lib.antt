@@ -1,20 +1,11 @@
--- the ends of a split, and sums over the workers under a node
-pub mod Costs
-pub mod Ends
-pub mod Filled
 pub mod Listed
+pub mod Alike
+pub mod Gained
 pub mod Added
-pub mod Under
--- what is read off a state certifies
-pub mod Certified
--- steps keep it
-pub mod Raised
-pub mod Moved
-pub mod Given
--- units go on
-pub mod Children
 pub mod Improved
 pub mod Counted
+pub mod Room
+pub mod Begun
 pub mod Looked
 pub mod Tight
 pub mod Followed
@@ -25,3 +16,21 @@ pub mod Tops
 pub mod Handed
 pub mod Starts
 pub mod Standing
+pub mod ImprovedBack
+pub mod LookedBack
+pub mod TightBack
+pub mod Refilled
+pub mod Holes
+pub mod Sunk
+pub mod Higher
+pub mod Lines
+pub mod Pending
+pub mod Started
+pub mod Turned
+pub mod Pulled
+pub mod Hung
+pub mod Fresh
+pub mod Below
+pub mod Descended
+pub mod Placed
+pub mod Flagged

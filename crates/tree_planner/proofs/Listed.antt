@@ -3,9 +3,9 @@ use Rattle.std.proofs.Common.{ℕ, ◌+◌, ◌<◌, List, [], ◌∷◌, ◌++�
 use borrow.Author.Count.{below_more}
 use Rattle.std.proofs.lemmas.List.Elements.{All-nil, All-push, Contains-append_left, Contains-push}
 use Rattle.rack_tree.specs.Tree.{Tree}
-use Rattle.tree_planner.specs.declared.nodes.TreeNode.{TreeNode}
-use Rattle.tree_planner.specs.declared.nodes.TreeNode.TheVariants.{Worker, Rack, Centre, Cluster}
-use Rattle.tree_planner.specs.Nodes.{IsNode, AreNodes}
+use Rattle.tree_flow.specs.declared.nodes.TreeNode.{TreeNode}
+use Rattle.tree_flow.specs.declared.nodes.TreeNode.TheVariants.{Worker, Rack, Centre, Cluster}
+use Rattle.tree_flow.specs.Nodes.{IsNode, AreNodes}
 
 -- the cluster, and so many centres, racks and workers, stand in the list
 pub record IsListed (tree : Tree) (nodes : List TreeNode) (centres racks workers : ℕ) : Type 0 where

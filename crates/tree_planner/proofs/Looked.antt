@@ -1,27 +1,31 @@
 -- A node from which all steps were taken.
-use Rattle.std.proofs.Common.{◌≡◌, ℕ, ◌+◌, ◌<◌, ◌≤◌, min, List, length, get_or, Contains, Option, Some, None, sym, ap, ◌∙◌, subst}
+use Rattle.std.proofs.Common.{◌≡◌, ℕ, ◌+◌, ◌^◌, ◌<◌, ◌≤◌, min, List, length, get_or, Contains, sym, ap, ◌∙◌, subst}
 use Rattle.std.proofs.Common.{inl, inr, ◌⊎◌, arith}
-use Rattle.std.specs.Prelude.{◌≢◌, MatchOption}
+use Rattle.std.specs.Prelude.{◌≢◌}
 use Rattle.std.proofs.lemmas.Bool.{cases_lt}
 use Rattle.std.proofs.lemmas.List.{get_or_default, get_or_past}
 use Rattle.rack_tree.specs.Tree.{Tree}
-use Rattle.tree_planner.specs.declared.node_table.NodeTable.{NodeTable}
-use Rattle.tree_planner.specs.declared.nodes.TreeNode.{TreeNode}
-use Rattle.tree_planner.specs.declared.nodes.TreeNode.TheVariants.{Worker, Rack, Centre, Cluster}
+use Rattle.tree_flow.specs.declared.node_table.NodeTable.{NodeTable}
+use Rattle.tree_flow.specs.declared.nodes.TreeNode.{TreeNode}
+use Rattle.tree_flow.specs.declared.nodes.TreeNode.TheVariants.{Worker, Rack, Centre, Cluster}
+use Rattle.tree_planner.specs.declared.search.Candidate.{Candidate}
 use Rattle.tree_planner.specs.declared.search.Ground.{Ground}
 use Rattle.tree_planner.specs.declared.search.Search.{Search}
 use Rattle.wave_problem.specs.Wave.{Wave}
-use Rattle.tree_planner.specs.Nodes.{is_under, parent, IsKnown, IsNode}
-use Rattle.tree_planner.specs.declared.nodes.End.{End}
-use Rattle.tree_planner.specs.declared.nodes.Place.TheVariants.{Stands}
-use Rattle.tree_planner.specs.State.{State, place_of, sum_under}
-use Rattle.tree_planner.proofs.Certified.{which_above}
-use Rattle.tree_planner.proofs.Children.{some_of_sum}
-use Rattle.tree_planner.proofs.Ends.{node_known}
+use Rattle.tree_flow.specs.Nodes.{is_under, parent, IsKnown, IsNode}
+use Rattle.tree_flow.specs.declared.nodes.End.{End}
+use Rattle.tree_flow.specs.declared.nodes.Place.TheVariants.{Stands}
+use Rattle.tree_flow.specs.State.{State, place_of, sum_under}
+use Rattle.tree_flow.proofs.Certified.{which_above}
+use Rattle.tree_flow.proofs.Children.{some_of_sum}
+use Rattle.tree_flow.proofs.Ends.{node_known}
+use Rattle.tree_flow.proofs.Under.{under_worker}
 use Rattle.tree_planner.specs.Searching.{order_at, far_at, state_at, wave_of, GoesAllOver, HasLookedFrom, Improves, IsAt}
-use Rattle.tree_planner.specs.Searching.{far_of, IsDown, IsFresh, IsNearest, IsSearching, Settles}
-use Rattle.tree_planner.specs.Table.{at_or, IsOver}
-use Rattle.tree_planner.proofs.Improved.{improves_trans, some_same, down_kept, over_kept, settle_kept, settle_at}
+use Rattle.tree_planner.specs.declared.search.Goal.TheVariants.{Slot}
+use Rattle.tree_planner.specs.Searching.{EndsIn, EndsInSlot, HasStarted, IsSearched}
+use Rattle.tree_planner.specs.Searching.{reached_at, IsCandidate, IsDown, IsGround, IsNearest, IsSearching, Settles}
+use Rattle.tree_flow.specs.Table.{at_or, IsOver}
+use Rattle.tree_planner.proofs.Improved.{improves_trans, some_same, down_kept, settle_kept, settle_at, settle_found}
 use Rattle.tree_planner.proofs.Improved.{settles_then}
 
 -- what holds at each place of a list holds of each element of it
@@ -46,26 +50,23 @@ known_or_not tree table d over (Centre c) = elim (cases_lt c tree.centres) [
 ]
 known_or_not tree table d over Cluster = inl tt
 
--- the nearest of the nodes of a list that were not looked from is the nearest of all
-pub found_nearest : (g : Ground) (search : Search) (best : Option TreeNode) → IsSearching g search
-    → IsFresh g search best
-    → ((v : TreeNode) → IsNode (wave_of g).tree v → order_at search v ≡ 0 → far_of search best ≤ far_at search v)
-    → MatchOption best ((v : TreeNode) → order_at search v ≡ 0 → search.bound ≤ far_at search v)
-    (λ c. IsNearest g search c)
-found_nearest g search None s is seen = λ v none. elim
-    (known_or_not (wave_of g).tree search.far search.limit s.far v) [
-      | inl known ↦ seen v known none
-      | inr past ↦ (let most = s.bound in omega arith)
-    ]
-found_nearest g search (Some c) s is seen = record {
-  known = is.0;
-  fresh = is.1;
-  near = is.2;
-  least = λ v none. elim (known_or_not (wave_of g).tree search.far search.limit s.far v) [
-    | inl known ↦ seen v known none
-    | inr past ↦ (let most = s.bound in let a = is.2 in omega arith)
-  ];
-}
+-- the nearest of the nodes that were come to and not looked from is the nearest of all
+pub least_of_all : (g : Ground) (search : Search) (best : Candidate) → IsGround g → IsSearching g search
+    → IsCandidate search best
+    → ((k : ℕ) → k < search.reached.count → order_at search (reached_at search k) ≡ 0
+    → best.far ≤ far_at search (reached_at search k))
+    → (v : TreeNode) → order_at search v ≡ 0 → best.far ≤ far_at search v
+least_of_all g search best ground s is seen v none = elim (cases_lt (far_at search v) (2 ^ 40)) [
+  | inl near ↦
+      (let at = s.reached.each v near in
+      subst (λ (v : TreeNode). order_at search v ≡ 0 → best.far ≤ far_at search v) at.2 (seen at.0 at.1) none)
+  | inr past ↦
+      (let most = s.bound in
+      let limit = s.limit in
+      let small = ground.small in
+      let far = is.far in
+      omega arith)
+]
 
 -- the node that is looked from next
 pub settle_all : (g : Ground) (old mid : Search) (c : TreeNode) → IsSearching g old → IsNearest g old c
@@ -74,46 +75,39 @@ pub settle_all : (g : Ground) (old mid : Search) (c : TreeNode) → IsSearching 
     → IsSearching g mid × IsAt mid c × ((new : Search) → Improves mid new → Settles old new c)
 settle_all g old mid c s nearest rest over here others =
     subst (λ m. IsSearching g m × IsAt m c × ((new : Search) → Improves m new → Settles old new c)) (sym rest) (
-      settle_kept g old mid.order c s nearest over here others,
-      settle_at g old mid.order c s nearest over here others,
-      settles_then g old mid.order c s nearest over here others,
+      settle_kept g old mid.order c s nearest.fresh over here others nearest,
+      settle_at g old mid.order c s nearest.fresh over here others nearest,
+      settles_then g old mid.order c s nearest.fresh over here others,
     )
 
 -- from which all steps were taken, one kind after another
-pub looked_all : (g : Ground) (c : TreeNode) (one two three four : Search) → 0 < order_at one c
-    → Improves one two → Improves two three → Improves three four → ((v : TreeNode) → IsDown g one c v)
+pub looked_all : (g : Ground) (c : TreeNode) (one two three : Search) → 0 < order_at one c
+    → Improves one two → Improves two three → IsSearching g three → ((v : TreeNode) → IsDown g one c v)
     → (0 < (state_at g).flow c → min two.bound (far_at two (parent (wave_of g).tree c)) + (state_at g).depth c
     ≤ far_at two c + (state_at g).depth (parent (wave_of g).tree c))
     → ((t : ℕ) → GoesAllOver g three c t)
-    → ((w : ℕ) → w < length (wave_of g).workers → c ≡ Worker w → 0 < (state_at g).free w
-    → four.bound ≤ far_at four c)
-    → HasLookedFrom g four c
-looked_all g c one two three four some i j k down up over bottom =
+    → HasLookedFrom g three c
+looked_all g c one two three some i j s down up over =
     let second = some_same one two i c some in
-    let third = some_same two three j c second in
-    let last = improves_trans two three four j k in
-    let all = improves_trans one two four i last in
+    let all = improves_trans one two three i j in
     record {
-      down = λ v is room. down_kept one four all.nearer g c v some (down v) is room;
+      down = λ v is room. down_kept one three all.nearer g c v some (down v) is room;
       up = λ flows.
           (let before = up flows in
-          let same = last.nearer.settled c second in
-          let bound = last.nearer.bound in
-          let far = last.nearer.far (parent (wave_of g).tree c) in
+          let same = j.nearer.settled c second in
+          let bound = j.nearer.bound in
+          let far = j.nearer.far (parent (wave_of g).tree c) in
           omega arith);
-      over = λ s e x stands is is_end.
-          (let kept = over_kept three four k.nearer g c s third
-          (over s) in
-          let over = kept.over e x stands is is_end in
-          let same = ap (λ v. far_at four v) is in
+      over = λ t e x stands is is_end.
+          (let taken = (over t).over e x stands is is_end in
+          let same = ap (λ v. far_at three v) is in
           omega arith);
-      out = λ s e stands is.
-          (let kept = over_kept three four k.nearer g c s third
-          (over s) in
-          let out = kept.out e stands is in
-          let same = ap (λ v. far_at four v) is in
+      out = λ t e stands is.
+          (let out = (over t).out e stands is in
+          let same = ap (λ v. far_at three v) is in
           omega arith);
-      bottom = bottom;
+      bottom = λ w known is free. s.bottom c (subst (λ v. 0 < sum_under (wave_of g) v (state_at g).free) (sym is)
+          (let own = under_worker (wave_of g) (state_at g).free w known in omega arith));
     }
 
 -- units can go only to a node that the tree has
@@ -128,3 +122,25 @@ room_known wave known v f some =
 pub stands_same : (state : State) (t : ℕ) (e f : End) → place_of state t ≡ Stands e → place_of state t ≡ Stands f
     → e ≡ f
 stands_same state t e f one other = grind arith
+
+-- where a way ends in a free slot, its node was not looked from yet
+open_goal : (g : Ground) (search : Search) (v : TreeNode) → IsSearching g search → EndsInSlot g search search.bound v
+    → order_at search v ≡ 0
+open_goal g search v s ends = elim (cases_lt 0 (order_at search v)) [
+  | inl some ↦ absurd (let none = s.shut v some in let more = ends.some in omega arith)
+  | inr none ↦ omega arith
+]
+
+-- the search has ended, and its goal is put last in order
+pub found_goal : (g : Ground) (old new : Search) (v : TreeNode) → IsSearching g old → HasStarted g old
+    → ((u : TreeNode) → far_at old u < old.bound → HasLookedFrom g old u) → old.goal ≡ Slot v
+    → new ≡ record old { order = new.order; looked = old.looked + 1 } → IsOver (wave_of g).tree new.order
+    → order_at new v ≡ old.looked + 1 → ((u : TreeNode) → u ≢ v → order_at new u ≡ order_at old u)
+    → IsSearched g new
+found_goal g old new v s started looked goal rest over here others =
+    let ends = subst (λ goal. EndsIn g old old.bound goal) goal s.goal in
+    subst (λ m. IsSearched g m) (sym rest) (record {
+      searching = settle_found g old new.order v s (open_goal g old v s ends) over here others goal ends.reached;
+      started = started;
+      looked = looked;
+    })

@@ -3,9 +3,9 @@ use Rattle.std.proofs.Common.{arith}
 use Rattle.wave_problem.specs.Wave.{Wave}
 use Rattle.tree_planner.specs.declared.tables.Tables.{Tables}
 use Rattle.tree_planner.specs.Engine.{IsStanding}
-use Rattle.tree_planner.specs.Slots.{IsFresh}
+use Rattle.tree_flow.specs.Slots.{IsFresh}
 use Rattle.tree_planner.specs.View.{state_of, AreTables}
-use Rattle.tree_planner.proofs.Given.{begins}
+use Rattle.tree_flow.proofs.Given.{begins}
 
 pub begins_standing : (wave : Wave) (t : Tables) → AreTables wave t → IsFresh wave (state_of t) → IsStanding wave t
 begins_standing wave t tables fresh = record {

@@ -7,18 +7,18 @@ use Rattle.std.proofs.lemmas.List.{get_or_append_left, get_or_past, get_or_push}
 use Rattle.std.proofs.lemmas.List.Sums.{sum_by-cons}
 use Rattle.wave_problem.specs.Wave.{Wave}
 use Rattle.wave_problem.specs.Assignment.{load, pairs_from, pairs_of, start_of}
-use Rattle.tree_planner.specs.declared.node_table.NodeTable.{NodeTable}
-use Rattle.tree_planner.specs.declared.nodes.End.{End}
-use Rattle.tree_planner.specs.declared.nodes.Place.{Place}
-use Rattle.tree_planner.specs.declared.nodes.Place.TheVariants.{Stands, Unshipped, Waits}
-use Rattle.tree_planner.specs.declared.nodes.TreeNode.{TreeNode}
+use Rattle.tree_flow.specs.declared.node_table.NodeTable.{NodeTable}
+use Rattle.tree_flow.specs.declared.nodes.End.{End}
+use Rattle.tree_flow.specs.declared.nodes.Place.{Place}
+use Rattle.tree_flow.specs.declared.nodes.Place.TheVariants.{Stands, Unshipped, Waits}
+use Rattle.tree_flow.specs.declared.nodes.TreeNode.{TreeNode}
 use Rattle.tree_planner.specs.Handing.{landed, IsHandedTo}
-use Rattle.tree_planner.specs.Nodes.{IsKnown}
-use Rattle.tree_planner.specs.Settled.{HasComeDown, IsHandedDown}
-use Rattle.tree_planner.specs.State.{State, place_of, IsBalancedBut, IsKept}
-use Rattle.tree_planner.specs.Table.{at_node}
-use Rattle.tree_planner.proofs.Children.{followed_down}
-use Rattle.tree_planner.proofs.Under.{stands_known}
+use Rattle.tree_flow.specs.Nodes.{IsKnown}
+use Rattle.tree_flow.specs.Settled.{HasComeDown, IsHandedDown}
+use Rattle.tree_flow.specs.State.{State, place_of, IsBalancedBut, IsKept}
+use Rattle.tree_flow.specs.Table.{at_node}
+use Rattle.tree_flow.proofs.Children.{followed_down}
+use Rattle.tree_flow.proofs.Under.{stands_known}
 
 -- what one start loads on a worker
 abbrev pub load_of : Option ℕ → ℕ → ℕ

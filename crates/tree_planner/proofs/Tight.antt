@@ -1,22 +1,22 @@
 -- Along the way that a search found no step costs anything once the depths have risen.
 use Rattle.std.proofs.Common.{◌≡◌, ℕ, ◌+◌, ◌-◌, ◌<◌, ◌≤◌, min, None, refl, ap, ◌∙◌, inl, inr, arith}
 use Rattle.wave_problem.specs.Wave.{Wave, reward}
-use Rattle.tree_planner.specs.declared.nodes.End.{End}
-use Rattle.tree_planner.specs.declared.nodes.Place.TheVariants.{Unshipped}
-use Rattle.tree_planner.specs.declared.nodes.TreeNode.{TreeNode}
+use Rattle.tree_flow.specs.declared.nodes.End.{End}
+use Rattle.tree_flow.specs.declared.nodes.Place.TheVariants.{Unshipped}
+use Rattle.tree_flow.specs.declared.nodes.TreeNode.{TreeNode}
 use Rattle.tree_planner.specs.declared.search.Goal.{Goal}
 use Rattle.tree_planner.specs.declared.search.Goal.TheVariants.{Wait, Slot, Off}
 use Rattle.tree_planner.specs.declared.search.Ground.{Ground}
 use Rattle.tree_planner.specs.declared.search.Search.{Search}
 use Rattle.tree_planner.specs.declared.search.Step.{Step}
 use Rattle.tree_planner.specs.declared.search.Step.TheVariants.{Start, Down, Up, Over}
-use Rattle.tree_planner.specs.Moves.{AreDistances}
-use Rattle.tree_planner.specs.Nodes.{parent, IsEnd}
-use Rattle.tree_planner.specs.State.{State, place_of, reach_cost, IsKept}
+use Rattle.tree_flow.specs.Moves.{AreDistances}
+use Rattle.tree_flow.specs.Nodes.{parent, IsEnd}
+use Rattle.tree_flow.specs.State.{State, place_of, reach_cost, sum_under, IsKept}
 use Rattle.tree_planner.specs.Searching.{far_at, order_at, state_at, step_at, wave_of, EndsIn, IsBefore, IsGround}
-use Rattle.tree_planner.specs.Searching.{IsSearched, LeadsTo}
+use Rattle.tree_planner.specs.Searching.{IsLastOne, IsSearched, LeadsTo}
 use Rattle.tree_planner.specs.Way.{IsOnWay, IsReady, IsTight, IsTightGoal}
-use Rattle.tree_planner.proofs.Raised.{raises, caps, search_ends}
+use Rattle.tree_flow.proofs.Raised.{raises, caps, search_ends}
 
 module _ (g : Ground) (ground : IsGround g) (search : Search) (s : IsSearched g search) where
   abbrev wave : Wave
@@ -150,14 +150,15 @@ module _ (g : Ground) (ground : IsGround g) (search : Search) (s : IsSearched g 
           before = earlier f.node x l.before on;
         }
 
-    tight_goal : (goal : Goal) → EndsIn g search bound goal → IsTightGoal wave new search goal
-    tight_goal Wait ends = λ y is. (let lower = start-le y is in let limit = s.searching.limit in omega arith)
-    tight_goal (Slot w) ends = record {
-      known = (let lines = ground.known.lines in let l = ends.known in omega arith);
-      some = (let same = ap (λ f. f w) free in let some = ends.some in omega arith);
-      from = record { settled = ends.settled; reached = ends.reached; near = ends.near };
+    tight_goal : (goal : Goal) → EndsIn g search bound goal → IsLastOne g search goal → IsTightGoal wave new search goal
+    tight_goal Wait ends last = λ y is. (let lower = start-le y is in let limit = s.searching.limit in omega arith)
+    tight_goal (Slot v) ends last = record {
+      known = ends.known;
+      some = (let same = ap (λ f. sum_under wave v f) free in let some = ends.some in omega arith);
+      from = record { settled = last.0; reached = ends.reached; near = ends.near };
+      shut = λ c some less. ap (λ f. sum_under wave c f) free ∙ last.1 c some less;
     }
-    tight_goal (Off t) ends =
+    tight_goal (Off t) ends last =
         let f : End = ends.from in
         let below = kept_raised.cheapest.below_waiting t f ends.stands in
         let before = ground.kept.cheapest.below_waiting t f ends.stands in
@@ -175,5 +176,5 @@ module _ (g : Ground) (ground : IsGround g) (search : Search) (s : IsSearched g 
       kept = kept_new;
       unshipped = place_same search.split ∙ unshipped;
       steps = λ v on. tight v on (step_at search v) (s.searching.steps v on.reached);
-      goal = tight_goal search.goal s.searching.goal;
+      goal = tight_goal search.goal s.searching.goal s.searching.last;
     }

@@ -7,13 +7,13 @@ use Rattle.std.proofs.lemmas.List.Elements.{All-contains, All-contains_itself, A
 use Rattle.std.proofs.lemmas.List.Elements.{Contains-append_left, Contains-append_right, Contains-push, Contains-push_cases}
 use Rattle.rack_tree.specs.Tree.{Tree}
 use Rattle.wave_problem.specs.Wave.{Wave, live_holders, split_at, worker_in}
-use Rattle.tree_planner.specs.declared.nodes.End.{End}
-use Rattle.tree_planner.specs.declared.nodes.TreeNode.{TreeNode}
-use Rattle.tree_planner.specs.declared.nodes.TreeNode.TheVariants.{Worker}
+use Rattle.tree_flow.specs.declared.nodes.End.{End}
+use Rattle.tree_flow.specs.declared.nodes.TreeNode.{TreeNode}
+use Rattle.tree_flow.specs.declared.nodes.TreeNode.TheVariants.{Worker}
 use Rattle.tree_planner.specs.Bars.{IsLevelEnd, IsTopEnd}
-use Rattle.tree_planner.specs.Nodes.{node_above, parent, is_under, HasBarUnder, IsEnd, IsNode}
-use Rattle.tree_planner.proofs.Ends.{under_under}
-use Rattle.tree_planner.proofs.Moved.{same_or_not, under_own, parent_under}
+use Rattle.tree_flow.specs.Nodes.{node_above, parent, is_under, HasBarUnder, IsEnd, IsNode}
+use Rattle.tree_flow.proofs.Ends.{under_under}
+use Rattle.tree_flow.proofs.Moved.{same_or_not, under_own, parent_under}
 
 pub end_same : (a b : End) → a.node ≡ b.node → a.level ≡ b.level → a ≡ b
 end_same a b p q = ap (λ (n : TreeNode). record { node = n; level = a.level }) p
@@ -67,52 +67,6 @@ push_top wave s top ends known free e = (
   ],
 )
 
--- a node under one with bars is an end where it has none, and its parent some
-module _ (wave : Wave) (s : ℕ) (top : End) (node : TreeNode) (ends : List End) where
-  pub push_below : IsNode wave.tree node → is_under wave.tree node top.node ≡ true
-      → (HasBarUnder wave s node → ⊥) → HasBarUnder wave s (parent wave.tree node) → (e : End)
-      → Contains (ends ++ record { node = node; level = top.level } ∷ []) e
-      ↔ (Contains ends e ⊎ ((e.node ≡ node) × IsTopEnd wave s top e))
-  push_below known near free bar e =
-      let own : End = record { node = node; level = top.level } in (
-        λ i. elim (Contains-push_cases ends own e i) [
-          | inl before ↦ inl before
-          | inr is ↦ inr (subst (λ e. (e.node ≡ node) × IsTopEnd wave s top e) is (
-            refl,
-            record {
-              known = known;
-              level = refl;
-              near = near;
-              no_bar = free;
-              largest = inr bar;
-            },
-          ))
-        ],
-        λ o. elim o [
-          | inl before ↦ Contains-append_left ends (own ∷ []) e before
-          | inr t ↦ (let level = t.1.level in subst (λ e. Contains (ends ++ own ∷ []) e)
-              (end_same own e (sym t.0) (sym level)) (Contains-push ends own))
-        ],
-      )
-
-  pub skip_below : HasBarUnder wave s top.node
-      → (is_under wave.tree node top.node ≡ true → (HasBarUnder wave s node → ⊥)
-      → HasBarUnder wave s (parent wave.tree node) → ⊥) → (e : End)
-      → Contains ends e ↔ (Contains ends e ⊎ ((e.node ≡ node) × IsTopEnd wave s top e))
-  skip_below barred off e = (
-    λ i. inl i,
-    λ o. elim o [
-      | inl before ↦ before
-      | inr t ↦ (let near = t.1.near in let free = t.1.no_bar in
-          absurd (elim t.1.largest [
-            | inl same ↦ free (subst (HasBarUnder wave s) (sym same) barred)
-            | inr bar ↦ off (subst (λ v. is_under wave.tree v top.node ≡ true) t.0 near)
-                (subst (λ v. HasBarUnder wave s v → ⊥) t.0 free)
-                (subst (λ v. HasBarUnder wave s (parent wave.tree v)) t.0 bar)
-          ]))
-    ],
-  )
-
 -- one element more of a list
 pub taken_more : (nodes : List TreeNode) (i : ℕ) → i < length nodes → (v : TreeNode)
     → Contains (take (i + 1) nodes) v ↔ (Contains (take i nodes) v ⊎ (v ≡ get_or nodes i (Worker 0)))
@@ -134,24 +88,7 @@ pub all_taken : (nodes : List TreeNode) (i : ℕ) → length nodes ≤ i → (v 
     → Contains (take i nodes) v
 all_taken nodes i l v has = subst (λ xs. Contains xs v) (sym (take_all i nodes l)) has
 
--- what a step adds to what was added before
-pub join : {N O I A B T S : Type 0} → (N ↔ (O ⊎ (S × T))) → (O ↔ (I ⊎ (A × T))) → (B ↔ (A ⊎ S))
-    → (N ↔ (I ⊎ (B × T)))
-join p q r = (
-  λ n. elim (p.0 n) [
-    | inl o ↦ elim (q.0 o) [ inl i ↦ inl i | inr a ↦ inr (r.1 (inl a.0), a.1) ]
-    | inr s ↦ inr (r.1 (inr s.0), s.1)
-  ],
-  λ h. elim h [
-    | inl i ↦ p.1 (inl (q.1 (inl i)))
-    | inr b ↦ elim (r.0 b.0) [
-      | inl a ↦ p.1 (inl (q.1 (inr (a, b.1))))
-      | inr s ↦ p.1 (inr (s, b.1))
-    ]
-  ],
-)
-
--- the same, of the numbers below one
+-- what a step adds to what was added before, of the numbers below one
 pub join_below : {N O I : Type 0} (P : ℕ → Type 0) (i : ℕ) → (N ↔ (O ⊎ P i))
     → (O ↔ (I ⊎ ((k : ℕ) × (k < i) × P k))) → (N ↔ (I ⊎ ((k : ℕ) × (k < i + 1) × P k)))
 join_below P i p q = (

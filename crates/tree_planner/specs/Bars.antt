@@ -1,15 +1,15 @@
 -- Under which nodes workers are barred for a split, and the ends that this leaves it.
-use Rattle.std.specs.Prelude.{ℕ, zero, suc, ◌≡◌, ◌*◌, ◌≤◌, ◌⊎◌, ◌↔◌, Bool, true, false, cond, Option, Some, None}
-use Rattle.std.specs.Prelude.{IfSome}
+use Rattle.std.specs.Prelude.{ℕ, zero, suc, ◌≡◌, ◌*◌, ◌<◌, ◌≤◌, ◌⊎◌, ◌↔◌, Bool, true, false, cond, Option, Some, None}
+use Rattle.std.specs.Prelude.{IfSome, List, Contains, slice_index_or}
 use Rattle.node_ids.specs.Sets.{has_number, place_of_pair}
 use Rattle.rack_tree.specs.Tree.{reach}
 use Rattle.wave_problem.specs.Wave.{Wave, worker_at}
-use Rattle.tree_planner.specs.declared.node_table.NodeTable.{NodeTable}
-use Rattle.tree_planner.specs.declared.nodes.End.{End}
-use Rattle.tree_planner.specs.declared.nodes.TreeNode.{TreeNode}
-use Rattle.tree_planner.specs.declared.nodes.TreeNode.TheVariants.{Worker}
-use Rattle.tree_planner.specs.Nodes.{is_under, node_above, parent, HasBarUnder, IsNode}
-use Rattle.tree_planner.specs.Table.{at_or, IsOver}
+use Rattle.tree_flow.specs.declared.node_table.NodeTable.{NodeTable}
+use Rattle.tree_flow.specs.declared.nodes.End.{End}
+use Rattle.tree_flow.specs.declared.nodes.TreeNode.{TreeNode}
+use Rattle.tree_flow.specs.declared.nodes.TreeNode.TheVariants.{Worker}
+use Rattle.tree_flow.specs.Nodes.{is_under, node_above, parent, HasBarUnder, IsNode}
+use Rattle.tree_flow.specs.Table.{at_or, IsOver}
 
 -- whether the table marks the node; no table marks none
 abbrev pub bar_at : Option (NodeTable Bool) → TreeNode → Bool
@@ -42,3 +42,16 @@ pub record IsLevelEnd (wave : Wave) (s holder : ℕ) (e : End) : Type 0 where
   pub level : ℕ
   pub within : 2 * level ≤ reach wave.tree
   pub top : IsTopEnd wave s (record { node = node_above wave.tree level holder; level = level }) e
+
+-- the number at a place of a list
+abbrev pub holder_at : List ℕ → ℕ → ℕ
+holder_at holders k = slice_index_or holders k 0
+
+-- the ends of the first k holders are there
+abbrev pub AreMet : Wave → ℕ → List ℕ → ℕ → List End → Type 0
+AreMet wave s holders k ends = (j : ℕ) (e : End) → j < k → IsLevelEnd wave s (holder_at holders j) e → Contains ends e
+
+-- the holder lives, and the end's node is the one above it at the end's level
+pub record IsLiveUnder (wave : Wave) (holder : ℕ) (top : End) : Type 0 where
+  pub live : (worker_at wave holder).live ≡ true
+  pub above : node_above wave.tree top.level holder ≡ top.node

@@ -1,8 +1,8 @@
 -- The ends of all splits, in lists.
 use Rattle.std.specs.Prelude.{ℕ, ◌≡◌, ◌<◌, ◌↔◌, List, [], length, slice_index_or, Contains}
 use Rattle.wave_problem.specs.Wave.{Wave}
-use Rattle.tree_planner.specs.declared.nodes.End.{End}
-use Rattle.tree_planner.specs.Nodes.{IsEnd}
+use Rattle.tree_flow.specs.declared.nodes.End.{End}
+use Rattle.tree_flow.specs.Nodes.{IsEnd}
 
 -- the ends of the split s in a list of the ends of all
 abbrev pub ends_at : List (List End) → ℕ → List End

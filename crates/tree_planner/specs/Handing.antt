@@ -2,13 +2,13 @@
 use Rattle.std.specs.Prelude.{ℕ, ◌≡◌, ◌+◌, ◌<◌, ◌≤◌, ◌==◌, cond, List, length, Option, Some, None, slice_set}
 use Rattle.wave_problem.specs.Wave.{Wave}
 use Rattle.wave_problem.specs.Assignment.{load, pairs_of, start_of}
-use Rattle.tree_planner.specs.declared.node_table.NodeTable.{NodeTable}
-use Rattle.tree_planner.specs.declared.nodes.End.{End}
-use Rattle.tree_planner.specs.declared.nodes.Place.TheVariants.{Stands, Unshipped, Waits}
-use Rattle.tree_planner.specs.declared.nodes.TreeNode.{TreeNode}
-use Rattle.tree_planner.specs.Settled.{HasComeDown}
-use Rattle.tree_planner.specs.State.{State, place_of, IsBalancedBut}
-use Rattle.tree_planner.specs.Table.{at_node}
+use Rattle.tree_flow.specs.declared.node_table.NodeTable.{NodeTable}
+use Rattle.tree_flow.specs.declared.nodes.End.{End}
+use Rattle.tree_flow.specs.declared.nodes.Place.TheVariants.{Stands, Unshipped, Waits}
+use Rattle.tree_flow.specs.declared.nodes.TreeNode.{TreeNode}
+use Rattle.tree_flow.specs.Settled.{HasComeDown}
+use Rattle.tree_flow.specs.State.{State, place_of, IsBalancedBut}
+use Rattle.tree_flow.specs.Table.{at_node}
 
 -- a split stands on the node, in a balanced state in which so many units are left to each node
 pub record IsUnitAt (wave : Wave) (left : NodeTable ℕ) (v : TreeNode) (now : State) (s : ℕ) (e : End) : Type 0 where

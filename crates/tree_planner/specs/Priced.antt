@@ -2,8 +2,8 @@
 use Rattle.std.specs.Prelude.{ℕ, ◌≡◌, ◌+◌, ◌-◌, List, Option, Some, None, slice_index, unwrap_or}
 use Rattle.wave_problem.specs.Assignment.{start_of}
 use Rattle.wave_problem.specs.Wave.{Wave, cost, reward, IsUsable}
-use Rattle.tree_planner.specs.Settled.{deepest_above}
-use Rattle.tree_planner.specs.State.{State}
+use Rattle.tree_flow.specs.Settled.{deepest_above}
+use Rattle.tree_flow.specs.State.{State}
 
 -- the deepest node above a worker, where it lives and has a slot
 pub record IsWorkerPrice (wave : Wave) (state : State) (w price : ℕ) : Type 0 where

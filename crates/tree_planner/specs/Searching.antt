@@ -1,11 +1,14 @@
 -- What a search for a slot keeps to, and what it finds.
-use Rattle.std.specs.Prelude.{ℕ, ◌≡◌, ◌≢◌, ◌+◌, ◌^◌, ◌<◌, ◌≤◌, ◌⊎◌, min, length, Option, Some, None, MatchOption}
+use Rattle.std.specs.Prelude.{ℕ, ◌≡◌, ◌≢◌, ◌+◌, ◌^◌, ◌<◌, ◌≤◌, ◌⊎◌, min, length}
+use Rattle.std.specs.Prelude.{Bool, count_by, nat_lt, slice_index_or}
+use Rattle.rack_tree.specs.Tree.{Tree}
 use Rattle.wave_problem.specs.declared.TheConstants.{MAX_SPLITS}
 use Rattle.wave_problem.specs.Wave.{Wave, reward}
-use Rattle.tree_planner.specs.declared.nodes.End.{End}
-use Rattle.tree_planner.specs.declared.nodes.Place.TheVariants.{Stands}
-use Rattle.tree_planner.specs.declared.nodes.TreeNode.{TreeNode}
-use Rattle.tree_planner.specs.declared.nodes.TreeNode.TheVariants.{Worker, Cluster}
+use Rattle.tree_flow.specs.declared.nodes.End.{End}
+use Rattle.tree_flow.specs.declared.nodes.Place.TheVariants.{Stands}
+use Rattle.tree_flow.specs.declared.nodes.TreeNode.{TreeNode}
+use Rattle.tree_flow.specs.declared.nodes.TreeNode.TheVariants.{Cluster}
+use Rattle.tree_planner.specs.declared.search.Candidate.{Candidate}
 use Rattle.tree_planner.specs.declared.search.Goal.{Goal}
 use Rattle.tree_planner.specs.declared.search.Goal.TheVariants.{Wait, Slot, Off}
 use Rattle.tree_planner.specs.declared.search.Ground.{Ground}
@@ -13,10 +16,11 @@ use Rattle.tree_planner.specs.declared.search.Search.{Search}
 use Rattle.tree_planner.specs.declared.search.Step.{Step}
 use Rattle.tree_planner.specs.declared.search.Step.TheVariants.{Start, Down, Up, Over}
 use Rattle.tree_planner.specs.Ends.{AreEnds}
-use Rattle.tree_planner.specs.Moves.{IsLookedFrom}
-use Rattle.tree_planner.specs.Nodes.{parent, AreNodes, IsEnd, IsKnown, IsNode}
-use Rattle.tree_planner.specs.State.{State, place_of, reach_cost, slots_of, sum_under, IsKept}
-use Rattle.tree_planner.specs.Table.{at_node, at_or, IsOver}
+use Rattle.tree_planner.specs.Hanging.{AreChildren}
+use Rattle.tree_flow.specs.Moves.{IsLookedFrom}
+use Rattle.tree_flow.specs.Nodes.{parent, AreNodes, IsEnd, IsKnown, IsNode}
+use Rattle.tree_flow.specs.State.{State, place_of, reach_cost, slots_of, sum_under, IsKept}
+use Rattle.tree_flow.specs.Table.{at_node, at_or, IsOver}
 use Rattle.tree_planner.specs.View.{state_of, AreTables}
 
 abbrev pub wave_of : Ground → Wave
@@ -31,20 +35,57 @@ pub record IsGround (g : Ground) : Type 0 where
   pub small : reward (wave_of g) < 2 ^ 40
   pub few : length (wave_of g).splits ≤ MAX_SPLITS
   pub nodes : AreNodes (wave_of g).tree g.nodes.now
+  pub children : AreChildren (wave_of g).tree g.children.now
   pub ends : AreEnds (wave_of g) g.ends.now
+  pub worth : g.reward ≡ reward (wave_of g)
   pub over : IsOver (wave_of g).tree g.slots.now
   pub slots : (v : TreeNode) → at_node g.slots.now v ≡ sum_under (wave_of g) v (slots_of (wave_of g))
   pub tables : AreTables (wave_of g) g.tables.now
   pub low : (v : TreeNode) → (state_at g).depth v ≤ reward (wave_of g)
   pub kept : IsKept (wave_of g) (state_at g)
 
--- how far a node is at most: as the search came to it, or as far as it may go
+-- how far a node is at most: as the search came to it, or 2 ^ 40, which is farther than any way goes
 abbrev pub far_at : Search → TreeNode → ℕ
-far_at search v = at_or search.far search.limit v
+far_at search v = at_or search.far (2 ^ 40) v
 
 -- as which one it was looked from, from 1, or 0 if it was not yet
 abbrev pub order_at : Search → TreeNode → ℕ
 order_at search v = at_or search.order 0 v
+
+-- the node that was come to as the one after k others
+abbrev pub reached_at : Search → ℕ → TreeNode
+reached_at search k = slice_index_or search.reached.nodes.items k Cluster
+
+-- whether it was come to
+abbrev pub has_come : Search → TreeNode → Bool
+has_come search v = nat_lt (far_at search v) (2 ^ 40)
+
+-- the nodes that were come to stand first in their row, each once, and the search has looked from no other
+pub record HasReached (tree : Tree) (search : Search) : Type 0 where
+  pub room : search.reached.count ≤ length search.reached.nodes.items
+  pub known : (k : ℕ) → k < search.reached.count → IsNode tree (reached_at search k)
+  pub near : (k : ℕ) → k < search.reached.count → far_at search (reached_at search k) < search.limit
+  pub once : (j k : ℕ) → j < k → k < search.reached.count → reached_at search j ≢ reached_at search k
+  pub each : (v : TreeNode) → far_at search v < 2 ^ 40
+      → (k : ℕ) × (k < search.reached.count) × (reached_at search k ≡ v)
+  pub looked : (v : TreeNode) → 0 < order_at search v → far_at search v < search.limit
+
+-- another one has room in the row
+abbrev pub HasRoom : Search → Type 0
+HasRoom search = search.reached.count < length search.reached.nodes.items
+
+-- its tables have an entry for each node
+pub record HasTables (tree : Tree) (search : Search) : Type 0 where
+  pub far : IsOver tree search.far
+  pub how : IsOver tree search.how
+  pub order : IsOver tree search.order
+
+-- no node was come to yet, and there is room for so many
+pub record IsBlank (tree : Tree) (nodes : ℕ) (search : Search) : Type 0 where
+  pub tables : HasTables tree search
+  pub room : length search.reached.nodes.items ≡ nodes
+  pub far : (v : TreeNode) → 2 ^ 40 ≤ far_at search v
+  pub none : (v : TreeNode) → order_at search v ≡ 0
 
 -- how it was come to
 abbrev pub step_at : Search → TreeNode → Step
@@ -94,13 +135,12 @@ LeadsTo g search x distance Down = GoesDown g search x distance
 LeadsTo g search x distance (Up c) = GoesUp g search x distance c
 LeadsTo g search x distance (Over t level) = GoesOver g search x distance t level
 
--- a worker has a free slot, at no more than the bound
-pub record EndsInSlot (g : Ground) (search : Search) (bound w : ℕ) : Type 0 where
-  pub known : w < length (wave_of g).workers
-  pub some : 0 < (state_at g).free w
-  pub reached : far_at search (Worker w) < search.limit
-  pub settled : 0 < order_at search (Worker w)
-  pub near : far_at search (Worker w) ≤ bound
+-- a free slot lies under the node, at no more than the bound
+pub record EndsInSlot (g : Ground) (search : Search) (bound : ℕ) (v : TreeNode) : Type 0 where
+  pub known : IsNode (wave_of g).tree v
+  pub some : 0 < sum_under (wave_of g) v (state_at g).free
+  pub reached : far_at search v < search.limit
+  pub near : far_at search v ≤ bound
 
 -- a split can be sent off
 pub record EndsOff (g : Ground) (search : Search) (bound t : ℕ) : Type 0 where
@@ -113,22 +153,43 @@ pub record EndsOff (g : Ground) (search : Search) (bound t : ℕ) : Type 0 where
 -- a way ends there, at no more than the bound
 abbrev pub EndsIn : Ground → Search → ℕ → Goal → Type 0
 EndsIn g search bound Wait = bound ≡ search.limit
-EndsIn g search bound (Slot w) = EndsInSlot g search bound w
+EndsIn g search bound (Slot v) = EndsInSlot g search bound v
 EndsIn g search bound (Off t) = EndsOff g search bound t
 
 -- what a search keeps to
 pub record IsSearching (g : Ground) (search : Search) : Type 0 where
-  pub far : IsOver (wave_of g).tree search.far
-  pub how : IsOver (wave_of g).tree search.how
-  pub order : IsOver (wave_of g).tree search.order
+  pub tables : HasTables (wave_of g).tree search
+  pub reached : HasReached (wave_of g).tree search
+  pub room : length search.reached.nodes.items ≡ length g.nodes.now
+  pub fit : search.reached.count ≤ count_by (has_come search) g.nodes.now
   pub limit : search.limit + search.least ≡ reward (wave_of g)
   pub bound : search.bound ≤ search.limit
-  pub most : (v : TreeNode) → far_at search v ≤ search.limit
   pub few : (v : TreeNode) → order_at search v ≤ search.looked
   pub steps : (v : TreeNode) → far_at search v < search.limit
       → LeadsTo g search v (far_at search v) (step_at search v)
   pub level : (u v : TreeNode) → 0 < order_at search u → order_at search v ≡ 0 → far_at search u ≤ far_at search v
   pub goal : EndsIn g search search.bound search.goal
+  pub bottom : (v : TreeNode) → 0 < sum_under (wave_of g) v (state_at g).free → search.bound ≤ far_at search v
+  pub shut : (v : TreeNode) → 0 < order_at search v → sum_under (wave_of g) v (state_at g).free ≡ 0
+
+-- a node in which the way ends was looked from too, and no node before it has a free slot under it
+abbrev pub IsLastOne : Ground → Search → Goal → Type 0
+IsLastOne g search Wait = Unit {0}
+IsLastOne g search (Slot v) = (0 < order_at search v) × ((c : TreeNode) → 0 < order_at search c
+    → order_at search c < order_at search v → sum_under (wave_of g) c (state_at g).free ≡ 0)
+IsLastOne g search (Off t) = Unit {0}
+
+-- what is left of it when the search has ended
+pub record IsFound (g : Ground) (search : Search) : Type 0 where
+  pub tables : HasTables (wave_of g).tree search
+  pub reached : HasReached (wave_of g).tree search
+  pub room : length search.reached.nodes.items ≡ length g.nodes.now
+  pub limit : search.limit + search.least ≡ reward (wave_of g)
+  pub bound : search.bound ≤ search.limit
+  pub steps : (v : TreeNode) → far_at search v < search.limit
+      → LeadsTo g search v (far_at search v) (step_at search v)
+  pub goal : EndsIn g search search.bound search.goal
+  pub last : IsLastOne g search search.goal
 
 -- an end of the split was come to, or lies past the bound
 abbrev pub IsStartedAt : Ground → Search → End → Type 0
@@ -165,7 +226,7 @@ pub record IsAt (search : Search) (c : TreeNode) : Type 0 where
 
 -- what a search finds: it has looked from each node nearer than the goal
 pub record IsSearched (g : Ground) (search : Search) : Type 0 where
-  pub searching : IsSearching g search
+  pub searching : IsFound g search
   pub started : HasStarted g search
   pub looked : (u : TreeNode) → far_at search u < search.bound → HasLookedFrom g search u
 
@@ -176,15 +237,13 @@ pub record IsNearest (g : Ground) (search : Search) (c : TreeNode) : Type 0 wher
   pub near : far_at search c < search.bound
   pub least : (v : TreeNode) → order_at search v ≡ 0 → far_at search c ≤ far_at search v
 
--- a node that may be looked from next, if any
-abbrev pub IsFresh : Ground → Search → Option TreeNode → Type 0
-IsFresh g search best = MatchOption best (Unit {0})
-    (λ c. IsNode (wave_of g).tree c × (order_at search c ≡ 0) × (far_at search c < search.bound))
-
--- how far it is, or how far the goal is
-abbrev pub far_of : Search → Option TreeNode → ℕ
-far_of search None = search.bound
-far_of search (Some c) = far_at search c
+-- the next node to look from, by its place among the reached nodes, or none
+pub record IsCandidate (search : Search) (best : Candidate) : Type 0 where
+  pub far : best.far ≤ search.bound
+  pub none : best.place ≡ search.reached.count → best.far ≡ search.bound
+  pub some : best.place ≢ search.reached.count → (best.place < search.reached.count)
+      × (order_at search (reached_at search best.place) ≡ 0)
+      × (far_at search (reached_at search best.place) ≡ best.far) × (best.far < search.bound)
 
 -- c was looked from next
 pub record Settles (old new : Search) (c : TreeNode) : Type 0 where

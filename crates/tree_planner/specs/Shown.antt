@@ -1,7 +1,7 @@
 -- What is known of an engine from outside.
 use Rattle.wave_problem.specs.Wave.{Wave}
 use Rattle.tree_planner.specs.declared.tables.Tables.{Tables}
-use Rattle.tree_planner.specs.State.{State}
+use Rattle.tree_flow.specs.State.{State}
 use Rattle.tree_planner.specs.View.{state_of}
 
 -- a wave, and the tables of the state of its splits

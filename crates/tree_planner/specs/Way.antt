@@ -1,28 +1,27 @@
 -- The way that a search found, along which units are moved from its end back.
 use Rattle.std.specs.Prelude.{ℕ, ◌≡◌, ◌≢◌, ◌+◌, ◌-◌, ◌<◌, ◌≤◌, ◌↔◌, min, Option, Some, None}
 use Rattle.wave_problem.specs.Wave.{Wave, reward}
-use Rattle.tree_planner.specs.declared.node_table.NodeTable.{NodeTable}
-use Rattle.tree_planner.specs.declared.nodes.End.{End}
-use Rattle.tree_planner.specs.declared.nodes.Place.TheVariants.{Stands, Unshipped}
-use Rattle.tree_planner.specs.declared.nodes.TreeNode.{TreeNode}
-use Rattle.tree_planner.specs.declared.nodes.TreeNode.TheVariants.{Worker, Cluster}
+use Rattle.tree_flow.specs.declared.node_table.NodeTable.{NodeTable}
+use Rattle.tree_flow.specs.declared.nodes.End.{End}
+use Rattle.tree_flow.specs.declared.nodes.Place.TheVariants.{Stands, Unshipped}
+use Rattle.tree_flow.specs.declared.nodes.TreeNode.{TreeNode}
+use Rattle.tree_flow.specs.declared.nodes.TreeNode.TheVariants.{Cluster}
 use Rattle.tree_planner.specs.declared.search.Goal.{Goal}
 use Rattle.tree_planner.specs.declared.search.Goal.TheVariants.{Wait, Slot, Off}
-use Rattle.tree_planner.specs.declared.search.Ground.{Ground}
 use Rattle.tree_planner.specs.declared.search.Search.{Search}
 use Rattle.tree_planner.specs.declared.search.Step.{Step}
 use Rattle.tree_planner.specs.declared.search.Step.TheVariants.{Start, Down, Up, Over}
-use Rattle.tree_planner.specs.Nodes.{parent, IsEnd, IsNode}
-use Rattle.tree_planner.specs.State.{State, place_of, reach_cost, IsKept, IsKeptBut}
-use Rattle.tree_planner.specs.Searching.{far_at, order_at, state_at, step_at, wave_of}
-use Rattle.tree_planner.specs.Table.{at_node}
+use Rattle.tree_flow.specs.Nodes.{parent, IsEnd, IsNode}
+use Rattle.tree_flow.specs.State.{State, place_of, reach_cost, sum_under, IsKept, IsKeptBut}
+use Rattle.tree_planner.specs.Searching.{far_at, order_at, step_at}
+use Rattle.tree_flow.specs.Table.{at_node}
 
--- a node nearer than the bound lies deeper by the rest, and none deeper than the reward
-abbrev pub IsDeeper : Ground → Search → TreeNode → ℕ → Type 0
-IsDeeper g search v depth = depth ≡ min (reward (wave_of g)) ((state_at g).depth v + (search.bound - far_at search v))
+-- a node nearer than the bound lies deeper by the rest, and none deeper than the most
+abbrev pub IsDeeper : ℕ → NodeTable ℕ → Search → NodeTable ℕ → TreeNode → Type 0
+IsDeeper most old search new v = at_node new v ≡ min most (at_node old v + (search.bound - far_at search v))
 
-abbrev pub AreDeeper : Ground → Search → NodeTable ℕ → Type 0
-AreDeeper g search depth = (v : TreeNode) → IsDeeper g search v (at_node depth v)
+abbrev pub AreDeeper : ℕ → NodeTable ℕ → Search → NodeTable ℕ → Type 0
+AreDeeper most old search new = (v : TreeNode) → IsDeeper most old search new v
 
 -- the search has looked from the node, and a way over it may end at the bound
 pub record IsOnWay (search : Search) (v : TreeNode) : Type 0 where
@@ -68,10 +67,12 @@ IsTight wave state search x (Up c) = GoesUpTight wave state search x c
 IsTight wave state search x (Over t level) =
     GoesOverTight wave state search t (record { node = x; level = level })
 
-pub record SlotIsTight (wave : Wave) (state : State) (search : Search) (w : ℕ) : Type 0 where
-  pub known : IsNode wave.tree (Worker w)
-  pub some : 0 < state.free w
-  pub from : IsOnWay search (Worker w)
+pub record SlotIsTight (wave : Wave) (state : State) (search : Search) (v : TreeNode) : Type 0 where
+  pub known : IsNode wave.tree v
+  pub some : 0 < sum_under wave v state.free
+  pub from : IsOnWay search v
+  pub shut : (c : TreeNode) → 0 < order_at search c → order_at search c < order_at search v
+      → sum_under wave c state.free ≡ 0
 
 pub record OffIsTight (wave : Wave) (state : State) (search : Search) (t : ℕ) : Type 0 where
   pub end : End
@@ -83,7 +84,7 @@ pub record OffIsTight (wave : Wave) (state : State) (search : Search) (t : ℕ) 
 abbrev pub IsTightGoal : Wave → State → Search → Goal → Type 0
 IsTightGoal wave state search Wait = (y : End) → IsEnd wave search.split y
     → reward wave ≤ reach_cost wave state search.split y
-IsTightGoal wave state search (Slot w) = SlotIsTight wave state search w
+IsTightGoal wave state search (Slot v) = SlotIsTight wave state search v
 IsTightGoal wave state search (Off t) = OffIsTight wave state search t
 
 -- a state in which the whole way costs nothing
@@ -102,7 +103,8 @@ pub record IsFollowing (wave : Wave) (now : State) (search : Search) (node : Tre
   pub depth : now.depth ≡ first.depth
   pub from : IsOnWay search node
   pub unshipped : place_of now search.split ≡ Unshipped
-  pub flows : (c : TreeNode) → order_at search c < order_at search node → now.flow c ≡ first.flow c
+  pub flows : (c : TreeNode) → 0 < order_at search c → order_at search c < order_at search node
+      → now.flow c ≡ first.flow c
   pub places : (t : ℕ) (e : End) → place_of first t ≡ Stands e → order_at search e.node < order_at search node
       → place_of now t ≡ Stands e
 

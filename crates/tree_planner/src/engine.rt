@@ -1,21 +1,24 @@
 //! Splits shipped one after another.
-ghost use Rattle.std.specs.Prelude.{◌≡◌, ◌≢◌, ℕ, ◌<◌, ◌≤◌, IfOk, OnOk, OnErr, length};
-ghost use Rattle.tree_planner.specs.declared.nodes.Place.TheVariants.{Unshipped};
-ghost use Rattle.price_certificate.specs.Certificate.{claim, Certifies, HasOneSize};
+ghost use Rattle.std.specs.Prelude.{◌≡◌, ◌≢◌, ℕ, ◌<◌, ◌≤◌, IfOk, IsTrue, length, OnOk};
+ghost use Rattle.tree_flow.specs.declared.nodes.Place.TheVariants.{Unshipped};
+ghost use Rattle.price_certificate.specs.Certificate.{claim, worker_price, Certifies, HasOneSize};
 ghost use Rattle.wave_problem.specs.Assignment.{pairs_of, IsBest};
-ghost use Rattle.wave_problem.specs.Wave.{reward};
-ghost use Rattle.tree_planner.specs.declared.nodes.TreeNode.{TreeNode};
+ghost use Rattle.wave_problem.specs.Wave.{reward, IsUsable};
+ghost use Rattle.tree_flow.specs.declared.node_table.NodeTable.{NodeTable};
 ghost use Rattle.tree_planner.specs.Engine.{with_depth, IsFixed, IsStanding};
-ghost use Rattle.tree_planner.specs.Searching.{state_at, wave_of, IsGround};
-ghost use Rattle.tree_planner.specs.Table.{at_node, IsOver};
-ghost use Rattle.tree_planner.specs.State.{place_of};
+ghost use Rattle.tree_planner.specs.Searching.{HasReached, HasTables, IsBlank, IsGround};
+ghost use Rattle.tree_flow.specs.Table.{at_node};
+ghost use Rattle.tree_flow.specs.State.{place_of};
 ghost use Rattle.tree_planner.specs.View.{state_of};
-ghost use Rattle.tree_planner.specs.Way.{AreOthersSame, IsReady};
+ghost use Rattle.tree_planner.specs.Choosing.{IsChoice};
+ghost use Rattle.tree_planner.specs.Way.{AreDeeper, AreOthersSame, IsReady, StartsTight};
 
-use crate::follow::{deeper, follow};
-use crate::hand_down::all_starts;
-use crate::node_table::NodeTable;
-use crate::nodes::TreeNode;
+use crate::children::{Children, all_children};
+use crate::choice::{Choice, choose};
+use crate::down::take_below;
+use crate::follow::{deepen, follow, place};
+use crate::hand_down::{all_starts, place_at};
+use crate::order::shipping_order;
 use crate::prices::prices_of;
 use crate::search::{Ground, Search, find_way};
 use crate::split_ends::{Ends, all_ends};
@@ -23,15 +26,18 @@ use crate::tables::{Tables, fresh_tables, slots_under};
 use crate::tree_nodes::all_nodes;
 use price_certificate::Prices;
 use std::alloc::{AllocError, Global};
+use tree_flow::{End, NodeTable, Place, TreeNode};
 use wave_problem::{Plan, Problem};
 
-/// What of a problem a search reads beside it: the nodes of its tree, the ends of its splits, and how many
-/// slots there are under each node.
+/// What of a problem a search reads beside it: the nodes of its tree, the nodes that hang from each, the ends
+/// of its splits, how many slots there are under each node, and what a start is worth.
 #[derive(Drop)]
 pub struct Fixed {
     pub nodes: Vec<TreeNode>,
+    pub children: Children,
     pub ends: Vec<Ends>,
     pub slots: NodeTable<u64>,
+    pub reward: u64,
 }
 
 /// What a search reads of a problem.
@@ -39,84 +45,222 @@ pub fn fixed_parts(alloc: Global, problem: &Problem) -> Result<Fixed, AllocError
     ensures { IfOk result (λ fixed. IsFixed problem.now fixed) }
 {
     problem.limits();
-    let _reward = problem.reward();
+    let reward = problem.reward();
     let _splits = problem.splits();
     let nodes = all_nodes(alloc, problem.tree())?;
-    let ends = all_ends(alloc, problem, &nodes)?;
+    let children = all_children(alloc, problem.tree(), &nodes)?;
+    let ends = all_ends(alloc, problem, &children)?;
     let slots = slots_under(alloc, problem)?;
-    Ok(Fixed { nodes, ends, slots })
+    Ok(Fixed {
+        nodes,
+        children,
+        ends,
+        slots,
+        reward,
+    })
 }
 
-/// Ships a split, or lets it wait, whichever is cheaper.
-pub fn ship(
+/// Ships a split, or lets it wait, whichever is cheaper. The search is lent, blank.
+pub fn ship(problem: &Problem, fixed: &Fixed, tables: &mut Tables, search: &mut Search, split: u16)
+    requires fixed { IsFixed problem.now fixed.now }
+    requires standing { IsStanding problem.now tables.old }
+    requires blank { IsBlank problem.now.tree (length fixed.now.nodes.items) search.old }
+    requires split { split < length problem.now.splits }
+    requires unshipped { place_of (state_of tables.old) split ≡ Unshipped }
+    ensures standing { IsStanding problem.now tables.new }
+    ensures shipped { place_of (state_of tables.new) split ≢ Unshipped }
+    ensures others { AreOthersSame (state_of tables.old) (state_of tables.new) split }
+    ensures blank { IsBlank problem.now.tree (length fixed.now.nodes.items) search.new }
+{
+    match choice(problem, fixed, tables, split) {
+        Choice::Wait => place(problem, tables, split, Place::Waits),
+        Choice::Stand(end) => stand(problem, fixed, tables, split, end),
+        Choice::Search => search_and_follow(problem, fixed, tables, search, split),
+    }
+}
+
+// What is cheapest for a split, as far as its ends show it.
+fn choice(problem: &Problem, fixed: &Fixed, tables: &Tables, split: u16) -> Choice
+    requires fixed { IsFixed problem.now fixed.now }
+    requires standing { IsStanding problem.now tables.now }
+    requires split { split < length problem.now.splits }
+    ensures { IsChoice problem.now (state_of tables.now) split result }
+{
+    choose(&ground_of(problem, fixed, tables), split)
+}
+
+// What a search stands on.
+fn ground_of<'a>(problem: &'a Problem, fixed: &'a Fixed, tables: &'a Tables) -> Ground<'a>
+    requires fixed { IsFixed problem.now fixed.now }
+    requires standing { IsStanding problem.now tables.now }
+    ensures ground { IsGround result }
+    ensures problem { result.problem.now ≡ problem.now }
+    ensures nodes { result.nodes.now ≡ fixed.now.nodes.items }
+    ensures tables { result.tables.now ≡ tables.now }
+{
+    Ground {
+        problem,
+        nodes: &fixed.nodes,
+        children: &fixed.children,
+        ends: &fixed.ends,
+        slots: &fixed.slots,
+        reward: fixed.reward,
+        tables,
+    }
+}
+
+// Lets a split stand at an end under which a slot is free.
+fn stand(problem: &Problem, fixed: &Fixed, tables: &mut Tables, split: u16, end: End)
+    requires fixed { IsFixed problem.now fixed.now }
+    requires standing { IsStanding problem.now tables.old }
+    requires unshipped { place_of (state_of tables.old) split ≡ Unshipped }
+    requires split { split < length problem.now.splits }
+    requires tight { StartsTight problem.now (state_of tables.old) split end }
+    requires free { 0 < at_node tables.old.below end.node }
+    ensures standing { IsStanding problem.now tables.new }
+    ensures shipped { place_of (state_of tables.new) split ≢ Unshipped }
+    ensures others { AreOthersSame (state_of tables.old) (state_of tables.new) split }
+{
+    take_below(problem, &fixed.children, tables, end.node);
+    place(problem, tables, split, Place::Stands(end));
+}
+
+// Searches the cheapest way for a split, and moves units along it.
+fn search_and_follow(
+    problem: &Problem,
+    fixed: &Fixed,
+    tables: &mut Tables,
+    search: &mut Search,
+    split: u16,
+)
+    requires fixed { IsFixed problem.now fixed.now }
+    requires standing { IsStanding problem.now tables.old }
+    requires blank { IsBlank problem.now.tree (length fixed.now.nodes.items) search.old }
+    requires split { split < length problem.now.splits }
+    requires unshipped { place_of (state_of tables.old) split ≡ Unshipped }
+    ensures standing { IsStanding problem.now tables.new }
+    ensures shipped { place_of (state_of tables.new) split ≢ Unshipped }
+    ensures others { AreOthersSame (state_of tables.old) (state_of tables.new) split }
+    ensures blank { IsBlank problem.now.tree (length fixed.now.nodes.items) search.new }
+{
+    find(problem, fixed, tables, search, split);
+    deepen(problem, fixed.reward, &mut tables.depth, search);
+    follow(problem, &fixed.children, tables, search);
+    search.clear(problem.tree());
+}
+
+// Searches a cheapest way for a split, which costs nothing once the nodes lie deeper.
+fn find(problem: &Problem, fixed: &Fixed, tables: &Tables, search: &mut Search, split: u16)
+    requires fixed { IsFixed problem.now fixed.now }
+    requires standing { IsStanding problem.now tables.now }
+    requires blank { IsBlank problem.now.tree (length fixed.now.nodes.items) search.old }
+    requires split { split < length problem.now.splits }
+    requires unshipped { place_of (state_of tables.now) split ≡ Unshipped }
+    ensures split { search.new.split ≡ split }
+    ensures tables { HasTables problem.now.tree search.new }
+    ensures reached { HasReached problem.now.tree search.new }
+    ensures room { length search.new.reached.nodes.items ≡ length fixed.now.nodes.items }
+    ensures bound { search.new.bound ≤ search.new.limit }
+    ensures limit { search.new.limit ≤ reward problem.now }
+    ensures ready { (depth : NodeTable ℕ) → AreDeeper (reward problem.now) tables.now.depth search.new depth
+        → IsReady problem.now (with_depth (state_of tables.now) depth) search.new }
+{
+    find_way(&ground_of(problem, fixed, tables), search, split);
+}
+
+/// Ships the split of this number, unless it is shipped already, by a search that is blank before and after.
+pub fn ship_once(
+    problem: &Problem,
+    fixed: &Fixed,
+    tables: &mut Tables,
+    search: &mut Search,
+    split: u16,
+)
+    requires fixed { IsFixed problem.now fixed.now }
+    requires standing { IsStanding problem.now tables.old }
+    requires blank { IsBlank problem.now.tree (length fixed.now.nodes.items) search.old }
+    requires split { split < length problem.now.splits }
+    ensures standing { IsStanding problem.now tables.new }
+    ensures shipped { place_of (state_of tables.new) split ≢ Unshipped }
+    ensures others { AreOthersSame (state_of tables.old) (state_of tables.new) split }
+    ensures blank { IsBlank problem.now.tree (length fixed.now.nodes.items) search.new }
+{
+    if let Place::Unshipped = place_at(tables, split as usize) {
+        ship(problem, fixed, tables, search, split);
+    }
+}
+
+// Ships the splits in the order in which the fewest searches are needed.
+fn ship_in_order(
     alloc: Global,
     problem: &Problem,
     fixed: &Fixed,
     tables: &mut Tables,
-    split: u16,
 ) -> Result<(), AllocError>
     requires fixed { IsFixed problem.now fixed.now }
     requires standing { IsStanding problem.now tables.old }
-    requires split { split < length problem.now.splits }
-    requires unshipped { place_of (state_of tables.old) split ≡ Unshipped }
-    ensures standing { OnOk result (IsStanding problem.now tables.new) }
-    ensures shipped { OnOk result (place_of (state_of tables.new) split ≢ Unshipped) }
-    ensures others { OnOk result (AreOthersSame (state_of tables.old) (state_of tables.new) split) }
-    ensures err { OnErr result (tables.new ≡ tables.old) }
+    ensures { IsStanding problem.now tables.new }
 {
-    let (search, depth) = way_and_depths(alloc, problem, fixed, tables, split)?;
-    tables.depth = depth;
-    follow(problem, tables, &search);
+    let mut search = Search::new(alloc, problem.tree(), fixed.nodes.len())?;
+    let order = shipping_order(alloc, problem, fixed.slots.get(TreeNode::Cluster))?;
+    for split in &order {
+        if (*split as usize) < problem.splits() {
+            ship_once(problem, fixed, tables, &mut search, *split);
+        }
+    }
     Ok(())
 }
 
-// A cheapest way for a split, and the depths with which it costs nothing.
-fn way_and_depths(
+/// Ships the splits that are not shipped yet, or lets them wait. Where there are none, no memory is needed.
+pub fn ship_rest(
     alloc: Global,
     problem: &Problem,
     fixed: &Fixed,
-    tables: &Tables,
-    split: u16,
-) -> Result<(Search, NodeTable<u64>), AllocError>
+    tables: &mut Tables,
+) -> Result<(), AllocError>
     requires fixed { IsFixed problem.now fixed.now }
-    requires standing { IsStanding problem.now tables.now }
-    requires split { split < length problem.now.splits }
-    requires unshipped { place_of (state_of tables.now) split ≡ Unshipped }
-    ensures split { IfOk result (λ pair. pair.0.split ≡ split) }
-    ensures how { IfOk result (λ pair. IsOver problem.now.tree pair.0.how) }
-    ensures over { IfOk result (λ pair. IsOver problem.now.tree pair.1) }
-    ensures low { IfOk result (λ pair. (v : TreeNode) → at_node pair.1 v ≤ reward problem.now) }
-    ensures ready { IfOk result
-        (λ pair. IsReady problem.now (with_depth (state_of tables.now) pair.1) pair.0) }
+    requires standing { IsStanding problem.now tables.old }
+    ensures standing { IsStanding problem.now tables.new }
+    ensures shipped { OnOk result ((s : ℕ) → s < length problem.now.splits
+        → place_of (state_of tables.new) s ≢ Unshipped) }
 {
-    let ground = Ground {
-        problem,
-        nodes: &fixed.nodes,
-        ends: &fixed.ends,
-        slots: &fixed.slots,
-        tables,
-    };
-    way_over(alloc, &ground, split)
+    if are_shipped(problem, tables) {
+        return Ok(());
+    }
+    ship_each(alloc, problem, fixed, tables)
 }
 
-fn way_over(
-    alloc: Global,
-    ground: &Ground<'_>,
-    split: u16,
-) -> Result<(Search, NodeTable<u64>), AllocError>
-    requires ground { IsGround ground.now }
-    requires split { split < length (wave_of ground.now).splits }
-    requires unshipped { place_of (state_at ground.now) split ≡ Unshipped }
-    ensures split { IfOk result (λ pair. pair.0.split ≡ split) }
-    ensures how { IfOk result (λ pair. IsOver (wave_of ground.now).tree pair.0.how) }
-    ensures over { IfOk result (λ pair. IsOver (wave_of ground.now).tree pair.1) }
-    ensures low { IfOk result (λ pair. (v : TreeNode) → at_node pair.1 v ≤ reward (wave_of ground.now)) }
-    ensures ready { IfOk result
-        (λ pair. IsReady (wave_of ground.now) (with_depth (state_at ground.now) pair.1) pair.0) }
+// Whether all splits are shipped, or wait.
+fn are_shipped(problem: &Problem, tables: &Tables) -> bool
+    requires { IsStanding problem.now tables.now }
+    ensures { IsTrue result → (s : ℕ) → s < length problem.now.splits
+        → place_of (state_of tables.now) s ≢ Unshipped }
 {
-    let search = find_way(alloc, ground, split)?;
-    let depth = deeper(alloc, ground, &search)?;
-    Ok((search, depth))
+    for s in 0..problem.splits() {
+        if let Place::Unshipped = place_at(tables, s) {
+            return false;
+        }
+    }
+    true
+}
+
+fn ship_each(
+    alloc: Global,
+    problem: &Problem,
+    fixed: &Fixed,
+    tables: &mut Tables,
+) -> Result<(), AllocError>
+    requires fixed { IsFixed problem.now fixed.now }
+    requires standing { IsStanding problem.now tables.old }
+    ensures standing { IsStanding problem.now tables.new }
+    ensures shipped { OnOk result ((s : ℕ) → s < length problem.now.splits
+        → place_of (state_of tables.new) s ≢ Unshipped) }
+{
+    let mut search = Search::new(alloc, problem.tree(), fixed.nodes.len())?;
+    for s in 0..problem.splits() {
+        ship_once(problem, fixed, tables, &mut search, s as u16);
+    }
+    Ok(())
 }
 
 // All splits shipped, or left to wait.
@@ -127,18 +271,19 @@ fn all_shipped(alloc: Global, problem: &Problem, fixed: &Fixed) -> Result<Tables
         → place_of (state_of tables) s ≢ Unshipped) }
 {
     let mut tables = fresh_tables(alloc, problem)?;
-    for s in 0..problem.splits() {
-        ship(alloc, problem, fixed, &mut tables, s as u16)?;
-    }
+    ship_in_order(alloc, problem, fixed, &mut tables)?;
+    ship_rest(alloc, problem, fixed, &mut tables)?;
     Ok(tables)
 }
 
 /// A plan that starts as many splits as any admissible assignment, at the least cost among those, with
-/// prices that certify it. Only memory can fail.
+/// prices that certify it; slots that nobody can take have no price. Only memory can fail.
 pub fn plan(alloc: Global, problem: &Problem) -> Result<(Plan, Prices), AllocError>
     ensures sizes { IfOk result
         (λ pair. HasOneSize (claim problem.now pair.0.starts pair.1) pair.0.workers) }
     ensures certifies { IfOk result (λ pair. Certifies (claim problem.now pair.0.starts pair.1)) }
+    ensures idle { IfOk result (λ pair. (w : ℕ) → (IsUsable problem.now.workers w → ⊥)
+        → worker_price pair.1 w ≡ 0) }
     ensures best { IfOk result (λ pair. IsBest problem.now (pairs_of pair.0.starts)) }
 {
     problem.limits();
@@ -161,11 +306,13 @@ pub fn read_off(
     ensures sizes { IfOk result
         (λ pair. HasOneSize (claim problem.now pair.0.starts pair.1) pair.0.workers) }
     ensures certifies { IfOk result (λ pair. Certifies (claim problem.now pair.0.starts pair.1)) }
+    ensures idle { IfOk result (λ pair. (w : ℕ) → (IsUsable problem.now.workers w → ⊥)
+        → worker_price pair.1 w ≡ 0) }
     ensures best { IfOk result (λ pair. IsBest problem.now (pairs_of pair.0.starts)) }
 {
     problem.limits();
-    let starts = all_starts(alloc, problem, &fixed.nodes, tables)?;
+    let starts = all_starts(alloc, problem, &fixed.nodes, &fixed.children, tables)?;
     let plan = Plan::from_starts(starts, problem.workers());
-    let prices = prices_of(alloc, problem, tables, &plan)?;
+    let prices = prices_of(alloc, problem, fixed.reward, tables, &plan)?;
     Ok((plan, prices))
 }

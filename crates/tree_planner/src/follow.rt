@@ -1,57 +1,62 @@
 //! Units moved along the way that a search found.
-ghost use Rattle.std.specs.Prelude.{◌≡◌, ◌+◌, ◌<◌, IfOk, MatchOption, length};
-ghost use Rattle.tree_planner.specs.declared.nodes.End.{End};
-ghost use Rattle.tree_planner.specs.declared.nodes.Place.TheVariants.{Stands};
-ghost use Rattle.tree_planner.specs.Moves.{IsFlowSet, IsPlaced, IsTaken};
-ghost use Rattle.tree_planner.specs.Nodes.{IsNode};
-ghost use Rattle.tree_planner.specs.Searching.{order_at, wave_of, IsGround, IsSearched};
-ghost use Rattle.tree_planner.specs.State.{place_of};
-ghost use Rattle.tree_planner.specs.Table.{HasNode, IsOver, IsSized};
-ghost use Rattle.tree_planner.specs.View.{state_of, AreTables};
-ghost use Rattle.tree_planner.specs.Way.{AreDeeper, AreOthersSame, IsDeeper, IsFollowing, IsReady, IsShipped};
+ghost use Rattle.std.specs.Prelude.{◌≡◌, ◌≢◌, ℕ, ◌+◌, ◌-◌, ◌^◌, ◌<◌, ◌≤◌, min, MatchOption, length};
+ghost use Rattle.tree_flow.specs.declared.nodes.End.{End};
+ghost use Rattle.tree_flow.specs.declared.nodes.Place.TheVariants.{Stands};
+ghost use Rattle.tree_flow.specs.Moves.{IsFlowSet, IsPlaced, IsTaken};
+ghost use Rattle.tree_flow.specs.Nodes.{IsKnown, IsNode};
+ghost use Rattle.tree_planner.specs.Hanging.{AreChildren};
+ghost use Rattle.tree_planner.specs.Searching.{order_at, HasReached};
+ghost use Rattle.tree_flow.specs.State.{place_of};
+ghost use Rattle.tree_flow.specs.Table.{at_node, IsOver};
+ghost use Rattle.tree_planner.specs.Listing.{AreLists, HasListed};
+ghost use Rattle.tree_planner.specs.View.{state_of, AreListed, AreOnNodes, AreTables};
+ghost use Rattle.tree_planner.specs.Way.{AreDeeper, AreOthersSame, IsFollowing, IsReady, IsShipped};
 
-use crate::node_table::NodeTable;
-use crate::nodes::{End, Place, TreeNode};
-use crate::search::{Goal, Ground, Search, Step};
-use crate::tables::Tables;
+use crate::children::Children;
+use crate::down::take_below;
+use crate::search::{Goal, Search, Step};
+use crate::tables::{Tables, one_less_above};
 use crate::tree_nodes::parent;
-use std::alloc::{AllocError, Global};
+use node_ids::WorkerNo;
+use tree_flow::{End, NodeTable, Place, TreeNode};
 use wave_problem::Problem;
 
-/// The depths after a search.
-pub fn deeper(
-    alloc: Global,
-    ground: &Ground<'_>,
-    search: &Search,
-) -> Result<NodeTable<u64>, AllocError>
-    requires ground { IsGround ground.now }
-    requires searched { IsSearched ground.now search.now }
-    ensures over { IfOk result (λ depth. IsOver (wave_of ground.now).tree depth) }
-    ensures deeper { IfOk result (λ depth. AreDeeper ground.now search.now depth) }
+/// After a search each node that is nearer than the end of the way lies deeper by the rest, and none deeper
+/// than the reward.
+pub fn deepen(problem: &Problem, reward: u64, depth: &mut NodeTable<u64>, search: &Search)
+    requires over { IsOver problem.now.tree depth.old }
+    requires small { reward < 2 ^ 40 }
+    requires low { (v : TreeNode) → at_node depth.old v ≤ reward }
+    requires bound { search.now.bound ≤ search.now.limit }
+    requires limit { search.now.limit ≤ reward }
+    requires far { IsOver problem.now.tree search.now.far }
+    requires reached { HasReached problem.now.tree search.now }
+    ensures over { IsOver problem.now.tree depth.new }
+    ensures low { (v : TreeNode) → at_node depth.new v ≤ reward }
+    ensures deeper { AreDeeper reward depth.old search.now depth.new }
 {
-    let mut depth = NodeTable::new(alloc, ground.problem.tree(), 0)?;
-    for node in ground.nodes {
-        depth.set(*node, deeper_at(ground, search, *node));
+    let _ = problem;
+    for k in 0..search.reached.count {
+        let node = search.reached.at(k);
+        let deep = deepened(reward, depth.get(node), search.bound, search.far.get(node));
+        depth.set(node, deep);
     }
-    Ok(depth)
 }
 
-// How deep a node lies after a search.
-fn deeper_at(ground: &Ground<'_>, search: &Search, node: TreeNode) -> u64
-    requires ground { IsGround ground.now }
-    requires searched { IsSearched ground.now search.now }
-    requires known { IsNode (wave_of ground.now).tree node }
-    ensures { IsDeeper ground.now search.now node result }
+// How deep a node at this depth lies then, if it is so far and the end of the way is at the bound.
+fn deepened(reward: u64, depth: u64, bound: u64, far: u64) -> u64
+    requires small { reward < 2 ^ 40 }
+    requires low { depth ≤ reward }
+    requires near { bound ≤ reward }
+    ensures { result ≡ min reward (depth + (bound - far)) }
 {
-    let rest = search.bound - search.bound.min(search.far.get(node));
-    ground
-        .problem
-        .reward()
-        .min(ground.tables.depth.get(node) + rest)
+    reward.min(depth + bound.saturating_sub(far))
 }
 
 /// Moves units along the way that a search found, from its end back, until the split is shipped.
-pub fn follow(problem: &Problem, tables: &mut Tables, search: &Search)
+pub fn follow(problem: &Problem, children: &Children, tables: &mut Tables, search: &Search)
+    requires children { AreChildren problem.now.tree children.now }
+    requires wave { IsKnown problem.now }
     requires tables { AreTables problem.now tables.old }
     requires how { IsOver problem.now.tree search.now.how }
     requires split { search.now.split < length problem.now.splits }
@@ -61,14 +66,21 @@ pub fn follow(problem: &Problem, tables: &mut Tables, search: &Search)
     ensures shipped { IsShipped problem.now (state_of tables.new) search.now.split }
     ensures others { AreOthersSame (state_of tables.old) (state_of tables.new) search.now.split }
 {
-    let mut hole = take_end(problem, tables, search);
+    let mut hole = take_end(problem, children, tables, search);
     while let Some(node) = hole {
         hole = step_back(problem, tables, search, node);
     }
 }
 
 // Takes what the way ends in: a hole is left at its last node, if it has one.
-fn take_end(problem: &Problem, tables: &mut Tables, search: &Search) -> Option<TreeNode>
+fn take_end(
+    problem: &Problem,
+    children: &Children,
+    tables: &mut Tables,
+    search: &Search,
+) -> Option<TreeNode>
+    requires children { AreChildren problem.now.tree children.now }
+    requires wave { IsKnown problem.now }
     requires tables { AreTables problem.now tables.old }
     requires split { search.now.split < length problem.now.splits }
     requires ready { IsReady problem.now (state_of tables.old) search.now }
@@ -81,16 +93,16 @@ fn take_end(problem: &Problem, tables: &mut Tables, search: &Search) -> Option<T
 {
     match search.goal {
         Goal::Wait => {
-            place(tables, search.split, Place::Waits);
+            place(problem, tables, search.split, Place::Waits);
             None
         }
-        Goal::Slot(worker) => {
-            take_slot(problem, tables, worker);
-            Some(TreeNode::Worker(worker))
+        Goal::Slot(node) => {
+            take_below(problem, children, tables, node);
+            Some(node)
         }
         Goal::Off(split) => {
             let end = stood_at(tables, split);
-            place(tables, split, Place::Waits);
+            place(problem, tables, split, Place::Waits);
             Some(end.node)
         }
     }
@@ -118,29 +130,34 @@ fn step_back(
     problem.limits();
     match search.how.get(node) {
         Step::Start(level) => {
-            place(tables, search.split, Place::Stands(End { node, level }));
+            place(
+                problem,
+                tables,
+                search.split,
+                Place::Stands(End { node, level }),
+            );
             None
         }
         Step::Down => {
             let units = tables.flow.get(node) + 1;
-            set_flow(tables, node, units);
+            set_flow(problem, tables, node, units);
             Some(parent(problem.tree(), node))
         }
         Step::Up(below) => {
             let units = tables.flow.get(below) - 1;
-            set_flow(tables, below, units);
+            set_flow(problem, tables, below, units);
             Some(below)
         }
         Step::Over(split, level) => {
             let end = stood_at(tables, split);
-            place(tables, split, Place::Stands(End { node, level }));
+            place(problem, tables, split, Place::Stands(End { node, level }));
             Some(end.node)
         }
     }
 }
 
-// Where a split stands.
-fn stood_at(tables: &Tables, split: u16) -> End
+/// Where a split stands.
+pub fn stood_at(tables: &Tables, split: u16) -> End
     requires split { split < length tables.now.places.items }
     requires stands { (e : End) × (place_of (state_of tables.now) split ≡ Stands e) }
     ensures { place_of (state_of tables.now) split ≡ Stands result }
@@ -151,28 +168,107 @@ fn stood_at(tables: &Tables, split: u16) -> End
     }
 }
 
-// Gives a split another place.
-fn place(tables: &mut Tables, split: u16, place: Place)
-    requires { split < length tables.old.places.items }
+/// Gives a split another place.
+pub fn place(problem: &Problem, tables: &mut Tables, split: u16, place: Place)
+    requires tables { AreTables problem.now tables.old }
+    requires split { split < length problem.now.splits }
+    requires known { (e : End) → place ≡ Stands e → IsNode problem.now.tree e.node }
     ensures placed { IsPlaced (state_of tables.old) (state_of tables.new) split place }
-    ensures rest { tables.new ≡ record tables.old { places = tables.new.places } }
-    ensures size { length tables.new.places.items ≡ length tables.old.places.items }
+    ensures tables { AreTables problem.now tables.new }
+    ensures depth { tables.new.depth ≡ tables.old.depth }
 {
     tables.places[split as usize] = place;
+    if let Place::Stands(end) = place {
+        list(problem, tables, split, end.node);
+    }
 }
 
-// Gives a node other units.
-fn set_flow(tables: &mut Tables, node: TreeNode, units: u64)
-    requires { HasNode tables.old.flow node }
-    ensures set { IsFlowSet (state_of tables.old) (state_of tables.new) node units }
-    ensures rest { tables.new ≡ record tables.old { flow = tables.new.flow } }
-    ensures size { IsSized tables.old.flow tables.new.flow }
+// Puts a split that stands on a node on its list; where no cell is left, all lists are made anew.
+fn list(problem: &Problem, tables: &mut Tables, split: u16, node: TreeNode)
+    requires places { length tables.old.places.items ≡ length problem.now.splits }
+    requires lists { AreLists problem.now.tree (length problem.now.splits) tables.old.standing }
+    requires known { AreOnNodes problem.now tables.old }
+    requires split { split < length problem.now.splits }
+    requires stands { (e : End) → place_of (state_of tables.old) split ≡ Stands e → e.node ≡ node }
+    requires node { IsNode problem.now.tree node }
+    requires others { (s : ℕ) (e : End) → s ≢ split → place_of (state_of tables.old) s ≡ Stands e
+        → HasListed tables.old.standing e.node s }
+    ensures rest { tables.new ≡ record tables.old { standing = tables.new.standing } }
+    ensures lists { AreLists problem.now.tree (length problem.now.splits) tables.new.standing }
+    ensures listed { AreListed tables.new }
 {
+    if tables.standing.is_full() {
+        list_all(problem, tables);
+    } else {
+        tables
+            .standing
+            .add(problem.tree(), problem.splits(), node, split);
+    }
+}
+
+// Makes all lists anew.
+fn list_all(problem: &Problem, tables: &mut Tables)
+    requires places { length tables.old.places.items ≡ length problem.now.splits }
+    requires lists { AreLists problem.now.tree (length problem.now.splits) tables.old.standing }
+    requires known { AreOnNodes problem.now tables.old }
+    ensures rest { tables.new ≡ record tables.old { standing = tables.new.standing } }
+    ensures lists { AreLists problem.now.tree (length problem.now.splits) tables.new.standing }
+    ensures listed { AreListed tables.new }
+{
+    tables.standing.clear(problem.tree(), problem.splits());
+    for s in 0..problem.splits() {
+        list_again(problem, tables, s as u16);
+    }
+}
+
+// Puts a split on the list of the node on which it stands, if it stands.
+fn list_again(problem: &Problem, tables: &mut Tables, split: u16)
+    requires places { length tables.old.places.items ≡ length problem.now.splits }
+    requires lists { AreLists problem.now.tree (length problem.now.splits) tables.old.standing }
+    requires known { AreOnNodes problem.now tables.old }
+    requires split { split < length problem.now.splits }
+    requires few { tables.old.standing.used ≤ split }
+    ensures rest { tables.new ≡ record tables.old { standing = tables.new.standing } }
+    ensures lists { AreLists problem.now.tree (length problem.now.splits) tables.new.standing }
+    ensures few { tables.new.standing.used ≤ split + 1 }
+    ensures here { (e : End) → place_of (state_of tables.old) split ≡ Stands e
+        → HasListed tables.new.standing e.node split }
+    ensures others { (v : TreeNode) (t : ℕ) → HasListed tables.old.standing v t
+        → HasListed tables.new.standing v t }
+{
+    if let Place::Stands(end) = tables.places[split as usize] {
+        tables
+            .standing
+            .add(problem.tree(), problem.splits(), end.node, split);
+    }
+}
+
+/// Gives a node other units.
+pub fn set_flow(problem: &Problem, tables: &mut Tables, node: TreeNode, units: u64)
+    requires tables { AreTables problem.now tables.old }
+    requires known { IsNode problem.now.tree node }
+    ensures set { IsFlowSet (state_of tables.old) (state_of tables.new) node units }
+    ensures tables { AreTables problem.now tables.new }
+    ensures depth { tables.new.depth ≡ tables.old.depth }
+{
+    let _ = problem;
     tables.flow.set(node, units);
 }
 
-// Takes a free slot of a worker.
-fn take_slot(problem: &Problem, tables: &mut Tables, worker: u16)
+/// Takes a free slot of a worker.
+pub fn take_slot(problem: &Problem, tables: &mut Tables, worker: u16)
+    requires tables { AreTables problem.now tables.old }
+    requires known { worker < length problem.now.workers }
+    requires some { 0 < (state_of tables.old).free worker }
+    ensures taken { IsTaken problem.now (state_of tables.old) (state_of tables.new) worker }
+    ensures tables { AreTables problem.now tables.new }
+    ensures depth { tables.new.depth ≡ tables.old.depth }
+{
+    take_free(problem, tables, worker);
+    one_less_above(problem, &mut tables.below, WorkerNo::new(worker));
+}
+
+fn take_free(problem: &Problem, tables: &mut Tables, worker: u16)
     requires known { worker < length problem.now.workers }
     requires size { length tables.old.free.items ≡ length problem.now.workers }
     requires some { 0 < (state_of tables.old).free worker }

@@ -1,22 +1,22 @@
 //! Units handed down to workers.
-ghost use Rattle.std.specs.Prelude.{◌≡◌, ◌≢◌, ℕ, ◌<◌, ◌≤◌, ◌++◌, ◌∷◌, [], IfOk, IfSome, IsTrue, All, length, ◌↔◌, None};
-ghost use Rattle.tree_planner.specs.declared.nodes.End.{End};
-ghost use Rattle.tree_planner.specs.declared.nodes.Place.TheVariants.{Unshipped};
-ghost use Rattle.tree_planner.specs.declared.nodes.TreeNode.{TreeNode};
-ghost use Rattle.tree_planner.specs.declared.nodes.TreeNode.TheVariants.{Cluster, Worker};
+ghost use Rattle.std.specs.Prelude.{◌≡◌, ◌≢◌, ℕ, ◌<◌, ◌≤◌, ◌++◌, ◌∷◌, [], IfOk, IfSome, All, length, None};
+ghost use Rattle.tree_flow.specs.declared.nodes.End.{End};
+ghost use Rattle.tree_flow.specs.declared.nodes.Place.TheVariants.{Unshipped};
+ghost use Rattle.tree_flow.specs.declared.nodes.TreeNode.{TreeNode};
+ghost use Rattle.tree_flow.specs.declared.nodes.TreeNode.TheVariants.{Cluster, Worker};
+ghost use Rattle.tree_planner.specs.Hanging.{AreChildren};
 ghost use Rattle.tree_planner.specs.Handing.{landed, HasUnitAt, IsHandedTo, IsUnitAt};
-ghost use Rattle.tree_planner.specs.Nodes.{parent, AreNodes, IsKnown, IsNode};
-ghost use Rattle.tree_planner.specs.Settled.{HasComeDown, IsHandedDown};
-ghost use Rattle.tree_planner.specs.State.{State, place_of, IsBalancedBut, IsKept};
-ghost use Rattle.tree_planner.specs.Table.{at_node, IsOver};
+ghost use Rattle.tree_flow.specs.Nodes.{parent, AreNodes, IsKnown, IsNode};
+ghost use Rattle.tree_flow.specs.Settled.{HasComeDown, IsHandedDown};
+ghost use Rattle.tree_flow.specs.State.{State, place_of, IsBalancedBut, IsKept};
+ghost use Rattle.tree_flow.specs.Table.{at_node, IsOver};
 ghost use Rattle.tree_planner.specs.View.{state_of, AreTables};
 
-use crate::node_table::NodeTable;
-use crate::nodes::{Place, TreeNode};
+use crate::children::Children;
 use crate::tables::Tables;
-use crate::tree_nodes::{is_same, parent};
 use node_ids::WorkerNo;
 use std::alloc::{AllocError, Global};
+use tree_flow::{NodeTable, Place, TreeNode};
 use wave_problem::Problem;
 
 /// The start of each split: where one stands, a worker to which its unit goes down.
@@ -24,9 +24,11 @@ pub fn all_starts(
     alloc: Global,
     problem: &Problem,
     nodes: &[TreeNode],
+    children: &Children,
     tables: &Tables,
 ) -> Result<Vec<Option<WorkerNo>>, AllocError>
     requires nodes { AreNodes problem.now.tree nodes.now }
+    requires children { AreChildren problem.now.tree children.now }
     requires tables { AreTables problem.now tables.now }
     requires kept { IsKept problem.now (state_of tables.now) }
     requires shipped { (s : ℕ) → s < length problem.now.splits
@@ -37,9 +39,9 @@ pub fn all_starts(
 {
     problem.limits();
     let mut left = copy_of(alloc, problem, nodes, &tables.flow)?;
-    let mut starts = Vec::new(alloc);
+    let mut starts = Vec::with_capacity(alloc, problem.splits())?;
     for _k in 0..problem.splits() {
-        let start = next_start(problem, nodes, tables, &mut left, &starts);
+        let start = next_start(problem, children, tables, &mut left, &starts);
         starts.push(start)?;
     }
     Ok(starts)
@@ -48,12 +50,12 @@ pub fn all_starts(
 // The start of the split after those that have theirs.
 fn next_start(
     problem: &Problem,
-    nodes: &[TreeNode],
+    children: &Children,
     tables: &Tables,
     left: &mut NodeTable<u64>,
     starts: &[Option<WorkerNo>],
 ) -> Option<WorkerNo>
-    requires nodes { AreNodes problem.now.tree nodes.now }
+    requires children { AreChildren problem.now.tree children.now }
     requires tables { AreTables problem.now tables.now }
     requires shipped { (s : ℕ) → s < length problem.now.splits
         → place_of (state_of tables.now) s ≢ Unshipped }
@@ -67,15 +69,15 @@ fn next_start(
 {
     match place_at(tables, starts.len()) {
         Place::Stands(end) => {
-            let worker = go_down(problem, nodes, left, end.node);
+            let worker = go_down(problem, children, left, end.node);
             Some(WorkerNo::new(worker))
         }
         _ => None,
     }
 }
 
-// Where a split is.
-fn place_at(tables: &Tables, split: usize) -> Place
+/// Where a split is.
+pub fn place_at(tables: &Tables, split: usize) -> Place
     requires { split < length tables.now.places.items }
     ensures { result ≡ place_of (state_of tables.now) split }
 {
@@ -83,8 +85,8 @@ fn place_at(tables: &Tables, split: usize) -> Place
 }
 
 // The worker to which a unit goes down from a node; on the way it is taken from what comes to each node.
-fn go_down(problem: &Problem, nodes: &[TreeNode], left: &mut NodeTable<u64>, node: TreeNode) -> u16
-    requires nodes { AreNodes problem.now.tree nodes.now }
+fn go_down(problem: &Problem, children: &Children, left: &mut NodeTable<u64>, node: TreeNode) -> u16
+    requires children { AreChildren problem.now.tree children.now }
     requires known { IsNode problem.now.tree node }
     requires over { IsOver problem.now.tree left.old }
     requires unit { HasUnitAt problem.now left.old node }
@@ -100,43 +102,36 @@ fn go_down(problem: &Problem, nodes: &[TreeNode], left: &mut NodeTable<u64>, nod
     if let TreeNode::Worker(worker) = node {
         return worker;
     }
-    let below = unit_below(problem, nodes, left, node);
+    let below = unit_below(problem, children, left, node);
     let units = left.get(below) - 1;
     left.set(below, units);
-    go_down(problem, nodes, left, below)
+    go_down(problem, children, left, below)
 }
 
 // A node to which units come from the one from which it hangs.
 fn unit_below(
     problem: &Problem,
-    nodes: &[TreeNode],
+    children: &Children,
     left: &NodeTable<u64>,
     node: TreeNode,
 ) -> TreeNode
-    requires nodes { AreNodes problem.now.tree nodes.now }
+    requires children { AreChildren problem.now.tree children.now }
     requires over { IsOver problem.now.tree left.now }
     requires unit { HasUnitAt problem.now left.now node }
     requires inner { (w : ℕ) → node ≢ Worker w }
+    requires known { IsNode problem.now.tree node }
     requires racks { IsKnown problem.now }
     ensures known { IsNode problem.now.tree result }
     ensures above { parent problem.now.tree result ≡ node }
     ensures hangs { result ≢ Cluster }
     ensures some { 0 < at_node left.now result }
 {
-    for below in nodes {
-        if has_unit(problem, left, node, *below) {
+    for below in children.of(problem.tree(), node) {
+        if left.get(*below) > 0 {
             return *below;
         }
     }
     unreachable!()
-}
-
-fn has_unit(problem: &Problem, left: &NodeTable<u64>, node: TreeNode, below: TreeNode) -> bool
-    requires over { IsOver problem.now.tree left.now }
-    requires known { IsNode problem.now.tree below }
-    ensures { IsTrue result ↔ ((parent problem.now.tree below ≡ node) × (0 < at_node left.now below)) }
-{
-    is_same(parent(problem.tree(), below), node) && left.get(below) > 0
 }
 
 // Another table with the same numbers.

@@ -1,19 +1,32 @@
 //! A plan that is kept while splits are shipped one after another.
-ghost use Rattle.std.specs.Prelude.{◌≡◌, ◌≢◌, ℕ, ◌<◌, IfOk, OnOk, OnErr, length};
-ghost use Rattle.price_certificate.specs.Certificate.{claim, Certifies, HasOneSize};
-ghost use Rattle.tree_planner.specs.declared.nodes.Place.TheVariants.{Unshipped};
+ghost use Rattle.std.specs.Prelude.{◌≡◌, ◌≢◌, ℕ, ◌<◌, ◌≤◌, false, true, All, IfOk, IfSome, OnOk, OnErr, None, length};
+ghost use Rattle.wave_problem.specs.declared.TheConstants.{MAX_SLOTS};
+ghost use Rattle.wave_problem.specs.Wave.{split_at, worker_at, IsAdmissible, IsUsable};
+ghost use Rattle.price_certificate.specs.Certificate.{claim, worker_price, Certifies, HasOneSize};
+ghost use Rattle.tree_flow.specs.declared.nodes.End.{End};
+ghost use Rattle.tree_flow.specs.declared.nodes.Place.TheVariants.{Stands, Unshipped};
+ghost use Rattle.tree_planner.specs.Events.{slot_less, slot_more, started, with_pending};
+ghost use Rattle.tree_planner.specs.Going.{turned, HasSameGround};
+ghost use Rattle.tree_planner.specs.WayBack.{AreAllSame};
 ghost use Rattle.tree_planner.specs.Shown.{state_in};
-ghost use Rattle.tree_planner.specs.State.{place_of, IsKept};
+ghost use Rattle.tree_flow.specs.State.{place_of, IsKept};
 ghost use Rattle.tree_planner.specs.Way.{AreOthersSame};
 ghost use Rattle.wave_problem.specs.Assignment.{pairs_of, IsBest};
 
-use crate::engine::{Fixed, fixed_parts, read_off, ship};
+use crate::engine::{Fixed, fixed_parts, read_off, ship, ship_rest};
+use crate::events::{free, pass_over, pend, place_at, start};
+use crate::like::is_like;
+use crate::lose::lose;
+use crate::renewed::renew;
+use crate::search::Search;
 use crate::tables::{Tables, fresh_tables};
-use node_ids::SplitNo;
+use crate::turn::turn_to;
+use node_ids::{SplitNo, WorkerNo};
 use price_certificate::Prices;
 use std::alloc::{AllocError, Global};
 use std::marker::Model;
-use wave_problem::{Plan, Problem};
+use tree_flow::Place;
+use wave_problem::{Plan, Problem, WorkerLine};
 
 /// A problem, and the state of its splits. At every moment the state is kept to: the splits shipped so far
 /// stand at ends of theirs or wait, no slot is taken twice, and no other choice for them is cheaper.
@@ -67,8 +80,185 @@ impl Engine {
         ensures others { OnOk result (AreOthersSame (state_in self.old) (state_in self.new) split) }
         ensures err { OnErr result (self.new ≡ self.old) }
     {
+        let nodes = self.fixed.nodes.len();
+        let mut search = Search::new(alloc, self.problem.tree(), nodes)?;
         let split = split.index() as u16;
-        ship(alloc, &self.problem, &self.fixed, &mut self.tables, split)
+        ship(
+            &self.problem,
+            &self.fixed,
+            &mut self.tables,
+            &mut search,
+            split,
+        );
+        Ok(())
+    }
+
+    /// The wave for which the engine stands.
+    pub fn problem(&self) -> &Problem
+        ensures { result.now ≡ self.now.wave }
+    {
+        &self.problem
+    }
+
+    /// Ships the splits that are not shipped yet, or lets them wait. Without memory some may be left.
+    pub fn settle(&mut self, alloc: Global) -> Result<(), AllocError>
+        ensures wave { self.new.wave ≡ self.old.wave }
+        ensures shipped { OnOk result ((s : ℕ) → s < length self.old.wave.splits
+            → place_of (state_in self.new) s ≢ Unshipped) }
+    {
+        ship_rest(alloc, &self.problem, &self.fixed, &mut self.tables)
+    }
+
+    /// A slot of a worker comes back: a split that waits takes it, other splits change their places for it,
+    /// or it stays free. Without memory nothing changes.
+    pub fn free(&mut self, alloc: Global, worker: WorkerNo) -> Result<(), AllocError>
+        requires worker { worker < length self.old.wave.workers }
+        requires live { (worker_at self.old.wave worker).live ≡ true }
+        requires room { (worker_at self.old.wave worker).free < MAX_SLOTS }
+        ensures wave { OnOk result (self.new.wave ≡ slot_more self.old.wave worker) }
+        ensures same { OnOk result (AreAllSame (state_in self.old) (state_in self.new)) }
+        ensures err { OnErr result (self.new ≡ self.old) }
+    {
+        free(
+            alloc,
+            &mut self.problem,
+            &mut self.fixed,
+            &mut self.tables,
+            worker,
+        )
+    }
+
+    /// A slot of a worker goes away, as when the worker dies. Where none of its slots is free, a split that
+    /// would start on it is not shipped any more. Without memory the wave is as it was.
+    pub fn lose(&mut self, alloc: Global, worker: WorkerNo) -> Result<(), AllocError>
+        requires worker { worker < length self.old.wave.workers }
+        requires usable { IsUsable self.old.wave.workers worker }
+        ensures wave { OnOk result (self.new.wave ≡ slot_less self.old.wave worker) }
+        ensures err { OnErr result (self.new.wave ≡ self.old.wave) }
+    {
+        lose(
+            alloc,
+            &mut self.problem,
+            &mut self.fixed,
+            &mut self.tables,
+            worker,
+        )
+    }
+
+    /// Starts a split, where it stands, on the worker to which its unit goes: both are taken away, with the
+    /// slot. A split that waits, or is not shipped, starts nowhere, and nothing changes.
+    pub fn start(&mut self, alloc: Global, split: SplitNo) -> Option<WorkerNo>
+        requires { split < length self.old.wave.splits }
+        ensures wave { IfSome result (λ worker. self.new.wave ≡ started self.old.wave split worker) }
+        ensures admissible { IfSome result (λ worker. IsAdmissible self.old.wave split worker) }
+        ensures same { AreAllSame (state_in self.old) (state_in self.new) }
+        ensures none { result ≡ None → (self.new ≡ self.old)
+            × ((e : End) → place_of (state_in self.old) split ≢ Stands e) }
+    {
+        match place_at(&self.tables, split.index() as u16) {
+            Place::Stands(_) => {
+                let worker = start(
+                    alloc,
+                    &mut self.problem,
+                    &mut self.fixed,
+                    &mut self.tables,
+                    split,
+                );
+                Some(worker)
+            }
+            _ => None,
+        }
+    }
+
+    /// A split is not pending any more. Where it stands, it starts, and a slot is taken away with it.
+    pub fn set_aside(&mut self, alloc: Global, split: SplitNo)
+        requires { split < length self.old.wave.splits }
+        ensures { HasSameGround self.old.wave self.new.wave }
+    {
+        match self.start(alloc, split) {
+            Some(_) => (),
+            None => self.pass_over(alloc, split),
+        }
+    }
+
+    // A split that does not stand is not pending any more.
+    fn pass_over(&mut self, alloc: Global, split: SplitNo)
+        requires split { split < length self.old.wave.splits }
+        requires idle { (e : End) → place_of (state_in self.old) split ≢ Stands e }
+        ensures { self.new.wave ≡ with_pending self.old.wave split false }
+    {
+        pass_over(
+            alloc,
+            &mut self.problem,
+            &mut self.fixed,
+            &mut self.tables,
+            split,
+        );
+    }
+
+    /// A split that has started, or was never pending, is pending again. It is not shipped yet. Without
+    /// memory nothing changes.
+    pub fn pend(&mut self, alloc: Global, split: SplitNo) -> Result<(), AllocError>
+        requires split { split < length self.old.wave.splits }
+        requires idle { (split_at self.old.wave split).pending ≡ false }
+        ensures wave { OnOk result (self.new.wave ≡ with_pending self.old.wave split true) }
+        ensures unshipped { OnOk result (place_of (state_in self.new) split ≡ Unshipped) }
+        ensures others { OnOk result (AreOthersSame (state_in self.old) (state_in self.new) split) }
+        ensures err { OnErr result (self.new ≡ self.old) }
+    {
+        pend(
+            alloc,
+            &mut self.problem,
+            &mut self.fixed,
+            &mut self.tables,
+            split,
+        )
+    }
+
+    /// The engine goes over to another problem. Where that has the same tree, slots and bytes, as after a
+    /// change of holders, bars or pending splits, the splits whose ends stay the same stay where they are;
+    /// else none is shipped yet. Without memory the wave is as it was, and some splits may not be shipped any
+    /// more.
+    pub fn turn_to(&mut self, alloc: Global, problem: Problem) -> Result<(), AllocError>
+        ensures wave { OnOk result (self.new.wave ≡ problem) }
+        ensures err { OnErr result (self.new.wave ≡ self.old.wave) }
+    {
+        if is_like(&self.problem, &problem) {
+            return turn_to(
+                alloc,
+                &mut self.problem,
+                &mut self.fixed,
+                &mut self.tables,
+                problem,
+            );
+        }
+        let engine = Engine::new(alloc, problem)?;
+        *self = engine;
+        Ok(())
+    }
+
+    /// The engine goes over to other lines of its workers and other pending splits. No split is shipped then.
+    /// Without memory the wave is as it was.
+    pub fn renew(
+        &mut self,
+        alloc: Global,
+        lines: &[WorkerLine],
+        pending: &[bool],
+    ) -> Result<(), AllocError>
+        requires workers { length lines.now ≡ length self.old.wave.workers }
+        requires most { All (λ line. line.free ≤ MAX_SLOTS) lines.now }
+        requires splits { length pending.now ≡ length self.old.wave.splits }
+        ensures wave { OnOk result (self.new.wave ≡ turned self.old.wave lines.now pending.now) }
+        ensures err { OnErr result (self.new.wave ≡ self.old.wave) }
+    {
+        renew(
+            alloc,
+            &mut self.problem,
+            &mut self.fixed,
+            &mut self.tables,
+            lines,
+            pending,
+        )
     }
 
     /// The plan when every split is shipped, with prices that certify it.
@@ -77,6 +267,8 @@ impl Engine {
         ensures sizes { IfOk result
             (λ pair. HasOneSize (claim self.now.wave pair.0.starts pair.1) pair.0.workers) }
         ensures certifies { IfOk result (λ pair. Certifies (claim self.now.wave pair.0.starts pair.1)) }
+        ensures idle { IfOk result (λ pair. (w : ℕ) → (IsUsable self.now.wave.workers w → ⊥)
+            → worker_price pair.1 w ≡ 0) }
         ensures best { IfOk result (λ pair. IsBest self.now.wave (pairs_of pair.0.starts)) }
     {
         read_off(alloc, &self.problem, &self.fixed, &self.tables)

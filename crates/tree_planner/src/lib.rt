@@ -2,25 +2,36 @@
 //!
 //! A split stands on a node of the tree, from which its unit goes down to a worker, or it waits. Depths of
 //! the nodes show that no other choice is cheaper, so that prices read off them certify the plan. Upward the
-//! crate promises that `plan` finds a best plan with prices that certify it, and laws of such a state: each
-//! step of a search keeps it. It stands on `wave_problem` and the certificate of `price_certificate`.
+//! crate promises that `plan` finds a best plan with prices that certify it, and that `Engine` keeps one
+//! while splits start, slots come back and the wave changes: after an event and `settle` its plan is best for
+//! the wave that it then stands for. It stands on `tree_flow`, `wave_problem` and the certificate of
+//! `price_certificate`.
 #![tactic(auto)]
 
+mod back;
+mod children;
+mod choice;
+mod down;
 mod engine;
+mod events;
 mod follow;
+mod going;
 mod hand_down;
+mod keeping;
 mod kept;
-mod laws;
-mod node_table;
-mod nodes;
+mod like;
+mod lists;
+mod lose;
+mod order;
 mod prices;
+mod reached;
+mod refill;
+mod renewed;
 mod search;
 mod split_ends;
 mod tables;
 mod tree_nodes;
+mod turn;
 
 pub use engine::plan;
 pub use kept::Engine;
-pub use laws::{engine_certifies, lowers, moves, raises, slots, unit_goes_on};
-pub use node_table::NodeTable;
-pub use nodes::{End, Place, TreeNode};

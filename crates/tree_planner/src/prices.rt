@@ -2,8 +2,8 @@
 ghost use Rattle.std.specs.Prelude.{◌≡◌, ◌+◌, ◌-◌, ◌<◌, ◌≤◌, ℕ, IfOk, MatchOption, length, slice_index, unwrap_or, Some, None};
 ghost use Rattle.wave_problem.specs.Assignment.{start_of};
 ghost use Rattle.wave_problem.specs.Wave.{cost, reward, IsUsable};
-ghost use Rattle.tree_planner.specs.Nodes.{node_above};
-ghost use Rattle.tree_planner.specs.Settled.{deepest_above, ArePrices};
+ghost use Rattle.tree_flow.specs.Nodes.{node_above};
+ghost use Rattle.tree_flow.specs.Settled.{deepest_above, ArePrices};
 ghost use Rattle.tree_planner.specs.Priced.{AreWorkerPrices, IsSplitPrice, IsWorkerPrice};
 ghost use Rattle.tree_planner.specs.View.{state_of, AreTables};
 
@@ -19,9 +19,11 @@ use wave_problem::{Plan, Problem};
 pub fn prices_of(
     alloc: Global,
     problem: &Problem,
+    worth: u64,
     tables: &Tables,
     plan: &Plan,
 ) -> Result<Prices, AllocError>
+    requires worth { worth ≡ reward problem.now }
     requires tables { AreTables problem.now tables.now }
     requires splits { length plan.now.starts ≡ length problem.now.splits }
     requires workers { plan.now.workers ≡ length problem.now.workers }
@@ -31,7 +33,7 @@ pub fn prices_of(
         (λ prices. ArePrices problem.now (state_of tables.now) plan.now.starts prices) }
 {
     let workers = worker_prices(alloc, problem, tables)?;
-    let splits = split_prices(alloc, problem, plan, &workers)?;
+    let splits = split_prices(alloc, problem, worth, plan, &workers)?;
     Ok(Prices::from_lists(splits, workers))
 }
 
@@ -40,7 +42,7 @@ fn worker_prices(alloc: Global, problem: &Problem, tables: &Tables) -> Result<Ve
     ensures size { IfOk result (λ prices. length prices.items ≡ length problem.now.workers) }
     ensures prices { IfOk result (λ prices. AreWorkerPrices problem.now (state_of tables.now) prices.items) }
 {
-    let mut prices = Vec::new(alloc);
+    let mut prices = Vec::with_capacity(alloc, problem.workers())?;
     for w in 0..problem.workers() {
         prices.push(worker_price(problem, tables, WorkerNo::new(w as u16)))?;
     }
@@ -75,9 +77,11 @@ fn depth_above(problem: &Problem, tables: &Tables, level: u8, worker: WorkerNo) 
 fn split_prices(
     alloc: Global,
     problem: &Problem,
+    worth: u64,
     plan: &Plan,
     workers: &[u64],
 ) -> Result<Vec<u64>, AllocError>
+    requires worth { worth ≡ reward problem.now }
     requires splits { length plan.now.starts ≡ length problem.now.splits }
     requires plan { plan.now.workers ≡ length problem.now.workers }
     requires workers { length workers.now ≡ length problem.now.workers }
@@ -85,28 +89,31 @@ fn split_prices(
     ensures prices { IfOk result (λ prices. (s : ℕ) → s < length problem.now.splits
         → IsSplitPrice problem.now plan.now.starts workers.now s (slice_index prices.items s)) }
 {
-    let mut prices = Vec::new(alloc);
+    let mut prices = vec![in alloc; 0; problem.splits()]?;
     for s in 0..problem.splits() {
-        prices.push(split_price(problem, plan, workers, SplitNo::new(s as u16)))?;
+        let split = SplitNo::new(s as u16);
+        if let Some(worker) = plan.of(split) {
+            prices[s] = split_price(problem, worth, workers, split, worker);
+        }
     }
     Ok(prices)
 }
 
-fn split_price(problem: &Problem, plan: &Plan, workers: &[u64], split: SplitNo) -> u64
-    requires splits { length plan.now.starts ≡ length problem.now.splits }
-    requires plan { plan.now.workers ≡ length problem.now.workers }
+// The price of a split that starts on this worker.
+fn split_price(
+    problem: &Problem,
+    worth: u64,
+    workers: &[u64],
+    split: SplitNo,
+    worker: WorkerNo,
+) -> u64
     requires workers { length workers.now ≡ length problem.now.workers }
     requires split { split < length problem.now.splits }
-    ensures { IsSplitPrice problem.now plan.now.starts workers.now split result }
+    requires worker { worker < length problem.now.workers }
+    ensures { result ≡ worth - (slice_index workers.now worker + unwrap_or (cost problem.now split worker) 0) }
 {
-    match plan.of(split) {
-        Some(worker) => {
-            let cost = problem.cost(split, worker).unwrap_or(0);
-            problem
-                .reward()
-                .saturating_sub(workers[worker.index()])
-                .saturating_sub(cost)
-        }
-        None => 0,
-    }
+    let cost = problem.cost(split, worker).unwrap_or(0);
+    worth
+        .saturating_sub(workers[worker.index()])
+        .saturating_sub(cost)
 }

@@ -1,26 +1,29 @@
 //! A search for the cheapest way to give one split a slot.
-ghost use Rattle.std.specs.Prelude.{◌≡◌, ◌≢◌, ◌+◌, ◌*◌, ◌<◌, ◌≤◌, ◌^◌, min, ℕ, length, IfOk, MatchOption, Contains, ◌↔◌};
+ghost use Rattle.std.specs.Prelude.{◌≡◌, ◌≢◌, ◌+◌, ◌*◌, ◌<◌, ◌≤◌, ◌^◌, min, ℕ, length, IfOk, IsTrue, MatchOption, Contains, ◌↔◌};
 ghost use Rattle.wave_problem.specs.declared.TheConstants.{MAX_BYTES};
 ghost use Rattle.wave_problem.specs.Wave.{reward};
-ghost use Rattle.tree_planner.specs.declared.nodes.End.{End};
-ghost use Rattle.tree_planner.specs.declared.nodes.Place.TheVariants.{Stands};
-ghost use Rattle.tree_planner.specs.declared.nodes.TreeNode.{TreeNode};
+ghost use Rattle.tree_flow.specs.declared.nodes.End.{End};
+ghost use Rattle.tree_flow.specs.declared.nodes.Place.TheVariants.{Stands};
+ghost use Rattle.tree_flow.specs.declared.nodes.TreeNode.{TreeNode};
+ghost use Rattle.tree_planner.specs.Hanging.{HangsFrom};
 ghost use Rattle.tree_planner.specs.declared.search.Ground.{Ground};
-ghost use Rattle.tree_planner.specs.Nodes.{parent, IsEnd, IsNode};
-ghost use Rattle.tree_planner.specs.State.{place_of, reach_cost, slots_of, sum_under};
+ghost use Rattle.tree_flow.specs.Nodes.{parent, IsEnd, IsNode};
+ghost use Rattle.tree_flow.specs.State.{place_of, reach_cost, slots_of, sum_under};
 ghost use Rattle.tree_planner.specs.Searching.{order_at, far_at, state_at, wave_of, EndsIn, HasLookedFrom};
 ghost use Rattle.tree_planner.specs.Searching.{HasStarted, Improves, IsAt, IsGround, IsSearched, IsSearching};
-ghost use Rattle.tree_planner.specs.Searching.{LeadsTo, IsFresh, IsNearest, IsStartedAt, Settles, IsDown, GoesAllOver, IsOverTo, far_of};
-ghost use Rattle.tree_planner.specs.declared.nodes.TreeNode.TheVariants.{Worker};
-ghost use Rattle.tree_planner.specs.Table.{HasNode, IsSized};
+ghost use Rattle.tree_planner.specs.Searching.{reached_at, HasReached, HasRoom, HasTables, IsBlank, IsCandidate};
+ghost use Rattle.tree_planner.specs.Searching.{LeadsTo, IsNearest, IsStartedAt, Settles, IsDown, GoesAllOver, IsOverTo};
+ghost use Rattle.tree_flow.specs.Table.{HasNode, IsSized};
 
-use crate::node_table::NodeTable;
-use crate::nodes::{End, Place, TreeNode};
+use crate::children::Children;
+use crate::reached::{FAR, Reached};
 use crate::split_ends::Ends;
 use crate::tables::Tables;
 use crate::tree_nodes::{is_same, parent};
-use node_ids::{SplitNo, WorkerNo};
+use node_ids::SplitNo;
+use rack_tree::RackTree;
 use std::alloc::{AllocError, Global};
+use tree_flow::{End, NodeTable, Place, TreeNode};
 use wave_problem::Problem;
 
 /// The last step of the way by which a search came to a node.
@@ -41,25 +44,37 @@ pub enum Step {
 pub enum Goal {
     /// The split that is shipped waits.
     Wait,
-    /// A free slot of the worker of this number.
-    Slot(u16),
+    /// A free slot under this node.
+    Slot(TreeNode),
     /// The split of this number is sent off, and waits.
     Off(u16),
 }
 
-/// What a search stands on: a problem with the tree's nodes, the splits' ends and the slots under each node,
-/// and the tables of the state.
+/// The place of the nearest node so far among the reached nodes, and how far it is; or how many these
+/// are, and the bound.
+#[derive(Clone, Copy)]
+pub struct Candidate {
+    pub place: usize,
+    pub far: u64,
+}
+
+/// What a search stands on: a problem with the tree's nodes, the splits' ends, the slots under each node
+/// and the worth of a start, and the tables of the state.
 #[derive(Drop)]
 pub struct Ground<'a> {
     pub problem: &'a Problem,
     pub nodes: &'a [TreeNode],
+    pub children: &'a Children,
     pub ends: &'a [Ends],
     pub slots: &'a NodeTable<u64>,
+    pub reward: u64,
     pub tables: &'a Tables,
 }
 
 /// Which split is shipped, what its cheapest end costs at least, and how far a way may go; how far each node
-/// is, how it was come to, as which one it was looked from; and the nearest end of a way, and how far it is.
+/// is, how it was come to, as which one it was looked from; the nodes that were come to; and
+/// the nearest end of a way, and how far it is. Its tables serve one search after another: between two of
+/// them no node has been come to.
 #[derive(Drop)]
 pub struct Search {
     pub split: u16,
@@ -68,12 +83,50 @@ pub struct Search {
     pub far: NodeTable<u64>,
     pub how: NodeTable<Step>,
     pub order: NodeTable<u64>,
+    pub reached: Reached,
     pub looked: u64,
     pub bound: u64,
     pub goal: Goal,
 }
 
 impl Search {
+    /// Room for searches over so many nodes of a tree.
+    pub fn new(alloc: Global, tree: &RackTree, nodes: usize) -> Result<Search, AllocError>
+        ensures { IfOk result (λ search. IsBlank tree.now nodes search) }
+    {
+        let far = NodeTable::new(alloc, tree, FAR)?;
+        let how = NodeTable::new(alloc, tree, Step::Down)?;
+        let order = NodeTable::new(alloc, tree, 0)?;
+        let reached = Reached::new(alloc, nodes)?;
+        Ok(Search {
+            split: 0,
+            least: 0,
+            limit: 0,
+            far,
+            how,
+            order,
+            reached,
+            looked: 0,
+            bound: 0,
+            goal: Goal::Wait,
+        })
+    }
+
+    /// Forgets the nodes that were come to.
+    pub fn clear(&mut self, tree: &RackTree)
+        requires tables { HasTables tree.now self.old }
+        requires reached { HasReached tree.now self.old }
+        requires short { self.old.limit < 2 ^ 40 }
+        ensures { IsBlank tree.now (length self.old.reached.nodes.items) self.new }
+    {
+        let _ = tree;
+        for k in 0..self.reached.count {
+            let node = self.reached.at(k);
+            self.far.set(node, FAR);
+            self.order.set(node, 0);
+        }
+    }
+
     // How far a node is.
     fn far_of(&self, node: TreeNode) -> u64
         requires { HasNode self.now.far node }
@@ -82,19 +135,35 @@ impl Search {
         self.far.get(node)
     }
 
-    // Comes to a node, where that is nearer.
-    fn reach(&mut self, node: TreeNode, distance: u64, step: Step)
+    // Whether a node at this distance is nearer than it was, and than the nearest end of a way.
+    fn is_nearer(&self, node: TreeNode, distance: u64) -> bool
+        requires { HasNode self.now.far node }
+        ensures { IsTrue result ↔ (distance < min self.now.bound (far_at self.now node)) }
+    {
+        distance < self.bound && distance < self.far.get(node)
+    }
+
+    // Comes to a node, where that is nearer. Where a slot is free under it, a way ends there.
+    fn reach(&mut self, node: TreeNode, distance: u64, step: Step, free: bool)
         requires far { HasNode self.old.far node }
         requires how { HasNode self.old.how node }
+        requires room { 2 ^ 40 ≤ far_at self.old node → HasRoom self.old }
         requires beyond { (u : TreeNode) → 0 < order_at self.old u → far_at self.old u ≤ distance }
         ensures improves { Improves self.old self.new }
         ensures near { min self.new.bound (far_at self.new node) ≤ distance }
-        ensures kept { (g : Ground) → IsSearching g self.old
+        ensures kept { (g : Ground) → IsGround g → IsSearching g self.old
+            → (IsTrue free ↔ (0 < sum_under (wave_of g) node (state_at g).free)) → IsNode (wave_of g).tree node
             → (order_at self.old node ≡ 0 → LeadsTo g self.old node distance step) → IsSearching g self.new }
     {
-        if distance < self.bound && distance < self.far.get(node) {
+        let far = self.far.get(node);
+        if distance < self.bound && distance < far {
+            self.reached.note(node, far);
             self.far.set(node, distance);
             self.how.set(node, step);
+            if free {
+                self.bound = distance;
+                self.goal = Goal::Slot(node);
+            }
         }
     }
 
@@ -153,6 +222,15 @@ fn slots_at(ground: &Ground<'_>, node: TreeNode) -> u64
     ground.slots.get(node)
 }
 
+// Whether a slot is free under a node.
+fn is_free(ground: &Ground<'_>, node: TreeNode) -> bool
+    requires ground { IsGround ground.now }
+    requires known { IsNode (wave_of ground.now).tree node }
+    ensures { IsTrue result ↔ (0 < sum_under (wave_of ground.now) node (state_at ground.now).free) }
+{
+    ground.tables.below.get(node) > 0
+}
+
 // The node from which a node hangs.
 fn above(ground: &Ground<'_>, node: TreeNode) -> TreeNode
     requires { IsNode (wave_of ground.now).tree node }
@@ -162,8 +240,8 @@ fn above(ground: &Ground<'_>, node: TreeNode) -> TreeNode
     parent(ground.problem.tree(), node)
 }
 
-// The ends of a split.
-fn ends_of<'g>(ground: &'g Ground<'_>, split: u16) -> &'g [End]
+/// The ends of a split.
+pub fn ends_of<'g>(ground: &'g Ground<'_>, split: u16) -> &'g [End]
     requires ground { IsGround ground.now }
     requires split { split < length (wave_of ground.now).splits }
     ensures { (e : End) → Contains result.now e ↔ IsEnd (wave_of ground.now) split e }
@@ -171,8 +249,8 @@ fn ends_of<'g>(ground: &'g Ground<'_>, split: u16) -> &'g [End]
     ground.ends[split as usize].all()
 }
 
-// What it costs the split to end at an end.
-fn cost_at(ground: &Ground<'_>, split: u16, end: End) -> u64
+/// What it costs the split to end at an end.
+pub fn cost_at(ground: &Ground<'_>, split: u16, end: End) -> u64
     requires ground { IsGround ground.now }
     requires is_end { IsEnd (wave_of ground.now) split end }
     ensures cost { result ≡ reach_cost (wave_of ground.now) (state_at ground.now) split end }
@@ -190,7 +268,7 @@ fn least_cost(ground: &Ground<'_>, split: u16) -> u64
         → result ≤ reach_cost (wave_of ground.now) (state_at ground.now) split x }
     ensures reward { result ≤ reward (wave_of ground.now) }
 {
-    let mut least = ground.problem.reward();
+    let mut least = ground.reward;
     let ends = ends_of(ground, split);
     for end in ends {
         least = least.min(cost_at(ground, split, *end));
@@ -200,50 +278,38 @@ fn least_cost(ground: &Ground<'_>, split: u16) -> u64
 
 /// Searches from the ends of a split, over steps that a unit may take, as far as the nearest end of a way
 /// (Dijkstra's search over reduced costs).
-pub fn find_way(alloc: Global, ground: &Ground<'_>, split: u16) -> Result<Search, AllocError>
+pub fn find_way(ground: &Ground<'_>, search: &mut Search, split: u16)
     requires ground { IsGround ground.now }
+    requires blank { IsBlank (wave_of ground.now).tree (length ground.now.nodes.now) search.old }
     requires split { split < length (wave_of ground.now).splits }
-    ensures split { IfOk result (λ search. search.split ≡ split) }
-    ensures searched { IfOk result (λ search. IsSearched ground.now search) }
+    ensures split { search.new.split ≡ split }
+    ensures searched { IsSearched ground.now search.new }
 {
     let least = least_cost(ground, split);
-    let mut search = new_search(alloc, ground, split, least)?;
-    start(ground, &mut search);
-    run(ground, &mut search);
-    Ok(search)
+    begin(ground, search, split, least);
+    start(ground, search);
+    run(ground, search);
+    settle_goal(ground, search);
 }
 
 // No node was come to yet, and the split may wait.
-fn new_search(
-    alloc: Global,
-    ground: &Ground<'_>,
-    split: u16,
-    least: u64,
-) -> Result<Search, AllocError>
+fn begin(ground: &Ground<'_>, search: &mut Search, split: u16, least: u64)
     requires ground { IsGround ground.now }
+    requires blank { IsBlank (wave_of ground.now).tree (length ground.now.nodes.now) search.old }
     requires least { least ≤ reward (wave_of ground.now) }
-    ensures split { IfOk result (λ search. search.split ≡ split) }
-    ensures least { IfOk result (λ search. search.least ≡ least) }
-    ensures looked { IfOk result (λ search. search.looked ≡ 0) }
-    ensures order { IfOk result (λ search. (v : TreeNode) → order_at search v ≡ 0) }
-    ensures searching { IfOk result (λ search. IsSearching ground.now search) }
+    ensures split { search.new.split ≡ split }
+    ensures least { search.new.least ≡ least }
+    ensures looked { search.new.looked ≡ 0 }
+    ensures order { (v : TreeNode) → order_at search.new v ≡ 0 }
+    ensures searching { IsSearching ground.now search.new }
 {
-    let tree = ground.problem.tree();
-    let limit = ground.problem.reward() - least;
-    let far = NodeTable::new(alloc, tree, limit)?;
-    let how = NodeTable::new(alloc, tree, Step::Down)?;
-    let order = NodeTable::new(alloc, tree, 0)?;
-    Ok(Search {
-        split,
-        least,
-        limit,
-        far,
-        how,
-        order,
-        looked: 0,
-        bound: limit,
-        goal: Goal::Wait,
-    })
+    search.split = split;
+    search.least = least;
+    search.limit = ground.reward - least;
+    search.bound = search.limit;
+    search.goal = Goal::Wait;
+    search.reached.count = 0;
+    search.looked = 0;
 }
 
 // Comes to the ends of the split.
@@ -276,7 +342,8 @@ fn start_at(ground: &Ground<'_>, search: &mut Search, end: End)
     ensures started { IsStartedAt ground.now search.new end }
 {
     let distance = cost_at(ground, search.split, end) - search.least;
-    search.reach(end.node, distance, Step::Start(end.level));
+    let free = is_free(ground, end.node);
+    search.reach(end.node, distance, Step::Start(end.level), free);
 }
 
 // Looks from nodes, the nearest first, until none is nearer than the bound that was not looked from.
@@ -287,50 +354,93 @@ fn run(ground: &Ground<'_>, search: &mut Search)
     requires none { (v : TreeNode) → order_at search.old v ≡ 0 }
     requires looked { search.old.looked ≡ 0 }
     ensures split { search.new.split ≡ search.old.split }
-    ensures searched { IsSearched ground.now search.new }
+    ensures searching { IsSearching ground.now search.new }
+    ensures started { HasStarted ground.now search.new }
+    ensures looked { (u : TreeNode) → far_at search.new u < search.new.bound
+        → HasLookedFrom ground.now search.new u }
+    ensures past { (v : TreeNode) → order_at search.new v ≡ 0 → search.new.bound ≤ far_at search.new v }
+    ensures few { search.new.looked + 1 < 2 ^ 64 }
 {
     let _most = ground.nodes.len();
-    while let Some(node) = nearest(ground, search) {
+    let mut last = 0;
+    while let Some(node) = nearest(ground, search, last) {
         look_from(ground, search, node);
+        last = search.far_of(node);
     }
 }
 
-// The nearest node that was not looked from and is nearer than the bound.
-fn nearest(ground: &Ground<'_>, search: &Search) -> Option<TreeNode>
+// Puts a node in which the way ends last in order.
+fn settle_goal(ground: &Ground<'_>, search: &mut Search)
+    requires ground { IsGround ground.now }
+    requires searching { IsSearching ground.now search.old }
+    requires started { HasStarted ground.now search.old }
+    requires looked { (u : TreeNode) → far_at search.old u < search.old.bound
+        → HasLookedFrom ground.now search.old u }
+    requires past { (v : TreeNode) → order_at search.old v ≡ 0 → search.old.bound ≤ far_at search.old v }
+    requires few { search.old.looked + 1 < 2 ^ 64 }
+    ensures split { search.new.split ≡ search.old.split }
+    ensures searched { IsSearched ground.now search.new }
+{
+    let _ = ground;
+    if let Goal::Slot(node) = search.goal {
+        search.settle(node);
+    }
+}
+
+// The nearest node that was not looked from and is nearer than the bound. None is nearer than the last.
+fn nearest(ground: &Ground<'_>, search: &Search, last: u64) -> Option<TreeNode>
     requires ground { IsGround ground.now }
     requires searching { IsSearching ground.now search.now }
+    requires last { (v : TreeNode) → order_at search.now v ≡ 0 → last ≤ far_at search.now v }
     ensures { MatchOption result
         ((v : TreeNode) → order_at search.now v ≡ 0 → search.now.bound ≤ far_at search.now v)
         (λ node. IsNearest ground.now search.now node) }
 {
-    let mut best = None;
-    for node in ground.nodes {
-        best = nearer(search, best, *node);
+    let best = nearest_place(ground, search, last);
+    if best.place == search.reached.count {
+        return None;
+    }
+    Some(search.reached.at(best.place))
+}
+
+// The same by its place. One as near as the last is the nearest at once.
+fn nearest_place(ground: &Ground<'_>, search: &Search, last: u64) -> Candidate
+    requires ground { IsGround ground.now }
+    requires searching { IsSearching ground.now search.now }
+    requires last { (v : TreeNode) → order_at search.now v ≡ 0 → last ≤ far_at search.now v }
+    ensures fresh { IsCandidate search.now result }
+    ensures least { (v : TreeNode) → order_at search.now v ≡ 0 → result.far ≤ far_at search.now v }
+{
+    let _ = ground;
+    let mut best = Candidate {
+        place: search.reached.count,
+        far: search.bound,
+    };
+    for k in 0..search.reached.count {
+        best = nearer(search, best, k);
+        if best.far <= last {
+            return best;
+        }
     }
     best
 }
 
 // The nearer of two nodes, if one is nearer than the bound and was not looked from.
-fn nearer(search: &Search, best: Option<TreeNode>, node: TreeNode) -> Option<TreeNode>
-    requires far { HasNode search.now.far node }
-    requires order { HasNode search.now.order node }
-    requires best { MatchOption best (Unit {0}) (λ c. HasNode search.now.far c) }
-    ensures fresh { (g : Ground) → IsNode (wave_of g).tree node → IsFresh g search.now best
-        → IsFresh g search.now result }
-    ensures least { far_of search.now result ≤ far_of search.now best }
-    ensures here { order_at search.now node ≡ 0 → far_of search.now result ≤ far_at search.now node }
+fn nearer(search: &Search, best: Candidate, k: usize) -> Candidate
+    requires place { k < length search.now.reached.nodes.items }
+    requires far { HasNode search.now.far (reached_at search.now k) }
+    requires order { HasNode search.now.order (reached_at search.now k) }
+    ensures fresh { IsCandidate search.now best → k < search.now.reached.count → IsCandidate search.now result }
+    ensures least { result.far ≤ best.far }
+    ensures here { order_at search.now (reached_at search.now k) ≡ 0
+        → result.far ≤ far_at search.now (reached_at search.now k) }
 {
-    if search.order.get(node) != 0 {
+    let node = search.reached.at(k);
+    let far = search.far_of(node);
+    if far >= best.far || search.order.get(node) != 0 {
         return best;
     }
-    let least = match best {
-        Some(other) => search.far_of(other),
-        None => search.bound,
-    };
-    if search.far_of(node) < least {
-        return Some(node);
-    }
-    best
+    Candidate { place: k, far }
 }
 
 // Takes all steps out of a node.
@@ -347,26 +457,6 @@ fn look_from(ground: &Ground<'_>, search: &mut Search, node: TreeNode)
     look_down(ground, search, node);
     look_up(ground, search, node);
     look_over(ground, search, node);
-    look_bottom(ground, search, node);
-}
-
-// The node may be a worker with a free slot.
-fn look_bottom(ground: &Ground<'_>, search: &mut Search, node: TreeNode)
-    requires ground { IsGround ground.now }
-    requires known { IsNode (wave_of ground.now).tree node }
-    requires searching { IsSearching ground.now search.old }
-    requires at { IsAt search.old node }
-    ensures searching { IsSearching ground.now search.new }
-    ensures improves { Improves search.old search.new }
-    ensures bottom { (w : ℕ) → w < length (wave_of ground.now).workers → node ≡ Worker w
-        → 0 < (state_at ground.now).free w → search.new.bound ≤ far_at search.new node }
-{
-    if let TreeNode::Worker(worker) = node {
-        if ground.tables.free[worker as usize] > 0 {
-            let distance = search.far_of(node);
-            search.arrive(Goal::Slot(worker), distance);
-        }
-    }
 }
 
 // A unit less may come to the node.
@@ -385,7 +475,8 @@ fn look_up(ground: &Ground<'_>, search: &mut Search, node: TreeNode)
     if flow_of(ground, node) > 0 {
         let up = above(ground, node);
         let distance = search.far_of(node) + depth_of(ground, up) - depth_of(ground, node);
-        search.reach(up, distance, Step::Up(node));
+        let free = is_free(ground, up);
+        search.reach(up, distance, Step::Up(node), free);
     }
 }
 
@@ -399,7 +490,7 @@ fn look_down(ground: &Ground<'_>, search: &mut Search, node: TreeNode)
     ensures improves { Improves search.old search.new }
     ensures down { (v : TreeNode) → IsDown ground.now search.new node v }
 {
-    for below in ground.nodes {
+    for below in ground.children.of(ground.problem.tree(), node) {
         step_down(ground, search, node, *below);
     }
 }
@@ -407,19 +498,17 @@ fn look_down(ground: &Ground<'_>, search: &mut Search, node: TreeNode)
 fn step_down(ground: &Ground<'_>, search: &mut Search, node: TreeNode, below: TreeNode)
     requires ground { IsGround ground.now }
     requires known { IsNode (wave_of ground.now).tree node }
-    requires below { IsNode (wave_of ground.now).tree below }
+    requires below { HangsFrom (wave_of ground.now).tree node below }
     requires searching { IsSearching ground.now search.old }
     requires at { IsAt search.old node }
     ensures searching { IsSearching ground.now search.new }
     ensures improves { Improves search.old search.new }
     ensures down { IsDown ground.now search.new node below }
 {
-    if let TreeNode::Cluster = below {
-        return;
-    }
-    if is_same(above(ground, below), node) && flow_of(ground, below) < slots_at(ground, below) {
+    if flow_of(ground, below) < slots_at(ground, below) {
         let distance = search.far_of(node) + depth_of(ground, below) - depth_of(ground, node);
-        search.reach(below, distance, Step::Down);
+        let free = is_free(ground, below);
+        search.reach(below, distance, Step::Down, free);
     }
 }
 
@@ -433,8 +522,11 @@ fn look_over(ground: &Ground<'_>, search: &mut Search, node: TreeNode)
     ensures improves { Improves search.old search.new }
     ensures over { (t : ℕ) → GoesAllOver ground.now search.new node t }
 {
-    for t in 0..ground.tables.places.len() {
-        over_split(ground, search, node, t as u16);
+    let mut place = ground.tables.standing.last_of(ground.problem.tree(), node);
+    while place > 0 {
+        let cell = ground.tables.standing.cells[place - 1];
+        over_split(ground, search, node, cell.split);
+        place = cell.before;
     }
 }
 
@@ -455,7 +547,8 @@ fn over_split(ground: &Ground<'_>, search: &mut Search, node: TreeNode, split: u
     }
 }
 
-// Takes the steps of a split that stands at an end.
+// Takes the steps of a split that stands at an end, unless an end of a way is known that is no farther than
+// this one.
 fn hand_over(ground: &Ground<'_>, search: &mut Search, split: u16, end: End)
     requires ground { IsGround ground.now }
     requires searching { IsSearching ground.now search.old }
@@ -465,25 +558,43 @@ fn hand_over(ground: &Ground<'_>, search: &mut Search, split: u16, end: End)
     ensures improves { Improves search.old search.new }
     ensures over { GoesAllOver ground.now search.new end.node split }
 {
-    let distance = search.far_of(end.node) + ground.problem.reward() - cost_at(ground, split, end);
+    let spent = cost_at(ground, split, end);
+    let far = search.far_of(end.node);
+    let distance = far + ground.reward - spent;
     search.arrive(Goal::Off(split), distance);
+    if search.bound <= far {
+        return;
+    }
     let ends = ends_of(ground, split);
     for other in ends {
-        over_to(ground, search, split, end, *other);
+        over_to(ground, search, split, end, far, spent, *other);
     }
 }
 
-fn over_to(ground: &Ground<'_>, search: &mut Search, split: u16, end: End, other: End)
+// Takes the step of a split from an end that is so far, and at which so much is spent, to another.
+fn over_to(
+    ground: &Ground<'_>,
+    search: &mut Search,
+    split: u16,
+    end: End,
+    far: u64,
+    spent: u64,
+    other: End,
+)
     requires ground { IsGround ground.now }
     requires searching { IsSearching ground.now search.old }
     requires at { IsAt search.old end.node }
+    requires far { far ≡ far_at search.old end.node }
     requires stands { place_of (state_at ground.now) split ≡ Stands end }
+    requires spent { spent ≡ reach_cost (wave_of ground.now) (state_at ground.now) split end }
     requires is_end { IsEnd (wave_of ground.now) split other }
     ensures searching { IsSearching ground.now search.new }
     ensures improves { Improves search.old search.new }
     ensures over { IsOverTo ground.now search.new end split other }
 {
-    let distance = search.far_of(end.node) + cost_at(ground, split, other)
-        - cost_at(ground, split, end);
-    search.reach(other.node, distance, Step::Over(split, other.level));
+    let distance = far + cost_at(ground, split, other) - spent;
+    if search.is_nearer(other.node, distance) {
+        let free = is_free(ground, other.node);
+        search.reach(other.node, distance, Step::Over(split, other.level), free);
+    }
 }

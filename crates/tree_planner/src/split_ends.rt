@@ -1,22 +1,24 @@
 //! The ends of each split.
-ghost use Rattle.std.specs.Prelude.{◌≡◌, ◌<◌, ◌⊎◌, ◌↔◌, ℕ, List, true, false, length, cond, Contains};
+ghost use Rattle.std.specs.Prelude.{◌≡◌, ◌<◌, ◌≤◌, ◌⊎◌, ◌↔◌, ℕ, List, [], true, false, length, cond, All, Contains};
 ghost use Rattle.std.specs.Prelude.{IfOk, OnOk, IfSome, IsTrue};
 ghost use Rattle.wave_problem.specs.Wave.{split_at};
-ghost use Rattle.tree_planner.specs.declared.nodes.End.{End};
-ghost use Rattle.tree_planner.specs.declared.nodes.TreeNode.{TreeNode};
-ghost use Rattle.tree_planner.specs.declared.nodes.TreeNode.TheVariants.{Centre, Rack, Worker};
-ghost use Rattle.tree_planner.specs.Bars.{bar_at, bar_below, AreBars, IsLevelEnd, IsTopEnd};
+ghost use Rattle.tree_flow.specs.declared.nodes.End.{End};
+ghost use Rattle.tree_flow.specs.declared.nodes.TreeNode.{TreeNode};
+ghost use Rattle.tree_flow.specs.declared.nodes.TreeNode.TheVariants.{Worker};
+ghost use Rattle.tree_planner.specs.Bars.{bar_at, bar_below, holder_at, AreBars, AreMet, IsLevelEnd};
+ghost use Rattle.tree_planner.specs.Bars.{IsLiveUnder, IsTopEnd};
 ghost use Rattle.tree_planner.specs.Ends.{AreEnds};
-ghost use Rattle.tree_planner.specs.Nodes.{AreNodes, IsEnd, IsNode, is_under};
-ghost use Rattle.tree_planner.specs.Table.{at_or, HasNode, IsOver, IsSized};
+ghost use Rattle.tree_flow.specs.Nodes.{is_under, IsEnd, IsNode};
+ghost use Rattle.tree_planner.specs.Hanging.{AreChildren};
+ghost use Rattle.tree_flow.specs.Table.{at_or, HasNode, IsOver, IsSized};
 
-use crate::node_table::NodeTable;
-use crate::nodes::{End, TreeNode};
-use crate::tree_nodes::{node_above, parent};
-use node_ids::{RackNo, SplitNo, WorkerNo};
+use crate::children::Children;
+use crate::tree_nodes::{is_same, node_above};
+use node_ids::{SplitNo, WorkerNo};
 use rack_tree::RackTree;
 use std::alloc::{AllocError, Global};
 use std::marker::Model;
+use tree_flow::{End, NodeTable, TreeNode};
 use wave_problem::Problem;
 
 /// The ends of a split.
@@ -30,6 +32,28 @@ impl Model for Ends {
 }
 
 impl Ends {
+    /// No ends.
+    pub fn none(alloc: Global) -> Ends
+        ensures { result ≡ [] }
+    {
+        Ends(Vec::new(alloc))
+    }
+
+    /// The ends of a split of a problem.
+    pub fn of(
+        alloc: Global,
+        problem: &Problem,
+        children: &Children,
+        split: SplitNo,
+    ) -> Result<Ends, AllocError>
+        requires children { AreChildren problem.now.tree children.now }
+        requires split { split < length problem.now.splits }
+        ensures { IfOk result (λ ends. (e : End) → Contains ends e ↔ IsEnd problem.now split e) }
+    {
+        let ends = ends_of(alloc, problem, children, split)?;
+        Ok(Ends(ends))
+    }
+
     /// All ends.
     pub fn all(&self) -> &[End]
         ensures { result.now ≡ self.now }
@@ -42,14 +66,14 @@ impl Ends {
 pub fn all_ends(
     alloc: Global,
     problem: &Problem,
-    nodes: &[TreeNode],
+    children: &Children,
 ) -> Result<Vec<Ends>, AllocError>
-    requires { AreNodes problem.now.tree nodes.now }
+    requires { AreChildren problem.now.tree children.now }
     ensures { IfOk result (λ ends. AreEnds problem.now ends.items) }
 {
-    let mut all = Vec::new(alloc);
+    let mut all = Vec::with_capacity(alloc, problem.splits())?;
     for s in 0..problem.splits() {
-        let ends = ends_of(alloc, problem, nodes, SplitNo::new(s as u16))?;
+        let ends = ends_of(alloc, problem, children, SplitNo::new(s as u16))?;
         all.push(Ends(ends))?;
     }
     Ok(all)
@@ -58,10 +82,10 @@ pub fn all_ends(
 fn ends_of(
     alloc: Global,
     problem: &Problem,
-    nodes: &[TreeNode],
+    children: &Children,
     split: SplitNo,
 ) -> Result<Vec<End>, AllocError>
-    requires nodes { AreNodes problem.now.tree nodes.now }
+    requires children { AreChildren problem.now.tree children.now }
     requires split { split < length problem.now.splits }
     ensures { IfOk result (λ ends. (e : End) → Contains ends.items e ↔ IsEnd problem.now split e) }
 {
@@ -69,46 +93,50 @@ fn ends_of(
         return Ok(Vec::new(alloc));
     }
     let bars = barred_nodes(alloc, problem, split)?;
-    ends_with(alloc, problem, nodes, &bars, split)
+    ends_with(alloc, problem, children, &bars, split)
 }
 
 // The ends of a pending split.
 fn ends_with(
     alloc: Global,
     problem: &Problem,
-    nodes: &[TreeNode],
+    children: &Children,
     bars: &Option<NodeTable<bool>>,
     split: SplitNo,
 ) -> Result<Vec<End>, AllocError>
-    requires nodes { AreNodes problem.now.tree nodes.now }
+    requires children { AreChildren problem.now.tree children.now }
     requires split { split < length problem.now.splits }
     requires pending { (split_at problem.now split).pending ≡ true }
     requires bars { AreBars problem.now split bars.now }
     ensures { IfOk result (λ ends. (e : End) → Contains ends.items e ↔ IsEnd problem.now split e) }
 {
-    let mut ends = Vec::new(alloc);
     let holders = problem.holders(split);
-    for holder in holders {
-        add_holder(&mut ends, problem, nodes, bars, split, *holder)?;
+    let mut ends = Vec::with_capacity(alloc, holders.len().saturating_mul(4))?;
+    for k in 0..holders.len() {
+        add_holder(&mut ends, problem, children, bars, split, holders, k)?;
     }
     Ok(ends)
 }
 
-// The ends at and under the nodes above a holder, if it lives.
+// The ends at and under the nodes above the holder after k others, if it lives. The ends of those are there.
 fn add_holder(
     ends: &mut Vec<End>,
     problem: &Problem,
-    nodes: &[TreeNode],
+    children: &Children,
     bars: &Option<NodeTable<bool>>,
     split: SplitNo,
-    holder: WorkerNo,
+    holders: &[WorkerNo],
+    k: usize,
 ) -> Result<(), AllocError>
-    requires nodes { AreNodes problem.now.tree nodes.now }
+    requires children { AreChildren problem.now.tree children.now }
     requires bars { AreBars problem.now split bars.now }
-    requires holder { holder < length problem.now.workers }
+    requires known { All (λ holder. holder < length problem.now.workers) holders.now }
+    requires holder { k < length holders.now }
+    requires before { AreMet problem.now split holders.now k ends.old.items }
     ensures { OnOk result ((e : End) → Contains ends.new.items e
-        ↔ (Contains ends.old.items e ⊎ IsLevelEnd problem.now split holder e)) }
+        ↔ (Contains ends.old.items e ⊎ IsLevelEnd problem.now split (holder_at holders.now k) e)) }
 {
+    let holder = holders[k];
     if !problem.is_live(holder) {
         return Ok(());
     }
@@ -117,104 +145,79 @@ fn add_holder(
             node: node_above(problem.tree(), level, holder),
             level,
         };
-        add_top(ends, problem, nodes, bars, split, top)?;
+        if is_met(problem, bars, holders, k, top) {
+            continue;
+        }
+        add_top(ends, problem, children, bars, split, top)?;
     }
     Ok(())
+}
+
+// Whether the node of an end surely stands above one of the first k holders too, at the end's level. Holders
+// are seldom in one rack, so that of racks it is asked only where bars make many ends of one.
+fn is_met(
+    problem: &Problem,
+    bars: &Option<NodeTable<bool>>,
+    holders: &[WorkerNo],
+    k: usize,
+    top: End,
+) -> bool
+    requires known { All (λ holder. holder < length problem.now.workers) holders.now }
+    requires few { k ≤ length holders.now }
+    ensures { IsTrue result → (j : ℕ) × (j < k)
+        × IsLiveUnder problem.now (holder_at holders.now j) top }
+{
+    if top.level == 0 || top.level == 1 && bars.is_none() {
+        return false;
+    }
+    for j in 0..k {
+        if is_live_under(problem, holders[j], top) {
+            return true;
+        }
+    }
+    false
+}
+
+// Whether a holder lives and stands under the node of an end, so many levels below it as the end's.
+fn is_live_under(problem: &Problem, holder: WorkerNo, top: End) -> bool
+    requires { holder < length problem.now.workers }
+    ensures { IsTrue result → IsLiveUnder problem.now holder top }
+{
+    problem.is_live(holder) && is_same(node_above(problem.tree(), top.level, holder), top.node)
 }
 
 // An end at a node, or at the largest nodes under it without bars.
 fn add_top(
     ends: &mut Vec<End>,
     problem: &Problem,
-    nodes: &[TreeNode],
+    children: &Children,
     bars: &Option<NodeTable<bool>>,
     split: SplitNo,
     top: End,
 ) -> Result<(), AllocError>
-    requires nodes { AreNodes problem.now.tree nodes.now }
+    requires children { AreChildren problem.now.tree children.now }
     requires bars { AreBars problem.now split bars.now }
     requires known { IsNode problem.now.tree top.node }
     ensures { OnOk result ((e : End) → Contains ends.new.items e
         ↔ (Contains ends.old.items e ⊎ IsTopEnd problem.now split top e)) }
 {
+    problem.limits();
     if !has_bar(bars, top.node) {
         ends.push(top)?;
         return Ok(());
     }
-    for node in nodes {
-        add_below(ends, problem, bars, split, top, *node)?;
-    }
-    Ok(())
-}
-
-// An end at a node that hangs below another, where it is one of the largest without bars.
-fn add_below(
-    ends: &mut Vec<End>,
-    problem: &Problem,
-    bars: &Option<NodeTable<bool>>,
-    split: SplitNo,
-    top: End,
-    node: TreeNode,
-) -> Result<(), AllocError>
-    requires bars { AreBars problem.now split bars.now }
-    requires top { bar_at bars.now top.node ≡ true }
-    requires known_top { IsNode problem.now.tree top.node }
-    requires known { IsNode problem.now.tree node }
-    ensures { OnOk result ((e : End) → Contains ends.new.items e
-        ↔ (Contains ends.old.items e ⊎ ((e.node ≡ node) × IsTopEnd problem.now split top e))) }
-{
-    if is_under(problem.tree(), node, top.node)
-        && !has_bar(bars, node)
-        && has_bar(bars, parent(problem.tree(), node))
-    {
-        ends.push(End {
-            node,
+    for node in children.of(problem.tree(), top.node) {
+        let below = End {
+            node: *node,
             level: top.level,
-        })?;
+        };
+        if has_bar(bars, *node) {
+            add_top(ends, problem, children, bars, split, below)?;
+        } else {
+            ends.push(below)?;
+        }
     }
     Ok(())
-}
-
-// Whether the first is the second, or hangs below it.
-fn is_under(tree: &RackTree, node: TreeNode, above: TreeNode) -> bool
-    requires { IsNode tree.now node }
-    ensures { result ≡ is_under tree.now node above }
-{
-    match above {
-        TreeNode::Cluster => true,
-        TreeNode::Centre(centre) => is_in_centre(tree, node, centre),
-        TreeNode::Rack(rack) => is_in_rack(tree, node, rack),
-        TreeNode::Worker(worker) => match node {
-            TreeNode::Worker(other) => worker == other,
-            _ => false,
-        },
-    }
-}
-
-fn is_in_rack(tree: &RackTree, node: TreeNode, rack: u16) -> bool
-    requires { IsNode tree.now node }
-    ensures { result ≡ is_under tree.now node (Rack rack) }
-{
-    match node {
-        TreeNode::Worker(worker) => { rack as usize == tree.rack_of(WorkerNo::new(worker)).index() }
-        TreeNode::Rack(other) => rack == other,
-        _ => false,
-    }
-}
-
-fn is_in_centre(tree: &RackTree, node: TreeNode, centre: u8) -> bool
-    requires { IsNode tree.now node }
-    ensures { result ≡ is_under tree.now node (Centre centre) }
-{
-    match node {
-        TreeNode::Worker(worker) => {
-            let rack = tree.rack_of(WorkerNo::new(worker));
-            centre as usize == tree.centre_of(rack).index()
-        }
-        TreeNode::Rack(rack) => centre as usize == tree.centre_of(RackNo::new(rack)).index(),
-        TreeNode::Centre(other) => centre == other,
-        TreeNode::Cluster => false,
-    }
 }
 
 // Whether a worker under the node is barred.

@@ -1,28 +1,32 @@
 //! The state, in tables.
-ghost use Rattle.std.specs.Prelude.{◌≡◌, ◌≢◌, ℕ, ◌+◌, ◌<◌, ◌≤◌, ◌^◌, cond, length, slice_index, IfOk};
+ghost use Rattle.std.specs.Prelude.{◌≡◌, ◌≢◌, ℕ, ◌+◌, ◌<◌, ◌≤◌, ◌^◌, cond, true, length, slice_index, All, IfOk};
+ghost use Rattle.tree_flow.specs.declared.nodes.Place.TheVariants.{Unshipped};
 ghost use Rattle.wave_problem.specs.declared.TheConstants.{MAX_SLOTS};
-ghost use Rattle.tree_planner.specs.declared.nodes.TreeNode.{TreeNode};
-ghost use Rattle.tree_planner.specs.declared.nodes.TreeNode.TheVariants.{Worker};
-ghost use Rattle.tree_planner.specs.Nodes.{is_under};
-ghost use Rattle.tree_planner.specs.Slots.{IsFresh};
-ghost use Rattle.tree_planner.specs.State.{slots_of, sum_under};
-ghost use Rattle.tree_planner.specs.Table.{at_node, HasNode, IsOver, IsSized};
+ghost use Rattle.tree_flow.specs.declared.nodes.TreeNode.{TreeNode};
+ghost use Rattle.tree_flow.specs.declared.nodes.TreeNode.TheVariants.{Worker};
+ghost use Rattle.tree_flow.specs.Nodes.{is_under};
+ghost use Rattle.tree_flow.specs.Slots.{IsFresh};
+ghost use Rattle.tree_flow.specs.State.{slots_of, sum_under};
+ghost use Rattle.tree_flow.specs.Table.{at_node, HasNode, IsOver, IsSized};
 ghost use Rattle.tree_planner.specs.View.{state_of, AreTables};
 
-use crate::node_table::NodeTable;
-use crate::nodes::{Place, TreeNode};
+use crate::lists::Standing;
 use node_ids::WorkerNo;
 use std::alloc::{AllocError, Global};
+use tree_flow::{NodeTable, Place, TreeNode};
 use wave_problem::Problem;
 
-/// Where each split is, how many units come to each node from its parent, how deep each node lies, and how
-/// many slots of each worker are free.
+/// Where each split is, how many units come to each node from its parent, how deep each node lies, how many
+/// slots of each worker are free, and how many under each node; and lists of the splits that stand at each
+/// node.
 #[derive(Drop)]
 pub struct Tables {
     pub places: Vec<Place>,
     pub flow: NodeTable<u64>,
     pub depth: NodeTable<u64>,
     pub free: Vec<u64>,
+    pub below: NodeTable<u64>,
+    pub standing: Standing,
 }
 
 /// Tables in which no split is shipped, and all slots are free.
@@ -33,12 +37,25 @@ pub fn fresh_tables(alloc: Global, problem: &Problem) -> Result<Tables, AllocErr
     let flow = NodeTable::new(alloc, problem.tree(), 0)?;
     let depth = NodeTable::new(alloc, problem.tree(), 0)?;
     let free = free_slots(alloc, problem)?;
+    let below = slots_under(alloc, problem)?;
+    let standing = Standing::new(alloc, problem.tree(), problem.splits())?;
+    let places = all_unshipped(alloc, problem)?;
     Ok(Tables {
-        places: vec![in alloc; Place::Unshipped; problem.splits()]?,
+        places,
         flow,
         depth,
         free,
+        below,
+        standing,
     })
+}
+
+// No split is shipped.
+fn all_unshipped(alloc: Global, problem: &Problem) -> Result<Vec<Place>, AllocError>
+    ensures size { IfOk result (λ places. length places.items ≡ length problem.now.splits) }
+    ensures all { IfOk result (λ places. All (λ place. place ≡ Unshipped) places.items) }
+{
+    Ok(vec![in alloc; Place::Unshipped; problem.splits()]?)
 }
 
 // The slots that each worker can give.
@@ -81,8 +98,8 @@ pub fn slots_under(alloc: Global, problem: &Problem) -> Result<NodeTable<u64>, A
     Ok(slots)
 }
 
-// Adds to the numbers of a worker and of the nodes above it.
-fn add_above(problem: &Problem, numbers: &mut NodeTable<u64>, worker: WorkerNo, more: u64)
+/// Adds to the numbers of a worker and of the nodes above it.
+pub fn add_above(problem: &Problem, numbers: &mut NodeTable<u64>, worker: WorkerNo, more: u64)
     requires worker { worker < length problem.now.workers }
     requires over { IsOver problem.now.tree numbers.old }
     requires small { (v : TreeNode) → at_node numbers.old v + more < 2 ^ 64 }
@@ -108,4 +125,34 @@ fn add(numbers: &mut NodeTable<u64>, node: TreeNode, more: u64)
 {
     let sum = numbers.get(node) + more;
     numbers.set(node, sum);
+}
+
+/// Takes one from the numbers of a worker and of the nodes above it.
+pub fn one_less_above(problem: &Problem, numbers: &mut NodeTable<u64>, worker: WorkerNo)
+    requires worker { worker < length problem.now.workers }
+    requires over { IsOver problem.now.tree numbers.old }
+    requires some { (v : TreeNode) → is_under problem.now.tree (Worker worker) v ≡ true
+        → 0 < at_node numbers.old v }
+    ensures size { IsSized numbers.old numbers.new }
+    ensures less { (v : TreeNode) → at_node numbers.old v
+        ≡ at_node numbers.new v + cond (is_under problem.now.tree (Worker worker) v) 1 0 }
+{
+    let rack = problem.tree().rack_of(worker);
+    let centre = problem.tree().centre_of(rack);
+    one_less(numbers, TreeNode::Cluster);
+    one_less(numbers, TreeNode::Centre(centre.index() as u8));
+    one_less(numbers, TreeNode::Rack(rack.index() as u16));
+    one_less(numbers, TreeNode::Worker(worker.index() as u16));
+}
+
+// Takes one from the number of a node.
+fn one_less(numbers: &mut NodeTable<u64>, node: TreeNode)
+    requires node { HasNode numbers.old node }
+    requires some { 0 < at_node numbers.old node }
+    ensures here { at_node numbers.old node ≡ at_node numbers.new node + 1 }
+    ensures others { (v : TreeNode) → v ≢ node → at_node numbers.old v ≡ at_node numbers.new v }
+    ensures size { IsSized numbers.old numbers.new }
+{
+    let rest = numbers.get(node) - 1;
+    numbers.set(node, rest);
 }

@@ -1,11 +1,11 @@
 //! Ways up the tree, and all of its nodes.
 ghost use Rattle.std.specs.Prelude.{◌≡◌, ◌<◌, ◌↔◌, length, IsTrue, IfOk, All, Contains};
-ghost use Rattle.tree_planner.specs.Nodes.{AreNodes, IsNode, node_above, parent};
+ghost use Rattle.tree_flow.specs.Nodes.{AreNodes, IsNode, node_above, parent};
 
-use crate::nodes::TreeNode;
 use node_ids::{RackNo, WorkerNo};
 use rack_tree::RackTree;
 use std::alloc::{AllocError, Global};
+use tree_flow::TreeNode;
 
 /// The node from which a node hangs; the cluster's hangs from none.
 pub fn parent(tree: &RackTree, node: TreeNode) -> TreeNode

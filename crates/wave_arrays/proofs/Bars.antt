@@ -1,29 +1,17 @@
 -- The set of barred pairs, one pair after another.
-use Rattle.std.proofs.Common.{ℕ, List, [], ◌∷◌, ◌≡◌, ◌<◌, ◌∙◌, arith, inl, inr, length, refl}
+use Rattle.std.proofs.Common.{ℕ, List, [], ◌∷◌, ◌≡◌, ◌<◌, ◌∙◌, arith, inl, inr, length}
 use Rattle.std.specs.Prelude.{All, fold, ◌↔◌, ◌⊎◌}
 use Rattle.std.proofs.lemmas.List.{length-replicate, length-set}
-use Rattle.std.proofs.lemmas.List.Elements.{All-head, All-tail, Contains-append_left}
-use Rattle.std.proofs.lemmas.List.Elements.{Contains-append_right, Contains-push}
+use Rattle.std.proofs.lemmas.List.Elements.{All-head, All-tail}
+use Rattle.std.proofs.lemmas.List.Elements.{Contains-append_right}
 use Rattle.node_ids.specs.Sets.{HasPair, no_pairs, place_of_pair, with_pair}
 use Rattle.node_ids.proofs.Bits.{has-replicate, has-set}
-use Rattle.wave_arrays.specs.declared.rows.PairRow.{PairRow}
+use Rattle.wave_arrays.specs.declared.array_rows.PairRow.{PairRow}
 use Rattle.wave_arrays.specs.Rows.{IsListed, IsPairKnown, TheBarredAreThoseListed}
 
 -- the set with these pairs in it too
 abbrev with_all : List ℕ → List PairRow → List ℕ
 with_all set pairs = fold (λ set pair. with_pair set pair.split pair.worker) set pairs
-
-is_pair : (pair : PairRow) (s w : ℕ) → s ≡ pair.split → w ≡ pair.worker →
-    pair ≡ record { split = s; worker = w }
-is_pair pair s w e f = rw (e, f) refl
-
-none_listed : (s w : ℕ) → IsListed [] s w → ⊥
-none_listed s w listed = let lt = listed.1 in omega arith
-
-listed_first : (pair : PairRow) (rest : List PairRow) (s w : ℕ) → s ≡ pair.split → w ≡ pair.worker →
-    IsListed (pair ∷ rest) s w
-listed_first pair rest s w e f =
-    rw (e, f) (Contains-append_left (pair ∷ []) rest pair (Contains-push [] pair))
 
 -- one pair more
 has_one_more : (set : List ℕ) (pair : PairRow) (s w : ℕ) → length set ≡ 4096 → IsPairKnown 1024 256 pair →

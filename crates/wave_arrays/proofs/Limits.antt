@@ -6,8 +6,8 @@ use Rattle.std.proofs.lemmas.List.Elements.{All-map}
 use Rattle.rack_tree.proofs.Distances.{within_reach}
 use Rattle.wave_problem.specs.Wave.{IsWithinLimits, Split}
 use Rattle.wave_problem.specs.declared.lines.WorkerLine.{WorkerLine}
-use Rattle.wave_arrays.specs.declared.rows.SplitRow.{SplitRow}
-use Rattle.wave_arrays.specs.declared.rows.WaveRows.{WaveRows}
+use Rattle.wave_arrays.specs.declared.array_rows.SplitRow.{SplitRow}
+use Rattle.wave_arrays.specs.declared.array_rows.WaveRows.{WaveRows}
 use Rattle.wave_arrays.specs.Rows.{AreFit, IsSplitFit, split_of, tree_in, wave_in, worker_of}
 
 few_holders : (holders : List ℕ) (row : SplitRow) → IsSplitFit (length holders) row

@@ -3,9 +3,9 @@ use Rattle.std.specs.Prelude.{ℕ, ◌<◌, ◌≤◌, List, Option, Some, None,
 use Rattle.std.specs.List.{AllWithin, HoldsAt}
 use Rattle.wave_problem.specs.declared.TheConstants.{MAX_SLOTS}
 use Rattle.wave_problem.specs.Wave.{IsHeldWell}
-use Rattle.wave_arrays.specs.declared.rows.WaveRows.{WaveRows}
-use Rattle.wave_arrays.specs.declared.rows.WorkerRow.{WorkerRow}
-use Rattle.wave_arrays.specs.declared.rows.SplitRow.{SplitRow}
+use Rattle.wave_arrays.specs.declared.array_rows.WaveRows.{WaveRows}
+use Rattle.wave_arrays.specs.declared.array_rows.WorkerRow.{WorkerRow}
+use Rattle.wave_arrays.specs.declared.array_rows.SplitRow.{SplitRow}
 use Rattle.wave_arrays.specs.Rows.{IsSplitFit, split_of}
 
 -- the first of these rows that is not fit stands there; or each is

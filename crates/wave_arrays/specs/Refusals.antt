@@ -1,5 +1,5 @@
 -- What is so of rows that are refused.
-use Rattle.wave_arrays.specs.declared.rows.WaveRows.{WaveRows}
+use Rattle.wave_arrays.specs.declared.array_rows.WaveRows.{WaveRows}
 use Rattle.wave_arrays.specs.Rows.{AreBarsFit, AreHoldersFit, AreRacksFit, AreSplitsFit, AreWorkersFit}
 use Rattle.wave_arrays.specs.declared.fit.RowsError.{RowsError}
 use Rattle.wave_arrays.specs.declared.fit.RowsError.TheVariants.{Racks, Workers, Splits, Bars, Holders}

@@ -7,10 +7,10 @@ use Rattle.rack_tree.specs.declared.TheConstants.{MAX_CENTRES, MAX_RACKS, MAX_WO
 use Rattle.wave_problem.specs.declared.TheConstants.{MAX_SPLITS, MAX_HOLDERS, MAX_SLOTS, MAX_BYTES}
 use Rattle.wave_problem.specs.declared.lines.WorkerLine.{WorkerLine}
 use Rattle.wave_problem.specs.Wave.{IsHeldWell, Split, Wave, wave_from}
-use Rattle.wave_arrays.specs.declared.rows.WorkerRow.{WorkerRow}
-use Rattle.wave_arrays.specs.declared.rows.SplitRow.{SplitRow}
-use Rattle.wave_arrays.specs.declared.rows.PairRow.{PairRow}
-use Rattle.wave_arrays.specs.declared.rows.WaveRows.{WaveRows}
+use Rattle.wave_arrays.specs.declared.array_rows.WorkerRow.{WorkerRow}
+use Rattle.wave_arrays.specs.declared.array_rows.SplitRow.{SplitRow}
+use Rattle.wave_arrays.specs.declared.array_rows.PairRow.{PairRow}
+use Rattle.wave_arrays.specs.declared.array_rows.WaveRows.{WaveRows}
 
 -- ---- what the rows say
 

@@ -7,7 +7,7 @@ ghost use Rattle.wave_arrays.specs.Rows.{AreFit, AreRacksFit, AreWorkersFit, IsP
 ghost use Rattle.wave_arrays.specs.Rows.{TheBarredAreThoseListed, barred_in, split_of, tree_in, wave_in};
 ghost use Rattle.wave_arrays.specs.Rows.{worker_of};
 
-use crate::rows::{PairRow, SplitRow, WaveRows, WorkerRow};
+use crate::array_rows::{PairRow, SplitRow, WaveRows, WorkerRow};
 use node_ids::{CentreNo, PairSet, RackNo, SplitNo, WorkerNo};
 use rack_tree::RackTree;
 use std::alloc::{AllocError, Global};

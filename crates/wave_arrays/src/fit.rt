@@ -1,17 +1,16 @@
 //! Which rows make a problem. Nothing here takes memory.
-ghost use Rattle.std.specs.Prelude.{◌≡◌, ◌≢◌, ◌↔◌, ◌<◌, ◌≤◌, ℕ, IsTrue, All, AllPairs, IfErr, OnOk, false};
+ghost use Rattle.std.specs.Prelude.{◌≡◌, ◌≢◌, ◌↔◌, ◌<◌, ℕ, IsTrue, All, AllPairs, IfErr, OnOk, false};
 ghost use Rattle.std.specs.Prelude.{length, slice_index_or};
-ghost use Rattle.rack_tree.specs.declared.TheConstants.{MAX_CENTRES, MAX_RACKS, MAX_WORKERS};
-ghost use Rattle.wave_problem.specs.declared.TheConstants.{MAX_SPLITS, MAX_HOLDERS, MAX_SLOTS, MAX_BYTES};
 ghost use Rattle.wave_problem.specs.Wave.{IsHeldWell};
 ghost use Rattle.wave_arrays.specs.Rows.{AreBarsFit, AreFit, AreHoldersFit, AreRacksFit, AreSplitsFit};
 ghost use Rattle.wave_arrays.specs.Rows.{AreWorkersFit, IsPairKnown, IsSplitFit, split_of};
 ghost use Rattle.wave_arrays.specs.Refusals.{IsRefusal};
 
-use crate::rows::{PairRow, SplitRow, WaveRows};
+use crate::array_rows::{PairRow, SplitRow, WaveRows};
+use crate::places::{unfit_holders, unfit_pair, unfit_rack, unfit_split, unfit_worker};
 use rack_tree::{MAX_CENTRES, MAX_RACKS, MAX_WORKERS};
 use thiserror::Error;
-use wave_problem::{MAX_BYTES, MAX_HOLDERS, MAX_SLOTS, MAX_SPLITS};
+use wave_problem::{MAX_BYTES, MAX_HOLDERS, MAX_SPLITS};
 
 /// Which rows are not fit, in the order in which they are tested.
 #[derive(Clone, Copy, Debug, PartialEq, Eq, Error)]
@@ -59,48 +58,19 @@ pub fn test_rows(rows: &WaveRows<'_>) -> Result<(), RowsError>
 fn are_racks_fit(rows: &WaveRows<'_>) -> bool
     ensures { IsTrue result ↔ AreRacksFit rows.now }
 {
-    rows.centres <= MAX_CENTRES && rows.centre_of.len() <= MAX_RACKS && are_centres_known(rows)
-}
-
-fn are_centres_known(rows: &WaveRows<'_>) -> bool
-    ensures { IsTrue result ↔ All (λ centre. centre < rows.now.centres) rows.now.centre_of.now }
-{
-    let centres = rows.centres;
-    rows.centre_of
-        .iter()
-        .all(|centre| (*centre as usize) < centres)
+    rows.centres <= MAX_CENTRES && rows.centre_of.len() <= MAX_RACKS && unfit_rack(rows).is_none()
 }
 
 fn are_workers_fit(rows: &WaveRows<'_>) -> bool
     ensures { IsTrue result ↔ AreWorkersFit rows.now }
 {
-    rows.workers.len() <= MAX_WORKERS && are_racks_known(rows) && have_few_slots(rows)
-}
-
-fn are_racks_known(rows: &WaveRows<'_>) -> bool
-    ensures { IsTrue result ↔ All (λ row. row.rack < length rows.now.centre_of.now) rows.now.workers.now }
-{
-    let racks = rows.centre_of.len();
-    rows.workers.iter().all(|row| (row.rack as usize) < racks)
-}
-
-fn have_few_slots(rows: &WaveRows<'_>) -> bool
-    ensures { IsTrue result ↔ All (λ row. row.free ≤ MAX_SLOTS) rows.now.workers.now }
-{
-    rows.workers.iter().all(|row| row.free <= MAX_SLOTS)
+    rows.workers.len() <= MAX_WORKERS && unfit_worker(rows).is_none()
 }
 
 fn are_splits_fit(rows: &WaveRows<'_>) -> bool
     ensures { IsTrue result ↔ AreSplitsFit rows.now }
 {
-    rows.splits.len() <= MAX_SPLITS && are_each_fit(rows)
-}
-
-fn are_each_fit(rows: &WaveRows<'_>) -> bool
-    ensures { IsTrue result ↔ All (IsSplitFit (length rows.now.holders.now)) rows.now.splits.now }
-{
-    let holders = rows.holders.len();
-    rows.splits.iter().all(|row| is_split_fit(holders, row))
+    rows.splits.len() <= MAX_SPLITS && unfit_split(rows).is_none()
 }
 
 pub(crate) fn is_split_fit(holders: usize, row: &SplitRow) -> bool
@@ -114,11 +84,7 @@ pub(crate) fn is_split_fit(holders: usize, row: &SplitRow) -> bool
 fn are_bars_fit(rows: &WaveRows<'_>) -> bool
     ensures { IsTrue result ↔ AreBarsFit rows.now }
 {
-    let splits = rows.splits.len();
-    let workers = rows.workers.len();
-    rows.barred
-        .iter()
-        .all(|pair| is_pair_known(splits, workers, pair))
+    unfit_pair(rows).is_none()
 }
 
 pub(crate) fn is_pair_known(splits: usize, workers: usize, pair: &PairRow) -> bool
@@ -128,16 +94,10 @@ pub(crate) fn is_pair_known(splits: usize, workers: usize, pair: &PairRow) -> bo
 }
 
 fn are_holders_fit(rows: &WaveRows<'_>) -> bool
-    requires { All (IsSplitFit (length rows.now.holders.now)) rows.now.splits.now }
+    requires { AreSplitsFit rows.now }
     ensures { IsTrue result ↔ AreHoldersFit rows.now }
 {
-    let workers = rows.workers.len();
-    for row in rows.splits {
-        if !is_held_well(workers, rows.holders, row) {
-            return false;
-        }
-    }
-    true
+    unfit_holders(rows).is_none()
 }
 
 pub(crate) fn is_held_well(workers: usize, holders: &[u16], row: &SplitRow) -> bool

@@ -1,16 +1,18 @@
 //! Waves, plans and prices as arrays of numbers that a caller owns.
 //!
-//! Rows are tested kind by kind, before memory is taken; rows that are fit make one problem, which
-//! `specs/Rows.antt` names, or memory is wanting. Of rows that are not fit the first is found. A plan and prices are made of such arrays and written into
-//! them. Stands on `wave_problem` and `price_certificate`; `mrjob_c` offers it to callers in C.
+//! `test_rows` tests the rows kind by kind, before any memory is taken, and finds the first row that is not
+//! fit. `build_problem` makes of fit rows the one problem that `specs/Rows.antt` names, or finds no memory.
+//! Other calls make a plan and prices of such arrays, and write a plan and prices into them. The crate stands
+//! on `wave_problem` and `price_certificate`; `mrjob_c` offers it to callers in C.
 #![tactic(auto)]
 
+mod array_rows;
 mod build;
 mod claims;
 mod fit;
 mod places;
-mod rows;
 
+pub use array_rows::{PairRow, SplitRow, WaveRows, WorkerRow};
 pub use build::{build_problem, the_barred_are_those_listed};
 pub use claims::{
     NO_WORKER, are_starts_fit, plan_of, prices_of, write_split_prices, write_starts,
@@ -18,4 +20,3 @@ pub use claims::{
 };
 pub use fit::{RowsError, test_rows};
 pub use places::{unfit_holders, unfit_pair, unfit_rack, unfit_split, unfit_start, unfit_worker};
-pub use rows::{PairRow, SplitRow, WaveRows, WorkerRow};

@@ -4,9 +4,9 @@ ghost use Rattle.wave_arrays.specs.Claims.{IsStartFit};
 ghost use Rattle.wave_arrays.specs.Places.{HasFitHolders, IsFirstUnfit, IsWorkerFit};
 ghost use Rattle.wave_arrays.specs.Rows.{IsPairKnown, IsSplitFit};
 
+use crate::array_rows::{SplitRow, WaveRows, WorkerRow};
 use crate::claims::is_start_fit;
 use crate::fit::{is_held_well, is_pair_known, is_split_fit};
-use crate::rows::{SplitRow, WaveRows, WorkerRow};
 use wave_problem::MAX_SLOTS;
 
 /// The first rack that stands in no centre.

@@ -1,2 +1,3 @@
 pub mod Planned
 pub mod PlannedView
+pub mod Engine

@@ -1,8 +1,10 @@
 //! Plans a wave.
-ghost use Rattle.std.specs.Prelude.{◌≡◌, length, IfOk};
-ghost use Rattle.wave_problem.specs.Assignment.{pairs_of, total, IsBest};
-ghost use Rattle.price_certificate.specs.Certificate.{claim, Certifies, HasOneSize};
+ghost use Rattle.std.specs.Prelude.{◌≡◌, ℕ, length, IfOk, IsSome, Some};
+ghost use Rattle.wave_problem.specs.Assignment.{pairs_of, start_of, total, IsBest};
+ghost use Rattle.wave_problem.specs.Wave.{cost, IsUsable};
+ghost use Rattle.price_certificate.specs.Certificate.{claim, worker_price, Certifies, HasOneSize};
 ghost use Rattle.flow_network.specs.declared.kinds.NetworkKind.{NetworkKind};
+ghost use Rattle.rack_network.specs.Racks.{IsTree};
 ghost use Rattle.wave_planner.specs.Planned.{IsMadeOver, WasCertified, Planned};
 ghost use Rattle.wave_planner.specs.PlannedView.{planned_of};
 
@@ -11,7 +13,6 @@ use direct_network::DirectLayout;
 use flow_network::NetworkKind;
 use network_prices::priced_plan;
 use price_certificate::Prices;
-use rack_network::RackLayout;
 use std::alloc::{AllocError, Global};
 use std::marker::Model;
 use thiserror::Error;
@@ -35,6 +36,30 @@ impl Model for Planned {
 }
 
 impl Planned {
+    /// A plan with prices that are known to certify it in a problem, where slots that nobody can take have no
+    /// price. It needs no test, and no memory.
+    pub fn known(problem: &Problem, plan: Plan, prices: Prices) -> Planned
+        requires sizes { HasOneSize (claim problem.now plan.starts prices) plan.workers }
+        requires certifies { Certifies (claim problem.now plan.starts prices) }
+        requires idle { (w : ℕ) → (IsUsable problem.now.workers w → ⊥) → worker_price prices w ≡ 0 }
+        ensures over { IsMadeOver NetworkKind.Racks problem.now result.plan.starts result.prices }
+        ensures plan { result.plan ≡ plan }
+        ensures prices { result.prices ≡ prices }
+        ensures count { result.certified.count ≡ length (pairs_of plan.starts) }
+        ensures cost { result.certified.cost ≡ total problem.now (pairs_of plan.starts) }
+    {
+        problem.limits();
+        let certified = Certified {
+            count: plan.count(),
+            cost: cost_of(problem, &plan),
+        };
+        Planned {
+            plan,
+            prices,
+            certified,
+        }
+    }
+
     /// Which splits start, and where.
     pub fn plan(&self) -> &Plan
         ensures { result.now ≡ self.now.plan }
@@ -58,6 +83,19 @@ impl Planned {
     }
 }
 
+// The byte-distance of the starts of a plan together, each of which has a cost.
+fn cost_of(problem: &Problem, plan: &Plan) -> u64
+    requires splits { length plan.now.starts ≡ length problem.now.splits }
+    requires workers { plan.now.workers ≡ length problem.now.workers }
+    requires costs { (s w : ℕ) → start_of plan.now.starts s ≡ Some w → IsSome (cost problem.now s w) }
+    ensures { result ≡ total problem.now (pairs_of plan.now.starts) }
+{
+    match plan.total_cost(problem) {
+        Some(cost) => cost,
+        None => unreachable!(),
+    }
+}
+
 /// Why no plan is made.
 #[derive(Clone, Copy, Debug, PartialEq, Eq, Error)]
 pub enum PlanError {
@@ -67,7 +105,7 @@ pub enum PlanError {
 }
 
 /// A plan that starts as many splits as any admissible assignment, at the least cost among those, with
-/// prices that certify it. It is made over the network with racks.
+/// prices that certify it: one over the network with racks, found over the tree.
 pub fn plan(alloc: Global, problem: &Problem) -> Result<Planned, PlanError>
     ensures over { IfOk result (λ planned.
         IsMadeOver NetworkKind.Racks problem.now planned.plan.starts planned.prices) }
@@ -83,7 +121,8 @@ pub fn plan(alloc: Global, problem: &Problem) -> Result<Planned, PlanError>
     plan_with(alloc, problem, NetworkKind::Racks)
 }
 
-/// The same over a network of this kind. It takes one augmentation for each pending split.
+/// The same over a network of this kind. The direct network is built, and takes one augmentation for each
+/// pending split; that with racks is answered over the tree.
 pub fn plan_with(alloc: Global, problem: &Problem, kind: NetworkKind) -> Result<Planned, PlanError>
     ensures over { IfOk result (λ planned. IsMadeOver kind problem.now planned.plan.starts planned.prices) }
     ensures sizes { IfOk result (λ planned.
@@ -120,6 +159,24 @@ fn priced_plan_over(
 {
     match kind {
         NetworkKind::Direct => priced_plan::<DirectLayout>(alloc, problem),
-        NetworkKind::Racks => priced_plan::<RackLayout>(alloc, problem),
+        NetworkKind::Racks => plan_by_racks(alloc, problem),
     }
+}
+
+// A plan over the tree, which is read off the network with racks, with prices that certify it.
+fn plan_by_racks(alloc: Global, problem: &Problem) -> Result<(Plan, Prices), AllocError>
+    ensures over { IfOk result (λ pair. IsMadeOver NetworkKind.Racks problem.now pair.0.starts pair.1) }
+    ensures sizes { IfOk result (λ pair. HasOneSize (claim problem.now pair.0.starts pair.1) pair.0.workers) }
+    ensures certifies { IfOk result (λ pair. Certifies (claim problem.now pair.0.starts pair.1)) }
+{
+    know_tree(problem);
+    let (plan, prices) = tree_planner::plan(alloc, problem)?;
+    Ok((plan, prices))
+}
+
+// That the tree says where each worker and each rack stands, and that there are few of all.
+fn know_tree(problem: &Problem)
+    ensures { IsTree problem.now }
+{
+    problem.limits();
 }

@@ -1,52 +1,17 @@
 -- What tables of the live holders of a split tell of the least distance.
-use Rattle.std.proofs.Common.{◌≡◌, ℕ, ◌<◌, ◌≤◌, ◌↔◌, min, Bool, true, false, List, [], ◌∷◌, ◌++◌, length, map}
-use Rattle.std.proofs.Common.{fold, Some, refl, ap, ◌∙◌, ◌⊎◌, arith, get_or, set, ◌||◌}
-use Rattle.std.proofs.Common.{get_or-set_same, get_or-set_other, slice_index}
+use Rattle.std.proofs.Common.{◌≡◌, ℕ, ◌<◌, ◌≤◌, min, Bool, true, false, List, [], ◌∷◌, length, map}
+use Rattle.std.proofs.Common.{fold, Some, refl, ap, ◌∙◌, arith, get_or, ◌||◌}
+use Rattle.std.proofs.Common.{slice_index}
 use Rattle.std.specs.Prelude.{◌==◌, if◌then◌else◌}
 use Rattle.std.specs.List.{list_any}
 use Rattle.std.proofs.Math.Nat.{zero-min, min-zero}
-use Rattle.std.proofs.Math.Bool.{or-false}
-use Rattle.std.proofs.lemmas.Bool.{cases_eq, eqb-true, eq-eqb, ne_eqb, or_cases, or_left, or_right}
-use Rattle.std.proofs.lemmas.Bool.Decides.{same_from_decides}
-use Rattle.std.proofs.lemmas.List.Folds.{list_any-append}
-use Rattle.node_ids.specs.Sets.{Has, has_number}
+use Rattle.node_ids.specs.Sets.{has_number}
 use Rattle.rack_tree.specs.Tree.{Tree, centre_at, distance}
 use Rattle.rack_tree.specs.declared.TheConstants.{MAX_CENTRES, MAX_RACKS}
 use Rattle.rack_tree.proofs.Distances.{steps_by}
 use Rattle.wave_problem.specs.SplitCosts.{Shows}
 use Rattle.wave_problem.specs.Sums.{least}
 use Rattle.wave_problem.specs.declared.split_costs.LiveHolders.{LiveHolders}
-
--- a test of one element more
-list_any-push : (p : ℕ → Bool) (xs : List ℕ) (x : ℕ) → list_any p (xs ++ x ∷ []) ≡ (list_any p xs || p x)
-list_any-push p xs x =
-    list_any-append p xs (x ∷ []) ∙ ap (λ (b : Bool). list_any p xs || b) (or-false (p x))
-
--- a set of numbers after one was put
-pub put_more : (old new live : List ℕ) (x : ℕ) → ((n : ℕ) → Has new n ↔ ((n ≡ x) ⊎ Has old n)) →
-    ((w : ℕ) → has_number old w ≡ list_any (λ h. h == w) live) → (w : ℕ) → has_number new w ≡ list_any
-    (λ h. h == w) (live ++ x ∷ [])
-put_more old new live x members shown w =
-    grind (arith, same_from_decides, or_cases, eqb-true, or_right, eq-eqb, or_left, list_any-push)
-
--- a table of the places of workers, by their racks or by their centres, after one was marked
-pub marked_more : (marks : List Bool) (place_of : ℕ → ℕ) (live : List ℕ) (x mark r : ℕ) → mark < length marks
-    →
-    place_of x ≡ mark →
-    get_or marks r false ≡ list_any (λ h. place_of h == r) live →
-    get_or (set marks mark true) r false ≡ list_any (λ h. place_of h == r) (live ++ x ∷ [])
-marked_more marks place_of live x mark r inside here shown =
-    grind (
-      arith,
-      list_any-push,
-      cases_eq,
-      eq-eqb,
-      get_or-set_same,
-      or_right,
-      ne_eqb,
-      get_or-set_other,
-      or-false,
-    )
 
 -- the steps from a worker of the tree to the nearest of a list of others, or 6 where the list is empty
 abbrev pub steps_to : Tree → ℕ → List ℕ → ℕ

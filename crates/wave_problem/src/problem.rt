@@ -1,5 +1,5 @@
 ghost use Rattle.std.specs.Prelude.{◌≡◌, ◌≢◌, ℕ, List, [], ◌∷◌, ◌++◌, ◌+◌, ◌*◌, ◌<◌, ◌≤◌, ◌↔◌, length, map};
-ghost use Rattle.std.specs.Prelude.{sum_by, All, AllPairs, IsTrue, OnOk, IfOk, IfSome, Err};
+ghost use Rattle.std.specs.Prelude.{slice_set, sum_by, All, AllPairs, IsTrue, OnOk, IfOk, IfSome, Err};
 ghost use Rattle.node_ids.specs.Sets.{Has, HasPair};
 ghost use Rattle.rack_tree.specs.Tree.{distance};
 ghost use Rattle.rack_tree.specs.declared.TheConstants.{MAX_DISTANCE, MAX_WORKERS};
@@ -293,6 +293,26 @@ impl Problem {
             && self.is_live(worker)
             && self.free(worker) > 0
             && !self.is_barred(split, worker)
+    }
+
+    /// Puts another line in the place of a worker's.
+    pub fn set_worker(&mut self, worker: WorkerNo, line: WorkerLine)
+        requires worker { worker < length self.old.workers }
+        requires slots { line.free ≤ MAX_SLOTS }
+        ensures { self.new ≡ record self.old { workers = slice_set self.old.workers worker line } }
+    {
+        self.workers[worker.index()] = line;
+    }
+
+    /// Says whether the split waits for a start.
+    pub fn set_pending(&mut self, split: SplitNo, pending: bool)
+        requires { split < length self.old.splits }
+        ensures { self.new ≡ record self.old {
+          splits = slice_set self.old.splits split
+              (record (split_at self.old split) { pending = pending });
+        } }
+    {
+        self.splits[split.index()].pending = pending;
     }
 
     /// What one start more is worth, in byte-distance: more than any admissible assignment costs.

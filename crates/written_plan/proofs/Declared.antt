@@ -20,8 +20,8 @@ use Rattle.plan_text.specs.Names.{names_in, names_of, nth_word}
 use Rattle.plan_text.specs.Tidy.{AreTidy, IsTidyRow}
 use Rattle.plan_text.specs.Value.{MakesWave, price_at, prices_in, start_at}
 use Rattle.plan_text.specs.Value.{declared_starts}
-use Rattle.plan_text.proofs.Named.{keyword_of, named_row}
-use Rattle.plan_text.proofs.Tidy.{names_differ}
+use Rattle.line_rules.proofs.OfKeyword.{keyword_of}
+use Rattle.plan_text.proofs.Named.{named_row, names_differ}
 use Rattle.written_plan.proofs.Heads.{AreApart, IsBare}
 use Rattle.written_plan.proofs.Pairs.{new-none, price_said, start_pairs, start_said}
 use Rattle.written_plan.proofs.PlanPart.{AreNames, plan_rows, price_names, rows-other, rows-price, rows-start}

@@ -27,11 +27,6 @@ fit-append k (l ∷ ls) more (s ∷ ss) ts fits rest =
     (fits.0, fit-append (entered k s) ls more ss ts fits.1 rest)
 fit-append k ls more ss ts fits rest = absurd fits
 
-pub after-append : (k : Known) (ss ts : List Statement)
-    → names_after k (ss ++ ts) ≡ names_after (names_after k ss) ts
-after-append k [] ts = refl
-after-append k (s ∷ ss) ts = after-append (entered k s) ss ts
-
 fit_taken : (k : Known) (line : Line) (s : Statement) → IsFitLine k line s → Takes k line (entered k s)
 fit_taken k line s fits = grind arith
 

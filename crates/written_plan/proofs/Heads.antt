@@ -1,6 +1,6 @@
 -- The head of a text to plan from: it fits a text to check as well, and its names are names, each once.
 use Rattle.std.proofs.Common.{List, [], ◌∷◌, ◌++◌, ◌≡◌, ◌≢◌, ◌≤◌, ◌<◌, ◌∙◌, ◌⊎◌, Some, inl}
-use Rattle.std.proofs.Common.{inr, ap, arith, codes, length, refl, subst, suc, sym, zero}
+use Rattle.std.proofs.Common.{inr, ap, arith, codes, length, refl, subst, sym}
 use Rattle.std.specs.List.{All, Contains}
 use Rattle.std.proofs.lemmas.Grind.{common_steps}
 use Rattle.std.proofs.lemmas.List.{map-append}
@@ -12,15 +12,11 @@ use Rattle.line_shapes.specs.declared.keyword.Keyword.{Keyword}
 use Rattle.line_shapes.specs.declared.keyword.Keyword.TheVariants.{Worker, Split, Start, Price, End}
 use Rattle.line_shapes.specs.declared.place.Place.TheVariants.{New}
 use Rattle.line_rules.specs.Entering.{Key, entered_of, entering_of, key_of}
-use Rattle.line_rules.specs.Faults.{IsFit, Keep, counted_by}
-use Rattle.line_rules.specs.Faults.{follows}
-use Rattle.line_rules.specs.declared.entering.Follow.{Follow}
-use Rattle.line_rules.specs.declared.entering.Follow.TheVariants.{Any}
+use Rattle.line_rules.specs.Faults.{IsFit, Keep}
 use Rattle.line_rules.specs.Known.{HasRow, IsTaken, Known, entered, keys_of, rows_of}
 use Rattle.line_rules.specs.Reading.{AreFitLines, IsFitLine}
 use Rattle.line_rules.specs.Sections.{section_of}
-use Rattle.line_rules.specs.declared.entering.Entering.{Entering}
-use Rattle.line_rules.specs.declared.entering.Entering.TheVariants.{Nothing, Word as ByWord}
+use Rattle.line_rules.specs.declared.entering.Entering.TheVariants.{Word as ByWord}
 use Rattle.line_rules.specs.declared.purpose.Purpose.{Purpose}
 use Rattle.line_rules.specs.declared.purpose.Purpose.TheVariants.{Checking, Planning}
 use Rattle.line_rules.specs.declared.rule.Rule.TheVariants as rule
@@ -46,10 +42,6 @@ none_after k (l ∷ ls) (s ∷ ss) ended f = absurd (f.0.not_ended ended)
 none_after k ls ss ended f = absurd f
 
 -- ---- the rows of one line more
-
-pub one_element : {X : Type 0} (x y : X) → Contains (x ∷ []) y → x ≡ y
-one_element x y (zero, lt, is) = is
-one_element x y (suc i, lt, is) = absurd (omega arith)
 
 row-entered : (s : Statement) (key : Key) → Contains (keys_of (entered_of s)) key → key_of s ≡ key
 row-entered s key = grind arith
@@ -112,15 +104,6 @@ apart-entered rows s whole free apart n split worker =
 -- the same lines, for a text to check
 abbrev pub checking : Known → Known
 checking k = record k { purpose = Checking }
-
-same_follows : (k : Known) (f : Follow) → follows f (checking k) ≡ follows f k
-same_follows k Any = refl
-same_follows k f = refl
-
-same_count : (k : Known) (word : Keyword) (e : Entering) →
-    counted_by e (checking k) word ≡ counted_by e k word
-same_count k word Nothing = refl
-same_count k word e = refl
 
 fit-checking : (k : Known) (s : Statement) → k.purpose ≡ Planning → IsOfHead s.keyword → IsFit k s
     → IsFit (checking k) s
@@ -205,11 +188,6 @@ head_and_end k (l ∷ ls) (s ∷ ss) planning bare apart going fit ended =
       | inr last ↦ grind (arith, end_said, said, at_end)
     ]
 head_and_end k ls ss planning bare apart going fit ended = absurd fit
-
-pub after-checking : (k : Known) (ss : List Statement)
-    → names_after (checking k) ss ≡ checking (names_after k ss)
-after-checking k [] = refl
-after-checking k (s ∷ ss) = after-checking (entered k s) ss
 
 pub bare-none : IsBare []
 bare-none = record { no_starts = refl; no_prices = refl }

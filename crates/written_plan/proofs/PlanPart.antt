@@ -24,7 +24,8 @@ use Rattle.line_rules.specs.declared.entering.Entering.TheVariants.{Nothing, InT
 use Rattle.line_rules.specs.declared.purpose.Purpose.TheVariants.{Checking}
 use Rattle.line_rules.proofs.FitLines.{names_after}
 use Rattle.plan_text.specs.Names.{names_in, names_of, rows_in, nth_word}
-use Rattle.plan_text.proofs.Named.{at_element, key_by_word, row_named}
+use Rattle.line_rules.proofs.OfKeyword.{at_element}
+use Rattle.plan_text.proofs.Named.{key_by_word, row_named}
 use Rattle.written_plan.specs.Joined.{IsWritable}
 use Rattle.written_plan.proofs.Entered.{HasNames, IsBegun, are_prices, are_starts, fit-end, fit-plan}
 use Rattle.written_plan.proofs.Entered.{fit-prices, fit-starts, has_price, names-priced, names-started}

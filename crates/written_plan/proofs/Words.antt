@@ -17,7 +17,7 @@ use Rattle.line_shapes.specs.Lines.{Says, Statement, words_in}
 use Rattle.line_shapes.specs.Places.{place_at, places_of}
 use Rattle.line_shapes.specs.declared.demand.Demand.TheVariants.{Shape}
 use Rattle.line_shapes.specs.declared.keyword.Keyword.{Keyword}
-use Rattle.line_shapes.specs.declared.keyword.Keyword.TheVariants.{Plan, Start, Price, End}
+use Rattle.line_shapes.specs.declared.keyword.Keyword.TheVariants.{Start, Price}
 use Rattle.written_plan.proofs.Lines.{IsPlain, spaced, words_of-spaced}
 
 -- ---- names and numbers
@@ -58,9 +58,6 @@ printable-spaced (w ∷ v ∷ ws) h =
     (printable-spaced (v ∷ ws) (All-tail (All IsPlain) w (v ∷ ws) h)))
 
 -- ---- what holds of each word of a short line
-
-pub none_of : (P : ℕ → Word → Type 0) (i : ℕ) → i < length {A = Word} [] → P i (get_or [] i [])
-none_of P i lt = absurd (omega arith)
 
 pub both_of : (P : ℕ → Word → Type 0) (a b : Word) → P 0 a → P 1 b
     → (i : ℕ) → i < length (a ∷ b ∷ []) → P i (get_or (a ∷ b ∷ []) i [])
@@ -104,10 +101,6 @@ made_of_two k a b cut few first p q s t =
     (All-cons (All IsPlain) b [] q (All-nil (All IsPlain)))))
     few (both_of (λ i v. MeetsDemand Shape (place_at k i) v) a b s t)
 
-made_of_none : (k : Keyword) → ((line : Line) → words_in k line ≡ words_of line) → length (places_of k) ≤ 0
-    → All IsPlain (spelling_of k) → IsMade k []
-made_of_none k cut few first = grind arith
-
 pub made-start : (split worker : Word) → IsName split → IsName worker → IsMade Start (split ∷ worker ∷ [])
 made-start split worker s w =
     made_of_two Start split worker (λ line. refl) (omega arith)
@@ -120,11 +113,3 @@ made-price name amount n small =
     made_of_two Price name (decimal amount) (λ line. refl) (omega arith)
     (All-from_recursion IsPlain (codes "price") (search rules)) (plain-name name n)
     (plain-decimal amount small) n.0 (number-decimal amount small)
-
-pub made-plan : IsMade Plan []
-made-plan =
-    made_of_none Plan (λ line. refl) (omega arith) (All-from_recursion IsPlain (codes "plan") (search rules))
-
-pub made-end : IsMade End []
-made-end =
-    made_of_none End (λ line. refl) (omega arith) (All-from_recursion IsPlain (codes "end") (search rules))

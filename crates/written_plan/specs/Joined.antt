@@ -47,8 +47,8 @@ pub record ReadsBack (text : List ℕ) (wave : Wave) (starts : List (Option ℕ)
   pub same_starts : value.starts statements ≡ starts
   pub same_prices : value.prices statements ≡ prices
 
--- a plan that was written for the problem of a text that was read, put together with the head of that text,
--- reads back as itself, where the whole is no longer than a text may be
+-- a plan written for a text's problem, joined to that text's head, reads back as itself, if the whole is not
+-- too long
 abbrev pub WrittenPlanReadsBack : Type 0
 WrittenPlanReadsBack = (text : List ℕ) (v : ProblemText) (starts : List (Option ℕ)) (prices : PriceList)
     → IsProblemOf text v → HasFitLines Planning text → IsWritable v.splits v.workers starts prices

@@ -1,8 +1,8 @@
 //! The law that a plan, written beside the problem text that it was made from, is a text to check.
 //!
-//! The head of a text to plan from, a line `plan`, the lines that are written for starts and prices, and
-//! `end` make a text without a fault, which declares the same wave, starts and prices. It stands on the
-//! rows of `line_rules` and the texts of `plan_text`, for the program that writes plans.
+//! Take the head of a text to plan from, a line `plan`, the written starts and prices, and `end`. This text
+//! has no fault, and declares the same wave, starts and prices. The law stands on the rows of `line_rules`
+//! and the texts of `plan_text`, for the program that writes plans.
 #![tactic(auto)]
 
 ghost use Rattle.written_plan.specs.Joined.{WrittenPlanReadsBack};

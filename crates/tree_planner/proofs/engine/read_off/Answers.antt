@@ -1,7 +1,7 @@
 use Rattle.std.proofs.Common.{◌∙◌, ap, length, subst, sym}
-use Rattle.tree_planner.specs.Settled.{IsHandedDown}
+use Rattle.tree_flow.specs.Settled.{IsHandedDown}
 use Rattle.tree_planner.specs.View.{state_of}
-use Rattle.tree_planner.proofs.Certified.{engine_certifies, engine_is_best}
+use Rattle.tree_flow.proofs.Certified.{engine_certifies, engine_is_best}
 use Rattle.tree_planner.proofs.engine.read_off.Goals as goal
 
 pub returns-clause-sizes : goal.returns-clause-sizes
@@ -29,3 +29,6 @@ returns-clause-best c =
     engine_is_best wave state plan.starts c.limits.ensures.problem.near c.requires.fixed.known
     c.requires.standing.kept (subst (λ xs. IsHandedDown wave state xs) (sym c.from_starts-plan.ensures.starts)
     c.in_ok-starts.ensures.down) c.in_ok-prices.prices c.in_ok-prices.ensures.prices
+
+pub returns-clause-idle : goal.returns-clause-idle
+returns-clause-idle c = c.in_ok-prices.ensures.prices.unusable

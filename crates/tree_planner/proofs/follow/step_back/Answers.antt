@@ -1,15 +1,15 @@
 use Rattle.std.proofs.Common.{◌≡◌, ℕ, ◌+◌, ◌-◌, ◌<◌, ◌∙◌, ap, sym, subst, arith}
-use Rattle.tree_planner.specs.declared.nodes.End.{End}
-use Rattle.tree_planner.specs.declared.nodes.Place.TheVariants.{Stands}
+use Rattle.tree_flow.specs.declared.nodes.End.{End}
+use Rattle.tree_flow.specs.declared.nodes.Place.TheVariants.{Stands}
 use Rattle.tree_planner.specs.declared.search.Step.TheVariants.{Down, Over, Start, Up}
-use Rattle.tree_planner.specs.Moves.{IsFlowSet}
-use Rattle.tree_planner.specs.Nodes.{parent, IsNode}
+use Rattle.tree_flow.specs.Moves.{IsFlowSet}
+use Rattle.tree_flow.specs.Nodes.{parent, IsNode}
 use Rattle.tree_planner.specs.Searching.{order_at, step_at}
 use Rattle.tree_planner.specs.View.{state_of}
 use Rattle.tree_planner.specs.Way.{IsFollowing}
 use Rattle.tree_planner.proofs.Followed.{follow_down, follow_over, follow_start, follow_up, stood, tight_at}
-use Rattle.tree_planner.proofs.Moved.{here_now}
-use Rattle.tree_planner.proofs.Under.{slots-most}
+use Rattle.tree_flow.proofs.Moved.{here_now}
+use Rattle.tree_flow.proofs.Under.{slots-most}
 use Rattle.tree_planner.proofs.follow.step_back.Goals as goal
 
 pub overflow_add-units : goal.overflow_add-units

@@ -1,8 +1,8 @@
 use Rattle.std.proofs.Common.{◌≡◌, ◌-◌, ap, subst, arith}
 use Rattle.tree_planner.specs.Handing.{IsUnitAt}
-use Rattle.tree_planner.specs.Nodes.{IsNode}
-use Rattle.tree_planner.specs.Settled.{HasComeDown}
-use Rattle.tree_planner.specs.Table.{at_node, IsOver}
+use Rattle.tree_flow.specs.Nodes.{IsNode}
+use Rattle.tree_flow.specs.Settled.{HasComeDown}
+use Rattle.tree_flow.specs.Table.{at_node, IsOver}
 use Rattle.tree_planner.proofs.Added.{over_sized}
 use Rattle.tree_planner.proofs.Handed.{come_on, go_on, height, height_less, land, land_on, lower, next, set_falls}
 use Rattle.tree_planner.proofs.hand_down.+go_down.Goals as goal
@@ -38,7 +38,7 @@ go_down-requires t c =
     let over : IsOver wave.tree mid = over_sized wave.tree left mid c.requires.over c.set.ensures.size in (
       omega arith,
       (
-        c.requires.nodes,
+        c.requires.children,
         (
           facts.known,
           (

@@ -1,7 +1,7 @@
 use Rattle.std.proofs.Common.{◌≡◌, ◌<◌, length, All}
 use Rattle.std.specs.Prelude.{IfSome}
 use Rattle.tree_planner.specs.Handing.{IsHandedTo}
-use Rattle.tree_planner.specs.Table.{IsOver}
+use Rattle.tree_flow.specs.Table.{IsOver}
 use Rattle.tree_planner.specs.View.{state_of}
 use Rattle.tree_planner.proofs.hand_down.all_starts.Given as goal
 

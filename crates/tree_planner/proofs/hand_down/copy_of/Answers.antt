@@ -1,8 +1,8 @@
 use Rattle.std.proofs.Common.{◌≡◌, ℕ, ◌∙◌, get_or, sym, inl, inr, arith}
 use borrow.Author.Count.{below_more}
-use Rattle.tree_planner.specs.declared.nodes.TreeNode.TheVariants.{Worker}
-use Rattle.tree_planner.specs.Nodes.{IsNode}
-use Rattle.tree_planner.specs.Table.{at_node}
+use Rattle.tree_flow.specs.declared.nodes.TreeNode.TheVariants.{Worker}
+use Rattle.tree_flow.specs.Nodes.{IsNode}
+use Rattle.tree_flow.specs.Table.{at_node}
 use Rattle.tree_planner.proofs.Added.{over_sized}
 use Rattle.tree_planner.proofs.Handed.{copy_set}
 use Rattle.tree_planner.proofs.Looked.{at_each, known_or_not}

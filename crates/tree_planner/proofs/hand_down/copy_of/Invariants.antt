@@ -1,6 +1,6 @@
 use Rattle.std.proofs.Common.{◌≡◌, ℕ, ◌<◌, get_or}
-use Rattle.tree_planner.specs.declared.nodes.TreeNode.TheVariants.{Worker}
-use Rattle.tree_planner.specs.Table.{at_node, IsOver}
+use Rattle.tree_flow.specs.declared.nodes.TreeNode.TheVariants.{Worker}
+use Rattle.tree_flow.specs.Table.{at_node, IsOver}
 use Rattle.tree_planner.proofs.hand_down.copy_of.Given as goal
 
 abbrev pub invariant-loop-node : goal.invariant-loop-node

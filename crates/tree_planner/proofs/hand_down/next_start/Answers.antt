@@ -1,7 +1,7 @@
 use Rattle.std.proofs.Common.{◌≡◌, ℕ, ◌<◌, ◌++◌, ◌∷◌, [], ◌∙◌, length, Some, refl, sym, subst, arith}
-use Rattle.tree_planner.specs.declared.nodes.Place.TheVariants.{Stands}
+use Rattle.tree_flow.specs.declared.nodes.Place.TheVariants.{Stands}
 use Rattle.tree_planner.specs.Handing.{IsHandedTo}
-use Rattle.tree_planner.specs.State.{place_of}
+use Rattle.tree_flow.specs.State.{place_of}
 use Rattle.tree_planner.specs.View.{state_of}
 use Rattle.tree_planner.proofs.Starts.{hand_none, hand_some, waits_else}
 use Rattle.tree_planner.proofs.hand_down.next_start.Goals as goal

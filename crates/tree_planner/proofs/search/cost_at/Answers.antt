@@ -1,7 +1,7 @@
 use Rattle.std.proofs.Common.{◌*◌, arith}
 use Rattle.tree_planner.specs.Searching.{wave_of}
-use Rattle.tree_planner.proofs.Costs.{scaled-le}
-use Rattle.tree_planner.proofs.Ends.{reach_few}
+use Rattle.tree_flow.proofs.Costs.{scaled-le}
+use Rattle.tree_flow.proofs.Ends.{reach_few}
 use Rattle.tree_planner.proofs.search.cost_at.Goals as goal
 
 pub overflow_add-result : goal.overflow_add-result

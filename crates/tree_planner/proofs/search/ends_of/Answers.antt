@@ -1,7 +1,7 @@
 use Rattle.std.proofs.Common.{◌≡◌, ◌<◌, ◌↔◌, length, Contains, [], sym, subst, ◌∙◌, arith}
 use Rattle.std.proofs.lemmas.List.{get_or_default}
 use Rattle.tree_planner.specs.Ends.{ends_at}
-use Rattle.tree_planner.specs.Nodes.{IsEnd}
+use Rattle.tree_flow.specs.Nodes.{IsEnd}
 use Rattle.tree_planner.specs.Searching.{wave_of}
 use Rattle.tree_planner.proofs.search.ends_of.Goals as goal
 

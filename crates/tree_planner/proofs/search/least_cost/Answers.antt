@@ -1,8 +1,8 @@
 use Rattle.std.proofs.Common.{◌≤◌, arith, get_or}
 use Rattle.std.proofs.lemmas.List.Elements.{Contains-get_or}
-use Rattle.tree_planner.specs.declared.nodes.End.{End}
-use Rattle.tree_planner.specs.declared.nodes.TreeNode.TheVariants.{Worker}
-use Rattle.tree_planner.specs.State.{reach_cost}
+use Rattle.tree_flow.specs.declared.nodes.End.{End}
+use Rattle.tree_flow.specs.declared.nodes.TreeNode.TheVariants.{Worker}
+use Rattle.tree_flow.specs.State.{reach_cost}
 use Rattle.tree_planner.specs.Searching.{state_at, wave_of}
 use Rattle.tree_planner.proofs.Looked.{at_each}
 use Rattle.tree_planner.proofs.search.least_cost.Goals as goal

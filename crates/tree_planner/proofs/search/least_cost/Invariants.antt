@@ -1,7 +1,7 @@
 use Rattle.std.proofs.Common.{ℕ, ◌<◌, ◌≤◌, get_or}
 use Rattle.wave_problem.specs.Wave.{reward}
-use Rattle.tree_planner.specs.declared.nodes.TreeNode.TheVariants.{Worker}
-use Rattle.tree_planner.specs.State.{reach_cost}
+use Rattle.tree_flow.specs.declared.nodes.TreeNode.TheVariants.{Worker}
+use Rattle.tree_flow.specs.State.{reach_cost}
 use Rattle.tree_planner.specs.Searching.{state_at, wave_of}
 use Rattle.tree_planner.proofs.search.least_cost.Given as goal
 

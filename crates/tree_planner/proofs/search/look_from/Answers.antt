@@ -10,7 +10,7 @@ look_down-requires-clause-searching c =
     let old = c.args.search.now in
     let mid = c.settle.new.self in
     (settle_all g old mid c.args.node c.requires.searching c.requires.nearest c.settle.ensures.rest
-    (over_sized (wave_of g).tree old.order mid.order c.requires.searching.order c.settle.ensures.size)
+    (over_sized (wave_of g).tree old.order mid.order c.requires.searching.tables.order c.settle.ensures.size)
     c.settle.ensures.here c.settle.ensures.others).0
 
 pub look_down-requires-clause-at : goal.look_down-requires-clause-at
@@ -19,7 +19,7 @@ look_down-requires-clause-at c =
     let old = c.args.search.now in
     let mid = c.settle.new.self in
     (settle_all g old mid c.args.node c.requires.searching c.requires.nearest c.settle.ensures.rest
-    (over_sized (wave_of g).tree old.order mid.order c.requires.searching.order c.settle.ensures.size)
+    (over_sized (wave_of g).tree old.order mid.order c.requires.searching.tables.order c.settle.ensures.size)
     c.settle.ensures.here c.settle.ensures.others).1
 
 pub look_up-requires-clause-at : goal.look_up-requires-clause-at
@@ -29,7 +29,7 @@ look_up-requires-clause-at c =
     let mid = c.settle.new.self in
     at_kept mid c.look_down.new.search c.look_down.ensures.improves c.args.node
     (settle_all g old mid c.args.node c.requires.searching c.requires.nearest c.settle.ensures.rest
-    (over_sized (wave_of g).tree old.order mid.order c.requires.searching.order c.settle.ensures.size)
+    (over_sized (wave_of g).tree old.order mid.order c.requires.searching.tables.order c.settle.ensures.size)
     c.settle.ensures.here c.settle.ensures.others).1
 
 pub look_over-requires-clause-at : goal.look_over-requires-clause-at
@@ -42,21 +42,7 @@ look_over-requires-clause-at c =
     (improves_trans mid c.look_down.new.search two c.look_down.ensures.improves c.look_up.ensures.improves)
     c.args.node
     (settle_all g old mid c.args.node c.requires.searching c.requires.nearest c.settle.ensures.rest
-    (over_sized (wave_of g).tree old.order mid.order c.requires.searching.order c.settle.ensures.size)
-    c.settle.ensures.here c.settle.ensures.others).1
-
-pub look_bottom-requires-clause-at : goal.look_bottom-requires-clause-at
-look_bottom-requires-clause-at c =
-    let g = c.args.ground.now in
-    let old = c.args.search.now in
-    let mid = c.settle.new.self in
-    let two = c.look_up.new.search in
-    let three = c.look_over.new.search in
-    at_kept mid three (improves_trans mid two three
-    (improves_trans mid c.look_down.new.search two c.look_down.ensures.improves c.look_up.ensures.improves)
-    c.look_over.ensures.improves) c.args.node
-    (settle_all g old mid c.args.node c.requires.searching c.requires.nearest c.settle.ensures.rest
-    (over_sized (wave_of g).tree old.order mid.order c.requires.searching.order c.settle.ensures.size)
+    (over_sized (wave_of g).tree old.order mid.order c.requires.searching.tables.order c.settle.ensures.size)
     c.settle.ensures.here c.settle.ensures.others).1
 
 pub returns-clause-looked : goal.returns-clause-looked
@@ -67,11 +53,11 @@ returns-clause-looked c =
     let one = c.look_down.new.search in
     let at = at_kept mid one c.look_down.ensures.improves c.args.node
     (settle_all g old mid c.args.node c.requires.searching c.requires.nearest c.settle.ensures.rest
-    (over_sized (wave_of g).tree old.order mid.order c.requires.searching.order c.settle.ensures.size)
+    (over_sized (wave_of g).tree old.order mid.order c.requires.searching.tables.order c.settle.ensures.size)
     c.settle.ensures.here c.settle.ensures.others).1 in
-    looked_all g c.args.node one c.look_up.new.search c.look_over.new.search c.look_bottom.new.search at.settled
-    c.look_up.ensures.improves c.look_over.ensures.improves c.look_bottom.ensures.improves
-    c.look_down.ensures.down c.look_up.ensures.up c.look_over.ensures.over c.look_bottom.ensures.bottom
+    looked_all g c.args.node one c.look_up.new.search c.look_over.new.search at.settled
+    c.look_up.ensures.improves c.look_over.ensures.improves c.look_over.ensures.searching
+    c.look_down.ensures.down c.look_up.ensures.up c.look_over.ensures.over
 
 pub returns-clause-settles : goal.returns-clause-settles
 returns-clause-settles c =
@@ -80,10 +66,9 @@ returns-clause-settles c =
     let mid = c.settle.new.self in
     let two = c.look_up.new.search in
     let three = c.look_over.new.search in
-    let four = c.look_bottom.new.search in
     (settle_all g old mid c.args.node c.requires.searching c.requires.nearest c.settle.ensures.rest
-    (over_sized (wave_of g).tree old.order mid.order c.requires.searching.order c.settle.ensures.size)
-    c.settle.ensures.here c.settle.ensures.others).2 four
-    (improves_trans mid three four (improves_trans mid two three
+    (over_sized (wave_of g).tree old.order mid.order c.requires.searching.tables.order c.settle.ensures.size)
+    c.settle.ensures.here c.settle.ensures.others).2 three
+    (improves_trans mid two three
     (improves_trans mid c.look_down.new.search two c.look_down.ensures.improves c.look_up.ensures.improves)
-    c.look_over.ensures.improves) c.look_bottom.ensures.improves)
+    c.look_over.ensures.improves)

@@ -1,16 +1,17 @@
 use Rattle.std.proofs.Common.{arith, inl}
+use Rattle.tree_planner.proofs.Room.{room_left}
 use Rattle.tree_planner.proofs.search.over_to.Goals as goal
 
 pub overflow_add-distance : goal.overflow_add-distance
 overflow_add-distance c =
-    let most = c.requires.searching.most c.args.end.node in
+    let most = c.requires.at.reached in
     let limit = c.requires.searching.limit in
     let small = c.requires.ground.small in
     omega arith
 
-pub returns-clause-searching : goal.returns-clause-searching
-returns-clause-searching c =
-    c.reach.ensures.kept c.args.ground.now c.requires.searching (λ none. record {
+pub returns-then-is_nearer-clause-searching : goal.returns-then-is_nearer-clause-searching
+returns-then-is_nearer-clause-searching c =
+    c.reach.ensures.kept c.args.ground.now c.requires.ground c.requires.searching c.is_free-free.ensures c.requires.is_end.known (λ none. record {
       from = c.args.end;
       stands = c.requires.stands;
       is_end = c.requires.is_end;
@@ -20,3 +21,8 @@ returns-clause-searching c =
           c.requires.stands c.requires.is_end in
           omega arith);
     })
+
+pub reach-requires-clause-room : goal.reach-requires-clause-room
+reach-requires-clause-room c =
+    room_left c.args.ground.now c.args.search.now c.requires.ground c.requires.searching c.args.other.node
+    c.requires.is_end.known

@@ -1,8 +1,9 @@
 use Rattle.std.proofs.Common.{◌<◌, ◌∙◌, arith, sym, subst, inl, inr}
+use Rattle.std.proofs.lemmas.Bool.{cases_lt}
 use Rattle.tree_planner.specs.Searching.{order_at, HasLookedFrom}
 use Rattle.tree_planner.proofs.Counted.{open_less}
 use Rattle.tree_planner.proofs.Improved.{looked_kept, started_kept}
-use Rattle.tree_planner.proofs.Moved.{same_or_not}
+use Rattle.tree_flow.proofs.Moved.{same_or_not}
 use Rattle.tree_planner.proofs.search.run.Goals as goal
 
 pub loop-node-smaller : goal.loop-node-smaller
@@ -36,4 +37,24 @@ loop-node-preserved c =
             looked_kept old new settles.nearer g u before (c.loop-node.invariant.looked u before))
       ];
       few = (let looked = settles.looked in let few = c.loop-node.invariant.few in omega arith);
+      last = λ v none.
+          (let level = c.look_from.ensures.searching.level c.in-Some.node v (omega arith) none in
+          let last = c.far_of-last.ensures in
+          omega arith);
+    }
+
+pub returns : goal.returns
+returns c =
+    let search = c.loop-node.search in
+    let i = c.loop-node.invariant in
+    record {
+      split = i.split;
+      searching = i.searching;
+      started = i.started;
+      looked = λ u near. i.looked u (elim (cases_lt 0 (order_at search u)) [
+        | inl some ↦ some
+        | inr none ↦ (let past = c.in_default.ensures u (omega arith) in omega arith)
+      ]);
+      past = c.in_default.ensures;
+      few = (let few = i.few in omega arith);
     }

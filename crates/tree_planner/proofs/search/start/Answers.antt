@@ -1,8 +1,8 @@
 use Rattle.std.proofs.Common.{arith, get_or, sym, subst}
 use Rattle.std.proofs.lemmas.List.Elements.{Contains-get_or}
-use Rattle.tree_planner.specs.declared.nodes.End.{End}
-use Rattle.tree_planner.specs.declared.nodes.TreeNode.TheVariants.{Worker}
-use Rattle.tree_planner.specs.Nodes.{IsEnd}
+use Rattle.tree_flow.specs.declared.nodes.End.{End}
+use Rattle.tree_flow.specs.declared.nodes.TreeNode.TheVariants.{Worker}
+use Rattle.tree_flow.specs.Nodes.{IsEnd}
 use Rattle.tree_planner.specs.Searching.{wave_of, IsStartedAt}
 use Rattle.tree_planner.proofs.Looked.{at_each}
 use Rattle.tree_planner.proofs.search.start.Goals as goal

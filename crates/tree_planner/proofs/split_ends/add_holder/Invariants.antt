@@ -1,7 +1,7 @@
 use Rattle.std.proofs.Common.{ℕ, ◌<◌, ◌↔◌, ◌⊎◌, Contains}
-use Rattle.tree_planner.specs.declared.nodes.End.{End}
+use Rattle.tree_flow.specs.declared.nodes.End.{End}
 use Rattle.tree_planner.specs.Bars.{IsTopEnd}
-use Rattle.tree_planner.specs.Nodes.{node_above}
+use Rattle.tree_flow.specs.Nodes.{node_above}
 use Rattle.tree_planner.proofs.split_ends.add_holder.Given as goal
 
 abbrev pub invariant-loop-level : goal.invariant-loop-level

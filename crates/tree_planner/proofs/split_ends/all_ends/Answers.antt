@@ -1,9 +1,9 @@
 use Rattle.std.proofs.Common.{◌≡◌, ℕ, ◌+◌, ◌++◌, ◌∷◌, [], ◌↔◌, ◌∙◌, ap, length, Contains, sym, subst, arith, length-append}
 use borrow.Author.Count.{below_more}
 use Rattle.std.proofs.lemmas.List.{get_or_append_left, get_or_push}
-use Rattle.tree_planner.specs.declared.nodes.End.{End}
+use Rattle.tree_flow.specs.declared.nodes.End.{End}
 use Rattle.tree_planner.specs.Ends.{ends_at}
-use Rattle.tree_planner.specs.Nodes.{IsEnd}
+use Rattle.tree_flow.specs.Nodes.{IsEnd}
 use Rattle.tree_planner.proofs.split_ends.all_ends.Goals as goal
 
 pub loop-s-preserved : goal.loop-s-preserved

@@ -1,7 +1,7 @@
 use Rattle.std.proofs.Common.{◌≡◌, ℕ, ◌<◌, ◌↔◌, length, Contains}
-use Rattle.tree_planner.specs.declared.nodes.End.{End}
+use Rattle.tree_flow.specs.declared.nodes.End.{End}
 use Rattle.tree_planner.specs.Ends.{ends_at}
-use Rattle.tree_planner.specs.Nodes.{IsEnd}
+use Rattle.tree_flow.specs.Nodes.{IsEnd}
 use Rattle.tree_planner.proofs.split_ends.all_ends.Given as goal
 
 abbrev pub invariant-loop-s : goal.invariant-loop-s

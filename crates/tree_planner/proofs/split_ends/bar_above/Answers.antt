@@ -1,6 +1,6 @@
 use Rattle.std.proofs.Common.{◌∙◌, ap, subst, slice_index}
 use Rattle.std.specs.Prelude.{false}
-use Rattle.tree_planner.specs.declared.nodes.TreeNode.TheVariants.{Centre, Rack, Worker}
+use Rattle.tree_flow.specs.declared.nodes.TreeNode.TheVariants.{Centre, Rack, Worker}
 use Rattle.tree_planner.proofs.Barred.{marked_above, IsMarked}
 use Rattle.tree_planner.proofs.split_ends.bar_above.Goals as goal
 

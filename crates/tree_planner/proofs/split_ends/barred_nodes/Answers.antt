@@ -1,7 +1,7 @@
 use Rattle.std.proofs.Common.{◌≡◌, ◌↔◌, arith, sym, subst}
 use Rattle.std.specs.Prelude.{true}
 use Rattle.std.proofs.lemmas.Bool.{false≢true}
-use Rattle.tree_planner.specs.Nodes.{HasBarUnder}
+use Rattle.tree_flow.specs.Nodes.{HasBarUnder}
 use Rattle.tree_planner.proofs.Barred.{bar_iff}
 use Rattle.tree_planner.proofs.split_ends.barred_nodes.Goals as goal
 

@@ -1,5 +1,5 @@
 use Rattle.std.proofs.Common.{arith}
-use Rattle.tree_planner.specs.declared.nodes.TreeNode.TheVariants.{Rack, Centre, Cluster}
+use Rattle.tree_flow.specs.declared.nodes.TreeNode.TheVariants.{Rack, Centre, Cluster}
 use Rattle.tree_planner.proofs.tables.add_above.Goals as goal
 
 pub add-requires-2-clause-small : goal.add-requires-2-clause-small

@@ -1,5 +1,5 @@
 use Rattle.std.proofs.Common.{◌≡◌, ℕ, ◌<◌, length, slice_index}
-use Rattle.tree_planner.specs.State.{slots_of}
+use Rattle.tree_flow.specs.State.{slots_of}
 use Rattle.tree_planner.proofs.tables.free_slots.Given as goal
 
 abbrev pub invariant-loop-w : goal.invariant-loop-w

@@ -1,8 +1,8 @@
 use Rattle.std.proofs.Common.{◌≡◌, ℕ, cond, length, ap, ◌∙◌, arith}
 use Rattle.wave_problem.specs.Sums.{sum_below}
-use Rattle.tree_planner.specs.declared.nodes.TreeNode.TheVariants.{Worker}
-use Rattle.tree_planner.specs.Nodes.{is_under}
-use Rattle.tree_planner.specs.State.{slots_of}
+use Rattle.tree_flow.specs.declared.nodes.TreeNode.TheVariants.{Worker}
+use Rattle.tree_flow.specs.Nodes.{is_under}
+use Rattle.tree_flow.specs.State.{slots_of}
 use Rattle.tree_planner.proofs.Added.{cond-le, next_sum, over_sized}
 use Rattle.tree_planner.proofs.tables.slots_under.Goals as goal
 

@@ -1,10 +1,10 @@
 use Rattle.std.proofs.Common.{◌≡◌, ◌*◌, ◌≤◌, cond}
 use Rattle.wave_problem.specs.Sums.{sum_below}
-use Rattle.tree_planner.specs.declared.nodes.TreeNode.{TreeNode}
-use Rattle.tree_planner.specs.declared.nodes.TreeNode.TheVariants.{Worker}
-use Rattle.tree_planner.specs.Nodes.{is_under}
-use Rattle.tree_planner.specs.State.{slots_of}
-use Rattle.tree_planner.specs.Table.{at_node, IsOver}
+use Rattle.tree_flow.specs.declared.nodes.TreeNode.{TreeNode}
+use Rattle.tree_flow.specs.declared.nodes.TreeNode.TheVariants.{Worker}
+use Rattle.tree_flow.specs.Nodes.{is_under}
+use Rattle.tree_flow.specs.State.{slots_of}
+use Rattle.tree_flow.specs.Table.{at_node, IsOver}
 use Rattle.tree_planner.proofs.tables.slots_under.Given as goal
 
 abbrev pub invariant-loop-w : goal.invariant-loop-w

@@ -1,17 +1,63 @@
-use Rattle.std.proofs.Common.{◌<◌, arith}
+use Rattle.std.proofs.Common.{◌^◌, ◌<◌, arith, refl}
+use Rattle.tree_planner.specs.declared.search.Goal.TheVariants.{Slot}
 use Rattle.tree_planner.specs.Searching.{far_at, wave_of}
 use Rattle.tree_planner.proofs.Added.{over_sized}
-use Rattle.tree_planner.proofs.Improved.{reach_kept}
+use Rattle.tree_planner.proofs.Improved.{bottom_shut, bottom_there, ends_same, ends_there, reach_kept}
 use Rattle.tree_planner.proofs.search.Search.reach.Goals as goal
 
-pub returns-then-distance-get-clause-kept : goal.returns-then-distance-get-clause-kept
-returns-then-distance-get-clause-kept c = λ g s leads.
+pub returns-then-free-clause-kept : goal.returns-then-free-clause-kept
+returns-then-free-clause-kept c = λ g ground s free known leads.
     (let old = c.args.self.now in
     let far = c.set.new.self in
-    let how = c.set-then-distance-get.new.self in
-    let is = c.get.ensures old.limit in
-    let near : c.args.distance < far_at old c.args.node = omega arith in
-    reach_kept old far how c.args.node c.args.distance c.args.step (omega arith) near c.requires.beyond
-    c.set.ensures.here c.set.ensures.others c.set-then-distance-get.ensures.here
-    c.set-then-distance-get.ensures.others g (over_sized (wave_of g).tree old.far far s.far c.set.ensures.size)
-    (over_sized (wave_of g).tree old.how how s.how c.set-then-distance-get.ensures.size) s leads)
+    let how = c.set-then-distance-far.new.self in
+    let is = c.get-far.ensures (2 ^ 40) in
+    let v = c.args.node in
+    let d = c.args.distance in
+    let st = c.args.step in
+    let nearer : d < old.bound = omega arith in
+    let near : d < far_at old v = omega arith in
+    let h = c.set.ensures.here in
+    let o = c.set.ensures.others in
+    let hh = c.set-then-distance-far.ensures.here in
+    let ho = c.set-then-distance-far.ensures.others in
+    let b = c.requires.beyond in
+    let n = c.note.ensures in
+    let row = c.note.new.self in
+    let short : d < 2 ^ 40 = (let limit = s.limit in let small = ground.small in let most = s.bound in omega arith) in
+    reach_kept old far how v d st nearer near short d (Slot v) (omega arith) b h o hh ho row n.room (λ past. n.count (omega arith)) (λ past. n.node (omega arith))
+    (λ close. n.same (omega arith)) g ground known
+    (over_sized (wave_of g).tree old.far far s.tables.far c.set.ensures.size)
+    (over_sized (wave_of g).tree old.how how s.tables.how c.set-then-distance-far.ensures.size) s leads
+    (ends_there old far how v d st nearer near short d (Slot v) (omega arith) b h o hh ho row n.room (λ past. n.count (omega arith)) (λ past. n.node (omega arith))
+    (λ close. n.same (omega arith)) g s known (free.0 c.if-free.true) refl)
+    (bottom_there old far how v d st nearer near short d (Slot v) (omega arith) b h o hh ho row n.room (λ past. n.count (omega arith)) (λ past. n.node (omega arith))
+    (λ close. n.same (omega arith)) g s refl))
+
+pub returns-else-free-clause-kept : goal.returns-else-free-clause-kept
+returns-else-free-clause-kept c = λ g ground s free known leads.
+    (let old = c.args.self.now in
+    let far = c.set.new.self in
+    let how = c.set-then-distance-far.new.self in
+    let is = c.get-far.ensures (2 ^ 40) in
+    let v = c.args.node in
+    let d = c.args.distance in
+    let st = c.args.step in
+    let nearer : d < old.bound = omega arith in
+    let near : d < far_at old v = omega arith in
+    let h = c.set.ensures.here in
+    let o = c.set.ensures.others in
+    let hh = c.set-then-distance-far.ensures.here in
+    let ho = c.set-then-distance-far.ensures.others in
+    let b = c.requires.beyond in
+    let n = c.note.ensures in
+    let row = c.note.new.self in
+    let short : d < 2 ^ 40 = (let limit = s.limit in let small = ground.small in let most = s.bound in omega arith) in
+    reach_kept old far how v d st nearer near short old.bound old.goal (omega arith) b h o hh ho row n.room (λ past. n.count (omega arith)) (λ past. n.node (omega arith))
+    (λ close. n.same (omega arith)) g ground known
+    (over_sized (wave_of g).tree old.far far s.tables.far c.set.ensures.size)
+    (over_sized (wave_of g).tree old.how how s.tables.how c.set-then-distance-far.ensures.size) s leads
+    (ends_same old far how v d st nearer near short old.bound old.goal (omega arith) b h o hh ho row n.room (λ past. n.count (omega arith)) (λ past. n.node (omega arith))
+    (λ close. n.same (omega arith)) g s refl refl)
+    (bottom_shut old far how v d st nearer near short old.bound old.goal (omega arith) b h o hh ho row n.room (λ past. n.count (omega arith)) (λ past. n.node (omega arith))
+    (λ close. n.same (omega arith)) g s refl
+    (λ some. (let t = free.1 some in let f = c.if-free.false in cc))))

@@ -1,0 +1,13 @@
+-- the ends of a split, and sums over the workers under a node
+pub mod Costs
+pub mod Ends
+pub mod Filled
+pub mod Under
+-- what is read off a state certifies
+pub mod Certified
+-- steps keep it
+pub mod Raised
+pub mod Moved
+pub mod Given
+-- units go on
+pub mod Children

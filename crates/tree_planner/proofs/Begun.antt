@@ -1,0 +1,110 @@
+-- A search that has not come to a node yet, and what is left of one that forgets the nodes that it came to.
+use Rattle.std.proofs.Common.{◌≡◌, ℕ, ◌+◌, ◌-◌, ◌^◌, ◌<◌, ◌≤◌, ◌⊎◌, length, refl, sym, ap, ◌∙◌, inl, inr, arith}
+use Rattle.std.specs.Prelude.{◌≢◌}
+use Rattle.std.proofs.lemmas.Bool.{cases_lt}
+use Rattle.rack_tree.specs.Tree.{Tree}
+use Rattle.wave_problem.specs.Wave.{reward}
+use Rattle.tree_flow.specs.declared.nodes.TreeNode.{TreeNode}
+use Rattle.tree_flow.proofs.Moved.{same_or_not}
+use Rattle.tree_planner.specs.declared.search.Goal.TheVariants.{Wait}
+use Rattle.tree_planner.specs.declared.search.Ground.{Ground}
+use Rattle.tree_planner.specs.declared.search.Search.{Search}
+use Rattle.tree_planner.specs.Searching.{far_at, order_at, reached_at, wave_of, HasReached, HasTables, IsBlank, IsGround}
+use Rattle.tree_planner.specs.Searching.{IsSearching}
+
+pub begun : (g : Ground) → IsGround g → (search : Search) → IsBlank (wave_of g).tree (length g.nodes.now) search
+    → (split least : ℕ) → least ≤ reward (wave_of g) → IsSearching g (record search {
+      split = split;
+      least = least;
+      limit = g.reward - least;
+      bound = g.reward - least;
+      goal = Wait;
+      reached = record search.reached { count = 0 };
+      looked = 0;
+    })
+begun g ground search blank split least most =
+    let worth = ground.worth in
+    let small = ground.small in
+    record {
+      tables = record { far = blank.tables.far; how = blank.tables.how; order = blank.tables.order };
+      reached = record {
+        room = omega arith;
+        known = λ k l. absurd (omega arith);
+        near = λ k l. absurd (omega arith);
+        once = λ j k l m. absurd (omega arith);
+        each = λ v near. absurd (let far = blank.far v in omega arith);
+        looked = λ v some. absurd (let none = blank.none v in omega arith);
+      };
+      room = blank.room;
+      fit = omega arith;
+      limit = omega arith;
+      bound = omega arith;
+      few = λ v. (let none = blank.none v in omega arith);
+      steps = λ v less. absurd (let far = blank.far v in omega arith);
+      level = λ u v some none. absurd (let first = blank.none u in omega arith);
+      goal = refl;
+      bottom = λ v some. (let far = blank.far v in omega arith);
+      shut = λ v some. absurd (let none = blank.none v in omega arith);
+    }
+
+-- the node stands in the row past the first k
+abbrev pub IsLater : Search → ℕ → TreeNode → Type 0
+IsLater search k v = (j : ℕ) × (k ≤ j) × (j < search.reached.count) × (reached_at search j ≡ v)
+
+-- the node is as if it had not been come to, or stands there
+abbrev pub IsForgotten : Search → Search → ℕ → TreeNode → Type 0
+IsForgotten old now k v = ((2 ^ 40 ≤ far_at now v) × (order_at now v ≡ 0)) ⊎ IsLater old k v
+
+pub forgotten_first : (tree : Tree) (old : Search) → HasReached tree old → old.limit < 2 ^ 40 → (v : TreeNode)
+    → IsForgotten old old 0 v
+forgotten_first tree old r short v = elim (cases_lt (far_at old v) (2 ^ 40)) [
+  | inl near ↦ inr (let at = r.each v near in (at.0, omega arith, at.1, at.2))
+  | inr past ↦ inl (
+    past,
+    elim (cases_lt 0 (order_at old v)) [
+      | inl some ↦ absurd (let near = r.looked v some in omega arith)
+      | inr none ↦ omega arith
+    ],
+  )
+]
+
+pub forgotten_next : (old now new : Search) (k : ℕ) (node : TreeNode) → reached_at old k ≡ node
+    → 2 ^ 40 ≤ far_at new node → order_at new node ≡ 0
+    → ((v : TreeNode) → v ≢ node → far_at new v ≡ far_at now v)
+    → ((v : TreeNode) → v ≢ node → order_at new v ≡ order_at now v)
+    → (v : TreeNode) → IsForgotten old now k v → IsForgotten old new (k + 1) v
+forgotten_next old now new k node is far none far_others order_others v before = elim (same_or_not v node) [
+  | inl e ↦ inl (
+    (let a = ap (far_at new) e in omega arith),
+    (let a = ap (order_at new) e in omega arith),
+  )
+  | inr n ↦ elim before [
+    | inl done ↦ inl (
+      (let a = far_others v n in let b = done.0 in omega arith),
+      (let a = order_others v n in let b = done.1 in omega arith),
+    )
+    | inr later ↦ inr (elim (cases_lt k later.0) [
+      | inl past ↦ (later.0, omega arith, later.2, later.3)
+      | inr here ↦
+          (let past = later.1 in
+          let e : later.0 ≡ k = omega arith in
+          absurd (n (sym later.3 ∙ ap (reached_at old) e ∙ is)))
+    ])
+  ]
+]
+
+pub all_forgotten : (tree : Tree) (old now : Search) → HasTables tree now
+    → length now.reached.nodes.items ≡ length old.reached.nodes.items → (k : ℕ) → old.reached.count ≤ k
+    → ((v : TreeNode) → IsForgotten old now k v) → IsBlank tree (length old.reached.nodes.items) now
+all_forgotten tree old now tables room k most forgotten = record {
+  tables = tables;
+  room = room;
+  far = λ v. elim (forgotten v) [
+    | inl done ↦ done.0
+    | inr later ↦ absurd (let past = later.1 in let l = later.2 in omega arith)
+  ];
+  none = λ v. elim (forgotten v) [
+    | inl done ↦ done.1
+    | inr later ↦ absurd (let past = later.1 in let l = later.2 in omega arith)
+  ];
+}

@@ -1,0 +1,118 @@
+-- A node from which all steps of a hole were taken.
+use Rattle.std.proofs.Common.{◌≡◌, ℕ, ◌+◌, ◌<◌, ◌≤◌, min, List, Contains, Option, Some, None, sym, ap, subst}
+use Rattle.std.proofs.Common.{count_by, inl, inr, arith}
+use Rattle.std.specs.Prelude.{◌≢◌, ◌==◌, MatchOption}
+use Rattle.std.proofs.lemmas.Bool.{eq-eqb, ne_eqb}
+use Rattle.tree_flow.specs.declared.nodes.TreeNode.{TreeNode}
+use Rattle.tree_planner.specs.declared.back.Hollow.{Hollow}
+use Rattle.tree_planner.specs.declared.back.SearchBack.{SearchBack}
+use Rattle.tree_flow.specs.Nodes.{parent, IsNode}
+use Rattle.tree_flow.specs.State.{slots_of, sum_under}
+use Rattle.tree_planner.specs.SearchingBack.{order_at, far_at, far_of, state_at, wave_of, AreInto}
+use Rattle.tree_planner.specs.SearchingBack.{HasLookedFrom, Improves, IsHollow}
+use Rattle.tree_planner.specs.SearchingBack.{IsAt, IsDown, IsFresh, IsNearest, IsSearching, Settles}
+use Rattle.tree_flow.specs.Table.{IsOver}
+use Rattle.tree_planner.proofs.Counted.{count_less}
+use Rattle.tree_planner.proofs.ImprovedBack.{improves_trans, some_same, down_kept, settle_kept, settle_at}
+use Rattle.tree_planner.proofs.ImprovedBack.{settles_then}
+use Rattle.tree_planner.proofs.Looked.{known_or_not}
+
+-- how many nodes a search back has not looked from
+abbrev pub open_count : SearchBack → List TreeNode → ℕ
+open_count search nodes = count_by (λ v. order_at search v == 0) nodes
+
+-- one node less, where c was looked from
+pub open_less : (old new : SearchBack) (nodes : List TreeNode) (c : TreeNode) → Contains nodes c
+    → order_at old c ≡ 0
+    → 0 < order_at new c → ((v : TreeNode) → v ≢ c → order_at new v ≡ order_at old v)
+    → open_count new nodes + 1 ≤ open_count old nodes
+open_less old new nodes c among was now others =
+    count_less (λ v. order_at old v == 0) (λ v. order_at new v == 0) c (eq-eqb (order_at old c) 0 was)
+    (ne_eqb (order_at new c) 0 (λ e. omega arith)) (λ v n. ap (λ (k : ℕ). k == 0) (others v n)) nodes among
+
+-- the nearest of the nodes of a list that were not looked from is the nearest of all
+pub found_nearest : (h : Hollow) (search : SearchBack) (best : Option TreeNode) → IsSearching h search
+    → IsFresh h search best
+    → ((v : TreeNode) → IsNode (wave_of h).tree v → order_at search v ≡ 0 → far_of search best ≤ far_at
+    search v)
+    → MatchOption best ((v : TreeNode) → order_at search v ≡ 0 → search.bound ≤ far_at search v)
+    (λ c. IsNearest h search c)
+found_nearest h search None s is seen = λ v none. elim
+    (known_or_not (wave_of h).tree search.far search.limit s.far v) [
+      | inl known ↦ seen v known none
+      | inr past ↦ (let most = s.bound in omega arith)
+    ]
+found_nearest h search (Some c) s is seen = record {
+  known = is.0;
+  fresh = is.1;
+  near = is.2;
+  least = λ v none. elim (known_or_not (wave_of h).tree search.far search.limit s.far v) [
+    | inl known ↦ seen v known none
+    | inr past ↦ (let most = s.bound in let a = is.2 in omega arith)
+  ];
+}
+
+-- the node that is looked from next
+pub settle_all : (h : Hollow) (old mid : SearchBack) (c : TreeNode) → IsSearching h old → IsNearest h old c
+    → mid ≡ record old { order = mid.order; looked = old.looked + 1 } → IsOver (wave_of h).tree mid.order
+    → order_at mid c ≡ old.looked + 1 → ((v : TreeNode) → v ≢ c → order_at mid v ≡ order_at old v)
+    → IsSearching h mid × IsAt mid c × ((new : SearchBack) → Improves mid new → Settles old new c)
+settle_all h old mid c s nearest rest over here others =
+    subst (λ m. IsSearching h m × IsAt m c × ((new : SearchBack) → Improves m new → Settles old new c))
+    (sym rest) (
+      settle_kept h old mid.order c s nearest over here others,
+      settle_at h old mid.order c s nearest over here others,
+      settles_then h old mid.order c s nearest over here others,
+    )
+
+-- from which all steps were taken, one kind after another
+pub looked_all : (h : Hollow) (c : TreeNode) (one two three four : SearchBack) → 0 < order_at one c
+    → Improves one two → Improves two three → Improves three four
+    → (one.bound ≤ far_at one c + (state_at h).depth c)
+    → ((state_at h).flow c < sum_under (wave_of h) c (slots_of (wave_of h))
+    → min two.bound (far_at two (parent (wave_of h).tree c)) + (state_at h).depth (parent (wave_of h).tree c)
+    ≤ far_at two c + (state_at h).depth c)
+    → ((v : TreeNode) → IsDown h three c v) → ((t : ℕ) → AreInto h four c t)
+    → HasLookedFrom h four c
+looked_all h c one two three four some i j k low up down over =
+    let second = some_same one two i c some in
+    let third = some_same two three j c second in
+    let last = improves_trans two three four j k in
+    let all = improves_trans one two four i last in
+    record {
+      down = λ room.
+          (let before = up room in
+          let same = last.nearer.settled c second in
+          let bound = last.nearer.bound in
+          let far = last.nearer.far (parent (wave_of h).tree c) in
+          omega arith);
+      up = λ v is flows. down_kept three four k.nearer h c v third (down v) is flows;
+      over = λ s e x stands is_end is. (let into = over s x is_end in into.over e stands is);
+      waits = λ s x waits is_end is. (let into = over s x is_end in into.waits waits is);
+      low = (let same = all.nearer.settled c some in let bound = all.nearer.bound in omega arith);
+    }
+
+-- from a node that is no nearer than the bound no step has to be taken
+pub looked_near : (h : Hollow) (search : SearchBack) (u : TreeNode) → IsHollow h
+    → search.bound ≤ far_at search u
+    → HasLookedFrom h search u
+looked_near h search u hollow near = record {
+  down = λ room. (let level = hollow.standing.kept.level.down u room in omega arith);
+  up = λ v is some.
+      (let level = hollow.standing.kept.level.up v some in
+      let same = ap (state_at h).depth is in
+      omega arith);
+  over = λ s e x stands is_end is.
+      (let least = hollow.standing.kept.cheapest.least s e x stands is_end in omega arith);
+  waits = λ s x waits is_end is. (let least = hollow.standing.kept.cheapest.waiting s x waits is_end in
+      omega arith);
+  low = omega arith;
+}
+
+-- nor has one into it
+pub into_near : (h : Hollow) (search : SearchBack) (c : TreeNode) (t : ℕ) → IsHollow h
+    → search.bound ≤ far_at search c → AreInto h search c t
+into_near h search c t hollow near = λ x is_end. record {
+  over = λ e stands is. (let least = hollow.standing.kept.cheapest.least t e x stands is_end in omega arith);
+  waits = λ waits is. (let least = hollow.standing.kept.cheapest.waiting t x waits is_end in omega arith);
+}

@@ -1,0 +1,20 @@
+use Rattle.std.proofs.Common.{ap, arith, subst}
+use Rattle.tree_flow.specs.Table.{at_node}
+use Rattle.tree_flow.proofs.Moved.{lets_wait}
+use Rattle.tree_planner.specs.Choosing.{IsChoice}
+use Rattle.tree_planner.specs.View.{state_of}
+use Rattle.tree_planner.proofs.engine.ship.Goals as goal
+
+pub returns-in-Wait-clause-standing : goal.returns-in-Wait-clause-standing
+returns-in-Wait-clause-standing c =
+    let wave = c.args.problem.now in
+    let old = state_of c.args.tables.now in
+    record {
+      tables = c.place.ensures.tables;
+      low = λ v.
+          (let depth = ap (λ t. at_node t v) c.place.ensures.depth in
+          let low = c.requires.standing.low v in
+          omega arith);
+      kept = lets_wait wave old (state_of c.place.new.tables) c.args.split c.requires.standing.kept c.requires.unshipped
+          (subst (λ r. IsChoice wave old c.args.split r) c.in-Wait.is c.choice.ensures) c.place.ensures.placed;
+    }

@@ -1,6 +1,0 @@
-use Rattle.tree_planner.proofs.Given.{gives_slot, joins, deepens, adds_slot, takes_off}
-use Rattle.tree_planner.proofs.Given.{removes_slot, changes, begins}
-use Rattle.tree_planner.proofs.laws.slots.Goals as goal
-
-pub returns : goal.returns
-returns c = search (gives_slot, joins, deepens, adds_slot, takes_off, removes_slot, changes, begins)

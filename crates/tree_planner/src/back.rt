@@ -1,0 +1,507 @@
+//! A search for the cheapest way to fill a hole: a slot under a node that nobody has.
+ghost use Rattle.std.specs.Prelude.{◌≡◌, ◌≢◌, ◌+◌, ◌*◌, ◌<◌, ◌≤◌, ◌^◌, min, ℕ, length, IfOk, MatchOption};
+ghost use Rattle.std.specs.Prelude.{Contains, ◌↔◌};
+ghost use Rattle.wave_problem.specs.declared.TheConstants.{MAX_BYTES};
+ghost use Rattle.wave_problem.specs.Wave.{reward};
+ghost use Rattle.tree_flow.specs.declared.nodes.End.{End};
+ghost use Rattle.tree_flow.specs.declared.nodes.Place.TheVariants.{Stands, Waits};
+ghost use Rattle.tree_flow.specs.declared.nodes.TreeNode.{TreeNode};
+ghost use Rattle.tree_flow.specs.Nodes.{parent, IsEnd, IsNode};
+ghost use Rattle.tree_flow.specs.State.{place_of, reach_cost, slots_of, sum_under};
+ghost use Rattle.tree_flow.specs.Table.{HasNode, IsSized};
+ghost use Rattle.tree_planner.specs.Hanging.{HangsFrom};
+ghost use Rattle.tree_planner.specs.declared.back.Hollow.{Hollow};
+ghost use Rattle.tree_planner.specs.SearchingBack.{order_at, far_at, far_of, state_at, wave_of, AreInto};
+ghost use Rattle.tree_planner.specs.SearchingBack.{EndsIn};
+ghost use Rattle.tree_planner.specs.SearchingBack.{HasLookedFrom, Improves, IsAt, IsDown, IsFresh};
+ghost use Rattle.tree_planner.specs.SearchingBack.{IsHollow, IsInto};
+ghost use Rattle.tree_planner.specs.SearchingBack.{IsNearest, IsSearched, IsSearching, IsUnused, LeadsTo};
+ghost use Rattle.tree_planner.specs.SearchingBack.{Settles};
+
+use crate::engine::Fixed;
+use crate::tables::Tables;
+use crate::tree_nodes::{is_same, parent};
+use node_ids::SplitNo;
+use std::alloc::{AllocError, Global};
+use tree_flow::{End, NodeTable, Place, TreeNode};
+use wave_problem::Problem;
+
+/// The last step by which a hole comes to a node.
+#[derive(Clone, Copy, Debug, PartialEq, Eq)]
+pub enum StepBack {
+    /// The hole is there at first.
+    Start,
+    /// It rises from this node, which hangs from it: a unit more goes down to this node.
+    Rise(TreeNode),
+    /// It sinks from the node's parent: a unit less goes down.
+    Sink,
+    /// The split of this number, which stands on the node, goes over to this end, where the hole was.
+    Over(u16, End),
+}
+
+/// How a hole is filled.
+#[derive(Clone, Copy, Debug, PartialEq, Eq)]
+pub enum Rest {
+    /// Units stay where they are: a slot of a worker under this node becomes free.
+    Free(TreeNode),
+    /// The split of this number waits, and takes the slot at this end.
+    Join(u16, End),
+}
+
+/// What a search back stands on: a problem, what is read of it, and the tables of a state with a hole.
+#[derive(Drop)]
+pub struct Hollow<'a> {
+    pub problem: &'a Problem,
+    pub fixed: &'a Fixed,
+    pub tables: &'a Tables,
+    pub hole: TreeNode,
+}
+
+/// From which node the hole starts, and how far it may go; how far each node is, how the hole comes to it, as
+/// which one it was looked from; and the nearest end of a way, and how far it is.
+#[derive(Drop)]
+pub struct SearchBack {
+    pub hole: TreeNode,
+    pub limit: u64,
+    pub far: NodeTable<u64>,
+    pub how: NodeTable<StepBack>,
+    pub order: NodeTable<u64>,
+    pub looked: u64,
+    pub bound: u64,
+    pub goal: Rest,
+}
+
+impl SearchBack {
+    /// Room for a search back from a node, where a start is worth so much: none was come to yet.
+    pub fn new(
+        alloc: Global,
+        problem: &Problem,
+        worth: u64,
+        hole: TreeNode,
+    ) -> Result<Self, AllocError>
+        requires worth { worth ≡ reward problem.now }
+        requires small { worth < 2 ^ 40 }
+        ensures hole { IfOk result (λ search. search.hole ≡ hole) }
+        ensures unused { IfOk result (λ search. IsUnused problem.now search) }
+    {
+        let limit = worth + 1;
+        let far = NodeTable::new(alloc, problem.tree(), limit)?;
+        let how = NodeTable::new(alloc, problem.tree(), StepBack::Start)?;
+        let order = NodeTable::new(alloc, problem.tree(), 0)?;
+        Ok(SearchBack {
+            hole,
+            limit,
+            far,
+            how,
+            order,
+            looked: 0,
+            bound: limit,
+            goal: Rest::Free(hole),
+        })
+    }
+
+    // How far a node is.
+    fn far_of(&self, node: TreeNode) -> u64
+        requires { HasNode self.now.far node }
+        ensures { result ≡ far_at self.now node }
+    {
+        self.far.get(node)
+    }
+
+    // Comes to a node, where that is nearer.
+    fn reach(&mut self, node: TreeNode, distance: u64, step: StepBack)
+        requires far { HasNode self.old.far node }
+        requires how { HasNode self.old.how node }
+        requires beyond { (u : TreeNode) → 0 < order_at self.old u → far_at self.old u ≤ distance }
+        ensures hole { self.new.hole ≡ self.old.hole }
+        ensures improves { Improves self.old self.new }
+        ensures near { min self.new.bound (far_at self.new node) ≤ distance }
+        ensures kept { (h : Hollow) → IsSearching h self.old
+            → (order_at self.old node ≡ 0 → LeadsTo h self.old node distance step) → IsSearching h self.new }
+    {
+        if distance < self.bound && distance < self.far.get(node) {
+            self.far.set(node, distance);
+            self.how.set(node, step);
+        }
+    }
+
+    // Comes to an end of a way, where that is nearer.
+    fn arrive(&mut self, goal: Rest, distance: u64)
+        ensures hole { self.new.hole ≡ self.old.hole }
+        ensures improves { Improves self.old self.new }
+        ensures near { self.new.bound ≤ distance }
+        ensures kept { (h : Hollow) → IsSearching h self.old
+            → (distance < self.old.bound → EndsIn h self.old distance goal) → IsSearching h self.new }
+    {
+        if distance < self.bound {
+            self.bound = distance;
+            self.goal = goal;
+        }
+    }
+
+    // Puts the node next in order.
+    fn settle(&mut self, node: TreeNode)
+        requires node { HasNode self.old.order node }
+        requires few { self.old.looked + 1 < 2 ^ 64 }
+        ensures rest { self.new ≡ record self.old { order = self.new.order; looked = self.old.looked + 1 } }
+        ensures here { order_at self.new node ≡ self.old.looked + 1 }
+        ensures others { (v : TreeNode) → v ≢ node → order_at self.new v ≡ order_at self.old v }
+        ensures size { IsSized self.old.order self.new.order }
+    {
+        self.looked += 1;
+        self.order.set(node, self.looked);
+    }
+}
+
+// How deep a node lies.
+fn depth_of(hollow: &Hollow<'_>, node: TreeNode) -> u64
+    requires hollow { IsHollow hollow.now }
+    requires known { IsNode (wave_of hollow.now).tree node }
+    ensures depth { result ≡ (state_at hollow.now).depth node }
+    ensures most { result ≤ reward (wave_of hollow.now) }
+{
+    hollow.tables.depth.get(node)
+}
+
+// How many units come to a node from its parent.
+fn flow_of(hollow: &Hollow<'_>, node: TreeNode) -> u64
+    requires hollow { IsHollow hollow.now }
+    requires known { IsNode (wave_of hollow.now).tree node }
+    ensures { result ≡ (state_at hollow.now).flow node }
+{
+    hollow.tables.flow.get(node)
+}
+
+// How many slots there are under a node.
+fn slots_at(hollow: &Hollow<'_>, node: TreeNode) -> u64
+    requires hollow { IsHollow hollow.now }
+    requires known { IsNode (wave_of hollow.now).tree node }
+    ensures { result ≡ sum_under (wave_of hollow.now) node (slots_of (wave_of hollow.now)) }
+{
+    hollow.fixed.slots.get(node)
+}
+
+// The node from which a node hangs.
+fn above(hollow: &Hollow<'_>, node: TreeNode) -> TreeNode
+    requires { IsNode (wave_of hollow.now).tree node }
+    ensures node { result ≡ parent (wave_of hollow.now).tree node }
+    ensures known { IsNode (wave_of hollow.now).tree result }
+{
+    parent(hollow.problem.tree(), node)
+}
+
+// The ends of a split.
+fn ends_of<'h>(hollow: &'h Hollow<'_>, split: u16) -> &'h [End]
+    requires hollow { IsHollow hollow.now }
+    requires split { split < length (wave_of hollow.now).splits }
+    ensures { (e : End) → Contains result.now e ↔ IsEnd (wave_of hollow.now) split e }
+{
+    hollow.fixed.ends[split as usize].all()
+}
+
+// What it costs the split to end at an end.
+fn cost_at(hollow: &Hollow<'_>, split: u16, end: End) -> u64
+    requires hollow { IsHollow hollow.now }
+    requires is_end { IsEnd (wave_of hollow.now) split end }
+    ensures cost { result ≡ reach_cost (wave_of hollow.now) (state_at hollow.now) split end }
+    ensures most { result ≤ 6 * MAX_BYTES + reward (wave_of hollow.now) }
+{
+    let steps = 2 * u64::from(end.level);
+    hollow.problem.bytes(SplitNo::new(split)) * steps + depth_of(hollow, end.node)
+}
+
+// Where a split is.
+fn place_of(hollow: &Hollow<'_>, split: u16) -> Place
+    requires hollow { IsHollow hollow.now }
+    requires split { split < length (wave_of hollow.now).splits }
+    ensures { result ≡ place_of (state_at hollow.now) split }
+{
+    hollow.tables.places[split as usize]
+}
+
+/// Searches from a hole over the steps by which it can move, as far as the nearest way to fill it (Dijkstra's
+/// search over reduced costs, against their direction).
+pub fn find_rest(hollow: &Hollow<'_>, search: &mut SearchBack)
+    requires hollow { IsHollow hollow.now }
+    requires hole { search.old.hole ≡ hollow.now.hole }
+    requires unused { IsUnused (wave_of hollow.now) search.old }
+    ensures hole { search.new.hole ≡ search.old.hole }
+    ensures searched { IsSearched hollow.now search.new }
+{
+    start(hollow, search);
+    run(hollow, search);
+}
+
+// Comes to the node of the hole.
+fn start(hollow: &Hollow<'_>, search: &mut SearchBack)
+    requires hollow { IsHollow hollow.now }
+    requires hole { search.old.hole ≡ hollow.now.hole }
+    requires unused { IsUnused (wave_of hollow.now) search.old }
+    ensures hole { search.new.hole ≡ search.old.hole }
+    ensures looked { search.new.looked ≡ 0 }
+    ensures bound { search.new.bound ≡ search.new.limit }
+    ensures none { (v : TreeNode) → order_at search.new v ≡ 0 }
+    ensures searching { IsSearching hollow.now search.new }
+{
+    search.far.set(search.hole, 0);
+    search.how.set(search.hole, StepBack::Start);
+}
+
+// Looks from nodes, the nearest first, until none is nearer than the bound that was not looked from.
+fn run(hollow: &Hollow<'_>, search: &mut SearchBack)
+    requires hollow { IsHollow hollow.now }
+    requires searching { IsSearching hollow.now search.old }
+    requires none { (v : TreeNode) → order_at search.old v ≡ 0 }
+    requires looked { search.old.looked ≡ 0 }
+    requires hole { search.old.hole ≡ hollow.now.hole }
+    requires bound { search.old.bound ≡ search.old.limit }
+    ensures hole { search.new.hole ≡ search.old.hole }
+    ensures searched { IsSearched hollow.now search.new }
+{
+    let _most = hollow.fixed.nodes.len();
+    let mut next = Some(search.hole);
+    while let Some(node) = next {
+        look_from(hollow, search, node);
+        next = next_after(hollow, search, node);
+    }
+}
+
+// The nearest node that was not looked from, if one is nearer than the bound. None is nearer than the one
+// that was looked from last.
+fn next_after(hollow: &Hollow<'_>, search: &SearchBack, node: TreeNode) -> Option<TreeNode>
+    requires hollow { IsHollow hollow.now }
+    requires known { IsNode (wave_of hollow.now).tree node }
+    requires searching { IsSearching hollow.now search.now }
+    requires settled { 0 < order_at search.now node }
+    ensures { MatchOption result
+        ((v : TreeNode) → order_at search.now v ≡ 0 → search.now.bound ≤ far_at search.now v)
+        (λ next. IsNearest hollow.now search.now next) }
+{
+    if search.bound <= search.far_of(node) {
+        return None;
+    }
+    nearest(hollow, search)
+}
+
+// The nearest node that was not looked from and is nearer than the bound.
+fn nearest(hollow: &Hollow<'_>, search: &SearchBack) -> Option<TreeNode>
+    requires hollow { IsHollow hollow.now }
+    requires searching { IsSearching hollow.now search.now }
+    ensures { MatchOption result
+        ((v : TreeNode) → order_at search.now v ≡ 0 → search.now.bound ≤ far_at search.now v)
+        (λ node. IsNearest hollow.now search.now node) }
+{
+    let mut best = None;
+    for node in &hollow.fixed.nodes {
+        best = nearer(search, best, *node);
+    }
+    best
+}
+
+// The nearer of two nodes, if one is nearer than the bound and was not looked from.
+fn nearer(search: &SearchBack, best: Option<TreeNode>, node: TreeNode) -> Option<TreeNode>
+    requires far { HasNode search.now.far node }
+    requires order { HasNode search.now.order node }
+    requires best { MatchOption best (Unit {0}) (λ c. HasNode search.now.far c) }
+    ensures fresh { (h : Hollow) → IsNode (wave_of h).tree node → IsFresh h search.now best
+        → IsFresh h search.now result }
+    ensures least { far_of search.now result ≤ far_of search.now best }
+    ensures here { order_at search.now node ≡ 0 → far_of search.now result ≤ far_at search.now node }
+{
+    if search.order.get(node) != 0 {
+        return best;
+    }
+    let least = match best {
+        Some(other) => search.far_of(other),
+        None => search.bound,
+    };
+    if search.far_of(node) < least {
+        return Some(node);
+    }
+    best
+}
+
+// Takes all steps by which a hole leaves a node.
+fn look_from(hollow: &Hollow<'_>, search: &mut SearchBack, node: TreeNode)
+    requires hollow { IsHollow hollow.now }
+    requires searching { IsSearching hollow.now search.old }
+    requires nearest { IsNearest hollow.now search.old node }
+    requires few { search.old.looked + 1 < 2 ^ 64 }
+    ensures hole { search.new.hole ≡ search.old.hole }
+    ensures searching { IsSearching hollow.now search.new }
+    ensures looked { HasLookedFrom hollow.now search.new node }
+    ensures settles { Settles search.old search.new node }
+{
+    search.settle(node);
+    look_free(hollow, search, node);
+    look_further(hollow, search, node);
+}
+
+// Takes the steps out of a node, unless an end is known that is no farther than the node.
+fn look_further(hollow: &Hollow<'_>, search: &mut SearchBack, node: TreeNode)
+    requires hollow { IsHollow hollow.now }
+    requires known { IsNode (wave_of hollow.now).tree node }
+    requires searching { IsSearching hollow.now search.old }
+    requires at { IsAt search.old node }
+    requires low { search.old.bound ≤ far_at search.old node + (state_at hollow.now).depth node }
+    ensures hole { search.new.hole ≡ search.old.hole }
+    ensures searching { IsSearching hollow.now search.new }
+    ensures improves { Improves search.old search.new }
+    ensures looked { HasLookedFrom hollow.now search.new node }
+{
+    if search.bound <= search.far_of(node) {
+        return;
+    }
+    look_up(hollow, search, node);
+    look_down(hollow, search, node);
+    look_over(hollow, search, node);
+}
+
+// Units may stay where they are.
+fn look_free(hollow: &Hollow<'_>, search: &mut SearchBack, node: TreeNode)
+    requires hollow { IsHollow hollow.now }
+    requires known { IsNode (wave_of hollow.now).tree node }
+    requires searching { IsSearching hollow.now search.old }
+    requires at { IsAt search.old node }
+    ensures hole { search.new.hole ≡ search.old.hole }
+    ensures searching { IsSearching hollow.now search.new }
+    ensures improves { Improves search.old search.new }
+    ensures low { search.new.bound ≤ far_at search.new node + (state_at hollow.now).depth node }
+{
+    let distance = search.far_of(node) + depth_of(hollow, node);
+    search.arrive(Rest::Free(node), distance);
+}
+
+// A unit more may go down to the node.
+fn look_up(hollow: &Hollow<'_>, search: &mut SearchBack, node: TreeNode)
+    requires hollow { IsHollow hollow.now }
+    requires known { IsNode (wave_of hollow.now).tree node }
+    requires searching { IsSearching hollow.now search.old }
+    requires at { IsAt search.old node }
+    ensures hole { search.new.hole ≡ search.old.hole }
+    ensures searching { IsSearching hollow.now search.new }
+    ensures improves { Improves search.old search.new }
+    ensures down { (state_at hollow.now).flow node
+        < sum_under (wave_of hollow.now) node (slots_of (wave_of hollow.now))
+        → min search.new.bound (far_at search.new (parent (wave_of hollow.now).tree node))
+        + (state_at hollow.now).depth (parent (wave_of hollow.now).tree node)
+        ≤ far_at search.new node + (state_at hollow.now).depth node }
+{
+    if flow_of(hollow, node) < slots_at(hollow, node) {
+        let up = above(hollow, node);
+        let distance = search.far_of(node) + depth_of(hollow, node) - depth_of(hollow, up);
+        search.reach(up, distance, StepBack::Rise(node));
+    }
+}
+
+// A unit less may go down from the node.
+fn look_down(hollow: &Hollow<'_>, search: &mut SearchBack, node: TreeNode)
+    requires hollow { IsHollow hollow.now }
+    requires known { IsNode (wave_of hollow.now).tree node }
+    requires searching { IsSearching hollow.now search.old }
+    requires at { IsAt search.old node }
+    ensures hole { search.new.hole ≡ search.old.hole }
+    ensures searching { IsSearching hollow.now search.new }
+    ensures improves { Improves search.old search.new }
+    ensures up { (v : TreeNode) → IsDown hollow.now search.new node v }
+{
+    for below in hollow.fixed.children.of(hollow.problem.tree(), node) {
+        step_down(hollow, search, node, *below);
+    }
+}
+
+fn step_down(hollow: &Hollow<'_>, search: &mut SearchBack, node: TreeNode, below: TreeNode)
+    requires hollow { IsHollow hollow.now }
+    requires known { IsNode (wave_of hollow.now).tree node }
+    requires below { HangsFrom (wave_of hollow.now).tree node below }
+    requires searching { IsSearching hollow.now search.old }
+    requires at { IsAt search.old node }
+    ensures hole { search.new.hole ≡ search.old.hole }
+    ensures searching { IsSearching hollow.now search.new }
+    ensures improves { Improves search.old search.new }
+    ensures up { IsDown hollow.now search.new node below }
+{
+    if flow_of(hollow, below) > 0 {
+        let distance = search.far_of(node) + depth_of(hollow, node) - depth_of(hollow, below);
+        search.reach(below, distance, StepBack::Sink);
+    }
+}
+
+// Splits may go over to the node, or start there.
+fn look_over(hollow: &Hollow<'_>, search: &mut SearchBack, node: TreeNode)
+    requires hollow { IsHollow hollow.now }
+    requires known { IsNode (wave_of hollow.now).tree node }
+    requires searching { IsSearching hollow.now search.old }
+    requires at { IsAt search.old node }
+    ensures hole { search.new.hole ≡ search.old.hole }
+    ensures searching { IsSearching hollow.now search.new }
+    ensures improves { Improves search.old search.new }
+    ensures over { (t : ℕ) → AreInto hollow.now search.new node t }
+{
+    let far = search.far_of(node);
+    for t in 0..hollow.tables.places.len() {
+        if search.bound <= far {
+            return;
+        }
+        over_split(hollow, search, node, t as u16);
+    }
+}
+
+// A split may go over to its ends at the node, or start there.
+fn over_split(hollow: &Hollow<'_>, search: &mut SearchBack, node: TreeNode, split: u16)
+    requires hollow { IsHollow hollow.now }
+    requires split { split < length (wave_of hollow.now).splits }
+    requires searching { IsSearching hollow.now search.old }
+    requires at { IsAt search.old node }
+    ensures hole { search.new.hole ≡ search.old.hole }
+    ensures searching { IsSearching hollow.now search.new }
+    ensures improves { Improves search.old search.new }
+    ensures over { AreInto hollow.now search.new node split }
+{
+    let ends = ends_of(hollow, split);
+    for end in ends {
+        over_at(hollow, search, node, split, *end);
+    }
+}
+
+fn over_at(hollow: &Hollow<'_>, search: &mut SearchBack, node: TreeNode, split: u16, end: End)
+    requires hollow { IsHollow hollow.now }
+    requires split { split < length (wave_of hollow.now).splits }
+    requires is_end { IsEnd (wave_of hollow.now) split end }
+    requires searching { IsSearching hollow.now search.old }
+    requires at { IsAt search.old node }
+    ensures hole { search.new.hole ≡ search.old.hole }
+    ensures searching { IsSearching hollow.now search.new }
+    ensures improves { Improves search.old search.new }
+    ensures over { IsInto hollow.now search.new node split end }
+{
+    if is_same(end.node, node) {
+        step_over(hollow, search, split, end);
+    }
+}
+
+// Takes the step of a split to its end at a node back.
+fn step_over(hollow: &Hollow<'_>, search: &mut SearchBack, split: u16, end: End)
+    requires hollow { IsHollow hollow.now }
+    requires split { split < length (wave_of hollow.now).splits }
+    requires is_end { IsEnd (wave_of hollow.now) split end }
+    requires searching { IsSearching hollow.now search.old }
+    requires at { IsAt search.old end.node }
+    ensures hole { search.new.hole ≡ search.old.hole }
+    ensures searching { IsSearching hollow.now search.new }
+    ensures improves { Improves search.old search.new }
+    ensures over { IsInto hollow.now search.new end.node split end }
+{
+    let distance = search.far_of(end.node) + cost_at(hollow, split, end);
+    match place_of(hollow, split) {
+        Place::Stands(from) => {
+            let nearer = distance - cost_at(hollow, split, from);
+            search.reach(from.node, nearer, StepBack::Over(split, end));
+        }
+        Place::Waits => {
+            let nearer = distance - hollow.fixed.reward;
+            search.arrive(Rest::Join(split, end), nearer);
+        }
+        Place::Unshipped => {}
+    }
+}

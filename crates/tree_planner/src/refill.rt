@@ -1,0 +1,323 @@
+//! A hole moved along the way that a search back found, until it is filled.
+ghost use Rattle.std.specs.Prelude.{◌≡◌, ◌≢◌, ◌+◌, ◌^◌, ◌<◌, ◌≤◌, ℕ, true, Option, Some, MatchOption, length};
+ghost use Rattle.wave_problem.specs.Wave.{reward};
+ghost use Rattle.tree_flow.specs.declared.nodes.Place.TheVariants.{Stands};
+ghost use Rattle.tree_flow.specs.declared.nodes.TreeNode.{TreeNode};
+ghost use Rattle.tree_flow.specs.declared.nodes.TreeNode.TheVariants.{Cluster, Worker};
+ghost use Rattle.tree_flow.specs.Moves.{IsFlowSet, IsPlaced, IsTaken};
+ghost use Rattle.tree_flow.specs.Nodes.{is_under, parent, AreNodes, IsNode};
+ghost use Rattle.tree_flow.specs.Table.{at_node, IsOver};
+ghost use Rattle.tree_planner.specs.Engine.{with_depth, IsFixed, IsStanding, IsStandingBut};
+ghost use Rattle.tree_planner.specs.SearchingBack.{order_at, state_at, wave_of, IsHollow, IsSearched};
+ghost use Rattle.tree_planner.specs.SearchingBack.{IsUnused};
+ghost use Rattle.tree_planner.specs.View.{state_of, AreTables};
+ghost use Rattle.tree_planner.specs.WayBack.{AreAllSame, AreHigher, AreReady, HasMoved, IsDepthSet, IsHigher};
+ghost use Rattle.tree_planner.specs.WayBack.{IsOnWay, IsReady};
+
+use crate::back::{Hollow, Rest, SearchBack, StepBack, find_rest};
+use crate::engine::Fixed;
+use crate::follow::{place, set_flow};
+use crate::tables::{Tables, add_above};
+use crate::tree_nodes::{is_same, parent};
+use node_ids::WorkerNo;
+use tree_flow::{End, NodeTable, Place, TreeNode};
+use wave_problem::Problem;
+
+/// Fills a hole as cheaply as can be: a split that waits takes the slot, or a slot of a worker becomes free.
+/// The search and the table of depths are lent, unused, so that nothing here needs memory.
+pub fn fill(
+    problem: &Problem,
+    fixed: &Fixed,
+    tables: &mut Tables,
+    search: &mut SearchBack,
+    depth: NodeTable<u64>,
+)
+    requires fixed { IsFixed problem.now fixed.now }
+    requires standing { IsStandingBut problem.now tables.old (Some search.old.hole) }
+    requires known { IsNode problem.now.tree search.old.hole }
+    requires unused { IsUnused problem.now search.old }
+    requires over { IsOver problem.now.tree depth }
+    ensures standing { IsStanding problem.now tables.new }
+    ensures unshipped { AreAllSame (state_of tables.old) (state_of tables.new) }
+{
+    problem.limits();
+    if let Some(depth) = way_and_depths(problem, fixed, tables, search, depth) {
+        tables.depth = depth;
+    }
+    follow(problem, fixed, tables, search);
+}
+
+// A cheapest way of the hole, and the depths with which it costs nothing, or none where it costs nothing already.
+fn way_and_depths(
+    problem: &Problem,
+    fixed: &Fixed,
+    tables: &Tables,
+    search: &mut SearchBack,
+    depth: NodeTable<u64>,
+) -> Option<NodeTable<u64>>
+    requires fixed { IsFixed problem.now fixed.now }
+    requires standing { IsStandingBut problem.now tables.now (Some search.old.hole) }
+    requires known { IsNode problem.now.tree search.old.hole }
+    requires unused { IsUnused problem.now search.old }
+    requires over { IsOver problem.now.tree depth }
+    ensures how { IsOver problem.now.tree search.new.how }
+    ensures depths { MatchOption result (IsReady problem.now (state_of tables.now) search.new)
+        (λ depth. AreReady problem.now tables.now depth search.new) }
+{
+    let hollow = Hollow {
+        problem,
+        fixed,
+        tables,
+        hole: search.hole,
+    };
+    way_over(&hollow, search, depth)
+}
+
+fn way_over(
+    hollow: &Hollow<'_>,
+    search: &mut SearchBack,
+    depth: NodeTable<u64>,
+) -> Option<NodeTable<u64>>
+    requires hollow { IsHollow hollow.now }
+    requires hole { search.old.hole ≡ hollow.now.hole }
+    requires unused { IsUnused (wave_of hollow.now) search.old }
+    requires over { IsOver (wave_of hollow.now).tree depth }
+    ensures how { IsOver (wave_of hollow.now).tree search.new.how }
+    ensures depths { MatchOption result (IsReady (wave_of hollow.now) (state_at hollow.now) search.new)
+        (λ depth. AreReady (wave_of hollow.now) hollow.now.tables.now depth search.new) }
+{
+    find_rest(hollow, search);
+    if search.bound == 0 {
+        return None;
+    }
+    Some(higher(hollow, search, depth))
+}
+
+// The depths after a search back.
+fn higher(hollow: &Hollow<'_>, search: &SearchBack, depth: NodeTable<u64>) -> NodeTable<u64>
+    requires hollow { IsHollow hollow.now }
+    requires searched { IsSearched hollow.now search.now }
+    requires over { IsOver (wave_of hollow.now).tree depth }
+    ensures over { IsOver (wave_of hollow.now).tree result }
+    ensures higher { AreHigher hollow.now search.now result }
+{
+    let mut depth = depth;
+    for node in &hollow.fixed.nodes {
+        depth.set(*node, higher_at(hollow, search, *node));
+    }
+    depth
+}
+
+// How deep a node lies after a search back.
+fn higher_at(hollow: &Hollow<'_>, search: &SearchBack, node: TreeNode) -> u64
+    requires hollow { IsHollow hollow.now }
+    requires searched { IsSearched hollow.now search.now }
+    requires known { IsNode (wave_of hollow.now).tree node }
+    ensures { IsHigher hollow.now search.now node result }
+{
+    let rest = search.bound.saturating_sub(search.far.get(node));
+    hollow.tables.depth.get(node).saturating_sub(rest)
+}
+
+// Moves the hole along the way that a search back found, and fills it where the way ends.
+fn follow(problem: &Problem, fixed: &Fixed, tables: &mut Tables, search: &SearchBack)
+    requires fixed { IsFixed problem.now fixed.now }
+    requires tables { AreTables problem.now tables.old }
+    requires how { IsOver problem.now.tree search.now.how }
+    requires low { (v : TreeNode) → at_node tables.old.depth v ≤ reward problem.now }
+    requires ready { IsReady problem.now (state_of tables.old) search.now }
+    ensures standing { IsStanding problem.now tables.new }
+    ensures unshipped { AreAllSame (state_of tables.old) (state_of tables.new) }
+{
+    problem.limits();
+    match search.goal {
+        Rest::Free(node) => {
+            move_to(problem, tables, search, node);
+            let worker = sink(problem, fixed, tables, node);
+            give_slot(problem, tables, worker);
+        }
+        Rest::Join(split, end) => {
+            move_to(problem, tables, search, end.node);
+            put_split(problem, tables, split, end);
+        }
+    }
+}
+
+// Moves the hole along the way that a search back found, as far as a node.
+fn move_to(problem: &Problem, tables: &mut Tables, search: &SearchBack, node: TreeNode)
+    requires tables { AreTables problem.now tables.old }
+    requires how { IsOver problem.now.tree search.now.how }
+    requires ready { IsReady problem.now (state_of tables.old) search.now }
+    requires known { IsNode problem.now.tree node }
+    requires on_way { IsOnWay search.now node }
+    ensures depth { tables.new.depth ≡ tables.old.depth }
+    ensures tables { AreTables problem.now tables.new }
+    ensures moved { HasMoved problem.now (state_of tables.old) (state_of tables.new) search.now node }
+{
+    problem.limits();
+    match search.how.get(node) {
+        StepBack::Start => {}
+        StepBack::Rise(below) => {
+            move_to(problem, tables, search, below);
+            let units = tables.flow.get(below) + 1;
+            put_units(problem, tables, below, units);
+        }
+        StepBack::Sink => {
+            let up = parent(problem.tree(), node);
+            move_to(problem, tables, search, up);
+            let units = tables.flow.get(node) - 1;
+            put_units(problem, tables, node, units);
+        }
+        StepBack::Over(split, end) => {
+            move_to(problem, tables, search, end.node);
+            put_split(problem, tables, split, end);
+        }
+    }
+}
+
+/// Lets a hole sink to a worker, from node to node to which units go; where a node lies higher than its
+/// parent,
+/// it is deepened first. The worker's number.
+pub fn sink(problem: &Problem, fixed: &Fixed, tables: &mut Tables, node: TreeNode) -> u16
+    requires fixed { IsFixed problem.now fixed.now }
+    requires known { IsNode problem.now.tree node }
+    requires standing { IsStandingBut problem.now tables.old (Some node) }
+    ensures standing { IsStandingBut problem.now tables.new (Some (Worker result)) }
+    ensures worker { result < length problem.now.workers }
+    ensures under { is_under problem.now.tree (Worker result) node ≡ true }
+    ensures depth { at_node tables.new.depth (Worker result) ≡ at_node tables.old.depth node }
+    ensures places { (state_of tables.new).places ≡ (state_of tables.old).places }
+{
+    if let TreeNode::Worker(worker) = node {
+        return worker;
+    }
+    let below = child_with_units(problem, fixed, tables, node);
+    sink_to(problem, fixed, tables, node, below);
+    sink(problem, fixed, tables, below)
+}
+
+// A node to which units go from the one from which it hangs.
+fn child_with_units(problem: &Problem, fixed: &Fixed, tables: &Tables, node: TreeNode) -> TreeNode
+    requires fixed { IsFixed problem.now fixed.now }
+    requires standing { IsStandingBut problem.now tables.now (Some node) }
+    requires inner { (w : ℕ) → node ≢ Worker w }
+    ensures known { IsNode problem.now.tree result }
+    ensures above { parent problem.now.tree result ≡ node }
+    ensures hangs { result ≢ Cluster }
+    ensures some { 0 < at_node tables.now.flow result }
+{
+    for below in &fixed.nodes {
+        if is_same(parent(problem.tree(), *below), node) && tables.flow.get(*below) > 0 {
+            return *below;
+        }
+    }
+    unreachable!()
+}
+
+/// Moves a hole from a node to one that hangs from it and to which units go.
+pub fn sink_to(
+    problem: &Problem,
+    fixed: &Fixed,
+    tables: &mut Tables,
+    node: TreeNode,
+    below: TreeNode,
+)
+    requires fixed { IsFixed problem.now fixed.now }
+    requires standing { IsStandingBut problem.now tables.old (Some node) }
+    requires known { IsNode problem.now.tree below }
+    requires above { parent problem.now.tree below ≡ node }
+    requires hangs { below ≢ Cluster }
+    requires some { 0 < at_node tables.old.flow below }
+    ensures standing { IsStandingBut problem.now tables.new (Some below) }
+    ensures depth { at_node tables.new.depth below ≡ at_node tables.old.depth node }
+    ensures places { (state_of tables.new).places ≡ (state_of tables.old).places }
+    ensures flows { (v : TreeNode) → v ≢ below → at_node tables.new.flow v ≡ at_node tables.old.flow v }
+{
+    deepen(problem, fixed, tables, below);
+    let units = tables.flow.get(below) - 1;
+    put_units(problem, tables, below, units);
+}
+
+/// Deepens a node that units fill as far as its parent. A node that they do not fill lies as deep as that.
+pub fn deepen(problem: &Problem, fixed: &Fixed, tables: &mut Tables, node: TreeNode)
+    requires fixed { IsFixed problem.now fixed.now }
+    requires known { IsNode problem.now.tree node }
+    requires hangs { node ≢ Cluster }
+    requires tables { AreTables problem.now tables.old }
+    ensures tables { AreTables problem.now tables.new }
+    ensures standing { (hole : Option TreeNode) → IsStandingBut problem.now tables.old hole
+        → IsStandingBut problem.now tables.new hole }
+    ensures level { (hole : Option TreeNode) → IsStandingBut problem.now tables.old hole
+        → at_node tables.new.depth (parent problem.now.tree node) ≤ at_node tables.new.depth node }
+    ensures others { (v : TreeNode) → v ≢ node → at_node tables.new.depth v ≡ at_node tables.old.depth v }
+    ensures places { (state_of tables.new).places ≡ (state_of tables.old).places }
+    ensures flow { (state_of tables.new).flow ≡ (state_of tables.old).flow }
+{
+    let up = tables.depth.get(parent(problem.tree(), node));
+    if tables.flow.get(node) == fixed.slots.get(node) && tables.depth.get(node) < up {
+        set_depth(problem, tables, node, up);
+    }
+}
+
+// Gives a node another depth.
+fn set_depth(problem: &Problem, tables: &mut Tables, node: TreeNode, depth: u64)
+    requires tables { AreTables problem.now tables.old }
+    requires known { IsNode problem.now.tree node }
+    ensures tables { AreTables problem.now tables.new }
+    ensures set { IsDepthSet (state_of tables.old) (state_of tables.new) node depth }
+    ensures places { (state_of tables.new).places ≡ (state_of tables.old).places }
+{
+    let _ = problem;
+    tables.depth.set(node, depth);
+}
+
+// Gives a node other units.
+fn put_units(problem: &Problem, tables: &mut Tables, node: TreeNode, units: u64)
+    requires tables { AreTables problem.now tables.old }
+    requires known { IsNode problem.now.tree node }
+    ensures tables { AreTables problem.now tables.new }
+    ensures set { IsFlowSet (state_of tables.old) (state_of tables.new) node units }
+    ensures depth { tables.new.depth ≡ tables.old.depth }
+    ensures places { (state_of tables.new).places ≡ (state_of tables.old).places }
+{
+    set_flow(problem, tables, node, units);
+}
+
+// Lets a split stand at an end.
+fn put_split(problem: &Problem, tables: &mut Tables, split: u16, end: End)
+    requires tables { AreTables problem.now tables.old }
+    requires split { split < length tables.old.places.items }
+    requires known { IsNode problem.now.tree end.node }
+    ensures tables { AreTables problem.now tables.new }
+    ensures placed { IsPlaced (state_of tables.old) (state_of tables.new) split (Stands end) }
+    ensures depth { tables.new.depth ≡ tables.old.depth }
+{
+    place(problem, tables, split, Place::Stands(end));
+}
+
+// Makes a slot of a worker free.
+fn give_slot(problem: &Problem, tables: &mut Tables, worker: u16)
+    requires tables { AreTables problem.now tables.old }
+    requires known { worker < length problem.now.workers }
+    requires few { (v : TreeNode) → at_node tables.old.below v + 1 < 2 ^ 64 }
+    requires few_own { (state_of tables.old).free worker + 1 < 2 ^ 64 }
+    ensures tables { AreTables problem.now tables.new }
+    ensures taken { IsTaken problem.now (state_of tables.new) (state_of tables.old) worker }
+    ensures depth { tables.new.depth ≡ tables.old.depth }
+    ensures places { (state_of tables.new).places ≡ (state_of tables.old).places }
+{
+    give_free(problem, tables, worker);
+    add_above(problem, &mut tables.below, WorkerNo::new(worker), 1);
+}
+
+fn give_free(problem: &Problem, tables: &mut Tables, worker: u16)
+    requires known { worker < length problem.now.workers }
+    requires size { length tables.old.free.items ≡ length problem.now.workers }
+    requires few { (state_of tables.old).free worker + 1 < 2 ^ 64 }
+    ensures taken { IsTaken problem.now (state_of tables.new) (state_of tables.old) worker }
+    ensures rest { tables.new ≡ record tables.old { free = tables.new.free } }
+    ensures size { length tables.new.free.items ≡ length tables.old.free.items }
+{
+    let _ = problem;
+    tables.free[worker as usize] += 1;
+}
