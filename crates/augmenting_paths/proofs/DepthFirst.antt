@@ -1,5 +1,5 @@
 -- A trail grows at its end, or loses its last arc.
-use Rattle.std.proofs.Common.{◌≡◌, ℕ, ◌<◌, List, [], ◌∷◌, ◌++◌, length, map, get_or, set, ap}
+use Rattle.std.proofs.Common.{ℕ, ◌<◌, List, ◌∷◌, ◌++◌, [], Bool, true, false, length, map, get_or, set, ap}
 use Rattle.std.proofs.Common.{◌∙◌, subst, inl, inr, arith, get_or-set_same, get_or-set_other, All}
 use Rattle.std.proofs.lemmas.Bool.{cases_eq}
 use Rattle.std.specs.Prelude.{slice_index}
@@ -12,69 +12,65 @@ use Rattle.flow_network.proofs.Listed.{leaving_at}
 use Rattle.flow_network.proofs.Members.{Contains-map}
 use Rattle.shortest_paths.specs.Lists.{ArcLists, AreResidualArcs, sink_arcs_at, stack_arcs}
 use Rattle.shortest_paths.specs.Lists.{inner_at, matched_at}
-use Rattle.augmenting_paths.specs.DepthFirst.{IsOf, GoesOn, IsTrail}
+use Rattle.augmenting_paths.specs.DepthFirst.{GoesOn, IsClosed, IsOf, IsTrail}
 use Rattle.augmenting_paths.proofs.TightPath.{tight_push, tight_pop, GoesOver-push, GoesOver-before}
 use Rattle.augmenting_paths.proofs.TightPath.{GoesOver-last}
 
 -- both ends of an arc are closed
-abbrev AreClosed : List FlowArc → List ℕ → ℕ → ℕ → Type 0
-AreClosed arcs closed time k =
-    (slice_index closed (arc_at arcs k).from ≡ time) × (slice_index closed (arc_at arcs k).to ≡ time)
+abbrev AreClosed : List FlowArc → List Bool → ℕ → Type 0
+AreClosed arcs closed k =
+    IsClosed closed (arc_at arcs k).from × IsClosed closed (arc_at arcs k).to
 
-tail_closed : (arcs : List FlowArc) (closed : List ℕ) (time : ℕ) (a : ArcNo)
-    → AreClosed arcs closed time (arc_index a) → slice_index closed (tail_of arcs a) ≡ time
-tail_closed arcs closed time (Forward k) e = e.0
-tail_closed arcs closed time (Reverse k) e = e.1
+tail_closed : (arcs : List FlowArc) (closed : List Bool) (a : ArcNo)
+    → AreClosed arcs closed (arc_index a) → IsClosed closed (tail_of arcs a)
+tail_closed arcs closed (Forward k) e = e.0
+tail_closed arcs closed (Reverse k) e = e.1
 
-head_closed : (arcs : List FlowArc) (closed : List ℕ) (time : ℕ) (a : ArcNo)
-    → AreClosed arcs closed time (arc_index a) → slice_index closed (head_of arcs a) ≡ time
-head_closed arcs closed time (Forward k) e = e.1
-head_closed arcs closed time (Reverse k) e = e.0
+head_closed : (arcs : List FlowArc) (closed : List Bool) (a : ArcNo)
+    → AreClosed arcs closed (arc_index a) → IsClosed closed (head_of arcs a)
+head_closed arcs closed (Forward k) e = e.1
+head_closed arcs closed (Reverse k) e = e.0
 
-ends_closed : (arcs : List FlowArc) (closed : List ℕ) (time : ℕ) (a : ArcNo)
-    → slice_index closed (tail_of arcs a) ≡ time → slice_index closed (head_of arcs a) ≡ time
-    → AreClosed arcs closed time (arc_index a)
-ends_closed arcs closed time (Forward k) t h = (t, h)
-ends_closed arcs closed time (Reverse k) t h = (h, t)
+ends_closed : (arcs : List FlowArc) (closed : List Bool) (a : ArcNo)
+    → IsClosed closed (tail_of arcs a) → IsClosed closed (head_of arcs a)
+    → AreClosed arcs closed (arc_index a)
+ends_closed arcs closed (Forward k) t h = (t, h)
+ends_closed arcs closed (Reverse k) t h = (h, t)
 
 -- one node more is closed
-stays_closed : (closed : List ℕ) (time v w : ℕ) → v < length closed → slice_index closed w ≡ time
-    → slice_index (set closed v time) w ≡ time
-stays_closed closed time v w l c = grind (arith, cases_eq, get_or-set_same, get_or-set_other)
+stays_closed : (closed : List Bool) (v w : ℕ) → v < length closed → IsClosed closed w
+    → IsClosed (set closed v true) w
+stays_closed closed v w l c = grind (arith, cases_eq, get_or-set_same, get_or-set_other)
 
-pub trail_begins : (arcs : List FlowArc) (flows : List ℕ) (h : ℕ → ℕ) (closed : List ℕ) (time s : ℕ)
-    → s < length closed → IsTrail arcs flows h (set closed s time) time s s []
-trail_begins arcs flows h closed time s l = grind (arith, get_or-set_same)
-
-pub trail_goes_on : {arcs : List FlowArc} {flows : List ℕ} {h : ℕ → ℕ} {closed : List ℕ} {time s v : ℕ}
-    {path : List ArcNo} {a : ArcNo} → IsTrail arcs flows h closed time s v path
-    → GoesOn arcs flows h closed time v a → head_of arcs a < length closed
-    → IsTrail arcs flows h (set closed (head_of arcs a) time) time s (head_of arcs a) (path ++ a ∷ [])
-trail_goes_on {arcs} {flows} {h} {closed} {time} {s} {v} {path} {a} trail on l =
-    let stays : (w : ℕ) → slice_index closed w ≡ time
-    → slice_index (set closed (head_of arcs a) time) w ≡ time =
-    λ w. stays_closed closed time (head_of arcs a) w l in
-    let here : slice_index (set closed (head_of arcs a) time) (head_of arcs a) ≡ time =
-    get_or-set_same closed (head_of arcs a) time 0 l in
-    let tail : slice_index closed (tail_of arcs a) ≡ time =
-    ap (λ w. get_or closed w 0) on.from ∙ trail.here in
+pub trail_goes_on : {arcs : List FlowArc} {flows : List ℕ} {h : ℕ → ℕ} {closed : List Bool} {s v : ℕ}
+    {path : List ArcNo} {a : ArcNo} → IsTrail arcs flows h closed s v path
+    → GoesOn arcs flows h closed v a → head_of arcs a < length closed
+    → IsTrail arcs flows h (set closed (head_of arcs a) true) s (head_of arcs a) (path ++ a ∷ [])
+trail_goes_on {arcs} {flows} {h} {closed} {s} {v} {path} {a} trail on l =
+    let stays : (w : ℕ) → IsClosed closed w
+    → IsClosed (set closed (head_of arcs a) true) w =
+    λ w. stays_closed closed (head_of arcs a) w l in
+    let here : IsClosed (set closed (head_of arcs a) true) (head_of arcs a) =
+    get_or-set_same closed (head_of arcs a) true false l in
+    let tail : IsClosed closed (tail_of arcs a) =
+    ap (λ w. get_or closed w false) on.from ∙ trail.here in
     record {
       way = tight_push arcs flows h s v path a trail.way on.open_arc.residual on.open_arc.tight on.from
-          (λ o. on.open_arc.fresh (head_closed arcs closed time a (trail.ends (arc_index a) o)));
+          (λ o. on.open_arc.fresh (head_closed arcs closed a (trail.ends (arc_index a) o)));
       here = here;
       ends = λ k o. elim (GoesOver-push k a path o) [
         | inl old ↦ (stays _ (trail.ends k old).0, stays _ (trail.ends k old).1)
-        | inr e ↦ subst (λ j. AreClosed arcs (set closed (head_of arcs a) time) time j) e
-            (ends_closed arcs _ time a (stays _ tail) here)
+        | inr e ↦ subst (λ j. AreClosed arcs (set closed (head_of arcs a) true) j) e
+            (ends_closed arcs _ a (stays _ tail) here)
       ];
     }
 
-pub trail_goes_back : {arcs : List FlowArc} {flows : List ℕ} {h : ℕ → ℕ} {closed : List ℕ} {time s v : ℕ}
-    (path : List ArcNo) (a : ArcNo) → IsTrail arcs flows h closed time s v (path ++ a ∷ [])
-    → IsTrail arcs flows h closed time s (tail_of arcs a) path
-trail_goes_back {arcs} {flows} {h} {closed} {time} {s} {v} path a trail = record {
+pub trail_goes_back : {arcs : List FlowArc} {flows : List ℕ} {h : ℕ → ℕ} {closed : List Bool} {s v : ℕ}
+    (path : List ArcNo) (a : ArcNo) → IsTrail arcs flows h closed s v (path ++ a ∷ [])
+    → IsTrail arcs flows h closed s (tail_of arcs a) path
+trail_goes_back {arcs} {flows} {h} {closed} {s} {v} path a trail = record {
   way = tight_pop arcs flows h s v path a trail.way;
-  here = tail_closed arcs closed time a (trail.ends (arc_index a) (GoesOver-last a path));
+  here = tail_closed arcs closed a (trail.ends (arc_index a) (GoesOver-last a path));
   ends = λ k o. trail.ends k (GoesOver-before k a path o);
 }
 

@@ -1,13 +1,13 @@
 -- The order in which units are shipped may be any.
 use Rattle.std.proofs.Common.{◌≡◌, ℕ, ◌+◌, ◌*◌, ◌<◌, Bool, true, false, List, [], ◌∷◌, ◌++◌}
-use Rattle.std.proofs.Common.{length, get_or, set, take, drop, map, replicate, refl, sym, ap, ◌∙◌, subst, inl}
+use Rattle.std.proofs.Common.{length, get_or, set, take, drop, map, sym, ap, ◌∙◌, subst, inl}
 use Rattle.std.proofs.Common.{inr, arith, get_or-set_same, get_or-set_other, Contains}
 use Rattle.std.specs.Prelude.{nat_eq}
 use Rattle.std.specs.List.{IsDistinct}
 use Rattle.std.specs.List.Sorted.{IsPermutation}
 use Rattle.std.specs.Cmp.{nat_eq_equiv}
 use Rattle.std.proofs.Math.Seq.{take-length}
-use Rattle.std.proofs.lemmas.Bool.{cases_eq, cases_lt, cases_Bool, ne_eqb, eq-eqb, false≢true}
+use Rattle.std.proofs.lemmas.Bool.{cases_eq, cases_lt, ne_eqb, eq-eqb, false≢true}
 use Rattle.std.proofs.lemmas.List.{get_or_default, take-append-drop}
 use Rattle.std.proofs.lemmas.List.Elements.{Contains-append_left, Contains-push, Contains-push_cases}
 use Rattle.std.proofs.lemmas.List.Sorted.{IsPermutation-sym, IsPermutation-trans, IsPermutation-append_left}
@@ -15,8 +15,7 @@ use Rattle.std.proofs.lemmas.List.Sorted.{IsPermutation-map, Contains-permutatio
 use Rattle.std.proofs.lemmas.List.Sorted.{sum_by-IsPermutation}
 use Rattle.std.proofs.lemmas.Map.Keys.{IsDistinct-IsPermutation, IsDistinct-from_apart, apart_from_distinct}
 use Rattle.flow_network.specs.declared.arcs.FlowArc.{FlowArc}
-use Rattle.flow_network.specs.Flows.{arc_at, inflow, outflow, unit_at}
-use Rattle.flow_network.proofs.Members.{replicated_at}
+use Rattle.flow_network.specs.Flows.{inflow, outflow, unit_at}
 use Rattle.augmenting_paths.specs.Shipping.{standing, CanShip, HasShipped, AreMarked}
 
 pub standing-permutation : (w : ℕ) (xs ys : List ℕ) → IsPermutation xs ys → standing ys w ≡ standing xs w
@@ -84,16 +83,6 @@ order_shipped {arcs = arcs} {xs = xs} {ys = ys} {sink = sink} {flows = flows} p 
     let same = standing-permutation w xs ys p in omega arith) in
     grind arith
 
--- the order in which units are shipped may be any
-pub order_law : (nodes : ℕ) (arcs : List FlowArc) (sources order : List ℕ) (sink : ℕ) (flows : List ℕ)
-    (h : ℕ → ℕ)
-    → IsPermutation sources order → CanShip nodes arcs sources sink
-    → CanShip nodes arcs order sink
-    × (HasShipped arcs order sink (length order) flows h
-    → HasShipped arcs sources sink (length sources) flows h)
-order_law nodes arcs sources order sink flows h p can =
-    (order_can p can, order_shipped p)
-
 -- the nodes of sorted keys
 pub order_sorted : (keys sorted : List (ℕ × ℕ)) (sources order : List ℕ) → map (λ p. p.1) keys ≡ sources
     → IsPermutation keys sorted → order ≡ map (λ p. p.1) sorted → IsPermutation sources order
@@ -110,14 +99,6 @@ order_made sources order first last m all q l =
     (IsPermutation-append_left (drop m order) (take m order) first q) in
     IsPermutation-trans sources order last all (subst (λ ys. IsPermutation order ys) (sym l) turned)
 
-pub map-push : {X Y : Type 0} (f : X → Y) (xs : List X) (x : X) → map f (xs ++ x ∷ []) ≡ map f xs ++ f x ∷ []
-map-push f [] x = refl
-map-push f (y ∷ xs) x = ap (λ ys. f y ∷ ys) (map-push f xs x)
-
--- the marks of sources
-pub marks_none : (n : ℕ) → AreMarked [] (replicate n false)
-marks_none n v = grind (arith, false≢true, replicated_at)
-
 pub marks_more : (xs : List ℕ) (marks : List Bool) (s : ℕ) → s < length marks → AreMarked xs marks
     → AreMarked (xs ++ s ∷ []) (set marks s true)
 marks_more xs marks s l m v = (
@@ -133,22 +114,6 @@ marks_more xs marks s l m v = (
     ]
   ]),
 )
-
--- neither the sink nor the end of an arc is marked
-module _ {nodes : ℕ} {arcs : List FlowArc} {sources : List ℕ} {sink : ℕ} (marks : List Bool)
-    (can : CanShip nodes arcs sources sink) (m : AreMarked sources marks) where
-  unmarked : (v : ℕ) → ((k : ℕ) → k < length sources → get_or sources k 0 ≡ v → ⊥)
-      → get_or marks v false ≡ false
-  unmarked v n = elim (cases_Bool (get_or marks v false)) [
-    | inl t ↦ absurd (let c = (m v).0 t in n c.0 c.1 (get_or_default sources c.0 0 v c.1 ∙ c.2))
-    | inr f ↦ f
-  ]
-
-  pub sink_unmarked : get_or marks sink false ≡ false
-  sink_unmarked = unmarked sink (λ k l e. can.not_sink k l e)
-
-  pub ends_unmarked : (j : ℕ) → j < length arcs → get_or marks (arc_at arcs j).to false ≡ false
-  ends_unmarked j l = unmarked (arc_at arcs j).to (λ k i e. can.no_entry k j i l (sym e))
 
 pub sources_in : {nodes : ℕ} {arcs : List FlowArc} {sources : List ℕ} {sink : ℕ} →
     CanShip nodes arcs sources sink

@@ -126,10 +126,6 @@ module _ {nodes : ℕ} {arcs : List FlowArc} {sources : List ℕ} {sink count : 
   start_in = let w = can.paths count left in let inside = (can.arcs_in w.out w.out_in).from_in in
       let e = w.leaves in omega arith
 
-  pub sink_in : sink < nodes
-  sink_in = let w = can.paths count left in let inside = (can.arcs_in w.on w.on_in).to_in in
-      let e = w.arrives in omega arith
-
   pub start_level : h (get_or sources count 0) ≡ 0
   start_level = state.untouched count (omega arith) left
 

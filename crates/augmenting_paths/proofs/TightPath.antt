@@ -1,20 +1,18 @@
 -- A path is made arc by arc, as one goes down.
-use Rattle.std.proofs.Common.{◌≡◌, ℕ, ◌-◌, ◌<◌, cond, eqb, List, [], ◌∷◌, ◌++◌, length, get_or, Option, Some}
-use Rattle.std.proofs.Common.{None, map, refl, sym, ap, subst, inl, inr, ◌⊎◌, arith, Contains}
-use Rattle.std.proofs.lemmas.Bool.{eq-eqb, ne_eqb}
-use Rattle.std.proofs.lemmas.List.Elements.{Contains-get_or, Contains-append_left, Contains-append_right}
+use Rattle.std.proofs.Common.{◌≡◌, ℕ, ◌<◌, List, [], ◌∷◌, ◌++◌, length, get_or, Option, Some}
+use Rattle.std.proofs.Common.{None, refl, sym, ap, subst, inl, inr, ◌⊎◌, arith, Contains}
+use Rattle.std.proofs.lemmas.List.Elements.{Contains-append_left}
 use Rattle.flow_network.specs.declared.arcs.FlowArc.{FlowArc}
 use Rattle.flow_network.specs.declared.arcs.ArcNo.{ArcNo}
-use Rattle.flow_network.specs.declared.arcs.ArcNo.TheVariants.{Forward, Reverse}
+use Rattle.flow_network.specs.declared.arcs.ArcNo.TheVariants.{Forward}
 use Rattle.flow_network.specs.Flows.{arc_at, arc_index, tail_of, head_of, Lacks, IsDistinct}
 use Rattle.flow_network.specs.Flows.{IsPath, IsResidual}
 use Rattle.flow_network.proofs.Members.{Contains-here}
 use Rattle.flow_network.proofs.Paths.{IsPath-append}
 use Rattle.shortest_paths.specs.Lists.{ArcLists, AreResidualArcs, option_arcs, sink_arcs_at, stack_arcs}
-use Rattle.shortest_paths.specs.Lists.{inner_at, matched_at}
 use Rattle.shortest_paths.specs.Lowering.{IsTight, AreTight}
 use Rattle.shortest_paths.specs.Matched.{GoesOver, GoesOnce}
-use Rattle.augmenting_paths.specs.TightPath.{IsTightPath, LeadsDown, GoesDown}
+use Rattle.augmenting_paths.specs.TightPath.{IsTightArc, IsTightPath}
 
 -- what does not go over an arc's number does not have the arc
 lacks_of : (a : ArcNo) (path : List ArcNo) → (GoesOver (arc_index a) path → ⊥) → Lacks a path
@@ -24,12 +22,6 @@ lacks_of a (b ∷ path) n = ((λ e. n (inl (sym (ap arc_index e)))), lacks_of a 
 pub distinct_once : (path : List ArcNo) → GoesOnce path → IsDistinct path
 distinct_once [] once = tt
 distinct_once (a ∷ path) once = (lacks_of a path once.0, distinct_once path once.1)
-
--- no matter how the depths are computed
-pub same_tight : (arcs : List FlowArc) (h h' : ℕ → ℕ) → ((v : ℕ) → h' v ≡ h v) → (path : List ArcNo)
-    → AreTight arcs h path → AreTight arcs h' path
-same_tight arcs h h' same [] t = tt
-same_tight arcs h h' same (a ∷ path) t = grind (arith, same_tight arcs h h' same path t.1)
 
 -- one arc more
 pub GoesOver-push : (k : ℕ) (a : ArcNo) (path : List ArcNo) → GoesOver k (path ++ a ∷ [])
@@ -93,34 +85,6 @@ pub tight_pop : (arcs : List FlowArc) (flows : List ℕ) (h : ℕ → ℕ) (s v 
     → IsTightPath arcs flows h s v (path ++ a ∷ []) → IsTightPath arcs flows h s (tail_of arcs a) path
 tight_pop arcs flows h s v path a way = grind (arith, IsPath-pop, GoesOnce-pop, AreTight-pop)
 
--- one arc further down
-module _ (arcs : List FlowArc) (flows : List ℕ) (h : ℕ → ℕ) (sink s v : ℕ) (path : List ArcNo) (k : ℕ)
-    (way : IsTightPath arcs flows h s v path) (before : (j : ℕ) → GoesOver j path → (arc_at arcs j).from < v)
-    (on : LeadsDown arcs flows h sink k) (from : (arc_at arcs k).from ≡ v) where
-  goes_on : GoesDown arcs flows h sink s (arc_at arcs k).to (path ++ Forward k ∷ [])
-  goes_on = record {
-    path_to = tight_push arcs flows h s v path (Forward k) way
-        (record { listed = on.open_arc.listed; room = (let room = on.open_arc.room in omega arith) })
-        on.open_arc.tight from (λ o. (let low = before k o in absurd (omega arith)));
-    earlier = λ further j o. (let later : (arc_at arcs k).from < (arc_at arcs k).to =
-        elim on.down [ inl e ↦ absurd (further e) | inr l ↦ l ] in
-        elim (GoesOver-push j (Forward k) path o) [
-          | inl old ↦ (let low = before j old in omega arith)
-          | inr e ↦ subst (λ i. (arc_at arcs i).from < (arc_at arcs k).to) e later
-        ]);
-  }
-
-pub way_begins : {arcs : List FlowArc} {flows : List ℕ} {h : ℕ → ℕ} {sink k : ℕ}
-    → LeadsDown arcs flows h sink k
-    → GoesDown arcs flows h sink (arc_at arcs k).from (arc_at arcs k).to (Forward k ∷ [])
-way_begins {arcs} {flows} {h} {sink} {k} on = grind arith
-
-pub way_goes_on : {arcs : List FlowArc} {flows : List ℕ} {h : ℕ → ℕ} {sink s v : ℕ} {path : List ArcNo}
-    {k : ℕ} → GoesDown arcs flows h sink s v path → (v ≡ sink → ⊥) → LeadsDown arcs flows h sink k
-    → (arc_at arcs k).from ≡ v → GoesDown arcs flows h sink s (arc_at arcs k).to (path ++ Forward k ∷ [])
-way_goes_on {arcs} {flows} {h} {sink} {s} {v} {path} {k} way further on from =
-    goes_on arcs flows h sink s v path k way.path_to (way.earlier further) on from
-
 -- the arc to the sink of a node, and an inner one
 pub sink_arc_on : {arcs : List FlowArc} {flows : List ℕ} {sink : ℕ} {g : ArcLists} {v on : ℕ}
     → AreResidualArcs arcs flows sink g → get_or g.sink_arcs v None ≡ Some on
@@ -130,23 +94,16 @@ sink_arc_on {g = g} {v = v} {on = on} lists e =
     subst (λ (o : Option ℕ). Contains (option_arcs o) (Forward on)) (sym e) (Contains-here [] (Forward on)) in
     lists.own v (Forward on) (Contains-append_left (sink_arcs_at g v) (stack_arcs g v) (Forward on) i)
 
-pub inner_arc : {arcs : List FlowArc} {flows : List ℕ} {sink : ℕ} {g : ArcLists} {v : ℕ}
-    {listed : List ArcNo} {i k : ℕ} → AreResidualArcs arcs flows sink g → listed ≡ inner_at g v
-    → i < length listed → get_or listed i (Forward 0) ≡ Forward k
-    → (k < length arcs) × ((arc_at arcs k).from ≡ v)
-inner_arc {g = g} {v = v} {listed = listed} {i = i} {k = k} lists e l is =
-    let here : Contains listed (Forward k) =
-    subst (λ (a : ArcNo). Contains listed a) is (Contains-get_or listed i (Forward 0) l) in
-    lists.own v (Forward k)
-    (Contains-append_right (sink_arcs_at g v) (stack_arcs g v) (Forward k)
-    (Contains-append_left (inner_at g v) (map Reverse (matched_at g v)) (Forward k)
-    (subst (λ (xs : List ArcNo). Contains xs (Forward k)) e here)))
-
--- how many nodes are later, where an arc leads down
-pub comes_nearer : (arcs : List FlowArc) (nodes sink v k : ℕ) → v < nodes → (v ≡ sink → ⊥)
-    → (arc_at arcs k).from ≡ v
-    → ((arc_at arcs k).to ≡ sink) ⊎ ((arc_at arcs k).from < (arc_at arcs k).to)
-    → cond (eqb (arc_at arcs k).to sink) 0 (nodes - (arc_at arcs k).to) < cond (eqb v sink) 0 (nodes - v)
-comes_nearer arcs nodes sink v k inside further from (inl e) =
-    rw (ne_eqb v sink further, eq-eqb (arc_at arcs k).to sink e) (omega arith)
-comes_nearer arcs nodes sink v k inside further from (inr l) = grind arith
+-- the path over an arc of s and the arc to the sink that goes on from its end
+pub two_arcs : {arcs : List FlowArc} {flows : List ℕ} {h : ℕ → ℕ} {sink s on : ℕ} {g : ArcLists} {a : ArcNo}
+    → AreResidualArcs arcs flows sink g → get_or g.sink_arcs (head_of arcs a) None ≡ Some on
+    → tail_of arcs a ≡ s → (arc_index a ≡ on → ⊥) → IsTightArc arcs flows h a
+    → IsTightArc arcs flows h (Forward on) → IsTightPath arcs flows h s sink (a ∷ Forward on ∷ [])
+two_arcs {arcs = arcs} {on = on} {g = g} {a = a} lists e from apart first last =
+    let i : Contains (sink_arcs_at g (head_of arcs a)) (Forward on) =
+    subst (λ (o : Option ℕ). Contains (option_arcs o) (Forward on)) (sym e) (Contains-here [] (Forward on)) in
+    record {
+      leads = (first.residual, from, (last.residual, (sink_arc_on lists e).1, lists.sink_arcs_lead _ _ i));
+      once = ((λ o. elim o [ inl same ↦ apart (sym same) | inr n ↦ n ]), ((λ n. n), tt));
+      tight = (first.tight, (last.tight, tt));
+    }

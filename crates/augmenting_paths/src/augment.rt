@@ -15,8 +15,8 @@ ghost use Rattle.augmenting_paths.specs.NextUnit.{KeepsArcs};
 
 use crate::order::shipping_order;
 use crate::requirements::indices;
+use crate::straight::straight_path;
 use crate::trail::Trail;
-use crate::walk::walk_down;
 use flow_network::{ArcNo, FlowArc, Meter, Network};
 use node_ids::Layout;
 use shortest_paths::{Buffers, Found, Potentials, Query, ResidualArcs, leaving};
@@ -35,12 +35,11 @@ struct Shipping {
 
 /// Ships one unit from each source to the sink, at the least total cost, by successive shortest paths
 /// (Ahuja, Magnanti and Orlin, Network Flows, section 9.7), one augmentation a source. It answers the
-/// potentials that show it: the sink's is 0, and no residual arc has a negative reduced cost. Its searches
-/// are counted (`ship`): together they look at each arc at most twice for each source. Beside them it goes
-/// over a source's own arcs twice, and walks down from each that is tight, past each node at most once and
-/// over that node's list of arcs; then it goes depth first over tight arcs, into each node at most once and
-/// over each of its arcs at most once. Only memory can fail, and then the network may hold part of the
-/// flow.
+/// potentials that show this: the sink's is 0, and no residual arc has a negative reduced cost. Per unit it
+/// makes two passes over the source's arcs, of which the second looks for a path of two arcs, and one
+/// depth-first search over tight arcs (each node and arc at most once). Only if these find no path does it
+/// search by distances; all such searches together look at each arc at most twice for each source. Only memory can fail, and then the
+/// network may hold part of the flow.
 pub fn saturate<L: Layout>(
     alloc: Global,
     network: &mut Network<L>,
@@ -190,7 +189,7 @@ fn find_path<L: Layout>(
     search_path(alloc, network, shipping, order, sink, count)
 }
 
-// Whether a walk comes from a node to the sink, or else a search over tight arcs, and then its path.
+// Whether tight arcs lead from a node to the sink, and then their path.
 fn tight_path<L: Layout>(
     network: &Network<L>,
     query: &Query,
@@ -202,13 +201,13 @@ fn tight_path<L: Layout>(
     ensures nodes { HasNodes (length query.now.potentials.now) trail.new }
     ensures tight { IfOk result (FindsTight network.now query.now path.new.items) }
 {
-    if walk_down(network, query, path)? {
+    if straight_path(network, query, path)? {
         return Ok(true);
     }
     trail.search(network, query, path)
 }
 
-// The same by a search, where the source is lifted.
+// The same by a search for distances, where the source is lifted.
 fn search_path<L: Layout>(
     alloc: Global,
     network: &Network<L>,
@@ -245,7 +244,7 @@ fn search_path<L: Layout>(
         None => unreachable!(),
     };
     let buffers = found.lower(&mut potentials);
-    trail.open_all(count + 2);
+    trail.open_all();
     Ok(Shipping {
         potentials,
         lists,

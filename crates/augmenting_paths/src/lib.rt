@@ -10,8 +10,8 @@
 mod augment;
 mod order;
 mod requirements;
+mod straight;
 mod trail;
-mod walk;
 
 pub use augment::saturate;
 pub use requirements::{MAX_SOURCES, can_ship};

@@ -1,25 +1,25 @@
 //! A path over which a unit costs nothing more, by a search that goes depth first over tight arcs.
 ghost use Rattle.std.specs.Prelude.{◌≡◌, ℕ, ◌+◌, ◌<◌, ◌≤◌, length, slice_index, slice_set, IfOk, IfSome};
-ghost use Rattle.std.specs.Prelude.{IsTrue, All};
-ghost use Rattle.flow_network.specs.Flows.{arc_index, tail_of, AreArcs};
+ghost use Rattle.std.specs.Prelude.{IsTrue, All, true};
+ghost use Rattle.flow_network.specs.Flows.{arc_index, head_of, tail_of, AreArcs};
 ghost use Rattle.shortest_paths.specs.Search.{MaySearch};
 ghost use Rattle.augmenting_paths.specs.TightPath.{FindsTight};
 ghost use Rattle.augmenting_paths.specs.DepthFirst.{HasNodes, IsOf, IsOpenArc, GoesOn};
 
+use crate::straight::is_tight;
 use flow_network::{ArcNo, FlowArc, Meter, Network};
 use node_ids::Layout;
 use shortest_paths::{Potentials, Query, leaving};
 use std::alloc::{AllocError, Global};
 
-/// The nodes as such searches leave them. Those that are closed lie on the path of one, or none came from
-/// them to the sink: that stays so until the potentials change, but for that of a source that is lifted, so
-/// the next ones pass them by. A node is closed by the number of its time, and all are open in another one.
+/// The closed nodes and the cursors of a depth-first search over tight arcs. A closed node is on the current
+/// path, or was searched without reaching the sink. It stays closed until the potentials change; lifting a
+/// source does not reopen it.
 #[derive(Drop)]
 pub struct Trail {
-    closed: Vec<usize>,
-    // how many of a node's arcs are still to be looked at, or any number that is greater
+    closed: Vec<bool>,
+    // each node's cursor: how many of its arcs are still to be looked at, or any greater number
     left: Vec<usize>,
-    time: usize,
 }
 
 impl Trail {
@@ -28,22 +28,21 @@ impl Trail {
         ensures { IfOk result (λ t. HasNodes nodes t) }
     {
         Ok(Trail {
-            closed: vec![in alloc; 0; nodes]?,
+            closed: vec![in alloc; false; nodes]?,
             left: vec![in alloc; 0; nodes]?,
-            time: 1,
         })
     }
 
-    /// Opens all nodes: a time begins, whose number is not 0 and that of no other.
-    pub fn open_all(&mut self, time: usize)
+    /// Opens all nodes.
+    pub fn open_all(&mut self)
         ensures { (nodes : ℕ) → HasNodes nodes self.old → HasNodes nodes self.new }
     {
-        self.time = time;
+        self.closed.fill(false);
     }
 
-    /// Whether a search from a query's start comes to its sink, and then its path, whose nodes are open
-    /// again. It enters each node at most once, and looks at each of its arcs at most once, but for the arc
-    /// to the sink, which is tested whenever the search comes to the node or back to it.
+    /// Searches depth first, over tight arcs, for a path from the query's start to its sink. If there is one,
+    /// its nodes are open again. The search enters each node at most once and looks at each of its arcs at
+    /// most once. Only the arc to the sink is tested each time the search is at the node.
     pub fn search<L: Layout>(
         &mut self,
         network: &Network<L>,
@@ -61,7 +60,7 @@ impl Trail {
         // (each node is entered once, and left once)
         for _turn in 0..2 * self.closed.len() {
             if top == query.sink {
-                self.closed[query.start] = 0;
+                self.closed[query.start] = false;
                 open_ends(&mut self.closed, network, path);
                 return Ok(true);
             }
@@ -86,11 +85,10 @@ impl Trail {
     fn enter(&mut self, node: usize)
         requires closed { node < length self.old.closed.items }
         requires left { node < length self.old.left.items }
-        ensures closed { self.new.closed.items ≡ slice_set self.old.closed.items node self.old.time }
+        ensures closed { self.new.closed.items ≡ slice_set self.old.closed.items node true }
         ensures left { length self.new.left.items ≡ length self.old.left.items }
-        ensures time { self.new.time ≡ self.old.time }
     {
-        self.closed[node] = self.time;
+        self.closed[node] = true;
         self.left[node] = usize::MAX;
     }
 
@@ -103,7 +101,7 @@ impl Trail {
         ensures left { self.new ≡ record self.old { left = self.new.left } }
         ensures size { length self.new.left.items ≡ length self.old.left.items }
         ensures goes_on { IfSome result (λ a. GoesOn network.now.arcs network.now.flows
-            (slice_index query.now.potentials.now) self.old.closed.items self.old.time node a) }
+            (slice_index query.now.potentials.now) self.old.closed.items node a) }
     {
         if query.lists.is_source(node) {
             let meter = Meter::new(network);
@@ -141,7 +139,7 @@ impl Trail {
         ensures left { self.new ≡ record self.old { left = self.new.left } }
         ensures size { length self.new.left.items ≡ length self.old.left.items }
         ensures goes_on { IfSome result (λ a. GoesOn network.now.arcs network.now.flows
-            (slice_index potentials.now) self.old.closed.items self.old.time node a) }
+            (slice_index potentials.now) self.old.closed.items node a) }
     {
         let most = self.left[node].min(matched.len().saturating_add(inner.len()));
         let Some((arc, left)) = self.find(network, potentials, inner, matched, node, most) else {
@@ -170,7 +168,7 @@ impl Trail {
             → IsOf network.now.arcs node (ArcNo.Reverse (slice_index matched.now i)) }
         requires most { most ≤ length matched.now + length inner.now }
         ensures { IfSome result (λ pair. GoesOn network.now.arcs network.now.flows
-            (slice_index potentials.now) self.now.closed.items self.now.time node pair.0) }
+            (slice_index potentials.now) self.now.closed.items node pair.0) }
     {
         let mut left = most;
         while left > 0 {
@@ -194,36 +192,32 @@ impl Trail {
         requires nodes { length self.now.closed.items ≡ length potentials.now }
         requires listed { arc_index arc < length network.now.arcs }
         ensures { IsTrue result → IsOpenArc network.now.arcs network.now.flows (slice_index potentials.now)
-            self.now.closed.items self.now.time arc }
+            self.now.closed.items arc }
     {
-        let arcs = network.all_arcs();
-        let depths = potentials.depths();
-        match arc {
-            ArcNo::Forward(k) => {
-                let seen = arcs[k as usize];
-                self.closed[seen.to as usize] != self.time
-                    && depths[seen.from as usize] == seen.cost + depths[seen.to as usize]
-                    && network.all_flows()[k as usize] < seen.capacity as u64
-            }
-            ArcNo::Reverse(k) => {
-                let seen = arcs[k as usize];
-                self.closed[seen.from as usize] != self.time
-                    && depths[seen.from as usize] == seen.cost + depths[seen.to as usize]
-                    && network.all_flows()[k as usize] > 0
-            }
-        }
+        !self.closed[head(network.all_arcs(), arc)] && is_tight(network, potentials, arc)
     }
 }
 
 // Opens the nodes to which the arcs of a path lead.
-fn open_ends<L: Layout>(closed: &mut [usize], network: &Network<L>, path: &[ArcNo])
+fn open_ends<L: Layout>(closed: &mut [bool], network: &Network<L>, path: &[ArcNo])
     requires size { length closed.old ≡ L.node_count network.now.layout }
     requires arcs { AreArcs (L.node_count network.now.layout) network.now.arcs }
     requires path { All (λ a. arc_index a < length network.now.arcs) path.now }
     ensures { length closed.new ≡ length closed.old }
 {
     for arc in path {
-        closed[network.view(*arc).to] = 0;
+        closed[network.view(*arc).to] = false;
+    }
+}
+
+// The node to which a residual arc leads.
+fn head(arcs: &[FlowArc], arc: ArcNo) -> usize
+    requires { arc_index arc < length arcs.now }
+    ensures { result ≡ head_of arcs.now arc }
+{
+    match arc {
+        ArcNo::Forward(k) => arcs[k as usize].to as usize,
+        ArcNo::Reverse(k) => arcs[k as usize].from as usize,
     }
 }
 

@@ -14,8 +14,8 @@ use node_ids::{SplitNo, WorkerNo};
 use std::alloc::{AllocError, Global};
 use wave_problem::{Problem, SplitCosts};
 
-/// The direct network of a problem, without flow: split by split the arcs to workers and to `Unstarted`, then
-/// those of the workers, then the last.
+/// The direct network of a problem, without flow: first each split's arcs, to workers and to `Unstarted`;
+/// then the workers' arcs to `Sink`, then that of `Unstarted`.
 pub fn build(alloc: Global, problem: &Problem) -> Result<Network<DirectLayout>, AllocError>
     ensures layout { IfOk result (λ network. IsSized problem.now network.layout) }
     ensures arcs { IfOk result (λ network. IsDirect problem.now network.arcs) }

@@ -4,7 +4,7 @@ use Rattle.std.proofs.Common.{refl, ap, inl, inr, arith}
 use Rattle.std.proofs.Math.Nat.{mul-le-mul_left, add-mul, mul-add, mul_comm, mul-zero}
 use Rattle.std.proofs.lemmas.Bool.{cases_eq, cases_lt, eq-eqb, ne_eqb}
 use Rattle.flow_network.specs.declared.arcs.FlowArc.{FlowArc}
-use Rattle.flow_network.specs.Flows.{inflow, outflow, AreArcs, WithinCapacities, NoNegative}
+use Rattle.flow_network.specs.Flows.{arc_at, inflow, outflow, WithinCapacities, NoNegative}
 use Rattle.flow_network.specs.Laws.{flow_cost, NoNegativeIsCheapest}
 
 -- the units of the arcs by what a function says of their ends, and of their starts
@@ -105,34 +105,53 @@ sum_point (suc n) x f h l = elim (cases_eq x n) [
   | inr d ↦ (let rest = sum_point n x f h (omega arith) in let here = point_off x n f h d in omega arith)
 ]
 
-weighted_in : (n : ℕ) (arcs : List FlowArc) (flows : List ℕ) (h : ℕ → ℕ) → AreArcs n arcs →
+-- each arc leads from one of the first n nodes to another
+abbrev EndsBelow : ℕ → List FlowArc → Type 0
+EndsBelow n arcs = (k : ℕ) → k < length arcs → ((arc_at arcs k).from < n) × ((arc_at arcs k).to < n)
+
+ends_below : (arcs : List FlowArc) → (n : ℕ) × EndsBelow n arcs
+ends_below [] = (0, λ k l. absurd (omega arith))
+ends_below (a ∷ arcs) = let rest = ends_below arcs in (1 + a.from + a.to + rest.0, below rest.0 rest.1)
+  where
+    below : (n : ℕ) → EndsBelow n arcs → EndsBelow (1 + a.from + a.to + n) (a ∷ arcs)
+    below n are zero l = (omega arith, omega arith)
+    below n are (suc k) l = let ends = are k (omega arith) in
+        let from = ends.0 in let to = ends.1 in (omega arith, omega arith)
+
+weighted_in : (n : ℕ) (arcs : List FlowArc) (flows : List ℕ) (h : ℕ → ℕ) → EndsBelow n arcs →
     sum_to n (λ v. h v * inflow arcs flows v) ≡ into h arcs flows
 unfolding into
 weighted_in n [] flows h are = sum_none n (λ v. h v * 0) (λ v l. mul-zero (h v))
 weighted_in n (a ∷ arcs) [] h are = sum_none n (λ v. h v * 0) (λ v l. mul-zero (h v))
 weighted_in n (a ∷ arcs) (f ∷ flows) h are =
     let rest = weighted_in n arcs flows h (λ k l. are (suc k) (omega arith)) in
-    let here = sum_point n a.to f h (are 0 (omega arith)).to_in in
+    let here = sum_point n a.to f h (are 0 (omega arith)).1 in
     let both = sum_add n (λ v. h v * inflow (a ∷ arcs) (f ∷ flows) v) (λ v. h v * cond (eqb a.to v) f 0)
     (λ v. h v * inflow arcs flows v)
     (λ v. mul-add (h v) (cond (eqb a.to v) f 0) (inflow arcs flows v)) in
     omega arith
 
-weighted_out : (n : ℕ) (arcs : List FlowArc) (flows : List ℕ) (h : ℕ → ℕ) → AreArcs n arcs →
+weighted_out : (n : ℕ) (arcs : List FlowArc) (flows : List ℕ) (h : ℕ → ℕ) → EndsBelow n arcs →
     sum_to n (λ v. h v * outflow arcs flows v) ≡ out_of h arcs flows
 unfolding out_of
 weighted_out n [] flows h are = sum_none n (λ v. h v * 0) (λ v l. mul-zero (h v))
 weighted_out n (a ∷ arcs) [] h are = sum_none n (λ v. h v * 0) (λ v l. mul-zero (h v))
 weighted_out n (a ∷ arcs) (f ∷ flows) h are =
     let rest = weighted_out n arcs flows h (λ k l. are (suc k) (omega arith)) in
-    let here = sum_point n a.from f h (are 0 (omega arith)).from_in in
+    let here = sum_point n a.from f h (are 0 (omega arith)).0 in
     let both = sum_add n (λ v. h v * outflow (a ∷ arcs) (f ∷ flows) v) (λ v. h v * cond (eqb a.from v) f 0)
     (λ v. h v * outflow arcs flows v)
     (λ v. mul-add (h v) (cond (eqb a.from v) f 0) (outflow arcs flows v)) in
     omega arith
 
-pub no_negative_is_cheapest : NoNegativeIsCheapest
-no_negative_is_cheapest nodes arcs flows other h are e d none within balance =
+-- however large its capacities and its costs are
+pub cheapest_within : (arcs : List FlowArc) (flows other : List ℕ) (h : ℕ → ℕ)
+    → length flows ≡ length arcs → length other ≡ length arcs
+    → NoNegative arcs flows h → WithinCapacities arcs other
+    → ((v : ℕ) → inflow arcs flows v + outflow arcs other v ≡ inflow arcs other v + outflow arcs flows v)
+    → flow_cost arcs flows ≤ flow_cost arcs other
+cheapest_within arcs flows other h e d none within balance =
+    let ends = ends_below arcs in let nodes : ℕ = ends.0 in let are = ends.1 in
     let arcwise = arc_by_arc arcs flows other h e d none within in
     let left = sum_add nodes (λ v. h v * (inflow arcs flows v + outflow arcs other v))
     (λ v. h v * inflow arcs flows v) (λ v. h v * outflow arcs other v)
@@ -147,3 +166,6 @@ no_negative_is_cheapest nodes arcs flows other h are e d none within balance =
     let c = weighted_in nodes arcs other h are in
     let o = weighted_out nodes arcs flows h are in
     omega arith
+
+pub no_negative_is_cheapest : NoNegativeIsCheapest
+no_negative_is_cheapest nodes arcs flows other h are = cheapest_within arcs flows other h

@@ -21,7 +21,7 @@ outflow-le (a ∷ arcs) (f ∷ flows) v w =
     elim (cases_Bool (eqb a.from v)) [ inl t ↦ rw t (omega arith) | inr n ↦ rw n (omega arith) ]
 
 -- one arc with room
-outflow-lt : (arcs : List FlowArc) (flows : List ℕ) (v i : ℕ) → length flows ≡ length arcs →
+pub outflow-lt : (arcs : List FlowArc) (flows : List ℕ) (v i : ℕ) → length flows ≡ length arcs →
     WithinCapacities arcs flows → i < length arcs → (arc_at arcs i).from ≡ v
     → get_or flows i 0 < (arc_at arcs i).capacity → outflow arcs flows v < outroom arcs v
 outflow-lt [] flows v i e w l at m = absurd (omega arith)

@@ -77,7 +77,7 @@ impl<L: Layout> Network<L> {
         self.arcs.len()
     }
 
-    /// The units that an arc carries; those of its reverse are the same, given back.
+    /// The units that an arc carries. A reverse arc has the flow of its arc.
     pub fn flow(&self, arc: ArcNo) -> u64
         requires { arc_index arc < length self.now.arcs }
         ensures { result ≡ slice_index self.now.flows (arc_index arc) }
@@ -211,8 +211,7 @@ impl<L: Layout> Network<L> {
         Ok(())
     }
 
-    /// Takes memory for so many arcs more, but for their places in the lists of nodes, at once. That changes
-    /// nothing.
+    /// Reserves memory for `arcs` more arcs, except in the nodes' lists. The network stays the same.
     pub fn reserve(&mut self, arcs: usize) -> Result<(), AllocError>
         ensures { self.new ≡ self.old }
     {

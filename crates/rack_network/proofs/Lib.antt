@@ -6,7 +6,8 @@ pub mod RackWays
 -- the network is built
 pub mod Rows
 pub mod Above
--- it lies in layers
+-- it lies in layers, and each wave has one
 pub mod Layers
+pub mod Exists
 -- sets of numbers
 pub mod Marked

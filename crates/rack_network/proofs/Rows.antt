@@ -51,7 +51,7 @@ module _ (wave : Wave) (tree : IsTree wave) where
 
   -- the row of another
   module _ (s : ℕ) (split : s < length wave.splits) (no_bars : HasBars wave s → ⊥) where
-    reaches : (e : RackArc) → IsWanted wave e → (arc_of wave e).from ≡ s
+    pub reaches : (e : RackArc) → IsWanted wave e → (arc_of wave e).from ≡ s
         → (arc_of wave e).to < unstarted_node wave
         → (level : ℕ) × (h : ℕ) × IsReach wave s level h × (arc_of wave e ≡ arc_of wave (Reach s level h))
     reaches (Pair q w) want from high = absurd (no_bars (subst (HasBars wave) from want.1))
@@ -62,6 +62,29 @@ module _ (wave : Wave) (tree : IsTree wave) where
       ap (λ (z : ℕ). arc_of wave (Reach z level h)) from,
     )
     reaches _ want from high = absurd (omega arith)
+
+    -- no node is of two levels
+    pub same_reach : (level h m g : ℕ) → IsReach wave s level h → IsReach wave s m g
+        → node_above wave m g ≡ node_above wave level h
+        → arc_of wave (Reach s m g) ≡ arc_of wave (Reach s level h)
+    same_reach level h m g reach is node =
+        let own = reach_at wave tree s level h reach in let low = own.0 in let high = own.1 in
+        let at = reach_at wave tree s m g is in let from = at.0 in let to = at.1 in
+        let same : m ≡ level = one_level wave tree level m (node_above wave level h)
+        (four_levels wave tree level reach.known) (four_levels wave tree m is.known) low high
+        (omega arith) (omega arith) in
+        ap (λ (x : ℕ). record {
+          from = s;
+          to = x;
+          capacity = 1;
+          cost = (split_at wave s).bytes * (2 * m);
+        }) node
+        ∙ ap (λ (z : ℕ). record {
+          from = s;
+          to = node_above wave level h;
+          capacity = 1;
+          cost = (split_at wave s).bytes * (2 * z);
+        }) same
 
     pub to_reaches : (limit next : ℕ) (network : Flow RackLayout) → limit ≤ next → Built s 0 limit network
         → Built s (cluster_node wave) next network
@@ -85,29 +108,7 @@ module _ (wave : Wave) (tree : IsTree wave) where
           let o = reaches e want from (omega arith) in
           let to = ap (λ (a : FlowArc). a.to) o.3 in
           let far = least o.0 o.1 o.2 (omega arith) in
-          o.3 ∙ same_arc o.0 o.1 o.2 (omega arith))
-        where
-          -- (no node is of two levels)
-          same_arc : (m g : ℕ) → IsReach wave s m g → node_above wave m g ≡ node_above wave level h
-              → arc_of wave (Reach s m g) ≡ arc_of wave (Reach s level h)
-          same_arc m g is node =
-              let own = reach_at wave tree s level h reach in let low = own.0 in let high = own.1 in
-              let at = reach_at wave tree s m g is in let from = at.0 in let to = at.1 in
-              let same : m ≡ level = one_level wave tree level m (node_above wave level h)
-              (four_levels wave tree level reach.known) (four_levels wave tree m is.known) low high
-              (omega arith) (omega arith) in
-              ap (λ (x : ℕ). record {
-                from = s;
-                to = x;
-                capacity = 1;
-                cost = (split_at wave s).bytes * (2 * m);
-              }) node
-              ∙ ap (λ (z : ℕ). record {
-                from = s;
-                to = node_above wave level h;
-                capacity = 1;
-                cost = (split_at wave s).bytes * (2 * z);
-              }) same
+          o.3 ∙ same_reach level h o.0 o.1 reach o.2 (omega arith))
 
       pub reach_end : (limit next : ℕ) (network : Flow RackLayout) → limit ≤ next
           → place ≤ unstarted_node wave
@@ -119,39 +120,47 @@ module _ (wave : Wave) (tree : IsTree wave) where
           let before = none o.0 o.1 o.2 in
           let to = ap (λ (a : FlowArc). a.to) o.3 in omega arith)
 
+  -- the row of a split ends with the arc by which it waits
+  pub own_wait : (s : ℕ) → s < length wave.splits → (e : RackArc) → IsWanted wave e
+      → (arc_of wave e).from ≡ s → unstarted_node wave ≤ (arc_of wave e).to
+      → arc_of wave e ≡ arc_of wave (Wait s)
+  own_wait s split (Pair q w) want from low =
+      absurd (let known = live_known wave w want.0.live in omega arith)
+  own_wait s split (Reach q level h) want from low =
+      absurd (let below = (reach_in wave tree q level h want).1 in omega arith)
+  own_wait s split (Wait q) want from low = ap (λ (z : ℕ). arc_of wave (Wait z)) from
+  own_wait s split _ want from low = absurd (omega arith)
+
   pub wait_step : (s limit next : ℕ) (old new : Flow RackLayout) → limit < next → s < length wave.splits
       → (split_at wave s).pending ≡ true → Built s (unstarted_node wave) limit old
       → IsAdded (arc_of wave (Wait s)) old new
       → Built (s + 1) 0 next new
   wait_step s limit next old new less split pending =
       row_last s (s + 1) (unstarted_node wave) limit next (Wait s) old new refl less pending refl
-      (omega arith) only
-    where
-      only : (e : RackArc) → IsWanted wave e → (arc_of wave e).from ≡ s
-          → unstarted_node wave ≤ (arc_of wave e).to → arc_of wave e ≡ arc_of wave (Wait s)
-      only (Pair q w) want from low = absurd (let known = live_known wave w want.0.live in omega arith)
-      only (Reach q level h) want from low =
-          absurd (let below = (reach_in wave tree q level h want).1 in omega arith)
-      only (Wait q) want from low = ap (λ (z : ℕ). arc_of wave (Wait z)) from
-      only _ want from low = absurd (omega arith)
+      (omega arith) (own_wait s split)
 
   -- the row of a split that is not pending
-  pub idle_row : (s limit next : ℕ) (network : Flow RackLayout) → limit ≤ next → s < length wave.splits
-      → (split_at wave s).pending ≡ false → Built s 0 limit network → Built (s + 1) 0 next network
-  idle_row s limit next network less split idle = row_end s (s + 1) 0 limit next network refl less none
+  pub no_row : (s : ℕ) → s < length wave.splits → (split_at wave s).pending ≡ false → (e : RackArc)
+      → IsWanted wave e → (arc_of wave e).from ≡ s → ⊥
+  no_row s split idle = none
     where
       never : (q : ℕ) → q ≡ s → (split_at wave q).pending ≡ true → ⊥
       never q e p = false≢true (sym idle ∙ ap (λ (z : ℕ). (split_at wave z).pending) (sym e) ∙ p)
 
-      none : (e : RackArc) → IsWanted wave e → (arc_of wave e).from ≡ s → 0 ≤ (arc_of wave e).to → ⊥
-      none (Pair q w) want from low = never q from want.0.pending
-      none (Reach q level h) want from low = never q from want.pending
-      none (Wait q) want from low = never q from want
-      none _ want from low = omega arith
+      none : (e : RackArc) → IsWanted wave e → (arc_of wave e).from ≡ s → ⊥
+      none (Pair q w) want from = never q from want.0.pending
+      none (Reach q level h) want from = never q from want.pending
+      none (Wait q) want from = never q from want
+      none _ want from = omega arith
+
+  pub idle_row : (s limit next : ℕ) (network : Flow RackLayout) → limit ≤ next → s < length wave.splits
+      → (split_at wave s).pending ≡ false → Built s 0 limit network → Built (s + 1) 0 next network
+  idle_row s limit next network less split idle =
+      row_end s (s + 1) 0 limit next network refl less (λ e want from low. no_row s split idle e want from)
 
   -- the row of the cluster, where there are several centres
   module _ (several : 1 < wave.tree.centres) where
-    own_trunk : (e : RackArc) → IsWanted wave e → (arc_of wave e).from ≡ cluster_node wave
+    pub own_trunk : (e : RackArc) → IsWanted wave e → (arc_of wave e).from ≡ cluster_node wave
         → (c : ℕ) × (c < wave.tree.centres) × (e ≡ Trunk c)
     own_trunk (Pair q w) want from = absurd (let split = pending_known wave q want.0.pending in omega arith)
     own_trunk (Reach q level h) want from =
@@ -175,7 +184,7 @@ module _ (wave : Wave) (tree : IsTree wave) where
 
   -- the row of a centre
   module _ (c : ℕ) (known : c < wave.tree.centres) where
-    own_branch : (e : RackArc) → IsWanted wave e → (arc_of wave e).from ≡ centre_node wave c
+    pub own_branch : (e : RackArc) → IsWanted wave e → (arc_of wave e).from ≡ centre_node wave c
         → (r : ℕ) × ((r < length wave.tree.centre_of) × (centre_of wave r ≡ c)) × (e ≡ Branch r)
     own_branch (Pair q w) want from = absurd (let split = pending_known wave q want.0.pending in omega arith)
     own_branch (Reach q level h) want from =
@@ -200,7 +209,7 @@ module _ (wave : Wave) (tree : IsTree wave) where
 
   -- the row of a rack
   module _ (r : ℕ) (known : r < length wave.tree.centre_of) where
-    own_feed : (e : RackArc) → IsWanted wave e → (arc_of wave e).from ≡ rack_node wave r
+    pub own_feed : (e : RackArc) → IsWanted wave e → (arc_of wave e).from ≡ rack_node wave r
         → (w : ℕ) × (IsUsable wave.workers w × (rack_of wave w ≡ r)) × (e ≡ Feed w)
     own_feed (Pair q w) want from = absurd (let split = pending_known wave q want.0.pending in omega arith)
     own_feed (Reach q level h) want from =
@@ -248,7 +257,8 @@ module _ (wave : Wave) (tree : IsTree wave) where
       (λ e want from low. ap (arc_of wave) (own_slot j (omega arith) e want from ∙ ap Slot (sym same)))
 
   -- the last row
-  before_rest : (e : RackArc) → IsWanted wave e → ((arc_of wave e).from < unstarted_node wave) ⊎ (e ≡ Rest)
+  pub before_rest : (e : RackArc) → IsWanted wave e
+      → ((arc_of wave e).from < unstarted_node wave) ⊎ (e ≡ Rest)
   before_rest (Pair q w) want = let known = pending_known wave q want.0.pending in inl (omega arith)
   before_rest (Reach q level h) want = let known = pending_known wave q want.pending in inl (omega arith)
   before_rest (Wait q) want = let known = pending_known wave q want in inl (omega arith)

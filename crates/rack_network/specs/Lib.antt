@@ -2,6 +2,7 @@
 pub mod Layout
 pub mod Places
 pub mod Racks
+pub mod Certified
 -- for private clauses: what is marked of a split, and how far the network is built
 pub mod Marks
 pub mod Build

@@ -53,9 +53,6 @@ module _ (p : Problem) (nodes level : ℕ) (distances : List ℕ) (arrivals : Li
   pub set_to : distance_at (set distances v x) v ≡ x
   set_to = at_new
 
-  pub set_other : (w : ℕ) → (w ≡ v → ⊥) → distance_at (set distances v x) w ≡ distance_at distances w
-  set_other = at_other
-
   arrival_new : arrival_at (set arrivals v arrival) v ≡ arrival
   arrival_new = get_or-set_same arrivals v arrival no_arrival (let s = t.arrivals_size in omega arith)
 

@@ -79,21 +79,6 @@ AreSteps-push p d (c ∷ path) a m n = (m.0, AreSteps-push p d path a m.1 n)
 
 module _ (p : Problem) (nodes level : ℕ) (distances : List ℕ) (arrivals : List Arrival) (settled : List Bool)
     (t : AreReached p nodes level distances arrivals settled) where
-  -- one arc back from a node that is not the start
-  pub one_back : (v : ℕ) → distance_at distances v < far → (v ≡ p.start → ⊥)
-      → (trace_to arrivals v ≡ trace_to arrivals (arrival_at arrivals v).before ++ (arrival_at arrivals v).arc
-      ∷ [])
-      × ((arrival_at arrivals (arrival_at arrivals v).before).arcs < (arrival_at arrivals v).arcs)
-      × (distance_at distances (arrival_at arrivals v).before < far)
-  one_back v near n = elim (t.sound v near) [
-    | inl e ↦ absurd (n e)
-    | inr r ↦ (let u : ℕ = (arrival_at arrivals v).before in
-        let more : (arrival_at arrivals v).arcs ≡ suc (arrival_at arrivals u).arcs = (let m = r.more in
-        omega arith) in
-        let low = t.low u r.before_settled in let top = t.level_in in
-        (ap (trace_of arrivals v) more, omega arith, omega arith))
-  ]
-
   pub path_back : (n v : ℕ) → distance_at distances v < far → (arrival_at arrivals v).arcs ≡ n
       → IsPath p.arcs p.flows (trace_of arrivals v n) p.start v × AreSteps p.arcs (slice_index p.depths)
       (distance_at distances) (trace_of arrivals v n)

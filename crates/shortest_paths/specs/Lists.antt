@@ -1,6 +1,6 @@
--- The residual arcs by which a search leaves the nodes. A source is a node that no arc enters: its own arcs
--- are the network's list. Another node has an arc to the sink, which is looked at as it is settled, those of
--- inner, and the arcs of the sources that are matched with it.
+-- The residual arcs by which a search leaves the nodes. A source is a node that no arc enters; its arcs are
+-- the network's list. Any other node has an arc to the sink (looked at when the node is settled), its inner
+-- arcs, and the arcs back to its matched sources.
 use Rattle.std.specs.Prelude.{◌≡◌, ℕ, ◌<◌, ◌≤◌, Bool, false, List, [], ◌∷◌, ◌++◌, length, map, take}
 use Rattle.std.specs.Prelude.{slice_index_or, Option, Some, None, Contains}
 use Rattle.flow_network.specs.declared.arcs.FlowArc.{FlowArc}

@@ -30,7 +30,8 @@ pub record AreLeastPaths (arcs : List FlowArc) (flows : List ℕ) (h : ℕ → �
   pub least : (v : ℕ) (path : List ArcNo) → IsPath arcs flows path start v
       → IsFound paths v (path_cost arcs h path)
 
--- a network with potentials, of which h v is how far the one of v lies below 0, and no negative reduced cost
+-- a network with potentials, the depth of a node being how far its potential is below 0, and no negative
+-- reduced cost
 pub record IsPriced (nodes : ℕ) (arcs : List FlowArc) (flows : List ℕ) (depths : List ℕ) : Type 0 where
   pub network : IsNetwork nodes arcs flows
   pub size : length depths ≡ nodes

@@ -57,9 +57,9 @@ impl Buffers {
         Ok(Buffers { search })
     }
 
-    /// Searches for a least path from the start to the sink, looking at each arc at most once in each
-    /// direction (Dijkstra's search over reduced costs, of which those that are 0 are followed depth first).
-    /// Only memory can fail.
+    /// Searches for a least path from the start to the sink (Dijkstra's search over reduced costs). Arcs of
+    /// reduced cost 0 are followed depth first, at once. Each arc is looked at at most once in each
+    /// direction. Only memory can fail.
     pub fn search<L: Layout>(self, meter: &mut Meter<L>, query: &Query) -> Result<Found, AllocError>
         requires may { MaySearch L.node_count meter.old.network query.now }
         requires count { meter.old.count ≡ 0 }

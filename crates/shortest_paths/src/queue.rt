@@ -9,10 +9,9 @@ use std::cmp::Reverse;
 use std::collections::BinaryHeap;
 use std::marker::Model;
 
-/// Pairs of a distance and a node, of which the nearest is taken first, and of those the one with the
-/// greatest index: where arcs lead to later nodes, that is the sink itself, or one that is closer to it.
-/// Those that were put since one was taken are not in the heap yet, which has room for them: most searches
-/// end before they take one.
+/// A priority queue of nodes by distance. Of equally near nodes it hands out the one with the greatest index.
+/// Arcs lead to later nodes, so that node is the sink or closer to it. Pairs put since the last take wait
+/// outside the heap, which has room for them: most searches end before they take one.
 #[derive(Drop)]
 pub struct Queue {
     heap: BinaryHeap<(Reverse<u64>, usize)>,

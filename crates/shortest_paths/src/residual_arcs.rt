@@ -17,9 +17,9 @@ use node_ids::Layout;
 use std::alloc::{AllocError, Global};
 use std::marker::Model;
 
-/// For each node that is no source the residual arcs that leave it: an arc to the sink, the others that end
-/// at no source, and, of the many that lead back to sources, those alone whose source is matched with the
-/// node, as its unit goes over that arc. A source's own arcs are the network's list.
+/// The residual arcs that leave each node other than a source, in three lists: an arc to the sink, the other
+/// arcs to nodes that are no sources, and the arcs back to sources. Of the last only those to matched sources
+/// are kept, since only these carry a unit. A source's own arcs are the network's list.
 #[derive(Drop)]
 pub struct ResidualArcs {
     is_source: Vec<bool>,

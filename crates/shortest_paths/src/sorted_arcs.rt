@@ -10,8 +10,8 @@ use flow_network::{ArcNo, FlowArc, Leaving, Network, none_leaving};
 use node_ids::Layout;
 use std::alloc::{AllocError, Global};
 
-/// Of each node that is no source an arc to the sink, and the other residual arcs that leave it, but for
-/// those back to sources; of a source none.
+/// For each node that is no source: an arc to the sink, and the other residual arcs that leave it, except
+/// those back to sources. For a source: nothing.
 #[derive(Drop)]
 pub struct SortedArcs {
     pub sink_arcs: Vec<Option<u32>>,

@@ -1,9 +1,9 @@
 use Rattle.std.proofs.Common.{arith}
-use Rattle.std.proofs.lemmas.Grind.{common_steps}
+use Rattle.shortest_paths.proofs.Costs.{head_in}
 use Rattle.augmenting_paths.proofs.trail.Trail.is_open.Goals as goal
 
-pub returns-then-depths-seen : goal.returns-then-depths-seen
-returns-then-depths-seen g c = grind (arith, common_steps)
-
-pub returns-then-depths-seen-2 : goal.returns-then-depths-seen-2
-returns-then-depths-seen-2 g c = grind (arith, common_steps)
+pub index-requires : goal.index-requires
+index-requires g c =
+    let inside = head_in _ c.args.network.now.arcs c.args.arc c.all_arcs.ensures.limits.arcs_in
+    c.requires.listed in
+    rw (c.head.ensures, c.all_arcs.ensures.value) (omega arith)

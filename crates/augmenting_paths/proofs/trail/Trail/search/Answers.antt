@@ -41,7 +41,6 @@ loop-turn-preserved g c =
               w.path-is,
               w.top-is,
               w.enter-in-Some.ensures.closed,
-              w.enter-in-Some.ensures.time,
               w.view-top.ensures.to,
               w.in_ok-push-in-Some.ensures.items,
               c.next.ensures.left,

@@ -8,6 +8,5 @@ invariant-loop-turn g l = record {
   nodes : HasNodes (length l.query.potentials.now) l.self;
   inside : l.top < length l.query.potentials.now;
   trail : IsTrail l.network.arcs l.network.flows (slice_index l.query.potentials.now) l.self.closed.items
-      l.self.time
       l.query.start l.top l.path.items;
 }

@@ -4,11 +4,11 @@ use Rattle.flow_network.specs.declared.arcs.ArcNo.{ArcNo}
 use Rattle.flow_network.specs.declared.arcs.ArcNo.TheVariants.{Forward}
 use Rattle.flow_network.specs.Flows.{leaving_of}
 use Rattle.augmenting_paths.proofs.DepthFirst.{own_of}
-use Rattle.augmenting_paths.proofs.walk.walk_down.Goals as goal
-use Rattle.augmenting_paths.proofs.walk.walk_down.Goals.{then-i-eq0, else-i-eq0}
+use Rattle.augmenting_paths.proofs.straight.straight_path.Goals as goal
+use Rattle.augmenting_paths.proofs.straight.straight_path.Goals.{then-i-eq0, else-i-eq0}
 
-pub walk_over-requires-clause-own : goal.walk_over-requires-clause-own
-walk_over-requires-clause-own g c =
+pub arc_on-requires-clause-own : goal.arc_on-requires-clause-own
+arc_on-requires-clause-own g c =
     let some = c.loop-i-test.true in
     let inside : c.if-i-eq0.place < length c.leaving-arcs.result.now = elim c.if-i-eq0.branch [
       | then-i-eq0 w ↦ (let is = w.place-is in omega arith)
