@@ -1,32 +1,27 @@
--- Keys that are the same, and the tables of keys.
-use Rattle.std.proofs.Common.{ℕ, List, [], ◌∷◌, ◌++◌, ◌≡◌, ◌==◌, ◌<◌, ◌∙◌, ◌&&◌, Bool, true, false, Bor, inl}
+-- Keys that are the same, and the tables of keys with the numbers of their rows.
+use Rattle.std.proofs.Common.{ℕ, List, [], ◌∷◌, ◌++◌, ◌≡◌, ◌==◌, ◌<◌, ◌∙◌, Bool, true, false, Bor, inl}
 use Rattle.std.proofs.Common.{inr, Option, Some, None, cond, length, map, sym, ap, refl, subst, arith, get_or}
-use Rattle.std.proofs.Common.{ap₂, eqb-true, true≢false}
-use Rattle.std.specs.Prelude.{◌↔◌, ◌⊎◌, Contains, IsTrue, if◌then◌else◌}
+use Rattle.std.proofs.Common.{eqb-true, true≢false}
+use Rattle.std.specs.Prelude.{◌↔◌, ◌⊎◌, Contains, IsTrue, MatchOption}
 use Rattle.std.specs.Bool.{Decides}
+use Rattle.std.specs.Map.{lookup}
 use Rattle.std.specs.Option.{IsSome, is_some, unwrap_or}
 use Rattle.std.specs.Str.{bytes_eq}
-use Rattle.std.specs.List.{list_any}
 use Rattle.std.proofs.lemmas.List.{get_or-map, map_push}
 use Rattle.std.proofs.lemmas.Option.{none-some, same_Some}
-use Rattle.std.proofs.lemmas.List.Elements.{Contains-append_left, Contains-push, Contains-push_cases}
+use Rattle.std.proofs.lemmas.List.Elements.{Contains-push_cases}
 use Rattle.std.proofs.lemmas.Slice.Eq.{bytes_eq-Decides}
 use Rattle.indexmap.specs.IndexMap.{insert_entry}
 use Rattle.text_lines.specs.Texts.{Word}
-use Rattle.text_lines.proofs.Keys.{found_key}
 use Rattle.line_shapes.specs.Lines.{Statement}
 use Rattle.line_shapes.specs.declared.keyword.Keyword.{Keyword}
-use Rattle.line_shapes.specs.contracts.keyword.Keyword.{the_type}
 use Rattle.line_rules.specs.Entering.{Key, key_of}
-use Rattle.line_rules.specs.Known.{HasRow, keys_of}
-use Rattle.line_rules.specs.Rows.{AreTabled, HasKeyMore, IsKeyAt, IsRowAt, IsTabled, TextKey, first_by}
-use Rattle.line_rules.specs.Rows.{key_in}
-use denote.Enum.Bare.{sameb}
+use Rattle.line_rules.specs.Known.{HasNumber, HasRow, keys_of, rows_of}
+use Rattle.line_rules.specs.Rows.{AreTabled, Firsts, HasKeyMore, IsKeyAt, IsNewKey, IsRowAt, IsTabled, Others}
+use Rattle.line_rules.specs.Rows.{TextKey, first_by, key_in, other_by, same_key}
+use Rattle.line_rules.proofs.OfKeyword.{numbered_more, numbered_there, there_numbered}
 
 -- ---- keys
-
-abbrev pub same_key : Key → Key → Bool
-same_key p q = (sameb the_type p.0 q.0 && bytes_eq p.1 q.1) && bytes_eq p.2 q.2
 
 pub same_key-Decides : (p q : Key) → Decides (same_key p q) (p ≡ q)
 same_key-Decides p q = grind (arith, bytes_eq-Decides)
@@ -38,55 +33,52 @@ key_at rows i s inside is d =
     let key : get_or (keys_of rows) i d ≡ key_of s = get_or-map key_of rows i s d inside ∙ ap key_of (is s) in
     (ap (λ (k : Key). k.0) key, ap (λ (k : Key). k.1) key)
 
--- ---- the first table
+-- ---- entries
 
-abbrev Firsts : Type 0
-Firsts = List (Bor (List ℕ) × Keyword)
-
-abbrev pub same_word : Bor (List ℕ) → Bor (List ℕ) → Bool
-same_word a b = bytes_eq a.now b.now
-
-module _ (e : Bor (List ℕ) × Keyword) (word : Word) where
-  -- the keyword that was found, or else that of an entry behind the others, where the test finds it
-  abbrev or_last : Bool → Option Keyword → Option Keyword
-  or_last found (Some k) = Some k
+-- what a look-up finds where there is one entry more
+module _ {K X : Type 0} (test : K → Bool) (e : K × X) where
+  -- the value that was found, or else that of an entry behind the others, where the test finds it
+  abbrev or_last : Bool → Option X → Option X
+  or_last found (Some x) = Some x
   or_last found None = cond found (Some e.1) None
 
-  first_more : (firsts : Firsts)
-      → first_by (firsts ++ e ∷ []) word ≡ or_last (bytes_eq word e.0.now) (first_by firsts word)
-  first_more [] = refl
-  first_more (x ∷ firsts) =
-      elim (bytes_eq word x.0.now) as (λ b. cond b (Some x.1) (first_by (firsts ++ e ∷ []) word)
-      ≡ or_last (bytes_eq word e.0.now) (cond b (Some x.1) (first_by firsts word))) [
+  found_more : (es : List (K × X)) → lookup test (es ++ e ∷ []) ≡ or_last (test e.0) (lookup test es)
+  found_more [] = refl
+  found_more (d ∷ es) =
+      elim (test d.0) as (λ b. cond b (Some d.1) (lookup test (es ++ e ∷ []))
+      ≡ or_last (test e.0) (cond b (Some d.1) (lookup test es))) [
         | true ↦ refl
-        | false ↦ first_more firsts
+        | false ↦ found_more es
       ]
 
-  first_kept : (firsts : Firsts) (k : Keyword) → first_by firsts word ≡ Some k
-      → first_by (firsts ++ e ∷ []) word ≡ Some k
-  first_kept firsts k is = first_more firsts ∙ ap (or_last (bytes_eq word e.0.now)) is
+  found_kept : (es : List (K × X)) (x : X) → lookup test es ≡ Some x → lookup test (es ++ e ∷ []) ≡ Some x
+  found_kept es x is = found_more es ∙ ap (or_last (test e.0)) is
 
-  first_found : (firsts : Firsts) → first_by firsts word ≡ None → word ≡ e.0.now
-      → first_by (firsts ++ e ∷ []) word ≡ Some e.1
-  first_found firsts none same =
-      first_more firsts
-      ∙ ap₂ (λ b (o : Option Keyword). or_last b o) ((bytes_eq-Decides word e.0.now).1 same) none
+  found_last : (es : List (K × X)) → lookup test es ≡ None → test e.0 ≡ true
+      → lookup test (es ++ e ∷ []) ≡ Some e.1
+  found_last es none passes =
+      found_more es ∙ ap (or_last (test e.0)) none ∙ ap (λ b. cond b (Some e.1) None) passes
 
-  first_cases : (firsts : Firsts) (k : Keyword) → first_by (firsts ++ e ∷ []) word ≡ Some k
-      → (first_by firsts word ≡ Some k) ⊎ ((word ≡ e.0.now) × (k ≡ e.1))
-  first_cases firsts k is =
-      by (first_by firsts word) (bytes_eq word e.0.now) (bytes_eq-Decides word e.0.now)
-      (sym (first_more firsts) ∙ is)
+  found_cases : (es : List (K × X)) (x : X) → lookup test (es ++ e ∷ []) ≡ Some x
+      → (lookup test es ≡ Some x) ⊎ ((test e.0 ≡ true) × (x ≡ e.1))
+  found_cases es x is = by (lookup test es) (test e.0) refl refl (sym (found_more es) ∙ is)
     where
-      by : (o : Option Keyword) (b : Bool) → Decides b (word ≡ e.0.now) → or_last b o ≡ Some k
-          → (o ≡ Some k) ⊎ ((word ≡ e.0.now) × (k ≡ e.1))
-      by (Some j) b same is = inl is
-      by None true same is = inr (same.0 refl, sym (same_Some _ _ is))
-      by None false same is = absurd (none-some k is)
+      by : (o : Option X) (b : Bool) → lookup test es ≡ o → test e.0 ≡ b → or_last b o ≡ Some x
+          → (lookup test es ≡ Some x) ⊎ ((test e.0 ≡ true) × (x ≡ e.1))
+      by (Some y) b old passes is = inl (old ∙ is)
+      by None true old passes is = inr (passes, sym (same_Some _ _ is))
+      by None false old passes is = absurd (none-some x is)
 
 some_of : {X : Type 0} (o : Option X) → IsSome o → (x : X) × (o ≡ Some x)
 some_of None some = absurd (true≢false (sym some))
 some_of (Some x) some = (x, refl)
+
+pub is_some_at : {X : Type 0} (o : Option X) (x : X) → o ≡ Some x → IsSome o
+is_some_at o x is = ap is_some is
+
+pub none_of : {X : Type 0} (o : Option X) → ((x : X) → o ≡ Some x → ⊥) → o ≡ None
+none_of None none = refl
+none_of (Some x) none = absurd (none x refl)
 
 pub empty_at : (word : Word) → (length word == 0) ≡ true → word ≡ []
 empty_at [] is = refl
@@ -95,168 +87,174 @@ empty_at (b ∷ bs) is = absurd (omega (arith, eqb-true _ _ is))
 pub not_empty : (word : Word) → (length word == 0) ≡ false → word ≡ [] → ⊥
 not_empty word some empty = true≢false (sym (ap (λ (w : Word). length w == 0) empty) ∙ some)
 
-is_some_at : {X : Type 0} (o : Option X) (x : X) → o ≡ Some x → IsSome o
-is_some_at o x is = ap is_some is
+-- ---- the first table
+
+abbrev pub same_word : Bor (List ℕ) → Bor (List ℕ) → Bool
+same_word a b = bytes_eq a.now b.now
 
 -- a word that was in no entry is now
-pub key_put_first : (firsts new : Firsts) (others : List TextKey) (word : Bor (List ℕ)) (k : Keyword)
-    (second : Word) → new ≡ firsts ++ (word, k) ∷ [] → first_by firsts word.now ≡ None → second ≡ []
-    → HasKeyMore firsts others (k, word.now, second) new others
-key_put_first firsts new others word k second grown none empty =
-    let e : Bor (List ℕ) × Keyword = (word, k) in
+pub key_put_first : (firsts new : Firsts) (others : Others) (word : Bor (List ℕ)) (k : Keyword) (n : ℕ)
+    (second : Word) → new ≡ firsts ++ (word, (k, n)) ∷ [] → first_by firsts word.now ≡ None → second ≡ []
+    → HasKeyMore firsts others (k, word.now, second) n new others
+key_put_first firsts new others word k n second grown none empty =
+    let e : Bor (List ℕ) × (Keyword × ℕ) = (word, (k, n)) in
     let all = firsts ++ e ∷ [] in
-    let found : first_by all word.now ≡ Some k = first_found e word.now firsts none refl in
-    subst (λ (l : Firsts). HasKeyMore firsts others (k, word.now, second) l others) (sym grown) (record {
-      keys = λ q. (
+    let test : Word → Bor (List ℕ) → Bool = λ w b. bytes_eq w b.now in
+    let found : first_by all word.now ≡ Some (k, n) =
+    found_last (test word.now) e firsts none ((bytes_eq-Decides word.now word.now).1 refl) in
+    subst (λ (l : Firsts). HasKeyMore firsts others (k, word.now, second) n l others) (sym grown) (record {
+      keys = λ q m. (
         λ h. elim h [
-          | inl first ↦ elim (first_cases e q.1 firsts q.0 first.1) [
+          | inl first ↦ elim (found_cases (test q.1) e firsts (q.0, m) first.1) [
             | inl old ↦ inl (inl (first.0, old))
-            | inr same ↦ grind arith
+            | inr last ↦
+                let same : q.1 ≡ word.now = (bytes_eq-Decides q.1 word.now).0 last.0 in
+                let keyword : q.0 ≡ k = ap (λ (p : Keyword × ℕ). p.0) last.1 in
+                let number : m ≡ n = ap (λ (p : Keyword × ℕ). p.1) last.1 in
+                inr (λ i. (keyword i, same i, (first.0 ∙ sym empty) i), number)
           ]
           | inr other ↦ inl (inr other)
         ],
         λ h. elim h [
           | inl old ↦ elim old [
-            | inl first ↦ inl (first.0, first_kept e q.1 firsts q.0 first.1)
+            | inl first ↦ inl (first.0, found_kept (test q.1) e firsts (q.0, m) first.1)
             | inr other ↦ inr other
           ]
-          | inr same ↦ subst (IsTabled all others) (sym same) (inl (empty, found))
+          | inr same ↦
+              let IsThere : Key × ℕ → Type 0 = λ p. IsTabled all others p.0 p.1 in
+              subst IsThere (λ i. (sym same.0 i, sym same.1 i)) (inl (empty, found))
         ],
       );
       kept = λ w some.
           let had = some_of (first_by firsts w) some in
-          is_some_at _ had.0 (first_kept e w firsts had.0 had.1);
-      word = λ _. is_some_at _ k found;
+          is_some_at _ had.0 (found_kept (test w) e firsts had.0 had.1);
+      word = λ _. is_some_at _ (k, n) found;
     })
 
 -- an entry that has its value already
-entry_same : (firsts : Firsts) (word : Bor (List ℕ)) (k : Keyword) → first_by firsts word.now ≡ Some k
-    → insert_entry same_word firsts word k ≡ firsts
-entry_same [] word k is = absurd (none-some k is)
-entry_same (x ∷ firsts) word k is = grind (arith, entry_same firsts word k)
+entry_same : (firsts : Firsts) (word : Bor (List ℕ)) (v : Keyword × ℕ) → first_by firsts word.now ≡ Some v
+    → insert_entry same_word firsts word v ≡ firsts
+entry_same [] word v is = absurd (none-some v is)
+entry_same (x ∷ firsts) word v is = grind (arith, entry_same firsts word v)
 
--- the first table once a word was entered, where it was not by another keyword
-pub key_entered : (firsts new : Firsts) (others : List TextKey) (word : Bor (List ℕ)) (k v : Keyword)
-    → new ≡ insert_entry same_word firsts word v → v ≡ unwrap_or (first_by firsts word.now) k → v ≡ k
-    → (first_by firsts word.now ≡ None → insert_entry same_word firsts word v ≡ firsts ++ (word, v) ∷ [])
-    → HasKeyMore firsts others (k, word.now, []) new others
-key_entered firsts new others word k v grown value same last =
-    by (first_by firsts word.now) refl value
-  where
-    by : (o : Option Keyword) → first_by firsts word.now ≡ o → v ≡ unwrap_or o k
-        → HasKeyMore firsts others (k, word.now, []) new others
-    by None none value = grind (arith, key_put_first)
-    by (Some j) some value = grind (arith, entry_same, is_some_at)
+module _ (firsts new : Firsts) (word : Bor (List ℕ)) (k : Keyword) (n : ℕ) (v : Keyword × ℕ)
+    (grown : new ≡ insert_entry same_word firsts word v)
+    (value : v ≡ unwrap_or (first_by firsts word.now) (k, n)) where
+  -- the first table once a word was entered, where it was not by another keyword
+  pub key_entered : (others : Others) → ((m : ℕ) → first_by firsts word.now ≡ Some (k, m) → ⊥) → v.0 ≡ k
+      → (first_by firsts word.now ≡ None → insert_entry same_word firsts word v ≡ firsts ++ (word, v) ∷ [])
+      → HasKeyMore firsts others (k, word.now, []) n new others
+  key_entered others new_key same last = by (first_by firsts word.now) refl
+    where
+      by : (o : Option (Keyword × ℕ)) → first_by firsts word.now ≡ o
+          → HasKeyMore firsts others (k, word.now, []) n new others
+      by None none =
+          let is : v ≡ (k, n) = value ∙ ap (λ o. unwrap_or o (k, n)) none in
+          key_put_first firsts new others word k n []
+          (grown ∙ last none ∙ ap (λ (p : Keyword × ℕ). firsts ++ (word, p) ∷ []) is) none refl
+      by (Some w) some =
+          let is : v ≡ w = value ∙ ap (λ o. unwrap_or o (k, n)) some in
+          absurd (new_key w.1 (some ∙ (λ i. Some ((ap (λ (p : Keyword × ℕ). p.0) (sym is) ∙ same) i, w.1))))
 
--- and where it was by another
-pub entered_before : (firsts new : Firsts) (word : Bor (List ℕ)) (k v : Keyword)
-    → new ≡ insert_entry same_word firsts word v → v ≡ unwrap_or (first_by firsts word.now) k → (v ≡ k → ⊥)
-    → (new ≡ firsts) × IsSome (first_by firsts word.now)
-entered_before firsts new word k v grown value other = grind (arith, entry_same, is_some_at)
+  -- and where it was by another
+  pub entered_before : (v.0 ≡ k → ⊥) → (new ≡ firsts) × IsSome (first_by firsts word.now)
+  entered_before other = by (first_by firsts word.now) refl
+    where
+      by : (o : Option (Keyword × ℕ)) → first_by firsts word.now ≡ o
+          → (new ≡ firsts) × IsSome (first_by firsts word.now)
+      by None none =
+          let is : v ≡ (k, n) = value ∙ ap (λ o. unwrap_or o (k, n)) none in
+          absurd (other (ap (λ (p : Keyword × ℕ). p.0) is))
+      by (Some w) some =
+          let is : v ≡ w = value ∙ ap (λ o. unwrap_or o (k, n)) some in
+          (grown ∙ entry_same firsts word v (some ∙ ap Some (sym is)), is_some_at _ w some)
 
 -- ---- the second table
 
--- of a list with one element more, what the elements show
-pushed : {X Y : Type 0} (f : X → Y) (xs : List X) (x : X) (q : Y)
-    → Contains (map f (xs ++ x ∷ [])) q ↔ (Contains (map f xs) q ⊎ (q ≡ f x))
-pushed f xs x q =
-    subst (λ l. Contains l q ↔ (Contains (map f xs) q ⊎ (q ≡ f x))) (sym (map_push f xs x)) (
-      λ h. elim (Contains-push_cases (map f xs) (f x) q h) [
-        | inl old ↦ inl old
-        | inr same ↦ inr (sym same)
-      ],
-      λ h. elim h [
-        | inl old ↦ Contains-append_left (map f xs) (f x ∷ []) q old
-        | inr same ↦ subst (Contains (map f xs ++ f x ∷ [])) (sym same) (Contains-push (map f xs) (f x))
-      ],
-    )
-
-abbrev IsOther : List TextKey → Key → Type 0
-IsOther others key = Contains (map key_in others) key
-
-other_cases : (others new : List TextKey) (key : TextKey) (q : Key)
-    → new ≡ (if list_any (λ k. same_key (key_in key) (key_in k)) others then others else others ++ key ∷ [])
-    → IsOther new q ↔ (IsOther others q ⊎ (q ≡ key_in key))
-other_cases others new key q grown =
-    subst (λ l. IsOther l q ↔ (IsOther others q ⊎ (q ≡ key_in key))) (sym grown)
-    (by (list_any (λ k. same_key (key_in key) (key_in k)) others) refl)
-  where
-    by : (b : Bool) → b ≡ list_any (λ k. same_key (key_in key) (key_in k)) others
-        → IsOther (if b then others else others ++ key ∷ []) q ↔ (IsOther others q ⊎ (q ≡ key_in key))
-    by true is =
-        let found = found_key same_key same_key-Decides key_in true (key_in key) others _ refl is in (
-          λ h. inl h,
-          λ h. elim h [
-            | inl old ↦ old
-            | inr same ↦ subst (IsOther others) (sym same) (found.0 refl)
-          ],
-        )
-    by false is = pushed key_in others key q
-
-pub key_put_other : (firsts : Firsts) (others new : List TextKey) (key : TextKey)
-    → new ≡ (if list_any (λ k. same_key (key_in key) (key_in k)) others then others else others ++ key ∷ [])
+pub key_put_other : (firsts : Firsts) (others new : Others) (key : TextKey) (n : ℕ)
+    → new ≡ others ++ (key, n) ∷ [] → other_by others (key_in key) ≡ None
     → (key.2.now ≡ [] → IsSome (first_by firsts key.1.now))
-    → HasKeyMore firsts others (key_in key) firsts new
-key_put_other firsts others new key grown word = record {
-  keys = λ q.
-      let other = other_cases others new key q grown in (
+    → HasKeyMore firsts others (key_in key) n firsts new
+key_put_other firsts others new key n grown none word =
+    let e : TextKey × ℕ = (key, n) in
+    let test : Key → TextKey → Bool = λ q k. same_key q (key_in k) in
+    subst (λ (l : Others). HasKeyMore firsts others (key_in key) n firsts l) (sym grown) (record {
+      keys = λ q m. (
         λ h. elim h [
           | inl first ↦ inl (inl first)
-          | inr there ↦ elim (other.0 there) [
+          | inr there ↦ elim (found_cases (test q) e others m there) [
             | inl old ↦ inl (inr old)
-            | inr same ↦ inr same
+            | inr last ↦ inr ((same_key-Decides q (key_in key)).0 last.0, last.1)
           ]
         ],
         λ h. elim h [
           | inl old ↦ elim old [
             | inl first ↦ inl first
-            | inr there ↦ inr (other.1 (inl there))
+            | inr there ↦ inr (found_kept (test q) e others m there)
           ]
-          | inr same ↦ inr (other.1 (inr same))
+          | inr same ↦
+              let passes : same_key q (key_in key) ≡ true = (same_key-Decides q (key_in key)).1 same.0 in
+              let before : other_by others q ≡ None = ap (other_by others) same.0 ∙ none in
+              inr (found_last (test q) e others before passes ∙ ap Some (sym same.1))
         ],
       );
-  kept = λ w some. some;
-  word = word;
-}
+      kept = λ w some. some;
+      word = word;
+    })
 
 -- ---- both tables
 
--- one row more, whose key they have
-pub tabled_more : (rows new_rows : List Statement) (s : Statement) (firsts new : Firsts)
-    (others new_others : List TextKey) → new_rows ≡ rows ++ s ∷ [] → AreTabled rows firsts others
-    → HasKeyMore firsts others (key_of s) new new_others → AreTabled new_rows new new_others
-tabled_more rows new_rows s firsts new others new_others grown tabled more =
-    subst (λ (l : List Statement). AreTabled l new new_others) (sym grown) (record {
-      keys = λ q. (
-        λ h. (more.keys q).1 (elim ((pushed key_of rows s q).0 h) [
-          | inl old ↦ inl ((tabled.keys q).0 old)
-          | inr same ↦ inr same
-        ]),
-        λ h. (pushed key_of rows s q).1 (elim ((more.keys q).0 h) [
-          | inl old ↦ inl ((tabled.keys q).1 old)
-          | inr same ↦ inr same
-        ]),
-      );
-      words = λ k word h. elim ((pushed key_of rows s (k, word, [])).0 h) [
-        | inl old ↦ more.kept word (tabled.words k word old)
-        | inr same ↦ subst (λ (w : Word). IsSome (first_by new w)) (sym (ap (λ (q : Key). q.1) same))
-            (more.word (sym (ap (λ (q : Key). q.2) same)))
-      ];
-    })
+-- what one more element is to what the elements show
+pushed : {X Y : Type 0} (f : X → Y) (xs : List X) (x : X) (q : Y) → Contains (map f (xs ++ x ∷ [])) q
+    → Contains (map f xs) q ⊎ (f x ≡ q)
+pushed f xs x q h = Contains-push_cases (map f xs) (f x) q (subst (λ l. Contains l q) (map_push f xs x) h)
 
-module _ (rows : List Statement) (firsts : Firsts) (others : List TextKey)
+-- one row more, whose key they have
+pub tabled_more : (rows : List Statement) (s : Statement) (firsts new : Firsts) (others new_others : Others)
+    → AreTabled rows firsts others
+    → HasKeyMore firsts others (key_of s) (length (rows_of s.keyword rows)) new new_others
+    → AreTabled (rows ++ s ∷ []) new new_others
+tabled_more rows s firsts new others new_others tabled more = record {
+  keys = λ q m. (
+    λ h. (more.keys q m).1 (elim ((numbered_more rows s q m).0 h) [
+      | inl old ↦ inl ((tabled.keys q m).0 old)
+      | inr same ↦ inr same
+    ]),
+    λ h. (numbered_more rows s q m).1 (elim ((more.keys q m).0 h) [
+      | inl old ↦ inl ((tabled.keys q m).1 old)
+      | inr same ↦ inr same
+    ]),
+  );
+  words = λ k word h. elim (pushed key_of rows s (k, word, []) h) [
+    | inl old ↦ more.kept word (tabled.words k word old)
+    | inr same ↦ subst (λ (w : Word). IsSome (first_by new w)) (ap (λ (q : Key). q.1) same)
+        (more.word (ap (λ (q : Key). q.2) same))
+  ];
+}
+
+pub none_has : (rows : List Statement) (key : Key) (o : Option ℕ) → o ≡ None
+    → (Contains (keys_of rows) key → ⊥) → MatchOption o (Contains (keys_of rows) key → ⊥) (HasNumber rows key)
+none_has rows key o none absent =
+    subst (λ p. MatchOption p (Contains (keys_of rows) key → ⊥) (HasNumber rows key)) (sym none) absent
+
+-- a row of the key, where its number was asked for
+pub has_key : (rows : List Statement) (key : Key) (o : Option ℕ) (b : Bool)
+    → MatchOption o (Contains (keys_of rows) key → ⊥) (HasNumber rows key) → b ≡ is_some o
+    → IsTrue b ↔ Contains (keys_of rows) key
+has_key rows key None b none is = (λ t. absurd (true≢false (sym t ∙ is)), λ h. absurd (none h))
+has_key rows key (Some n) b some is = (λ t. numbered_there rows key n some, λ h. is)
+
+module _ (rows : List Statement) (firsts : Firsts) (others : Others)
     (tabled : AreTabled rows firsts others) where
-  -- a look-up in the second table, of a key that is not in the first
-  pub found_other : (b : Bool) (key : Key) → b ≡ list_any (λ k. same_key key (key_in k)) others
-      → (key.2 ≡ [] → first_by firsts key.1 ≡ Some key.0 → ⊥) → IsTrue b ↔ Contains (keys_of rows) key
-  found_other b key is not_first =
-      let found = found_key same_key same_key-Decides key_in b key others (map key_in others) refl is in (
-        λ t. (tabled.keys key).1 (inr (found.0 t)),
-        λ h. elim ((tabled.keys key).0 h) [
-          | inl first ↦ absurd (not_first first.0 first.1)
-          | inr other ↦ found.1 other
-        ],
-      )
+  -- a key that no row has is in no table
+  pub key_new : (key : Key) → (Contains (keys_of rows) key → ⊥) → IsNewKey firsts others key
+  key_new key absent n h = absent (numbered_there rows key n ((tabled.keys key n).1 h))
+
+  -- a key that is in no table is that of no row
+  pub key_absent : (key : Key) → IsNewKey firsts others key → Contains (keys_of rows) key → ⊥
+  key_absent key new h =
+      let own = there_numbered rows key h in
+      new own.0 ((tabled.keys key own.0).0 own.1)
 
   -- a word that the first table lacks
   pub found_none : (key : Key) → key.2 ≡ [] → first_by firsts key.1 ≡ None → Contains (keys_of rows) key → ⊥
@@ -270,6 +268,7 @@ module _ (rows : List Statement) (firsts : Firsts) (others : List TextKey)
   found_word b word is = (
     λ t.
         let some = some_of (first_by firsts word) (sym is ∙ t) in
-        (some.0, (tabled.keys (some.0, word, [])).1 (inl (refl, some.1))),
+        let key : Key = (some.0.0, word, []) in
+        (some.0.0, numbered_there rows key some.0.1 ((tabled.keys key some.0.1).1 (inl (refl, some.1)))),
     λ (k, h). is ∙ tabled.words k word h,
   )

@@ -4,9 +4,9 @@ use Rattle.text_lines.specs.declared.fault.TextFault.{TextFault}
 use Rattle.line_rules.specs.Texts.{IsLeastFault}
 use Rattle.line_rules.specs.declared.purpose.Purpose.{Purpose}
 use Rattle.line_rules.specs.Reading.{IsReadingError}
-use Rattle.line_rules.specs.declared.reading.ReadingError.{ReadingError}
-use Rattle.line_rules.specs.declared.reading.ReadingError.TheVariants as reading
-use Rattle.text_reading.specs.FaultLine.{fault_line}
+use Rattle.line_rules.specs.declared.line_reader.ReadingError.{ReadingError}
+use Rattle.line_rules.specs.declared.line_reader.ReadingError.TheVariants as reading
+use Rattle.text_lines.specs.Faults.{fault_line}
 use Rattle.line_rules.specs.Faulty.{IsFaulty, TellsFault}
 
 pub tells_least : (purpose : Purpose) (text : List ℕ) (error : ReadingError) (fault : TextFault)

@@ -1,7 +1,8 @@
+pub mod OfKeyword
+pub mod Placed
 pub mod Listed
 pub mod Keyed
 pub mod Kept
-pub mod Counted
 pub mod Fits
 pub mod Steps
 pub mod OneReading
@@ -13,3 +14,9 @@ pub mod Saying
 pub mod FitLines
 pub mod ReadTo
 pub mod Sound
+pub mod Apart
+pub mod EachPlace
+pub mod Crowded
+pub mod Longer
+pub mod Worded
+pub mod Worst

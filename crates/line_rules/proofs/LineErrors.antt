@@ -13,8 +13,8 @@ use Rattle.line_rules.specs.Texts.{IsLegible, LineHas}
 use Rattle.line_rules.proofs.Fits.{fit_faultless}
 use Rattle.line_shapes.proofs.OneStatement.{says-unique}
 use Rattle.line_rules.specs.Reading.{HasKeyword, IsLeastError}
-use Rattle.line_rules.specs.declared.reading.LineError.{LineError}
-use Rattle.line_rules.specs.declared.reading.LineError.TheVariants as error
+use Rattle.line_rules.specs.declared.line_reader.LineError.{LineError}
+use Rattle.line_rules.specs.declared.line_reader.LineError.TheVariants as error
 
 -- a fault of the statement is one of the line
 fault_of_line : (k : Known) (line : Line) (s : Statement) → IsLegible k line → Says line s → (f : Fault)

@@ -3,7 +3,7 @@ use Rattle.std.proofs.Common.{ℕ, List, ◌≡◌, ◌∙◌, sym, ap}
 use Rattle.text_lines.specs.declared.fault.TextFault.{TextFault}
 use Rattle.line_rules.specs.declared.purpose.Purpose.{Purpose}
 use Rattle.line_rules.proofs.OneReading.{least_fault-unique}
-use Rattle.text_reading.specs.FaultLine.{fault_line}
+use Rattle.text_lines.specs.Faults.{fault_line}
 use Rattle.line_rules.specs.Faulty.{IsFaulty}
 
 pub one_fault : (purpose : Purpose) (text : List ℕ) (f g : TextFault) (x y : List ℕ) →

@@ -19,8 +19,8 @@ use Rattle.line_rules.specs.declared.purpose.Purpose.{Purpose}
 use Rattle.line_rules.specs.declared.section.Section.TheVariants.{Ended}
 use Rattle.line_rules.specs.Reading.{AreFitLines, IsAllRead, IsFitLine, IsLeastError, Takes, IsReadingError}
 use Rattle.line_rules.specs.Reading.{error_at}
-use Rattle.line_rules.specs.declared.reading.LineError.{LineError}
-use Rattle.line_rules.specs.declared.reading.LineError.TheVariants as error
+use Rattle.line_rules.specs.declared.line_reader.LineError.{LineError}
+use Rattle.line_rules.specs.declared.line_reader.LineError.TheVariants as error
 use Rattle.line_rules.proofs.FitLines.{fit-step, known_after, names_after}
 use Rattle.line_rules.proofs.LineErrors.{line_faultless}
 

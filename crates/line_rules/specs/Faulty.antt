@@ -3,9 +3,9 @@ use Rattle.std.specs.Prelude.{ℕ, List, ◌≡◌}
 use Rattle.text_lines.specs.declared.fault.TextFault.{TextFault}
 use Rattle.line_rules.specs.Texts.{IsLeastFault}
 use Rattle.line_rules.specs.declared.purpose.Purpose.{Purpose}
-use Rattle.line_rules.specs.declared.reading.ReadingError.{ReadingError}
-use Rattle.line_rules.specs.declared.reading.ReadingError.TheVariants as reading
-use Rattle.text_reading.specs.FaultLine.{fault_line}
+use Rattle.line_rules.specs.declared.line_reader.ReadingError.{ReadingError}
+use Rattle.line_rules.specs.declared.line_reader.ReadingError.TheVariants as reading
+use Rattle.text_lines.specs.Faults.{fault_line}
 
 -- the line names the least fault of the text
 pub record IsFaulty (purpose : Purpose) (text : List ℕ) (fault : TextFault) (line : List ℕ) : Type 0 where

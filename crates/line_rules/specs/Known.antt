@@ -1,5 +1,5 @@
 -- What is known before a line, of the lines before it.
-use Rattle.std.specs.Prelude.{List, [], ◌∷◌, ◌++◌, ◌⊎◌, Bool, map}
+use Rattle.std.specs.Prelude.{ℕ, List, [], ◌∷◌, ◌++◌, ◌≡◌, ◌<◌, ◌⊎◌, Bool, length, map, slice_index_or}
 use Rattle.std.specs.List.{Contains, filter, flat_map}
 use Rattle.std.specs.Str.{bytes_eq}
 use Rattle.text_lines.specs.Texts.{Word}
@@ -88,3 +88,12 @@ is_of k s = bytes_eq (spelling_of k) (spelling_of s.keyword)
 -- the rows of one keyword
 abbrev pub rows_of : Keyword → List Statement → List Statement
 rows_of k rows = filter (is_of k) rows
+
+-- one of them, by its number among them, counted from 0; past the last one without words
+abbrev pub nth_row : Keyword → ℕ → List Statement → Statement
+nth_row k n rows = slice_index_or (rows_of k rows) n (record { keyword = k; words = [] })
+
+-- among the rows of the key's keyword, the row of this number has the key
+pub record HasNumber (rows : List Statement) (key : Key) (n : ℕ) : Type 0 where
+  pub inside : n < length (rows_of key.0 rows)
+  pub is : key_of (nth_row key.0 n rows) ≡ key

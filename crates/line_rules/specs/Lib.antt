@@ -3,8 +3,8 @@ pub mod Entering
 pub mod Entered
 pub mod Known
 pub mod Rows
-pub mod Counts
 pub mod Faults
 pub mod Faulty
 pub mod Texts
 pub mod Reading
+pub mod Long

@@ -10,10 +10,10 @@ use Rattle.line_rules.specs.Faults.{IsFit, IsLeastOf}
 use Rattle.line_rules.specs.Known.{Known, entered, known_at}
 use Rattle.line_rules.specs.Texts.{IsLegible, IsLeastFault, ReadsAs, longest}
 use Rattle.line_rules.specs.declared.purpose.Purpose.{Purpose}
-use Rattle.line_rules.specs.declared.reading.LineError.{LineError}
-use Rattle.line_rules.specs.declared.reading.LineError.TheVariants as error
-use Rattle.line_rules.specs.declared.reading.ReadingError.{ReadingError}
-use Rattle.line_rules.specs.declared.reading.ReadingError.TheVariants as reading
+use Rattle.line_rules.specs.declared.line_reader.LineError.{LineError}
+use Rattle.line_rules.specs.declared.line_reader.LineError.TheVariants as error
+use Rattle.line_rules.specs.declared.line_reader.ReadingError.{ReadingError}
+use Rattle.line_rules.specs.declared.line_reader.ReadingError.TheVariants as reading
 use Rattle.line_rules.specs.declared.section.Section.TheVariants.{Ended}
 
 -- the statement has no fault after these lines, and is known too

@@ -7,7 +7,7 @@ ghost use Rattle.line_rules.specs.Entering.{most_workers as workers};
 use crate::purpose::Purpose;
 use line_shapes::Keyword;
 
-/// By what a line is entered, so that a later one can be told to be the same.
+/// By which words a line is entered. A later line with the same words repeats it.
 #[derive(Clone, Copy)]
 pub enum Entering {
     /// It is not entered.

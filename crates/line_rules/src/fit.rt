@@ -12,8 +12,8 @@ use crate::rules::is_free;
 use line_shapes::{Keyword, Kind, Place, is_within};
 use text_lines::is_name;
 
-/// Whether each word after the keyword is all that its place asks of it. It is told by one pass over the
-/// words, and most lines are so; of another line it is told elsewhere which fault it has, if it has one.
+/// Whether each word after the keyword is fit for its place, by one pass over the words. Most lines are fit;
+/// which fault another line has, if any, other tests find.
 #[inline(always)]
 pub fn are_fit(rows: &Rows<'_>, keyword: Keyword, words: &[&str]) -> bool
     ensures { IsTrue result → AreFit rows.now (stated keyword words.now) }
@@ -46,8 +46,9 @@ fn place_among(places: &[Place], more: Option<Place>, number: usize) -> Option<P
     }
 }
 
+/// Whether the word is fit for this place.
 #[inline(always)]
-fn is_fit(rows: &Rows<'_>, place: Option<Place>, word: &str) -> bool
+pub fn is_fit(rows: &Rows<'_>, place: Option<Place>, word: &str) -> bool
     ensures { IsTrue result → IsFitIn rows.now place word.now }
 {
     match place {

@@ -5,18 +5,17 @@ ghost use Rattle.line_shapes.specs.Places.{places_of};
 ghost use Rattle.line_rules.specs.Entering.{command_of, entered_of, entering_of as entering};
 ghost use Rattle.line_rules.specs.Entering.{most_of as most_in};
 ghost use Rattle.line_rules.specs.Faults.{IsFirst, centres_in as centres, Fails, IsFewer, IsFit, IsLeastOf};
-ghost use Rattle.line_rules.specs.Faults.{IsNew, AreAllPriced, IsFirstOfBody, IsPricedBefore, IsComplete};
+ghost use Rattle.line_rules.specs.Faults.{IsNew, IsFirstOfBody, IsPricedBefore, IsComplete};
 ghost use Rattle.line_rules.specs.Faults.{Keep, IsWithinLimit, MayStand, counted_of};
 ghost use Rattle.line_rules.specs.declared.entering.Entering.TheVariants.{Nothing};
 ghost use Rattle.text_lines.specs.declared.fault.Fault.{Fault};
-ghost use Rattle.line_rules.specs.Counts.{AreCounts};
 ghost use Rattle.line_rules.specs.Entered.{AreSound, AreFit};
 ghost use Rattle.line_rules.specs.Known.{Known, entered, known_at};
 ghost use Rattle.line_shapes.specs.declared.keyword.Keyword.{Keyword};
 ghost use Rattle.line_rules.specs.Sections.{section_of as section_in};
 ghost use Rattle.line_rules.specs.declared.rule.Rule.TheVariants as rule;
+ghost use Rattle.line_rules.specs.declared.section.Section.TheVariants.{Body};
 
-use crate::counts::{Counts, is_below};
 use crate::edition::{Version, is_of_version, version_after};
 use crate::entering::{Entering, Follow, entering_of, follow_of, most_of};
 use crate::fit::are_fit;
@@ -41,14 +40,13 @@ const BYTES_OF_A_WORD: usize = 6;
 
 const MOST_ROOM: usize = 16_384;
 
-/// What the lines so far say, as far as the faults of the next line ask.
+/// What the lines so far say: all on which the faults of the next line depend.
 #[derive(Drop)]
 pub struct KnownLines<'t> {
     purpose: Purpose,
     version: Version,
     section: Section,
     rows: Rows<'t>,
-    counts: Counts,
     commands: LineList<'t>,
 }
 
@@ -63,7 +61,7 @@ impl<'t> Model for KnownLines<'t> {
       commands = k.commands;
     } };
 
-    ghost invariant = { λ k. AreCounts k.counts k.rows × AreSound k.rows };
+    ghost invariant = { λ k. AreSound k.rows };
 }
 
 impl<'t> KnownLines<'t> {
@@ -86,9 +84,15 @@ impl<'t> KnownLines<'t> {
             version: Version::One,
             section: Section::First,
             rows,
-            counts: Counts::none(),
             commands,
         })
+    }
+
+    /// As before the `end` that was the last line, so that more lines of the body may follow.
+    pub fn reopen(&mut self)
+        ensures { self.new ≡ record self.old { section = Body } }
+    {
+        self.section = Section::Body;
     }
 
     /// Where the next line stands.
@@ -120,7 +124,7 @@ impl<'t> KnownLines<'t> {
     }
 
     // Whether as many words follow those in the places of the line as have to.
-    fn is_whole(&self, line: &KeyedLine<'_, 't>) -> bool
+    fn is_whole(&self, line: &KeyedLine<'_, '_>) -> bool
         requires { length (places_of line.now.keyword) ≤ length line.now.words.now }
         ensures { IsTrue result ↔ IsComplete self.now (statement_of line.now) }
     {
@@ -128,11 +132,11 @@ impl<'t> KnownLines<'t> {
         match follow_of(line.keyword) {
             Follow::Any => true,
             Follow::Centre => words == centres_in(self.version),
-            Follow::Counts => words == self.counts.workers,
+            Follow::Counts => words == self.rows.count(Keyword::Worker),
         }
     }
 
-    fn may_stand(&self, line: &KeyedLine<'_, 't>) -> bool
+    fn may_stand(&self, line: &KeyedLine<'_, '_>) -> bool
         ensures { IsTrue result ↔ MayStand self.now (statement_of line.now) }
     {
         self.is_in_section(line.keyword) && is_of_version(line.keyword, self.version)
@@ -147,7 +151,7 @@ impl<'t> KnownLines<'t> {
         }
     }
 
-    fn is_new(&self, fit: bool, line: &KeyedLine<'_, 't>) -> bool
+    fn is_new(&self, fit: bool, line: &KeyedLine<'_, '_>) -> bool
         requires places { length (places_of line.now.keyword) ≤ length line.now.words.now }
         requires fit { IsTrue fit → AreFit self.now.rows (statement_of line.now) }
         ensures { IsTrue result ↔ IsNew self.now.rows (statement_of line.now) }
@@ -157,35 +161,36 @@ impl<'t> KnownLines<'t> {
                 || is_first_of_head(section_after(line.keyword), &self.rows, line))
     }
 
-    fn is_in_range(&self, fit: bool, line: &KeyedLine<'_, 't>) -> bool
+    fn is_in_range(&self, fit: bool, line: &KeyedLine<'_, '_>) -> bool
         requires { IsTrue fit → AreFit self.now.rows (statement_of line.now) }
         ensures { IsTrue result ↔ IsInRange (statement_of line.now) }
     {
         fit || line.is_in_range()
     }
 
-    fn is_within_limit(&self, line: &KeyedLine<'_, 't>) -> bool
+    fn is_within_limit(&self, line: &KeyedLine<'_, '_>) -> bool
         ensures { IsTrue result ↔ IsWithinLimit self.now (statement_of line.now) }
     {
         self.has_room(line) && is_few(line)
     }
 
-    fn has_room(&self, line: &KeyedLine<'_, 't>) -> bool
+    fn has_room(&self, line: &KeyedLine<'_, '_>) -> bool
         ensures { IsTrue result
             ↔ IsFewer (most_in self.now.purpose line.now.keyword) (counted_of self.now line.now.keyword) }
     {
+        let Some(most) = most_of(self.purpose, line.keyword) else {
+            return true;
+        };
         match entering_of(line.keyword) {
-            Entering::InTurn => {
-                is_below(self.commands.len(), most_of(self.purpose, line.keyword))
-            }
+            Entering::InTurn => self.commands.len() < most,
             Entering::Nothing | Entering::Alone | Entering::Word | Entering::Pair => {
-                self.counts.has_room(self.purpose, line.keyword)
+                self.rows.count(line.keyword) < most
             }
         }
     }
 
     // No row is a command, so none is looked for.
-    fn is_once(&self, after: Section, line: &KeyedLine<'_, 't>) -> bool
+    fn is_once(&self, after: Section, line: &KeyedLine<'_, '_>) -> bool
         ensures { IsTrue result ↔ IsFirstOfBody after self.now.rows (statement_of line.now) }
     {
         is_command(line.keyword) || is_first_of_body(after, &self.rows, line)
@@ -194,23 +199,14 @@ impl<'t> KnownLines<'t> {
     fn is_priced_before(&self, after: Section) -> bool
         ensures { IsTrue result ↔ IsPricedBefore after self.now }
     {
-        match after {
-            Section::Ended => self.is_priced(),
-            Section::First | Section::Head | Section::Body => true,
-        }
-    }
-
-    fn is_priced(&self) -> bool
-        ensures { IsTrue result ↔ AreAllPriced self.now.purpose self.now.rows }
-    {
-        match self.purpose {
-            Purpose::Checking => are_priced(&self.rows),
-            Purpose::Planning | Purpose::Playing | Purpose::Running => true,
+        match (after, self.purpose) {
+            (Section::Ended, Purpose::Checking) => are_priced(&self.rows),
+            _ => true,
         }
     }
 
     /// The least fault of a line after these, if it has one.
-    pub fn fault_of(&self, line: &KeyedLine<'_, 't>) -> Option<Fault>
+    pub fn fault_of(&self, line: &KeyedLine<'_, '_>) -> Option<Fault>
         requires { length (places_of line.now.keyword) ≤ length line.now.words.now }
         ensures { MatchOption result (IsFit self.now (statement_of line.now))
             (IsLeastOf (Fails self.now (statement_of line.now))) }
@@ -218,8 +214,8 @@ impl<'t> KnownLines<'t> {
         self.fault_with(are_fit(&self.rows, line.keyword, line.words), line)
     }
 
-    /// The same, where it is told whether the words are found fit.
-    pub fn fault_with(&self, fit: bool, line: &KeyedLine<'_, 't>) -> Option<Fault>
+    /// The same, where the caller knows whether the words are fit.
+    pub fn fault_with(&self, fit: bool, line: &KeyedLine<'_, '_>) -> Option<Fault>
         requires places { length (places_of line.now.keyword) ≤ length line.now.words.now }
         requires fit { IsTrue fit → AreFit self.now.rows (statement_of line.now) }
         ensures { MatchOption result (IsFit self.now (statement_of line.now))
@@ -258,7 +254,6 @@ impl<'t> KnownLines<'t> {
         ensures err { OnErr result (self.new ≡ self.old) }
     {
         put(line, &mut self.rows, &mut self.commands)?;
-        self.counts = self.counts.with(line.keyword);
         self.version = version_after(self.version, line);
         self.section = section_after(line.keyword);
         Ok(())
@@ -282,7 +277,7 @@ fn keeps(fit: bool, rule: Rule, rows: &Rows<'_>, line: &KeyedLine<'_, '_>) -> bo
 }
 
 // How many centres a rack names in a text of the version.
-fn centres_in(version: Version) -> usize
+pub(crate) fn centres_in(version: Version) -> usize
     ensures { result ≡ centres version }
 {
     match version {

@@ -1,23 +1,26 @@
 //! The rules of lines: where in a text a line may stand, and what it may say in view of the lines before it.
 //!
-//! The rules are tables over the keywords of `line_shapes`: the section in which a line of a kind of text may
-//! stand, and in which version (`specs/Sections.antt`), and by which words it is entered and how many there
-//! may be (`specs/Entering.antt`). `KnownLines` holds what was entered, in one table, and answers the least
-//! fault of a line; each fault is one definition over the places of a line (`specs/Faults.antt`) and one test
-//! here.
-//! `read_lines` takes all lines of a text, or answers its least fault (`specs/Texts.antt`), which
-//! `fault_answer` tells. Above it, values are made of what was entered.
+//! The rules are tables over the keywords of `line_shapes`. They say in which section of a text and in
+//! which version a line may stand (`specs/Sections.antt`), by which words it is entered, and how many such
+//! lines there may be (`specs/Entering.antt`). A line that is entered is a row: `Rows` finds a row by its
+//! keyword and its number among the rows of that keyword, and the number by the words by which the row was
+//! entered. `KnownLines` holds the rows and answers the least fault of the next line. Each fault is one
+//! definition over the places of a line (`specs/Faults.antt`) and one test in the code. `read_lines` reads
+//! all lines of a text, or answers its least fault (`specs/Texts.antt`), and `fault_answer` makes the line
+//! that tells the fault. `fit_line` reads one line more and enters nothing. Above the crate `plan_text` and
+//! `script_text` make values of the rows.
 #![tactic(auto)]
 
 pub mod answer;
-mod counts;
 pub mod edition;
 pub mod entering;
 mod fit;
 pub mod known;
 pub mod line_list;
+pub mod line_reader;
+mod long;
+pub mod one_line;
 pub mod purpose;
-pub mod reading;
 pub mod rows;
 pub mod rule;
 pub mod rules;
@@ -28,8 +31,9 @@ pub use edition::{Edition, Version};
 pub use entering::{Entering, Follow};
 pub use known::KnownLines;
 pub use line_list::LineList;
+pub use line_reader::{LineError, ReadingError, read_lines};
+pub use one_line::fit_line;
 pub use purpose::Purpose;
-pub use reading::{ReadingError, read_lines};
 pub use rows::Rows;
 pub use rule::Rule;
 pub use section::Section;

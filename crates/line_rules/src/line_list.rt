@@ -7,7 +7,7 @@ use line_shapes::{KeyedLine, Keyword};
 use std::alloc::{AllocError, Global};
 use std::marker::Model;
 
-/// Lines, in their order. The words of all stand in one list, so that no line takes a list of its own.
+/// Lines, in their order. The words of all lines stand in one list, so that no line allocates its own.
 #[derive(Drop)]
 pub struct LineList<'t> {
     places: Vec<LinePlace>,

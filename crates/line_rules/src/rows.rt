@@ -1,29 +1,38 @@
 ghost use Rattle.std.specs.Prelude.{◌≡◌, ◌++◌, ◌∷◌, ◌↔◌, ◌≤◌, ◌<◌, IsTrue, MatchOption, OnErr, OnOk, []};
-ghost use Rattle.std.specs.Prelude.{Contains, IfOk, IsSome, List, Ok, false, length, true, ◌≢◌};
-ghost use Rattle.line_rules.specs.Rows.{HasKeyMore, TextKey, first_by, AreTabled, IsKeyAt, IsRowAt};
+ghost use Rattle.std.specs.Prelude.{Contains, IfOk, IsSome, None, Ok, Some, ℕ, false, length, map, replicate};
+ghost use Rattle.std.specs.Prelude.{true};
+ghost use Rattle.std.specs.Prelude.{List, ◌≢◌};
+ghost use Rattle.line_rules.specs.Rows.{AreTabled, ArePlaced, HasKeyMore, IsKeyAt, IsNewKey, IsRowAt, Others};
+ghost use Rattle.line_rules.specs.Rows.{first_by};
 ghost use Rattle.line_shapes.specs.Lines.{Statement, statement_of};
 ghost use Rattle.line_shapes.specs.declared.keyword.Keyword.{Keyword};
 ghost use Rattle.line_rules.specs.Entering.{entered_of, entering_of as entering, key_of};
-ghost use Rattle.line_rules.specs.Known.{HasRow, keys_of};
+ghost use Rattle.line_rules.specs.Known.{HasNumber, HasRow, keys_of, rows_of};
 ghost use Rattle.line_rules.specs.declared.entering.Entering.TheVariants.{Nothing};
 
 use crate::entering::{Entering, entering_of};
 use crate::line_list::LineList;
 use crate::rules::{first_of_key, second_of_key};
-use indexmap::{IndexMap, IndexSet};
+use indexmap::IndexMap;
 use line_shapes::{KeyedLine, Keyword};
 use std::alloc::{AllocError, Global};
 use std::marker::Model;
 
-/// The lines that were entered, in their order. A word by which no line was entered is found by one hash of
-/// it.
+// How many keywords there are.
+const KEYWORDS: usize = 31;
+
+/// The lines that were entered, in their order. The lines of a keyword are found by their numbers, and a line
+/// by the words by which it was entered: a word by which no line was entered is found by one hash of it.
 #[derive(Drop)]
 pub struct Rows<'t> {
     lines: LineList<'t>,
-    // Of each word that is a key alone: the keyword of the first line that was entered by it.
-    firsts: IndexMap<&'t str, Keyword>,
-    // All other keys.
-    others: IndexSet<(Keyword, &'t str, &'t str)>,
+    // For each keyword the places of its lines.
+    places: Vec<Vec<usize>>,
+    // Of each word that is a key alone: the keyword of the first line that was entered by it, and which one
+    // of its keyword that line is.
+    firsts: IndexMap<&'t str, (Keyword, usize)>,
+    // All other keys, each with which one of its keyword the line is.
+    others: IndexMap<(Keyword, &'t str, &'t str), usize>,
 }
 
 impl<'t> Model for Rows<'t> {
@@ -31,7 +40,8 @@ impl<'t> Model for Rows<'t> {
 
     ghost view = { λ r. r.lines };
 
-    ghost invariant = { λ r. AreTabled r.lines r.firsts.entries r.others.keys };
+    ghost invariant = { λ r. ArePlaced r.lines (map (λ l. l.items) r.places.items)
+        × AreTabled r.lines r.firsts.entries r.others.entries };
 }
 
 impl<'t> Rows<'t> {
@@ -43,8 +53,9 @@ impl<'t> Rows<'t> {
         let firsts = IndexMap::with_capacity(alloc, lines)?;
         Ok(Rows {
             lines: list,
+            places: no_places(alloc)?,
             firsts,
-            others: IndexSet::new(alloc),
+            others: IndexMap::new(alloc),
         })
     }
 
@@ -62,19 +73,46 @@ impl<'t> Rows<'t> {
         self.lines.is_empty()
     }
 
-    /// Whether a line of this keyword was entered by these words; a line that is entered by one word has an
-    /// empty second one.
+    /// How many lines of this keyword there are.
+    pub fn count(&self, keyword: Keyword) -> usize
+        ensures { result ≡ length (rows_of keyword self.now) }
+    {
+        self.places[keyword as usize].len()
+    }
+
+    /// A line of this keyword, by its number among them, counted from 0.
+    pub fn row(&self, keyword: Keyword, number: usize) -> Option<KeyedLine<'_, 't>>
+        ensures { MatchOption result (length (rows_of keyword self.now) ≤ number)
+            (λ line. (number < length (rows_of keyword self.now))
+            × IsRowAt (rows_of keyword self.now) number (statement_of line)) }
+    {
+        match self.places[keyword as usize].get(number) {
+            Some(place) => self.lines.line(*place),
+            None => None,
+        }
+    }
+
+    /// Which one of the lines of this keyword was entered by these words, counted from 0; a line that is
+    /// entered by one word has an empty second one.
+    pub fn number(&self, keyword: Keyword, first: &str, second: &str) -> Option<usize>
+        ensures { MatchOption result (Contains (keys_of self.now) (keyword, first.now, second.now) → ⊥)
+            (HasNumber self.now (keyword, first.now, second.now)) }
+    {
+        if second.is_empty() {
+            let of = self.firsts.get(&first)?;
+            if of.0 == keyword {
+                return Some(of.1);
+            }
+        }
+        let number = self.others.get(&(keyword, first, second))?;
+        Some(*number)
+    }
+
+    /// Whether a line of this keyword was entered by these words.
     pub fn has(&self, keyword: Keyword, first: &str, second: &str) -> bool
         ensures { IsTrue result ↔ Contains (keys_of self.now) (keyword, first.now, second.now) }
     {
-        if second.is_empty() {
-            match self.firsts.get(&first) {
-                Some(of) => *of == keyword || self.others.contains(&(keyword, first, second)),
-                None => false,
-            }
-        } else {
-            self.others.contains(&(keyword, first, second))
-        }
+        self.number(keyword, first, second).is_some()
     }
 
     /// The keyword of the first line that was entered by this word alone.
@@ -84,7 +122,7 @@ impl<'t> Rows<'t> {
             (λ keyword. HasRow self.now keyword word.now) }
     {
         match self.firsts.get(&word) {
-            Some(keyword) => Some(*keyword),
+            Some(of) => Some(of.0),
             None => None,
         }
     }
@@ -108,14 +146,6 @@ impl<'t> Rows<'t> {
         }
     }
 
-    /// A row, counted from 0.
-    pub fn row(&self, row: usize) -> Option<KeyedLine<'_, 't>>
-        ensures { MatchOption result (length self.now ≤ row)
-            (λ line. (row < length self.now) × IsRowAt self.now row (statement_of line)) }
-    {
-        self.lines.line(row)
-    }
-
     /// Enters a line, if lines of its keyword are entered. After an error nothing was entered.
     pub fn enter(&mut self, line: &KeyedLine<'_, 't>) -> Result<(), AllocError>
         requires { entering line.now.keyword ≢ Nothing
@@ -135,7 +165,9 @@ impl<'t> Rows<'t> {
         ensures ok { OnOk result (self.new ≡ self.old ++ statement_of line.now ∷ []) }
         ensures err { OnErr result (self.new ≡ self.old) }
     {
-        let count = self.lines.len();
+        let place = self.lines.len();
+        let number = self.count(line.keyword);
+        self.places[line.keyword as usize].reserve(1)?;
         self.lines.push(line)?;
         let (first, second) = (first_of_key(line), second_of_key(line));
         match put_key(
@@ -144,61 +176,80 @@ impl<'t> Rows<'t> {
             line.keyword,
             first,
             second,
+            number,
         ) {
-            Ok(()) => Ok(()),
+            Ok(()) => {
+                self.places[line.keyword as usize].push_reserved(place);
+                Ok(())
+            }
             Err(error) => {
-                self.lines.truncate(count);
+                self.lines.truncate(place);
                 Err(error)
             }
         }
     }
 }
 
+// No places, for each keyword.
+fn no_places(alloc: Global) -> Result<Vec<Vec<usize>>, AllocError>
+    ensures { IfOk result (λ lists. map (λ l. l.items) lists.items ≡ replicate 31 []) }
+{
+    let mut lists = Vec::new(alloc);
+    for _ in 0..KEYWORDS {
+        lists.push(Vec::new(alloc))?;
+    }
+    Ok(lists)
+}
+
 // Puts a key that is new into its table. After an error it was not put.
 fn put_key<'t>(
-    firsts: &mut IndexMap<&'t str, Keyword>,
-    others: &mut IndexSet<(Keyword, &'t str, &'t str)>,
+    firsts: &mut IndexMap<&'t str, (Keyword, usize)>,
+    others: &mut IndexMap<(Keyword, &'t str, &'t str), usize>,
     keyword: Keyword,
     first: &'t str,
     second: &'t str,
+    number: usize,
 ) -> Result<(), AllocError>
-    ensures ok { OnOk result (HasKeyMore firsts.old.entries others.old.keys (keyword, first.now, second.now)
-        firsts.new.entries others.new.keys) }
+    requires { IsNewKey firsts.old.entries others.old.entries (keyword, first.now, second.now) }
+    ensures ok { OnOk result (HasKeyMore firsts.old.entries others.old.entries
+        (keyword, first.now, second.now) number firsts.new.entries others.new.entries) }
     ensures err { OnErr result ((firsts.new.entries ≡ firsts.old.entries)
-        × (others.new.keys ≡ others.old.keys)) }
+        × (others.new.entries ≡ others.old.entries)) }
 {
-    if second.is_empty() && put_first(firsts, keyword, first)? {
+    if second.is_empty() && put_first(firsts, keyword, first, number)? {
         return Ok(());
     }
     make_room(firsts, others)?;
-    others.insert((keyword, first, second))?;
+    others.insert((keyword, first, second), number)?;
     Ok(())
 }
 
 // Puts a word that is a key alone into the first table, by one hash of it. Where it stands there by another
 // keyword, that stays, and the key has no place there.
 fn put_first<'t>(
-    firsts: &mut IndexMap<&'t str, Keyword>,
+    firsts: &mut IndexMap<&'t str, (Keyword, usize)>,
     keyword: Keyword,
     word: &'t str,
+    number: usize,
 ) -> Result<bool, AllocError>
-    ensures put { result ≡ Ok true → (others : List TextKey)
-        → HasKeyMore firsts.old.entries others (keyword, word.now, []) firsts.new.entries others }
+    requires { (n : ℕ) → first_by firsts.old.entries word.now ≡ Some (keyword, n) → ⊥ }
+    ensures put { result ≡ Ok true → (others : Others)
+        → HasKeyMore firsts.old.entries others (keyword, word.now, []) number firsts.new.entries others }
     ensures other { result ≡ Ok false → (firsts.new.entries ≡ firsts.old.entries)
         × IsSome (first_by firsts.old.entries word.now) }
     ensures err { OnErr result (firsts.new.entries ≡ firsts.old.entries) }
 {
-    let of = *firsts.entry(word)?.or_insert(keyword);
-    Ok(of == keyword)
+    let of = *firsts.entry(word)?.or_insert((keyword, number));
+    Ok(of.0 == keyword)
 }
 
 // Before the first key is put into the second table: makes room there for as many as the first still has
 // room for.
 fn make_room<'t>(
-    firsts: &IndexMap<&'t str, Keyword>,
-    others: &mut IndexSet<(Keyword, &'t str, &'t str)>,
+    firsts: &IndexMap<&'t str, (Keyword, usize)>,
+    others: &mut IndexMap<(Keyword, &'t str, &'t str), usize>,
 ) -> Result<(), AllocError>
-    ensures { others.new.keys ≡ others.old.keys }
+    ensures { others.new.entries ≡ others.old.entries }
 {
     if others.is_empty() {
         others.reserve(firsts.capacity() - firsts.len())?;

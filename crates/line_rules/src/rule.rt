@@ -1,4 +1,4 @@
-/// What a name is asked for in view of the lines before its own.
+/// What the lines before a line ask of a name in it.
 #[derive(Clone, Copy)]
 pub enum Rule {
     /// A name that is used is declared, and of its kind.

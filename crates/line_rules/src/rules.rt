@@ -46,7 +46,7 @@ fn keeps_to(rule: Rule, rows: &Rows<'_>, place: Option<Place>, word: &str) -> bo
     }
 }
 
-fn is_declared_in(rows: &Rows<'_>, place: Option<Place>, word: &str) -> bool
+pub(crate) fn is_declared_in(rows: &Rows<'_>, place: Option<Place>, word: &str) -> bool
     ensures { IsTrue result ↔ IsDeclaredIn rows.now place word.now }
 {
     match place {

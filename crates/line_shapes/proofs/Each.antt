@@ -1,7 +1,7 @@
 -- What holds of the words before a place, and of the one there, holds of those before the next; and the
 -- words behind references meet what the words meet.
-use Rattle.std.proofs.Common.{ℕ, List, [], ◌≡◌, ◌<◌, ◌+◌, length, map, get_or, subst, sym, arith}
-use Rattle.std.proofs.Common.{ap, Bor}
+use Rattle.std.proofs.Common.{ℕ, List, [], ◌<◌, ◌+◌, length, map, get_or, subst, sym, arith}
+use Rattle.std.proofs.Common.{Bor}
 use Rattle.std.proofs.lemmas.Bool.{cases_lt}
 use Rattle.std.proofs.lemmas.List.{get_or_default, get_or-map, length-map}
 use Rattle.line_shapes.specs.Demands.{Meet, MeetIn, MeetsDemand}
@@ -16,11 +16,6 @@ each_more P xs i e inside before here k d lt = grind (arith, cases_lt, get_or_de
 
 abbrev pub nothing : Bor (List ℕ)
 nothing = record { ref_ptr = (0, 0); now = [] }
-
--- a name within the list is the same whatever stands past the end
-pub same_at : (names : List (Bor (List ℕ))) (i : ℕ) (d : Bor (List ℕ)) → i < length names
-    → (get_or names i d).now ≡ (get_or names i nothing).now
-same_at names i d inside = ap (λ n. n.now) (get_or_default names i d nothing inside)
 
 pub meet_words : (demand : Demand) (k : Keyword) (ws : List (Bor (List ℕ))) → MeetIn demand k ws
     → Meet demand k (map (λ w. w.now) ws)

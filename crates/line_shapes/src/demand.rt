@@ -30,8 +30,9 @@ pub fn meet(demand: Demand, keyword: Keyword, words: &[&str]) -> bool
     true
 }
 
+/// Whether a word in this place meets the demand.
 #[inline(always)]
-fn meets(demand: Demand, place: Option<Place>, word: &str) -> bool
+pub fn meets(demand: Demand, place: Option<Place>, word: &str) -> bool
     ensures { IsTrue result ↔ MeetsDemand demand place word.now }
 {
     match demand {

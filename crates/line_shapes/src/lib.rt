@@ -15,7 +15,7 @@ pub mod line;
 pub mod place;
 
 pub use cut::cut_words;
-pub use demand::{Demand, is_within};
+pub use demand::{Demand, is_within, meets};
 pub use keyword::{Keyword, keyword_of};
 pub use line::{KeyedLine, said_by};
 pub use place::{Kind, Place};

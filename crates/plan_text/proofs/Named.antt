@@ -1,103 +1,31 @@
--- The rows of a keyword, and the names and keys that they have.
-use Rattle.std.proofs.Common.{ℕ, List, [], ◌∷◌, ◌++◌, ◌≡◌, ◌≢◌, ◌<◌, ◌+◌, ◌∙◌, Bool, true, false, zero, suc}
-use Rattle.std.proofs.Common.{true≢false, ap, append-nil, arith, cond, get_or, length, map, subst, sym}
-use Rattle.std.proofs.Common.{take}
-use Rattle.std.specs.List.{All, AllPairs, Contains, filter}
-use Rattle.std.proofs.lemmas.List.{get_or-map, get_or-take, get_or_default, length-map, length-take}
-use Rattle.std.proofs.lemmas.List.{map-append}
-use Rattle.std.proofs.lemmas.List.Elements.{All-contains_itself, All-filter, filter_more, filter_passes}
-use Rattle.std.proofs.lemmas.List.Elements.{Contains-get_or}
+-- The names of a keyword's rows, the keys that they have, and the numbers that they stand for.
+use Rattle.std.proofs.Common.{ℕ, List, [], ◌≡◌, ◌≢◌, ◌<◌, ◌∙◌, Bool, true, false, ap}
+use Rattle.std.proofs.Common.{arith, get_or, length, refl, subst, sym, take, Option, Some, None}
+use Rattle.std.specs.Prelude.{◌↔◌, IsTrue, MatchOption}
+use Rattle.std.specs.Bool.{Decides}
+use Rattle.std.specs.List.{AllPairs, Contains, position}
+use Rattle.std.specs.Str.{bytes_eq}
+use Rattle.std.proofs.lemmas.List.{get_or-map, get_or-take, length-map, length-take}
+use Rattle.std.proofs.lemmas.List.Elements.{Contains-get_or, filter_passes}
+use Rattle.std.proofs.lemmas.List.Kept.{AllPairs-filter}
 use Rattle.std.proofs.lemmas.Slice.Eq.{bytes_eq-Decides}
+use Rattle.node_ids.proofs.Positions.{position_found, position_none}
 use Rattle.text_lines.specs.Texts.{Word}
-use Rattle.line_shapes.specs.Keywords.{spelling_of}
 use Rattle.line_shapes.specs.Lines.{Statement}
 use Rattle.line_shapes.specs.declared.keyword.Keyword.{Keyword}
+use Rattle.line_shapes.proofs.Mapped.{AllPairs-map, AllPairs-unmap}
 use Rattle.line_rules.specs.Entering.{Key, entering_of, key_of}
-use Rattle.line_rules.specs.Known.{HasRow, is_of, keys_of, rows_of}
-use Rattle.line_rules.specs.Rows.{IsKeyAt, IsRowAt}
+use Rattle.line_rules.specs.Known.{HasNumber, HasRow, is_of, keys_of, nth_row, rows_of}
 use Rattle.line_rules.specs.declared.entering.Entering.TheVariants.{Word as ByWord}
-use Rattle.line_shapes.proofs.OneStatement.{spelling_of-injective}
-use Rattle.line_shapes.specs.contracts.keyword.Keyword.{the_type}
-use Rattle.plan_text.specs.Names.{names_in, names_of, nth_word}
-use denote.Enum.Bare.{sameb, same_true, true_same}
-
--- ---- lists
-
-pub contains_map : {X Y : Type 0} (f : X → Y) (xs : List X) (x : X) → Contains xs x →
-    Contains (map f xs) (f x)
-contains_map f xs x (i, lt, is) = (i, rw length-map lt, get_or-map f xs i x (f x) lt ∙ ap f is)
-
-kept : {X : Type 0} (b : Bool) (y : X) (ys : List X) (x : X) → Contains ys x → Contains (cond b (y ∷ ys) ys) x
-kept true y ys x (i, lt, is) = let lt : i < length ys = lt in (suc i, omega arith, is)
-kept false y ys x h = h
-
-kept_first : {X : Type 0} (b : Bool) (y : X) (ys : List X) (x : X) → y ≡ x → b ≡ true
-    → Contains (cond b (y ∷ ys) ys) x
-kept_first true y ys x is pass = (zero, omega arith, is)
-kept_first false y ys x is pass = cc
-
-contains_filter : {X : Type 0} (p : X → Bool) (xs : List X) (x : X) → Contains xs x → p x ≡ true
-    → Contains (filter p xs) x
-contains_filter p [] x (i, lt, is) pass = absurd (omega arith)
-contains_filter p (y ∷ ys) x (zero, lt, is) pass = kept_first (p y) y (filter p ys) x is (ap p is ∙ pass)
-contains_filter p (y ∷ ys) x (suc i, lt, is) pass =
-    kept (p y) y (filter p ys) x (contains_filter p ys x (i, omega arith, is) pass)
-
-pub at_element : {X : Type 0} (P : X → Type 0) (xs : List X) (x : X) → All P xs → Contains xs x → P x
-at_element P xs x all (i, lt, is) = subst P is (all i x lt)
-
--- ---- the rows of a keyword
-
-pub is_of-same : (k : Keyword) (s : Statement) → s.keyword ≡ k → is_of k s ≡ true
-is_of-same k s same = (bytes_eq-Decides (spelling_of k) (spelling_of s.keyword)).1 (ap spelling_of (sym same))
-
-pub keyword_of : (k : Keyword) (s : Statement) → is_of k s ≡ true → s.keyword ≡ k
-keyword_of k s is =
-    sym (spelling_of-injective k s.keyword ((bytes_eq-Decides (spelling_of k) (spelling_of s.keyword)).0 is))
-
-pub is_of-other : (k : Keyword) (s : Statement) → (s.keyword ≡ k → ⊥) → is_of k s ≡ false
-is_of-other k s other = grind arith
-
--- what a test of two keywords tells
-pub told_same : (j k : Keyword) (b : Bool) → b ≡ sameb the_type j k → b ≡ true → j ≡ k
-told_same j k b is same = same_true the_type tt j k (sym is ∙ same)
-
-pub told_apart : (j k : Keyword) (b : Bool) → b ≡ sameb the_type j k → b ≡ false → j ≡ k → ⊥
-told_apart j k b is apart e = true≢false (sym (true_same the_type j k e) ∙ sym is ∙ apart)
-
-pub in_rows_of : (k : Keyword) (rows : List Statement) (s : Statement) → Contains (rows_of k rows) s
-    → Contains rows s × (s.keyword ≡ k)
-in_rows_of k rows s has = (
-  at_element (Contains rows) (rows_of k rows) s
-      (All-filter (is_of k) (Contains rows) rows (All-contains_itself rows)) has,
-  keyword_of k s (at_element (λ t. is_of k t ≡ true) (rows_of k rows) s (filter_passes (is_of k) rows) has),
-)
-
-pub row_of_keyword : (k : Keyword) (rows : List Statement) (i : ℕ) (s : Statement) → i < length rows
-    → IsRowAt rows i s → s.keyword ≡ k → Contains (rows_of k rows) s
-row_of_keyword k rows i s inside is same =
-    contains_filter (is_of k) rows s (i, inside, is s) (is_of-same k s same)
-
-pub rows_more : (k : Keyword) (rows : List Statement) (i : ℕ) (s : Statement) → i < length rows
-    → IsRowAt rows i s → s.keyword ≡ k
-    → rows_of k (take (i + 1) rows) ≡ rows_of k (take i rows) ++ s ∷ []
-rows_more k rows i s inside is same =
-    filter_more (is_of k) rows i s inside
-    ∙ ap (λ t. rows_of k (take i rows) ++ cond (is_of k t) (t ∷ []) []) (is s)
-    ∙ ap (λ b. rows_of k (take i rows) ++ cond b (s ∷ []) []) (is_of-same k s same)
-
-pub rows_same : (k : Keyword) (rows : List Statement) (i : ℕ) (s : Statement) → i < length rows
-    → IsRowAt rows i s → (s.keyword ≡ k → ⊥) → rows_of k (take (i + 1) rows) ≡ rows_of k (take i rows)
-rows_same k rows i s inside is other =
-    filter_more (is_of k) rows i s inside
-    ∙ ap (λ t. rows_of k (take i rows) ++ cond (is_of k t) (t ∷ []) []) (is s)
-    ∙ ap (λ b. rows_of k (take i rows) ++ cond b (s ∷ []) []) (is_of-other k s other)
-    ∙ append-nil (rows_of k (take i rows))
-
--- ---- names and keys
+use Rattle.line_rules.proofs.OfKeyword.{contains_map, has_row_of, in_rows_of, keyword_of}
+use Rattle.plan_text.specs.Names.{names_of, nth_word}
+use Rattle.plan_text.specs.Value.{stands_in}
+use Rattle.plan_text.proofs.Numbers.{stands_by}
 
 abbrev no_word : Keyword → Statement
 no_word k = record { keyword = k; words = [] }
+
+-- ---- keys
 
 pub key_by_word : (k : Keyword) → entering_of k ≡ ByWord → (s : Statement) → s.keyword ≡ k
     → key_of s ≡ (k, nth_word 0 s, [])
@@ -125,51 +53,76 @@ row_named k by rows n (i, lt, is) =
     let same : s.keyword ≡ k = ap (λ (q : Key). q.0) key in
     let name : nth_word 0 s ≡ n = ap (λ (q : Key). q.1) (sym (key_by_word k by s same) ∙ key) in
     subst (Contains (names_of k rows)) name (contains_map (nth_word 0) (rows_of k rows) s
-    (contains_filter (is_of k) rows s (Contains-get_or rows i (no_word k) inside) (is_of-same k s same)))
+    (has_row_of k rows s (Contains-get_or rows i (no_word k) inside) same))
 
-module _ (k : Keyword) (by : entering_of k ≡ ByWord) (rows : List Statement) (i : ℕ) (n : Word)
-    (inside : i < length rows) (j : Keyword) (at : IsKeyAt (keys_of rows) i j n) where
-  abbrev row : Statement
-  row = get_or rows i (no_word k)
+-- no two rows of a keyword that is entered by its name have one name
+pub names_differ : (k : Keyword) → entering_of k ≡ ByWord → (rows : List Statement)
+    → AllPairs (λ a b. a ≢ b) (keys_of rows) → AllPairs (λ a b. a ≢ b) (names_of k rows)
+names_differ k by rows differ =
+    let Apart : Statement → Statement → Type 0 = λ a b. key_of a ≢ key_of b in
+    let apart = AllPairs-filter Apart (is_of k) rows (AllPairs-unmap (λ a b. a ≢ b) key_of rows differ) in
+    AllPairs-map (λ (a b : Word). a ≢ b) (nth_word 0) (rows_of k rows)
+    (λ i j d lt inside same.
+    let a : Statement = get_or (rows_of k rows) i d in
+    let b : Statement = get_or (rows_of k rows) j d in
+    apart i j d lt inside
+    (key_by_word k by a (keyword_of k a (filter_passes (is_of k) rows i d (omega arith)))
+    ∙ ap (λ w. (k, w, [])) same
+    ∙ sym (key_by_word k by b (keyword_of k b (filter_passes (is_of k) rows j d inside)))))
 
-  row_at : IsRowAt rows i row
-  row_at d = get_or_default rows i d (no_word k) inside
+-- ---- numbers
 
-  keyed : get_or (keys_of rows) i (key_of (no_word k)) ≡ key_of row
-  keyed = get_or-map key_of rows i (no_word k) (key_of (no_word k)) inside
+-- the name of the row with a number
+pub name_at : (k : Keyword) (rows : List Statement) (i : ℕ) (d : Word) → i < length (rows_of k rows)
+    → get_or (names_of k rows) i d ≡ nth_word 0 (nth_row k i rows)
+name_at k rows i d lt = get_or-map (nth_word 0) (rows_of k rows) i (no_word k) d lt
 
-  of_keyword : row.keyword ≡ j
-  of_keyword = ap (λ (q : Key). q.0) (sym keyed) ∙ (at (key_of (no_word k))).0
+-- it is none of the names before
+pub name_new : (k : Keyword) → entering_of k ≡ ByWord → (rows : List Statement)
+    → AllPairs (λ a b. a ≢ b) (keys_of rows) → (i : ℕ) → i < length (rows_of k rows)
+    → Contains (take i (names_of k rows)) (nth_word 0 (nth_row k i rows)) → ⊥
+name_new k by rows differ i lt (m, before, is) =
+    let names = names_of k rows in
+    let name = nth_word 0 (nth_row k i rows) in
+    let inside : i < length names = rw length-map lt in
+    let earlier : m < i = omega (arith, before, length-take i names) in
+    names_differ k by rows differ m i name earlier inside
+    (sym (get_or-take i names m name earlier) ∙ is ∙ sym (name_at k rows i name lt))
 
-  has_key : j ≡ k → key_of row ≡ (k, n, [])
-  has_key same =
-      let key = key_by_word k by row (of_keyword ∙ same) in
-      key ∙ ap (λ w. (k, w, [])) (sym (ap (λ (q : Key). q.1) key) ∙ ap (λ (q : Key). q.1) (sym keyed)
-      ∙ (at (key_of (no_word k))).1)
+apart : (a b : Word) → (a ≡ b → ⊥) → bytes_eq a b ≡ false
+apart a b other = by (bytes_eq a b) (bytes_eq-Decides a b)
+  where
+    by : (t : Bool) → Decides t (a ≡ b) → t ≡ false
+    by true same = absurd (other (same.0 refl))
+    by false same = refl
 
-  pub names_more : j ≡ k → names_of k (take (i + 1) rows) ≡ names_of k (take i rows) ++ n ∷ []
-  names_more same =
-      let key = key_by_word k by row (of_keyword ∙ same) in
-      ap names_in (rows_more k rows i row inside row_at (of_keyword ∙ same))
-      ∙ map-append (nth_word 0) (rows_of k (take i rows)) (row ∷ [])
-      ∙ ap (λ w. names_of k (take i rows) ++ w ∷ []) (ap (λ (q : Key). q.1) (sym key ∙ has_key same))
+-- the row that a name was found to be entered by
+pub number_found : (k : Keyword) → entering_of k ≡ ByWord → (rows : List Statement)
+    → AllPairs (λ a b. a ≢ b) (keys_of rows) → (name : Word) (o : Option ℕ)
+    → MatchOption o (Contains (keys_of rows) (k, name, []) → ⊥) (HasNumber rows (k, name, []))
+    → o ≡ position (λ n. bytes_eq name n) (names_of k rows)
+number_found k by rows differ name None absent =
+    let names = names_of k rows in
+    sym (position_none (bytes_eq name) names [] (λ i lt. apart name (get_or names i [])
+    (λ e. absent (named_row k by rows name
+    (subst (Contains names) (sym e) (Contains-get_or names i [] lt))))))
+number_found k by rows differ name (Some n) has =
+    let names = names_of k rows in
+    let s = nth_row k n rows in
+    let inside : n < length names = let lt : n < length (rows_of k rows) = has.inside in rw length-map lt in
+    let own : s.keyword ≡ k = keyword_of k s (filter_passes (is_of k) rows n (no_word k) has.inside) in
+    let word : nth_word 0 s ≡ name = ap (λ (q : Key). q.1) (sym (key_by_word k by s own) ∙ has.is) in
+    let here : get_or names n [] ≡ name = name_at k rows n [] has.inside ∙ word in
+    sym (position_found (bytes_eq name) names n [] inside
+    (λ j before. apart name (get_or names j [])
+    (λ e. names_differ k by rows differ j n [] before inside (sym e ∙ sym here)))
+    ((bytes_eq-Decides name (get_or names n [])).1 (sym here)))
 
-  pub names_same : (j ≡ k → ⊥) → names_of k (take (i + 1) rows) ≡ names_of k (take i rows)
-  names_same other =
-      ap names_in (rows_same k rows i row inside row_at (λ e. other (sym of_keyword ∙ e)))
-
-  -- where no key stands twice, the name is none of those before
-  pub name_new : j ≡ k → AllPairs (λ a b. a ≢ b) (keys_of rows) → Contains (names_of k (take i rows)) n → ⊥
-  name_new same differ has =
-      let key : Key = (k, n, []) in
-      let before = named_row k by (take i rows) n has in
-      let m : ℕ = before.0 in
-      let within : m < length (take i rows) = rw length-map at before.1 in
-      let earlier : m < i = omega (arith, within, length-take i rows) in
-      let far : m < length rows = omega (arith, earlier, inside) in
-      let there : get_or (keys_of (take i rows)) m key ≡ get_or (keys_of rows) m key =
-      get_or-map key_of (take i rows) m (no_word k) key within
-      ∙ ap key_of (get_or-take i rows m (no_word k) earlier)
-      ∙ sym (get_or-map key_of rows m (no_word k) key far) in
-      differ m i key earlier (rw length-map inside)
-      (sym there ∙ before.2 ∙ sym (get_or-map key_of rows i (no_word k) key inside ∙ has_key same))
+-- whether a row is about a name
+pub stands_named : (k : Keyword) → entering_of k ≡ ByWord → (rows : List Statement) (name : Word) (b : Bool)
+    → (IsTrue b ↔ Contains (keys_of rows) (k, name, [])) → b ≡ stands_in (names_of k rows) name
+stands_named k by rows name b has =
+    stands_by b (names_of k rows) name (
+      λ t. row_named k by rows name (has.0 t),
+      λ h. has.1 (named_row k by rows name h),
+    )

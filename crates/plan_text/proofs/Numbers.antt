@@ -1,11 +1,12 @@
 -- Names and their numbers, and the pairs that are barred.
 use Rattle.std.proofs.Common.{ℕ, List, [], ◌∷◌, ◌++◌, ◌≡◌, ◌≢◌, ◌<◌, ◌⊎◌, ◌∙◌, arith, Bool, true, false}
-use Rattle.std.proofs.Common.{true≢false, inl, inr, length, sym, ap, refl}
+use Rattle.std.proofs.Common.{true≢false, inl, inr, length, max, sym, ap, refl, Option, Some, None, unwrap_or}
 use Rattle.std.specs.Prelude.{◌↔◌, IsTrue}
-use Rattle.std.specs.List.{Contains, position_or_len, slice_index_or}
+use Rattle.std.specs.List.{Contains, position, position_or_len, slice_index_or}
 use Rattle.std.specs.Str.{bytes_eq}
 use Rattle.std.proofs.lemmas.Bool.{cases_lt}
 use Rattle.std.proofs.lemmas.List.Elements.{Contains-append_left, Contains-push, Contains-push_cases}
+use Rattle.std.proofs.lemmas.List.Quantifiers.{position-Some}
 use Rattle.std.proofs.lemmas.List.Sums.{fails_before_first, passes_at_first}
 use Rattle.std.proofs.lemmas.Slice.Eq.{bytes_eq-Decides}
 use Rattle.node_ids.proofs.Positions.{position_found}
@@ -30,6 +31,14 @@ number_is_first names name has =
 pub number_within : (names : List Word) (name : Word) → Contains names name
     → number_in names name < length names
 number_within names name has = rw (number_is_first names name has) (first_within names name has)
+
+-- also of a name that is none of them
+pub number_below : (names : List Word) (name : Word) → number_in names name < max 1 (length names)
+number_below names name = by (position (λ n. bytes_eq name n) names) refl
+  where
+    by : (o : Option ℕ) → position (λ n. bytes_eq name n) names ≡ o → unwrap_or o 0 < max 1 (length names)
+    by None is = omega arith
+    by (Some i) is = let lt = (position-Some (λ n. bytes_eq name n) names i name is).0 in omega (arith, lt)
 
 -- a number gives its name back
 pub name_of_number : (names : List Word) (name d : Word) → Contains names name

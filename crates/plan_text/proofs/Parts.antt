@@ -1,6 +1,6 @@
 -- Lists that are mapped twice, and the parts that the rows of a text without a fault make.
 use Rattle.std.proofs.Common.{ℕ, List, [], ◌≡◌, ◌≢◌, ◌<◌, ◌≤◌, ◌∙◌, Option, Some, None}
-use Rattle.std.proofs.Common.{IfSome, length, map, subst, sym, ap, refl, arith}
+use Rattle.std.proofs.Common.{IfSome, length, map, subst, sym, refl, arith}
 use Rattle.std.specs.List.{All, Contains, position, slice_index_or}
 use Rattle.std.specs.Option.{option_map}
 use Rattle.std.specs.Str.{bytes_eq}
@@ -8,28 +8,21 @@ use Rattle.std.proofs.lemmas.List.{get_or-map, length-map}
 use Rattle.std.proofs.lemmas.List.Elements.{All-map}
 use Rattle.std.proofs.lemmas.List.Quantifiers.{position-Some}
 use Rattle.line_shapes.specs.Lines.{Statement, tail_words}
-use Rattle.line_shapes.specs.declared.keyword.Keyword.TheVariants.{Problem, Dead, Busy, Split, Start, Worker}
+use Rattle.line_shapes.specs.declared.keyword.Keyword.TheVariants.{Dead, Busy, Split, Start, Worker}
 use Rattle.line_shapes.proofs.Mapped.{AllPairs-map}
 use Rattle.line_rules.specs.Known.{rows_of}
-use Rattle.line_shapes.specs.declared.line.KeyedLine.{KeyedLine}
 use Rattle.text_lines.specs.Texts.{Word}
 use Rattle.wave_problem.specs.Wave.{AreHeldWell, AreSmall, IsHeldWell, IsSmall}
-use Rattle.plan_text.specs.Names.{names_in, names_of, said_in, nth_word}
-use Rattle.plan_text.specs.Reading.{MakesProblem}
+use Rattle.plan_text.specs.Names.{names_in, names_of, nth_word}
 use Rattle.plan_text.specs.Tidy.{AreTidy, IsTidySplit, IsTidyStart}
-use Rattle.plan_text.specs.Value.{beside, number_in, declared_split, start_at, declared_starts}
+use Rattle.plan_text.specs.Value.{number_in, declared_split, start_at, declared_starts}
 use Rattle.plan_text.specs.Value.{declared_worker}
-use Rattle.plan_text.specs.declared.built.ProblemText.{ProblemText}
 use Rattle.plan_text.proofs.Numbers.{number_within, numbers_differ}
 use Rattle.plan_text.proofs.Words.{tidy_splits, tidy_starts, tidy_workers}
 
 pub All-unmap : {X Y : Type 0} (P : X → Type 0) (f : Y → X) (ys : List Y) → All P (map f ys)
     → All (λ y. P (f y)) ys
 All-unmap P f ys h k d lt = subst P (get_or-map f ys k d (f d) lt) (h k (f d) (rw length-map lt))
-
--- a row to stand past the last
-abbrev pub no_row : KeyedLine
-no_row = record { keyword = Problem; words = record { ref_ptr = (0, 0); now = [] } }
 
 small_split : (workers busy : List Word) (s : Statement) → IsTidySplit workers s
     → IsSmall (declared_split workers busy s)
@@ -73,48 +66,12 @@ module _ (rows : List Statement) (tidy : AreTidy rows) where
       All-map (IsHeldWell n) (declared_split workers (names_of Busy rows)) (rows_of Split rows)
       (λ i d lt. held_split n workers (names_of Busy rows) _ size (tidy_splits rows tidy i d lt))
 
--- as many names as lines
-pub same_splits : (rows : List Statement) (v : ProblemText) → MakesProblem rows v
-    → length v.splits ≡ length v.problem.splits
-same_splits rows v made =
-    ap length made.splits ∙ length-map (rows_of Split rows) (nth_word 0)
-    ∙ sym (ap length made.wave.splits ∙ length-map (rows_of Split rows) _)
-
-pub same_workers : (rows : List Statement) (v : ProblemText) → MakesProblem rows v
-    → length v.workers ≡ length v.problem.workers
-same_workers rows v made =
-    ap length made.workers ∙ length-map (rows_of Worker rows) (nth_word 0)
-    ∙ sym (ap length made.wave.workers ∙ length-map (rows_of Worker rows) _)
-
 -- ---- starts
 
 -- the place of a start's name is that of a line
 pub start_inside : (lines : List Statement) (name : Word) (place : ℕ)
     → position (λ n. bytes_eq name n) (names_in lines) ≡ Some place → place < length lines
 start_inside lines name place is = grind (arith, position-Some, length-map)
-
--- what a line of the name found says
-module _ (rows : List KeyedLine) (names : List Word) (name : Word) (found : Option ℕ) (place : ℕ)
-    (same : names ≡ names_in (map said_in rows)) (is : found ≡ position (λ n. bytes_eq name n) names)
-    (some : found ≡ Some place) where
-  pub at_place : position (λ n. bytes_eq name n) (names_in (map said_in rows)) ≡ Some place
-  at_place = ap (position (λ n. bytes_eq name n)) (sym same) ∙ sym is ∙ some
-
-  pub row_inside : place < length rows
-  row_inside = rw length-map at (start_inside (map said_in rows) name place at_place)
-
-  pub row_tidy : (P : Statement → Type 0) → All P (map said_in rows)
-      → P (said_in (slice_index_or rows place no_row))
-  row_tidy P all = All-unmap P said_in rows all place no_row row_inside
-
-  pub beside_at : {X : Type 0} (d : X) (f : Statement → X)
-      → beside d (names_in (map said_in rows)) (map f (map said_in rows)) name
-      ≡ Some (f (said_in (slice_index_or rows place no_row)))
-  beside_at d f =
-      let lines = map said_in rows in
-      ap (option_map (λ i. slice_index_or (map f lines) i d)) at_place
-      ∙ ap Some (get_or-map f lines place (said_in no_row) d (start_inside lines name place at_place)
-      ∙ ap f (get_or-map said_in rows place no_row (said_in no_row) row_inside))
 
 abbrev started : List Word → List Statement → Option ℕ → Option ℕ
 started workers lines place =

@@ -1,34 +1,31 @@
 -- The rows of a text without a fault are tidy.
-use Rattle.std.proofs.Common.{ℕ, List, [], ◌∷◌, ◌++◌, ◌≡◌, ◌≢◌, ◌≤◌, ◌<◌, ◌+◌, ◌∙◌, Option, Some, None, Bool}
-use Rattle.std.proofs.Common.{inl, inr, ap, append-nil, arith, cond, get_or, length}
+use Rattle.std.proofs.Common.{ℕ, List, [], ◌∷◌, ◌++◌, ◌≡◌, ◌≢◌, ◌≤◌, ◌<◌, ◌+◌, Option, Some, None, Bool}
+use Rattle.std.proofs.Common.{inl, inr, append-nil, arith, cond, get_or, length}
 use Rattle.std.proofs.Common.{length-append, subst, sym}
 use Rattle.std.specs.List.{All, AllPairs, Contains}
 use Rattle.std.proofs.lemmas.List.{map-append}
 use Rattle.std.proofs.lemmas.List.Elements.{All-append, All-cons, All-nil, All-weaker, Contains-append_left}
-use Rattle.std.proofs.lemmas.List.Elements.{Contains-get_or, filter-append, filter_passes}
-use Rattle.std.proofs.lemmas.List.Kept.{AllPairs-filter}
+use Rattle.std.proofs.lemmas.List.Elements.{Contains-get_or, filter-append}
 use Rattle.std.proofs.lemmas.List.Quantifiers.{all_pairs_push}
 use Rattle.text_lines.specs.Texts.{Line, Word}
 use Rattle.line_shapes.specs.Lines.{Statement}
-use Rattle.line_shapes.proofs.Mapped.{AllPairs-map, AllPairs-unmap}
 use Rattle.line_shapes.specs.Places.{place_at, places_of}
 use Rattle.line_shapes.specs.declared.keyword.Keyword.{Keyword}
 use Rattle.line_shapes.specs.declared.place.Kind.{Kind}
 use Rattle.line_shapes.specs.declared.place.Kind.TheVariants.{Priced}
 use Rattle.line_shapes.specs.declared.place.Place.{Place}
 use Rattle.line_shapes.specs.declared.place.Place.TheVariants.{Used}
-use Rattle.line_rules.specs.Entering.{Key, entered_of, entering_of, key_of, most_of}
+use Rattle.line_rules.specs.Entering.{Key, entered_of, key_of, most_of}
 use Rattle.line_rules.specs.Faults.{IsFewer, IsDeclaredIn, IsFew, IsFit, IsFirst, Keep}
 use Rattle.line_rules.specs.Known.{HasRow, IsDeclared, Known, entered, is_of, keys_of, known_at, rows_of}
 use Rattle.line_rules.specs.Reading.{AreFitLines, IsAllRead}
-use Rattle.line_rules.specs.declared.entering.Entering.TheVariants.{Word as ByWord}
 use Rattle.line_rules.specs.declared.purpose.Purpose.{Purpose}
 use Rattle.line_rules.specs.declared.rule.Rule.TheVariants as rule
 use Rattle.line_rules.proofs.FitLines.{known_after, names_after}
 use Rattle.line_rules.proofs.Fits.{fit_first}
-use Rattle.plan_text.specs.Names.{names_of, nth_word, rows_in}
+use Rattle.plan_text.specs.Names.{rows_in}
 use Rattle.plan_text.specs.Tidy.{AreTidy, IsTidyRow}
-use Rattle.plan_text.proofs.Named.{key_by_word, keyword_of}
+use Rattle.line_rules.proofs.OfKeyword.{keyword_of}
 
 -- ---- what is declared stays declared
 
@@ -140,18 +137,3 @@ tidy-rows purpose ls ss fits = grind (arith, tidy, known_after, kept-after, tidy
 
 pub tidy-read : (purpose : Purpose) (text : List ℕ) (k : Known) → IsAllRead purpose text k → AreTidy k.rows
 tidy-read purpose text k read = grind (arith, tidy-rows)
-
--- no two rows of a keyword that is entered by its name have one name
-pub names_differ : (k : Keyword) → entering_of k ≡ ByWord → (rows : List Statement)
-    → AllPairs (λ a b. a ≢ b) (keys_of rows) → AllPairs (λ a b. a ≢ b) (names_of k rows)
-names_differ k by rows differ =
-    let Apart : Statement → Statement → Type 0 = λ a b. key_of a ≢ key_of b in
-    let apart = AllPairs-filter Apart (is_of k) rows (AllPairs-unmap (λ a b. a ≢ b) key_of rows differ) in
-    AllPairs-map (λ (a b : Word). a ≢ b) (nth_word 0) (rows_of k rows)
-    (λ i j d lt inside same.
-    let a : Statement = get_or (rows_of k rows) i d in
-    let b : Statement = get_or (rows_of k rows) j d in
-    apart i j d lt inside
-    (key_by_word k by a (keyword_of k a (filter_passes (is_of k) rows i d (omega arith)))
-    ∙ ap (λ w. (k, w, [])) same
-    ∙ sym (key_by_word k by b (keyword_of k b (filter_passes (is_of k) rows j d inside)))))

@@ -1,5 +1,5 @@
 -- What the rows of a text without a fault come to, line by line of each keyword.
-use Rattle.std.proofs.Common.{ℕ, List, [], ◌∷◌, ◌≡◌, ◌≤◌, arith, get_or, length, refl, subst, suc, sym}
+use Rattle.std.proofs.Common.{ℕ, List, [], ◌∷◌, ◌≡◌, ◌≤◌, ◌<◌, arith, get_or, length, refl, subst, suc, sym}
 use Rattle.std.specs.List.{All}
 use Rattle.std.proofs.lemmas.List.{get_or_default, length-map}
 use Rattle.std.proofs.lemmas.List.Elements.{All-filter, filter_passes}
@@ -7,11 +7,12 @@ use Rattle.text_lines.specs.Texts.{Word}
 use Rattle.line_shapes.specs.Lines.{Statement}
 use Rattle.line_shapes.specs.declared.keyword.Keyword.{Keyword}
 use Rattle.line_shapes.specs.declared.keyword.Keyword.TheVariants.{Rack, Worker, Split, Barred, Start, Price}
-use Rattle.line_rules.specs.Known.{HasRow, is_of, rows_of}
+use Rattle.line_rules.specs.Known.{HasRow, is_of, nth_row, rows_of}
 use Rattle.plan_text.specs.Names.{names_of}
 use Rattle.plan_text.specs.Tidy.{AreTidy, IsTidyBar, IsTidyPrice, IsTidyRow, IsTidySplit, IsTidyStart}
 use Rattle.plan_text.specs.Tidy.{IsTidyWorker}
-use Rattle.plan_text.proofs.Named.{keyword_of, row_named}
+use Rattle.line_rules.proofs.OfKeyword.{keyword_of}
+use Rattle.plan_text.proofs.Named.{row_named}
 
 -- the line of this keyword and these words
 abbrev pub line : Keyword → List Word → Statement
@@ -86,6 +87,26 @@ module _ (rows : List Statement) (tidy : AreTidy rows) where
 
   pub tidy_prices : All IsTidyPrice (rows_of Price rows)
   tidy_prices = each_of_keyword Price IsTidyPrice rows tidy (tidy_price rows)
+
+  -- of the row with a number
+  pub worker_at : (n : ℕ) → n < length (rows_of Worker rows)
+      → IsTidyWorker (names_of Rack rows) (nth_row Worker n rows)
+  worker_at n lt = tidy_workers n (line Worker []) lt
+
+  pub split_at : (n : ℕ) → n < length (rows_of Split rows)
+      → IsTidySplit (names_of Worker rows) (nth_row Split n rows)
+  split_at n lt = tidy_splits n (line Split []) lt
+
+  pub bar_at : (n : ℕ) → n < length (rows_of Barred rows)
+      → IsTidyBar (names_of Split rows) (names_of Worker rows) (nth_row Barred n rows)
+  bar_at n lt = tidy_bars n (line Barred []) lt
+
+  pub start_at : (n : ℕ) → n < length (rows_of Start rows)
+      → IsTidyStart (names_of Worker rows) (nth_row Start n rows)
+  start_at n lt = tidy_starts n (line Start []) lt
+
+  pub price_at : (n : ℕ) → n < length (rows_of Price rows) → IsTidyPrice (nth_row Price n rows)
+  price_at n lt = tidy_prices n (line Price []) lt
 
   pub few_names : (k : Keyword) (n : ℕ) → length (rows_of k rows) ≤ n → length (names_of k rows) ≤ n
   few_names k n few = rw length-map few

@@ -2,10 +2,9 @@
 use Rattle.std.specs.Prelude.{ℕ, List, [], map, slice_index_or}
 use Rattle.std.specs.List.{flat_map}
 use Rattle.text_lines.specs.Texts.{Word}
-use Rattle.line_shapes.specs.Lines.{Statement, statement_of}
+use Rattle.line_shapes.specs.Lines.{Statement}
 use Rattle.line_shapes.specs.declared.keyword.Keyword.{Keyword}
 use Rattle.line_shapes.specs.declared.keyword.Keyword.TheVariants.{Worker, Split}
-use Rattle.line_shapes.specs.declared.line.KeyedLine.{KeyedLine}
 use Rattle.line_rules.specs.Entering.{entered_of}
 use Rattle.line_rules.specs.Known.{rows_of}
 
@@ -30,7 +29,3 @@ splits ss = names_of Split (rows_in ss)
 
 abbrev pub workers : List Statement → List Word
 workers ss = names_of Worker (rows_in ss)
-
--- a row of the code as a line
-abbrev pub said_in : KeyedLine → Statement
-said_in r = statement_of r

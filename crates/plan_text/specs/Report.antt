@@ -36,9 +36,6 @@ refused_line splits workers (Spare w) = refused_at 8 (name_of workers w)
 
 -- ---- a plan
 
-abbrev pub wave_line : ℕ → ℕ → List ℕ
-wave_line count cost = codes "wave " ++ decimal count ++ codes " " ++ decimal cost ++ 10 ∷ []
-
 -- the line of a split that starts on a worker, and none of one that does not start
 abbrev pub start_line : List Word → Word → Option ℕ → List ℕ
 start_line workers split (Some w) = codes "start " ++ split ++ codes " " ++ name_of workers w ++ 10 ∷ []

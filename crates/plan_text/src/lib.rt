@@ -1,18 +1,20 @@
-//! Texts of problems and plans: read whole, line by line, and answered in lines.
+//! Texts of problems and plans, and the lines that answer them.
 //!
-//! `read_plan` gives the problem, plan and prices that the lines of a text declare, `read_problem` the
-//! problem of a text to plan from, and each a text's least fault: the first faulty line, and in it the
-//! lowest number. `specs/Value.antt` says what lines declare. `check_report` writes the answers of a check,
-//! `plan_report` the lines of a plan and its prices. Below stand the rows of `line_rules` and the types of
-//! `wave_problem` and `price_certificate`.
+//! `read_plan` reads the problem, the plan and the prices that a text declares, and `read_problem` the
+//! problem of a text to plan from. Of a text with faults each answers the least: the first faulty line, and
+//! the lowest number of its faults. `specs/Value.antt` says what the lines declare. `TidyRows` are the rows
+//! of a text without a fault, from which `built` makes the values; `script_text` makes a cluster of them
+//! too. `check_report` writes the answers of a check, and `plan_report` the lines of a plan and its prices.
+//! The crate stands on the rows of `line_rules` and on the types of `wave_problem` and `price_certificate`.
 #![tactic(auto)]
 
 pub mod built;
 pub mod check_report;
 pub mod plan_report;
 pub mod reader;
-pub mod row_lists;
+pub mod tidy_rows;
 
 pub use built::{PlanText, ProblemText};
 pub use line_rules::ReadingError;
 pub use reader::{read_plan, read_problem};
+pub use tidy_rows::TidyRows;

@@ -2,7 +2,7 @@ ghost use Rattle.std.specs.Prelude.{◌≡◌, ◌≤◌, ◌<◌, ◌++◌, IfO
 ghost use Rattle.wave_problem.specs.declared.TheConstants.{MAX_SPLITS};
 ghost use Rattle.rack_tree.specs.declared.TheConstants.{MAX_WORKERS};
 ghost use Rattle.plan_text.specs.Report.{price_line, price_lines, price_lines_of, start_line, start_lines};
-ghost use Rattle.plan_text.specs.Report.{wave_line};
+ghost use Rattle.text_lines.specs.WaveLine.{wave_line};
 
 use node_ids::{SplitNo, WorkerNo};
 use price_certificate::Prices;

@@ -1,4 +1,5 @@
 pub mod Bounds
+pub mod Counting
 pub mod Fits
 pub mod Gathering
 pub mod Growing
@@ -7,3 +8,4 @@ pub mod OfHead
 pub mod Read
 pub mod Ready
 pub mod Sharing
+pub mod OneLine

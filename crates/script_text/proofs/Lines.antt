@@ -1,17 +1,15 @@
 -- What the rows of a text without a fault come to, for documents and settings.
 use Rattle.std.proofs.Common.{ℕ, List, [], ◌∷◌, ◌≡◌, ◌≤◌, ◌<◌, ◌∙◌, Some, ap, arith, get_or, length, map}
 use Rattle.std.proofs.Common.{refl, subst, sym}
-use Rattle.std.specs.List.{All, Contains, slice_get}
+use Rattle.std.specs.List.{All, Contains}
 use Rattle.text_lines.specs.Texts.{Word}
 use Rattle.line_shapes.specs.Demands.{IsNumberWithin}
 use Rattle.line_shapes.specs.Lines.{Statement}
 use Rattle.line_shapes.specs.declared.keyword.Keyword.TheVariants.{Doc, Parts, Silence, Split, Target}
 use Rattle.line_rules.specs.Known.{rows_of}
-use Rattle.line_shapes.specs.declared.line.KeyedLine.{KeyedLine}
-use Rattle.plan_text.specs.Names.{names_of, said_in, nth_word}
-use Rattle.plan_text.specs.Tidy.{AreTidy, IsAtMost, IsTidyRow}
+use Rattle.plan_text.specs.Names.{names_of, nth_word}
+use Rattle.plan_text.specs.Tidy.{AreTidy, IsTidyRow}
 use Rattle.plan_text.proofs.Named.{row_named}
-use Rattle.plan_text.proofs.Parts.{All-unmap, no_row}
 use Rattle.plan_text.proofs.Words.{each_of_keyword, line}
 use Rattle.script_text.specs.Settings.{IsSetting, number_or}
 
@@ -58,23 +56,3 @@ told_within least most n [] within low high = (low, high)
 told_within least most n (s ∷ ss) within low high =
     let here = within 0 s (omega arith) in
     (here.1, here.2)
-
--- the first of these rows, as the line that it is
-module _ (rows : List KeyedLine) (lines : List Statement) (row : KeyedLine) (same : map said_in rows ≡ lines)
-    (first : Some row ≡ slice_get rows 0) where
-  pub first_is_setting : All IsSetting lines → IsSetting (said_in row)
-  first_is_setting settings = by rows same first
-    where
-      by : (rs : List KeyedLine) → map said_in rs ≡ lines → Some row ≡ slice_get rs 0
-          → IsSetting (said_in row)
-      by [] is found = absurd cc
-      by (r ∷ rs) is found =
-          let here : r ≡ row = cc in
-          let some : 0 < length lines = omega (arith, ap length is) in
-          subst IsSetting (ap (λ l. get_or l 0 (said_in r)) (sym is) ∙ ap said_in here)
-          (settings 0 (said_in r) some)
-
--- the slots that the row of a worker tells
-pub slots_at : (rows : List KeyedLine) → All (λ s. IsAtMost (nth_word 2 s) 16) (map said_in rows) → (i : ℕ)
-    → i < length rows → IsAtMost (nth_word 2 (said_in (get_or rows i no_row))) 16
-slots_at rows slots i lt = All-unmap (λ s. IsAtMost (nth_word 2 s) 16) said_in rows slots i no_row lt

@@ -28,7 +28,7 @@ below : (names : List Word) (name : Word) (n : ℕ) → IsNumbered names name n 
 below names name n is = (position-Some (λ m. bytes_eq name m) names n name is).0
 
 -- the command that a line says is known
-is_known : (names : Names) (s : Statement) (c : Command) → IsShort 256 s → SaysCommand names s c
+pub is_known : (names : Names) (s : Statement) (c : Command) → IsShort 256 s → SaysCommand names s c
     → IsKnownIn (length names.workers) (length names.splits) c
 is_known names s (command.Backup split worker) short says =
     (below names.splits _ split says.1.0, below names.workers _ worker says.1.1)

@@ -56,7 +56,7 @@ module _ (rows : List Statement) (ws : List Word) where
 
 -- ---- commands
 
-has_words : (rows : List Statement) (k : Keyword) (ws : List Word) → entering_of k ≡ InTurn
+pub has_words : (rows : List Statement) (k : Keyword) (ws : List Word) → entering_of k ≡ InTurn
     → IsTidyRow rows (line k ws) → HasWords (told_names rows) k ws
 has_words rows keyword.Wave ws is row = tt
 has_words rows keyword.Done ws is row = has_attempt ws row.whole row.in_range

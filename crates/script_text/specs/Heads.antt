@@ -1,5 +1,5 @@
 -- What the head of a script or a job makes, and what is asked of it.
-use Rattle.std.specs.Prelude.{ℕ, ◌≡◌, ◌≤◌, List, All, length, map}
+use Rattle.std.specs.Prelude.{ℕ, ◌≡◌, ◌≤◌, List, All, length, map, sum_by}
 use Rattle.std.specs.List.{range_with_len}
 use Rattle.text_lines.specs.Texts.{number_of}
 use Rattle.line_shapes.specs.Lines.{Statement}
@@ -37,6 +37,7 @@ pub record IsFitHead (head : Head) : Type 0 where
   pub few_slots : All (λ n. n ≤ MAX_SLOTS) head.slots.items
   pub small_splits : AreSmallSplits head.splits.items
   pub held_well : AreHeldWell (length head.slots.items) head.splits.items
+  pub few_documents : sum_by (λ text. length text.documents) (values_of head.texts.items) ≤ 65536
   pub some_parts : 1 ≤ head.parts
   pub few_parts : head.parts ≤ 64
   pub some_silence : 1 ≤ head.silence

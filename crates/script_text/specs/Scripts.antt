@@ -4,6 +4,8 @@ use Rattle.line_shapes.specs.declared.keyword.Keyword.TheVariants as keyword
 use Rattle.line_rules.specs.Known.{Known}
 use Rattle.line_rules.specs.Reading.{IsAllRead}
 use Rattle.line_rules.specs.declared.purpose.Purpose.{Purpose}
+use Rattle.line_rules.specs.declared.purpose.Purpose.TheVariants.{Playing}
+use Rattle.line_rules.specs.declared.section.Section.TheVariants.{Body}
 use Rattle.script_text.specs.Heads.{MakesHead}
 use Rattle.script_text.specs.Settings.{setting}
 use Rattle.script_text.specs.declared.heads.Head.{Head}
@@ -37,3 +39,12 @@ pub record IsScriptOf (purpose : Purpose) (text : List ℕ) (value : ScriptText)
   pub read : IsAllRead purpose text known
   pub declares : Declares known value.script
   pub head : MakesHead known.rows value.head
+
+-- The text has no fault as a script. This is what it declares, and what is known where more commands may
+-- follow.
+pub record IsOpening (text : List ℕ) (value : ScriptText) (k : Known) : Type 0 where
+  pub ended : Known
+  pub read : IsAllRead Playing text ended
+  pub declares : Declares ended value.script
+  pub head : MakesHead ended.rows value.head
+  pub reopened : k ≡ record ended { section = Body }

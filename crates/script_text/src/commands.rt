@@ -11,7 +11,7 @@ use line_shapes::{KeyedLine, Keyword};
 use node_ids::{SplitNo, WorkerNo};
 use std::alloc::{AllocError, Global};
 
-/// The commands that the lines say, by numbers.
+/// The commands that the lines say, with numbers in place of names.
 pub fn commands_of(
     alloc: Global,
     names: &Names<'_>,
@@ -47,8 +47,8 @@ fn command_at(
     }
 }
 
-// The command that a line says.
-fn command_of(
+/// The command that a line says.
+pub fn command_of(
     alloc: Global,
     names: &Names<'_>,
     line: &KeyedLine<'_, '_>,
@@ -88,7 +88,7 @@ fn command_of(
     }
 }
 
-// The split and the worker that stand first.
+// The split and the worker that the first two words name.
 fn pair_of(names: &Names<'_>, words: &[&str]) -> (SplitNo, WorkerNo)
     requires few { AreFew names.now }
     requires pair { HavePair names.now (map (λ w. w.now) words.now) }

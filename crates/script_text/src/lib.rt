@@ -1,10 +1,11 @@
 //! What a script or a job declares: its head, the names in it, and a script's commands by number.
 //!
-//! `read_script` and `read_job` take the lines of a text, by the rules of `line_rules`, and make of them the
-//! head and the script that they declare (`specs/Scripts.antt`), or answer the text's least fault; a job is a
-//! script without commands. The head is all that a cluster is made of (`specs/Heads.antt`), and keeps to all
-//! that is asked of one. Names stand in tables by number, as the text declared them. It stands on the rows,
-//! the tree and the splits of `plan_text`; above it a script is played, and a job run.
+//! `read_script` and `read_job` read a text by the rules of `line_rules`. They make the head and the script
+//! that its lines declare (`specs/Scripts.antt`), or answer the text's least fault. A job is a script without
+//! commands. The head has all that a cluster is made of, and meets all that a cluster asks
+//! (`specs/Heads.antt`). `read_opening` keeps also what is known after `begin`, so that `command_of` can read
+//! lines one by one. Names are numbered in the order in which the text declares them. The crate stands on
+//! the tidy rows of `plan_text`; `job_run` plays the script or runs the job.
 #![tactic(auto)]
 
 mod commands;
@@ -12,10 +13,10 @@ mod documents;
 mod heads;
 mod naming;
 mod numbers;
-mod reading;
 mod script;
-mod settings;
+mod script_reader;
 
+pub use commands::command_of;
 pub use heads::Head;
-pub use reading::{read_job, read_script};
 pub use script::{Command, Names, Script, ScriptText};
+pub use script_reader::{read_job, read_opening, read_script};

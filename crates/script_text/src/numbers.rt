@@ -3,9 +3,8 @@ ghost use Rattle.script_text.specs.Commands.{AreNumbered, AreTold, IsNumbered, I
 ghost use Rattle.script_text.specs.Ready.{HasName, HasNumber, HaveNames, HaveNumbers};
 
 use node_ids::{AttemptNo, SplitNo, WorkerNo};
-use plan_text::row_lists::number;
 use std::alloc::{AllocError, Global};
-use text_lines::NameTable;
+use text_lines::{NameTable, value_in};
 
 // The word at a place.
 fn word_in<'t>(words: &[&'t str], place: usize) -> &'t str
@@ -50,7 +49,10 @@ fn number_at(words: &[&str], place: usize) -> u64
     requires { HasNumber 1099511627776 (map (λ w. w.now) words.now) place }
     ensures { IsAmount (word_at (map (λ w. w.now) words.now) place) result }
 {
-    number(word_in(words, place))
+    match value_in(word_in(words, place)) {
+        Some(value) => value,
+        None => unreachable!(),
+    }
 }
 
 /// The attempt whose number stands at a place.

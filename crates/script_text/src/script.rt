@@ -33,8 +33,8 @@ pub struct Names<'t> {
     pub documents: NameTable<'t>,
 }
 
-/// What is played on a new master: the commands, the names of what they speak of, and how many replicas of
-/// a split copies are ordered for.
+/// What is played on a new master: the commands, the names of workers, splits and documents, and the number
+/// of replicas that each split is to have.
 #[derive(Drop)]
 pub struct Script<'t> {
     pub names: Names<'t>,
@@ -42,8 +42,8 @@ pub struct Script<'t> {
     pub commands: Vec<Command>,
 }
 
-/// What a script or a job declares: what the new master's cluster is made of, and what is played on it. A job
-/// has no commands.
+/// What a script or a job declares: the cluster of a new master, and what is played on it. A job has no
+/// commands.
 #[derive(Drop)]
 pub struct ScriptText<'t> {
     pub head: Head,

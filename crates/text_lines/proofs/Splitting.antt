@@ -1,5 +1,5 @@
 -- Where a list is cut first, and the rest of its parts.
-use Rattle.std.proofs.Common.{ℕ, List, [], ◌∷◌, ◌≡◌, ◌+◌, ◌≤◌, ◌<◌, length, take, drop, Bool, true}
+use Rattle.std.proofs.Common.{ℕ, List, [], ◌∷◌, ◌≡◌, ◌+◌, ◌<◌, length, take, drop, Bool, true}
 use Rattle.std.proofs.Common.{false, not, ◌-◌, Some, None, refl, arith, cond, length-drop, suc, take_all}
 use Rattle.std.specs.List.{position, slice_split, position_or_len}
 use Rattle.std.specs.Prelude.{nat_lt}
@@ -18,9 +18,6 @@ unchosen false n e = refl
 pub first_at : (p : ℕ → Bool) (xs : List ℕ) (i : ℕ) → position p xs ≡ Some i
     → (position_or_len p xs < length xs) × (position_or_len p xs ≡ i)
 first_at p xs i e = let at = chosen _ _ _ e in (ltb-true _ _ at.0, at.1)
-
-pub first_none : (p : ℕ → Bool) (xs : List ℕ) → position p xs ≡ None → length xs ≤ position_or_len p xs
-first_none p xs e = ltb-false _ _ (unchosen _ _ e)
 
 -- at the first place that passes
 pub cut_some : (p : ℕ → Bool) (xs : List ℕ) (i : ℕ) → position p xs ≡ Some i

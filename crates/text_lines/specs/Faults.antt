@@ -1,6 +1,9 @@
--- The numbers by which faults are told. Of two faults of one line the lower is answered.
-use Rattle.std.specs.Prelude.{ℕ}
+-- The numbers by which faults are told, and the line that tells one. Of two faults of one line the lower is
+-- answered.
+use Rattle.std.specs.Prelude.{ℕ, List, [], ◌∷◌, ◌++◌, codes}
+use Rattle.std.specs.Fmt.{decimal}
 use Rattle.text_lines.specs.declared.fault.Fault.{Fault}
+use Rattle.text_lines.specs.declared.fault.TextFault.{TextFault}
 use Rattle.text_lines.specs.declared.fault.Fault.TheVariants.{Shape, Misnamed, Unknown, Repeated, OutOfRange}
 use Rattle.text_lines.specs.declared.fault.Fault.TheVariants.{PassesLimit, Misplaced, RepeatedHolder}
 use Rattle.text_lines.specs.declared.fault.Fault.TheVariants.{SecondEntry, NoPrice, TooLong, NoFeed}
@@ -21,3 +24,9 @@ number_of_fault TooLong = 11
 number_of_fault NoFeed = 12
 number_of_fault Unprintable = 13
 number_of_fault AfterEnd = 14
+
+-- the line that answers a text with this fault
+abbrev pub fault_line : TextFault → List ℕ
+fault_line fault =
+    codes "line " ++ decimal fault.line ++ codes ": fault " ++ decimal (number_of_fault fault.number)
+    ++ 10 ∷ []

@@ -1,3 +1,4 @@
 pub mod Texts
 pub mod Streams
 pub mod Faults
+pub mod WaveLine

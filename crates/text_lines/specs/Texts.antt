@@ -18,6 +18,11 @@ lines_of text = slice_split (λ b. b == 10) text
 abbrev pub words_of : Line → List Word
 words_of line = slice_split (λ b. b == 32) line
 
+-- the words of what is left of a line, none where nothing is
+abbrev pub words_left : Option (Bor (List ℕ)) → List Word
+words_left None = []
+words_left (Some rest) = words_of rest.now
+
 -- the line is cut at its first space, and nothing follows where it has none
 abbrev pub IsCutAtSpace : Line → Word → Option (Bor (List ℕ)) → Type 0
 IsCutAtSpace line word None = (length line ≤ position_or_len (λ b. b == 32) line) × (word ≡ line)

@@ -1,5 +1,7 @@
-ghost use Rattle.std.specs.Prelude.{◌≡◌};
-ghost use Rattle.text_lines.specs.Faults.{number_of_fault};
+ghost use Rattle.std.specs.Prelude.{◌≡◌, IfOk, string_bytes};
+ghost use Rattle.text_lines.specs.Faults.{fault_line as line_of, number_of_fault};
+
+use std::alloc::{AllocError, Global};
 
 /// What is wrong with a line of a text, or with the text as a whole.
 #[derive(Clone, Copy, Debug, PartialEq, Eq)]
@@ -49,4 +51,13 @@ impl Fault {
     {
         self as u8
     }
+}
+
+/// The line that answers a text with this fault.
+pub fn fault_line(alloc: Global, fault: TextFault) -> Result<String, AllocError>
+    ensures { IfOk result (λ line. string_bytes line ≡ line_of fault) }
+{
+    let line = fault.line;
+    let number = fault.number.number();
+    format!(in alloc; "line {line}: fault {number}\n")
 }

@@ -13,7 +13,7 @@ pub mod number;
 pub mod streams;
 pub mod tables;
 
-pub use fault::{Fault, TextFault};
+pub use fault::{Fault, TextFault, fault_line};
 pub use lines::{add_words, has_printable_lines, printable, printable_in, split_line, split_word};
 pub use names::is_name;
 pub use number::{Number, value_in};

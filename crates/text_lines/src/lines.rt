@@ -1,6 +1,6 @@
-ghost use Rattle.std.specs.Prelude.{◌≡◌, ◌∷◌, ◌++◌, [], ◌<◌, ◌↔◌, ◌==◌, IsTrue, MatchOption, OnOk, length};
-ghost use Rattle.std.specs.Prelude.{map, position, All};
-ghost use Rattle.text_lines.specs.Texts.{IsCutAtSpace, IsOfLine, IsPrintable, lines_of, words_of};
+ghost use Rattle.std.specs.Prelude.{◌≡◌, ◌∷◌, ◌++◌, [], ◌<◌, ◌≤◌, ◌↔◌, ◌==◌, IfOk, IsTrue, MatchOption};
+ghost use Rattle.std.specs.Prelude.{length, map, position, All};
+ghost use Rattle.text_lines.specs.Texts.{IsCutAtSpace, IsOfLine, IsPrintable, lines_of, words_left, words_of};
 
 use memchr::memchr;
 use std::alloc::AllocError;
@@ -119,19 +119,27 @@ fn first_space(line: &[u8]) -> Option<usize>
     None
 }
 
-/// Puts the words of a line behind those of a list. Between two spaces side by side stands an empty word,
-/// as it does before a space that stands first and after one that stands last; an empty line is one empty
-/// word.
-pub fn add_words<'t>(line: &'t str, words: &mut Vec<&'t str>) -> Result<(), AllocError>
-    ensures { OnOk result (map (λ w. w.now) words.new.items
-        ≡ map (λ w. w.now) words.old.items ++ words_of line.entry.now) }
+/// Puts the words of a line at the end of a list, until it has so many, and gives what is left of the
+/// line. Between two spaces side by side stands an empty word, as it does before a space that stands first
+/// and after one that stands last; an empty line is one empty word.
+pub fn add_words<'t>(
+    line: &'t str,
+    most: usize,
+    words: &mut Vec<&'t str>,
+) -> Result<Option<&'t str>, AllocError>
+    ensures all { IfOk result (λ left. map (λ w. w.now) words.old.items ++ words_of line.entry.now
+        ≡ map (λ w. w.now) words.new.items ++ words_left left) }
+    ensures full { IfOk result (λ left. MatchOption left (Unit {0}) (λ rest. most ≤ length words.new.items)) }
 {
     let mut rest = line;
     loop {
+        if words.len() >= most {
+            return Ok(Some(rest));
+        }
         let (word, after) = split_word(rest);
         words.push(word)?;
         let Some(after) = after else {
-            return Ok(());
+            return Ok(None);
         };
         rest = after;
     }

@@ -18,14 +18,15 @@ use Rattle.wave_planner.specs.Planned.{IsMadeOver}
 use Rattle.text_lines.specs.Texts.{Word}
 use Rattle.line_rules.specs.declared.purpose.Purpose.TheVariants.{Planning}
 use Rattle.plan_text.specs.Reading.{HasFitLines, IsProblemOf}
-use Rattle.plan_text.specs.Report.{certified_line, start_lines, wave_line}
+use Rattle.plan_text.specs.Report.{certified_line, start_lines}
+use Rattle.text_lines.specs.WaveLine.{wave_line}
 use Rattle.plan_text.specs.declared.built.ProblemText.{ProblemText}
 use Rattle.written_plan.specs.Joined.{IsWritable, ReadsBack}
 use Rattle.written_plan.proofs.ReadBack.{written_plan_reads_back}
 use Rattle.tools.specs.CheckAnswer.{AnswersRead, SaysCertified}
 use Rattle.tools.specs.PlanAnswer.{ChecksAgain, PlansProblem, PlansRead, SaysPlanned, asked_prices, plan_cost}
 use Rattle.tools.specs.PlanAnswer.{plan_count}
-use Rattle.tools.specs.declared.ending.CheckEnd.TheVariants.{Certified}
+use Rattle.tools.specs.declared.program_end.CheckEnd.TheVariants.{Certified}
 
 -- the line on a plan that is certified
 abbrev line_on : Claim → List ℕ

@@ -14,8 +14,8 @@ use Rattle.line_rules.specs.declared.purpose.Purpose.TheVariants.{Checking}
 use Rattle.plan_text.specs.Value.{DeclaresWave, prices, starts}
 use Rattle.plan_text.specs.Report.{certified_line, refused_line}
 use Rattle.line_rules.specs.Faulty.{IsFaulty}
-use Rattle.tools.specs.declared.ending.CheckEnd.{CheckEnd}
-use Rattle.tools.specs.declared.ending.CheckEnd.TheVariants.{Certified, Refused}
+use Rattle.tools.specs.declared.program_end.CheckEnd.{CheckEnd}
+use Rattle.tools.specs.declared.program_end.CheckEnd.TheVariants.{Certified, Refused}
 
 -- the prices certify the plan, which so is best in the problem; the line has its count and its cost
 pub record SaysCertified (c : Claim) (line : List ℕ) : Type 0 where

@@ -7,16 +7,16 @@ use Rattle.clap.specs.declared.error.kind.ErrorKind.{ErrorKind}
 use Rattle.clap.specs.declared.error.kind.ErrorKind.TheVariants.{DisplayHelp, DisplayVersion}
 use Rattle.command_line.specs.declared.asked.AskError.{AskError}
 use Rattle.command_line.specs.declared.asked.AskError.TheVariants as asked
-use Rattle.text_reading.specs.declared.tool_error.ToolError.{ToolError}
-use Rattle.text_reading.specs.declared.tool_error.ToolError.TheVariants.{HistoryFull, Memory, Read, Text}
-use Rattle.text_reading.specs.declared.tool_error.ToolError.TheVariants.{Write}
-use Rattle.tools.specs.declared.ending.CheckEnd.{CheckEnd}
-use Rattle.tools.specs.declared.ending.CheckEnd.TheVariants as check
-use Rattle.tools.specs.declared.ending.Ending.{Ending}
-use Rattle.tools.specs.declared.ending.Ending.TheVariants.{Failed, GateLimit, Left, Misused, NoThread}
-use Rattle.tools.specs.declared.ending.Ending.TheVariants.{Refused, Stuck, Torn, Well}
-use Rattle.tools.specs.declared.ending.Message.{Message}
-use Rattle.tools.specs.declared.ending.PlanEnd.{PlanEnd}
+use Rattle.command_runner.specs.declared.tool_error.ToolError.{ToolError}
+use Rattle.command_runner.specs.declared.tool_error.ToolError.TheVariants.{HistoryFull, Memory, Read, Text}
+use Rattle.command_runner.specs.declared.tool_error.ToolError.TheVariants.{Write}
+use Rattle.tools.specs.declared.program_end.CheckEnd.{CheckEnd}
+use Rattle.tools.specs.declared.program_end.CheckEnd.TheVariants as check
+use Rattle.tools.specs.declared.program_end.Ending.{Ending}
+use Rattle.tools.specs.declared.program_end.Ending.TheVariants.{Failed, GateLimit, Left, Misused, NoThread}
+use Rattle.tools.specs.declared.program_end.Ending.TheVariants.{Refused, Stuck, Torn, Well}
+use Rattle.tools.specs.declared.program_end.Message.{Message}
+use Rattle.tools.specs.declared.program_end.PlanEnd.{PlanEnd}
 
 abbrev pub ending_of_check : Result CheckEnd ToolError → Ending
 ending_of_check (Ok check.Certified) = Well

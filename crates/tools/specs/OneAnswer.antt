@@ -11,14 +11,14 @@ use Rattle.line_rules.specs.declared.purpose.Purpose.TheVariants.{Checking, Plan
 use Rattle.line_rules.proofs.OneReading.{reads-faultless, reads-unique}
 use Rattle.plan_text.specs.Report.{refused_line}
 use Rattle.plan_text.specs.Value.{DeclaresWave}
-use Rattle.text_reading.specs.Running.{HasOneAnswer, AnyLines}
+use Rattle.command_runner.specs.CommandRun.{HasOneAnswer, AnyLines}
 use Rattle.line_rules.proofs.OneFault.{one_fault}
 use Rattle.plan_text.proofs.OneWave.{same_bars, same_parts}
 use Rattle.tools.specs.CheckAnswer.{AnswersRead, CheckAnswer, Judges, declared_claim}
 use Rattle.tools.specs.PlanAnswer.{PlanAnswer}
-use Rattle.tools.specs.declared.ending.CheckEnd.{CheckEnd}
-use Rattle.tools.specs.declared.ending.CheckEnd.TheVariants.{Certified, Refused}
-use Rattle.tools.specs.declared.ending.PlanEnd.TheVariants.{Planned}
+use Rattle.tools.specs.declared.program_end.CheckEnd.{CheckEnd}
+use Rattle.tools.specs.declared.program_end.CheckEnd.TheVariants.{Certified, Refused}
+use Rattle.tools.specs.declared.program_end.PlanEnd.TheVariants.{Planned}
 
 -- claims that differ only in how the set of barred pairs is kept are judged alike
 one_judgement : (c : Claim) (ss ws : List Word) (p q : List ℕ) → HaveSamePairs p q

@@ -14,12 +14,13 @@ use Rattle.plan_text.specs.Names.{splits, workers}
 use Rattle.line_rules.specs.Texts.{ReadsAs, longest}
 use Rattle.line_rules.specs.declared.purpose.Purpose.TheVariants.{Planning}
 use Rattle.plan_text.specs.Value.{DeclaresWave}
-use Rattle.plan_text.specs.Report.{certified_line, lines_of_plan, price_lines, start_lines, wave_line}
+use Rattle.plan_text.specs.Report.{certified_line, lines_of_plan, price_lines, start_lines}
+use Rattle.text_lines.specs.WaveLine.{wave_line}
 use Rattle.written_plan.specs.Joined.{IsWritable, with_plan}
 use Rattle.line_rules.specs.Faulty.{IsFaulty}
 use Rattle.tools.specs.CheckAnswer.{CheckAnswer}
-use Rattle.tools.specs.declared.ending.CheckEnd.TheVariants.{Certified}
-use Rattle.tools.specs.declared.ending.PlanEnd.{PlanEnd}
+use Rattle.tools.specs.declared.program_end.CheckEnd.TheVariants.{Certified}
+use Rattle.tools.specs.declared.program_end.PlanEnd.{PlanEnd}
 
 -- how many splits a plan starts, and at what cost
 abbrev pub plan_count : Claim → ℕ

@@ -3,13 +3,14 @@ ghost use Rattle.std.specs.Thread.{IsSync};
 ghost use Rattle.wave_problem.specs.Assignment.{IsBest, pairs_of};
 ghost use Rattle.price_certificate.specs.Certificate.{HasOneSize, claim};
 ghost use Rattle.certificate_checker.specs.Verdict.{IsVerdict, MayComparePairs};
-ghost use Rattle.text_reading.specs.Running.{HasRun, NoText, WroteItsAnswer};
+ghost use Rattle.command_runner.specs.CommandRun.{HasRun, NoText, WroteItsAnswer};
 ghost use Rattle.tools.specs.CheckAnswer.{CheckAnswer, Judges};
 ghost use Rattle.tools.specs.OneAnswer.{one_check_answer};
-ghost use Rattle.tools.specs.declared.ending.CheckEnd.{CheckEnd};
+ghost use Rattle.tools.specs.declared.program_end.CheckEnd.{CheckEnd};
 
-use crate::ending::CheckEnd;
+use crate::program_end::CheckEnd;
 use certificate_checker::{Certified, CheckError, certify, certify_on};
+use command_runner::{Command, NoAnswer, ToolError, run_command};
 use line_rules::fault_answer;
 use plan_text::check_report::{certified, refused};
 use plan_text::{PlanText, read_plan};
@@ -18,7 +19,6 @@ use std::alloc::{AllocError, Global};
 use std::io::{Read, Write};
 use std::thread::Threads;
 use text_lines::TextFault;
-use text_reading::{Command, NoAnswer, ToolError, run_command};
 
 /// Reads a problem, a plan and prices, and writes whether the prices certify the plan, or the text's
 /// least fault. All of the line is made before its first byte is written.

@@ -1,10 +1,10 @@
 ghost use Rattle.tools.specs.Explanation.{HasExplained};
 
+use command_runner::ToolError;
 use explanations::{Entry, said};
 use std::alloc::Global;
 use std::io::Write;
 use text_lines::write_text;
-use text_reading::ToolError;
 
 /// Writes what this entry of the table of explanations says, or what each of them says. All lines are made
 /// before their first byte is written.

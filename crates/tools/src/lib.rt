@@ -2,16 +2,17 @@
 //!
 //! `check` reads a problem, a plan and prices, and writes whether the prices certify the plan; `check_on`
 //! writes the same by many threads; `plan` reads a problem and writes a best plan. Each is a `Command` of
-//! `text_reading`, run by its `run_command`; `specs/CheckAnswer.antt` and `specs/PlanAnswer.antt` say which
-//! lines answer a text. `explain` writes what numbers mean. `Ending` has the statuses and the words with which the program ends.
+//! `command_runner`, run by its `run_command`; `specs/CheckAnswer.antt` and `specs/PlanAnswer.antt` say
+//! which lines answer a text. `explain` writes what numbers mean. `Ending` has the statuses and the words
+//! with which the program ends.
 #![tactic(auto)]
 
 pub mod checking;
-pub mod ending;
 pub mod explaining;
 pub mod planning;
+pub mod program_end;
 
 pub use checking::{check, check_on};
-pub use ending::{CheckEnd, Ending, Message, PlanEnd};
 pub use explaining::explain;
 pub use planning::plan;
+pub use program_end::{CheckEnd, Ending, Message, PlanEnd};

@@ -1,16 +1,15 @@
 ghost use Rattle.std.specs.Prelude.{◌≡◌, ◌≢◌, ◌≤◌, ◌++◌, Err, IfOk, Ok, OnOk, length, string_bytes};
 ghost use Rattle.rack_tree.specs.declared.TheConstants.{MAX_WORKERS};
 ghost use Rattle.wave_problem.specs.declared.TheConstants.{MAX_SPLITS};
-ghost use Rattle.wave_problem.specs.Assignment.{IsBest, pairs_of, total};
-ghost use Rattle.price_certificate.specs.Certificate.{Certifies, HasOneSize, claim};
-ghost use Rattle.wave_planner.specs.Planned.{IsMadeOver};
-ghost use Rattle.text_reading.specs.Running.{HasRun, NoText, AnyLines};
-ghost use Rattle.plan_text.specs.Report.{start_lines, wave_line};
+ghost use Rattle.command_runner.specs.CommandRun.{HasRun, NoText, AnyLines};
+ghost use Rattle.plan_text.specs.Report.{start_lines};
+ghost use Rattle.text_lines.specs.WaveLine.{wave_line};
 ghost use Rattle.tools.specs.PlanAnswer.{PlanAnswer, PlansProblem, asked_prices};
 ghost use Rattle.tools.specs.OneAnswer.{one_plan_answer};
 
-use crate::ending::PlanEnd;
+use crate::program_end::PlanEnd;
 use command_line::asked::PlanOptions;
+use command_runner::{Command, NoAnswer, ToolError, run_command};
 use line_rules::fault_answer;
 use plan_text::plan_report::{add_prices, planned};
 use plan_text::{ProblemText, read_problem};
@@ -18,9 +17,7 @@ use price_certificate::Prices;
 use std::alloc::{AllocError, Global};
 use std::io::{Read, Write};
 use text_lines::TextFault;
-use text_reading::{Command, NoAnswer, ToolError, run_command};
-use wave_planner::{NetworkKind, PlanError, Planned, plan_with};
-use wave_problem::Problem;
+use wave_planner::{PlanError, Planned, plan_with};
 
 /// Reads a problem, and writes a best plan of its map starts, made over the network of the options, with
 /// prices if they ask for them, or the text's least fault. All lines are made before their first byte is
@@ -98,8 +95,10 @@ fn plan_lines(
 {
     // (a law: there are few workers, and no price is past what can be read back)
     read.problem.limits();
-    let best = best_plan(alloc, &read.problem, options.network)?;
-    lines_on(alloc, read, &best, options.prices)
+    match plan_with(alloc, &read.problem, options.network) {
+        Ok(best) => lines_on(alloc, read, &best, options.prices),
+        Err(PlanError::Memory) => Err(AllocError),
+    }
 }
 
 // The lines on this plan, with the prices if they are asked for.
@@ -150,22 +149,4 @@ fn add_asked(
         add_prices(lines, &read.splits, &read.workers, prices)?;
     }
     Ok(())
-}
-
-// A best plan of the problem, made over this network.
-fn best_plan(alloc: Global, problem: &Problem, network: NetworkKind) -> Result<Planned, AllocError>
-    ensures over { IfOk result (λ best.
-        IsMadeOver network problem.now best.plan.starts best.prices) }
-    ensures sizes { IfOk result (λ best.
-        HasOneSize (claim problem.now best.plan.starts best.prices) best.plan.workers) }
-    ensures certifies { IfOk result (λ best. Certifies (claim problem.now best.plan.starts best.prices)) }
-    ensures best { IfOk result (λ best. IsBest problem.now (pairs_of best.plan.starts)) }
-    ensures count { IfOk result (λ best. best.certified.count ≡ length (pairs_of best.plan.starts)) }
-    ensures cost { IfOk result (λ best.
-        best.certified.cost ≡ total problem.now (pairs_of best.plan.starts)) }
-{
-    match plan_with(alloc, problem, network) {
-        Ok(best) => Ok(best),
-        Err(PlanError::Memory) => Err(AllocError),
-    }
 }

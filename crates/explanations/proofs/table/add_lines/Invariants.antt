@@ -4,4 +4,5 @@ use Rattle.explanations.proofs.table.add_lines.Given as goal
 
 abbrev pub invariant-loop-entry : goal.invariant-loop-entry
 invariant-loop-entry l =
-    string_bytes l.lines ≡ string_bytes l.initial.lines ++ lines_of (map row_of (take l.entry-index l.entries))
+    string_bytes l.lines
+    ≡ string_bytes l.initial.lines ++ lines_of (map row_of (take l.entry-index l.entries))

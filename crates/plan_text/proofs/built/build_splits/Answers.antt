@@ -1,10 +1,13 @@
-use Rattle.plan_text.specs.Names.{said_in}
-use Rattle.plan_text.specs.Tidy.{IsTidySplit}
-use Rattle.plan_text.proofs.Parts.{All-unmap, no_row}
+use Rattle.std.proofs.Common.{◌<◌, arith, length}
+use Rattle.line_shapes.specs.declared.keyword.Keyword.TheVariants.{Split}
+use Rattle.line_rules.specs.Known.{rows_of}
+use Rattle.plan_text.proofs.Words.{split_at}
 use Rattle.plan_text.proofs.built.build_splits.Goals as goal
 
-pub split_line_of-requires-clause-known : goal.split_line_of-requires-clause-known
-split_line_of-requires-clause-known c =
-    All-unmap (IsTidySplit c.args.workers.now) said_in c.args.rows.now c.requires.known c.loop-row.row-index
-    no_row
-    c.loop-row-test.true
+pub amount-requires-clause-amount : goal.amount-requires-clause-amount
+amount-requires-clause-amount c =
+    let rows = c.args.rows.now in
+    let inside : c.loop-split.split < length (rows_of Split rows) =
+    omega (arith, c.loop-split-test.true, c.count-count.ensures.value) in
+    let bytes = (split_at rows c.count-count.ensures.tidy c.loop-split.split inside).bytes in
+    record { number = bytes.number; most = omega (arith, bytes.most) }

@@ -1,8 +1,12 @@
 use Rattle.std.proofs.Common.{◌≡◌, map, take}
-use Rattle.plan_text.specs.Names.{said_in}
+use Rattle.line_shapes.specs.declared.keyword.Keyword.TheVariants.{Busy, Split, Worker}
+use Rattle.line_rules.specs.Known.{rows_of}
+use Rattle.plan_text.specs.Names.{names_of}
 use Rattle.plan_text.specs.Value.{declared_split}
 use Rattle.plan_text.proofs.built.build_splits.Given as goal
 
-abbrev pub invariant-loop-row : goal.invariant-loop-row
-invariant-loop-row l =
-    l.lines.items ≡ map (declared_split l.workers l.busy) (map said_in (take l.row-index l.rows))
+abbrev pub invariant-loop-split : goal.invariant-loop-split
+invariant-loop-split l =
+    l.lines.items
+    ≡ map (declared_split (names_of Worker l.rows) (names_of Busy l.rows))
+    (take l.split (rows_of Split l.rows))

@@ -1,14 +1,15 @@
-use Rattle.std.proofs.Common.{subst, sym}
+use Rattle.std.proofs.Common.{◌<◌, arith, length, subst, sym}
+use Rattle.line_shapes.specs.declared.keyword.Keyword.TheVariants.{Rack, Worker}
+use Rattle.line_rules.specs.Known.{rows_of}
 use Rattle.std.specs.List.{Contains}
-use Rattle.plan_text.specs.Names.{said_in}
-use Rattle.plan_text.specs.Tidy.{IsTidyWorker}
-use Rattle.plan_text.proofs.Parts.{All-unmap, no_row}
+use Rattle.plan_text.specs.Names.{names_of}
+use Rattle.plan_text.proofs.Words.{worker_at}
 use Rattle.plan_text.proofs.built.racks_of_workers.Goals as goal
 
-pub rack_no-requires-clause-known : goal.rack_no-requires-clause-known
-rack_no-requires-clause-known c =
-    let racks = c.args.racks.now in
-    let tidy = All-unmap (IsTidyWorker racks) said_in c.args.rows.now c.requires.known c.loop-row.row-index
-    no_row
-    c.loop-row-test.true in
-    subst (Contains racks) (sym c.word.ensures) tidy.rack
+pub rack-requires : goal.rack-requires
+rack-requires c =
+    let rows = c.args.rows.now in
+    let inside : c.loop-worker.worker < length (rows_of Worker rows) =
+    omega (arith, c.loop-worker-test.true, c.count-count.ensures.value) in
+    subst (Contains (names_of Rack rows)) (sym c.word.ensures)
+    (worker_at rows c.count-count.ensures.tidy c.loop-worker.worker inside).rack

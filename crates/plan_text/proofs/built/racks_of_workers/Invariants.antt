@@ -1,10 +1,12 @@
 use Rattle.std.proofs.Common.{◌≡◌, ◌<◌, length, map, take}
 use Rattle.std.specs.List.{All}
-use Rattle.plan_text.specs.Names.{said_in}
+use Rattle.line_shapes.specs.declared.keyword.Keyword.TheVariants.{Rack, Worker}
+use Rattle.line_rules.specs.Known.{rows_of}
+use Rattle.plan_text.specs.Names.{names_of}
 use Rattle.plan_text.specs.Value.{rack_number}
 use Rattle.plan_text.proofs.built.racks_of_workers.Given as goal
 
-abbrev pub invariant-loop-row : goal.invariant-loop-row
-invariant-loop-row l =
-    (l.numbers.items ≡ map (rack_number l.racks) (map said_in (take l.row-index l.rows)))
-    × All (λ rack. rack < length l.racks) l.numbers.items
+abbrev pub invariant-loop-worker : goal.invariant-loop-worker
+invariant-loop-worker l =
+    (l.racks.items ≡ map (rack_number (names_of Rack l.rows)) (take l.worker (rows_of Worker l.rows)))
+    × All (λ rack. rack < length (names_of Rack l.rows)) l.racks.items

@@ -1,14 +1,16 @@
-use Rattle.std.proofs.lemmas.Result.{IfOk-weaker}
+use Rattle.std.proofs.Common.{subst, sym}
+use Rattle.std.specs.Prelude.{List}
+use Rattle.line_shapes.specs.Lines.{Statement}
 use Rattle.line_rules.specs.declared.purpose.Purpose.TheVariants.{Planning}
+use Rattle.plan_text.specs.Tidy.{AreTidy}
 use Rattle.plan_text.proofs.Read.{all_fit}
 use Rattle.plan_text.proofs.Tidy.{tidy-read}
 use Rattle.plan_text.proofs.reader.read_problem.Goals as goal
 
-pub problem_of-requires : goal.problem_of-requires
-problem_of-requires c = tidy-read Planning c.args.text.now c.in_ok-known.known c.in_ok-known.ensures.ok
+pub new-rows-requires : goal.new-rows-requires
+new-rows-requires c =
+    subst (λ (rows : List Statement). AreTidy rows) (sym c.rows.ensures)
+    (tidy-read Planning c.args.text.now c.in_ok-known.known c.in_ok-known.ensures.ok)
 
 pub returns-clause-fit : goal.returns-clause-fit
-returns-clause-fit c =
-    IfOk-weaker c.problem_of.result _ _
-    (λ _ _. all_fit Planning c.args.text.now c.in_ok-known.known c.in_ok-known.ensures.ok)
-    c.problem_of.ensures.ok
+returns-clause-fit c = all_fit Planning c.args.text.now c.in_ok-known.known c.in_ok-known.ensures.ok

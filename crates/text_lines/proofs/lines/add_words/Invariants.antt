@@ -5,11 +5,11 @@ use denote.Shadow.{shadow}
 use denote.Text.{Utf8}
 
 -- the words that were put, and those that are left, are all words
-abbrev pub invariant-loop-after : goal.invariant-loop-after
-invariant-loop-after l =
+abbrev pub invariant-loop-rest : goal.invariant-loop-rest
+invariant-loop-rest l =
     (map (λ w. w.now) l.words.items ++ words_of l.rest
     ≡ map (λ w. w.now) l.initial.words.items ++ words_of l.line)
     × shadow (Utf8 l.rest)
 
-abbrev pub decreases-loop-after : goal.decreases-loop-after
-decreases-loop-after l = length l.rest
+abbrev pub decreases-loop-rest : goal.decreases-loop-rest
+decreases-loop-rest l = length l.rest

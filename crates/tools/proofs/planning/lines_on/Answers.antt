@@ -1,5 +1,6 @@
 use Rattle.std.proofs.Common.{◌++◌, ◌∙◌}
-use Rattle.plan_text.specs.Report.{start_lines, wave_line}
+use Rattle.plan_text.specs.Report.{start_lines}
+use Rattle.text_lines.specs.WaveLine.{wave_line}
 use Rattle.tools.specs.PlanAnswer.{asked_prices}
 use Rattle.tools.proofs.planning.lines_on.Goals as goal
 

@@ -11,7 +11,7 @@ use Rattle.line_rules.proofs.known.KnownLines.fault_with.Goals as goal
 pub is_named-requires : goal.is_named-requires
 is_named-requires c fit =
     fit_named _ (statement_of c.args.line.now)
-    (subst (λ (k : Known). AreSound k.rows) c.self.view_is c.self.invariant.1) (c.requires.fit fit)
+    (subst (λ (k : Known). AreSound k.rows) c.self.view_is c.self.invariant) (c.requires.fit fit)
 
 pub returns-then-not-keeps : goal.returns-then-not-keeps
 returns-then-not-keeps c = grind (arith, least_unknown)

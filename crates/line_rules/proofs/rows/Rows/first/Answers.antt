@@ -4,16 +4,19 @@ use Rattle.line_shapes.specs.Lines.{Statement}
 use Rattle.line_rules.specs.Entering.{Key}
 use Rattle.line_rules.specs.Known.{keys_of}
 use Rattle.line_rules.proofs.Keyed.{found_none}
+use Rattle.line_rules.proofs.OfKeyword.{numbered_there}
 use Rattle.line_rules.proofs.rows.Rows.first.Goals as goal
 
 pub returns-in-Some : goal.returns-in-Some
 returns-in-Some c =
-    let key : Key = (c.in-Some.keyword.now, c.args.word.now, []) in
+    let of = c.in-Some.of.now in
+    let key : Key = (of.0, c.args.word.now, []) in
     subst (λ (rows : List Statement). Contains (keys_of rows) key) c.self.view_is
-    ((c.self.invariant.keys key).1 (inl (refl, sym c.in-Some.ensures.value)))
+    (numbered_there _ key of.1
+    ((c.self.invariant.1.keys key of.1).1 (inl (refl, sym c.in-Some.ensures.value))))
 
 pub returns-in-None : goal.returns-in-None
 returns-in-None c keyword there =
     let key : Key = (keyword, c.args.word.now, []) in
-    found_none _ _ _ c.self.invariant key refl (sym c.in-None.ensures.value)
+    found_none _ _ _ c.self.invariant.1 key refl (sym c.in-None.ensures.value)
     (subst (λ (rows : List Statement). Contains (keys_of rows) key) (sym c.self.view_is) there)

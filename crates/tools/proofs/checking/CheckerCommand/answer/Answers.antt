@@ -9,7 +9,7 @@ use Rattle.plan_text.specs.declared.built.PlanText.{PlanText}
 use Rattle.line_rules.specs.declared.purpose.Purpose.TheVariants.{Checking}
 use Rattle.line_rules.proofs.LeastFault.{tells_least}
 use Rattle.tools.specs.CheckAnswer.{AnswersRead, CheckAnswer, Judges}
-use Rattle.tools.specs.declared.ending.CheckEnd.{CheckEnd}
+use Rattle.tools.specs.declared.program_end.CheckEnd.{CheckEnd}
 use Rattle.tools.proofs.checking.CheckerCommand.answer.Goals as goal
 
 judges_read : (text : List ℕ) (v : PlanText) (end : CheckEnd) (line : List ℕ) → IsReadingOf text v

@@ -4,7 +4,7 @@ use Rattle.std.specs.declared.result.Result.{Result}
 use Rattle.text_lines.specs.declared.fault.TextFault.{TextFault}
 use Rattle.line_rules.specs.declared.purpose.Purpose.TheVariants.{Planning}
 use Rattle.tools.specs.PlanAnswer.{PlanAnswer}
-use Rattle.tools.specs.declared.ending.PlanEnd.{PlanEnd}
+use Rattle.tools.specs.declared.program_end.PlanEnd.{PlanEnd}
 use Rattle.tools.proofs.BestPlans.{plans_read}
 use Rattle.line_rules.proofs.LeastFault.{tells_least}
 use Rattle.tools.proofs.planning.PlannerCommand.answer.Goals as goal

@@ -1,0 +1,93 @@
+-- The faults of a line are the faults of the words after its keyword, and of a shorter list that stands for
+-- these words.
+use Rattle.std.proofs.Common.{List, ◌∷◌, ◌≡◌, refl, subst}
+use Rattle.text_lines.specs.Texts.{Line, Word}
+use Rattle.text_lines.specs.declared.fault.Fault.{Fault}
+use Rattle.text_lines.specs.declared.fault.Fault.TheVariants.{Shape, TooLong, NoFeed, Unprintable, AfterEnd}
+use Rattle.line_shapes.specs.Keywords.{spelling_of}
+use Rattle.line_shapes.specs.Lines.{IsShaped, Says, Statement, words_in}
+use Rattle.line_shapes.specs.declared.keyword.Keyword.{Keyword}
+use Rattle.line_shapes.proofs.OneStatement.{stated_as}
+use Rattle.line_rules.specs.Faults.{Fails, IsComplete, IsLeastOf}
+use Rattle.line_rules.specs.Known.{Known}
+use Rattle.line_rules.specs.Long.{StandsFor, WordsHave, said}
+use Rattle.line_rules.specs.Reading.{IsLeastError}
+use Rattle.line_rules.specs.Texts.{IsLegible, LineHas}
+use Rattle.line_rules.specs.declared.line_reader.LineError.{LineError}
+use Rattle.line_rules.specs.declared.line_reader.LineError.TheVariants as error
+use Rattle.line_rules.proofs.Saying.{says_same}
+
+-- ---- words that have the shape of their places
+
+fault_of_words : (k : Known) (word : Keyword) (ws : List Word) → IsShaped (said word ws) → (f : Fault)
+    → Fails k (said word ws) f → WordsHave k word ws f
+fault_of_words k word ws shaped Shape h = λ _ whole. h whole
+fault_of_words k word ws shaped f h = (shaped, h)
+
+fault_of_said : (k : Known) (word : Keyword) (ws : List Word) → IsShaped (said word ws) → (f : Fault)
+    → WordsHave k word ws f → Fails k (said word ws) f
+fault_of_said k word ws shaped Shape h = h shaped
+fault_of_said k word ws shaped f h = h.1
+
+pub least_of_words : (k : Known) (word : Keyword) (ws : List Word) (s : Statement) → s ≡ said word ws
+    → IsShaped s → (f : Fault) → IsLeastOf (Fails k s) f → IsLeastOf (WordsHave k word ws) f
+least_of_words k word ws s same shaped f h =
+    let own : IsShaped (said word ws) = subst IsShaped same shaped in
+    let least : IsLeastOf (Fails k (said word ws)) f = subst (λ t. IsLeastOf (Fails k t) f) same h in
+    record {
+      applies = fault_of_words k word ws own f least.applies;
+      least = λ g has. least.least g (fault_of_said k word ws own g has);
+    }
+
+pub error_of_words : (k : Known) (word : Keyword) (ws : List Word) (s : Statement) → s ≡ said word ws
+    → IsShaped s → (e : LineError) → IsLeastError (Fails k s) e → IsLeastError (WordsHave k word ws) e
+error_of_words k word ws s same shaped (error.Fault f) h = least_of_words k word ws s same shaped f h
+error_of_words k word ws s same shaped error.Memory h = tt
+
+-- ---- a line with these words after its keyword
+
+module _ (k : Known) (line : Line) (word : Keyword) (ws : List Word) (sound : IsLegible k line)
+    (cut : words_in word line ≡ spelling_of word ∷ ws) where
+  shaped_of : (s : Statement) → Says line s → IsShaped (said word ws)
+  shaped_of s says =
+      subst IsShaped (stated_as line word ws s cut says) (record { many = says.many; shape = says.shape })
+
+  line_has : (f : Fault) → WordsHave k word ws f → LineHas k line f
+  line_has Shape h = (
+    sound,
+    λ s says whole.
+        h (shaped_of s says) (subst (IsComplete k) (stated_as line word ws s cut says) whole),
+  )
+  line_has TooLong h = absurd (h.1.2 tt)
+  line_has NoFeed h = absurd (h.1.2 tt)
+  line_has Unprintable h = absurd (h.1.2 tt)
+  line_has AfterEnd h = absurd (h.1.2 tt)
+  line_has f h = (sound, (said word ws, says_same line word ws (said word ws) cut refl h.0, h.1))
+
+  words_have : (f : Fault) → LineHas k line f → WordsHave k word ws f
+  words_have Shape h = λ shaped whole. h.1 (said word ws) (says_same line word ws _ cut refl shaped) whole
+  words_have TooLong h = absurd h
+  words_have NoFeed h = absurd h
+  words_have Unprintable h = absurd (h sound.0)
+  words_have AfterEnd h = absurd (sound.1 h)
+  words_have f h =
+      (shaped_of h.1.0 h.1.1, subst (λ t. Fails k t f) (stated_as line word ws h.1.0 cut h.1.1) h.1.2)
+
+  least_of_all : (f : Fault) → IsLeastOf (WordsHave k word ws) f → IsLeastOf (LineHas k line) f
+  least_of_all f h = record {
+    applies = line_has f h.applies;
+    least = λ g has. h.least g (words_have g has);
+  }
+
+-- ---- fewer words that stand for these
+
+module _ (k : Known) (line : Line) (word : Keyword) (short long : List Word)
+    (cut : words_in word line ≡ spelling_of word ∷ long) (stands : StandsFor k word short long) where
+  pub least_of_line : IsLegible k line → (f : Fault) → IsLeastOf (WordsHave k word short) f
+      → IsLeastOf (LineHas k line) f
+  least_of_line sound f h = least_of_all k line word long sound cut f (stands.least f h)
+
+  pub error_of_line : IsLegible k line → (e : LineError) → IsLeastError (WordsHave k word short) e
+      → IsLeastError (LineHas k line) e
+  error_of_line sound (error.Fault f) h = least_of_line sound f h
+  error_of_line sound error.Memory h = tt

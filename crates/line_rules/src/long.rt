@@ -1,0 +1,126 @@
+ghost use Rattle.std.specs.Prelude.{◌≡◌, ◌↔◌, ◌≤◌, ◌<◌, ◌⊎◌, ℕ, Contains, IsTrue, OnOk, map};
+ghost use Rattle.text_lines.specs.Texts.{words_of};
+ghost use Rattle.line_shapes.specs.Lines.{words_after};
+ghost use Rattle.line_rules.specs.Entering.{follow_of as follows, most_more_of as most_words_of};
+ghost use Rattle.line_rules.specs.Faults.{IsDeclaredIn};
+ghost use Rattle.line_rules.specs.Long.{HasFirst, IsUsed, IsWorst, StandsFor, most_more as most_after};
+ghost use Rattle.line_rules.specs.Long.{most_words as most};
+
+use crate::entering::{Follow, follow_of, most_more_of};
+use crate::fit::is_fit;
+use crate::known::{KnownLines, centres_in};
+use crate::rows::Rows;
+use crate::rules::is_declared_in;
+use line_shapes::{Demand, Keyword, Place, cut_words, meets};
+use std::alloc::AllocError;
+use text_lines::split_word;
+
+// How much is asked of a word after the places of a line: the shape of its place, a name, a declared name.
+const ASKED: usize = 3;
+
+/// Puts the words after a keyword into a list, in place of what it has. Where there are more than lines of
+/// this keyword may have, one of those past them stands for all.
+pub fn cut_most<'t>(
+    known: &KnownLines<'_>,
+    keyword: Keyword,
+    rest: Option<&'t str>,
+    words: &mut Vec<&'t str>,
+) -> Result<(), AllocError>
+    ensures { OnOk result (StandsFor known.now keyword (map (λ w. w.now) words.new.items)
+        (words_after keyword rest.entry)) }
+{
+    let Some(left) = cut_words(keyword, rest, most_words(known, keyword), words)? else {
+        return Ok(());
+    };
+    // (No list has so many words.)
+    prove!(words.len() < usize::MAX);
+    words.push(worst_word(known.rows(), keyword.more(), left))?;
+    Ok(())
+}
+
+// How many words a line of this keyword may have after these lines, or the greatest number if that is more.
+// A line with more words has a fault, whatever the words are.
+fn most_words(known: &KnownLines<'_>, keyword: Keyword) -> usize
+    ensures { (result ≡ most known.now keyword) ⊎ (result ≡ 18446744073709551615) }
+{
+    keyword
+        .places()
+        .len()
+        .saturating_add(most_more(known, keyword))
+}
+
+fn most_more(known: &KnownLines<'_>, keyword: Keyword) -> usize
+    ensures { result ≡ most_after (follows keyword) (most_words_of keyword) known.now }
+{
+    match follow_of(keyword) {
+        Follow::Centre => centres_in(known.version()),
+        Follow::Counts => known.rows().count(Keyword::Worker),
+        Follow::Any => match most_more_of(keyword) {
+            Some(most) => most,
+            None => known.rows().count(Keyword::Split),
+        },
+    }
+}
+
+// One of the words that are left of a line. Where names may stand there, it lacks what any of them lacks
+// first: a line with more words than it may have is answered as if this word stood for all of them.
+fn worst_word<'t>(rows: &Rows<'_>, place: Option<Place>, left: &'t str) -> &'t str
+    ensures one { Contains (words_of left.entry.now) result.now }
+    ensures worst { IsUsed place → IsWorst rows.now place (words_of left.entry.now) result.now }
+{
+    match place {
+        Some(Place::Used(_)) => worst_in(rows, place, left),
+        None | Some(Place::New | Place::Number(_, _) | Place::Text) => split_word(left).0,
+    }
+}
+
+// The first of the words that have the least, by one pass.
+fn worst_in<'t>(rows: &Rows<'_>, place: Option<Place>, left: &'t str) -> &'t str
+    ensures one { Contains (words_of left.entry.now) result.now }
+    ensures worst { IsWorst rows.now place (words_of left.entry.now) result.now }
+{
+    let mut worst = left;
+    let mut least = ASKED + 1;
+    let mut rest = left;
+    loop {
+        let (word, after) = split_word(rest);
+        let has = has_first(rows, place, word, least);
+        if has < least {
+            worst = word;
+            least = has;
+        }
+        let Some(after) = after else {
+            return worst;
+        };
+        rest = after;
+    }
+}
+
+// How much the word has of what is asked of it, in turn, if that is less than `least`, and else as much as
+// that or more: a name is not looked up where this decides nothing.
+#[inline(always)]
+fn has_first(rows: &Rows<'_>, place: Option<Place>, word: &str, least: usize) -> usize
+    ensures within { result ≤ 3 }
+    ensures less { result < least
+        → (n : ℕ) → n ≤ 3 → (HasFirst n rows.now place word.now ↔ n ≤ result) }
+    ensures enough { least ≤ result
+        → (n : ℕ) → n ≤ 3 → n ≤ least → HasFirst n rows.now place word.now }
+{
+    if !meets(Demand::Shape, place, word) {
+        0
+    } else if !meets(Demand::Name, place, word) {
+        1
+    } else if least > 2 && !is_declared(rows, place, word) {
+        2
+    } else {
+        ASKED
+    }
+}
+
+// Whether a name that is used is declared. Most are, by the first line that was entered by them.
+#[inline(always)]
+fn is_declared(rows: &Rows<'_>, place: Option<Place>, word: &str) -> bool
+    ensures { IsTrue result ↔ IsDeclaredIn rows.now place word.now }
+{
+    is_fit(rows, place, word) || is_declared_in(rows, place, word)
+}

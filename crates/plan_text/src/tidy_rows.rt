@@ -1,0 +1,179 @@
+ghost use Rattle.std.specs.Prelude.{◌≡◌, ◌<◌, List, Contains, IfOk, length, map};
+ghost use Rattle.std.specs.List.{position};
+ghost use Rattle.std.specs.Str.{bytes_eq};
+ghost use Rattle.text_lines.specs.Texts.{number_of};
+ghost use Rattle.line_shapes.specs.Lines.{Statement, tail_words};
+ghost use Rattle.line_shapes.specs.declared.keyword.Keyword.TheVariants.{Rack, Split, Worker};
+ghost use Rattle.line_rules.specs.Entering.{entering_of as entering};
+ghost use Rattle.line_rules.specs.Known.{nth_row, rows_of};
+ghost use Rattle.line_rules.specs.declared.entering.Entering.TheVariants.{Word as ByWord};
+ghost use Rattle.plan_text.specs.Names.{names_of, nth_word};
+ghost use Rattle.plan_text.specs.Tidy.{AreTidy, IsAtMost};
+ghost use Rattle.plan_text.specs.Value.{number_in, stands_in};
+
+use line_rules::Rows;
+use line_shapes::Keyword;
+use node_ids::{RackNo, SplitNo, WorkerNo};
+use std::alloc::{AllocError, Global};
+use std::marker::Model;
+use text_lines::{NameTable, value_in};
+
+/// The rows of a text without a fault. The rows of each keyword are numbered from 0, and the name that a row
+/// declares has its row's number.
+#[derive(Drop)]
+pub struct TidyRows<'r, 't> {
+    rows: &'r Rows<'t>,
+}
+
+impl<'r, 't> Model for TidyRows<'r, 't> {
+    ghost Value = { List Statement };
+
+    ghost view = { λ t. t.rows.now };
+
+    ghost invariant = { λ t. AreTidy t.rows.now };
+}
+
+impl<'r, 't> TidyRows<'r, 't> {
+    /// These rows, which have no fault.
+    pub fn new(rows: &'r Rows<'t>) -> TidyRows<'r, 't>
+        requires { AreTidy rows.now }
+        ensures { result ≡ rows.now }
+    {
+        TidyRows { rows }
+    }
+
+    /// Does nothing. Its contract tells a proof that the rows are tidy.
+    pub fn are_tidy(&self)
+        ensures { AreTidy self.now }
+    {
+        let _rows = &self.rows;
+    }
+
+    /// How many rows of the keyword there are.
+    pub fn count(&self, keyword: Keyword) -> usize
+        ensures value { result ≡ length (rows_of keyword self.now) }
+        ensures tidy { AreTidy self.now }
+    {
+        self.rows.count(keyword)
+    }
+
+    /// The words after the keyword of a row.
+    pub fn words(&self, keyword: Keyword, number: usize) -> &'r [&'t str]
+        requires { number < length (rows_of keyword self.now) }
+        ensures { map (λ w. w.now) result.now ≡ (nth_row keyword number self.now).words }
+    {
+        match self.rows.row(keyword, number) {
+            Some(row) => row.words,
+            None => unreachable!(),
+        }
+    }
+
+    /// The word at a place after the keyword of a row, counted from 0; empty past the last.
+    pub fn word(&self, keyword: Keyword, number: usize, place: usize) -> &'t str
+        requires { number < length (rows_of keyword self.now) }
+        ensures { result.now ≡ nth_word place (nth_row keyword number self.now) }
+    {
+        match self.words(keyword, number).get(place) {
+            Some(word) => word,
+            None => "",
+        }
+    }
+
+    /// The holders of a split.
+    pub fn holders(&self, split: usize) -> &'r [&'t str]
+        requires { split < length (rows_of Split self.now) }
+        ensures { map (λ w. w.now) result.now ≡ tail_words (nth_row Split split self.now) }
+    {
+        self.are_tidy();
+        &self.words(Keyword::Split, split)[2..]
+    }
+
+    /// The number that the word at a place of a row stands for.
+    pub fn amount(&self, keyword: Keyword, number: usize, place: usize) -> u64
+        requires row { number < length (rows_of keyword self.now) }
+        requires amount { IsAtMost (nth_word place (nth_row keyword number self.now)) 18446744073709551615 }
+        ensures { result ≡ number_of (nth_word place (nth_row keyword number self.now)) }
+    {
+        match value_in(self.word(keyword, number, place)) {
+            Some(amount) => amount,
+            None => unreachable!(),
+        }
+    }
+
+    /// How many slots a worker has.
+    pub fn slots(&self, worker: usize) -> u8
+        requires { worker < length (rows_of Worker self.now) }
+        ensures { result ≡ number_of (nth_word 2 (nth_row Worker worker self.now)) }
+    {
+        self.are_tidy();
+        self.amount(Keyword::Worker, worker, 2) as u8
+    }
+
+    /// The number of the row of this keyword that is about the name.
+    pub fn number(&self, keyword: Keyword, name: &str) -> Option<usize>
+        requires { entering keyword ≡ ByWord }
+        ensures { result ≡ position (λ n. bytes_eq name.now n) (names_of keyword self.now) }
+    {
+        self.rows.number(keyword, name, "")
+    }
+
+    // The number of a name that a row of this keyword declares.
+    fn declared(&self, keyword: Keyword, name: &str) -> usize
+        requires by_word { entering keyword ≡ ByWord }
+        requires known { Contains (names_of keyword self.now) name.now }
+        ensures value { result ≡ number_in (names_of keyword self.now) name.now }
+        ensures within { result < length (names_of keyword self.now) }
+    {
+        self.number(keyword, name).unwrap_or(0)
+    }
+
+    /// Whether a row of this keyword is about the name.
+    pub fn has(&self, keyword: Keyword, name: &str) -> bool
+        requires { entering keyword ≡ ByWord }
+        ensures { result ≡ stands_in (names_of keyword self.now) name.now }
+    {
+        self.rows.has(keyword, name, "")
+    }
+
+    /// The number of a declared split.
+    pub fn split(&self, name: &str) -> SplitNo
+        requires { Contains (names_of Split self.now) name.now }
+        ensures value { result ≡ number_in (names_of Split self.now) name.now }
+        ensures within { result < length (names_of Split self.now) }
+    {
+        self.are_tidy();
+        SplitNo::new(self.declared(Keyword::Split, name) as u16)
+    }
+
+    /// The number of a declared worker.
+    pub fn worker(&self, name: &str) -> WorkerNo
+        requires { Contains (names_of Worker self.now) name.now }
+        ensures value { result ≡ number_in (names_of Worker self.now) name.now }
+        ensures within { result < length (names_of Worker self.now) }
+    {
+        self.are_tidy();
+        WorkerNo::new(self.declared(Keyword::Worker, name) as u16)
+    }
+
+    /// The number of a declared rack.
+    pub fn rack(&self, name: &str) -> RackNo
+        requires { Contains (names_of Rack self.now) name.now }
+        ensures value { result ≡ number_in (names_of Rack self.now) name.now }
+        ensures within { result < length (names_of Rack self.now) }
+    {
+        self.are_tidy();
+        RackNo::new(self.declared(Keyword::Rack, name) as u16)
+    }
+
+    /// The names that the rows of a keyword declare, numbered in their order.
+    pub fn names(&self, alloc: Global, keyword: Keyword) -> Result<NameTable<'t>, AllocError>
+        requires { entering keyword ≡ ByWord }
+        ensures { IfOk result (λ names. names ≡ names_of keyword self.now) }
+    {
+        let mut names = NameTable::new(alloc);
+        for number in 0..self.count(keyword) {
+            names.declare(self.word(keyword, number, 0))?;
+        }
+        Ok(names)
+    }
+}

@@ -1,3 +1,0 @@
-pub mod FaultLine
-pub mod Streams
-pub mod Running
