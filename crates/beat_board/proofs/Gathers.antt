@@ -4,8 +4,7 @@ use Rattle.std.proofs.Common.{get_or-set_other, ◌+◌, ◌<◌, List, [], ◌�
 use Rattle.std.proofs.Common.{sym, ◌∙◌, subst, arith}
 use Rattle.std.proofs.lemmas.List.{append-nil, get_or_append_left, length-set, ext_get_or}
 use Rattle.std.proofs.lemmas.List.Elements.{All-push}
-use Rattle.std.proofs.lemmas.List.Sums.{sum_by-append}
-use Rattle.std.specs.List.{sum_by, All}
+use Rattle.std.specs.List.{All}
 use mathlib.Core.Option.{some, some-injective, some-ne-none}
 use lib.ListN.{get_elem?}
 use Rattle.atomic_table.specs.Table.{Final, Seen}
@@ -17,12 +16,6 @@ use Rattle.beat_board.specs.Views.{reading, making}
 use Rattle.beat_board.specs.Rule.{Rule}
 use Rattle.beat_board.specs.Steps.{gathers}
 use Rattle.beat_board.proofs.Keeps.{Gathered, gathered}
-
--- what one seat more brings is what the others lack
-one_more : {A B : Type 0} (f : A → ℕ) (g : B → ℕ) (old new : List A) (a : A) (x : B) (ys zs : List B)
-    → new ≡ old ++ a ∷ [] → f a ≡ g x → zs ≡ ys ++ x ∷ []
-    → sum_by f new + sum_by g ys ≡ sum_by f old + sum_by g zs
-one_more f g old new a x ys zs e one at = grind (arith, sum_by-append)
 
 pub remade_looks : (v u : View) (looks xs : List Look) (ts : List Tally) (n m : ℕ)
     → v ≡ gathers u (reading looks)

@@ -442,10 +442,6 @@ pub gathered : (words : List ℕ) (views : List View) (ts : List Tally) (xs : Li
     → get_elem? views 0 ≡ some (making ts xs next made) → Gathered words ts xs made
 gathered words views ts xs next made h at = grind (arith, term_within, sum_alone, no_worth, no_told)
 
-pub begins : (ws : List ℕ) → length ws ≡ 256 → ((k : ℕ) → k < 256 → slice_index ws k ≡ 0)
-    → AreCounted ws (making [] [] 0 0 ∷ [])
-begins ws len zeros = grind arith
-
 -- what the one seat of a view was told
 pub told_head : (n : ℕ) (v : View) (w m : ℕ) (told : List ℕ) → v ≡ seated w m told
     → All (λ t. All (λ k. k ≤ n) t.told) v.tallies → All (λ k. k < n + 1) told

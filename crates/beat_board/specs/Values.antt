@@ -9,20 +9,20 @@ pub record BoardValue : Type 0 where
   pub board : TableId
   pub workers : ℕ
 
--- of which board it is, and how many seats and readers it has made
+-- a maker: its board, and how many seats and readers it has made
 pub record MakerValue : Type 0 where
   pub board : TableId
   pub seats : ℕ
   pub readers : ℕ
 
--- of which board it is, whose beats it makes, how many it made, and what they were answered, the latest first
+-- a seat: its board, its worker, how many beats it made, and what they were answered, the latest first
 pub record SeatValue : Type 0 where
   pub board : TableId
   pub worker : ℕ
   pub beats : ℕ
   pub told : List ℕ
 
--- of which board it is, and what it saw or was told of, the latest first
+-- a reader: its board, and what it saw or was told of, the latest first
 pub record ReaderValue : Type 0 where
   pub board : TableId
   pub looks : List Look
@@ -53,6 +53,7 @@ down_from (suc n) = suc n ∷ down_from n
 abbrev pub told_by : ℕ → (ℕ → ℕ) → List SeatValue → ℕ
 told_by w weight seats = sum_by (λ s. if s.worker == w then sum_by weight s.told else 0) seats
 
--- the seats of a worker were told the numbers from 1 to n, each once: so it is however one weighs numbers
+-- the seats of a worker were told the numbers from 1 to n, each once; this is said for every weighing of
+-- numbers
 abbrev pub AreToldOnce : ℕ → ℕ → List SeatValue → Type 0
 AreToldOnce w n seats = (weight : ℕ → ℕ) → told_by w weight seats ≡ sum_by weight (down_from n)

@@ -43,9 +43,6 @@ nowhere_is Wrong calls says = (λ e. absurd (cc e), λ e. absurd (says.0 e))
 wanted_in : (events place : ℕ) → 1 ≤ place → place ≤ events → wanted events place ≡ Once
 wanted_in events place low high = grind (arith, nat_tests)
 
-wanted_past : (events place : ℕ) → events < place → wanted events place ≡ Nowhere
-wanted_past events place past = grind (arith, nat_tests)
-
 -- the place is told exactly where what was found is wanted
 told_at : (log : LogValue) (calls : List Kept) (f : Found) (place : ℕ) →
     Describes f (at_place place calls) (call_at log place) →

@@ -45,7 +45,7 @@ abbrev pub starts_in : Event → ℕ
 starts_in (Wave first count cost) = count
 starts_in event = 0
 
--- those of all calls
+-- the counts of all calls
 abbrev pub all_counts : List Kept → ℕ
 all_counts calls = sum_by (λ call. length call.counts) calls
 

@@ -34,7 +34,7 @@ call_at log place =
     option_map_or (λ event. kept place event (counts_at log event) (starts_at log event) ∷ [])
     (event_at log.history place) []
 
--- those of a list of calls that stand at a place
+-- the calls of a list that stand at a place
 abbrev pub at_place : ℕ → List Kept → List Kept
 at_place place calls = filter (λ call. call.place == place) calls
 

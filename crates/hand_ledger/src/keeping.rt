@@ -52,7 +52,7 @@ impl<L: Ledger> Model for Hand<L> {
 }
 
 impl<L: Ledger> Hand<L> {
-    // A hand without a call, with all the room that it will have, for one part of those that are left.
+    // A hand without calls. It reserves all its room, and takes one part of the share that is left.
     pub(crate) fn new(
         alloc: Global,
         rest: &mut Share<L>,
@@ -201,7 +201,7 @@ impl<L: Ledger> Hand<L> {
     }
 }
 
-// Puts elements behind those of a list with room for them.
+// Appends elements to a list that has room for them.
 fn add_all<T: Copy>(list: &mut Vec<T>, more: &[T])
     requires { vec_len list.old + length more.now ≤ vec_capacity list.old }
     ensures items { list.new.items ≡ list.old.items ++ more.now }

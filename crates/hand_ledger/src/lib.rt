@@ -3,9 +3,9 @@
 //!
 //! A hand keeps each accepted call of its thread, with its place, and notes two kinds of answers. Its type
 //! keeps a share of a ledger that counts its calls, and `Hands` the book with the share of the hands that are
-//! still to come. Upward the layer promises that a hand changes by its definition alone, that no event is
-//! counted but one that a hand keeps, and names the lowest place at which a history and a list of hands
-//! disagree. It stands on the events and the answers of `master_state`.
+//! still to come. Upward the layer promises: a hand changes only as defined; every event that is counted is
+//! kept by some hand; `torn_place` names the lowest place at which a history and a list of hands disagree. It
+//! stands on the events and the answers of `master_state`.
 #![tactic(auto)]
 
 pub mod keeping;

@@ -87,8 +87,8 @@ impl<L: Ledger> Hands<L> {
         are_few_beside(&mut self.rest, hands);
     }
 
-    /// A law of the hands that exist at one time: they keep no more calls than all hands do, and just as many
-    /// where all that were made are there. Nothing changes.
+    /// A law of the hands that exist at one time: their calls are at most the calls recorded, and equal if
+    /// every hand made is present. Nothing changes.
     pub fn audit(&mut self, hands: &mut [Hand<L>])
         requires { L.parts ≡ 4096 }
         ensures bound { length (all_calls hands.old) ≤ self.old.total }
@@ -119,8 +119,8 @@ fn are_few_beside<L: Ledger>(rest: &mut Share<L>, hands: &mut [Hand<L>])
     rest.give(&mut hand.share, 1, calls);
 }
 
-// With the amount of a share that is no hand's, hands keep no more calls than the book counts, and just as
-// many where with its parts they have the whole ledger.
+// The calls of these hands and the amount of the share that belongs to no hand are together at most the
+// book's total. They are equal to it if hands and share have all parts of the ledger.
 fn audit_beside<L: Ledger>(book: &mut Book<L>, rest: &mut Share<L>, hands: &mut [Hand<L>])
     requires { 1 ≤ rest.old.parts }
     ensures bound { rest.old.amount + length (all_calls hands.old) ≤ book.old.total }

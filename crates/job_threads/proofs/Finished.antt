@@ -1,18 +1,17 @@
 -- When every part is done.
-use Rattle.std.proofs.Common.{◌≡◌, ℕ, ◌+◌, ◌≤◌, ◌<◌, ◌==◌, ◌∙◌, Bool, true, false, cond, List, [], ◌∷◌, not}
-use Rattle.std.proofs.Common.{ap, arith, length, refl, sym}
+use Rattle.std.proofs.Common.{◌≡◌, ℕ, ◌+◌, ◌≤◌, ◌==◌, Bool, true, false, cond, List, [], ◌∷◌, not}
+use Rattle.std.proofs.Common.{ap, arith, refl, sym}
 use Rattle.std.specs.Prelude.{count_by}
 use Rattle.std.specs.List.{list_all}
-use Rattle.std.proofs.lemmas.Bool.{false≢true, ne_eqb}
-use Rattle.std.proofs.lemmas.List.Folds.{list_all_at}
+use Rattle.std.proofs.lemmas.Bool.{ne_eqb}
 use Rattle.std.proofs.lemmas.List.Sums.{sum_by-cons}
 use Rattle.shuffle_reduce.specs.Merged.{PartView}
-use Rattle.shuffle_reduce.specs.Indexed.{HasDouble, HasMissing, count_of}
+use Rattle.shuffle_reduce.specs.Indexed.{HasDouble, count_of}
 use Rattle.master_state.specs.declared.states.PartState.{PartState}
 use Rattle.master_state.specs.declared.states.PartState.TheVariants as part
 use Rattle.master_state.specs.States.{Setup, State}
-use Rattle.master_state.specs.Tests.{all_parts_done, part_at, part_is_done}
-use Rattle.master_state.specs.Jobs.{AreResults, Job, IsKept}
+use Rattle.master_state.specs.Tests.{part_at, part_is_done}
+use Rattle.master_state.specs.Jobs.{AreResults}
 
 abbrev is_open : PartState → Bool
 is_open state = not (part_is_done state)
@@ -44,20 +43,6 @@ pub no_double : (setup : Setup) (s : State) (results : List PartView) → AreRes
     HasDouble results → ⊥
 no_double setup s results are twice =
     one_or_none (part_is_done (part_at s twice.0)) (count_of results twice.0) (are.one_each twice.0) twice.1
-
-some_or_open : (done : Bool) (n : ℕ) → n ≡ cond {A = ℕ} done 1 0 → n ≡ 0 → done ≡ false
-some_or_open true n is none = absurd (omega (arith, is, none))
-some_or_open false n is none = refl
-
--- each part has a result where all are done
-pub none_missing : (job : Job) → IsKept job → all_parts_done job.state ≡ true →
-    HasMissing job.results job.setup.cluster.parts → ⊥
-none_missing job kept done missing =
-    let r = missing.0 in
-    let undone = some_or_open (part_is_done (part_at job.state r)) (count_of job.results r)
-    (kept.results.one_each r) missing.2 in
-    let inside : r < length job.state.parts = omega (arith, missing.1, kept.tidy.parts) in
-    false≢true (sym (list_all_at part_is_done job.state.parts r part.Pending inside undone) ∙ done)
 
 -- what is not so is not
 pub not_false : (b : Bool) → not b ≡ false → b ≡ true

@@ -1,7 +1,11 @@
 -- What the calling thread knows of the workers: what they hold, and which are dead or stopped.
-use Rattle.std.specs.Prelude.{ℕ, ◌<◌, ◌↔◌, ◌&&◌, nat_lt, not, Bool, true, false, List, Option, Some, None}
+use Rattle.std.specs.Prelude.{ℕ, ◌+◌, ◌-◌, ◌^◌, ◌<◌, ◌↔◌, ◌&&◌, nat_lt, not, zero, suc, min, replicate, Bool, true, false}
+use Rattle.std.specs.Prelude.{List, [], ◌∷◌, ◌++◌, Option, Some, None, if◌then◌else◌}
+use Rattle.std.specs.Prelude.{length, slice_index, slice_index_or}
 use Rattle.std.specs.Prelude.{count_by, slice_get, slice_set, IsTrue}
 use Rattle.node_ids.specs.Sets.{Has, has_number, no_splits, with_number}
+use Rattle.wave_problem.specs.Wave.{Split}
+use Rattle.master_state.specs.States.{Cluster}
 use Rattle.job_threads.specs.declared.holdings.Holding.{Holding}
 
 -- a worker that holds a split more
@@ -11,6 +15,11 @@ holding_too split h = record h { held = with_number h.held split }
 -- one that died, when so many of its beats were seen
 abbrev pub buried : ℕ → Holding → Holding
 buried seen h = record h { held = no_splits; lost = h.held; seen = seen; is_dead = true }
+
+-- whether the set has a member
+abbrev pub HasMember : List ℕ → Bool → Type 0
+HasMember set true = (n : ℕ) × Has set n
+HasMember set false = (n : ℕ) → Has set n → ⊥
 
 -- one that is back with these splits
 abbrev pub back_with : List ℕ → Holding → Holding
@@ -27,6 +36,48 @@ changed_in change xs n None = xs
 
 abbrev pub changed_at : {X : Type 0} → (X → X) → List X → ℕ → List X
 changed_at change xs n = changed_in change xs n (slice_get xs n)
+
+-- the first n of these workers hold the split too
+abbrev pub held_too : ℕ → ℕ → List ℕ → List Holding → List Holding
+held_too split zero holders workers = workers
+held_too split (suc n) holders workers =
+    changed_at (holding_too split) (held_too split n holders workers) (slice_index holders n)
+
+-- the holders of the first n splits hold them
+abbrev pub all_held : ℕ → List Split → List Holding → List Holding
+all_held zero splits workers = workers
+all_held (suc n) splits workers =
+    let holders = (slice_index_or splits n (record { bytes = 0; pending = false; holders = [] })).holders in
+    held_too n (length holders) holders (all_held n splits workers)
+
+-- those below n that are in the set died, when so many of their beats were told
+unfoldable pub all_buried : List ℕ → List ℕ → ℕ → List Holding → List Holding
+all_buried dead told zero workers = workers
+all_buried dead told (suc n) workers =
+    let before = all_buried dead told n workers in
+    if has_number dead n then changed_at (buried (slice_index told n)) before n else before
+
+-- how many deaths were seen after these; they stay at the greatest number that a u32 has
+unfoldable pub deaths_after : List ℕ → ℕ → ℕ → ℕ
+deaths_after dead zero deaths = deaths
+deaths_after dead (suc n) deaths =
+    let before = deaths_after dead n deaths in
+    if has_number dead n then min (before + 1) (2 ^ 32 - 1) else before
+
+-- the numbers below n, the lowest first
+unfoldable pub upto : ℕ → List ℕ
+upto zero = []
+upto (suc n) = upto n ++ n ∷ []
+
+-- a worker that holds nothing
+abbrev pub empty_handed : Holding
+empty_handed = record { held = no_splits; lost = no_splits; seen = 0; is_dead = false; is_stopped = false }
+
+-- each worker holds at first the splits of which it is a holder
+abbrev pub opened : Cluster → List Holding
+opened cluster =
+    all_held (min (length cluster.splits) 1024) cluster.splits
+    (replicate (length cluster.slots) empty_handed)
 
 -- it is dead, was not stopped, and more of its beats are seen than when it died
 abbrev pub has_risen : ℕ → Option Holding → Bool

@@ -1,5 +1,9 @@
 pub mod Outcomes
+pub mod Settled
 pub mod Turns
 pub mod Watching
 pub mod Holdings
+pub mod Chains
 pub mod Steps
+pub mod Telling
+pub mod Closing

@@ -1,6 +1,7 @@
 -- What a step of a thread may add to its hand, and to the lanes.
-use Rattle.std.specs.Prelude.{ℕ, ◌≡◌, ◌≢◌, ◌⊎◌, Bool, true, false, List, [], ◌∷◌, ◌++◌}
-use Rattle.std.specs.Prelude.{Option, Some, None, Ok, Err, slice_get}
+use Rattle.std.specs.Prelude.{ℕ, ◌+◌, ◌||◌, ◌≡◌, ◌≢◌, ◌⊎◌, Bool, true, false, List, [], ◌∷◌, ◌++◌}
+use Rattle.std.specs.Prelude.{◌<◌, Option, Some, None, Ok, Err, slice_get, slice_index, slice_index_or}
+use Rattle.std.specs.Prelude.{length, min, if◌then◌else◌}
 use Rattle.std.specs.Arc.{arc_value}
 use Rattle.std.specs.declared.alloc.Global.{Global}
 use Rattle.std.specs.declared.sync.Arc.{Arc}
@@ -11,16 +12,34 @@ use Rattle.lane_queue.specs.declared.order.Order.TheVariants as order
 use Rattle.lane_queue.specs.Lanes.{PassValue}
 use Rattle.lane_queue.specs.Orders.{attempt_of}
 use Rattle.master_state.specs.declared.answers.Answer.{Answer}
+use Rattle.master_state.specs.declared.states.Start.{Start}
+use Rattle.master_state.specs.declared.states.Work.TheVariants as works
 use Rattle.master_state.specs.declared.answers.Answer.TheVariants.{Accepted, Ignored}
 use Rattle.master_state.specs.declared.answers.Why.{Why}
 use Rattle.master_state.specs.declared.answers.Why.TheVariants.{HistoryFull, StrangeHand, WrongInput}
 use Rattle.master_state.specs.declared.events.Event.{Event}
 use Rattle.master_state.specs.declared.events.Event.TheVariants as events
 use Rattle.master_state.specs.Jobs.{Plain}
-use Rattle.hand_ledger.specs.Hands.{HandValue}
-use Rattle.shared_master.specs.Steps.{IsKeptAs, IsKeptBackup}
-use Rattle.job_threads.specs.Holdings.{changed_at}
+use Rattle.hand_ledger.specs.Hands.{HandValue, last_place}
+use Rattle.master_state.specs.declared.answers.Glance.{Glance}
+use Rattle.master_state.specs.declared.answers.Reply.{Reply}
+use Rattle.master_state.specs.declared.answers.Swept.{Swept}
+use Rattle.master_state.specs.States.{Setup}
+use Rattle.block_map.specs.declared.CopyOrder.{CopyOrder}
+use Rattle.shared_master.specs.Held.{AreCopiesOf, IsShownOf}
+use Rattle.shared_master.specs.Steps.{AreDeadOf, IsKeptAs, IsKeptBackup, IsKeptReduce, IsKeptSweep, Replies}
+use Rattle.shared_master.specs.Waves.{IsKeptWave}
+use Rattle.shared_master.specs.declared.waves.SharedWave.{SharedWave}
+use Rattle.job_threads.specs.Chains.{EachBelow, OnlyIf}
+use Rattle.job_threads.specs.Holdings.{AreReturning, HasMember, all_buried, back_with, changed_at, has_risen}
+use Rattle.job_threads.specs.Holdings.{holding_too}
 use Rattle.job_threads.specs.declared.holdings.Holding.{Holding}
+use Rattle.job_threads.specs.Turns.{has_ended, idle_after}
+use Rattle.job_threads.specs.declared.caller.CallEnd.{CallEnd}
+use Rattle.job_threads.specs.declared.caller.CallEnd.TheVariants as callends
+use Rattle.job_threads.specs.declared.observer.Progress.{Progress}
+use Rattle.job_threads.specs.declared.gate.Go.{Go}
+use Rattle.job_threads.specs.declared.gate.Go.TheVariants as gate
 use Rattle.job_threads.specs.declared.outcome.RunError.{RunError}
 use Rattle.job_threads.specs.declared.outcome.RunError.TheVariants as ends
 
@@ -35,34 +54,10 @@ abbrev pub judged : Plain → ℕ → Result (Unit {0}) RunError
 judged (Accepted n rest) place = Ok tt
 judged (Ignored why rest) place = judged_why why place
 
--- What a worker tells of an attempt: that it failed, where nothing was made; else that it is done, and where
--- the master has no use for what was made, that it failed.
-pub record IsDone (done : Event) (hand : HandValue) (given : Plain) (after : HandValue) : Type 0 where
-  pub kept : IsKeptAs hand done [] given after
-  pub useful : given ≢ Ignored WrongInput tt
-
-pub record IsOfNoUse (done failed : Event) (hand : HandValue) (given : Plain) (after : HandValue)
-    : Type 0 where
-  pub between : HandValue
-  pub refused : IsKeptAs {T = Unit {0}} {B = Unit {0}} hand done [] (Ignored WrongInput tt) between
-  pub told : IsKeptAs between failed [] given after
-
-abbrev pub Tells : Event → Event → Bool → HandValue → Plain → HandValue → Type 0
-Tells done failed false hand given after = IsKeptAs hand failed [] given after
-Tells done failed true hand given after =
-    IsDone done hand given after ⊎ IsOfNoUse done failed hand given after
-
--- the same of an order
-abbrev pub TellsOf : Order → Bool → HandValue → Plain → HandValue → Type 0
-TellsOf (order.Map a text) made hand given after =
-    Tells (events.MapDone a) (events.MapFailed a) made hand given after
-TellsOf (order.Reduce a part runs) made hand given after =
-    Tells (events.PartDone a) (events.PartFailed a) made hand given after
-
--- a worker tells of its order once, or it does not
-abbrev pub Performs : Order → HandValue → HandValue → Type 0
-Performs given before after =
-    (after ≡ before) ⊎ ((made : Bool) × (answer : Plain) × TellsOf given made before answer after)
+-- a gate's answer that the run is over ends it, and no other does
+abbrev pub judged_go : Go → Result (Unit {0}) RunError
+judged_go gate.On = Ok tt
+judged_go gate.Over = Err ends.GateLimit
 
 -- a pass that put an order more
 abbrev pub with_put : Order → PassValue → PassValue
@@ -94,23 +89,204 @@ pub record IsAnswered (split w : ℕ) (attempt : Option ℕ) (before after : Han
   pub kept : IsKeptBackup before split w answer after
   pub told : attempt ≡ attempt_in answer
 
-abbrev pub IsAsked : ℕ → ℕ → Option ℕ → HandValue → HandValue → Type 0
-IsAsked split w attempt before after =
-    ((attempt ≡ None) × (after ≡ before)) ⊎ IsAnswered split w attempt before after
-
 -- A call that changes what a worker holds: where it was accepted, its holding is changed too.
 abbrev pub changed_if : Plain → (Holding → Holding) → List Holding → ℕ → List Holding
 changed_if (Accepted place rest) change workers w = changed_at change workers w
 changed_if (Ignored why rest) change workers w = workers
 
-pub record IsToldOf
-    (event : Event) (change : Holding → Holding) (w : ℕ) (workers : List Holding) (hand : HandValue)
-    (new_workers : List Holding) (after : HandValue) : Type 0 where
-  pub answer : Plain
-  pub told : IsKeptAs hand event [] answer after
-  pub known : new_workers ≡ changed_if answer change workers w
+-- what the calling thread knows of the workers, and its hand
+pub record Known : Type 0 where
+  pub workers : List Holding
+  pub hand : HandValue
 
-abbrev pub Changes : Event → (Holding → Holding) → ℕ
-    → List Holding → HandValue → List Holding → HandValue → Type 0
-Changes event change w workers hand new_workers after =
-    ((new_workers ≡ workers) × (after ≡ hand)) ⊎ IsToldOf event change w workers hand new_workers after
+abbrev pub known : List Holding → HandValue → Known
+known workers hand = record { workers = workers; hand = hand }
+
+pub record IsToldOf (event : Event) (change : Holding → Holding) (w : ℕ) (before after : Known) : Type 0 where
+  pub answer : Plain
+  pub told : IsKeptAs before.hand event [] answer after.hand
+  pub changed : after.workers ≡ changed_if answer change before.workers w
+
+-- the worker holds the split too, where the master takes it
+abbrev pub IsAdded : ℕ → ℕ → Known → Known → Type 0
+IsAdded split w before after = IsToldOf (events.Add split w) (holding_too split) w before after
+
+-- a copy of the list was asked for: its worker holds its split too
+pub record IsCopied (orders : List CopyOrder) (k : ℕ) (before after : Known) : Type 0 where
+  pub order : CopyOrder
+  pub within : k < length orders
+  pub is : order ≡ slice_index_or orders k order
+  pub added : IsAdded order.split order.to before after
+
+-- the copies of the job for its target, one after the other, are made
+pub record AreCopied (setup : Setup) (target : ℕ) (before after : Known) : Type 0 where
+  pub orders : List CopyOrder
+  pub of_job : AreCopiesOf setup target orders
+  pub each : EachBelow (IsCopied orders) (length orders) before after
+
+-- the worker is back with all that it may return with, where the master takes it
+pub record IsBack (splits w : ℕ) (before after : Known) : Type 0 where
+  pub set : List ℕ
+  pub returning : AreReturning before.workers splits (slice_get before.workers w) set
+  pub joined : IsToldOf (events.Join w set) (back_with set) w before after
+
+-- it is back if it has risen, by these counts; whether a worker was so far
+abbrev pub IsBackIf : List ℕ → ℕ → ℕ → Known × Bool → Known × Bool → Type 0
+IsBackIf told splits w before after =
+    (rose : Bool) × (rose ≡ has_risen (slice_index told w) (slice_get before.0.workers w))
+    × OnlyIf rose (IsBack splits w) before.0 after.0 × (after.1 ≡ (before.1 || rose))
+
+-- What follows a death, and a sweep without one: the dead are buried, and where there is one, the copies of
+-- the job are made; then each worker that rose is back.
+pub record Follows
+    (setup : Setup) (target splits : ℕ) (told dead : List ℕ) (before : Known) (rose : Bool) (after : Known)
+    : Type 0 where
+  pub died : Bool
+  pub died_is : HasMember dead died
+  pub copied : Known
+  pub copies : OnlyIf died (AreCopied setup target)
+      (known (all_buried dead told 256 before.workers) before.hand) copied
+  pub joined : EachBelow (IsBackIf told splits) 256 (copied, false) (after, rose)
+
+-- a sweep with these counts: the master answers who died, and its answer ends no run
+pub record IsSwept
+    (setup : Setup) (target splits : ℕ) (told : List ℕ) (before : Known) (rose : Bool) (after : Known)
+    : Type 0 where
+  pub swept : Swept
+  pub answered : HandValue
+  pub kept : IsKeptSweep before.hand told swept.answer answered
+  pub passes : judged swept.answer (last_place answered.calls) ≡ Ok tt
+  pub dead : AreDeadOf setup told swept
+  pub follows : Follows setup target splits told swept.dead (known before.workers answered) rose after
+
+-- what the calling thread put into the lanes, and its hand
+pub record Sent : Type 0 where
+  pub lanes : List PassValue
+  pub hand : HandValue
+
+abbrev pub sent : List PassValue → HandValue → Sent
+sent lanes hand = record { lanes = lanes; hand = hand }
+
+-- the order of a map start was sent: its split's text, to its worker
+abbrev pub IsMapStartSent : List SplitDocuments → ℕ → Start → Bool →
+    List PassValue → HandValue → List PassValue → HandValue → Type 0
+IsMapStartSent texts a start put lanes hand new_lanes after =
+    (split : ℕ) × (start.work ≡ works.Split split)
+    × IsMapSent texts a split start.worker put lanes hand new_lanes after
+
+-- The k-th start of a wave was sent, as the k-th attempt after the wave's first. Beside the lanes stands
+-- whether an order of this wave is in a lane so far.
+pub record IsStartSent
+    (shared : SharedWave) (texts : List SplitDocuments) (k : ℕ) (before after : Sent × Bool) : Type 0 where
+  pub start : Start
+  pub put : Bool
+  pub within : k < length shared.starts.items
+  pub is : start ≡ slice_index_or shared.starts.items k start
+  pub sends : IsMapStartSent texts (shared.wave.first + k) start put
+      before.0.lanes before.0.hand after.0.lanes after.0.hand
+  pub started : after.1 ≡ (before.1 || put)
+
+abbrev pub AreStartsSent : SharedWave → List SplitDocuments → Sent → Bool → Sent → Type 0
+AreStartsSent shared texts before started after =
+    EachBelow (IsStartSent shared texts) (length shared.starts.items) (before, false) (after, started)
+
+-- the worker was asked to take a second attempt of the split, and may not
+abbrev pub IsRefused : ℕ → ℕ → HandValue → HandValue → Type 0
+IsRefused split w before after = IsAnswered split w None before after
+
+-- A second attempt goes to the lowest worker that may take it; where none may, all were asked.
+abbrev pub IsBackedUp : List SplitDocuments → ℕ → ℕ → Sent → Bool → Sent → Type 0
+IsBackedUp texts workers split before started after =
+    (EachBelow (IsRefused split) workers before.hand after.hand × (started ≡ false)
+    × (after.lanes ≡ before.lanes))
+    ⊎ ((w : ℕ) × (a : ℕ) × (refused : HandValue) × (asked : HandValue) × (w < workers)
+    × EachBelow (IsRefused split) w before.hand refused × IsAnswered split w (Some a) refused asked
+    × IsMapSent texts a split w started before.lanes asked after.lanes after.hand)
+
+-- each split below n was backed up, if it could be; whether an order is in a lane so far
+abbrev pub IsBackedUpToo : List SplitDocuments → ℕ → ℕ → Sent × Bool → Sent × Bool → Type 0
+IsBackedUpToo texts workers split before after =
+    (put : Bool) × IsBackedUp texts workers split before.0 put after.0 × (after.1 ≡ (before.1 || put))
+
+-- a wave was planned, and its starts were sent
+pub record IsWaveStarted (setup : Setup) (before : Sent) (started : Bool) (after : Sent) : Type 0 where
+  pub shared : SharedWave
+  pub answered : HandValue
+  pub kept : IsKeptWave setup before.hand shared answered
+  pub starts : AreStartsSent shared setup.cluster.texts (sent before.lanes answered) started after
+
+-- the order of a reply went to its worker, if there is one
+abbrev pub IsReplySent : Answer Reply (Unit {0}) → Sent → Bool → Sent → Type 0
+IsReplySent (Accepted place reply) before started after =
+    IsSent reply.worker (order.Reduce reply.attempt reply.part reply.runs) started
+    before.lanes before.hand after.lanes after.hand
+IsReplySent (Ignored why rest) before started after = (started ≡ false) × (after ≡ before)
+
+-- a reduce attempt was asked for, and its order was sent
+pub record IsReduceStarted (setup : Setup) (before : Sent) (started : Bool) (after : Sent) : Type 0 where
+  pub answer : Answer Reply (Unit {0})
+  pub answered : HandValue
+  pub kept : IsKeptReduce before.hand answer answered
+  pub replies : Replies setup answer
+  pub sends : IsReplySent answer (sent before.lanes answered) started after
+
+-- nothing starts
+abbrev pub IsNothing : Sent → Bool → Sent → Type 0
+IsNothing before started after = (started ≡ false) × (after ≡ before)
+
+-- what starts where a wave may, and where a reduce attempt may
+abbrev pub StartsAs : Setup → Bool → Bool → Sent → Bool → Sent → Type 0
+StartsAs setup true reducible before started after = IsWaveStarted setup before started after
+StartsAs setup false true before started after = IsReduceStarted setup before started after
+StartsAs setup false false before started after = IsNothing before started after
+
+-- what starts in a turn by what was seen; nothing while waves pause
+abbrev pub Starts : Setup → Bool → Glance → Sent → Bool → Sent → Type 0
+Starts setup true seen before started after = IsNothing before started after
+Starts setup false seen before started after = StartsAs setup seen.ready seen.reducible before started after
+
+-- The errors of a step of the calling thread. The gate alone ends a run with GateLimit, and the start of the
+-- threads with NoThread.
+abbrev pub IsStepError : RunError → Type 0
+IsStepError ends.GateLimit = ⊥
+IsStepError ends.NoThread = ⊥
+IsStepError e = Unit {0}
+
+-- The errors of a thread that asks its gate: the errors of a step, and GateLimit where such a gate may end a
+-- run.
+abbrev pub MayEndWith : Type 0 → RunError → Type 0
+MayEndWith may_end ends.GateLimit = may_end
+MayEndWith may_end e = IsStepError e
+
+-- second attempts for all splits, where they may start; where one started, the turn was not idle
+abbrev pub AreBackedUp : Setup → Sent → Sent → ℕ → ℕ → Type 0
+AreBackedUp setup before after idle new_idle =
+    (started : Bool)
+    × EachBelow (IsBackedUpToo setup.cluster.texts (min (length setup.cluster.slots) 256))
+    (min (length setup.cluster.splits) 1024) (before, false) (after, started)
+    × (new_idle ≡ (if started then 0 else idle))
+
+-- What may start by what was seen is started. Where nothing was, the turn is counted as idle; a second
+-- attempt may yet start, and then it was not.
+abbrev pub HasStarted : Setup → Bool → Glance → Sent → ℕ → ℕ → Type 0
+HasStarted setup pauses seen before idle new_idle =
+    (started : Bool) × (after : Sent) × Starts setup pauses seen before started after
+    × ((new_idle ≡ idle_after idle started) ⊎ (new_idle ≡ 0))
+
+-- why the turns ended: the run was seen to be over; or at a glance all parts were done, or nothing ran and
+-- nothing could start for so many sweeps
+abbrev pub EndsCalls : Setup → ℕ → CallEnd → Type 0
+EndsCalls setup quiet (callends.Over over) = Unit {0}
+EndsCalls setup quiet (callends.Seen seen) =
+    IsShownOf setup seen × (has_ended seen quiet setup.cluster.silence ≡ true)
+
+-- how far the job is
+abbrev pub progress_of : Setup → Glance → ℕ → ℕ → Progress
+progress_of setup seen waves deaths = record {
+  splits = length setup.cluster.texts;
+  parts = setup.cluster.parts;
+  open_splits = seen.open_splits;
+  open_parts = seen.open_parts;
+  waves = waves;
+  deaths = deaths;
+}

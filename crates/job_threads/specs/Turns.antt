@@ -1,5 +1,5 @@
 -- The turns of the calling thread.
-use Rattle.std.specs.Prelude.{ℕ, ◌+◌, ◌-◌, ◌%◌, ◌^◌, ◌==◌, ◌&&◌, ◌||◌, nat_le, nat_lt, min, not, Bool}
+use Rattle.std.specs.Prelude.{ℕ, ◌+◌, ◌-◌, ◌*◌, ◌%◌, ◌^◌, ◌==◌, ◌&&◌, ◌||◌, nat_le, nat_lt, min, not, Bool}
 use Rattle.std.specs.Prelude.{◌≡◌, true, false, List, Option, Some, None}
 use Rattle.std.specs.List.{list_all}
 use Rattle.std.specs.Prelude.{if◌then◌else◌}
@@ -8,6 +8,12 @@ use Rattle.job_threads.specs.declared.gate.Turn.{Turn}
 use Rattle.job_threads.specs.declared.gate.Turn.TheVariants.{On, Sweep, Backup}
 use Rattle.job_threads.specs.declared.holdings.Holding.{Holding}
 use Rattle.job_threads.specs.Watching.{HaveBeaten, WatchValue}
+
+-- what the gate answered, and which number of idle turns it was told; of a sweep, whether it counts
+pub record AskedValue : Type 0 where
+  pub idle : ℕ
+  pub turn : Turn
+  pub is_due : Bool
 
 -- a gate's sweep counts where the last one was at least the gate's gap ago, or there was none
 abbrev pub is_due : Option ℕ → ℕ → Bool
@@ -23,16 +29,17 @@ idle_after idle false = min (idle + 1) (2 ^ 64 - 1)
 abbrev pub is_still : Glance → Bool
 is_still glance = glance.running == 0 && (not glance.ready && not glance.reducible)
 
--- no worker is dead, and none was stopped
-abbrev pub are_well : List Holding → Bool
-are_well workers = list_all (λ h. not h.is_dead && not h.is_stopped) workers
+-- each dead worker was stopped, so that none joins again
+abbrev pub none_may_rise : List Holding → Bool
+none_may_rise workers = list_all (λ h. not (h.is_dead && not h.is_stopped)) workers
 
--- Nothing runs, nothing can start, all workers are well, and each has beaten since the last sweep. Then another
--- sweep finds nobody silent, and changes nothing of it: it is made at once.
+-- Nothing runs, nothing can start, each dead worker was stopped, and each worker that was not stopped has
+-- beaten since the last sweep. Then another sweep finds silent only whom the gate stopped, and nobody joins:
+-- it is made at once.
 pub record IsPastHelp (glance : Glance) (workers : List Holding) (watch : WatchValue) : Type 0 where
   pub still : is_still glance ≡ true
-  pub well : are_well workers ≡ true
-  pub beaten : HaveBeaten watch
+  pub none_rises : none_may_rise workers ≡ true
+  pub beaten : HaveBeaten watch workers
 
 -- how many sweeps, one after the other, saw no dead worker rise while it was so: after a glance, and after a
 -- sweep
@@ -63,3 +70,7 @@ nap_micros idle =
     if nat_lt idle 64 || not (idle % 64 == 0) then 0
     else if nat_lt idle 4096 then 50
     else 300
+
+-- the bit of a worker that was stopped
+abbrev pub bit_of : ℕ → ℕ
+bit_of worker = if nat_lt worker 64 then 1 * 2 ^ worker % 2 ^ 64 else 0

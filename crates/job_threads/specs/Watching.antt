@@ -1,6 +1,7 @@
 -- What the calling thread sees of the workers' beats.
-use Rattle.std.specs.Prelude.{ℕ, ◌≡◌, ◌<◌, ◌≤◌, List, length, slice_index}
+use Rattle.std.specs.Prelude.{ℕ, ◌≡◌, ◌<◌, ◌≤◌, Bool, false, List, Option, Some, None, length, slice_get, slice_index}
 use Rattle.beat_board.specs.Values.{ReaderValue, last_seen}
+use Rattle.job_threads.specs.declared.holdings.Holding.{Holding}
 
 -- what was seen of a board, how many workers it has, and the counts that were handed in last
 pub record WatchValue : Type 0 where
@@ -17,10 +18,18 @@ pub record AreLooks (old : WatchValue) (counts : List ℕ) (new : WatchValue) : 
   pub rising : (w : ℕ) → w < old.workers → last_seen w old.reader.looks ≤ slice_index counts w
   pub others : (w : ℕ) → old.workers ≤ w → w < 256 → slice_index counts w ≡ 0
 
--- the counts of all workers, so many, are above those that were told
-abbrev pub HaveRisen : List ℕ → List ℕ → ℕ → Type 0
-HaveRisen told counts workers = (w : ℕ) → w < workers → slice_index told w < slice_index counts w
+-- whether the worker was stopped; one that is not known was not
+abbrev pub is_stopped_in : Option Holding → Bool
+is_stopped_in (Some h) = h.is_stopped
+is_stopped_in None = false
 
--- of each worker more beats were seen than were handed in last
-abbrev pub HaveBeaten : WatchValue → Type 0
-HaveBeaten watch = (w : ℕ) → w < watch.workers → slice_index watch.told w < last_seen w watch.reader.looks
+-- each worker that is not stopped has a count above the count that was told of it
+abbrev pub HaveRisen : List ℕ → List ℕ → List Holding → ℕ → Type 0
+HaveRisen told counts workers n =
+    (w : ℕ) → w < n → is_stopped_in (slice_get workers w) ≡ false → slice_index told w < slice_index counts w
+
+-- of each worker that was not stopped more beats were seen than were handed in last
+abbrev pub HaveBeaten : WatchValue → List Holding → Type 0
+HaveBeaten watch workers =
+    (w : ℕ) → w < watch.workers → is_stopped_in (slice_get workers w) ≡ false →
+    slice_index watch.told w < last_seen w watch.reader.looks

@@ -1,81 +1,129 @@
-ghost use Rattle.std.specs.Prelude.{◌≡◌, ◌↔◌, ◌<◌, ◌≤◌, [], IfOk, IfSome, IsTrue, slice_index};
-ghost use Rattle.std.specs.Arc.{arc_value};
+ghost use Rattle.std.specs.Prelude.{◌≡◌, ◌↔◌, ◌+◌, ◌^◌, ◌<◌, ◌≤◌, [], IfOk, IfSome, IsTrue, min, slice_get};
+ghost use Rattle.std.specs.Prelude.{slice_index};
 ghost use Rattle.beat_board.specs.Values.{last_seen, SeatValue};
-ghost use Rattle.job_threads.specs.Watching.{AreLooks, HaveBeaten, HaveRisen, WatchValue};
+ghost use Rattle.job_threads.specs.Watching.{AreLooks, HaveBeaten, HaveRisen, WatchValue, is_stopped_in};
 
-use crate::common::Flags;
+use crate::aim::Aim;
+use crate::common::{Flags, GoingOn};
+use crate::holdings::Holding;
 use beat_board::{Board, Maker, Reader, Seat};
 use node_ids::WorkerNo;
-use std::alloc::{AllocError, Global};
+use std::alloc::AllocError;
 use std::cell::Cell;
-use std::marker::Model;
-use std::sync::Arc;
+use std::marker::{Model, PhantomData};
 use std::time::Instant;
 use word_map::Pace;
 
 // In so many words and comparisons of a map or a merge its worker beats once.
 const STRIDE: u32 = 4096;
 
-// A worker's seat at the board.
+// A seat at the board of the run.
 #[derive(Drop)]
-pub(crate) struct Pulse {
-    board: Arc<Board>,
+struct Seated<L: Aim> {
     seat: Seat,
+    of: PhantomData<L>,
 }
 
-impl Model for Pulse {
+impl<L: Aim> Model for Seated<L> {
+    ghost use Rattle.std.specs.Prelude.{◌≡◌};
+    ghost use Rattle.beat_board.specs.Values.{SeatValue};
+
     ghost Value = { SeatValue };
 
-    ghost view = { λ p. p.seat };
+    ghost view = { λ s. s.seat };
 
-    ghost invariant = { λ p. p.seat.board ≡ (arc_value p.board).board };
+    ghost invariant = { λ s. s.seat.board ≡ L.board.board };
 }
 
-impl Pulse {
+impl<L: Aim> Seated<L> {
     // One beat, unless the seat is worn.
-    pub(crate) fn beat(&mut self)
-        ensures { self.new.worker ≡ self.old.worker }
+    fn beat(&mut self, board: &Board, _going: &GoingOn)
+        requires { board.now ≡ L.board }
+        ensures worker { self.new.worker ≡ self.old.worker }
+        ensures beats { self.new.beats ≡ min (self.old.beats + 1) (2 ^ 40) }
     {
-        let _ = self.board.beat(&mut self.seat);
+        let _ = board.beat(&mut self.seat);
     }
+
+    // The seat.
+    fn into_seat(self) -> Seat
+        ensures same { result ≡ self }
+        ensures board { result.board ≡ L.board.board }
+    {
+        self.seat
+    }
+}
+
+// The board, and a worker's seat at it.
+#[derive(Drop)]
+pub(crate) struct Pulse<'a, L: Aim> {
+    board: &'a Board,
+    seated: Seated<L>,
+}
+
+impl<'a, L: Aim> Model for Pulse<'a, L> {
+    ghost use Rattle.std.specs.Prelude.{◌≡◌};
+    ghost use Rattle.beat_board.specs.Values.{SeatValue};
+
+    ghost Value = { SeatValue };
+
+    ghost view = { λ p. p.seated };
+
+    ghost invariant = { λ p. p.board.now ≡ L.board };
 }
 
 // The beats of a worker's thread, also while it maps and merges. They end where the run is over or the worker
 // is stopped.
 #[derive(Drop)]
-pub(crate) struct Beating<'a> {
+pub(crate) struct Beating<'a, 'b, L: Aim> {
+    board: &'a Board,
     // (a map tells its pace by a shared reference, while it compares words)
-    pulse: Cell<Option<Pulse>>,
+    seated: Cell<Option<Seated<L>>>,
     // how many steps are left until the next beat
     left: Cell<u32>,
-    flags: &'a Flags,
+    flags: &'b Flags,
     worker: WorkerNo,
+    ghost of_run: { board.now ≡ L.board },
 }
 
-impl<'a> Beating<'a> {
-    pub(crate) fn new(pulse: Pulse, flags: &'a Flags, worker: WorkerNo) -> Beating<'a> {
+impl<'a, 'b, L: Aim> Beating<'a, 'b, L> {
+    pub(crate) fn new(
+        pulse: Pulse<'a, L>,
+        flags: &'b Flags,
+        worker: WorkerNo,
+    ) -> Beating<'a, 'b, L> {
+        let Pulse { board, seated } = pulse;
         Beating {
-            pulse: Cell::new(Some(pulse)),
+            board,
+            seated: Cell::new(Some(seated)),
             left: Cell::new(STRIDE),
             flags,
             worker,
         }
     }
 
-    // Whether the worker goes on, and one beat if so.
-    pub(crate) fn beat(&self) -> bool {
-        if !self.flags.go_on(self.worker) {
-            return false;
+    // That the worker goes on, and one beat if so.
+    pub(crate) fn beat(&self) -> Option<GoingOn> {
+        let going = self.flags.go_on(self.worker)?;
+        if let Some(mut seated) = self.seated.take() {
+            seated.beat(self.board, &going);
+            self.seated.set(Some(seated));
         }
-        if let Some(mut pulse) = self.pulse.take() {
-            pulse.beat();
-            self.pulse.set(Some(pulse));
+        Some(going)
+    }
+
+    // The seat, when the thread ends.
+    pub(crate) fn seat(&self) -> Option<Seat>
+        ensures { IfSome result (λ seat. seat.board ≡ L.board.board) }
+    {
+        match self.seated.take() {
+            Some(seated) => Some(seated.into_seat()),
+            None => None,
         }
-        true
     }
 }
 
-impl Pace for Beating<'_> {
+impl<L: Aim> Pace for Beating<'_, '_, L> {
     fn goes_on(&self) {
         let left = self.left.get();
         if left > 0 {
@@ -89,37 +137,44 @@ impl Pace for Beating<'_> {
 
 // What the calling thread sees of the board, and what of it was handed in last.
 #[derive(Drop)]
-pub(crate) struct Watch {
-    board: Arc<Board>,
+pub(crate) struct Watch<'a, L: Aim> {
+    board: &'a Board,
     maker: Maker,
     reader: Reader,
     workers: usize,
     told: [u64; 256],
     // when it was handed in, if it was and there is a clock
     pub(crate) told_at: Option<Instant>,
+    of: PhantomData<L>,
 }
 
-impl Model for Watch {
+impl<'a, L: Aim> Model for Watch<'a, L> {
+    ghost use Rattle.std.specs.Prelude.{◌≡◌, ◌≤◌};
+    ghost use Rattle.job_threads.specs.Watching.{WatchValue};
+
     ghost Value = { WatchValue };
 
     ghost view = { λ w. record { reader = w.reader; workers = w.workers; told = w.told } };
 
-    ghost invariant = { λ w. (w.maker.board ≡ (arc_value w.board).board)
-        × (w.reader.board ≡ (arc_value w.board).board)
-        × (w.workers ≡ (arc_value w.board).workers) × (w.workers ≤ 256) };
+    ghost invariant = { λ w. (w.maker.board ≡ w.board.now.board)
+        × (w.reader.board ≡ w.board.now.board) × (w.board.now ≡ L.board)
+        × (w.workers ≡ w.board.now.workers) × (w.workers ≤ 256) };
 }
 
-impl Watch {
-    // The board of so many workers.
-    pub(crate) fn new(alloc: Global, workers: usize) -> Result<Watch, AllocError>
-        requires { workers ≤ 256 }
+impl<'a, L: Aim> Watch<'a, L> {
+    // Of a board of so many workers.
+    pub(crate) fn new(
+        board: &'a Board,
+        mut maker: Maker,
+        workers: usize,
+    ) -> Result<Watch<'a, L>, AllocError>
+        requires board { (board.now ≡ L.board) × (maker.board ≡ board.now.board) }
+        requires workers { (workers ≡ board.now.workers) × (workers ≤ 256) }
         ensures { IfOk result (λ w. w.workers ≡ workers) }
     {
-        let (board, mut maker) = Board::new(alloc, workers)?;
         let Ok(reader) = board.reader(&mut maker) else {
             return Err(AllocError);
         };
-        let board = Arc::new(alloc, board)?;
         Ok(Watch {
             board,
             maker,
@@ -127,20 +182,35 @@ impl Watch {
             workers,
             told: [0; 256],
             told_at: None,
+            of: PhantomData,
         })
     }
 
     // A seat of a worker.
-    pub(crate) fn pulse(&mut self, worker: WorkerNo) -> Option<Pulse>
+    pub(crate) fn pulse(&mut self, worker: WorkerNo) -> Option<Pulse<'a, L>>
         ensures seat { IfSome result (λ p. p.worker ≡ worker) }
         ensures same { self.new ≡ self.old }
     {
         if worker.index() >= self.workers {
             return None;
         }
-        let board = Arc::try_clone(&self.board).ok()?;
-        let seat = board.seat(&mut self.maker, worker).ok()?;
-        Some(Pulse { board, seat })
+        let seat = self.board.seat(&mut self.maker, worker).ok()?;
+        let seated = Seated {
+            seat,
+            of: PhantomData,
+        };
+        Some(Pulse {
+            board: self.board,
+            seated,
+        })
+    }
+
+    // Who made the seats of the board, and who looked at it.
+    pub(crate) fn into_ends(self) -> (Maker, Reader)
+        ensures reader { result.1 ≡ self.entry.reader }
+        ensures boards { (result.0.board ≡ L.board.board) × (result.1.board ≡ L.board.board) }
+    {
+        (self.maker, self.reader)
     }
 
     // What is seen of the beats of each worker, by number, to be handed in.
@@ -148,17 +218,25 @@ impl Watch {
         ensures looks { AreLooks self.old result self.new }
         ensures told { self.new.told ≡ result }
     {
-        self.told = looks(&self.board, &mut self.reader, self.workers);
+        self.told = looks(self.board, &mut self.reader, self.workers);
         self.told
     }
 
-    // Whether of each worker more beats are seen than were handed in last.
-    pub(crate) fn have_beaten(&mut self) -> bool
-        ensures value { IsTrue result ↔ HaveBeaten self.new }
+    // Whether of each worker that was not stopped more beats are seen than were handed in last.
+    pub(crate) fn have_beaten(&mut self, workers: &[Holding]) -> bool
+        ensures value { IsTrue result ↔ HaveBeaten self.new workers.now }
         ensures told { self.new.told ≡ self.old.told }
     {
-        let seen = looks(&self.board, &mut self.reader, self.workers);
-        have_risen(&self.told, &seen, self.workers)
+        let seen = looks(self.board, &mut self.reader, self.workers);
+        have_risen(&self.told, &seen, workers, self.workers)
+    }
+
+    // What of a worker's beats was handed in last.
+    pub(crate) fn seen_of(&self, worker: WorkerNo) -> u64
+        requires { worker < 256 }
+        ensures { result ≡ slice_index self.now.told worker }
+    {
+        self.told[worker.index()]
     }
 }
 
@@ -178,15 +256,25 @@ fn looks(board: &Board, reader: &mut Reader, workers: usize) -> [u64; 256]
     counts
 }
 
-// Whether the counts of all workers, so many, are above those that were told.
-fn have_risen(told: &[u64; 256], counts: &[u64; 256], workers: usize) -> bool
-    requires { workers ≤ 256 }
-    ensures { IsTrue result ↔ HaveRisen told.now counts.now workers }
+// Whether each of the first workers that is not stopped has a count above the count that was told of it.
+fn have_risen(told: &[u64; 256], counts: &[u64; 256], workers: &[Holding], few: usize) -> bool
+    requires { few ≤ 256 }
+    ensures { IsTrue result ↔ HaveRisen told.now counts.now workers.now few }
 {
-    for number in 0..workers {
-        if counts[number] <= told[number] {
+    for number in 0..few {
+        if !is_stopped(workers, number) && counts[number] <= told[number] {
             return false;
         }
     }
     true
+}
+
+// Whether this worker was stopped, as far as one knows.
+fn is_stopped(workers: &[Holding], worker: usize) -> bool
+    ensures { result ≡ is_stopped_in (slice_get workers.now worker) }
+{
+    match workers.get(worker) {
+        Some(holding) => holding.is_stopped,
+        None => false,
+    }
 }

@@ -1,38 +1,43 @@
-ghost use Rattle.std.specs.Prelude.{◌≡◌, ◌↔◌, ◌<◌, ◌≤◌, IsTrue, OnOk};
-ghost use Rattle.std.specs.Duration.{as_nanos};
-ghost use Rattle.std.specs.Option.{option_map};
+ghost use Rattle.std.specs.Prelude.{◌≡◌, ◌↔◌, ◌⊎◌, ◌<◌, ◌≤◌, ℕ, nat_lt, Bool, true, Err, IfErr, IfOk, IsTrue};
+ghost use Rattle.std.specs.Prelude.{OnOk};
+ghost use Rattle.job_threads.specs.declared.gate.Turn.{Turn};
+ghost use Rattle.job_threads.specs.declared.outcome.RunError.{RunError};
 ghost use Rattle.job_threads.specs.Holdings.{changed_at, stopped};
+ghost use Rattle.job_threads.specs.Steps.{AreBackedUp, EndsCalls, HasStarted, IsStepError, IsSwept, MayEndWith};
+ghost use Rattle.job_threads.specs.Steps.{known, progress_of, sent};
 ghost use Rattle.job_threads.specs.Turns.{has_ended, idle_after, is_still, nap_micros, quiet_after};
-ghost use Rattle.job_threads.specs.Turns.{are_well, IsPastHelp, is_due, quiet_swept};
+ghost use Rattle.job_threads.specs.Turns.{IsPastHelp, none_may_rise, quiet_swept};
 
+use crate::aim::{Aim, Silence, Target};
+use crate::asking::Asked;
 use crate::beats::Watch;
-use crate::common::Common;
+use crate::common::{Common, Over};
 use crate::gate::{Gate, NAPS_FROM, Turn};
 use crate::holdings::{Holding, Holdings};
 use crate::lanes::LaneEnd;
 use crate::observer::{Observer, Progress};
 use crate::outcome::RunError;
+use crate::texts::Texts;
 use master_state::Glance;
 use node_ids::WorkerNo;
-use shared_master::Hand;
+use shared_master::{Hand, OfJob, SharedGlance};
 use std::alloc::Global;
 use std::rt::Clock;
+use std::sync::Wait;
 use std::sync::ledger::Ledger;
-use std::sync::{Arc, Wait};
 use std::thread;
 use std::time::{Duration, Instant};
-use word_map::SplitText;
 
 // What the calling thread has.
 #[derive(Drop)]
-pub(crate) struct Caller<L: Ledger> {
+pub(crate) struct Caller<'a, L: Ledger + OfJob + Aim> {
     pub(crate) hand: Hand<L>,
-    pub(crate) watch: Watch,
-    pub(crate) lanes: Vec<LaneEnd>,
-    pub(crate) texts: Vec<Arc<SplitText>>,
+    pub(crate) watch: Watch<'a, L>,
+    pub(crate) lanes: Vec<LaneEnd<'a, L>>,
+    pub(crate) texts: Texts<L>,
     pub(crate) holdings: Holdings,
-    pub(crate) target: usize,
-    pub(crate) silence: u32,
+    pub(crate) target: Target<L>,
+    pub(crate) silence: Silence<L>,
     // the greatest number of an attempt that was sent
     pub(crate) newest: u32,
     // in how many turns, one after the other, nothing started
@@ -46,7 +51,14 @@ pub(crate) struct Caller<L: Ledger> {
     pub(crate) deaths: u32,
 }
 
-impl<L: Ledger> Caller<L> {
+// Why the turns ended: the run was seen to be over, or what was seen at a glance ended them.
+#[derive(Drop)]
+pub(crate) enum CallEnd {
+    Over(Over),
+    Seen(Glance),
+}
+
+impl<'a, L: Ledger + OfJob + Aim> Caller<'a, L> {
     // Turn after turn, until the job is done or stuck, or something ends the run.
     pub(crate) fn call<G: Gate, O: Observer, R: Wait + Clock>(
         &mut self,
@@ -54,23 +66,29 @@ impl<L: Ledger> Caller<L> {
         alloc: Global,
         common: &Common<'_, L, G>,
         observer: &O,
-    ) -> Result<(), RunError> {
+    ) -> Result<CallEnd, RunError>
+        ensures ends { IfOk result (EndsCalls L.setup self.new.quiet) }
+        ensures err { IfErr result (MayEndWith (G.may_end ≡ true)) }
+    {
         for _ in rt.forever() {
-            if common.flags.is_over() {
-                break;
+            if let Some(over) = common.flags.seen_over() {
+                return Ok(CallEnd::Over(over));
             }
-            let glance = common.shared.glance(rt);
+            let seen = common.shared.glance(rt);
+            let glance = seen.shown();
             observer.seen(&self.progress(common, &glance));
             if self.has_ended(&glance) {
-                break;
+                return Ok(CallEnd::Seen(glance));
             }
-            self.turn(rt, alloc, common, &glance)?;
+            self.turn(rt, alloc, common, &seen)?;
         }
-        Ok(())
+        unreachable!()
     }
 
     // How far the job is.
-    fn progress<G: Gate>(&self, common: &Common<'_, L, G>, glance: &Glance) -> Progress {
+    fn progress<G: Gate>(&self, common: &Common<'_, L, G>, glance: &Glance) -> Progress
+        ensures { result ≡ progress_of L.setup glance.now self.now.waves self.now.deaths }
+    {
         Progress {
             splits: self.texts.len(),
             parts: common.parts,
@@ -84,15 +102,14 @@ impl<L: Ledger> Caller<L> {
     // Whether all parts are done; or nothing ran, nothing could start and no dead worker rose through as many
     // sweeps as a worker may be silent.
     fn has_ended(&mut self, glance: &Glance) -> bool
-        ensures value { result ≡ has_ended glance.now self.new.quiet self.old.silence }
-        ensures quiet { self.new.quiet ≡ quiet_after self.old.quiet glance.now }
-        ensures silence { self.new.silence ≡ self.old.silence }
+        ensures value { result ≡ has_ended glance.now self.new.quiet L.setup.cluster.silence }
+        ensures same { self.new ≡ record self.old { quiet = quiet_after self.old.quiet glance.now } }
     {
         let still = is_still(glance);
         if !still {
             self.quiet = 0;
         }
-        glance.open_parts == 0 || still && self.silence <= self.quiet
+        glance.open_parts == 0 || still && self.silence.sweeps() <= self.quiet
     }
 
     // Starts what may start, and does what the gate says.
@@ -101,29 +118,72 @@ impl<L: Ledger> Caller<L> {
         rt: &R,
         alloc: Global,
         common: &Common<'_, L, G>,
-        glance: &Glance,
-    ) -> Result<(), RunError> {
-        let started = self.start(rt, alloc, common, glance)?;
+        seen: &SharedGlance<L>,
+    ) -> Result<(), RunError>
+        ensures started { OnOk result (HasStarted L.setup (nat_lt 0 self.old.pause) seen.now
+            (sent self.old.lanes.items self.old.hand) self.old.idle self.new.idle) }
+        ensures err { IfErr result (MayEndWith (G.may_end ≡ true)) }
+    {
+        let started = self.start(rt, alloc, common, seen)?;
         self.count_idle(started);
         self.rest(rt);
-        match common.gate.turn(self.idle) {
-            Turn::On => self.sweep_on(rt, alloc, common, glance, false),
-            Turn::Sweep => {
-                let due = is_due(self.since(rt), common.gate.least_gap());
-                self.sweep_on(rt, alloc, common, glance, due)
-            }
-            Turn::Backup => {
-                if self.back_up(rt, common)? {
-                    self.idle = 0;
-                }
-                Ok(())
-            }
+        let asked = Asked::by(rt, common.gate, self.idle, self.watch.told_at);
+        self.act(rt, alloc, common, seen, &asked)
+    }
+
+    // Does what the gate says.
+    fn act<G: Gate, R: Wait + Clock>(
+        &mut self,
+        rt: &R,
+        alloc: Global,
+        common: &Common<'_, L, G>,
+        seen: &SharedGlance<L>,
+        asked: &Asked,
+    ) -> Result<(), RunError>
+        requires { asked.now.idle ≡ self.old.idle }
+        ensures idle { OnOk result ((self.new.idle ≡ self.old.idle) ⊎ (self.new.idle ≡ 0)) }
+        ensures over { (result ≡ Err RunError.GateLimit) ↔ (asked.now.turn ≡ Turn.Over) }
+        ensures err { IfErr result (MayEndWith (asked.now.turn ≡ Turn.Over)) }
+        ensures sweep { asked.now.turn ≡ Turn.Sweep → asked.now.is_due ≡ true → OnOk result ((rose : Bool)
+            × IsSwept L.setup L.target self.old.holdings.splits self.new.watch.told
+            (known self.old.holdings.workers.items self.old.hand) rose
+            (known self.new.holdings.workers.items self.new.hand)
+            × (self.new.quiet ≡ quiet_swept self.old.quiet (is_still seen.now) rose)) }
+        ensures stop { (w : ℕ) → asked.now.turn ≡ Turn.Stop w → self.new.holdings.workers.items
+            ≡ changed_at stopped self.old.holdings.workers.items w }
+        ensures backup { asked.now.turn ≡ Turn.Backup → OnOk result (AreBackedUp L.setup
+            (sent self.old.lanes.items self.old.hand) (sent self.new.lanes.items self.new.hand)
+            self.old.idle self.new.idle) }
+    {
+        let glance = seen.shown();
+        match asked.turn() {
+            Turn::On => self.sweep_on(rt, alloc, common, &glance, false),
+            Turn::Sweep => self.sweep_on(rt, alloc, common, &glance, asked.is_due()),
+            Turn::Backup => self.back_up_idle(rt, common),
             Turn::Stop(worker) => {
                 self.stop(common, worker);
                 Ok(())
             }
             Turn::Over => Err(RunError::GateLimit),
         }
+    }
+
+    // Second attempts: where one started, the turn was not idle.
+    fn back_up_idle<G: Gate, R: Wait>(
+        &mut self,
+        rt: &R,
+        common: &Common<'_, L, G>,
+    ) -> Result<(), RunError>
+        ensures backup { OnOk result (AreBackedUp L.setup
+            (sent self.old.lanes.items self.old.hand) (sent self.new.lanes.items self.new.hand)
+            self.old.idle self.new.idle) }
+        ensures idle { OnOk result ((self.new.idle ≡ self.old.idle) ⊎ (self.new.idle ≡ 0)) }
+        ensures err { IfErr result IsStepError }
+    {
+        if self.back_up(rt, common)? {
+            self.idle = 0;
+        }
+        Ok(())
     }
 
     // Sweeps where one is due, and at once where the job is past help, so that it is told stuck soon.
@@ -134,7 +194,15 @@ impl<L: Ledger> Caller<L> {
         common: &Common<'_, L, G>,
         glance: &Glance,
         due: bool,
-    ) -> Result<(), RunError> {
+    ) -> Result<(), RunError>
+        ensures swept { due ≡ true → OnOk result ((rose : Bool)
+            × IsSwept L.setup L.target self.old.holdings.splits self.new.watch.told
+            (known self.old.holdings.workers.items self.old.hand) rose
+            (known self.new.holdings.workers.items self.new.hand)
+            × (self.new.quiet ≡ quiet_swept self.old.quiet (is_still glance.now) rose)) }
+        ensures idle { self.new.idle ≡ self.old.idle }
+        ensures err { IfErr result IsStepError }
+    {
         if !due && !self.is_past_help(glance) {
             return Ok(());
         }
@@ -144,21 +212,23 @@ impl<L: Ledger> Caller<L> {
         Ok(())
     }
 
-    // How long ago the last sweep was; nothing where there was none, or there is no clock.
-    fn since<R: Clock>(&self, rt: &R) -> Option<Duration> {
-        self.watch.told_at?.elapsed(rt).ok()
-    }
-
-    // Whether nothing runs and nothing can start, all workers are well, and each has beaten since the last
-    // sweep. So another sweep finds none of them silent, and no sweep can change that.
+    // Whether nothing runs and nothing can start, each dead worker was stopped, and each other worker has
+    // beaten since the last sweep. Then another sweep finds no worker silent but stopped ones, no worker
+    // rises, and no nap helps.
     fn is_past_help(&mut self, glance: &Glance) -> bool
-        ensures { IsTrue result ↔ IsPastHelp glance.now self.old.holdings.workers.items self.new.watch }
+        ensures value { IsTrue result ↔ IsPastHelp glance.now self.old.holdings.workers.items self.new.watch }
+        ensures hand { self.new.hand ≡ self.old.hand }
+        ensures workers { self.new.holdings.workers ≡ self.old.holdings.workers }
+        ensures quiet { self.new.quiet ≡ self.old.quiet }
+        ensures idle { self.new.idle ≡ self.old.idle }
     {
-        is_still(glance) && are_well(&self.holdings.workers) && self.watch.have_beaten()
+        is_still(glance)
+            && none_may_rise(&self.holdings.workers)
+            && self.watch.have_beaten(&self.holdings.workers)
     }
 
     fn count_idle(&mut self, started: bool)
-        ensures { self.new.idle ≡ idle_after self.old.idle started }
+        ensures { self.new ≡ record self.old { idle = idle_after self.old.idle started } }
     {
         self.idle = if started {
             0
@@ -169,7 +239,7 @@ impl<L: Ledger> Caller<L> {
 
     // After a sweep: a dead worker rose, or nothing ran and nothing could start.
     fn count_quiet(&mut self, still: bool, rose: bool)
-        ensures { self.new.quiet ≡ quiet_swept self.old.quiet still rose }
+        ensures { self.new ≡ record self.old { quiet = quiet_swept self.old.quiet still rose } }
     {
         if rose {
             self.quiet = 0;
@@ -189,8 +259,9 @@ impl<L: Ledger> Caller<L> {
 
     // The worker never goes on, and never joins again.
     fn stop<G: Gate>(&mut self, common: &Common<'_, L, G>, worker: WorkerNo)
-        ensures { self.new.holdings.workers.items
+        ensures workers { self.new.holdings.workers.items
             ≡ changed_at stopped self.old.holdings.workers.items worker }
+        ensures idle { self.new.idle ≡ self.old.idle }
     {
         common.flags.stop(worker);
         self.holdings.stop(worker);
@@ -218,22 +289,12 @@ fn nap_micros(idle: u64) -> u64
     }
 }
 
-// Whether a gate's sweep comes late enough after the last one.
-fn is_due(since: Option<Duration>, gap: Duration) -> bool
-    ensures { result ≡ is_due (option_map as_nanos since) (as_nanos gap) }
-{
-    match since {
-        Some(passed) => gap.as_nanos() <= passed.as_nanos(),
-        None => true,
-    }
-}
-
-// Whether no worker is dead, and none was stopped.
-fn are_well(workers: &[Holding]) -> bool
-    ensures { result ≡ are_well workers.now }
+// Whether each dead worker was stopped, so that none joins again.
+fn none_may_rise(workers: &[Holding]) -> bool
+    ensures { result ≡ none_may_rise workers.now }
 {
     for worker in workers {
-        if worker.is_dead || worker.is_stopped {
+        if worker.is_dead && !worker.is_stopped {
             return false;
         }
     }

@@ -1,21 +1,30 @@
-ghost use Rattle.std.specs.Prelude.{◌≡◌, IfOk, IsErr, IsErrOf, IsTrue, true};
+ghost use Rattle.std.specs.Prelude.{◌≡◌, ◌⊎◌, IfErr, IfOk, IsErr, IsErrOf, IsTrue, true, MatchResult, Some, ℕ};
+ghost use Rattle.hand_ledger.specs.Settling.{IsLowestTorn};
+ghost use Rattle.shared_master.specs.Held.{is_short, log_of};
 ghost use Rattle.shuffle_reduce.specs.Merged.{HaveWord};
 ghost use Rattle.shuffle_reduce.specs.Indexed.{IsIndexOf};
 ghost use Rattle.master_state.specs.States.{Setup};
 ghost use Rattle.master_state.specs.Tests.{all_parts_done};
 ghost use Rattle.job_threads.specs.Outcomes.{IsDoneOn, IsOutcomeOf, IsRecordOf, IsStuckWith};
+ghost use Rattle.job_threads.specs.declared.outcome.RunError.{RunError};
+ghost use Rattle.job_threads.specs.Settled.{AreSettled};
 
-use crate::given::Given;
 use crate::outcome::{Outcome, Record, RunError};
 use master_core::Master;
-use shared_master::{Closed, Hand, Settled, settle};
+use shared_master::{Closed, Hand, OfJob, Settled, settle};
 use shuffle_reduce::{FinishError, Index, finish};
 use std::alloc::{AllocError, Global};
 use std::sync::ledger::Ledger;
 
 // The master, where its history is made of the hands' calls.
-pub(crate) fn settled<L: Ledger>(closed: Closed<L>, hands: Vec<Hand<L>>) -> Result<Master, RunError>
-    ensures { IfOk result (λ master. master ≡ closed.job) }
+pub(crate) fn settled<L: Ledger + OfJob>(
+    closed: Closed<L>,
+    hands: Vec<Hand<L>>,
+) -> Result<Master, RunError>
+    ensures { MatchResult result
+        (λ master. (master ≡ closed.job) × AreSettled closed.job hands.items)
+        (λ e. (place : ℕ) × IsLowestTorn (log_of closed.job) (is_short closed.job) hands.items (Some place)
+        × (e ≡ RunError.Torn place)) }
 {
     match settle(closed, hands) {
         Ok(Settled { master }) => Ok(master),
@@ -24,16 +33,17 @@ pub(crate) fn settled<L: Ledger>(closed: Closed<L>, hands: Vec<Hand<L>>) -> Resu
 }
 
 // What has become of a job.
-pub(crate) fn record_of(alloc: Global, given: &Given, master: Master) -> Result<Record, RunError>
-    ensures ok { IfOk result (IsRecordOf given.now) }
-    ensures memory { IsErrOf result RunError.Memory → HaveWord given.now.cluster.texts }
+pub(crate) fn record_of(alloc: Global, master: Master) -> Result<Record, RunError>
+    ensures ok { IfOk result (λ ran. (ran.master ≡ master) × IsRecordOf master.setup ran) }
+    ensures err { IfErr result (λ e. (e ≡ RunError.Memory) ⊎ (e ≡ RunError.Torn 0)) }
+    ensures memory { IsErrOf result RunError.Memory → HaveWord master.setup.cluster.texts }
 {
-    let index = if is_done(given, &master) {
+    let index = if is_done(&master) {
         let Ok(index) = index_of(alloc, &master) else {
             return Err(RunError::Memory);
         };
         Some(index)
-    } else if is_stuck(given, &master) {
+    } else if is_stuck(&master) {
         None
     } else {
         return Err(RunError::Torn(0));
@@ -52,14 +62,11 @@ pub(crate) fn outcome_of(ran: Record) -> Outcome
     }
 }
 
-// Whether all parts are done, of a master of this job.
-fn is_done(given: &Given, master: &Master) -> bool
-    ensures { IsTrue result → IsDoneOn given.now master.now }
+// Whether all parts are done.
+fn is_done(master: &Master) -> bool
+    ensures { IsTrue result → IsDoneOn master.now.setup master.now }
 {
     master.is_kept();
-    if !given.is_of(master) {
-        return false;
-    }
     are_parts_done(master)
 }
 
@@ -87,14 +94,11 @@ pub fn index_of(alloc: Global, master: &Master) -> Result<Index, AllocError>
     }
 }
 
-// Whether nothing runs, nothing can start and a part is not done, of a master of this job.
-fn is_stuck(given: &Given, master: &Master) -> bool
-    ensures { IsTrue result → IsStuckWith given.now master.now }
+// Whether nothing runs, nothing can start and a part is not done.
+fn is_stuck(master: &Master) -> bool
+    ensures { IsTrue result → IsStuckWith master.now.setup master.now }
 {
     master.is_kept();
-    if !given.is_of(master) {
-        return false;
-    }
     let glance = master.glance();
     if glance.running != 0 {
         return false;

@@ -1,4 +1,4 @@
-ghost use Rattle.std.specs.Prelude.{◌≡◌, ◌*◌, ◌^◌};
+ghost use Rattle.std.specs.Prelude.{◌≡◌, ◌*◌, ◌^◌, Bool, false, true};
 ghost use Rattle.std.specs.Duration.{as_nanos};
 ghost use Rattle.job_threads.specs.Turns.{plain_turn};
 
@@ -34,14 +34,20 @@ pub enum Turn {
 
 /// What the world outside does to a job that runs on threads. Each of its threads asks it.
 pub trait Gate: Sync {
+    // whether such a gate may end a run
+    ghost may_end: { Bool };
+
     /// Just before a worker maps.
-    fn before_map(&self, order: &Order) -> Go;
+    fn before_map(&self, order: &Order) -> Go
+        ensures over { result ≡ Go.Over → may_end ≡ true };
 
     /// When the master has answered the worker's call for the order.
-    fn after_map(&self, order: &Order) -> Go;
+    fn after_map(&self, order: &Order) -> Go
+        ensures over { result ≡ Go.Over → may_end ≡ true };
 
     /// Once a turn of the calling thread. In so many turns, one after the other, nothing started.
-    fn turn(&self, idle: u64) -> Turn;
+    fn turn(&self, idle: u64) -> Turn
+        ensures over { result ≡ Turn.Over → may_end ≡ true };
 
     /// A Sweep that is answered within so long of the last sweep is passed over. None is, where a gate does
     /// not say.
@@ -52,12 +58,14 @@ pub trait Gate: Sync {
 
 /// The gate of a plain run. It yields once a turn until the calling thread naps between them, which is from
 /// the 64th idle turn on, and answers Sweep at the positive multiples of 65,536 idle turns, Backup at the odd
-/// multiples of 32,768, else On. Two seconds lie between its sweeps, so that a worker must be silent for some
-/// seconds to be dead, however fast turns are.
+/// multiples of 32,768, else On, so that it ends no run. Two seconds lie between its sweeps, so that a worker
+/// must be silent for some seconds to be dead, however fast turns are.
 #[derive(Clone, Copy, Debug)]
 pub struct PlainGate;
 
 impl Gate for PlainGate {
+    ghost may_end = { false };
+
     fn before_map(&self, _order: &Order) -> Go
         ensures { result ≡ Go.On }
     {

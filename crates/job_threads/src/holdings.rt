@@ -1,8 +1,10 @@
-ghost use Rattle.std.specs.Prelude.{◌≡◌, ◌<◌, ◌≤◌, Some, slice_get};
+ghost use Rattle.std.specs.Prelude.{◌≡◌, ◌<◌, ◌≤◌, IfOk, Some, length, min, slice_get};
 ghost use Rattle.job_threads.specs.Holdings.{AreReturning, back_with, buried, changed_at, has_risen};
-ghost use Rattle.job_threads.specs.Holdings.{holders_of, holding_too, may_return, stopped};
+ghost use Rattle.job_threads.specs.Holdings.{held_too, holders_of, holding_too, may_return, opened, stopped};
+ghost use Rattle.job_threads.specs.Steps.{changed_if};
 
 use master_core::Cluster;
+use master_state::Answer;
 use node_ids::{SplitNo, SplitSet, WorkerNo};
 use std::alloc::{AllocError, Global};
 
@@ -29,7 +31,10 @@ pub(crate) struct Holdings {
 
 impl Holdings {
     // The first holders of a cluster.
-    pub(crate) fn of(alloc: Global, cluster: &Cluster) -> Result<Holdings, AllocError> {
+    pub(crate) fn of(alloc: Global, cluster: &Cluster) -> Result<Holdings, AllocError>
+        ensures workers { IfOk result (λ h. h.workers.items ≡ opened cluster.now) }
+        ensures splits { IfOk result (λ h. h.splits ≡ min (length cluster.now.splits) 1024) }
+    {
         let none = Holding {
             held: SplitSet::new(),
             lost: SplitSet::new(),
@@ -52,7 +57,9 @@ impl Holdings {
     // The workers hold the split.
     fn add_all(&mut self, split: SplitNo, workers: &[WorkerNo])
         requires { split < 1024 }
-        ensures { self.new.splits ≡ self.old.splits }
+        ensures value { self.new.workers.items
+            ≡ held_too split (length workers.now) workers.now self.old.workers.items }
+        ensures splits { self.new.splits ≡ self.old.splits }
     {
         for worker in workers {
             self.add(split, *worker);
@@ -68,6 +75,18 @@ impl Holdings {
     {
         if let Some(holding) = self.workers.get_mut(worker.index()) {
             holding.held.put(split);
+        }
+    }
+
+    // The same where the call was accepted.
+    pub(crate) fn add_if(&mut self, answer: Answer, split: SplitNo, worker: WorkerNo)
+        requires { split < 1024 }
+        ensures value { self.new.workers.items
+            ≡ changed_if answer (holding_too split) self.old.workers.items worker }
+        ensures splits { self.new.splits ≡ self.old.splits }
+    {
+        if let Answer::Accepted(_, ()) = answer {
+            self.add(split, worker);
         }
     }
 
@@ -152,6 +171,17 @@ impl Holdings {
         if let Some(holding) = self.workers.get_mut(worker.index()) {
             holding.held = set;
             holding.is_dead = false;
+        }
+    }
+
+    // The same where the call was accepted.
+    pub(crate) fn take_back_if(&mut self, answer: Answer, worker: WorkerNo, set: SplitSet)
+        ensures value { self.new.workers.items
+            ≡ changed_if answer (back_with set) self.old.workers.items worker }
+        ensures splits { self.new.splits ≡ self.old.splits }
+    {
+        if let Answer::Accepted(_, ()) = answer {
+            self.take_back(worker, set);
         }
     }
 }

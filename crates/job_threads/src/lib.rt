@@ -2,16 +2,19 @@
 //!
 //! The calling thread plans, sends orders and looks after beats, by what a gate says; the workers map and
 //! merge, and tell a shared master. Upward the layer promises what an outcome means, whatever the threads
-//! did: an index is the sequential one of the job's documents, and a stuck master can start nothing. It
+//! did: an index is the sequential one of the job's documents, and a stuck master can start nothing. The
+//! contracts of its private functions say what each step does (`specs/Steps.antt`, `specs/Telling.antt`). It
 //! stands on `shared_master`, `beat_board` and `lane_queue`, and knows no text.
 #![tactic(auto)]
 
+mod aim;
+mod asking;
 mod beats;
 mod caller;
+mod closing;
 mod common;
 pub mod ending;
 pub mod gate;
-mod given;
 mod holdings;
 pub mod job;
 mod lanes;
@@ -20,6 +23,7 @@ pub mod outcome;
 pub mod running;
 mod starting;
 mod sweeping;
+mod texts;
 mod threads;
 mod work;
 

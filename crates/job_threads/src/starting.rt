@@ -1,15 +1,21 @@
-ghost use Rattle.std.specs.Prelude.{IfOk, IsTrue};
-ghost use Rattle.shuffle_reduce.specs.Gather.{values_of};
-ghost use Rattle.job_threads.specs.Steps.{IsAsked, IsMapSent, IsSent};
+ghost use Rattle.std.specs.Prelude.{◌≡◌, ◌+◌, ◌^◌, ◌<◌, ◌≤◌, All, IfErr, IfOk, IsTrue, length, max, min, nat_lt};
+ghost use Rattle.std.specs.Prelude.{false, if◌then◌else◌};
+ghost use Rattle.lane_queue.specs.Orders.{attempt_of};
+ghost use Rattle.job_threads.specs.Chains.{EachBelow};
+ghost use Rattle.job_threads.specs.Steps.{AreStartsSent, IsAnswered, IsBackedUp, IsBackedUpToo, IsMapSent};
+ghost use Rattle.job_threads.specs.Steps.{IsMapStartSent, IsReduceStarted, IsSent, IsStepError, IsWaveStarted};
+ghost use Rattle.job_threads.specs.Steps.{Starts, sent};
+ghost use Rattle.shared_master.specs.Waves.{IsMapStart};
 
+use crate::aim::Aim;
 use crate::caller::Caller;
 use crate::common::{Common, judge, judge_why};
 use crate::gate::Gate;
 use crate::outcome::RunError;
 use lane_queue::Order;
-use master_state::{Answer, Glance, Start, Why, Work};
+use master_state::{Answer, Start, Why, Work};
 use node_ids::{AttemptNo, SplitNo, WorkerNo};
-use shared_master::{SharedWave, WaveError};
+use shared_master::{OfJob, SharedGlance, SharedWave, WaveError};
 use std::alloc::Global;
 use std::sync::ledger::Ledger;
 use std::sync::{Arc, Wait};
@@ -17,23 +23,30 @@ use std::sync::{Arc, Wait};
 // For how many turns no wave is planned after a lane was full: the next would start the same attempt.
 const PAUSE_TURNS: u32 = 1024;
 
-impl<L: Ledger> Caller<L> {
+impl<'a, L: Ledger + OfJob + Aim> Caller<'a, L> {
     // Starts what may start by a glance: whether an order is in a lane.
     pub(crate) fn start<G: Gate, R: Wait>(
         &mut self,
         rt: &R,
         alloc: Global,
         common: &Common<'_, L, G>,
-        glance: &Glance,
-    ) -> Result<bool, RunError> {
+        seen: &SharedGlance<L>,
+    ) -> Result<bool, RunError>
+        ensures starts { IfOk result (λ started. Starts L.setup (nat_lt 0 self.old.pause) seen.now
+            (sent self.old.lanes.items self.old.hand) started
+            (sent self.new.lanes.items self.new.hand)) }
+        ensures idle { self.new.idle ≡ self.old.idle }
+        ensures err { IfErr result IsStepError }
+    {
         if self.pause > 0 {
             self.pause -= 1;
             return Ok(false);
         }
+        let glance = seen.shown();
         if glance.ready {
-            self.start_wave(rt, alloc, common, glance)
+            self.start_wave(rt, alloc, common, seen)
         } else if glance.reducible {
-            self.start_reduce(rt, alloc, common, glance)
+            self.start_reduce(rt, alloc, common, seen)
         } else {
             Ok(false)
         }
@@ -45,9 +58,14 @@ impl<L: Ledger> Caller<L> {
         rt: &R,
         alloc: Global,
         common: &Common<'_, L, G>,
-        _glance: &Glance,
+        _seen: &SharedGlance<L>,
     ) -> Result<bool, RunError>
-        requires { IsTrue _glance.now.ready }
+        requires { IsTrue _seen.now.ready }
+        ensures starts { IfOk result (λ started. IsWaveStarted L.setup
+            (sent self.old.lanes.items self.old.hand) started
+            (sent self.new.lanes.items self.new.hand)) }
+        ensures idle { self.new.idle ≡ self.old.idle }
+        ensures err { IfErr result IsStepError }
     {
         match common.shared.plan_wave(rt, alloc, &mut self.hand) {
             Ok(wave) => {
@@ -60,20 +78,26 @@ impl<L: Ledger> Caller<L> {
         }
     }
 
-    // Sends the orders of a wave.
+    // Sends the orders of a wave, each as the attempt after that of the one before it.
     fn send_wave<G: Gate, R: Wait>(
         &mut self,
         rt: &R,
         common: &Common<'_, L, G>,
         wave: &SharedWave,
-    ) -> Result<bool, RunError> {
+    ) -> Result<bool, RunError>
+        requires attempts { wave.now.wave.first + length wave.now.starts.items < 2 ^ 32 }
+        requires maps { All (IsMapStart L.setup) wave.now.starts.items }
+        ensures sends { IfOk result (λ started. AreStartsSent wave.now L.setup.cluster.texts
+            (sent self.old.lanes.items self.old.hand) started
+            (sent self.new.lanes.items self.new.hand)) }
+        ensures idle { self.new.idle ≡ self.old.idle }
+        ensures err { IfErr result IsStepError }
+    {
         let mut started = false;
-        let mut attempt = wave.wave.first.index() as u32;
-        for start in &wave.starts {
-            if self.send_start(rt, common, AttemptNo::new(attempt), start)? {
-                started = true;
-            }
-            attempt = attempt.saturating_add(1);
+        let first = wave.wave.first.index();
+        for place in 0..wave.starts.len() {
+            let attempt = AttemptNo::new((first + place) as u32);
+            started |= self.send_start(rt, common, attempt, &wave.starts[place])?;
         }
         Ok(started)
     }
@@ -85,10 +109,16 @@ impl<L: Ledger> Caller<L> {
         common: &Common<'_, L, G>,
         attempt: AttemptNo,
         start: &Start,
-    ) -> Result<bool, RunError> {
+    ) -> Result<bool, RunError>
+        requires { IsMapStart L.setup start.now }
+        ensures sends { IfOk result (λ put. IsMapStartSent L.setup.cluster.texts attempt start.now put
+            self.old.lanes.items self.old.hand self.new.lanes.items self.new.hand) }
+        ensures idle { self.new.idle ≡ self.old.idle }
+        ensures err { IfErr result IsStepError }
+    {
         match start.work {
             Work::Split(split) => self.send_map(rt, common, attempt, split, start.worker),
-            Work::Part(_) => Err(RunError::Torn(0)),
+            Work::Part(_) => unreachable!(),
         }
     }
 
@@ -101,10 +131,12 @@ impl<L: Ledger> Caller<L> {
         split: SplitNo,
         worker: WorkerNo,
     ) -> Result<bool, RunError>
-        ensures { IfOk result (λ sent. IsMapSent (values_of self.old.texts.items) attempt split worker
-            sent self.old.lanes.items self.old.hand self.new.lanes.items self.new.hand) }
+        ensures sends { IfOk result (λ put. IsMapSent L.setup.cluster.texts attempt split worker
+            put self.old.lanes.items self.old.hand self.new.lanes.items self.new.hand) }
+        ensures idle { self.new.idle ≡ self.old.idle }
+        ensures err { IfErr result IsStepError }
     {
-        let Some(text) = self.texts.get(split.index()) else {
+        let Some(text) = self.texts.get(split) else {
             return Err(RunError::Torn(0));
         };
         let Ok(text) = Arc::try_clone(text) else {
@@ -114,7 +146,7 @@ impl<L: Ledger> Caller<L> {
     }
 
     // Puts an order into a worker's lane: whether it is there. Where the lane is full, its attempt is
-    // withdrawn.
+    // withdrawn, and no wave is planned for some turns.
     fn send<G: Gate, R: Wait>(
         &mut self,
         rt: &R,
@@ -122,8 +154,12 @@ impl<L: Ledger> Caller<L> {
         worker: WorkerNo,
         order: Order,
     ) -> Result<bool, RunError>
-        ensures { IfOk result (λ sent. IsSent worker order sent
+        ensures order { IfOk result (λ put. IsSent worker order put
             self.old.lanes.items self.old.hand self.new.lanes.items self.new.hand) }
+        ensures pause { IfOk result (λ put. self.new.pause ≡ (if put then self.old.pause else 1024)) }
+        ensures newest { self.new.newest ≡ max self.old.newest (attempt_of order) }
+        ensures idle { self.new.idle ≡ self.old.idle }
+        ensures err { IfErr result IsStepError }
     {
         self.newest = self.newest.max(order.attempt().index() as u32);
         let Some(lane) = self.lanes.get_mut(worker.index()) else {
@@ -145,9 +181,14 @@ impl<L: Ledger> Caller<L> {
         rt: &R,
         alloc: Global,
         common: &Common<'_, L, G>,
-        _glance: &Glance,
+        _seen: &SharedGlance<L>,
     ) -> Result<bool, RunError>
-        requires { IsTrue _glance.now.reducible }
+        requires { IsTrue _seen.now.reducible }
+        ensures starts { IfOk result (λ started. IsReduceStarted L.setup
+            (sent self.old.lanes.items self.old.hand) started
+            (sent self.new.lanes.items self.new.hand)) }
+        ensures idle { self.new.idle ≡ self.old.idle }
+        ensures err { IfErr result IsStepError }
     {
         match common.shared.reduce_start(rt, alloc, &mut self.hand) {
             Answer::Accepted(_, reply) => {
@@ -168,24 +209,39 @@ impl<L: Ledger> Caller<L> {
         &mut self,
         rt: &R,
         common: &Common<'_, L, G>,
-    ) -> Result<bool, RunError> {
+    ) -> Result<bool, RunError>
+        ensures backup { IfOk result (λ started.
+            EachBelow (IsBackedUpToo L.setup.cluster.texts (min (length L.setup.cluster.slots) 256))
+            (min (length L.setup.cluster.splits) 1024) (sent self.old.lanes.items self.old.hand, false)
+            (sent self.new.lanes.items self.new.hand, started)) }
+        ensures idle { self.new.idle ≡ self.old.idle }
+        ensures err { IfErr result IsStepError }
+    {
         let mut started = false;
-        for split in 0..common.shared.sizes().splits.min(1024) {
-            if self.back_up_split(rt, common, SplitNo::new(split as u16))? {
-                started = true;
-            }
+        let splits = common.shared.sizes().splits.min(1024);
+        for split in 0..splits {
+            started |= self.back_up_split(rt, common, SplitNo::new(split as u16))?;
         }
         Ok(started)
     }
 
-    // On the first worker on which it may start.
+    // On the lowest worker on which it may start.
     fn back_up_split<G: Gate, R: Wait>(
         &mut self,
         rt: &R,
         common: &Common<'_, L, G>,
         split: SplitNo,
-    ) -> Result<bool, RunError> {
-        for worker in 0..common.shared.sizes().workers.min(256) {
+    ) -> Result<bool, RunError>
+        requires { split < length L.setup.cluster.splits }
+        ensures backup { IfOk result (λ started. IsBackedUp L.setup.cluster.texts
+            (min (length L.setup.cluster.slots) 256) split
+            (sent self.old.lanes.items self.old.hand) started
+            (sent self.new.lanes.items self.new.hand)) }
+        ensures idle { self.new.idle ≡ self.old.idle }
+        ensures err { IfErr result IsStepError }
+    {
+        let workers = common.shared.sizes().workers.min(256);
+        for worker in 0..workers {
             let worker = WorkerNo::new(worker as u16);
             if let Some(attempt) = self.ask_backup(rt, common, split, worker)? {
                 return self.send_map(rt, common, attempt, split, worker);
@@ -202,12 +258,14 @@ impl<L: Ledger> Caller<L> {
         split: SplitNo,
         worker: WorkerNo,
     ) -> Result<Option<AttemptNo>, RunError>
-        ensures { IfOk result (λ attempt. IsAsked split worker attempt self.old.hand self.new.hand) }
+        requires split { split < length L.setup.cluster.splits }
+        requires worker { worker < length L.setup.cluster.slots }
+        ensures asked { IfOk result
+            (λ attempt. IsAnswered split worker attempt self.old.hand self.new.hand) }
+        ensures same { self.new ≡ record self.old { hand = self.new.hand } }
+        ensures err { IfErr result IsStepError }
     {
-        let sizes = common.shared.sizes();
-        if split.index() >= sizes.splits || worker.index() >= sizes.workers {
-            return Ok(None);
-        }
+        let _ = common.shared.sizes();
         match common.shared.backup(rt, &mut self.hand, split, worker) {
             Answer::Accepted(_, attempt) => Ok(Some(attempt)),
             Answer::Ignored(why, ()) => {

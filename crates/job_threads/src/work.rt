@@ -1,19 +1,27 @@
-ghost use Rattle.std.specs.Prelude.{◌≡◌, ◌<◌, ◌≤◌, Some, IfSome, None};
+ghost use Rattle.std.specs.Prelude.{◌≡◌, ◌≢◌, ◌<◌, ◌≤◌, [], Err, Some, IfErr, IfSome, None, true};
 ghost use Rattle.std.specs.Arc.{arc_value};
+ghost use Rattle.beat_board.specs.Values.{SeatValue};
 ghost use Rattle.std.specs.Option.{is_some};
 ghost use Rattle.master_state.specs.declared.events.Event.{Event};
 ghost use Rattle.shuffle_reduce.specs.Gather.{texts_of_runs};
-ghost use Rattle.job_threads.specs.Steps.{Performs, Tells};
+ghost use Rattle.hand_ledger.specs.Hands.{new_hand};
+ghost use Rattle.job_threads.specs.Steps.{MayEndWith};
+ghost use Rattle.job_threads.specs.Telling.{HasWorked, IsAnswered, IsMapTold, IsPartTold, Performs, Tells};
+ghost use Rattle.job_threads.specs.Telling.{worker_room};
+ghost use Rattle.job_threads.specs.declared.gate.Go.{Go};
+ghost use Rattle.job_threads.specs.declared.outcome.RunError.{RunError};
 
+use crate::aim::Aim;
 use crate::beats::{Beating, Pulse};
-use crate::common::{Common, judge, judge_go};
-use crate::gate::Gate;
-use crate::lanes::LaneEnd;
+use crate::common::{Common, GoingOn, judge, judge_go};
+use crate::gate::{Gate, Go};
+use crate::lanes::{Half, LaneEnd};
 use crate::outcome::RunError;
+use beat_board::Seat;
 use lane_queue::Order;
 use master_state::{Answer, Why};
 use node_ids::{AttemptNo, PartNo, WorkerNo};
-use shared_master::Hand;
+use shared_master::{Hand, OfJob};
 use shuffle_reduce::{PartResult, are_of_part, merge_paced};
 use std::alloc::Global;
 use std::rt::Clock;
@@ -31,28 +39,37 @@ const NAP_MICROS: u64 = 50;
 
 // What the thread of a worker is given.
 #[derive(Drop)]
-pub(crate) struct Worker<L: Ledger> {
+pub(crate) struct Worker<'a, L: Ledger + Aim> {
     pub(crate) number: WorkerNo,
     pub(crate) hand: Hand<L>,
-    pub(crate) orders: LaneEnd,
-    pub(crate) pulse: Pulse,
+    pub(crate) orders: LaneEnd<'a, L>,
+    pub(crate) pulse: Pulse<'a, L>,
+    ghost hand_is: { hand ≡ new_hand worker_room },
+    ghost orders_are: { orders.takes ≡ [] },
 }
 
 // What it gives back.
 #[derive(Drop)]
-pub(crate) struct Back<L: Ledger> {
+pub(crate) struct Back<L: Ledger + Aim> {
     pub(crate) hand: Hand<L>,
     pub(crate) end: Result<(), RunError>,
+    pub(crate) half: Half<L>,
+    pub(crate) seat: Option<Seat>,
+    ghost board: { (s : SeatValue) → seat ≡ Some s → s.board ≡ L.board.board },
+    ghost limit: { end ≡ Err RunError.GateLimit → L.may_end ≡ true },
+    ghost thread: { end ≢ Err RunError.NoThread },
 }
 
 // Beats, takes orders and does them, until the run is over or the worker is stopped. It beats also while it
 // maps and merges.
-pub(crate) fn work<L: Ledger, G: Gate, R: Wait + Clock>(
+pub(crate) fn work<L: Ledger + OfJob + Aim, G: Gate, R: Wait + Clock>(
     rt: &R,
     alloc: Global,
     common: &Common<'_, L, G>,
-    worker: Worker<L>,
-) -> Back<L> {
+    worker: Worker<'_, L>,
+) -> Back<L>
+    ensures worked { HasWorked L.setup result.half result.hand }
+{
     let Worker {
         number,
         mut hand,
@@ -63,24 +80,56 @@ pub(crate) fn work<L: Ledger, G: Gate, R: Wait + Clock>(
     let mut end = Ok(());
     let mut empty = 0;
     for _ in rt.forever() {
-        if !beating.beat() {
+        let Some(going) = beating.beat() else {
             break;
-        }
-        match orders.take(rt) {
-            Some(order) => {
-                empty = 0;
-                if !orders.is_lost(&order) {
-                    end = perform(rt, alloc, common, &beating, &mut hand, &order);
-                }
+        };
+        match take_one(
+            rt,
+            alloc,
+            common,
+            &beating,
+            &mut hand,
+            &mut orders,
+            going,
+            empty,
+        ) {
+            Ok(takes) => empty = takes,
+            Err(error) => {
+                end = Err(error);
+                common.flags.end();
+                break;
             }
-            None => empty = wait(rt, empty),
-        }
-        if end.is_err() {
-            common.flags.end();
-            break;
         }
     }
-    Back { hand, end }
+    Back {
+        hand,
+        end,
+        half: orders.into_half(),
+        seat: beating.seat(),
+    }
+}
+
+// Takes the next order and does it, unless its attempt is lost: how many takes had no order by now.
+fn take_one<L: Ledger + OfJob + Aim, G: Gate, R: Wait + Clock>(
+    rt: &R,
+    alloc: Global,
+    common: &Common<'_, L, G>,
+    beating: &Beating<'_, '_, L>,
+    hand: &mut Hand<L>,
+    orders: &mut LaneEnd<'_, L>,
+    going: GoingOn,
+    empty: u32,
+) -> Result<u32, RunError>
+    ensures worked { HasWorked L.setup orders.old hand.old → HasWorked L.setup orders.new hand.new }
+    ensures err { IfErr result (MayEndWith (G.may_end ≡ true)) }
+{
+    let Some(order) = orders.take(rt, going) else {
+        return Ok(wait(rt, empty));
+    };
+    if !orders.is_lost(&order) {
+        perform(rt, alloc, common, beating, hand, &order)?;
+    }
+    Ok(0)
 }
 
 // Leaves the processor to others: how many takes had no order by now.
@@ -94,61 +143,70 @@ fn wait<R: Clock>(rt: &R, empty: u32) -> u32 {
 }
 
 // Does an order.
-fn perform<L: Ledger, G: Gate, R: Wait>(
+fn perform<L: Ledger + OfJob + Aim, G: Gate, R: Wait>(
     rt: &R,
     alloc: Global,
     common: &Common<'_, L, G>,
-    beating: &Beating<'_>,
+    beating: &Beating<'_, '_, L>,
     hand: &mut Hand<L>,
     order: &Order,
 ) -> Result<(), RunError>
-    ensures { Performs order.now hand.old hand.new }
+    ensures performs { Performs L.setup order.now hand.old hand.new }
+    ensures err { IfErr result (MayEndWith (G.may_end ≡ true)) }
 {
     match order {
         Order::Map(attempt, text) => {
             judge_go(common.gate.before_map(order))?;
             let made = mapped(alloc, common, beating, text);
-            if !beating.beat() {
+            let Some(going) = beating.beat() else {
                 return Ok(());
-            }
-            let answer = tell_map(rt, common, hand, *attempt, made);
+            };
+            let answer = tell_map(rt, common, hand, *attempt, made, going);
             judge(answer, hand)?;
-            judge_go(common.gate.after_map(order))
+            judge_go(ask_after(common, order))
         }
         Order::Reduce(attempt, part, runs) => {
             let made = reduced(alloc, common, beating, *part, runs);
-            if !beating.beat() {
+            let Some(going) = beating.beat() else {
                 return Ok(());
-            }
-            let answer = tell_reduce(rt, common, hand, *attempt, made);
+            };
+            let answer = tell_reduce(rt, common, hand, *attempt, made, going);
             judge(answer, hand)
         }
     }
 }
 
+// What the gate says when the master has answered the worker's call for an order.
+fn ask_after<L: Ledger + OfJob + Aim, G: Gate>(common: &Common<'_, L, G>, order: &Order) -> Go
+    requires { IsAnswered L.setup order.now }
+    ensures { result ≡ Go.Over → G.may_end ≡ true }
+{
+    common.gate.after_map(order)
+}
+
 // The words of the text; none where memory is wanting.
-fn mapped<L: Ledger, G: Gate>(
+fn mapped<L: Ledger + OfJob + Aim, G: Gate>(
     alloc: Global,
     common: &Common<'_, L, G>,
-    beating: &Beating<'_>,
+    beating: &Beating<'_, '_, L>,
     text: &Arc<SplitText>,
 ) -> Option<MapResult>
     ensures text { IfSome result (λ made. made.text ≡ arc_value text.now) }
-    ensures parts { IfSome result (λ made. made.parts ≡ common.now.parts) }
+    ensures parts { IfSome result (λ made. made.parts ≡ L.setup.cluster.parts) }
 {
     map_split_paced(alloc, Arc::try_clone(text).ok()?, common.parts, beating).ok()
 }
 
 // The part of the words; none also where the runs are not what a merge asks for.
-fn reduced<L: Ledger, G: Gate>(
+fn reduced<L: Ledger + OfJob + Aim, G: Gate>(
     alloc: Global,
     common: &Common<'_, L, G>,
-    beating: &Beating<'_>,
+    beating: &Beating<'_, '_, L>,
     part: PartNo,
     runs: &[Arc<Run>],
 ) -> Option<PartResult>
     ensures part { IfSome result (λ made. made.part ≡ part) }
-    ensures parts { IfSome result (λ made. made.parts ≡ common.now.parts) }
+    ensures parts { IfSome result (λ made. made.parts ≡ L.setup.cluster.parts) }
     ensures texts { IfSome result (λ made. made.texts ≡ texts_of_runs runs.now) }
 {
     if part.index() >= common.parts || !are_of_part(runs, part, common.parts) {
@@ -159,14 +217,16 @@ fn reduced<L: Ledger, G: Gate>(
 
 // Tells the master what became of a map attempt.
 #[tactic(auto, using(crate::proofs::Telling::kept_plainly))]
-fn tell_map<L: Ledger, G: Gate, R: Wait>(
+fn tell_map<L: Ledger + OfJob + Aim, G: Gate, R: Wait>(
     rt: &R,
     common: &Common<'_, L, G>,
     hand: &mut Hand<L>,
     attempt: AttemptNo,
     made: Option<MapResult>,
+    _going: GoingOn,
 ) -> Answer
-    ensures { Tells (Event.MapDone attempt) (Event.MapFailed attempt) (is_some made)
+    ensures first { IsMapTold L.setup attempt made hand.old }
+    ensures tells { Tells (Event.MapDone attempt) (Event.MapFailed attempt) (is_some made)
         hand.old result hand.new }
 {
     let Some(made) = made else {
@@ -180,14 +240,16 @@ fn tell_map<L: Ledger, G: Gate, R: Wait>(
 
 // The same of a reduce attempt.
 #[tactic(auto, using(crate::proofs::Telling::kept_plainly))]
-fn tell_reduce<L: Ledger, G: Gate, R: Wait>(
+fn tell_reduce<L: Ledger + OfJob + Aim, G: Gate, R: Wait>(
     rt: &R,
     common: &Common<'_, L, G>,
     hand: &mut Hand<L>,
     attempt: AttemptNo,
     made: Option<PartResult>,
+    _going: GoingOn,
 ) -> Answer
-    ensures { Tells (Event.PartDone attempt) (Event.PartFailed attempt) (is_some made)
+    ensures first { IsPartTold L.setup attempt made hand.old }
+    ensures tells { Tells (Event.PartDone attempt) (Event.PartFailed attempt) (is_some made)
         hand.old result hand.new }
 {
     let Some(made) = made else {

@@ -10,7 +10,7 @@ pub record LaneValue : Type 0 where
   pub lane : TableId
   pub capacity : ℕ
 
--- of which lane it is, what it put and took, and how often its part of the lane was halved
+-- a pass: its lane, what it put and took, and how often its part of the lane was halved
 pub record PassValue : Type 0 where
   pub lane : TableId
   pub puts : List Order

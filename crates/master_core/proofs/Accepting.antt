@@ -16,7 +16,7 @@ use Rattle.master_state.specs.Jobs.{Job, IsAccepted, IsKept, event_of, added_by}
 use Rattle.master_state.proofs.Keeping.{calls_keep}
 use Rattle.master_tables.specs.declared.entries.SplitEntry.{SplitEntry}
 use Rattle.master_core.specs.declared.master.Master.TheInside.{Inside}
-use Rattle.master_core.specs.Inside.{setup_of, state_of, job_of, IsMaster, HasRoom}
+use Rattle.master_core.specs.Inside.{setup_of, state_of, job_of, HasNearEngine, HasRoom, IsMaster}
 use Rattle.master_tables.specs.Kept.{AreOfSplits}
 
 pub is_false : (b : Bool) → true ≡ not b → b ≡ false
@@ -83,12 +83,13 @@ master_of after = after.master
 
 -- so it is where what is kept is kept, in lists that keep their rooms
 pub still_master : {old new : Inside} → IsMaster old → rooms_of new ≡ rooms_of old → IsKept (job_of new) →
-    AreOfSplits (setup_of old) new.splits.items → IsMaster new
-still_master {old = old} {new = new} was rooms kept made = record {
+    AreOfSplits (setup_of old) new.splits.items → HasNearEngine new → IsMaster new
+still_master {old = old} {new = new} was rooms kept made near = record {
   kept = kept;
   room = room_after old new was.room rooms;
   made = subst (λ (s : Setup). AreOfSplits s new.splits.items) (sym (ap (λ (of : Rooms). of.setup) rooms))
       made;
+  near = near;
 }
 
 -- and so where no reason applies, the event is recorded and the change made
@@ -99,8 +100,8 @@ module _ {old new : Inside} {j : Job} {place : ℕ} (call : Call) (was : IsMaste
       place ≡ length old.history.items + 1 →
       changed (state_of old) call ≡ record (state_of new) { events = length old.history.items } →
       new.results.items ≡ results_after old.results.items call → AreOfSplits (setup_of old) new.splits.items →
-      Follows new j call place
-  follows known allowed rooms history place_is change results made =
+      HasNearEngine new → Follows new j call place
+  follows known allowed rooms history place_is change results made near =
       let accepted : IsAccepted (job_of old) call place (job_of new) = record {
         change = record {
           known = subst (λ (i : Job). IsKnown i.setup call) (sym is) known;
@@ -118,5 +119,5 @@ module _ {old new : Inside} {j : Job} {place : ℕ} (call : Call) (was : IsMaste
       record {
         accepted = subst (λ (i : Job). IsAccepted i call place (job_of new)) is accepted;
         master = still_master was rooms
-            (calls_keep (job_of old) (job_of new) call place was.kept accepted) made;
+            (calls_keep (job_of old) (job_of new) call place was.kept accepted) made near;
       }

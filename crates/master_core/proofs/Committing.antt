@@ -15,7 +15,7 @@ use Rattle.master_state.proofs.Waves.{are_starts}
 use Rattle.master_state.proofs.Keeping.{waves_keep}
 use Rattle.master_core.specs.declared.master.Master.TheInside.{Inside}
 use Rattle.master_tables.specs.Entries.{shown_as}
-use Rattle.master_core.specs.Inside.{setup_of, state_of, job_of, IsMaster}
+use Rattle.master_core.specs.Inside.{setup_of, state_of, job_of, HasNearEngine, IsMaster}
 use Rattle.master_tables.specs.Kept.{AreOfSplits}
 use Rattle.master_tables.specs.Starting.{MayStart}
 use Rattle.master_core.proofs.Accepting.{Rooms, leads_to, rooms_of, still_master}
@@ -48,9 +48,10 @@ pub commits : {old new : Inside} {j : Job} (plan : List (Option ℕ)) (wave : Wa
     wave.place ≡ length old.history.items + 1 →
     fold (λ now pair. split_started now pair.0 pair.1) (state_of old) (pairs_of plan)
     ≡ record (state_of new) { events = length old.history.items } →
-    new.results.items ≡ old.results.items → AreOfSplits (setup_of old) new.splits.items → IsMaster new
+    new.results.items ≡ old.results.items → AreOfSplits (setup_of old) new.splits.items → HasNearEngine new →
+    IsMaster new
 commits {old = old} {new = new} {j = j} plan wave was is best priced free first count cost rooms history place
-    change results made =
+    change results made near =
     let committed : IsCommitted (job_of old) plan wave (job_of new) = record {
       change = record {
         best = subst (λ (i : Job). best_in i (pairs_of plan)) (sym is) best;
@@ -69,4 +70,4 @@ commits {old = old} {new = new} {j = j} plan wave was is best priced free first 
         results = results ∙ sym (append-nil old.results.items);
       };
     } in
-    still_master was rooms (waves_keep (job_of old) (job_of new) plan wave was.kept committed) made
+    still_master was rooms (waves_keep (job_of old) (job_of new) plan wave was.kept committed) made near

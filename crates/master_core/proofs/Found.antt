@@ -97,7 +97,7 @@ module _ {m : Inside} {j : Job} (was : IsMaster m) (is : job_of m ≡ j) where
         ∙ ap (λ (l : Job). runs a (split_at l.state k)) is in
         split_told b here (no_split_is j.setup j.state a k w tidy_at start ∙ ap not (sym here))
 
-  -- so it is of a part
+  -- an attempt of a part is found in the list of parts, too
   module _ (a r w : ℕ) (start : start_of j.state a ≡ Some (start_on (works.Part r) w)) where
     pub part_in_list : r < length m.parts.items
     part_in_list =

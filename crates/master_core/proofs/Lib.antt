@@ -10,3 +10,5 @@ pub mod Committing
 pub mod Present
 pub mod Replying
 pub mod PartStarts
+pub mod Nearness
+pub mod Backing

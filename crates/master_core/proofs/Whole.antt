@@ -16,7 +16,7 @@ pub whole_from : (racks : Tree) (slots copied : List ℕ) (splits : List Split)
     tree.IsWithinLimits racks →
     length racks.rack_of ≡ length slots →
     map (λ text. text.split) (values_of texts) ≡ range_with_len 0 (length splits) → 1 ≤ parts → 1 ≤ silence →
-    AreFewAndSmall slots splits parts → AreHeldWell (length slots) splits →
+    AreFewAndSmall slots splits (values_of texts) parts → AreHeldWell (length slots) splits →
     IsWhole (cluster_from racks copied splits texts parts silence)
 whole_from racks slots copied splits texts parts silence same within workers of some heard few held =
     subst (λ (given : List ℕ). IsWhole (cluster_from racks given splits texts parts silence)) (sym same)

@@ -1,5 +1,5 @@
 -- The parts of a cluster, and the limits that are tested of them.
-use Rattle.std.specs.Prelude.{ℕ, ◌≤◌, List, All}
+use Rattle.std.specs.Prelude.{ℕ, ◌≤◌, List, All, length, sum_by}
 use Rattle.std.specs.declared.alloc.Global.{Global}
 use Rattle.std.specs.declared.sync.Arc.{Arc}
 use Rattle.rack_tree.specs.Tree.{Tree}
@@ -19,8 +19,14 @@ cluster_from tree slots splits texts parts silence = record {
   silence = silence;
 }
 
--- each worker has few slots, the splits are few and small, and the parts are few
-pub record AreFewAndSmall (slots : List ℕ) (splits : List Split) (parts : ℕ) : Type 0 where
+-- how many documents the splits have together
+abbrev pub documents_in : List SplitDocuments → ℕ
+documents_in texts = sum_by (λ text. length text.documents) texts
+
+-- each worker has few slots, the splits are few and small, and the documents and the parts are few
+pub record AreFewAndSmall
+    (slots : List ℕ) (splits : List Split) (texts : List SplitDocuments) (parts : ℕ) : Type 0 where
   pub few_slots : All (λ n. n ≤ 16) slots
   pub small_splits : AreSmallSplits splits
+  pub few_documents : documents_in texts ≤ 65536
   pub few_parts : parts ≤ 64

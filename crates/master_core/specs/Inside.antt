@@ -5,6 +5,7 @@ use Rattle.master_state.specs.Jobs.{Job, IsKept}
 use Rattle.master_core.specs.declared.cluster.Cluster.TheInside as cluster
 use Rattle.master_core.specs.declared.master.Master.TheInside.{Inside}
 use Rattle.master_core.specs.Clusters.{cluster_from}
+use Rattle.master_core.specs.Near.{IsNear}
 use Rattle.master_tables.specs.Entries.{shown_as}
 use Rattle.master_tables.specs.Kept.{AreOfSplits}
 
@@ -42,8 +43,13 @@ pub record HasRoom (m : Inside) : Type 0 where
   pub sweeps : m.limits.sweeps ≤ vec_capacity m.sweeps
   pub results : m.cluster.parts ≤ vec_capacity m.results
 
+-- the engine is near where it says so
+abbrev pub HasNearEngine : Inside → Type 0
+HasNearEngine m = IsNear m.engine m.cluster m.holders m.workers.barred
+
 -- what every master keeps
 pub record IsMaster (m : Inside) : Type 0 where
   pub kept : IsKept (job_of m)
   pub room : HasRoom m
   pub made : AreOfSplits (setup_of m) m.splits.items
+  pub near : HasNearEngine m

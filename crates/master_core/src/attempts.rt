@@ -1,9 +1,11 @@
-ghost use Rattle.std.specs.Prelude.{◌≡◌, ◌<◌, length};
+ghost use Rattle.std.specs.Prelude.{◌≡◌, ◌<◌, ℕ, List, length};
 ghost use Rattle.worker_table.specs.Workers.{taken_slots};
-ghost use Rattle.master_state.specs.States.{State};
+ghost use Rattle.master_state.specs.States.{Cluster, State};
 ghost use Rattle.master_state.specs.Jobs.{event_of};
 ghost use Rattle.master_core.specs.Attempts.{freed_by, part_end, split_end};
+ghost use Rattle.master_core.specs.Near.{IsNear};
 
+use crate::kept::Kept;
 use master_state::Event;
 use master_tables::running::{RunningPart, RunningSplit};
 use node_ids::AttemptNo;
@@ -47,15 +49,21 @@ impl End {
 }
 
 /// Gives the slot back of a split's attempt that ends. A failure bars the pair.
-pub fn free_slot(workers: &mut WorkerTable, found: RunningSplit, end: End)
+pub fn free_slot(workers: &mut WorkerTable, engine: &mut Kept, found: RunningSplit, end: End)
     requires known { found.worker < length workers.old.each }
     requires taken { 0 < taken_slots workers.old found.worker }
     requires few { (found.split < 1024) × (found.worker < 256) }
-    ensures { workers.new ≡ freed_by end workers.old found.split found.worker }
+    ensures freed { workers.new ≡ freed_by end workers.old found.split found.worker }
+    ensures near { (cluster : Cluster) (holders : List (List ℕ))
+        → IsNear engine.old cluster holders workers.old.barred
+        → IsNear engine.new cluster holders workers.new.barred }
 {
     workers.give_slot(found.worker);
     match end {
-        End::Failed => workers.bar(found.split, found.worker),
+        End::Failed => {
+            engine.turn_far();
+            workers.bar(found.split, found.worker)
+        }
         End::Withdrawn => {}
     }
 }

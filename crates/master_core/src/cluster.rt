@@ -3,7 +3,7 @@ ghost use Rattle.std.specs.List.{range_with_len};
 ghost use Rattle.wave_problem.specs.Wave.{AreHeldWell};
 ghost use Rattle.shuffle_reduce.specs.Gather.{values_of};
 ghost use Rattle.master_state.specs.States.{IsWhole};
-ghost use Rattle.master_core.specs.Clusters.{AreFewAndSmall, cluster_from};
+ghost use Rattle.master_core.specs.Clusters.{AreFewAndSmall, cluster_from, documents_in};
 
 use rack_tree::RackTree;
 use std::alloc::Global;
@@ -16,11 +16,14 @@ use word_map::SplitText;
 /// The greatest number of parts of a job.
 pub const MAX_PARTS: usize = 64;
 
+/// The greatest number of documents of a job.
+pub const MAX_DOCUMENTS: usize = 65_536;
+
 /// Why a cluster was not made. It is tested in this order.
 #[derive(Clone, Copy, Debug, PartialEq, Eq, Error)]
 pub enum ClusterError {
-    /// A worker has too many slots, there are too many splits or parts, or a split has too many bytes or
-    /// holders.
+    /// A worker has too many slots, there are too many splits, documents or parts, or a split has too many
+    /// bytes or holders.
     #[error("a limit of the cluster is passed")]
     Limit,
     /// A holder is no worker, or stands twice at a split.
@@ -30,9 +33,8 @@ pub enum ClusterError {
     Memory,
 }
 
-/// What a job is given: the racks and their workers, the slots of each worker, the splits with their first
-/// holders and their texts, the number of parts, and the sweeps without a new beat after which a worker is
-/// dead.
+/// A job's input: racks and workers, each worker's slots, splits with their first holders and texts, the
+/// number of parts, and the silence (sweeps without a new beat) after which a worker is dead.
 #[derive(Drop)]
 pub struct Cluster {
     tree: RackTree,
@@ -75,14 +77,14 @@ impl Cluster {
         ensures ok { IfOk result (λ c.
             c ≡ cluster_from tree slots.now splits.items texts.items parts silence) }
         ensures limit { (result ≡ Err ClusterError.Limit)
-            ↔ (AreFewAndSmall slots.now splits.items parts → ⊥) }
+            ↔ (AreFewAndSmall slots.now splits.items (values_of texts.items) parts → ⊥) }
         ensures holder { (result ≡ Err ClusterError.Holder)
-            ↔ (AreFewAndSmall slots.now splits.items parts
+            ↔ (AreFewAndSmall slots.now splits.items (values_of texts.items) parts
             × (AreHeldWell (length slots.now) splits.items → ⊥)) }
         ensures memory { result ≡ Err ClusterError.Memory
-            → AreFewAndSmall slots.now splits.items parts × AreHeldWell (length slots.now) splits.items }
+            → AreFewAndSmall slots.now splits.items (values_of texts.items) parts × AreHeldWell (length slots.now) splits.items }
     {
-        if !are_few_and_small(slots, &splits, parts) {
+        if !are_few_and_small(slots, &splits, &texts, parts) {
             return Err(ClusterError::Limit);
         }
         if !are_held_well(slots.len(), &splits) {
@@ -150,10 +152,32 @@ impl Cluster {
 }
 
 // Whether the limits that a cluster has beside its tree are kept.
-fn are_few_and_small(slots: &[u8], splits: &[SplitLine], parts: usize) -> bool
-    ensures { IsTrue result ↔ AreFewAndSmall slots.now splits.now parts }
+fn are_few_and_small(
+    slots: &[u8],
+    splits: &[SplitLine],
+    texts: &[Arc<SplitText>],
+    parts: usize,
+) -> bool
+    ensures { IsTrue result ↔ AreFewAndSmall slots.now splits.now (values_of texts.now) parts }
 {
-    have_few_slots(slots) && are_small_splits(splits) && parts <= MAX_PARTS
+    have_few_slots(slots)
+        && are_small_splits(splits)
+        && have_few_documents(texts)
+        && parts <= MAX_PARTS
+}
+
+fn have_few_documents(texts: &[Arc<SplitText>]) -> bool
+    ensures { IsTrue result ↔ documents_in (values_of texts.now) ≤ 65536 }
+{
+    let mut left = MAX_DOCUMENTS;
+    for text in texts {
+        let count = text.documents().len();
+        if count > left {
+            return false;
+        }
+        left -= count;
+    }
+    true
 }
 
 fn have_few_slots(slots: &[u8]) -> bool

@@ -1,15 +1,16 @@
 //! The master of a job: a state machine whose every call is one event of its definition.
 //!
-//! Upward it promises, by the words of `master_state`, that a call is ignored for the first reason that
-//! applies, and changes nothing then, or is accepted as the next event of the history; that each history is
-//! legal and leads to the present state; and that only calls with an allocator take memory. It stands on the
-//! tables of `master_tables`.
+//! Upward it promises, in the words of `master_state`: a call is ignored for the first reason that applies,
+//! and then changes nothing; or it is accepted as the next event. Each history is legal and leads to the
+//! present state. Only calls with an allocator take memory. It stands on the tables of `master_tables`.
 #![tactic(auto)]
 
 mod attempts;
 pub mod cluster;
 mod holders;
 mod inputs;
+mod kept;
+mod kept_plan;
 mod lists;
 pub mod master;
 mod reducing;

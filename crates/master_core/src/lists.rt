@@ -1,7 +1,10 @@
-//! The lists that grow with a master's history.
-ghost use Rattle.std.specs.Prelude.{◌≡◌, [], IfOk, vec_capacity};
+//! The lists that grow with a master's history, and that of its pending splits.
+ghost use Rattle.std.specs.Prelude.{◌≡◌, [], map, IfOk, vec_capacity};
+ghost use Rattle.master_state.specs.Tests.{is_pending};
+ghost use Rattle.master_tables.specs.Entries.{shown_as};
 
 use master_state::{Event, Limits, Start};
+use master_tables::entries::{SplitEntry, is_pending};
 use shuffle_reduce::PartResult;
 use std::alloc::{AllocError, Global};
 
@@ -35,4 +38,15 @@ pub(crate) fn empty_lists(alloc: Global, parts: usize, limits: Limits) -> Result
         sweeps,
         history,
     })
+}
+
+// Which of these splits are pending.
+pub(crate) fn pending_flags(alloc: Global, entries: &[SplitEntry]) -> Result<Vec<bool>, AllocError>
+    ensures { IfOk result (λ flags. flags.items ≡ map is_pending (map shown_as entries.now)) }
+{
+    let mut flags = Vec::with_capacity(alloc, entries.len())?;
+    for entry in entries {
+        flags.push(is_pending(entry))?;
+    }
+    Ok(flags)
 }

@@ -12,6 +12,7 @@ mod waves;
 use crate::attempts::Found;
 use crate::cluster::Cluster;
 use crate::holders::first_holders;
+use crate::kept::Kept;
 use crate::lists::empty_lists;
 use crate::reducing::NextPart;
 use block_map::BlockMap;
@@ -38,6 +39,8 @@ pub struct Master {
     starts: Vec<Start>,
     sweeps: Vec<[u64; 256]>,
     history: Vec<Event>,
+    // (callers see nothing of it)
+    engine: Kept,
 }
 
 impl Model for Master {
@@ -77,6 +80,7 @@ impl Master {
             starts: lists.starts,
             sweeps: lists.sweeps,
             history: lists.history,
+            engine: Kept::None,
         })
     }
 

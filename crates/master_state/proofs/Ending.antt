@@ -1,10 +1,9 @@
 -- Results, failures, withdrawals and deaths keep a state tidy.
 use Rattle.std.proofs.Common.{◌≡◌, ◌≢◌, ℕ, suc, ◌==◌, ◌||◌, List, [], ◌∷◌, ◌++◌, length, map, cond, Bool}
-use Rattle.std.proofs.Common.{true, false, not, Option, Some, None, refl, sym, ap, ◌∙◌, arith, inl, inr, All}
+use Rattle.std.proofs.Common.{true, false, not, None, refl, sym, ap, ◌∙◌, arith, inl, inr, All}
 use Rattle.std.proofs.Common.{AllPairs, subst}
-use Rattle.std.specs.Prelude.{flat_map, filter, count_by, sum_by, is_some, slice_index_or}
+use Rattle.std.specs.Prelude.{flat_map, filter, count_by, sum_by, slice_index_or}
 use Rattle.std.specs.List.{list_any}
-use Rattle.std.specs.Option.{option_map_or}
 use Rattle.std.proofs.lemmas.Bool.{false≢true, eqb-true, eqb-false, eq-eqb, ne_eqb, cases_Bool, cases_eq}
 use Rattle.std.proofs.lemmas.Bool.{not-false, not-true, or_left, or_right, and_cases}
 use Rattle.std.proofs.lemmas.List.{length-map}
@@ -21,7 +20,7 @@ use Rattle.worker_table.specs.Workers.{Workers, is_live, taken_slots, with_slot_
 use Rattle.block_map.specs.Holdings.{without, without_worker}
 use Rattle.master_state.specs.declared.states.Attempt.{Attempt}
 use Rattle.master_state.specs.declared.states.SplitState.{SplitState}
-use Rattle.master_state.specs.declared.states.SplitState.TheVariants.{Pending, Done}
+use Rattle.master_state.specs.declared.states.SplitState.TheVariants.{Pending}
 use Rattle.master_state.specs.declared.states.PartState.{PartState}
 use Rattle.master_state.specs.declared.states.PartState.TheVariants as part
 use Rattle.master_state.specs.States.{Setup, State, worker_of}
@@ -193,12 +192,6 @@ tidy_map_failed setup s a tidy allowed =
     let table = with_bar left.workers (split_running s a) (worker_of s a) in
     let kept = tidy_without setup s a tidy (any_of_split s a none.0) in
     grind arith
-
--- a split that is done runs nothing
-none_found : (found : Option Attempt) (split : SplitState) → is_some found ≡ true →
-    attempts_of (option_map_or Done found split) ≡ []
-none_found None split some = absurd (false≢true some)
-none_found (Some a) split some = refl
 
 pub attempts-done_by : (a : ℕ) (split : SplitState) → runs a split ≡ true → attempts_of (done_by a split) ≡ []
 attempts-done_by a split run = grind arith

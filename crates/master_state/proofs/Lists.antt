@@ -1,6 +1,6 @@
 -- Lists of which one element or each was changed, and many lists in a row.
-use Rattle.std.proofs.Common.{◌≡◌, ◌≢◌, ◌||◌, cond, ℕ, zero, suc, ◌<◌, List, [], ◌∷◌, ◌++◌, length, map, Bool}
-use Rattle.std.proofs.Common.{true, false, Option, Some, refl, sym, ap, ◌∙◌, arith, inl, inr, All, AllPairs}
+use Rattle.std.proofs.Common.{◌≡◌, ◌≢◌, ℕ, zero, suc, ◌<◌, List, [], ◌∷◌, ◌++◌, length, map, Bool}
+use Rattle.std.proofs.Common.{true, false, Some, refl, sym, ap, ◌∙◌, arith, inl, inr, All, AllPairs}
 use Rattle.std.proofs.Common.{Contains}
 use Rattle.std.specs.Prelude.{flat_map, filter, find, slice_get, slice_index_or, is_some}
 use Rattle.std.specs.List.{list_any, position_or_len}
@@ -201,17 +201,6 @@ pub find-contains : {X : Type 0} (test : X → Bool) (xs : List X) (x : X) → f
 find-contains test xs x found =
     let at = sym (find_at test xs) ∙ found in
     (position_or_len test xs, slice_get_within xs _ x at, get_or_from_slice_get xs _ x x at)
-
-found_first : {X : Type 0} (b : Bool) (x : X) (any : Bool) (found : Option X) →
-    (any ≡ true → is_some found ≡ true) →
-    b || any ≡ true → is_some (cond b (Some x) found) ≡ true
-found_first true x any found rest e = refl
-found_first false x any found rest e = rest e
-
-pub find-any : {X : Type 0} (test : X → Bool) (xs : List X) → list_any test xs ≡ true →
-    is_some (find test xs) ≡ true
-find-any test [] any = absurd (false≢true any)
-find-any test (x ∷ xs) any = found_first (test x) x (list_any test xs) (find test xs) (find-any test xs) any
 
 -- where some element passes, the first that passes is there, and does
 pub any_inside : {X : Type 0} (test : X → Bool) (xs : List X) → list_any test xs ≡ true →

@@ -1,10 +1,9 @@
 -- Deaths one after another, and all at once.
-use Rattle.std.proofs.Common.{◌≡◌, ℕ, ◌≤◌, List, [], ◌∷◌, length, map, cond, not, Bool, true, false, ◌||◌}
+use Rattle.std.proofs.Common.{◌≡◌, ℕ, List, [], ◌∷◌, map, cond, not, Bool, true, false, ◌||◌}
 use Rattle.std.proofs.Common.{◌&&◌, ◌==◌, None, Some, refl, ap, sym, ◌∙◌, arith}
 use Rattle.std.specs.Prelude.{filter, fold}
 use Rattle.std.specs.List.{list_all}
 use Rattle.std.proofs.lemmas.Bool.{and_right}
-use Rattle.std.proofs.lemmas.List.Sums.{length-filter, count_by-le-length}
 use Rattle.worker_table.specs.Workers.{Workers, with_death}
 use Rattle.block_map.specs.Holdings.{without}
 use Rattle.master_state.specs.declared.states.Attempt.{Attempt}
@@ -13,8 +12,8 @@ use Rattle.master_state.specs.declared.states.SplitState.TheVariants.{Pending, R
 use Rattle.master_state.specs.declared.states.PartState.{PartState}
 use Rattle.master_state.specs.declared.states.PartState.TheVariants as part
 use Rattle.master_state.specs.States.{Setup, State}
-use Rattle.master_state.specs.Tests.{all_parts_done, is_on, part_is_done, running}
-use Rattle.master_state.specs.Changes.{after_death, died, part_without, without_attempts}
+use Rattle.master_state.specs.Tests.{all_parts_done, is_on, part_is_done}
+use Rattle.master_state.specs.Changes.{after_death, died, part_without}
 use Rattle.master_state.proofs.Keeping.{done_without}
 use Rattle.master_tables.specs.declared.entries.SplitEntry.{SplitEntry}
 use Rattle.master_tables.specs.Entries.{entry_after_death, shown_as}
@@ -22,31 +21,6 @@ use Rattle.master_tables.specs.Kept.{AreOfSplits}
 use Rattle.master_tables.proofs.Among.{among}
 use Rattle.master_tables.proofs.Showing.{after_deaths, death_makes_none, made_mapped, shown-deaths}
 use Rattle.master_tables.proofs.Together.{filter-both, filter-none, map-both, map-nothing}
-
--- the attempts that a split runs without those that either of two tests names
-without_running : (test : Attempt → Bool) (attempts : List Attempt) → length attempts ≤ 2 →
-    without_attempts test (running attempts) ≡ running (filter (λ a. not (test a)) attempts)
-without_running test [] few = refl
-without_running test (one ∷ []) few = refl
-without_running test (one ∷ other ∷ []) few = refl
-without_running test (one ∷ other ∷ more ∷ rest) few = absurd (omega (arith, few))
-
-few_left : (test : Attempt → Bool) (attempts : List Attempt) → length attempts ≤ 2 →
-    length (filter (λ a. not (test a)) attempts) ≤ 2
-few_left test attempts few = grind (arith, length-filter, count_by-le-length)
-
-left_both : (p q either : Attempt → Bool) → ((a : Attempt) → either a ≡ (p a || q a)) →
-    (attempts : List Attempt) → length attempts ≤ 2 →
-    without_attempts q (running (filter (λ a. not (p a)) attempts))
-    ≡ running (filter (λ a. not (either a)) attempts)
-left_both p q either same attempts few = grind (arith, without_running, few_left, filter-both)
-
--- what runs is not done, and no death makes it so
-death_running : (stays : Bool) (test : Attempt → Bool) (attempts : List Attempt) →
-    after_deaths stays test (running attempts) ≡ without_attempts test (running attempts)
-death_running stays test [] = refl
-death_running stays test (one ∷ []) = refl
-death_running stays test (one ∷ other ∷ more) = refl
 
 done_both : (stays p q : Bool) (test : Attempt → Bool) (attempt : Attempt) → test attempt ≡ q →
     after_deaths stays test (cond (p && not stays) Pending (Done attempt))

@@ -1,21 +1,13 @@
 -- Changes made one after another, and all at once.
 use Rattle.std.proofs.Common.{◌≡◌, ℕ, zero, suc, ◌<◌, ◌≤◌, List, [], ◌∷◌, length, map, cond, not, Bool, true}
-use Rattle.std.proofs.Common.{false, ◌||◌, ◌==◌, get_or, set, Option, Some, None, refl, ap}
+use Rattle.std.proofs.Common.{false, ◌||◌, ◌==◌, get_or, set, Some, None, refl, ap}
 use Rattle.std.proofs.Common.{arith}
 use Rattle.std.specs.Prelude.{filter, find, slice_index_or}
 use Rattle.std.specs.List.{list_any}
-use Rattle.std.proofs.lemmas.Bool.{or_right, false≢true}
+use Rattle.std.proofs.lemmas.Bool.{false≢true}
 use Rattle.std.proofs.lemmas.List.Sums.{length-filter, count_by-le-length}
 use Rattle.node_ids.specs.Updates.{updated}
 use Rattle.node_ids.proofs.Updating.{updated_at}
-
--- what passes neither of two tests, one after the other
-passes_neither : {X : Type 0} (q : X → Bool) (p_here q_here : Bool) (x : X) (rest both : List X) →
-    q x ≡ q_here → filter (λ y. not (q y)) rest ≡ both →
-    filter (λ y. not (q y)) (cond (not p_here) (x ∷ rest) rest)
-    ≡ cond (not (p_here || q_here)) (x ∷ both) both
-passes_neither q true q_here x rest both here same = same
-passes_neither q false q_here x rest both here same = rw (here, same) refl
 
 pub filter-both : {X : Type 0} (p q either : X → Bool) → ((x : X) → either x ≡ (p x || q x)) → (xs : List X) →
     filter (λ x. not (q x)) (filter (λ x. not (p x)) xs) ≡ filter (λ x. not (either x)) xs
@@ -96,13 +88,6 @@ pub find-none : {X : Type 0} (test : X → Bool) (xs : List X) → find test xs 
     filter (λ x. not (test x)) xs ≡ xs
 find-none test [] found = refl
 find-none test (x ∷ xs) found = find_none_step test (test x) x xs refl found (find-none test xs)
-
-find_some_step : (test : ℕ → Bool) (b : Bool) (x y : ℕ) (rest : Option ℕ) (more : Bool) → test x ≡ b →
-    cond b (Some x) rest ≡ Some y → (rest ≡ Some y → (more ≡ true) × (test y ≡ true)) →
-    ((x == y || more) ≡ true) × (test y ≡ true)
-find_some_step test true x y rest more here found inner = grind arith
-find_some_step test false x y rest more here found inner =
-    (or_right (x == y) more (inner found).0, (inner found).1)
 
 -- what is found stands there, and passes
 pub find-some : (test : ℕ → Bool) (xs : List ℕ) (y : ℕ) → find test xs ≡ Some y →

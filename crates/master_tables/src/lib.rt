@@ -1,9 +1,9 @@
 //! The tables of a master, and what each call changes in them.
 //!
-//! Upward it promises, by the words of `master_state`, what becomes of the entries of splits and parts, of
-//! the lists of starts, sweeps, events and results, and of the tables of workers and holders, by each of the
-//! changes of which a call is made; and what is read off them. No call takes memory but those that make a new
-//! list. It stands on the tables of `worker_table` and `block_map`.
+//! Upward it promises what each change does to the tables: the entries of splits and parts, the lists of
+//! starts, sweeps, events and results, the workers and the holders. `master_state` defines each change, and a
+//! call of the master is made of such changes. Only calls that make a new list take memory. The crate stands
+//! on the tables of `worker_table` and `block_map`.
 #![tactic(auto)]
 
 pub mod backups;

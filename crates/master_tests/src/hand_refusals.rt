@@ -1,13 +1,15 @@
 //! Allocations that are refused: they hold whichever is, one or none.
-ghost use Rattle.std.specs.Prelude.{◌≡◌};
+ghost use Rattle.std.specs.Prelude.{◌≡◌, []};
 
 use crate::jobs::{Call, Shape, SplitRow, answer, end};
+use crate::one_hold::wave;
 use crate::refusals::{is_as_before, one_master};
 use crate::seen::{Shown, seen};
 use crate::shared_masters::{AMPLE, list_of, make_master, settles};
+use master_core::Master;
 use master_state::Answer;
 use node_ids::{SplitNo, WorkerNo};
-use shared_master::{Hand, HandError, SharedMaster, WaveError};
+use shared_master::{Hand, HandError, OfJob, SharedMaster, WaveError};
 use std::alloc::Global;
 use std::marker::Brand;
 use std::process::Abort;
@@ -18,7 +20,7 @@ use std::sync::ledger::{Blank, Ledger};
 const ROWS: [SplitRow<'static>; 2] = [(10, &[0], "one"), (10, &[], "two")];
 
 // A hand, unless an allocation is refused.
-fn make_hand<L: Ledger, R: Wait + Abort>(
+fn make_hand<L: Ledger + OfJob, R: Wait + Abort>(
     rt: &R,
     alloc: Global,
     shared: &SharedMaster<L>,
@@ -33,7 +35,7 @@ fn make_hand<L: Ledger, R: Wait + Abort>(
 }
 
 // Of two hands one is made, and its call is accepted.
-fn sweep_by_either<L: Ledger, R: Wait + Abort>(
+fn sweep_by_either<L: Ledger + OfJob, R: Wait + Abort>(
     rt: &R,
     alloc: Global,
     shared: &SharedMaster<L>,
@@ -47,7 +49,7 @@ fn sweep_by_either<L: Ledger, R: Wait + Abort>(
 }
 
 // They settle, where there was memory for their list.
-fn assert_settles<L: Ledger>(
+fn assert_settles<L: Ledger + OfJob>(
     rt: &impl Abort,
     shared: SharedMaster<L>,
     hands: Option<Vec<Hand<L>>>,
@@ -57,68 +59,88 @@ fn assert_settles<L: Ledger>(
     }
 }
 
-fn call_by_either<L: Ledger, R: Wait + Abort>(rt: &R, alloc: Global, blank: Blank)
-    requires { (blank.name ≡ L.name) × (blank.parts ≡ L.parts) × (blank.parts ≡ 4096) }
+fn call_by_either<L: Ledger + OfJob, R: Wait + Abort>(
+    rt: &R,
+    alloc: Global,
+    blank: Blank,
+    master: Master,
+)
+    requires ledger { (blank.name ≡ L.name) × (blank.parts ≡ L.parts) × (blank.parts ≡ 4096) }
+    requires job { (master.history ≡ []) × (master.setup ≡ L.setup) }
 {
-    if let Some(master) = make_master(rt, alloc, (2, 0), &ROWS, AMPLE) {
-        let shared: SharedMaster<L> = SharedMaster::new(blank, master);
-        let hands = sweep_by_either(rt, alloc, &shared);
-        assert_settles(rt, shared, hands);
-    }
+    let shared: SharedMaster<L> = SharedMaster::new(blank, master);
+    let hands = sweep_by_either(rt, alloc, &shared);
+    assert_settles(rt, shared, hands);
 }
 
 #[test]
 fn a_refused_hand_changes_nothing(rt: HostRuntime) {
-    call_by_either::<Brand, _>(&rt, rt.alloc(), Blank::new(4096))
+    if let Some(master) = make_master(&rt, rt.alloc(), (2, 0), &ROWS, AMPLE) {
+        call_by_either::<Brand, _>(&rt, rt.alloc(), Blank::new(4096), master);
+    }
 }
 
-// The place of a wave, unless an allocation is refused.
-fn plan<L: Ledger, R: Wait + Abort>(
+// The place of a wave, made in one hold of the lock or not, unless an allocation is refused.
+fn plan<L: Ledger + OfJob, R: Wait + Abort>(
     rt: &R,
     alloc: Global,
     shared: &SharedMaster<L>,
     hand: &mut Hand<L>,
+    in_one_hold: bool,
 ) -> Option<u32> {
-    let before = shared.glance(rt);
-    match shared.plan_wave(rt, alloc, hand) {
-        Ok(planned) => Some(planned.wave.place),
+    let before = shared.glance(rt).shown();
+    match wave(rt, alloc, shared, hand, in_one_hold) {
+        Ok(made) => Some(made.wave.place),
         Err(why) => {
-            assert_eq!(rt; (why, shared.glance(rt)), (WaveError::Memory, before));
+            assert_eq!(rt;
+                (why, shared.glance(rt).shown()),
+                (WaveError::Memory, before)
+            );
             None
         }
     }
 }
 
 // The first wave is planned, at the second call where the first is refused.
-fn plan_by_one<L: Ledger, R: Wait + Abort>(
+fn plan_by_one<L: Ledger + OfJob, R: Wait + Abort>(
     rt: &R,
     alloc: Global,
     shared: &SharedMaster<L>,
 ) -> Option<Vec<Hand<L>>> {
     let mut hand = make_hand(rt, alloc, shared)?;
-    let first = plan(rt, alloc, shared, &mut hand);
-    let second = plan(rt, alloc, shared, &mut hand);
+    let first = plan(rt, alloc, shared, &mut hand, false);
+    let second = plan(rt, alloc, shared, &mut hand, true);
     assert_eq!(rt; first.or(second), Some(1));
     list_of(alloc, hand)
 }
 
-fn plan_twice<L: Ledger, R: Wait + Abort>(rt: &R, alloc: Global, blank: Blank)
-    requires { (blank.name ≡ L.name) × (blank.parts ≡ L.parts) × (blank.parts ≡ 4096) }
+fn plan_twice<L: Ledger + OfJob, R: Wait + Abort>(
+    rt: &R,
+    alloc: Global,
+    blank: Blank,
+    master: Master,
+)
+    requires ledger { (blank.name ≡ L.name) × (blank.parts ≡ L.parts) × (blank.parts ≡ 4096) }
+    requires job { (master.history ≡ []) × (master.setup ≡ L.setup) }
 {
-    if let Some(master) = make_master(rt, alloc, (2, 0), &ROWS, AMPLE) {
-        let shared: SharedMaster<L> = SharedMaster::new(blank, master);
-        let hands = plan_by_one(rt, alloc, &shared);
-        assert_settles(rt, shared, hands);
-    }
+    let shared: SharedMaster<L> = SharedMaster::new(blank, master);
+    let hands = plan_by_one(rt, alloc, &shared);
+    assert_settles(rt, shared, hands);
 }
 
 #[test]
 fn a_refused_wave_changes_nothing(rt: HostRuntime) {
-    plan_twice::<Brand, _>(&rt, rt.alloc(), Blank::new(4096))
+    if let Some(master) = make_master(&rt, rt.alloc(), (2, 0), &ROWS, AMPLE) {
+        plan_twice::<Brand, _>(&rt, rt.alloc(), Blank::new(4096), master);
+    }
 }
 
 // Split 1 gets a holder.
-fn add_holder<L: Ledger, R: Wait + Abort>(rt: &R, shared: &SharedMaster<L>, hand: &mut Hand<L>) {
+fn add_holder<L: Ledger + OfJob, R: Wait + Abort>(
+    rt: &R,
+    shared: &SharedMaster<L>,
+    hand: &mut Hand<L>,
+) {
     let (split, worker) = (SplitNo::new(1), WorkerNo::new(0));
     assert!(rt; split.index() < shared.sizes().splits && worker.index() < shared.sizes().workers);
     assert_eq!(rt;
@@ -131,7 +153,7 @@ fn add_holder<L: Ledger, R: Wait + Abort>(rt: &R, shared: &SharedMaster<L>, hand
 const CALLS: [Call; 3] = [Call::Wave, Call::Add(1, 0), Call::Wave];
 
 // How many of them were accepted.
-fn call_until_refused<L: Ledger, R: Wait + Abort>(
+fn call_until_refused<L: Ledger + OfJob, R: Wait + Abort>(
     rt: &R,
     alloc: Global,
     shared: &SharedMaster<L>,
@@ -139,11 +161,11 @@ fn call_until_refused<L: Ledger, R: Wait + Abort>(
     let Some(mut hand) = make_hand(rt, alloc, shared) else {
         return 0;
     };
-    if plan(rt, alloc, shared, &mut hand).is_none() {
+    if plan(rt, alloc, shared, &mut hand, true).is_none() {
         return 0;
     }
     add_holder(rt, shared, &mut hand);
-    if plan(rt, alloc, shared, &mut hand).is_none() {
+    if plan(rt, alloc, shared, &mut hand, true).is_none() {
         return 2;
     }
     3
@@ -167,19 +189,25 @@ fn seen_after(rt: &impl Abort, alloc: Global, calls: usize) -> Option<Shown> {
     shown
 }
 
-fn compare_with_one_thread<L: Ledger, R: Wait + Abort>(rt: &R, alloc: Global, blank: Blank)
-    requires { (blank.name ≡ L.name) × (blank.parts ≡ L.parts) × (blank.parts ≡ 4096) }
+fn compare_with_one_thread<L: Ledger + OfJob, R: Wait + Abort>(
+    rt: &R,
+    alloc: Global,
+    blank: Blank,
+    master: Master,
+)
+    requires ledger { (blank.name ≡ L.name) × (blank.parts ≡ L.parts) × (blank.parts ≡ 4096) }
+    requires job { (master.history ≡ []) × (master.setup ≡ L.setup) }
 {
-    if let Some(master) = make_master(rt, alloc, (2, 0), &ROWS, AMPLE) {
-        let shared: SharedMaster<L> = SharedMaster::new(blank, master);
-        let calls = call_until_refused(rt, alloc, &shared);
-        let before = seen_after(rt, alloc, calls);
-        is_as_before(rt, alloc, shared.into_master().master(), before);
-    }
+    let shared: SharedMaster<L> = SharedMaster::new(blank, master);
+    let calls = call_until_refused(rt, alloc, &shared);
+    let before = seen_after(rt, alloc, calls);
+    is_as_before(rt, alloc, shared.into_master().master(), before);
 }
 
 // Under the lock stands what the accepted calls made, whichever allocation is refused.
 #[test]
 fn a_refused_call_leaves_the_whole_master(rt: HostRuntime) {
-    compare_with_one_thread::<Brand, _>(&rt, rt.alloc(), Blank::new(4096))
+    if let Some(master) = make_master(&rt, rt.alloc(), (2, 0), &ROWS, AMPLE) {
+        compare_with_one_thread::<Brand, _>(&rt, rt.alloc(), Blank::new(4096), master);
+    }
 }

@@ -1,11 +1,11 @@
-ghost use Rattle.std.specs.Prelude.{◌≡◌, ◌<◌, length, vec_len, IsTrue};
+ghost use Rattle.std.specs.Prelude.{◌≡◌, ◌<◌, [], length, vec_len, IsTrue};
 ghost use Rattle.hand_ledger.specs.Settling.{all_calls};
 
 use crate::jobs::SplitRow;
-use crate::shared_masters::{AMPLE, hand_of, list_of, share, wave_of};
+use crate::shared_masters::{AMPLE, hand_of, list_of, master_of, wave_of};
 use master_core::Master;
 use master_state::{Answer, Limits, Why};
-use shared_master::{Closed, Hand, HandError, SharedMaster, Torn, settle};
+use shared_master::{Closed, Hand, HandError, OfJob, SharedMaster, Torn, settle};
 use std::alloc::Global;
 use std::marker::Brand;
 use std::ops::Range;
@@ -19,7 +19,7 @@ use std::thread::Threads;
 const TWO_SPLITS: [SplitRow<'static>; 2] = [(10, &[0], "one two"), (20, &[0], "two")];
 
 // The place of a sweep with this count for each worker.
-fn sweep_place<L: Ledger, R: Wait>(
+fn sweep_place<L: Ledger + OfJob, R: Wait>(
     rt: &R,
     shared: &SharedMaster<L>,
     hand: &mut Hand<L>,
@@ -33,7 +33,7 @@ fn sweep_place<L: Ledger, R: Wait>(
 
 // Calls of a thread, of which each is accepted: every fourth is a wave, and the others are sweeps, which
 // their counts tell apart. The place of the first.
-fn call_often<L: Ledger, R: Wait>(
+fn call_often<L: Ledger + OfJob, R: Wait>(
     rt: &R,
     alloc: Global,
     shared: &SharedMaster<L>,
@@ -54,7 +54,7 @@ fn call_often<L: Ledger, R: Wait>(
 
 // Two threads of a hundred accepted calls each, on a master with room for no more: the second one's first
 // place.
-fn call_in_two_threads<L: Ledger + Send + Sync, R: Threads + Wait + Abort + Sync>(
+fn call_in_two_threads<L: Ledger + OfJob + Send + Sync, R: Threads + Wait + Abort + Sync>(
     rt: &R,
     alloc: Global,
     shared: &SharedMaster<L>,
@@ -70,11 +70,15 @@ fn call_in_two_threads<L: Ledger + Send + Sync, R: Threads + Wait + Abort + Sync
     second.expect(rt, "a call was ignored")
 }
 
-fn is_full<L: Ledger, R: Wait>(rt: &R, shared: &SharedMaster<L>, hand: &mut Hand<L>) -> bool {
+fn is_full<L: Ledger + OfJob, R: Wait>(
+    rt: &R,
+    shared: &SharedMaster<L>,
+    hand: &mut Hand<L>,
+) -> bool {
     shared.sweep(rt, hand, &[0; 256]).answer == Answer::Ignored(Why::HistoryFull, ())
 }
 
-fn is_full_for_both<L: Ledger, R: Wait>(
+fn is_full_for_both<L: Ledger + OfJob, R: Wait>(
     rt: &R,
     shared: &SharedMaster<L>,
     one: &mut Hand<L>,
@@ -89,7 +93,7 @@ fn is_told_full<L: Ledger>(hand: &Hand<L>) -> bool {
 }
 
 // Whether these are all hands: then every event is a call of theirs.
-fn are_all<L: Ledger>(closed: &mut Closed<L>, hands: &mut [Hand<L>]) -> bool
+fn are_all<L: Ledger + OfJob>(closed: &mut Closed<L>, hands: &mut [Hand<L>]) -> bool
     requires { L.parts ≡ 4096 }
     ensures { IsTrue result → length (all_calls hands.old) ≡ length closed.old.job.history }
 {
@@ -98,7 +102,11 @@ fn are_all<L: Ledger>(closed: &mut Closed<L>, hands: &mut [Hand<L>]) -> bool
 }
 
 // One hand is not all, and its history is torn.
-fn settle_one<L: Ledger>(rt: &impl Abort, mut closed: Closed<L>, mut hands: Vec<Hand<L>>) -> Torn<L>
+fn settle_one<L: Ledger + OfJob>(
+    rt: &impl Abort,
+    mut closed: Closed<L>,
+    mut hands: Vec<Hand<L>>,
+) -> Torn<L>
     requires { L.parts ≡ 4096 }
 {
     assert!(rt; !are_all(&mut closed, &mut hands));
@@ -111,7 +119,7 @@ fn counts_of(master: Master) -> (usize, usize) {
 }
 
 // Both are all, and settle.
-fn settle_both<L: Ledger>(
+fn settle_both<L: Ledger + OfJob>(
     rt: &impl Abort,
     mut closed: Closed<L>,
     mut hands: Vec<Hand<L>>,
@@ -131,7 +139,7 @@ fn settle_both<L: Ledger>(
 
 // One hand alone is torn at the lowest place of the other; both settle. How many events there are, and how
 // many sweeps.
-fn settle_one_and_both<L: Ledger>(
+fn settle_one_and_both<L: Ledger + OfJob>(
     rt: &impl Abort,
     closed: Closed<L>,
     one: Vec<Hand<L>>,
@@ -145,14 +153,16 @@ fn settle_one_and_both<L: Ledger>(
     settle_both(rt, torn.closed, torn.hands, two)
 }
 
-fn settle_two_hands<L: Ledger + Send + Sync, R: Threads + Wait + Abort + Sync>(
+fn settle_two_hands<L: Ledger + OfJob + Send + Sync, R: Threads + Wait + Abort + Sync>(
     rt: &R,
     alloc: Global,
     blank: Blank,
+    master: Master,
 )
-    requires { (blank.name ≡ L.name) × (blank.parts ≡ L.parts) × (blank.parts ≡ 4096) }
+    requires ledger { (blank.name ≡ L.name) × (blank.parts ≡ L.parts) × (blank.parts ≡ 4096) }
+    requires job { (master.history ≡ []) × (master.setup ≡ L.setup) }
 {
-    let shared: SharedMaster<L> = share(rt, alloc, blank, (2, 0), &TWO_SPLITS, AMPLE);
+    let shared: SharedMaster<L> = SharedMaster::new(blank, master);
     let mut one = hand_of(rt, alloc, &shared);
     let mut two = hand_of(rt, alloc, &shared);
     let lowest = call_in_two_threads(rt, alloc, &shared, &mut one, &mut two);
@@ -165,7 +175,8 @@ fn settle_two_hands<L: Ledger + Send + Sync, R: Threads + Wait + Abort + Sync>(
 
 #[test]
 fn calls_of_two_threads_settle(rt: HostRuntime) {
-    settle_two_hands::<Brand, _>(&rt, rt.alloc(), Blank::new(4096))
+    let master = master_of(&rt, rt.alloc(), (2, 0), &TWO_SPLITS, AMPLE);
+    settle_two_hands::<Brand, _>(&rt, rt.alloc(), Blank::new(4096), master)
 }
 
 const NO_ROOM: Limits = Limits {
@@ -175,7 +186,7 @@ const NO_ROOM: Limits = Limits {
 };
 
 // All hands that a master has.
-fn make_all_hands<L: Ledger, R: Wait + Abort>(
+fn make_all_hands<L: Ledger + OfJob, R: Wait + Abort>(
     rt: &R,
     alloc: Global,
     shared: &SharedMaster<L>,
@@ -191,7 +202,7 @@ fn make_all_hands<L: Ledger, R: Wait + Abort>(
 }
 
 // Why there is no other. That there is none the law says, and no test.
-fn why_no_other<L: Ledger, R: Wait + Abort>(
+fn why_no_other<L: Ledger + OfJob, R: Wait + Abort>(
     rt: &R,
     alloc: Global,
     shared: &SharedMaster<L>,
@@ -209,10 +220,16 @@ fn why_no_other<L: Ledger, R: Wait + Abort>(
     }
 }
 
-fn ask_for_too_many<L: Ledger, R: Wait + Abort>(rt: &R, alloc: Global, blank: Blank)
-    requires { (blank.name ≡ L.name) × (blank.parts ≡ L.parts) × (blank.parts ≡ 4096) }
+fn ask_for_too_many<L: Ledger + OfJob, R: Wait + Abort>(
+    rt: &R,
+    alloc: Global,
+    blank: Blank,
+    master: Master,
+)
+    requires ledger { (blank.name ≡ L.name) × (blank.parts ≡ L.parts) × (blank.parts ≡ 4096) }
+    requires job { (master.history ≡ []) × (master.setup ≡ L.setup) }
 {
-    let shared: SharedMaster<L> = share(rt, alloc, blank, (1, 0), &[], NO_ROOM);
+    let shared: SharedMaster<L> = SharedMaster::new(blank, master);
     let hands = make_all_hands(rt, alloc, &shared);
     assert!(rt; hands.len() == 4095);
     assert_eq!(rt; why_no_other(rt, alloc, &shared, hands), HandError::Limit);
@@ -220,5 +237,6 @@ fn ask_for_too_many<L: Ledger, R: Wait + Abort>(rt: &R, alloc: Global, blank: Bl
 
 #[test]
 fn the_hands_of_a_master_are_few(rt: HostRuntime) {
-    ask_for_too_many::<Brand, _>(&rt, rt.alloc(), Blank::new(4096))
+    let master = master_of(&rt, rt.alloc(), (1, 0), &[], NO_ROOM);
+    ask_for_too_many::<Brand, _>(&rt, rt.alloc(), Blank::new(4096), master)
 }

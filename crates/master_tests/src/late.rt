@@ -1,12 +1,13 @@
 //! Results that come late, twice, from the dead, or of another text.
-ghost use Rattle.std.specs.Prelude.{◌≡◌};
+ghost use Rattle.std.specs.Prelude.{◌≡◌, []};
 
 use crate::jobs::{AMPLE, Call, Row, Shape, SplitRow, answers, last_glance, played};
 use crate::shared_masters;
-use crate::shared_masters::{hand_of, join, list_of, made_of, settles, share, wave_of};
+use crate::shared_masters::{hand_of, join, list_of, made_of, master_of, settles, wave_of};
+use master_core::Master;
 use master_state::{Answer, Why};
 use node_ids::{AttemptNo, SplitNo, SplitSet, WorkerNo};
-use shared_master::{Hand, SharedMaster};
+use shared_master::{Hand, OfJob, SharedMaster};
 use std::alloc::Global;
 use std::marker::Brand;
 use std::process::Abort;
@@ -76,7 +77,7 @@ fn late_results_are_ignored(rt: HostRuntime) {
 }
 
 // A result of these words is handed in: the answer, and whether it came back.
-fn hand_in<L: Ledger, R: Wait + Abort>(
+fn hand_in<L: Ledger + OfJob, R: Wait + Abort>(
     rt: &R,
     alloc: Global,
     shared: &SharedMaster<L>,
@@ -105,7 +106,7 @@ fn set_of(split: Option<u16>) -> SplitSet {
 }
 
 // What the call of a hand is answered.
-fn answer_by_hand<L: Ledger, R: Wait + Abort>(
+fn answer_by_hand<L: Ledger + OfJob, R: Wait + Abort>(
     rt: &R,
     alloc: Global,
     shared: &SharedMaster<L>,
@@ -131,7 +132,7 @@ fn answer_by_hand<L: Ledger, R: Wait + Abort>(
     }
 }
 
-fn late_by_hand<L: Ledger, R: Wait + Abort>(
+fn late_by_hand<L: Ledger + OfJob, R: Wait + Abort>(
     rt: &R,
     alloc: Global,
     shared: &SharedMaster<L>,
@@ -144,7 +145,7 @@ fn late_by_hand<L: Ledger, R: Wait + Abort>(
 }
 
 // A result of a text in which one byte differs comes back, and the right one is accepted.
-fn lie_by_hand<L: Ledger, R: Wait + Abort>(
+fn lie_by_hand<L: Ledger + OfJob, R: Wait + Abort>(
     rt: &R,
     alloc: Global,
     shared: &SharedMaster<L>,
@@ -158,17 +159,17 @@ fn lie_by_hand<L: Ledger, R: Wait + Abort>(
 }
 
 // Both are calls of a hand, which settles alone.
-fn settle_by_hand<L: Ledger, R: Wait + Abort>(rt: &R, alloc: Global, blank: Blank, lies: bool)
-    requires { (blank.name ≡ L.name) × (blank.parts ≡ L.parts) × (blank.parts ≡ 4096) }
+fn settle_by_hand<L: Ledger + OfJob, R: Wait + Abort>(
+    rt: &R,
+    alloc: Global,
+    blank: Blank,
+    master: Master,
+    lies: bool,
+)
+    requires ledger { (blank.name ≡ L.name) × (blank.parts ≡ L.parts) × (blank.parts ≡ 4096) }
+    requires job { (master.history ≡ []) × (master.setup ≡ L.setup) }
 {
-    let shared: SharedMaster<L> = share(
-        rt,
-        alloc,
-        blank,
-        (2, 0),
-        &ONE_SPLIT,
-        shared_masters::AMPLE,
-    );
+    let shared: SharedMaster<L> = SharedMaster::new(blank, master);
     let mut hand = hand_of(rt, alloc, &shared);
     if lies {
         lie_by_hand(rt, alloc, &shared, &mut hand);
@@ -181,10 +182,12 @@ fn settle_by_hand<L: Ledger, R: Wait + Abort>(rt: &R, alloc: Global, blank: Blan
 
 #[test]
 fn late_results_of_a_hand_are_ignored(rt: HostRuntime) {
-    settle_by_hand::<Brand, _>(&rt, rt.alloc(), Blank::new(4096), false)
+    let master = master_of(&rt, rt.alloc(), (2, 0), &ONE_SPLIT, shared_masters::AMPLE);
+    settle_by_hand::<Brand, _>(&rt, rt.alloc(), Blank::new(4096), master, false)
 }
 
 #[test]
 fn a_lie_of_a_hand_comes_back(rt: HostRuntime) {
-    settle_by_hand::<Brand, _>(&rt, rt.alloc(), Blank::new(4096), true)
+    let master = master_of(&rt, rt.alloc(), (2, 0), &ONE_SPLIT, shared_masters::AMPLE);
+    settle_by_hand::<Brand, _>(&rt, rt.alloc(), Blank::new(4096), master, true)
 }

@@ -12,6 +12,8 @@ mod backups;
 #[cfg(test)]
 mod block_rows;
 #[cfg(test)]
+mod clusters;
+#[cfg(test)]
 mod hand_refusals;
 #[cfg(test)]
 mod hands;
@@ -20,9 +22,13 @@ mod histories;
 #[cfg(test)]
 mod jobs;
 #[cfg(test)]
+mod kept;
+#[cfg(test)]
 mod late;
 #[cfg(test)]
 mod numbers;
+#[cfg(test)]
+mod one_hold;
 #[cfg(test)]
 mod own_threads;
 #[cfg(test)]

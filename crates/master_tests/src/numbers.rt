@@ -1,11 +1,12 @@
-ghost use Rattle.std.specs.Prelude.{◌≡◌, ◌<◌};
+ghost use Rattle.std.specs.Prelude.{◌≡◌, ◌<◌, []};
 
 use crate::jobs::SplitRow;
-use crate::shared_masters::{AMPLE, hand_of, join, share, wave_of};
+use crate::shared_masters::{AMPLE, hand_of, join, master_of, wave_of};
 use block_map::CopyOrder;
+use master_core::Master;
 use master_state::{Answer, Event, Why};
 use node_ids::{AttemptNo, SplitNo, SplitSet, WorkerNo};
-use shared_master::{Hand, SharedMaster};
+use shared_master::{Hand, OfJob, SharedMaster};
 use std::alloc::Global;
 use std::marker::Brand;
 use std::process::Abort;
@@ -16,7 +17,7 @@ use std::sync::ledger::{Blank, Ledger};
 const ROWS: [SplitRow<'static>; 1] = [(5, &[0], "one")];
 
 // The calls that change where a split lies and which workers live, each accepted.
-fn call_of_workers<L: Ledger, R: Wait + Abort>(
+fn call_of_workers<L: Ledger + OfJob, R: Wait + Abort>(
     rt: &R,
     shared: &SharedMaster<L>,
     hand: &mut Hand<L>,
@@ -39,7 +40,7 @@ fn call_of_workers<L: Ledger, R: Wait + Abort>(
 }
 
 // Those of an attempt, which is withdrawn and then old.
-fn call_of_attempts<L: Ledger, R: Wait + Abort>(
+fn call_of_attempts<L: Ledger + OfJob, R: Wait + Abort>(
     rt: &R,
     alloc: Global,
     shared: &SharedMaster<L>,
@@ -61,10 +62,16 @@ fn call_of_attempts<L: Ledger, R: Wait + Abort>(
     );
 }
 
-fn call_by_numbers<L: Ledger, R: Wait + Abort>(rt: &R, alloc: Global, blank: Blank)
-    requires { (blank.name ≡ L.name) × (blank.parts ≡ L.parts) × (blank.parts ≡ 4096) }
+fn call_by_numbers<L: Ledger + OfJob, R: Wait + Abort>(
+    rt: &R,
+    alloc: Global,
+    blank: Blank,
+    master: Master,
+)
+    requires ledger { (blank.name ≡ L.name) × (blank.parts ≡ L.parts) × (blank.parts ≡ 4096) }
+    requires job { (master.history ≡ []) × (master.setup ≡ L.setup) }
 {
-    let shared: SharedMaster<L> = share(rt, alloc, blank, (2, 0), &ROWS, AMPLE);
+    let shared: SharedMaster<L> = SharedMaster::new(blank, master);
     let mut hand = hand_of(rt, alloc, &shared);
     call_of_workers(rt, &shared, &mut hand);
     call_of_attempts(rt, alloc, &shared, &mut hand);
@@ -72,14 +79,21 @@ fn call_by_numbers<L: Ledger, R: Wait + Abort>(rt: &R, alloc: Global, blank: Bla
 
 #[test]
 fn calls_by_numbers_come_one_after_another(rt: HostRuntime) {
-    call_by_numbers::<Brand, _>(&rt, rt.alloc(), Blank::new(4096))
+    let master = master_of(&rt, rt.alloc(), (2, 0), &ROWS, AMPLE);
+    call_by_numbers::<Brand, _>(&rt, rt.alloc(), Blank::new(4096), master)
 }
 
 // A replica goes to the other rack.
-fn order_copies<L: Ledger, R: Wait + Abort>(rt: &R, alloc: Global, blank: Blank)
-    requires { (blank.name ≡ L.name) × (blank.parts ≡ L.parts) × (blank.parts ≡ 4096) }
+fn order_copies<L: Ledger + OfJob, R: Wait + Abort>(
+    rt: &R,
+    alloc: Global,
+    blank: Blank,
+    master: Master,
+)
+    requires ledger { (blank.name ≡ L.name) × (blank.parts ≡ L.parts) × (blank.parts ≡ 4096) }
+    requires job { (master.history ≡ []) × (master.setup ≡ L.setup) }
 {
-    let shared: SharedMaster<L> = share(rt, alloc, blank, (2, 1), &ROWS, AMPLE);
+    let shared: SharedMaster<L> = SharedMaster::new(blank, master);
     let orders = shared.copy_orders(rt, alloc, 2).expect(rt, "no memory");
     let order = CopyOrder {
         split: SplitNo::new(0),
@@ -91,5 +105,6 @@ fn order_copies<L: Ledger, R: Wait + Abort>(rt: &R, alloc: Global, blank: Blank)
 
 #[test]
 fn a_copy_is_ordered_under_the_lock(rt: HostRuntime) {
-    order_copies::<Brand, _>(&rt, rt.alloc(), Blank::new(4096))
+    let master = master_of(&rt, rt.alloc(), (2, 1), &ROWS, AMPLE);
+    order_copies::<Brand, _>(&rt, rt.alloc(), Blank::new(4096), master)
 }

@@ -4,7 +4,7 @@ ghost use Rattle.std.specs.Prelude.{◌≡◌, []};
 use crate::jobs::SplitRow;
 use crate::shared_masters::{AMPLE, make_master};
 use master_core::Master;
-use shared_master::{SharedMaster, settle};
+use shared_master::{OfJob, SharedMaster, settle};
 use std::alloc::Global;
 use std::marker::Brand;
 use std::process::Abort;
@@ -17,7 +17,7 @@ use std::thread::Threads;
 const ROWS: [SplitRow<'static>; 2] = [(10, &[0], "one two"), (20, &[0], "two")];
 
 // One thread plans a wave while another sweeps. The master, if each of its events is a call of one of them.
-fn start_and_sweep<L: Ledger + Send + Sync, R: Threads + Wait + Sync>(
+fn start_and_sweep<L: Ledger + OfJob + Send + Sync, R: Threads + Wait + Sync>(
     rt: &R,
     alloc: Global,
     blank: Blank,
@@ -25,6 +25,7 @@ fn start_and_sweep<L: Ledger + Send + Sync, R: Threads + Wait + Sync>(
 ) -> Option<Master>
     requires ledger { (blank.name ≡ L.name) × (blank.parts ≡ L.parts) × (blank.parts ≡ 4096) }
     requires empty { master.history ≡ [] }
+    requires job { master.setup ≡ L.setup }
 {
     let shared: SharedMaster<L> = SharedMaster::new(blank, master);
     let mut one = shared.hand(rt, alloc, AMPLE).ok()?;

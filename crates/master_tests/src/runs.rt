@@ -1,12 +1,13 @@
 //! Short runs of four threads whose calls are drawn at random.
-ghost use Rattle.std.specs.Prelude.{◌≡◌, ◌<◌};
+ghost use Rattle.std.specs.Prelude.{◌≡◌, ◌<◌, []};
 
 use crate::jobs::SplitRow;
 use crate::shared_jobs::reduce_one;
-use crate::shared_masters::{join, made_of, settles, share, wave_of};
+use crate::shared_masters::{join, made_of, master_of, settles, wave_of};
+use master_core::Master;
 use master_state::Limits;
 use node_ids::{AttemptNo, SplitNo, SplitSet, WorkerNo};
-use shared_master::{Hand, SharedMaster};
+use shared_master::{Hand, OfJob, SharedMaster};
 use std::alloc::Global;
 use std::marker::Brand;
 use std::process::Abort;
@@ -31,14 +32,14 @@ struct Player<L: Ledger> {
     seed: u64,
 }
 
-// The next number of Knuth's linear congruential sequence, whose high bits look random.
-fn next(seed: u64) -> u64 {
+/// The next number of Knuth's linear congruential sequence, whose high bits look random.
+pub fn next(seed: u64) -> u64 {
     seed.wrapping_mul(6_364_136_223_846_793_005)
         .wrapping_add(1_442_695_040_888_963_407)
 }
 
 // A call of a kind, of a split and a worker or of an attempt.
-fn call_of<L: Ledger, R: Wait>(
+fn call_of<L: Ledger + OfJob, R: Wait>(
     rt: &R,
     shared: &SharedMaster<L>,
     hand: &mut Hand<L>,
@@ -76,7 +77,7 @@ fn call_of<L: Ledger, R: Wait>(
 }
 
 // The call that a number draws, of those that take no memory.
-fn call_without_memory<L: Ledger, R: Wait + Abort>(
+fn call_without_memory<L: Ledger + OfJob, R: Wait + Abort>(
     rt: &R,
     shared: &SharedMaster<L>,
     hand: &mut Hand<L>,
@@ -103,7 +104,7 @@ fn split_and_attempt(draw: u64) -> (SplitNo, AttemptNo) {
 }
 
 // The call that a player's number draws.
-fn call<L: Ledger, R: Wait + Abort>(
+fn call<L: Ledger + OfJob, R: Wait + Abort>(
     rt: &R,
     alloc: Global,
     shared: &SharedMaster<L>,
@@ -128,7 +129,7 @@ fn call<L: Ledger, R: Wait + Abort>(
 }
 
 // Eight calls of a thread.
-fn play<L: Ledger, R: Wait + Abort>(
+fn play<L: Ledger + OfJob, R: Wait + Abort>(
     rt: &R,
     alloc: Global,
     shared: &SharedMaster<L>,
@@ -142,7 +143,7 @@ fn play<L: Ledger, R: Wait + Abort>(
 }
 
 // Four hands, each with a number of its own.
-fn players_of<L: Ledger, R: Wait + Abort>(
+fn players_of<L: Ledger + OfJob, R: Wait + Abort>(
     rt: &R,
     alloc: Global,
     shared: &SharedMaster<L>,
@@ -159,15 +160,17 @@ fn players_of<L: Ledger, R: Wait + Abort>(
 }
 
 // A run of four threads, which settles.
-fn run<L: Ledger + Send + Sync, R: Threads + Wait + Abort + Sync>(
+fn run<L: Ledger + OfJob + Send + Sync, R: Threads + Wait + Abort + Sync>(
     rt: &R,
     alloc: Global,
     blank: Blank,
+    master: Master,
     seed: u64,
 )
-    requires { (blank.name ≡ L.name) × (blank.parts ≡ L.parts) × (blank.parts ≡ 4096) }
+    requires ledger { (blank.name ≡ L.name) × (blank.parts ≡ L.parts) × (blank.parts ≡ 4096) }
+    requires job { (master.history ≡ []) × (master.setup ≡ L.setup) }
 {
-    let shared: SharedMaster<L> = share(rt, alloc, blank, (2, 1), &ROWS, ROOM);
+    let shared: SharedMaster<L> = SharedMaster::new(blank, master);
     let players = players_of(rt, alloc, &shared, seed);
     let hands = thread::map_vec(rt, players, &|player| play(rt, alloc, &shared, player)).expect(
         rt,
@@ -179,6 +182,7 @@ fn run<L: Ledger + Send + Sync, R: Threads + Wait + Abort + Sync>(
 #[test]
 fn a_thousand_short_runs_settle(rt: HostRuntime) {
     for seed in 0..1000u64 {
-        run::<Brand, _>(&rt, rt.alloc(), Blank::new(4096), seed);
+        let master = master_of(&rt, rt.alloc(), (2, 1), &ROWS, ROOM);
+        run::<Brand, _>(&rt, rt.alloc(), Blank::new(4096), master, seed);
     }
 }

@@ -1,11 +1,11 @@
-ghost use Rattle.std.specs.Prelude.{◌≡◌};
+ghost use Rattle.std.specs.Prelude.{◌≡◌, []};
 
 use crate::jobs::SplitRow;
-use crate::shared_masters::{AMPLE, hand_of, list_of, made_of, settled, share, wave_of};
+use crate::shared_masters::{AMPLE, hand_of, list_of, made_of, master_of, settled, wave_of};
 use master_core::Master;
 use master_state::{Answer, Event, Reply, Why};
 use node_ids::{AttemptNo, SplitNo, WorkerNo};
-use shared_master::{Hand, SharedMaster};
+use shared_master::{Hand, OfJob, SharedMaster};
 use shuffle_reduce::{PartResult, are_of_part, merge};
 use std::alloc::Global;
 use std::marker::Brand;
@@ -18,7 +18,7 @@ use word_map::MapResult;
 const ROWS: [SplitRow<'static>; 1] = [(5, &[0], "one two")];
 
 // A wave, and a backup of its attempt.
-fn start_twice<L: Ledger, R: Wait + Abort>(
+fn start_twice<L: Ledger + OfJob, R: Wait + Abort>(
     rt: &R,
     alloc: Global,
     shared: &SharedMaster<L>,
@@ -44,7 +44,7 @@ fn place_of(answer: Answer<(), MapResult>) -> Result<u32, Why> {
 }
 
 /// Starts a part and hands in what its runs make: the place of the second call, where both were accepted.
-pub fn reduce_one<L: Ledger, R: Wait + Abort>(
+pub fn reduce_one<L: Ledger + OfJob, R: Wait + Abort>(
     rt: &R,
     alloc: Global,
     shared: &SharedMaster<L>,
@@ -67,7 +67,7 @@ fn made_of_part(rt: &impl Abort, alloc: Global, reply: &Reply) -> PartResult {
 }
 
 // A job by one hand: the second attempt is done first.
-fn run_a_job<L: Ledger, R: Wait + Abort>(
+fn run_a_job<L: Ledger + OfJob, R: Wait + Abort>(
     rt: &R,
     alloc: Global,
     shared: &SharedMaster<L>,
@@ -79,7 +79,7 @@ fn run_a_job<L: Ledger, R: Wait + Abort>(
     let same = made_of(rt, alloc, SplitNo::new(0), "one two");
     let second = place_of(shared.map_done(rt, hand, two, made));
     let first = place_of(shared.map_done(rt, hand, one, same));
-    let reducible = shared.glance(rt).reducible;
+    let reducible = shared.glance(rt).shown().reducible;
     assert_eq!(rt;
         (second, first, reducible),
         (Ok(3), Err(Why::OldAttempt), true)
@@ -89,7 +89,7 @@ fn run_a_job<L: Ledger, R: Wait + Abort>(
         reduce_one(rt, alloc, shared, hand),
         reduce_one(rt, alloc, shared, hand),
     ];
-    let open = shared.glance(rt).open_parts;
+    let open = shared.glance(rt).shown().open_parts;
     assert_eq!(rt; (parts, open), ([Some(5), Some(7), None], 0));
 }
 
@@ -98,10 +98,16 @@ fn results_in(settled: Option<Master>) -> Option<usize> {
 }
 
 // It settles by this hand alone, which made every call, with both parts.
-fn settle_a_job<L: Ledger, R: Wait + Abort>(rt: &R, alloc: Global, blank: Blank)
-    requires { (blank.name ≡ L.name) × (blank.parts ≡ L.parts) × (blank.parts ≡ 4096) }
+fn settle_a_job<L: Ledger + OfJob, R: Wait + Abort>(
+    rt: &R,
+    alloc: Global,
+    blank: Blank,
+    master: Master,
+)
+    requires ledger { (blank.name ≡ L.name) × (blank.parts ≡ L.parts) × (blank.parts ≡ 4096) }
+    requires job { (master.history ≡ []) × (master.setup ≡ L.setup) }
 {
-    let shared: SharedMaster<L> = share(rt, alloc, blank, (2, 0), &ROWS, AMPLE);
+    let shared: SharedMaster<L> = SharedMaster::new(blank, master);
     let mut hand = hand_of(rt, alloc, &shared);
     run_a_job(rt, alloc, &shared, &mut hand);
     let hands = list_of(alloc, hand).expect(rt, "no list");
@@ -110,5 +116,6 @@ fn settle_a_job<L: Ledger, R: Wait + Abort>(rt: &R, alloc: Global, blank: Blank)
 
 #[test]
 fn a_job_by_one_hand(rt: HostRuntime) {
-    settle_a_job::<Brand, _>(&rt, rt.alloc(), Blank::new(4096))
+    let master = master_of(&rt, rt.alloc(), (2, 0), &ROWS, AMPLE);
+    settle_a_job::<Brand, _>(&rt, rt.alloc(), Blank::new(4096), master)
 }

@@ -5,10 +5,10 @@ use crate::jobs::{Shape, SplitRow, make_cluster, text_of};
 use master_core::Master;
 use master_state::{Answer, Limits, Wave};
 use node_ids::{SplitNo, SplitSet, WorkerNo};
-use shared_master::{Hand, Settled, SharedMaster, settle};
+use shared_master::{Hand, OfJob, Settled, SharedMaster, settle};
 use std::alloc::Global;
 use std::process::Abort;
-use std::sync::ledger::{Blank, Ledger};
+use std::sync::ledger::Ledger;
 use std::sync::{Arc, Wait};
 use word_map::{MapResult, map_split};
 
@@ -46,23 +46,21 @@ pub fn make_master(
     Master::new(alloc, cluster, limits).ok()
 }
 
-/// Such a master, where there is memory, shared.
-pub fn share<L: Ledger>(
+/// Such a master, where there is memory.
+pub fn master_of(
     rt: &impl Abort,
     alloc: Global,
-    blank: Blank,
     racks: Racks,
     rows: &[SplitRow<'_>],
     limits: Limits,
-) -> SharedMaster<L>
-    requires { (blank.name ≡ L.name) × (blank.parts ≡ L.parts) × (blank.parts ≡ 4096) }
+) -> Master
+    ensures { result.history ≡ [] }
 {
-    let master = make_master(rt, alloc, racks, rows, limits).expect(rt, "no master");
-    SharedMaster::new(blank, master)
+    make_master(rt, alloc, racks, rows, limits).expect(rt, "no master")
 }
 
 /// A hand with ample room.
-pub fn hand_of<L: Ledger, R: Wait + Abort>(
+pub fn hand_of<L: Ledger + OfJob, R: Wait + Abort>(
     rt: &R,
     alloc: Global,
     shared: &SharedMaster<L>,
@@ -78,7 +76,7 @@ pub fn made_of(rt: &impl Abort, alloc: Global, split: SplitNo, words: &str) -> M
 }
 
 /// A worker comes back with these splits.
-pub fn join<L: Ledger, R: Wait + Abort>(
+pub fn join<L: Ledger + OfJob, R: Wait + Abort>(
     rt: &R,
     shared: &SharedMaster<L>,
     hand: &mut Hand<L>,
@@ -105,7 +103,7 @@ pub fn list_of_both<L: Ledger>(alloc: Global, one: Hand<L>, two: Hand<L>) -> Opt
 }
 
 /// The master, where its history is made of these hands.
-pub fn settled<L: Ledger>(shared: SharedMaster<L>, hands: Vec<Hand<L>>) -> Option<Master> {
+pub fn settled<L: Ledger + OfJob>(shared: SharedMaster<L>, hands: Vec<Hand<L>>) -> Option<Master> {
     match settle(shared.into_master(), hands) {
         Ok(Settled { master }) => Some(master),
         Err(_) => None,
@@ -113,12 +111,12 @@ pub fn settled<L: Ledger>(shared: SharedMaster<L>, hands: Vec<Hand<L>>) -> Optio
 }
 
 /// Whether its history is made of these hands.
-pub fn settles<L: Ledger>(shared: SharedMaster<L>, hands: Vec<Hand<L>>) -> bool {
+pub fn settles<L: Ledger + OfJob>(shared: SharedMaster<L>, hands: Vec<Hand<L>>) -> bool {
     settled(shared, hands).is_some()
 }
 
 /// The wave that was planned and committed, if it was.
-pub fn wave_of<L: Ledger, R: Wait>(
+pub fn wave_of<L: Ledger + OfJob, R: Wait>(
     rt: &R,
     alloc: Global,
     shared: &SharedMaster<L>,

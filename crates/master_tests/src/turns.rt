@@ -1,10 +1,11 @@
-ghost use Rattle.std.specs.Prelude.{◌≡◌};
+ghost use Rattle.std.specs.Prelude.{◌≡◌, []};
 
 use crate::jobs::SplitRow;
-use crate::shared_masters::{AMPLE, hand_of, list_of_both, made_of, settles, share, wave_of};
+use crate::shared_masters::{AMPLE, hand_of, list_of_both, made_of, master_of, settles, wave_of};
+use master_core::Master;
 use master_state::{Answer, Start, Wave, Work};
 use node_ids::{AttemptNo, SplitNo, WorkerNo};
-use shared_master::{Between, Hand, SharedMaster, SharedWave};
+use shared_master::{Between, Hand, OfJob, SharedMaster, SharedWave};
 use std::alloc::Global;
 use std::marker::Brand;
 use std::process::Abort;
@@ -17,9 +18,11 @@ use word_map::MapResult;
 // Split u runs on worker a, which holds split s too, once it was added.
 const ROWS: [SplitRow<'static>; 2] = [(10, &[0], "one"), (10, &[], "two")];
 
-// Which turn is solved, in which turn the other thread has called, and whether it was waited for in vain.
+// Of which turn the problem is known, which turn is solved, in which turn the other thread has called, and
+// whether it was waited for in vain.
 #[derive(Drop)]
 struct Meeting {
+    asked: Mutex<u32>,
     solved: Mutex<u32>,
     called: Mutex<u32>,
     late: Mutex<bool>,
@@ -36,18 +39,33 @@ fn is_reached<R: Wait>(rt: &R, number: &Mutex<u32>, least: u32) -> bool {
     false
 }
 
-// After each solution it waits for the other thread's call.
+// It waits for the other thread's call: before the first solution, and after each further one.
 #[derive(Drop)]
 struct Waits<'a, R: Wait> {
     rt: &'a R,
     meeting: &'a Meeting,
 }
 
-impl<'a, R: Wait> Between for Waits<'a, R> {
-    fn solved(&self, turn: u32) {
-        *self.meeting.solved.lock(self.rt) = turn;
+impl<'a, R: Wait> Waits<'a, R> {
+    fn meet(&self, turn: u32) {
         if !is_reached(self.rt, &self.meeting.called, turn) {
             *self.meeting.late.lock(self.rt) = true;
+        }
+    }
+}
+
+impl<'a, R: Wait> Between for Waits<'a, R> {
+    fn asked(&self, turn: u32) {
+        *self.meeting.asked.lock(self.rt) = turn;
+        if turn == 1 {
+            self.meet(turn);
+        }
+    }
+
+    fn solved(&self, turn: u32) {
+        *self.meeting.solved.lock(self.rt) = turn;
+        if turn > 1 {
+            self.meet(turn);
         }
     }
 }
@@ -61,7 +79,7 @@ fn is_accepted(answer: Answer) -> bool {
 }
 
 // Worker a gets split s, or loses it. Whether it was accepted.
-fn change_holder<L: Ledger, R: Wait + Abort>(
+fn change_holder<L: Ledger + OfJob, R: Wait + Abort>(
     rt: &R,
     shared: &SharedMaster<L>,
     hand: &mut Hand<L>,
@@ -77,7 +95,7 @@ fn change_holder<L: Ledger, R: Wait + Abort>(
 }
 
 // s loses its holder in the second turn and gets it again in the third. Whether all was accepted.
-fn change_twice<L: Ledger, R: Wait + Abort>(
+fn change_twice<L: Ledger + OfJob, R: Wait + Abort>(
     rt: &R,
     shared: &SharedMaster<L>,
     hand: &mut Hand<L>,
@@ -93,7 +111,7 @@ fn change_twice<L: Ledger, R: Wait + Abort>(
 }
 
 // In the first turn u is done; where there are three, s changes its holder twice. Whether all was accepted.
-fn call_in_turns<L: Ledger, R: Wait + Abort>(
+fn call_in_turns<L: Ledger + OfJob, R: Wait + Abort>(
     rt: &R,
     shared: &SharedMaster<L>,
     hand: &mut Hand<L>,
@@ -101,7 +119,7 @@ fn call_in_turns<L: Ledger, R: Wait + Abort>(
     turns: u32,
     made: MapResult,
 ) -> bool {
-    let is_first = is_reached(rt, &meeting.solved, 1);
+    let is_first = is_reached(rt, &meeting.asked, 1);
     let is_done = is_accepted(shared.map_done(rt, hand, AttemptNo::new(1), made).plain());
     let is_changed = turns != 3 || change_twice(rt, shared, hand, meeting);
     put(rt, &meeting.called, 4);
@@ -110,7 +128,7 @@ fn call_in_turns<L: Ledger, R: Wait + Abort>(
 
 // A wave of one hand, with these turns of the other's calls between its solutions, and how often it was
 // solved.
-fn plan_beside<L: Ledger + Send + Sync, R: Threads + Wait + Abort + Sync>(
+fn plan_beside<L: Ledger + OfJob + Send + Sync, R: Threads + Wait + Abort + Sync>(
     rt: &R,
     alloc: Global,
     turns: u32,
@@ -120,6 +138,7 @@ fn plan_beside<L: Ledger + Send + Sync, R: Threads + Wait + Abort + Sync>(
 ) -> (SharedWave, u32) {
     let made = made_of(rt, alloc, SplitNo::new(0), "one");
     let meeting = Meeting {
+        asked: Mutex::new(0),
         solved: Mutex::new(0),
         called: Mutex::new(0),
         late: Mutex::new(false),
@@ -159,7 +178,7 @@ fn expect(rt: &impl Abort, shared: SharedWave, place: u32) {
 }
 
 // With these turns the second wave has this place, and was solved so often.
-fn plan_in_turns<L: Ledger + Send + Sync, R: Threads + Wait + Abort + Sync>(
+fn plan_in_turns<L: Ledger + OfJob + Send + Sync, R: Threads + Wait + Abort + Sync>(
     rt: &R,
     alloc: Global,
     (turns, place, solved): (u32, u32, u32),
@@ -175,15 +194,17 @@ fn plan_in_turns<L: Ledger + Send + Sync, R: Threads + Wait + Abort + Sync>(
 }
 
 // So it is, and both hands settle.
-fn wave_in_turns<L: Ledger + Send + Sync, R: Threads + Wait + Abort + Sync>(
+fn wave_in_turns<L: Ledger + OfJob + Send + Sync, R: Threads + Wait + Abort + Sync>(
     rt: &R,
     alloc: Global,
     blank: Blank,
+    master: Master,
     wanted: (u32, u32, u32),
 )
-    requires { (blank.name ≡ L.name) × (blank.parts ≡ L.parts) × (blank.parts ≡ 4096) }
+    requires ledger { (blank.name ≡ L.name) × (blank.parts ≡ L.parts) × (blank.parts ≡ 4096) }
+    requires job { (master.history ≡ []) × (master.setup ≡ L.setup) }
 {
-    let shared: SharedMaster<L> = share(rt, alloc, blank, (2, 0), &ROWS, AMPLE);
+    let shared: SharedMaster<L> = SharedMaster::new(blank, master);
     let mut one = hand_of(rt, alloc, &shared);
     let mut two = hand_of(rt, alloc, &shared);
     plan_in_turns(rt, alloc, wanted, &shared, &mut one, &mut two);
@@ -193,10 +214,12 @@ fn wave_in_turns<L: Ledger + Send + Sync, R: Threads + Wait + Abort + Sync>(
 
 #[test]
 fn a_stale_plan_is_made_again(rt: HostRuntime) {
-    wave_in_turns::<Brand, _>(&rt, rt.alloc(), Blank::new(4096), (1, 4, 2))
+    let master = master_of(&rt, rt.alloc(), (2, 0), &ROWS, AMPLE);
+    wave_in_turns::<Brand, _>(&rt, rt.alloc(), Blank::new(4096), master, (1, 4, 2))
 }
 
 #[test]
 fn after_three_stale_plans_one_is_made_under_the_lock(rt: HostRuntime) {
-    wave_in_turns::<Brand, _>(&rt, rt.alloc(), Blank::new(4096), (3, 6, 3))
+    let master = master_of(&rt, rt.alloc(), (2, 0), &ROWS, AMPLE);
+    wave_in_turns::<Brand, _>(&rt, rt.alloc(), Blank::new(4096), master, (3, 6, 3))
 }

@@ -9,7 +9,8 @@ use Rattle.master_state.specs.declared.answers.Why.{Why}
 use Rattle.master_state.specs.declared.answers.Why.TheVariants.{HistoryFull, StrangeHand}
 use Rattle.master_state.specs.declared.events.Event.{Event}
 use Rattle.master_state.specs.declared.events.Event.TheVariants as events
-use Rattle.master_state.specs.Jobs.{Job, Answers, AnswersReduce, IsKept, IsReply, Plain, Tells, died_in}
+use Rattle.master_state.specs.States.{Setup}
+use Rattle.master_state.specs.Jobs.{Job, Answers, AnswersReduce, IsReply, Plain, Tells, died_in}
 use Rattle.master_state.specs.Jobs.{event_of}
 use Rattle.master_state.specs.Refusals.{Call, MapFailed, Withdraw, Die, Join, Add, Lose, ReduceStart}
 use Rattle.master_state.specs.Refusals.{PartFailed, Backup}
@@ -18,6 +19,7 @@ use Rattle.hand_ledger.specs.Hands.{with_call}
 use Rattle.hand_ledger.specs.Settling.{LastStands, event_at}
 use Rattle.shared_master.specs.declared.calls.PlainCall.{PlainCall}
 use Rattle.shared_master.specs.declared.calls.PlainCall.TheVariants as plain
+use Rattle.shared_master.specs.Held.{IsMasterOf}
 use Rattle.shared_master.specs.declared.sizes.Sizes.{Sizes}
 
 -- what a call asks for: its splits and workers are within the sizes that stand beside the lock
@@ -50,27 +52,29 @@ plain_event (plain.MapFailed a) = events.MapFailed a
 plain_event (plain.Withdraw a) = events.Withdraw a
 plain_event (plain.PartFailed a) = events.PartFailed a
 
--- The hand is this master's: the sizes beside the lock are the master's, and the hand's last call stands in
--- the history at its place.
-pub record IsOwn (sizes : Sizes) (job : Job) (hand : HandValue) : Type 0 where
-  pub splits : sizes.splits ≡ length job.setup.cluster.splits
-  pub workers : sizes.workers ≡ length job.setup.cluster.slots
-  pub stands : LastStands job.history hand.calls
+-- as many splits and workers as a job has
+pub record AreSizesOf (setup : Setup) (sizes : Sizes) : Type 0 where
+  pub splits : sizes.splits ≡ length setup.cluster.splits
+  pub workers : sizes.workers ≡ length setup.cluster.slots
+
+-- the hand is this master's: its last call stands in the history at its place
+abbrev pub IsOwn : Job → HandValue → Type 0
+IsOwn job hand = LastStands job.history hand.calls
 
 -- why a call that needs room for so many counts and starts does not reach the master, if it does not
-abbrev pub IsBarrier : Sizes → Job → HandValue → ℕ → ℕ → Option Why → Type 0
-IsBarrier sizes job hand counts starts None =
-    IsOwn sizes job hand × (has_room hand counts starts ≡ true)
-IsBarrier sizes job hand counts starts (Some why) =
-    ((IsOwn sizes job hand → ⊥) × (why ≡ StrangeHand))
-    ⊎ (IsOwn sizes job hand × (has_room hand counts starts ≡ false) × (why ≡ HistoryFull))
+abbrev pub IsBarrier : Job → HandValue → ℕ → ℕ → Option Why → Type 0
+IsBarrier job hand counts starts None =
+    IsOwn job hand × (has_room hand counts starts ≡ true)
+IsBarrier job hand counts starts (Some why) =
+    ((IsOwn job hand → ⊥) × (why ≡ StrangeHand))
+    ⊎ (IsOwn job hand × (has_room hand counts starts ≡ false) × (why ≡ HistoryFull))
 
 -- A call with so many counts does not reach the master, which is unchanged then, or it does.
-abbrev pub IsBehind : {T B : Type 0} → Sizes → Job → HandValue → ℕ → Answer T B → Job → Type 0 → Type 0
-IsBehind {B = B} sizes old hand counts given new Reached =
-    ((why : Why) × (back : B) × IsBarrier sizes old hand counts 0 (Some why) × (given ≡ Ignored why back)
+abbrev pub IsBehind : {T B : Type 0} → Job → HandValue → ℕ → Answer T B → Job → Type 0 → Type 0
+IsBehind {B = B} old hand counts given new Reached =
+    ((why : Why) × (back : B) × IsBarrier old hand counts 0 (Some why) × (given ≡ Ignored why back)
     × (new ≡ old))
-    ⊎ (IsBarrier sizes old hand counts 0 None × Reached)
+    ⊎ (IsBarrier old hand counts 0 None × Reached)
 
 -- the hand after the answer to a call with this event and these counts
 abbrev pub answered : {T B : Type 0} → HandValue → Event → List (List ℕ) → Answer T B → HandValue
@@ -79,16 +83,16 @@ answered hand event counts (Ignored why back) = noted hand (has_room hand (lengt
 
 -- what a call with these counts does under the lock to the master and to the hand
 pub record IsStep {T B : Type 0}
-    (sizes : Sizes) (old : Job) (hand : HandValue) (call : Call) (counts : List (List ℕ))
+    (old : Job) (hand : HandValue) (call : Call) (counts : List (List ℕ))
     (given : Answer T B) (new : Job) (after : HandValue) : Type 0 where
-  pub answer : IsBehind sizes old hand (length counts) given new (Answers old call given new)
+  pub answer : IsBehind old hand (length counts) given new (Answers old call given new)
   pub hand_is : after ≡ answered hand (event_of old.state call) counts given
 
--- the same of a reduce start, whose answer may be want of memory
+-- a hand keeps a reduce start in the same way, whose answer may be want of memory
 pub record IsReduceStep
-    (sizes : Sizes) (old : Job) (hand : HandValue) (given : Answer Reply (Unit {0})) (new : Job)
-    (after : HandValue) : Type 0 where
-  pub answer : IsBehind sizes old hand 0 given new (AnswersReduce old given new)
+    (old : Job) (hand : HandValue) (given : Answer Reply (Unit {0})) (new : Job) (after : HandValue)
+    : Type 0 where
+  pub answer : IsBehind old hand 0 given new (AnswersReduce old given new)
   pub hand_is : after ≡ answered hand (event_of old.state ReduceStart) [] given
 
 -- an accepted call stands above the hand's last one, and the hand had room for it
@@ -117,27 +121,43 @@ IsKeptReduce hand (Accepted place reply) after =
     (Accepted place reply) after
 IsKeptReduce hand (Ignored why back) after = after ≡ noted hand (has_room hand 0 0) why
 
--- a reply of a master that the lock kept: its part is one of the master's, and its worker one of those whose
--- number stands beside the lock
-pub record IsReplyOf (sizes : Sizes) (job : Job) (reply : Reply) : Type 0 where
-  pub kept : IsKept job
+-- a reply of a master of this job: its part and its worker are the job's
+pub record IsReplyOf (setup : Setup) (job : Job) (reply : Reply) : Type 0 where
+  pub of_job : IsMasterOf setup job
   pub replied : IsReply job reply
-  pub part : reply.part < job.setup.cluster.parts
-  pub worker : reply.worker < sizes.workers
+  pub part : reply.part < setup.cluster.parts
+  pub worker : reply.worker < length setup.cluster.slots
 
 -- an accepted reduce start has such a reply
-abbrev pub Replies : Sizes → Answer Reply (Unit {0}) → Type 0
-Replies sizes given = Tells (λ reply. (job : Job) × IsReplyOf sizes job reply) given
+abbrev pub Replies : Setup → Answer Reply (Unit {0}) → Type 0
+Replies setup given = Tells (λ reply. (job : Job) × IsReplyOf setup job reply) given
 
 -- a sweep with its counts, by the place that these have among all sweeps
 abbrev pub IsKeptSweep : HandValue → List ℕ → Plain → HandValue → Type 0
 IsKeptSweep hand counts given after = (n : ℕ) × IsKeptAs hand (events.Sweep n) (counts ∷ []) given after
 
--- those that died in a sweep that was answered so are those of a master that the lock kept
-abbrev pub AreDeadOf : List ℕ → Swept → Type 0
-AreDeadOf counts swept =
-    (job : Job) × IsKept job
+-- the workers that died in a sweep with this answer died in a master of this job
+abbrev pub AreDeadOf : Setup → List ℕ → Swept → Type 0
+AreDeadOf setup counts swept =
+    (job : Job) × IsMasterOf setup job
     × ((w : ℕ) → has_number swept.dead w ≡ died_in job counts swept.answer w)
+
+-- a master of this job took the call so, or it did not reach it
+pub record IsStepOf {T B : Type 0}
+    (setup : Setup) (hand : HandValue) (call : Call) (counts : List (List ℕ)) (given : Answer T B)
+    (after : HandValue) : Type 0 where
+  pub old : Job
+  pub new : Job
+  pub of_job : IsMasterOf setup old
+  pub step : IsStep old hand call counts given new after
+
+-- a reduce start of a master of this job
+pub record IsReduceStepOf
+    (setup : Setup) (hand : HandValue) (given : Answer Reply (Unit {0})) (after : HandValue) : Type 0 where
+  pub old : Job
+  pub new : Job
+  pub of_job : IsMasterOf setup old
+  pub step : IsReduceStep old hand given new after
 
 -- an accepted call has the last place of the history
 abbrev pub IsLast : {T B : Type 0} → List Event → Answer T B → Type 0

@@ -3,6 +3,7 @@ ghost use Rattle.hand_ledger.specs.Settling.{all_calls, AgreesAt, IsLowestTorn};
 ghost use Rattle.shared_master.specs.Held.{is_short, log_of, HeldValue};
 
 use crate::held::Held;
+use crate::of_job::OfJob;
 use hand_ledger::{Hand, Log, torn_place};
 use master_core::Master;
 use std::marker::Model;
@@ -11,17 +12,17 @@ use std::sync::ledger::Ledger;
 /// A master that no thread shares any more, with what is kept of its hands: they keep as many calls together
 /// as its history has events.
 #[derive(Drop)]
-pub struct Closed<L: Ledger> {
+pub struct Closed<L: Ledger + OfJob> {
     held: Held<L>,
 }
 
-impl<L: Ledger> Model for Closed<L> {
+impl<L: Ledger + OfJob> Model for Closed<L> {
     ghost Value = { HeldValue };
 
     ghost view = { λ c. c.held };
 }
 
-impl<L: Ledger> Closed<L> {
+impl<L: Ledger + OfJob> Closed<L> {
     // What the lock kept.
     pub(crate) fn of(held: Held<L>) -> Closed<L>
         ensures { result ≡ held }
@@ -98,7 +99,7 @@ pub struct Settled {
 /// The lowest place at which history and hands disagree; for a note that is not true, the place after the
 /// last event. What was given comes back.
 #[derive(Drop)]
-pub struct Torn<L: Ledger> {
+pub struct Torn<L: Ledger + OfJob> {
     pub place: u32,
     pub closed: Closed<L>,
     pub hands: Vec<Hand<L>>,
@@ -106,7 +107,7 @@ pub struct Torn<L: Ledger> {
 
 /// Whether each event stands in one hand alone, at its place, with its counts and starts; no hand has a place
 /// past the last event; and the notes of all hands are true.
-pub fn settle<L: Ledger>(closed: Closed<L>, hands: Vec<Hand<L>>) -> Result<Settled, Torn<L>>
+pub fn settle<L: Ledger + OfJob>(closed: Closed<L>, hands: Vec<Hand<L>>) -> Result<Settled, Torn<L>>
     ensures { MatchResult result
         (λ s. (s.master ≡ closed.job)
         × ((place : ℕ) → AgreesAt (log_of closed.job) (is_short closed.job) hands.items place))

@@ -2,18 +2,18 @@ ghost use Rattle.std.specs.Prelude.{◌≡◌, ℕ, ◌+◌, ◌<◌, ◌≤◌,
 ghost use Rattle.std.specs.Prelude.{OnOk, Err};
 ghost use Rattle.node_ids.specs.Sets.{has_number};
 ghost use Rattle.block_map.specs.Copies.{AreCopies, holdings};
-ghost use Rattle.master_state.specs.Jobs.{died_in, GivesBack, IsGlance, IsKept, TellsNext};
-ghost use Rattle.master_state.specs.Refusals.{Call};
+ghost use Rattle.master_state.specs.Jobs.{died_in, GivesBack, IsGlance, TellsNext};
+ghost use Rattle.master_state.specs.Refusals.{Call, IsKnown};
 ghost use Rattle.master_state.specs.declared.events.Event.{Event};
 ghost use Rattle.hand_ledger.specs.Hands.{has_room, new_hand, noted};
 ghost use Rattle.hand_ledger.specs.Settling.{all_calls};
 ghost use Rattle.hand_ledger.specs.declared.making.HandError.{HandError};
-ghost use Rattle.shared_master.specs.Steps.{answered, call_of, HasCounts, IsAt, IsBarrier, IsKnownTo};
-ghost use Rattle.shared_master.specs.Steps.{IsLast, IsOwn, IsReduceStep, IsStep, Replies, total_after};
-ghost use Rattle.shared_master.specs.Held.{HeldValue, IsStillSeen};
+ghost use Rattle.shared_master.specs.Steps.{answered, call_of, HasCounts, IsAt, IsBarrier, IsLast, IsOwn};
+ghost use Rattle.shared_master.specs.Steps.{IsReduceStep, IsStep, Replies, total_after};
+ghost use Rattle.shared_master.specs.Held.{HeldValue, IsMasterOf, IsStillSeen};
 
 use crate::calls::PlainCall;
-use crate::sizes::Sizes;
+use crate::of_job::OfJob;
 use block_map::CopyOrder;
 use hand_ledger::{Hand, HandError, Hands};
 use master_core::Master;
@@ -25,9 +25,9 @@ use std::marker::Model;
 use std::sync::ledger::Ledger;
 use word_map::MapResult;
 
-// What lies under the lock: a master, and what is kept of all hands.
+// What lies under the lock: a master of the job, and what is kept of all hands.
 #[derive(Drop)]
-pub(crate) struct Held<L: Ledger> {
+pub(crate) struct Held<L: Ledger + OfJob> {
     pub(crate) master: Master,
     pub(crate) hands: Hands<L>,
     pub(crate) seen: Option<Seen>,
@@ -41,15 +41,16 @@ pub(crate) struct Seen {
     glance: Glance,
 }
 
-impl<L: Ledger> Model for Held<L> {
+impl<L: Ledger + OfJob> Model for Held<L> {
     ghost Value = { HeldValue };
 
     ghost view = { λ h. record { job = h.master; made = h.hands.made } };
 
-    ghost invariant = { λ h. (h.hands.total ≡ length h.master.history) × IsStillSeen h.master h.seen };
+    ghost invariant = { λ h. (h.hands.total ≡ length h.master.history) × IsStillSeen h.master h.seen
+        × (h.master.setup ≡ L.setup) };
 }
 
-impl<L: Ledger> Held<L> {
+impl<L: Ledger + OfJob> Held<L> {
     // A hand without a call.
     pub(crate) fn hand(&mut self, alloc: Global, room: Limits) -> Result<Hand<L>, HandError>
         ensures job { self.new.job ≡ self.old.job }
@@ -96,31 +97,25 @@ impl<L: Ledger> Held<L> {
         master
     }
 
-    // What every master keeps.
-    pub(crate) fn is_kept(&self)
-        ensures { IsKept self.now.job }
+    // It is a master of the job.
+    pub(crate) fn is_of_job(&self)
+        ensures { IsMasterOf L.setup self.now.job }
     {
         self.master.is_kept();
     }
 
-    // Whether the sizes are the master's, and the hand's last call stands in the history.
-    pub(crate) fn is_own(&self, sizes: Sizes, hand: &Hand<L>) -> bool
-        ensures { IsTrue result ↔ IsOwn sizes self.now.job hand.now }
+    // Whether the hand's last call stands in the history.
+    pub(crate) fn is_own(&self, hand: &Hand<L>) -> bool
+        ensures { IsTrue result ↔ IsOwn self.now.job hand.now }
     {
-        if self.master.cluster().splits().len() != sizes.splits {
-            return false;
-        }
-        if self.master.cluster().slots().len() != sizes.workers {
-            return false;
-        }
         hand.stands(self.master.history())
     }
 
     // Why a call does not reach the master, if it does not.
-    fn why_not(&self, sizes: Sizes, hand: &Hand<L>, counts: usize) -> Option<Why>
-        ensures { IsBarrier sizes self.now.job hand.now counts 0 result }
+    fn why_not(&self, hand: &Hand<L>, counts: usize) -> Option<Why>
+        ensures { IsBarrier self.now.job hand.now counts 0 result }
     {
-        if !self.is_own(sizes, hand) {
+        if !self.is_own(hand) {
             Some(Why::StrangeHand)
         } else if !hand.has_room(counts, 0) {
             Some(Why::HistoryFull)
@@ -130,12 +125,14 @@ impl<L: Ledger> Held<L> {
     }
 
     // A call that hands in numbers alone.
-    pub(crate) fn step(&mut self, sizes: Sizes, hand: &mut Hand<L>, call: &PlainCall) -> Answer
-        requires { IsKnownTo sizes (call_of call.now) }
-        ensures step { IsStep sizes self.old.job hand.old (call_of call.now) [] result self.new.job hand.new }
+    pub(crate) fn step(&mut self, hand: &mut Hand<L>, call: &PlainCall) -> Answer
+        requires { IsKnown L.setup (call_of call.now) }
+        ensures old { IsMasterOf L.setup self.old.job }
+        ensures step { IsStep self.old.job hand.old (call_of call.now) [] result self.new.job hand.new }
         ensures made { self.new.made ≡ self.old.made }
     {
-        if let Some(why) = self.why_not(sizes, hand, 0) {
+        self.is_of_job();
+        if let Some(why) = self.why_not(hand, 0) {
             ignore(hand, 0, why);
             return Answer::Ignored(why, ());
         }
@@ -146,17 +143,18 @@ impl<L: Ledger> Held<L> {
 
     pub(crate) fn map_done(
         &mut self,
-        sizes: Sizes,
         hand: &mut Hand<L>,
         attempt: AttemptNo,
         made: MapResult,
     ) -> Answer<(), MapResult>
-        ensures step { IsStep sizes self.old.job hand.old (Call.MapDone attempt made) [] result
+        ensures old { IsMasterOf L.setup self.old.job }
+        ensures step { IsStep self.old.job hand.old (Call.MapDone attempt made) [] result
             self.new.job hand.new }
         ensures back { GivesBack made result }
         ensures made { self.new.made ≡ self.old.made }
     {
-        if let Some(why) = self.why_not(sizes, hand, 0) {
+        self.is_of_job();
+        if let Some(why) = self.why_not(hand, 0) {
             ignore(hand, 0, why);
             return Answer::Ignored(why, made);
         }
@@ -167,17 +165,18 @@ impl<L: Ledger> Held<L> {
 
     pub(crate) fn part_done(
         &mut self,
-        sizes: Sizes,
         hand: &mut Hand<L>,
         attempt: AttemptNo,
         made: PartResult,
     ) -> Answer<(), PartResult>
-        ensures step { IsStep sizes self.old.job hand.old (Call.PartDone attempt made) [] result
+        ensures old { IsMasterOf L.setup self.old.job }
+        ensures step { IsStep self.old.job hand.old (Call.PartDone attempt made) [] result
             self.new.job hand.new }
         ensures back { GivesBack made result }
         ensures made { self.new.made ≡ self.old.made }
     {
-        if let Some(why) = self.why_not(sizes, hand, 0) {
+        self.is_of_job();
+        if let Some(why) = self.why_not(hand, 0) {
             ignore(hand, 0, why);
             return Answer::Ignored(why, made);
         }
@@ -188,19 +187,19 @@ impl<L: Ledger> Held<L> {
 
     pub(crate) fn backup(
         &mut self,
-        sizes: Sizes,
         hand: &mut Hand<L>,
         split: SplitNo,
         worker: WorkerNo,
     ) -> Answer<AttemptNo>
-        requires split { split < sizes.splits }
-        requires worker { worker < sizes.workers }
-        ensures step { IsStep sizes self.old.job hand.old (Call.Backup split worker) [] result
+        requires { IsKnown L.setup (Call.Backup split worker) }
+        ensures old { IsMasterOf L.setup self.old.job }
+        ensures step { IsStep self.old.job hand.old (Call.Backup split worker) [] result
             self.new.job hand.new }
         ensures attempt { TellsNext self.old.job result }
         ensures made { self.new.made ≡ self.old.made }
     {
-        if let Some(why) = self.why_not(sizes, hand, 0) {
+        self.is_of_job();
+        if let Some(why) = self.why_not(hand, 0) {
             ignore(hand, 0, why);
             return Answer::Ignored(why, ());
         }
@@ -209,36 +208,32 @@ impl<L: Ledger> Held<L> {
         answer
     }
 
-    pub(crate) fn reduce_start(
-        &mut self,
-        alloc: Global,
-        sizes: Sizes,
-        hand: &mut Hand<L>,
-    ) -> Answer<Reply>
-        ensures step { IsReduceStep sizes self.old.job hand.old result self.new.job hand.new }
-        ensures reply { Replies sizes result }
+    pub(crate) fn reduce_start(&mut self, alloc: Global, hand: &mut Hand<L>) -> Answer<Reply>
+        ensures old { IsMasterOf L.setup self.old.job }
+        ensures step { IsReduceStep self.old.job hand.old result self.new.job hand.new }
+        ensures reply { Replies L.setup result }
         ensures made { self.new.made ≡ self.old.made }
     {
-        if let Some(why) = self.why_not(sizes, hand, 0) {
+        self.is_of_job();
+        if let Some(why) = self.why_not(hand, 0) {
             ignore(hand, 0, why);
             return Answer::Ignored(why, ());
         }
-        self.master.is_kept();
         let answer = self.master.reduce_start(alloc);
         self.master.is_kept();
         enter(&self.master, &mut self.hands, hand, &[], &answer);
         answer
     }
 
-    pub(crate) fn sweep(&mut self, sizes: Sizes, hand: &mut Hand<L>, counts: &[u64; 256]) -> Swept
-        ensures step { IsStep sizes self.old.job hand.old (Call.Sweep counts.now) (counts.now ∷ [])
+    pub(crate) fn sweep(&mut self, hand: &mut Hand<L>, counts: &[u64; 256]) -> Swept
+        ensures step { IsStep self.old.job hand.old (Call.Sweep counts.now) (counts.now ∷ [])
             result.answer self.new.job hand.new }
         ensures dead { (w : ℕ) → has_number result.dead w ≡ died_in self.old.job counts.now result.answer w }
-        ensures kept { IsKept self.old.job }
+        ensures old { IsMasterOf L.setup self.old.job }
         ensures made { self.new.made ≡ self.old.made }
     {
-        self.master.is_kept();
-        if let Some(why) = self.why_not(sizes, hand, 1) {
+        self.is_of_job();
+        if let Some(why) = self.why_not(hand, 1) {
             ignore(hand, 1, why);
             return Swept {
                 answer: Answer::Ignored(why, ()),
@@ -258,11 +253,11 @@ impl<L: Ledger> Held<L> {
 
     // What is seen at a glance. It is told again, without a look, where nothing was accepted since.
     pub(crate) fn glance(&mut self) -> Glance
-        ensures kept { IsKept self.old.job }
+        ensures old { IsMasterOf L.setup self.old.job }
         ensures glance { IsGlance self.old.job result }
         ensures same { self.new ≡ self.old }
     {
-        self.master.is_kept();
+        self.is_of_job();
         let events = self.master.events();
         if let Some(seen) = self.seen {
             if seen.events == events {
@@ -279,11 +274,11 @@ impl<L: Ledger> Held<L> {
         alloc: Global,
         target: usize,
     ) -> Result<Vec<CopyOrder>, AllocError>
-        ensures kept { IsKept self.now.job }
+        ensures of_job { IsMasterOf L.setup self.now.job }
         ensures copies { IfOk result (λ orders. AreCopies (holdings self.now.job.state.workers
             self.now.job.setup.cluster.tree self.now.job.state.holders target) orders.items) }
     {
-        self.master.is_kept();
+        self.is_of_job();
         self.master.copy_orders(alloc, target)
     }
 }

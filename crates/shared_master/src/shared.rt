@@ -1,23 +1,26 @@
-ghost use Rattle.std.specs.Prelude.{◌≡◌, ◌<◌, ◌≤◌, [], length, IfOk};
-ghost use Rattle.block_map.specs.Copies.{AreCopies, holdings};
+ghost use Rattle.std.specs.Prelude.{◌≡◌, ◌<◌, ◌≤◌, [], ◌∷◌, length, IfOk};
 ghost use Rattle.master_state.specs.declared.events.Event.{Event};
-ghost use Rattle.master_state.specs.Jobs.{GivesBack, IsGlance, IsKept, Job};
+ghost use Rattle.master_state.specs.Jobs.{GivesBack};
 ghost use Rattle.master_state.specs.Refusals.{Call};
 ghost use Rattle.hand_ledger.specs.Hands.{new_hand};
-ghost use Rattle.shared_master.specs.Steps.{AreDeadOf, IsKeptAs, IsKeptBackup, IsKeptReduce, IsKeptSweep};
-ghost use Rattle.shared_master.specs.Steps.{IsKnownTo, Replies, call_of, plain_event};
-ghost use Rattle.shared_master.specs.Waves.{TurnsAs, WavesAs};
+ghost use Rattle.shared_master.specs.Held.{AreCopiesOf, IsMasterOf, IsShownOf};
+ghost use Rattle.shared_master.specs.Steps.{AreDeadOf, AreSizesOf, IsKeptAs, IsKeptBackup, IsKeptReduce};
+ghost use Rattle.shared_master.specs.Steps.{IsKeptSweep, IsKnownTo, IsReduceStepOf, IsStepOf, Replies};
+ghost use Rattle.shared_master.specs.Steps.{call_of, plain_event};
+ghost use Rattle.shared_master.specs.Waves.{IsWaveStepOf, SolvesAs, TurnsAs, WavesAs};
 ghost use Rattle.shared_master.specs.declared.sizes.Sizes.{Sizes};
 
 use crate::calls::PlainCall;
 use crate::closed::Closed;
+use crate::glance::SharedGlance;
 use crate::held::Held;
+use crate::of_job::OfJob;
 use crate::sizes::Sizes;
-use crate::waves::{Between, Nothing, SharedWave, Uncommitted, WaveError, solve};
+use crate::waves::{Between, Nothing, SharedWave, Solved, Uncommitted, WaveError, solve};
 use block_map::CopyOrder;
 use hand_ledger::{Hand, HandError, Hands};
 use master_core::Master;
-use master_state::{Answer, Glance, Limits, Reply, Swept};
+use master_state::{Answer, Limits, Reply, Swept};
 use node_ids::{AttemptNo, SplitNo, SplitSet, WorkerNo};
 use shuffle_reduce::PartResult;
 use std::alloc::{AllocError, Global};
@@ -26,27 +29,29 @@ use std::sync::ledger::{Blank, Ledger};
 use std::sync::{Mutex, Wait};
 use word_map::MapResult;
 
-/// A master that threads share, each with a hand of its own.
+/// A master of the job that threads share, each with a hand of its own.
 #[derive(Drop)]
-pub struct SharedMaster<L: Ledger> {
+pub struct SharedMaster<L: Ledger + OfJob> {
     lock: Mutex<Held<L>>,
     sizes: Sizes,
 }
 
-impl<L: Ledger> Model for SharedMaster<L> {
+impl<L: Ledger + OfJob> Model for SharedMaster<L> {
     ghost Value = { Sizes };
 
     ghost view = { λ s. s.sizes };
+
+    ghost invariant = { λ s. AreSizesOf L.setup s.sizes };
 }
 
-impl<L: Ledger> SharedMaster<L> {
-    /// Shares a master of which nothing has happened, by the blank of the ledger.
+impl<L: Ledger + OfJob> SharedMaster<L> {
+    /// Shares a master of the job of which nothing has happened, by the blank of the ledger.
     pub fn new(blank: Blank, master: Master) -> SharedMaster<L>
         requires name { blank.name ≡ L.name }
         requires parts { (blank.parts ≡ L.parts) × (blank.parts ≡ 4096) }
         requires empty { master.history ≡ [] }
-        ensures splits { result.splits ≡ length master.setup.cluster.splits }
-        ensures workers { result.workers ≡ length master.setup.cluster.slots }
+        requires job { master.setup ≡ L.setup }
+        ensures { AreSizesOf L.setup result }
     {
         let sizes = Sizes {
             splits: master.cluster().splits().len(),
@@ -65,7 +70,8 @@ impl<L: Ledger> SharedMaster<L> {
 
     /// The numbers of splits and workers.
     pub fn sizes(&self) -> Sizes
-        ensures { result ≡ self.now }
+        ensures value { result ≡ self.now }
+        ensures of_job { AreSizesOf L.setup self.now }
     {
         self.sizes
     }
@@ -90,9 +96,10 @@ impl<L: Ledger> SharedMaster<L> {
     // A call under the lock that hands in numbers alone.
     fn plain<R: Wait>(&self, rt: &R, hand: &mut Hand<L>, call: &PlainCall) -> Answer
         requires { IsKnownTo self.now (call_of call.now) }
-        ensures { IsKeptAs hand.old (plain_event call.now) [] result hand.new }
+        ensures kept { IsKeptAs hand.old (plain_event call.now) [] result hand.new }
+        ensures step { IsStepOf L.setup hand.old (call_of call.now) [] result hand.new }
     {
-        self.lock.lock(rt).step(self.sizes, hand, call)
+        self.lock.lock(rt).step(hand, call)
     }
 
     /// `Master::add` under the lock.
@@ -105,7 +112,8 @@ impl<L: Ledger> SharedMaster<L> {
     ) -> Answer
         requires split { split < self.now.splits }
         requires worker { worker < self.now.workers }
-        ensures { IsKeptAs hand.old (Event.Add split worker) [] result hand.new }
+        ensures kept { IsKeptAs hand.old (Event.Add split worker) [] result hand.new }
+        ensures step { IsStepOf L.setup hand.old (Call.Add split worker) [] result hand.new }
     {
         self.plain(rt, hand, &PlainCall::Add(split, worker))
     }
@@ -120,7 +128,8 @@ impl<L: Ledger> SharedMaster<L> {
     ) -> Answer
         requires split { split < self.now.splits }
         requires worker { worker < self.now.workers }
-        ensures { IsKeptAs hand.old (Event.Lose split worker) [] result hand.new }
+        ensures kept { IsKeptAs hand.old (Event.Lose split worker) [] result hand.new }
+        ensures step { IsStepOf L.setup hand.old (Call.Lose split worker) [] result hand.new }
     {
         self.plain(rt, hand, &PlainCall::Lose(split, worker))
     }
@@ -134,7 +143,8 @@ impl<L: Ledger> SharedMaster<L> {
         set: &SplitSet,
     ) -> Answer
         requires { IsKnownTo self.now (Call.Join worker set.now) }
-        ensures { IsKeptAs hand.old (Event.Join worker set.now) [] result hand.new }
+        ensures kept { IsKeptAs hand.old (Event.Join worker set.now) [] result hand.new }
+        ensures step { IsStepOf L.setup hand.old (Call.Join worker set.now) [] result hand.new }
     {
         self.plain(rt, hand, &PlainCall::Join(worker, *set))
     }
@@ -142,28 +152,32 @@ impl<L: Ledger> SharedMaster<L> {
     /// `Master::die` under the lock.
     pub fn die<R: Wait>(&self, rt: &R, hand: &mut Hand<L>, worker: WorkerNo) -> Answer
         requires { worker < self.now.workers }
-        ensures { IsKeptAs hand.old (Event.Die worker) [] result hand.new }
+        ensures kept { IsKeptAs hand.old (Event.Die worker) [] result hand.new }
+        ensures step { IsStepOf L.setup hand.old (Call.Die worker) [] result hand.new }
     {
         self.plain(rt, hand, &PlainCall::Die(worker))
     }
 
     /// `Master::map_failed` under the lock.
     pub fn map_failed<R: Wait>(&self, rt: &R, hand: &mut Hand<L>, attempt: AttemptNo) -> Answer
-        ensures { IsKeptAs hand.old (Event.MapFailed attempt) [] result hand.new }
+        ensures kept { IsKeptAs hand.old (Event.MapFailed attempt) [] result hand.new }
+        ensures step { IsStepOf L.setup hand.old (Call.MapFailed attempt) [] result hand.new }
     {
         self.plain(rt, hand, &PlainCall::MapFailed(attempt))
     }
 
     /// `Master::withdraw` under the lock.
     pub fn withdraw<R: Wait>(&self, rt: &R, hand: &mut Hand<L>, attempt: AttemptNo) -> Answer
-        ensures { IsKeptAs hand.old (Event.Withdraw attempt) [] result hand.new }
+        ensures kept { IsKeptAs hand.old (Event.Withdraw attempt) [] result hand.new }
+        ensures step { IsStepOf L.setup hand.old (Call.Withdraw attempt) [] result hand.new }
     {
         self.plain(rt, hand, &PlainCall::Withdraw(attempt))
     }
 
     /// `Master::part_failed` under the lock.
     pub fn part_failed<R: Wait>(&self, rt: &R, hand: &mut Hand<L>, attempt: AttemptNo) -> Answer
-        ensures { IsKeptAs hand.old (Event.PartFailed attempt) [] result hand.new }
+        ensures kept { IsKeptAs hand.old (Event.PartFailed attempt) [] result hand.new }
+        ensures step { IsStepOf L.setup hand.old (Call.PartFailed attempt) [] result hand.new }
     {
         self.plain(rt, hand, &PlainCall::PartFailed(attempt))
     }
@@ -177,9 +191,10 @@ impl<L: Ledger> SharedMaster<L> {
         made: MapResult,
     ) -> Answer<(), MapResult>
         ensures kept { IsKeptAs hand.old (Event.MapDone attempt) [] result hand.new }
+        ensures step { IsStepOf L.setup hand.old (Call.MapDone attempt made) [] result hand.new }
         ensures back { GivesBack made result }
     {
-        self.lock.lock(rt).map_done(self.sizes, hand, attempt, made)
+        self.lock.lock(rt).map_done(hand, attempt, made)
     }
 
     /// `Master::part_done` under the lock.
@@ -191,11 +206,10 @@ impl<L: Ledger> SharedMaster<L> {
         made: PartResult,
     ) -> Answer<(), PartResult>
         ensures kept { IsKeptAs hand.old (Event.PartDone attempt) [] result hand.new }
+        ensures step { IsStepOf L.setup hand.old (Call.PartDone attempt made) [] result hand.new }
         ensures back { GivesBack made result }
     {
-        self.lock
-            .lock(rt)
-            .part_done(self.sizes, hand, attempt, made)
+        self.lock.lock(rt).part_done(hand, attempt, made)
     }
 
     /// `Master::backup` under the lock.
@@ -208,44 +222,47 @@ impl<L: Ledger> SharedMaster<L> {
     ) -> Answer<AttemptNo>
         requires split { split < self.now.splits }
         requires worker { worker < self.now.workers }
-        ensures { IsKeptBackup hand.old split worker result hand.new }
+        ensures kept { IsKeptBackup hand.old split worker result hand.new }
+        ensures step { IsStepOf L.setup hand.old (Call.Backup split worker) [] result hand.new }
     {
-        self.lock.lock(rt).backup(self.sizes, hand, split, worker)
+        self.lock.lock(rt).backup(hand, split, worker)
     }
 
     /// `Master::reduce_start` under the lock.
     pub fn reduce_start<R: Wait>(&self, rt: &R, alloc: Global, hand: &mut Hand<L>) -> Answer<Reply>
         ensures kept { IsKeptReduce hand.old result hand.new }
-        ensures reply { Replies self.now result }
+        ensures reply { Replies L.setup result }
+        ensures step { IsReduceStepOf L.setup hand.old result hand.new }
     {
-        self.lock.lock(rt).reduce_start(alloc, self.sizes, hand)
+        self.lock.lock(rt).reduce_start(alloc, hand)
     }
 
     /// `Master::sweep` under the lock. The hand keeps the counts.
     pub fn sweep<R: Wait>(&self, rt: &R, hand: &mut Hand<L>, counts: &[u64; 256]) -> Swept
         ensures kept { IsKeptSweep hand.old counts.now result.answer hand.new }
-        ensures dead { AreDeadOf counts.now result }
+        ensures dead { AreDeadOf L.setup counts.now result }
+        ensures step { IsStepOf L.setup hand.old (Call.Sweep counts.now) (counts.now ∷ []) result.answer
+            hand.new }
     {
-        self.lock.lock(rt).sweep(self.sizes, hand, counts)
+        self.lock.lock(rt).sweep(hand, counts)
     }
 
-    /// What some master shows at a glance, of a state that a history leads to. Where no event came since the
-    /// last glance, that is told again in constant time.
-    pub fn glance<R: Wait>(&self, rt: &R) -> Glance
-        ensures { (job : Job) × IsKept job × IsGlance job result }
+    /// What a master of the job shows at a glance, of a state that a history leads to. Where no event came
+    /// since the last glance, that is told again in constant time.
+    pub fn glance<R: Wait>(&self, rt: &R) -> SharedGlance<L>
+        ensures { IsShownOf L.setup result }
     {
-        self.lock.lock(rt).glance()
+        SharedGlance::of(self.lock.lock(rt).glance())
     }
 
-    /// The copies that bring each split of some such master nearer to so many replicas.
+    /// The copies that bring each split of the job nearer to so many replicas, in such a state.
     pub fn copy_orders<R: Wait>(
         &self,
         rt: &R,
         alloc: Global,
         target: usize,
     ) -> Result<Vec<CopyOrder>, AllocError>
-        ensures { IfOk result (λ orders. (job : Job) × IsKept job × AreCopies (holdings job.state.workers
-            job.setup.cluster.tree job.state.holders target) orders.items) }
+        ensures { IfOk result (λ orders. AreCopiesOf L.setup target orders.items) }
     {
         self.lock.lock(rt).copy_orders(alloc, target)
     }
@@ -258,12 +275,12 @@ impl<L: Ledger> SharedMaster<L> {
         alloc: Global,
         hand: &mut Hand<L>,
     ) -> Result<SharedWave, WaveError>
-        ensures { WavesAs self.now hand.old result hand.new }
+        ensures { WavesAs L.setup hand.old result hand.new }
     {
         self.plan_wave_with(rt, alloc, hand, &Nothing)
     }
 
-    /// The same, with something done after each solution made while the lock is free.
+    /// The same, with something done before and after each solution made while the lock is free.
     pub fn plan_wave_with<R: Wait, B: Between>(
         &self,
         rt: &R,
@@ -271,14 +288,29 @@ impl<L: Ledger> SharedMaster<L> {
         hand: &mut Hand<L>,
         between: &B,
     ) -> Result<SharedWave, WaveError>
-        ensures { WavesAs self.now hand.old result hand.new }
+        ensures { WavesAs L.setup hand.old result hand.new }
     {
         for turn in 1..=3 {
             if let Some(shared) = self.turn(rt, alloc, hand, between, turn)? {
                 return Ok(shared);
             }
         }
-        self.lock.lock(rt).plan_wave(alloc, self.sizes, hand)
+        self.lock.lock(rt).plan_wave(alloc, hand)
+    }
+
+    /// `Master::start_best` under the lock: in one hold it plans a wave by the engine that the master keeps,
+    /// and commits it. Once the hand has room for fewer starts than there are splits, it plans without that
+    /// engine, as the last turn of `plan_wave` does.
+    pub fn start_best<R: Wait>(
+        &self,
+        rt: &R,
+        alloc: Global,
+        hand: &mut Hand<L>,
+    ) -> Result<SharedWave, WaveError>
+        ensures kept { WavesAs L.setup hand.old result hand.new }
+        ensures step { IsWaveStepOf L.setup hand.old result hand.new }
+    {
+        self.lock.lock(rt).start_best(alloc, hand)
     }
 
     // Plans a wave while the lock is free, and commits it; none where it is stale by then.
@@ -290,14 +322,14 @@ impl<L: Ledger> SharedMaster<L> {
         between: &B,
         turn: u32,
     ) -> Result<Option<SharedWave>, WaveError>
-        ensures { TurnsAs self.now hand.old result hand.new }
+        ensures { TurnsAs L.setup hand.old result hand.new }
     {
-        let solved = {
-            let problem = self.lock.lock(rt).problem(alloc, self.sizes, hand)?;
-            solve(alloc, &problem)?
+        let solved = match self.solved(rt, alloc, hand, between, turn) {
+            Ok(solved) => solved,
+            Err(error) => return Err(error),
         };
         between.solved(turn);
-        let committed = self.lock.lock(rt).commit(alloc, self.sizes, hand, solved);
+        let committed = self.lock.lock(rt).commit(alloc, hand, solved);
         match committed {
             Ok(shared) => Ok(Some(shared)),
             Err(Uncommitted::Stale(_)) => Ok(None),
@@ -305,13 +337,34 @@ impl<L: Ledger> SharedMaster<L> {
         }
     }
 
+    // Solves the problem of the present state, while the lock is free.
+    fn solved<R: Wait, B: Between>(
+        &self,
+        rt: &R,
+        alloc: Global,
+        hand: &mut Hand<L>,
+        between: &B,
+        turn: u32,
+    ) -> Result<Solved, WaveError>
+        ensures { SolvesAs L.setup hand.old result hand.new }
+    {
+        let asked = self.lock.lock(rt).problem(alloc, hand);
+        match asked {
+            Ok(problem) => {
+                between.asked(turn);
+                solve(alloc, &problem)
+            }
+            Err(error) => Err(error),
+        }
+    }
+
     /// The master that the lock kept, with its hands.
     pub fn into_master(self) -> Closed<L>
-        ensures { IsKept result.job }
+        ensures { IsMasterOf L.setup result.job }
     {
         let SharedMaster { lock, sizes: _ } = self;
         let held = lock.into_inner();
-        held.is_kept();
+        held.is_of_job();
         Closed::of(held)
     }
 }

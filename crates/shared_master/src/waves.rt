@@ -1,14 +1,19 @@
-ghost use Rattle.std.specs.Prelude.{◌≡◌, ◌+◌, ◌-◌, ◌<◌, ◌≤◌, [], ◌++◌, drop, length, vec_capacity, vec_len};
+ghost use Rattle.std.specs.Prelude.{◌≡◌, ◌+◌, ◌-◌, ◌<◌, ◌≤◌, [], ◌++◌, drop, length, true};
+ghost use Rattle.std.specs.Prelude.{vec_capacity, vec_len};
 ghost use Rattle.std.specs.Prelude.{Err, IfOk, MatchResult};
+ghost use Rattle.flow_network.specs.declared.kinds.NetworkKind.{NetworkKind};
+ghost use Rattle.wave_planner.specs.Planned.{IsMadeOver};
 ghost use Rattle.wave_problem.specs.Assignment.{IsBest, pairs_of};
 ghost use Rattle.price_certificate.specs.Certificate.{claim, Certifies, HasOneSize};
+ghost use Rattle.hand_ledger.specs.Hands.{has_room, with_call};
 ghost use Rattle.shared_master.specs.declared.waves.WaveError.{WaveError};
-ghost use Rattle.shared_master.specs.Waves.{CommitsAs, FitsSizes, has_place, IsAsked, IsUnasked, noted_wave};
-ghost use Rattle.shared_master.specs.Waves.{PlansAs, why_of};
+ghost use Rattle.shared_master.specs.Held.{IsMasterOf};
+ghost use Rattle.shared_master.specs.Waves.{CommitsAs, FitsSizes, has_place, IsAsked, IsLastWave, IsUnasked};
+ghost use Rattle.shared_master.specs.Waves.{PlansAs, kept_wave, noted_wave, why_of};
 
 use crate::held::Held;
-use crate::sizes::Sizes;
-use hand_ledger::Hand;
+use crate::of_job::OfJob;
+use hand_ledger::{Hand, Hands};
 use master_core::Master;
 use master_state::{CommitError, Event, Start, Wave, Why};
 use node_ids::AttemptNo;
@@ -37,9 +42,12 @@ pub enum WaveError {
     StrangeHand = 3,
 }
 
-/// What is done between the solution of a wave and its commit, while the lock is free.
+/// What is done before and after the solution of a wave, while the lock is free.
 pub trait Between {
-    /// After the solution of this turn, from 1 to 3.
+    /// Before the solution of this turn, from 1 to 3, when its problem is known.
+    fn asked(&self, turn: u32);
+
+    /// After it, before its commit.
     fn solved(&self, turn: u32);
 }
 
@@ -48,6 +56,8 @@ pub trait Between {
 pub struct Nothing;
 
 impl Between for Nothing {
+    fn asked(&self, _turn: u32) {}
+
     fn solved(&self, _turn: u32) {}
 }
 
@@ -76,6 +86,8 @@ pub(crate) enum Uncommitted {
 
 // Plans a wave.
 pub(crate) fn solve(alloc: Global, problem: &Problem) -> Result<Solved, WaveError>
+    ensures over { IfOk result (λ s.
+        IsMadeOver NetworkKind.Racks problem.now s.planned.plan.starts s.planned.prices) }
     ensures certifies { IfOk result
         (λ s. Certifies (claim problem.now s.planned.plan.starts s.planned.prices)) }
     ensures best { IfOk result (λ s. IsBest problem.now (pairs_of s.planned.plan.starts)) }
@@ -94,30 +106,35 @@ pub(crate) fn solve(alloc: Global, problem: &Problem) -> Result<Solved, WaveErro
     Ok(Solved { planned, starts })
 }
 
-impl<L: Ledger> Held<L> {
+impl<L: Ledger + OfJob> Held<L> {
     // The problem of the present state, where the hand is this master's and a place is left for an event.
-    pub(crate) fn problem(
-        &self,
-        alloc: Global,
-        sizes: Sizes,
-        hand: &mut Hand<L>,
-    ) -> Result<Problem, WaveError>
+    pub(crate) fn problem(&self, alloc: Global, hand: &mut Hand<L>) -> Result<Problem, WaveError>
+        ensures of_job { IsMasterOf L.setup self.now.job }
         ensures asked { MatchResult result
-            (λ problem. IsAsked sizes self.now.job hand.old problem × (hand.new ≡ hand.old))
-            (λ e. IsUnasked sizes self.now.job hand.old e × (hand.new ≡ noted_wave sizes hand.old e)) }
-        ensures splits { IfOk result (λ problem. length problem.splits ≡ sizes.splits) }
-        ensures workers { IfOk result (λ problem. length problem.workers ≡ sizes.workers) }
+            (λ problem. IsAsked self.now.job hand.old problem × (hand.new ≡ hand.old))
+            (λ e. IsUnasked self.now.job hand.old e × (hand.new ≡ noted_wave (length self.now.job.setup.cluster.splits) hand.old e)) }
+        ensures splits { IfOk result (λ problem. length problem.splits ≡ length L.setup.cluster.splits) }
+        ensures workers { IfOk result (λ problem. length problem.workers ≡ length L.setup.cluster.slots) }
     {
-        if !self.is_own(sizes, hand) {
-            return Err(refused(hand, sizes, WaveError::StrangeHand));
+        self.is_of_job();
+        let splits = self.splits();
+        if !self.is_own(hand) {
+            return Err(refused(hand, splits, WaveError::StrangeHand));
         }
         if !self.has_place(hand) {
-            return Err(refused(hand, sizes, WaveError::HistoryFull));
+            return Err(refused(hand, splits, WaveError::HistoryFull));
         }
         let Ok(problem) = self.master.problem(alloc) else {
             return Err(WaveError::Memory);
         };
         Ok(problem)
+    }
+
+    // How many splits the job has.
+    fn splits(&self) -> usize
+        ensures { result ≡ length self.now.job.setup.cluster.splits }
+    {
+        self.master.cluster().splits().len()
     }
 
     // Whether a place is left for an event, in the hand and in the history.
@@ -131,80 +148,154 @@ impl<L: Ledger> Held<L> {
     pub(crate) fn commit(
         &mut self,
         alloc: Global,
-        sizes: Sizes,
         hand: &mut Hand<L>,
         solved: Solved,
     ) -> Result<SharedWave, Uncommitted>
-        requires sizes { FitsSizes sizes solved.planned.plan solved.planned.prices }
+        requires sizes { FitsSizes L.setup solved.planned.plan solved.planned.prices }
         requires starts { solved.starts.items ≡ [] }
         requires room { length (pairs_of solved.planned.plan.starts) ≤ vec_capacity solved.starts }
-        ensures answer { CommitsAs sizes self.old.job hand.old solved.planned.plan.starts
+        ensures old { IsMasterOf L.setup self.old.job }
+        ensures answer { CommitsAs self.old.job hand.old solved.planned.plan.starts
             solved.planned.prices result self.new.job hand.new }
         ensures made { self.new.made ≡ self.old.made }
     {
-        if !self.is_own(sizes, hand) {
-            let error = refused(hand, sizes, WaveError::StrangeHand);
+        self.is_of_job();
+        let splits = self.splits();
+        if !self.is_own(hand) {
+            let error = refused(hand, splits, WaveError::StrangeHand);
             return Err(Uncommitted::Refused(error));
         }
         if !hand.has_room(0, solved.planned.plan().count()) {
-            let error = refused(hand, sizes, WaveError::HistoryFull);
+            let error = refused(hand, splits, WaveError::HistoryFull);
             return Err(Uncommitted::Refused(error));
         }
         let wave = match self.master.commit(alloc, &solved.planned) {
             Ok(wave) => wave,
             Err(CommitError::Stale(condition)) => return Err(Uncommitted::Stale(condition)),
             Err(CommitError::HistoryFull) => {
-                let error = refused(hand, sizes, WaveError::HistoryFull);
+                let error = refused(hand, splits, WaveError::HistoryFull);
                 return Err(Uncommitted::Refused(error));
             }
             Err(CommitError::Memory) => return Err(Uncommitted::Refused(WaveError::Memory)),
         };
         // (its starts are of this cluster)
         self.master.is_kept();
-        let Wave {
-            first,
-            count,
-            cost,
-            ..
-        } = wave;
-        let starts = with_all(solved.into_starts(), starts_from(&self.master, first));
-        // (its event is the last)
-        hand.keep(
-            &mut self.hands,
-            self.master.events(),
-            &Event::Wave { first, count, cost },
-            &[],
-            &starts,
-        );
-        Ok(SharedWave { wave, starts })
+        let starts = solved.into_starts();
+        Ok(keep_wave(&self.master, &mut self.hands, hand, wave, starts))
     }
 
     // Plans a wave and commits it in one hold of the lock.
     pub(crate) fn plan_wave(
         &mut self,
         alloc: Global,
-        sizes: Sizes,
         hand: &mut Hand<L>,
     ) -> Result<SharedWave, WaveError>
-        ensures answer { PlansAs sizes self.old.job hand.old result self.new.job hand.new }
+        ensures old { IsMasterOf L.setup self.old.job }
+        ensures answer { PlansAs self.old.job hand.old result self.new.job hand.new }
         ensures made { self.new.made ≡ self.old.made }
     {
-        let problem = self.problem(alloc, sizes, hand)?;
+        self.is_of_job();
+        let problem = self.problem(alloc, hand)?;
         let solved = solve(alloc, &problem)?;
-        match self.commit(alloc, sizes, hand, solved) {
+        match self.commit(alloc, hand, solved) {
             Ok(shared) => Ok(shared),
             Err(Uncommitted::Refused(error)) => Err(error),
             Err(Uncommitted::Stale(_)) => unreachable!(),
         }
     }
+
+    // Plans the best wave of the present state by the engine that the master keeps, and starts it. Where the
+    // hand lacks room for as many starts as there are splits, only a plan tells whether it has room for them.
+    pub(crate) fn start_best(
+        &mut self,
+        alloc: Global,
+        hand: &mut Hand<L>,
+    ) -> Result<SharedWave, WaveError>
+        ensures old { IsMasterOf L.setup self.old.job }
+        ensures answer { PlansAs self.old.job hand.old result self.new.job hand.new }
+        ensures made { self.new.made ≡ self.old.made }
+    {
+        if hand.has_room(0, self.splits()) {
+            self.start_any(alloc, hand)
+        } else {
+            self.plan_wave(alloc, hand)
+        }
+    }
+
+    // The same, where the hand has room for any wave.
+    fn start_any(&mut self, alloc: Global, hand: &mut Hand<L>) -> Result<SharedWave, WaveError>
+        requires room { has_room hand.old 0 (length self.old.job.setup.cluster.splits) ≡ true }
+        ensures old { IsMasterOf L.setup self.old.job }
+        ensures answer { PlansAs self.old.job hand.old result self.new.job hand.new }
+        ensures made { self.new.made ≡ self.old.made }
+    {
+        self.is_of_job();
+        let splits = self.splits();
+        if !self.is_own(hand) {
+            return Err(refused(hand, splits, WaveError::StrangeHand));
+        }
+        if !self.has_place(hand) {
+            return Err(refused(hand, splits, WaveError::HistoryFull));
+        }
+        let Ok(starts) = Vec::with_capacity(alloc, splits) else {
+            return Err(WaveError::Memory);
+        };
+        let wave = match self.master.start_best(alloc) {
+            Ok((_planned, wave)) => wave,
+            Err(CommitError::HistoryFull) => {
+                return Err(refused(hand, splits, WaveError::HistoryFull));
+            }
+            Err(CommitError::Memory) => return Err(WaveError::Memory),
+            Err(CommitError::Stale(_)) => unreachable!(),
+        };
+        // (its starts are of this cluster)
+        self.master.is_kept();
+        Ok(keep_wave(&self.master, &mut self.hands, hand, wave, starts))
+    }
+}
+
+// Keeps a wave, which is the last event of a master, in the hand with its starts.
+fn keep_wave<L: Ledger>(
+    master: &Master,
+    hands: &mut Hands<L>,
+    hand: &mut Hand<L>,
+    wave: Wave,
+    starts: Vec<Start>,
+) -> SharedWave
+    requires last { IsLastWave master.now wave }
+    requires empty { starts.items ≡ [] }
+    requires fits { wave.count ≤ vec_capacity starts }
+    requires room { has_room hand.old 0 wave.count ≡ true }
+    ensures wave { result.wave ≡ wave }
+    ensures starts { result.starts.items ≡ drop (wave.first - 1) master.now.state.starts }
+    ensures hand { hand.new ≡ with_call hand.old (kept_wave result) }
+    ensures total { hands.new.total ≡ hands.old.total + 1 }
+    ensures made { hands.new.made ≡ hands.old.made }
+{
+    let Wave {
+        first,
+        count,
+        cost,
+        ..
+    } = wave;
+    let starts = with_all(starts, starts_from(master, first));
+    // (its event is the last)
+    hand.keep(
+        hands,
+        master.events(),
+        &Event::Wave { first, count, cost },
+        &[],
+        &starts,
+    );
+    SharedWave { wave, starts }
 }
 
 // Notes why a wave came to nothing.
-fn refused<L: Ledger>(hand: &mut Hand<L>, sizes: Sizes, error: WaveError) -> WaveError
+fn refused<L: Ledger>(hand: &mut Hand<L>, splits: usize, error: WaveError) -> WaveError
     ensures error { result ≡ error }
-    ensures hand { hand.new ≡ noted_wave sizes hand.old error }
+    ensures hand { hand.new ≡ noted_wave splits hand.old error }
 {
-    let had_room = hand.has_room(0, sizes.splits);
+    let had_room = hand.has_room(0, splits);
     hand.note(had_room, why_of(error));
     error
 }

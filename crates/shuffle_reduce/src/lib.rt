@@ -1,11 +1,10 @@
 //! The reduce side of an inverted index: the runs of a part are merged into its result, and the results
 //! into the index.
 //!
-//! Upward the layer promises that `merge` gives just the pairs of its runs, rising, each once, as does
-//! `merge_paced`, which tells a caller's `Pace` that it goes on, that
-//! `covers` tells exactly whether a result is of the texts that are asked for, and that `finish` gives
-//! the sequential index of the texts, or says which is wrong: a part that stands twice, or one that is
-//! not there. It stands on the runs of `word_map`, whose type keeps that their pairs are right.
+//! Upward the layer promises: `merge` gives just the pairs of its runs, rising, each once. `merge_paced` does
+//! the same, and tells a caller's `Pace` that it goes on. `covers` tells exactly whether a result is of the
+//! texts asked for. `finish` gives the sequential index of the texts, or says that a part is double or
+//! missing. It stands on the runs of `word_map`, whose type keeps that their pairs are right.
 #![tactic(auto)]
 
 mod counts;

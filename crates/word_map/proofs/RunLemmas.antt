@@ -26,10 +26,6 @@ module _ {text : List ℕ} {a b c d : ℕ} (one : IsLongestRun text a b) (other 
   stops_not_after low high after =
       both text b (other.letters b (omega arith) after) (one.none_after (omega (arith, other.within)))
 
-  stops_not_before : c ≤ a → a < d → d < b → ⊥
-  stops_not_before low high before =
-      both text d (one.letters d (omega arith) before) (other.none_after (omega (arith, one.within)))
-
 -- two longest runs that share a place are one
 pub same_run : {text : List ℕ} {a b c d : ℕ} → IsLongestRun text a b → IsLongestRun text c d → (place : ℕ) →
     a ≤ place → place < b → c ≤ place → place < d → (a ≡ c) × (b ≡ d)

@@ -4,7 +4,7 @@ use Rattle.node_ids.specs.Sets.{has_number}
 use Rattle.block_map.specs.Holdings.{are_eight, has_eight_among}
 use Rattle.block_map.proofs.is_any_full.Given as goal
 
--- so it is exactly where it is so of the rest
+-- the answer for the whole list is that for the elements still to come
 abbrev pub invariant-loop-i : goal.invariant-loop-i
 invariant-loop-i l =
     list_any (λ place. has_number l.set place.0 && are_eight place.1) (enumerate_from l.i (drop l.i l.lists))

@@ -69,6 +69,7 @@ impl Master {
         if let Some(why) = self.why_not_add(split, worker) {
             return Answer::Ignored(why, ());
         }
+        self.engine.turn_far();
         add_holder(&mut self.holders, split, worker);
         Answer::Accepted(
             record_event(&mut self.history, Event::Add(split, worker)),
@@ -103,6 +104,7 @@ impl Master {
         if let Some(why) = self.why_not_lose(split, worker) {
             return Answer::Ignored(why, ());
         }
+        self.engine.turn_far();
         drop_holder(&mut self.holders, split, worker);
         Answer::Accepted(
             record_event(&mut self.history, Event::Lose(split, worker)),
@@ -131,6 +133,7 @@ impl Master {
         if let Some(why) = self.why_not_join(worker, set) {
             return Answer::Ignored(why, ());
         }
+        self.engine.turn_far();
         self.workers.join(worker);
         self.holders.add_to_all(worker, set);
         Answer::Accepted(
@@ -162,6 +165,7 @@ impl Master {
         if let Some(why) = self.why_not_die(worker) {
             return Answer::Ignored(why, ());
         }
+        self.engine.turn_far();
         bury(
             &mut self.workers,
             &mut self.holders,
@@ -225,7 +229,7 @@ impl Master {
             return Answer::Ignored(Why::HistoryFull, ());
         }
         end_attempt(&mut self.splits, found.split, attempt);
-        free_slot(&mut self.workers, found, end);
+        free_slot(&mut self.workers, &mut self.engine, found, end);
         Answer::Accepted(record_event(&mut self.history, end.of_split(attempt)), ())
     }
 
@@ -325,6 +329,7 @@ impl Master {
             };
         }
         let dead = self.workers.sweep(counts);
+        self.engine.turn_far_by(&dead);
         bury_all(
             &mut self.workers,
             &mut self.holders,

@@ -17,6 +17,7 @@ use shuffle_reduce::PartResult;
 use std::alloc::{AllocError, Global};
 use std::sync::Arc;
 use word_map::SplitText;
+use worker_table::WorkerTable;
 
 impl Master {
     /// The cluster that the master was given.
@@ -72,6 +73,13 @@ impl Master {
             return None;
         }
         self.starts.get(attempt.index() - 1).copied()
+    }
+
+    /// Who lives, who is silent, and whose slots are taken.
+    pub fn workers(&self) -> &WorkerTable
+        ensures { result.now ≡ self.now.state.workers }
+    {
+        &self.workers
     }
 
     /// What has become of a split.

@@ -9,8 +9,12 @@ ghost use Rattle.flow_network.specs.declared.kinds.NetworkKind.{NetworkKind};
 ghost use Rattle.wave_planner.specs.Planned.{IsMadeOver};
 ghost use Rattle.master_state.specs.Steps.{HasPrices, problem_of};
 ghost use Rattle.master_state.specs.Jobs.{AnswersCommit, IsCommitted, LacksRoomForBest, lacks_room, present};
+ghost use Rattle.master_core.specs.Near.{HasPlaces, IsNear, IsSettled};
 ghost use Rattle.master_core.specs.Starts.{HasSizesOf, HasTotals};
 
+use crate::kept::Kept;
+use crate::kept_plan::{fresh, gone_over, kept_up, plan_of};
+use crate::lists::pending_flags;
 use crate::master::Master;
 use certificate_checker::{Certified, certify};
 use master_state::{CommitError, Event, Wave};
@@ -20,7 +24,8 @@ use master_tables::starting::start_each;
 use node_ids::AttemptNo;
 use price_certificate::Prices;
 use std::alloc::{AllocError, Global};
-use wave_planner::{PlanError, Planned, plan};
+use tree_planner::Engine;
+use wave_planner::Planned;
 use wave_problem::{Plan, Problem};
 
 impl Master {
@@ -66,9 +71,10 @@ impl Master {
         Ok(self.start_plan(plan, certified))
     }
 
-    /// Plans the best wave of the present state, over the network with racks, and starts it: `problem`,
-    /// `plan` and `commit` in one call, so that what was certified is not certified once more, and is never
-    /// stale. It is tested in the order Memory, HistoryFull.
+    /// Plans the best wave of the present state, by an engine that is kept from wave to wave, and starts it:
+    /// `problem`, a plan over the network with racks and `commit` in one call. The engine's prices are known
+    /// to certify the plan, so that it is not certified once more, and is never stale. It is tested in the
+    /// order Memory, HistoryFull.
     pub fn start_best(&mut self, alloc: Global) -> Result<(Planned, Wave), CommitError>
         ensures over { IfOk result (λ p. IsMadeOver NetworkKind.Racks
             (problem_of self.old.setup self.old.state) p.0.plan.starts p.0.prices) }
@@ -85,25 +91,55 @@ impl Master {
     }
 
     // A best plan of the present state, with the prices that show it.
-    fn best_plan(&self, alloc: Global) -> Result<Planned, CommitError>
+    fn best_plan(&mut self, alloc: Global) -> Result<Planned, CommitError>
         ensures over { IfOk result (λ planned. IsMadeOver NetworkKind.Racks
-            (problem_of self.now.setup self.now.state) planned.plan.starts planned.prices) }
+            (problem_of self.old.setup self.old.state) planned.plan.starts planned.prices) }
         ensures certifies { IfOk result (λ planned.
-            Certifies (present self.now planned.plan.starts planned.prices)) }
+            Certifies (present self.old planned.plan.starts planned.prices)) }
         ensures best { IfOk result (λ planned.
-            IsBest (problem_of self.now.setup self.now.state) (pairs_of planned.plan.starts)) }
+            IsBest (problem_of self.old.setup self.old.state) (pairs_of planned.plan.starts)) }
         ensures counted { IfOk result (λ planned.
-            HasTotals self.now planned.plan.starts planned.certified) }
-        ensures sizes { IfOk result (λ planned. HasSizesOf self.now.setup planned.plan planned.prices) }
+            HasTotals self.old planned.plan.starts planned.certified) }
+        ensures sizes { IfOk result (λ planned. HasSizesOf self.old.setup planned.plan planned.prices) }
         ensures memory { IfErr result (λ e. e ≡ CommitError.Memory) }
+        ensures same { self.new ≡ self.old }
     {
-        let Ok(problem) = self.problem(alloc) else {
+        let kept = self.engine.take();
+        let Ok(engine) = self.engine_from(alloc, kept) else {
             return Err(CommitError::Memory);
         };
-        match plan(alloc, &problem) {
-            Ok(planned) => Ok(planned),
-            Err(PlanError::Memory) => Err(CommitError::Memory),
+        let Ok(planned) = plan_of(alloc, &engine) else {
+            return Err(CommitError::Memory);
+        };
+        self.engine = Kept::Near(engine);
+        Ok(planned)
+    }
+
+    // An engine of the present state's problem: the kept engine, or a new engine.
+    fn engine_from(&self, alloc: Global, kept: Kept) -> Result<Engine, AllocError>
+        requires { IsNear kept self.now.setup.cluster self.now.state.holders self.now.state.workers.barred }
+        ensures present { IfOk result (λ engine. engine.wave ≡ problem_of self.now.setup self.now.state) }
+        ensures settled { IfOk result IsSettled }
+    {
+        match kept {
+            Kept::Near(engine) => self.kept_up(alloc, engine),
+            Kept::Far(engine) => gone_over(alloc, engine, self.problem(alloc)?),
+            Kept::None => fresh(alloc, self.problem(alloc)?),
         }
+    }
+
+    // The engine of a wave with the present holders and barred pairs, of which the workers' lines and the
+    // pending splits alone have changed.
+    fn kept_up(&self, alloc: Global, engine: Engine) -> Result<Engine, AllocError>
+        requires { HasPlaces engine.wave self.now.setup.cluster self.now.state.holders
+            self.now.state.workers.barred }
+        ensures present { IfOk result (λ kept. kept.wave ≡ problem_of self.now.setup self.now.state) }
+        ensures settled { IfOk result IsSettled }
+    {
+        engine.problem().limits();
+        let lines = worker_lines(alloc, self.workers.workers())?;
+        let pending = pending_flags(alloc, &self.splits)?;
+        kept_up(alloc, engine, &lines, &pending)
     }
 
     // Starts the splits of a plan that is best in the present state, if there is room for them.

@@ -1,4 +1,4 @@
-use Rattle.std.proofs.Common.{rules, arith, ◌∙◌, ◌<◌, ◌==◌, ℕ, sym, ap}
+use Rattle.std.proofs.Common.{rules, arith, ◌∙◌, ◌<◌, ◌==◌, ℕ, refl, sym, ap}
 use Rattle.std.proofs.lemmas.Bool.{false≢true, ne_eqb}
 use Rattle.job_threads.proofs.Finished.{none_open, not_false}
 use Rattle.job_threads.proofs.ending.is_stuck.Goals as goal
@@ -9,7 +9,7 @@ returns c = λ is_open. (
     let parts = c.args.master.now.state.parts in
     let some : 0 < c.glance-glance.result.open_parts = search rules in
     record {
-      setup = c.is_of.ensures (search rules);
+      setup = refl;
       legal = c.is_kept.ensures.legal;
       idle = sym glance.running ∙ (search rules);
       unready = λ ready. false≢true (sym c.if-glance.false ∙ glance.ready.1 ready);

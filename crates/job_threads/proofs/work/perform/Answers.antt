@@ -1,18 +1,37 @@
 use Rattle.std.proofs.Common.{inr}
-use Rattle.std.specs.Option.{is_some}
 use Rattle.job_threads.proofs.work.perform.Goals as goal
 
-pub returns-in_err-judge-in-Map : goal.returns-in_err-judge-in-Map
-returns-in_err-judge-in-Map g c =
+pub returns-in_err-judge-in-Map-clause-performs : goal.returns-in_err-judge-in-Map-clause-performs
+returns-in_err-judge-in-Map-clause-performs g c =
     rw c.in-Map.is
-    (inr (is_some c.mapped-made.result, c.tell_map-answer.result, c.tell_map-answer.ensures))
+    (inr (
+      c.mapped-made.result,
+      c.mapped-made.ensures.text,
+      c.mapped-made.ensures.parts,
+      c.tell_map-answer.ensures.first,
+      (c.tell_map-answer.result, c.tell_map-answer.ensures.tells),
+    ))
 
-pub returns-in_ok-judge-in-Map : goal.returns-in_ok-judge-in-Map
-returns-in_ok-judge-in-Map g c =
+pub returns-in_ok-judge-in-Map-clause-performs : goal.returns-in_ok-judge-in-Map-clause-performs
+returns-in_ok-judge-in-Map-clause-performs g c =
     rw c.in-Map.is
-    (inr (is_some c.mapped-made.result, c.tell_map-answer.result, c.tell_map-answer.ensures))
+    (inr (
+      c.mapped-made.result,
+      c.mapped-made.ensures.text,
+      c.mapped-made.ensures.parts,
+      c.tell_map-answer.ensures.first,
+      (c.tell_map-answer.result, c.tell_map-answer.ensures.tells),
+    ))
 
-pub returns-else-not-beat-2 : goal.returns-else-not-beat-2
-returns-else-not-beat-2 g c =
+pub returns-in-Some-beat-clause-performs : goal.returns-in-Some-beat-clause-performs
+returns-in-Some-beat-clause-performs g c =
+    let texts = rw c.deref.ensures.value at c.reduced-made.ensures.texts in
     rw c.in-Reduce.is
-    (inr (is_some c.reduced-made.result, c.tell_reduce-answer.result, c.tell_reduce-answer.ensures))
+    (inr (
+      c.reduced-made.result,
+      c.reduced-made.ensures.part,
+      c.reduced-made.ensures.parts,
+      texts,
+      c.tell_reduce-answer.ensures.first,
+      (c.tell_reduce-answer.result, c.tell_reduce-answer.ensures.tells),
+    ))

@@ -1,17 +1,19 @@
-use Rattle.std.proofs.Common.{inr, arith}
-use Rattle.job_threads.proofs.caller.Caller.join_with.Goals.{in-Accepted, in_default}
+use Rattle.job_threads.specs.Steps.{IsBack, known}
+use Rattle.job_threads.proofs.Chains.{on_ok}
 use Rattle.job_threads.proofs.caller.Caller.join_with.Goals as goal
 
-pub returns : goal.returns
-returns g c = inr (elim c.match-answer.branch [
-  | in-Accepted w ↦ record {
-    answer = c.join-answer.result;
-    told = rw w.self-is c.join-answer.ensures;
-    known = grind arith;
-  }
-  | in_default w ↦ record {
-    answer = c.join-answer.result;
-    told = rw w.self-is c.join-answer.ensures;
-    known = grind arith;
-  }
-])
+pub returns-clause-back : goal.returns-clause-back
+returns-clause-back g c =
+    let old = c.args.self.now in
+    let back : IsBack old.holdings.splits c.args.worker (known old.holdings.workers.items old.hand)
+    (known c.take_back_if.new.self.workers.items c.join-answer.new.hand)
+    = record {
+      set = c.args.set;
+      returning = c.requires;
+      joined = record {
+        answer = c.join-answer.result;
+        told = c.join-answer.ensures.kept;
+        changed = c.take_back_if.ensures.value;
+      };
+    } in
+    on_ok c.judge.result _ back

@@ -8,9 +8,10 @@ use Rattle.master_core.proofs.cluster.Cluster.new.Goals as goal
 pub returns-then-not-are_held_well-clause-holder : goal.returns-then-not-are_held_well-clause-holder
 returns-then-not-are_held_well-clause-holder c = (
   λ same. (
-    rw c.deref.ensures.value at (c.are_few_and_small.ensures.0 c.if-not-are_few_and_small.false),
+    rw (c.deref.ensures.value, c.deref-2.ensures.value)
+        at (c.are_few_and_small.ensures.0 c.if-not-are_few_and_small.false),
     λ held. false≢true (sym c.if-not-are_held_well.true
-        ∙ c.are_held_well.ensures.1 (rw c.deref-2.ensures.value held)),
+        ∙ c.are_held_well.ensures.1 (rw c.deref-3.ensures.value held)),
   ),
   λ given. refl,
 )
@@ -22,25 +23,27 @@ invariant_of-result c =
     c.args.silence (c.in-Ok.ensures.items_if_clones_equal (λ _ _ e. e))
     (subst (λ (t : Tree). tree.IsWithinLimits t) c.tree.view_is c.tree.invariant.within)
     c.requires.workers c.requires.texts c.requires.parts c.requires.silence
-    (rw c.deref.ensures.value at (c.are_few_and_small.ensures.0 c.if-not-are_few_and_small.false))
-    (rw c.deref-2.ensures.value at (c.are_held_well.ensures.0 c.if-not-are_held_well.false))
+    (rw (c.deref.ensures.value, c.deref-2.ensures.value)
+    at (c.are_few_and_small.ensures.0 c.if-not-are_few_and_small.false))
+    (rw c.deref-3.ensures.value at (c.are_held_well.ensures.0 c.if-not-are_held_well.false))
 
 pub returns-in-Ok-clause-holder : goal.returns-in-Ok-clause-holder
 returns-in-Ok-clause-holder c = (
   λ wrong. cc,
   λ given. absurd (given.1
-      (rw c.deref-2.ensures.value at (c.are_held_well.ensures.0 c.if-not-are_held_well.false))),
+      (rw c.deref-3.ensures.value at (c.are_held_well.ensures.0 c.if-not-are_held_well.false))),
 )
 
 pub returns-in-Err-clause-holder : goal.returns-in-Err-clause-holder
 returns-in-Err-clause-holder c = (
   λ wrong. cc,
   λ given. absurd (given.1
-      (rw c.deref-2.ensures.value at (c.are_held_well.ensures.0 c.if-not-are_held_well.false))),
+      (rw c.deref-3.ensures.value at (c.are_held_well.ensures.0 c.if-not-are_held_well.false))),
 )
 
 pub returns-in-Err-clause-memory : goal.returns-in-Err-clause-memory
 returns-in-Err-clause-memory c same = (
-  rw c.deref.ensures.value at (c.are_few_and_small.ensures.0 c.if-not-are_few_and_small.false),
-  rw c.deref-2.ensures.value at (c.are_held_well.ensures.0 c.if-not-are_held_well.false),
+  rw (c.deref.ensures.value, c.deref-2.ensures.value)
+      at (c.are_few_and_small.ensures.0 c.if-not-are_few_and_small.false),
+  rw c.deref-3.ensures.value at (c.are_held_well.ensures.0 c.if-not-are_held_well.false),
 )

@@ -8,6 +8,7 @@ use Rattle.master_state.specs.Jobs.{Job}
 use Rattle.master_tables.specs.Entries.{entry_with}
 use Rattle.master_core.specs.Inside.{setup_of}
 use Rattle.master_core.proofs.Accepting.{Follows, follows}
+use Rattle.master_core.proofs.Backing.{may_back}
 use Rattle.master_tables.proofs.Showing.{made_updated, shown-started, start_makes_none}
 use Rattle.master_core.proofs.master.Master.backup.Goals as goal
 
@@ -37,7 +38,7 @@ after c =
       c.record_start-number.ensures.number,
     ) refl) refl
     (rw c.run_attempt.ensures (made_updated (setup_of old) (entry_with one) old.splits.items split
-    (start_makes_none one) c.self.invariant.made))
+    (start_makes_none one) c.self.invariant.made)) (rw c.take_slot.ensures c.self.invariant.near)
 
 pub invariant_of-self : goal.invariant_of-self
 invariant_of-self c = (after c).master
@@ -54,3 +55,14 @@ run_attempt-requires c = grind (arith, common_steps)
 
 pub take_slot-requires-clause-known : goal.take_slot-requires-clause-known
 take_slot-requires-clause-known c = grind (arith, common_steps)
+
+pub record_start-number-requires-clause-room : goal.record_start-number-requires-clause-room
+record_start-number-requires-clause-room c =
+    let room = (may_back c.args.split c.args.worker c.self.invariant c.self.view_is
+    (sym c.why_not_backup.ensures ∙ c.in_default.is)).room in
+    grind (arith, common_steps)
+
+pub take_slot-requires-clause-free : goal.take_slot-requires-clause-free
+take_slot-requires-clause-free c =
+    (may_back c.args.split c.args.worker c.self.invariant c.self.view_is
+    (sym c.why_not_backup.ensures ∙ c.in_default.is)).free

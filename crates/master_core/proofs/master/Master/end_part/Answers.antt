@@ -26,7 +26,7 @@ after c =
     (part_ended c.self.invariant.kept.tidy (part_runs_in c.self.invariant c.self.view_is c.requires.0)
     c.args.end
     ∙ rw (c.give_slot.ensures, c.end_part_attempt.ensures) refl)
-    (plain.results old.results.items) c.self.invariant.made
+    (plain.results old.results.items) c.self.invariant.made (rw c.give_slot.ensures c.self.invariant.near)
 
 pub invariant_of-self : goal.invariant_of-self
 invariant_of-self c = (after c).master

@@ -16,9 +16,9 @@ pub free_slot-requires-clause-few : goal.free_slot-requires-clause-few
 free_slot-requires-clause-few c = few_found c.self.invariant c.self.view_is c.requires.0
 
 after : (c : goal.After-record_event) →
-    Follows (with_tables c.self.inside c.free_slot.new.workers c.self.inside.holders
-    c.end_attempt.new.entries c.self.inside.parts c.record_event.new.history) c.args.self.now (split_end
-    c.args.end c.args.attempt) c.record_event.result
+    Follows (with_tables (record c.self.inside { engine = c.free_slot.new.engine }) c.free_slot.new.workers
+    c.self.inside.holders c.end_attempt.new.entries c.self.inside.parts c.record_event.new.history)
+    c.args.self.now (split_end c.args.end c.args.attempt) c.record_event.result
 after c =
     let old = c.self.inside in
     let j = c.args.self.now in
@@ -32,12 +32,13 @@ after c =
     (split_ended c.self.invariant.kept.tidy (split_runs_in c.self.invariant c.self.view_is c.requires.0)
     c.args.end
     ∙ rw (
-      c.free_slot.ensures,
+      c.free_slot.ensures.freed,
       c.end_attempt.ensures,
       shown-ended (is_numbered c.args.attempt) old.splits.items c.args.found.split,
     ) refl)
     (plain.results old.results.items)
     (rw c.end_attempt.ensures (made_ended c.args.attempt c.args.found.split c.self.invariant))
+    (c.free_slot.ensures.near old.cluster old.holders c.self.invariant.near)
 
 pub invariant_of-self : goal.invariant_of-self
 invariant_of-self c = (after c).master

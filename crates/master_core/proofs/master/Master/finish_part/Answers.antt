@@ -42,7 +42,7 @@ after c =
     c.record_event.ensures.items c.record_event.ensures.place
     (part_done_is c.self.invariant.kept.tidy (part_runs_in c.self.invariant c.self.view_is c.requires.0)
     ∙ rw (c.give_slot.ensures, c.finish_part.ensures) refl)
-    c.record_result.ensures.items c.self.invariant.made
+    c.record_result.ensures.items c.self.invariant.made (rw c.give_slot.ensures c.self.invariant.near)
 
 pub invariant_of-self : goal.invariant_of-self
 invariant_of-self c = (after c).master

@@ -5,6 +5,7 @@ use Rattle.master_tables.specs.Entries.{shown_as}
 use Rattle.master_core.specs.Inside.{setup_of, state_of}
 use Rattle.master_core.proofs.Accepting.{Follows, follows, with_tables}
 use Rattle.master_core.proofs.Found.{entry_at, text_known}
+use Rattle.master_core.proofs.Nearness.{bars_given}
 use Rattle.master_core.proofs.Completing.{done_is, made_done, map_refusal, of_split, shown-done_at}
 use Rattle.master_core.proofs.Completing.{split_taken}
 use Rattle.master_core.proofs.Ended.{numbered, split_runs_in}
@@ -60,7 +61,7 @@ after c =
       shown-done_at one c.args.made old.splits.items split,
     ) refl) refl
     (rw c.finish_split.ensures (made_done (setup_of old) one c.args.made old.splits.items split right
-    c.self.invariant.made))
+    c.self.invariant.made)) (rw (c.give_slots.ensures, bars_given old.workers _) c.self.invariant.near)
 
 pub invariant_of-self : goal.invariant_of-self
 invariant_of-self c = (after c).master

@@ -9,7 +9,7 @@ invariant_of-self c =
     master_of (follows (Join c.args.worker c.args.set.now) c.self.invariant c.self.view_is c.requires
     (sym c.why_not_join.ensures ∙ c.in_default.is) (rw c.record_event.ensures.capacity refl)
     c.record_event.ensures.items c.record_event.ensures.place (rw (c.join.ensures, c.add_to_all.ensures) refl)
-    refl c.self.invariant.made)
+    refl c.self.invariant.made (c.turn_far.ensures _ _ _))
 
 pub join-requires : goal.join-requires
 join-requires c = grind (arith, common_steps)

@@ -51,7 +51,7 @@ after c =
     c.record_event-place.ensures.place
     (reduce_started_is (state_of c.self.inside) (number_is c) next.part_is next.worker_is
     c.start_part.ensures.taken c.start_part.ensures.running c.start_part.ensures.told) refl
-    c.self.invariant.made
+    c.self.invariant.made (rw c.start_part.ensures.taken c.self.invariant.near)
 
 pub invariant_of-self : goal.invariant_of-self
 invariant_of-self c = (after c).master

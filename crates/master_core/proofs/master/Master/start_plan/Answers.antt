@@ -1,8 +1,10 @@
 use Rattle.std.proofs.Common.{refl, ap, ◌∙◌, arith}
+use Rattle.wave_problem.specs.Assignment.{pairs_of}
 use Rattle.master_state.specs.declared.answers.Wave.{Wave}
 use Rattle.master_state.specs.Refusals.{has_no_room}
 use Rattle.master_core.specs.Inside.{setup_of, state_of}
 use Rattle.master_core.proofs.Committing.{best_may_start, commits}
+use Rattle.master_core.proofs.Nearness.{bars_started, near_with_bars}
 use Rattle.master_core.proofs.master.Master.start_plan.Goals as goal
 
 pub start_each-requires-clause-allowed : goal.start_each-requires-clause-allowed
@@ -25,3 +27,6 @@ invariant_of-self c =
     c.record_event-place.ensures.items c.record_event-place.ensures.place
     (c.start_each.ensures.started (state_of c.self.inside) refl refl refl) refl
     (c.start_each.ensures.made (setup_of c.self.inside) c.self.invariant.made)
+    (near_with_bars c.self.inside.engine c.self.inside.cluster c.self.inside.holders
+    (bars_started (state_of c.self.inside) (pairs_of c.args.plan.now.starts)
+    (c.start_each.ensures.started (state_of c.self.inside) refl refl refl)) c.self.invariant.near)

@@ -7,6 +7,7 @@ use Rattle.master_state.proofs.Sweeping.{heard_state}
 use Rattle.master_core.specs.Inside.{setup_of, state_of}
 use Rattle.master_core.proofs.Accepting.{Follows, follows}
 use Rattle.master_core.proofs.Burying.{swept_is}
+use Rattle.master_core.proofs.Nearness.{near_swept}
 use Rattle.master_core.proofs.master.Master.sweep.Goals as goal
 
 after : (c : goal.After-record_event) →
@@ -16,6 +17,7 @@ after : (c : goal.After-record_event) →
       splits = c.bury_all.new.splits;
       parts = c.bury_all.new.parts;
       sweeps = c.record_counts-place.new.sweeps;
+      engine = c.turn_far_by.new.self;
       history = c.record_event.new.history;
     }) c.args.self.now (Sweep c.args.counts.now) c.record_event.result
 after c =
@@ -32,6 +34,10 @@ after c =
     (c.bury_all.ensures.died (heard_state (state_of old) counts) (sym c.sweep-dead.ensures.heard) refl refl
     refl) ∙ rw c.record_counts-place.ensures.items refl) refl
     (c.bury_all.ensures.made (setup_of old) c.self.invariant.made)
+    (near_swept (state_of old) counts old.engine c.turn_far_by.new.self old.cluster c.sweep-dead.result _ _
+    c.turn_far_by.ensures c.self.invariant.near
+    (c.bury_all.ensures.died (heard_state (state_of old) counts) (sym c.sweep-dead.ensures.heard) refl refl
+    refl))
 
 pub invariant_of-self : goal.invariant_of-self
 invariant_of-self c = (after c).master

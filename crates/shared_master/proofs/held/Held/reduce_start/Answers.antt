@@ -1,6 +1,5 @@
-use Rattle.std.proofs.Common.{ap, subst, arith, refl}
+use Rattle.std.proofs.Common.{ap, arith, refl}
 use Rattle.std.proofs.lemmas.Grind.{common_steps}
-use Rattle.master_state.specs.Jobs.{IsKept}
 use Rattle.master_state.specs.Refusals.{ReduceStart}
 use Rattle.shared_master.specs.Held.{HeldValue}
 use Rattle.shared_master.proofs.Stepping.{counted, replies, stepped_reduce, takes_reduce}
@@ -13,8 +12,7 @@ returns-clause-step g c =
 
 pub returns-clause-reply : goal.returns-clause-reply
 returns-clause-reply g c =
-    replies c.reduce_start-answer.result (returns-clause-step g c)
-    (subst IsKept (ap (λ (h : HeldValue). h.job) c.self.view_is) c.is_kept.ensures) c.is_kept-2.ensures
+    replies c.reduce_start-answer.result (returns-clause-step g c) c.is_of_job.ensures c.is_kept.ensures
 
 pub invariant_of-self : goal.invariant_of-self
 invariant_of-self g c = grind (arith, common_steps)

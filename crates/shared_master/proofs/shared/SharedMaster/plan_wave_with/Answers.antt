@@ -1,12 +1,10 @@
 use Rattle.std.proofs.Common.{subst}
 use Rattle.hand_ledger.specs.Hands.{HandValue}
-use Rattle.shared_master.specs.declared.sizes.Sizes.{Sizes}
 use Rattle.shared_master.specs.Waves.{WavesAs}
 use Rattle.shared_master.proofs.Waving.{plans_kept}
 use Rattle.shared_master.proofs.shared.SharedMaster.plan_wave_with.Goals as goal
 
 pub returns : goal.returns
 returns g c =
-    subst (λ (z : Sizes). WavesAs z c.args.hand.now c.plan_wave.result c.plan_wave.new.hand) c.self.view_is
-    (subst (λ (h : HandValue). WavesAs c.self.inside.sizes h c.plan_wave.result c.plan_wave.new.hand)
-    c.loop-turn.invariant (plans_kept _ _ _ c.plan_wave.result _ _ c.plan_wave.ensures.answer))
+    subst (λ (h : HandValue). WavesAs g.L.OfJob.setup h c.plan_wave.result c.plan_wave.new.hand)
+    c.loop-turn.invariant (plans_kept _ _ _ c.plan_wave.result _ _ c.plan_wave.ensures.old c.plan_wave.ensures.answer)

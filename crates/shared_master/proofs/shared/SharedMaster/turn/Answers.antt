@@ -1,14 +1,22 @@
-use Rattle.std.proofs.Common.{subst}
-use Rattle.hand_ledger.specs.Hands.{HandValue}
-use Rattle.shared_master.specs.declared.sizes.Sizes.{Sizes}
-use Rattle.shared_master.specs.Waves.{IsKeptWave}
-use Rattle.shared_master.proofs.Waving.{wave_kept}
+use Rattle.std.proofs.Common.{rules, ◌≡◌, Ok, Err}
+use Rattle.shared_master.specs.declared.waves.Uncommitted.TheVariants.{Refused}
+use Rattle.shared_master.proofs.Waving.{committed_as, refused_as}
 use Rattle.shared_master.proofs.shared.SharedMaster.turn.Goals as goal
 
-pub returns-in-Ok : goal.returns-in-Ok
-returns-in-Ok g c =
-    subst (λ (z : Sizes). IsKeptWave z c.args.hand.now c.in-Ok.shared c.commit-committed.new.hand)
-    c.self.view_is
-    (subst (λ (h : HandValue).
-    IsKeptWave c.self.inside.sizes h c.in-Ok.shared c.commit-committed.new.hand)
-    c.in_ok-problem.ensures.asked.1 (wave_kept _ _ _ _ _ c.in-Ok.shared _ _ c.in-Ok.ensures.answer))
+pub returns-in-Ok-committed : goal.returns-in-Ok-committed
+returns-in-Ok-committed g c =
+    let told : c.commit-committed.result ≡ Ok c.in-Ok-committed.shared = search rules in
+    committed_as _ _ _ _ _ _ c.commit-committed.result c.in-Ok-committed.shared _ _ c.in-Ok.ensures.1
+    c.commit-committed.ensures.old
+    (record {
+      planned = c.in-Ok.ensures.0.planned;
+      of_job = c.in-Ok.ensures.0.of_job;
+      made = c.in-Ok.ensures.0.made;
+    })
+    c.commit-committed.ensures.answer told
+
+pub returns-in-Err-Refused : goal.returns-in-Err-Refused
+returns-in-Err-Refused g c =
+    let told : c.commit-committed.result ≡ Err (Refused c.in-Err-Refused.error) = search rules in
+    refused_as _ _ _ _ _ c.commit-committed.result c.in-Err-Refused.error _ _ c.in-Ok.ensures.0
+    c.in-Ok.ensures.1 c.commit-committed.ensures.old c.commit-committed.ensures.answer told

@@ -1,0 +1,158 @@
+-- What keeps an engine near.
+use Rattle.std.proofs.Common.{◌≡◌, ℕ, ◌≤◌, List, [], ◌∷◌, All, Bool, length, map, refl, sym, ap, ◌∙◌, subst}
+use Rattle.std.proofs.Common.{arith}
+use Rattle.std.specs.Prelude.{filter, fold, min, zip}
+use Rattle.std.specs.List.{range_with_len}
+use Rattle.std.proofs.lemmas.Bool.{false_from_ne_true}
+use Rattle.std.proofs.lemmas.List.{length-map}
+use Rattle.std.proofs.lemmas.Slice.Zip.{length-zip}
+use Rattle.node_ids.specs.Sets.{has_number, Has}
+use Rattle.wave_problem.specs.declared.TheConstants.{MAX_SLOTS}
+use Rattle.wave_problem.specs.declared.lines.WorkerLine.{WorkerLine}
+use Rattle.wave_problem.specs.Wave.{Split, Wave, IsWithinLimits}
+use Rattle.rack_tree.specs.Tree.{Tree}
+use Rattle.tree_planner.specs.Going.{turned}
+use Rattle.worker_table.specs.Workers.{Workers, with_slot_given}
+use Rattle.master_state.specs.declared.states.Attempt.{Attempt}
+use Rattle.master_state.specs.declared.states.SplitState.{SplitState}
+use Rattle.master_state.specs.States.{Cluster, State}
+use Rattle.master_state.specs.Tests.{is_pending}
+use Rattle.master_state.specs.Changes.{died, split_started}
+use Rattle.master_state.specs.Steps.{problem_of, split_line, worker_line}
+use Rattle.master_state.specs.Jobs.{Job}
+use Rattle.master_state.proofs.Lists.{filter_none}
+use Rattle.master_state.proofs.Problems.{length-each, length-lines, within_limits}
+use Rattle.master_state.proofs.Sweeping.{heard_state}
+use Rattle.master_tables.specs.Entries.{shown_as}
+use Rattle.master_tables.specs.Lines.{split_lines}
+use Rattle.master_tables.specs.Slots.{with_slots_given}
+use Rattle.master_core.specs.declared.kept.Kept.{Kept}
+use Rattle.master_core.specs.declared.master.Master.TheInside.{Inside}
+use Rattle.master_core.specs.Inside.{setup_of, state_of, job_of, IsMaster}
+use Rattle.master_core.specs.Near.{HasPlaces, IsNear}
+use Rattle.master_core.proofs.Accepting.{still_master}
+
+-- slots that are given back, and starts, bar nothing
+pub bars_given : (t : Workers) (attempts : List Attempt) → (with_slots_given t attempts).barred ≡ t.barred
+bars_given t [] = refl
+bars_given t (attempt ∷ attempts) = bars_given (with_slot_given t attempt.worker) attempts
+
+all_started : (s : State) (pairs : List (ℕ × ℕ)) →
+    (fold (λ now pair. split_started now pair.0 pair.1) s pairs).workers.barred ≡ s.workers.barred
+all_started s [] = refl
+all_started s (pair ∷ pairs) = all_started (split_started s pair.0 pair.1) pairs
+
+pub bars_started : (s : State) {next : State} (pairs : List (ℕ × ℕ)) →
+    fold (λ now pair. split_started now pair.0 pair.1) s pairs ≡ next → next.workers.barred ≡ s.workers.barred
+bars_started s pairs is = sym (ap (λ (x : State). x.workers.barred) is) ∙ all_started s pairs
+
+-- with the same barred pairs the engine is as near
+pub near_with_bars : (kept : Kept) (cluster : Cluster) (holders : List (List ℕ)) {old new : List ℕ} →
+    new ≡ old → IsNear kept cluster holders old → IsNear kept cluster holders new
+near_with_bars kept cluster holders same near =
+    subst (λ (bars : List ℕ). IsNear kept cluster holders bars) (sym same) near
+
+-- deaths bar nothing
+bars_died : (s : State) (dead : List ℕ) → (fold died s dead).workers.barred ≡ s.workers.barred
+bars_died s [] = refl
+bars_died s (w ∷ dead) = bars_died (died s w) dead
+
+-- and where nobody dies, nothing changes
+none_died : (s : State) (dead : List ℕ) (count : ℕ) → ((w : ℕ) → Has dead w → ⊥) →
+    fold died s (filter (has_number dead) (range_with_len 0 count)) ≡ s
+none_died s dead count none =
+    ap (fold died s)
+    (filter_none (has_number dead) (range_with_len 0 count) (λ k d l. false_from_ne_true _ (none _)))
+
+pub near_swept : (s : State) (counts : List ℕ) (old new : Kept) (cluster : Cluster) (dead : List ℕ)
+    (count : ℕ) (next : State) →
+    ((cluster : Cluster) (before after : List (List ℕ)) (barred : List ℕ) → IsNear old cluster before barred →
+    (((w : ℕ) → Has dead w → ⊥) → after ≡ before) → IsNear new cluster after barred) →
+    IsNear old cluster s.holders s.workers.barred →
+    fold died (heard_state s counts) (filter (has_number dead) (range_with_len 0 count)) ≡ next →
+    IsNear new cluster next.holders next.workers.barred
+near_swept s counts old new cluster dead count next far near is =
+    near_with_bars new cluster next.holders
+    (sym (ap (λ (x : State). x.workers.barred) is)
+    ∙ bars_died (heard_state s counts) (filter (has_number dead) (range_with_len 0 count)))
+    (far cluster s.holders next.holders s.workers.barred near
+    (λ none. sym (ap (λ (x : State). x.holders) is)
+    ∙ ap (λ (x : State). x.holders) (none_died (heard_state s counts) dead count none)))
+
+-- a master with another engine
+pub with_engine : {m : Inside} → IsMaster m → (engine : Kept) →
+    IsNear engine m.cluster m.holders m.workers.barred → IsMaster (record m { engine = engine })
+with_engine was engine near = still_master was refl was.kept was.made near
+
+-- the wave of the present state is near
+pub present_is_near : {m : Inside} {j : Job} (wave : Wave) → IsMaster m → job_of m ≡ j →
+    wave ≡ problem_of j.setup j.state → HasPlaces wave m.cluster m.holders m.workers.barred
+present_is_near {m = m} wave was is made =
+    let here : wave ≡ problem_of (setup_of m) (state_of m) =
+    made ∙ ap (λ (i : Job). problem_of i.setup i.state) (sym is) in
+    record {
+      tree = ap (λ (x : Wave). x.tree) here;
+      states = map shown_as m.splits.items;
+      sizes = was.kept.tidy.splits;
+      splits = ap (λ (x : Wave). x.splits) here;
+      barred_are = ap (λ (x : Wave). x.barred) here;
+    }
+
+-- in a wave that was turned there are as many splits
+pub splits_turned : (old new : Wave) (lines : List WorkerLine) (flags : List Bool) →
+    new ≡ turned old lines flags → length flags ≡ length old.splits → length new.splits ≡ length old.splits
+splits_turned old new lines flags is size =
+    let pairs : List (Split × Bool) = zip old.splits flags in
+    let many : length pairs ≡ min (length old.splits) (length flags) = length-zip old.splits flags in
+    ap (λ (x : Wave). length x.splits) is ∙ length-map pairs (λ pair. record pair.0 { pending = pair.1 })
+    ∙ omega (arith, many, size)
+
+-- the lines of splits, in other states
+relined : (lines : List Split) (old new : List SplitState) (holders : List (List ℕ)) →
+    length old ≡ length new →
+    map (λ pair. record pair.0 { pending = pair.1 })
+    (zip (split_lines lines old holders) (map is_pending new))
+    ≡ split_lines lines new holders
+relined [] old new holders same = refl
+relined (line ∷ lines) [] [] holders same = refl
+relined (line ∷ lines) [] (n ∷ new) holders same = absurd (omega (arith, same))
+relined (line ∷ lines) (o ∷ old) [] holders same = absurd (omega (arith, same))
+relined (line ∷ lines) (o ∷ old) (n ∷ new) [] same = refl
+relined (line ∷ lines) (o ∷ old) (n ∷ new) (h ∷ holders) same =
+    ap (λ (rest : List Split). split_line line n h ∷ rest)
+    (relined lines old new holders (omega (arith, same)))
+
+-- What an engine is told to keep up: the lines of the workers, and which splits are pending.
+module _ {m : Inside} {wave : Wave} (was : IsMaster m)
+    (near : HasPlaces wave m.cluster m.holders m.workers.barred) where
+  abbrev pub lines_in : List WorkerLine
+  lines_in = map worker_line m.workers.each
+
+  abbrev pub flags_in : List Bool
+  flags_in = map is_pending (map shown_as m.splits.items)
+
+  pub turned_is : turned wave lines_in flags_in ≡ problem_of (setup_of m) (state_of m)
+  turned_is =
+      let states : length near.states ≡ length (map shown_as m.splits.items) =
+      near.sizes ∙ sym was.kept.tidy.splits in
+      rw (
+        near.tree,
+        near.splits,
+        near.barred_are,
+        relined m.cluster.splits near.states (map shown_as m.splits.items) m.holders states,
+      ) refl
+
+  pub many_lines : IsWithinLimits wave → length lines_in ≡ length wave.workers
+  many_lines within =
+      length-map m.workers.each worker_line
+      ∙ sym (length-each (setup_of m) (state_of m) was.kept.whole was.kept.tidy)
+      ∙ sym (ap (λ (t : Tree). length t.rack_of) near.tree) ∙ sym within.one_line_each
+
+  pub few_free : All (λ line. line.free ≤ MAX_SLOTS) lines_in
+  few_free = (within_limits (setup_of m) (state_of m) was.kept.whole was.kept.tidy).slots
+
+  pub many_flags : length flags_in ≡ length wave.splits
+  many_flags =
+      length-map (map shown_as m.splits.items) is_pending ∙ was.kept.tidy.splits
+      ∙ sym (ap length near.splits
+      ∙ length-lines m.cluster.splits near.states m.holders near.sizes was.kept.tidy.holders)

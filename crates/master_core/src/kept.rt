@@ -1,0 +1,53 @@
+//! The engine that a master keeps from wave to wave.
+ghost use Rattle.std.specs.Prelude.{◌≡◌, ℕ, List};
+ghost use Rattle.node_ids.specs.Sets.{Has};
+ghost use Rattle.master_state.specs.States.{Cluster};
+ghost use Rattle.master_core.specs.Near.{IsNear};
+
+use node_ids::WorkerSet;
+use std::mem;
+use tree_planner::Engine;
+
+/// The engine of the last wave, from which the next one is planned.
+#[derive(Drop)]
+pub enum Kept {
+    /// There is none.
+    None,
+    /// It stands for a wave of the present holders and barred pairs.
+    Near(Engine),
+    /// Holders or barred pairs may have changed since.
+    Far(Engine),
+}
+
+impl Kept {
+    /// Holders or barred pairs change.
+    pub fn turn_far(&mut self)
+        ensures { (cluster : Cluster) (holders : List (List ℕ)) (barred : List ℕ)
+            → IsNear self.new cluster holders barred }
+    {
+        *self = match self.take() {
+            Kept::Near(engine) => Kept::Far(engine),
+            other => other,
+        };
+    }
+
+    /// Where one of these workers died, its replicas are no holders any more.
+    pub fn turn_far_by(&mut self, dead: &WorkerSet)
+        ensures { (cluster : Cluster) (old new : List (List ℕ)) (barred : List ℕ)
+            → IsNear self.old cluster old barred
+            → (((w : ℕ) → Has dead.now w → ⊥) → new ≡ old)
+            → IsNear self.new cluster new barred }
+    {
+        if !dead.is_empty() {
+            self.turn_far();
+        }
+    }
+
+    /// Takes the engine out.
+    pub fn take(&mut self) -> Kept
+        ensures kept { result ≡ self.old }
+        ensures left { self.new ≡ Kept.None }
+    {
+        mem::replace(self, Kept::None)
+    }
+}

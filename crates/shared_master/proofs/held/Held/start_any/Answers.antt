@@ -1,0 +1,45 @@
+use Rattle.std.proofs.Common.{arith, ap, sym, subst, ◌∙◌, rules, length}
+use Rattle.shared_master.specs.declared.waves.WaveError.{WaveError}
+use Rattle.shared_master.specs.Held.{HeldValue}
+use Rattle.shared_master.specs.Steps.{IsOwn}
+use Rattle.shared_master.specs.Waves.{IsUnplanned, noted_wave}
+use Rattle.shared_master.proofs.Waving.{has_room-wave, last_wave, planned_as, unplanned_as, wave_few}
+use Rattle.shared_master.proofs.held.Held.start_any.Goals as goal
+
+pub keep_wave-requires-clause-last : goal.keep_wave-requires-clause-last
+keep_wave-requires-clause-last g c = last_wave _ _ _ _ c.in-Ok-start_best.ensures.committed
+
+pub keep_wave-requires-clause-fits : goal.keep_wave-requires-clause-fits
+keep_wave-requires-clause-fits g c =
+    omega (
+      arith,
+      c.in-Ok.ensures.capacity,
+      c.splits-splits.ensures,
+      ap (λ (h : HeldValue). length h.job.setup.cluster.splits) c.self.view_is,
+      wave_few _ _ _ _ c.in-Ok-start_best.ensures.committed,
+    )
+
+pub keep_wave-requires-clause-room : goal.keep_wave-requires-clause-room
+keep_wave-requires-clause-room g c =
+    has_room-wave _ _ c.args.hand.now _ _ _ (ap (λ (h : HeldValue). h.job) c.self.view_is) c.requires.room
+    c.in-Ok-start_best.ensures.committed
+
+pub returns-in-Err-HistoryFull-clause-answer : goal.returns-in-Err-HistoryFull-clause-answer
+returns-in-Err-HistoryFull-clause-answer g c =
+    let own : IsOwn c.args.self.now.job c.args.hand.now = search rules in
+    let same = ap (λ (h : HeldValue). h.job) c.self.view_is in
+    let refused = c.refused-in-Err-HistoryFull.ensures in (
+      subst (λ (e : WaveError). IsUnplanned c.args.self.now.job c.args.hand.now e) (sym refused.error)
+          (unplanned_as _ _ c.args.hand.now same own (c.in-Err-HistoryFull.ensures.full (search rules))),
+      c.in-Err-HistoryFull.ensures.err ∙ same,
+      refused.hand ∙ (λ k. noted_wave (c.splits-splits.ensures k) c.args.hand.now (sym refused.error k)),
+    )
+
+pub returns-clause-answer : goal.returns-clause-answer
+returns-clause-answer g c =
+    let own : IsOwn c.args.self.now.job c.args.hand.now = search rules in
+    planned_as c.self.inside.master c.args.self.now.job c.args.hand.now _ _ _ c.keep_wave.result
+    c.start_best.new.self c.keep_wave.new.hand (ap (λ (h : HeldValue). h.job) c.self.view_is) own
+    c.requires.room c.in-Ok-start_best.ensures.over c.in-Ok-start_best.ensures.certifies
+    c.in-Ok-start_best.ensures.committed c.is_kept.ensures c.keep_wave.ensures.wave c.keep_wave.ensures.starts
+    c.keep_wave.ensures.hand
