@@ -3,8 +3,8 @@
 //! `fault_note` has the sentence of a fault, the line, and a mark under the word at fault; the others have a
 //! sentence alone. `Copying` is a reader that keeps what it gave, and `Listening` a writer that hears which
 //! commands were ignored, so that a command's own contract says what it writes, whoever listens. Below stand
-//! the sentences of `explanations`, the lines of `text_lines` and the shapes of `line_shapes`; above it `mrjob`
-//! writes the notes to standard error.
+//! the sentences of `explanations`, the lines of `text_lines` and the shapes of `line_shapes`; above it
+//! `mrjob` writes the notes to standard error.
 #![tactic(auto)]
 
 pub mod copying;

@@ -8,8 +8,8 @@ const IGNORED: &[u8] = b"ignored ";
 // Numbers from here on are no reasons.
 const REASONS: u8 = 32;
 
-/// A writer that hears for which reasons commands were ignored, by the lines that it passes on, and whether its
-/// reader has gone.
+/// A writer that hears for which reasons commands were ignored, by the lines that it passes on, and whether
+/// its reader has gone.
 #[derive(Drop)]
 pub struct Listening<W: Write> {
     writer: W,

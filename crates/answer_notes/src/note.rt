@@ -145,7 +145,8 @@ fn add_marked(note: &mut Vec<u8>, line: &[u8], span: Span) -> Result<(), AllocEr
 
 // Appends this piece of a line, as it can be shown.
 fn add_visible(note: &mut Vec<u8>, piece: &[u8]) -> Result<(), AllocError>
-    ensures { OnOk result (note.new.items ≡ note.old.items ++ codes "  " ++ map seen_as piece.now ++ codes "\n") }
+    ensures { OnOk result
+        (note.new.items ≡ note.old.items ++ codes "  " ++ map seen_as piece.now ++ codes "\n") }
 {
     note.extend_from_slice(b"  ")?;
     for byte in piece {

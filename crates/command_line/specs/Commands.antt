@@ -1,6 +1,6 @@
 -- The commands of mrjob, what clap finds in the words, and when they have a fault.
 use Rattle.std.specs.Prelude.{◌≡◌, ◌⊎◌, ◌↔◌, IsSome, None, Bool, List, [], ◌∷◌, Option, Some, codes, false, true}
-use Rattle.std.specs.Prelude.{option_and_then, option_map}
+use Rattle.std.specs.Prelude.{⊤, option_and_then, option_map}
 use Rattle.std.specs.Option.{option_map_or}
 use Rattle.std.specs.Str.{bytes_eq}
 use Rattle.clap.specs.Simple.{on_top}
@@ -12,7 +12,7 @@ use Rattle.clap.specs.Kinds.{IsAmong, Kinds}
 use Rattle.clap.specs.declared.error.kind.ErrorKind.{ErrorKind}
 use Rattle.clap.specs.declared.error.kind.ErrorKind.TheVariants.{InvalidValue}
 use Rattle.command_line.specs.declared.asked.Ask.{Ask}
-use Rattle.command_line.specs.declared.asked.Ask.TheVariants.{Check, Explain, Plan, Play, Run}
+use Rattle.command_line.specs.declared.asked.Ask.TheVariants.{Check, Explain, Plan, Play, Run, Serve}
 use Rattle.command_line.specs.declared.asked.AskError.{AskError}
 use Rattle.command_line.specs.declared.asked.AskError.TheVariants.{Fault, Memory}
 use Rattle.explanations.specs.Table.{Row, row_named, row_of, table}
@@ -52,6 +52,9 @@ plan =
 abbrev pub play : App
 play = with_rule (with_rule (new_app (codes "play")) (flag (codes "quiet"))) (flag (codes "explain"))
 
+abbrev pub serve : App
+serve = new_app (codes "serve")
+
 abbrev pub run : App
 run =
     with_rule (with_rule (with_rule (new_app (codes "run")) (flag (codes "history"))) (flag (codes "quiet")))
@@ -69,8 +72,9 @@ program =
 abbrev pub mrjob : App
 mrjob =
     with_subcommand
+    (with_subcommand
     (with_subcommand (with_subcommand (with_subcommand (with_subcommand program check.top) plan.top) play.top)
-    run.top) explain.top
+    serve.top) run.top) explain.top
 
 -- the command that clap finds in the words
 abbrev pub command_in : List Text → Option Text
@@ -97,6 +101,7 @@ abbrev pub command_word : Ask → Text
 command_word (Check options) = codes "check"
 command_word (Plan options) = codes "plan"
 command_word (Play options) = codes "play"
+command_word Serve = codes "serve"
 command_word (Run options) = codes "run"
 command_word (Explain entry) = codes "explain"
 
@@ -119,6 +124,7 @@ AsksBy text (Plan options) = (options.prices ≡ is_set (text (codes "prices")))
     × (options.explain ≡ is_set (text (codes "explain")))
 AsksBy text (Play options) = (options.quiet ≡ is_set (text (codes "quiet")))
     × (options.explain ≡ is_set (text (codes "explain")))
+AsksBy text Serve = ⊤
 AsksBy text (Run options) = (options.history ≡ is_set (text (codes "history")))
     × (options.quiet ≡ is_set (text (codes "quiet"))) × (options.explain ≡ is_set (text (codes "explain")))
 AsksBy text (Explain entry) = AsksRow (text (codes "kind")) (text (codes "name")) entry

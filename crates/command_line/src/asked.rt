@@ -10,6 +10,8 @@ pub enum Ask {
     Plan(PlanOptions),
     /// Play a script of a job.
     Play(PlayOptions),
+    /// Serve a live master.
+    Serve,
     /// Run a job on threads.
     Run(RunOptions),
     /// Say what this line of the table of explanations says, or each, where none is named.

@@ -1,6 +1,6 @@
 ghost use Rattle.std.specs.Prelude.{◌≡◌, IfOk, false, true};
 ghost use Rattle.clap.specs.Words.{App, app_of, new_app, rule_of, with_subcommand};
-ghost use Rattle.command_line.specs.Commands.{check, explain, flag, mrjob, network, plan, play, run, word};
+ghost use Rattle.command_line.specs.Commands.{check, explain, flag, mrjob, network, plan, play, run, serve, word};
 
 use clap::{Arg, ArgAction, Command};
 use std::alloc::{AllocError, Global};
@@ -122,6 +122,37 @@ It is answered by:
   word cat d
   word the d";
 
+const SERVE_ABOUT: &str =
+    "Serves a live master, which answers each command before it reads the next one";
+
+const SERVE_TEXTS: &str = "\
+Input:   on standard input the head of a script and `begin`, then one command a line, and `end`
+Output:  an empty line once the master is open, then the lines of `play` for each command; each answer
+         ends with an empty line. A faulty command is answered by `fault NUMBER`, and changes nothing.
+         `workers`, `open` and `outputs`, each alone on its line, ask what stands
+Status:  0 every part is done, 1 stuck, 2 the head has a fault, or the input ended before `end`;
+         `mrjob --help` has the others
+Try:     mrjob serve < examples/serve_session.txt
+More:    docs/MODEL.md, `The answer of serve`
+
+Example of an input:
+  script 1
+  rack r
+  worker a r 1
+  split s 10 a
+  begin
+  wave
+  end
+
+It is answered by:
+
+  accepted 1
+  wave 1 0
+  start 1 s a
+
+  stuck 1
+  open s";
+
 const RUN_ABOUT: &str =
     "Runs a job, each of its workers a thread, and writes the index of its documents";
 
@@ -226,6 +257,12 @@ fn play_command<'a>(alloc: Global) -> Result<Command<'a>, AllocError>
         .arg(flag_of(alloc, "explain", EXPLAIN_HELP))
 }
 
+fn serve_command<'a>(alloc: Global) -> Result<Command<'a>, AllocError>
+    ensures { IfOk result (λ command. app_of command ≡ serve) }
+{
+    Ok(command_of(alloc, "serve", SERVE_ABOUT, SERVE_TEXTS))
+}
+
 fn run_command<'a>(alloc: Global) -> Result<Command<'a>, AllocError>
     ensures { IfOk result (λ command. app_of command ≡ run) }
 {
@@ -275,6 +312,7 @@ pub(crate) fn all_commands<'a>(alloc: Global) -> Result<Command<'a>, AllocError>
     let commands = with_command(commands, check_command(alloc))?;
     let commands = with_command(commands, plan_command(alloc))?;
     let commands = with_command(commands, play_command(alloc))?;
+    let commands = with_command(commands, serve_command(alloc))?;
     let commands = with_command(commands, run_command(alloc))?;
     with_command(commands, explain_command(alloc))
 }

@@ -77,6 +77,7 @@ fn ask_by_name(alloc: Global, name: &str, options: &ArgMatches) -> Result<Ask, A
             quiet: is_given(options, "quiet"),
             explain: is_given(options, "explain"),
         })),
+        "serve" => Ok(Ask::Serve),
         "run" => Ok(Ask::Run(RunOptions {
             history: is_given(options, "history"),
             quiet: is_given(options, "quiet"),

@@ -3,10 +3,11 @@ use Rattle.std.proofs.Common.{ℕ, List, Result, Ok, Err, ◌≡◌, refl, subst
 use Rattle.std.specs.Result.{IsErrAnd}
 use Rattle.line_shapes.specs.Lines.{Statement}
 use Rattle.line_rules.specs.declared.purpose.Purpose.TheVariants.{Playing}
-use Rattle.text_reading.specs.declared.tool_error.NoAnswer.{NoAnswer}
-use Rattle.text_reading.specs.declared.tool_error.NoAnswer.TheVariants as none
+use Rattle.command_runner.specs.declared.tool_error.NoAnswer.{NoAnswer}
+use Rattle.command_runner.specs.declared.tool_error.NoAnswer.TheVariants as none
 use Rattle.script_text.specs.Heads.{IsFitHead, MakesHead}
 use Rattle.script_text.specs.declared.heads.Head.{Head}
+use Rattle.shuffle_reduce.specs.Gather.{values_of}
 use Rattle.master_state.specs.States.{Cluster}
 use Rattle.master_core.specs.Clusters.{AreFewAndSmall}
 use Rattle.script_text.specs.Scripts.{IsOfHead, IsScriptOf}
@@ -61,10 +62,11 @@ full_in_playing Memory (Err e) is full = cc
 full_in_playing HistoryFull (Err e) is full = refl
 
 pub few_and_small : (head : Head) → IsFitHead head →
-    AreFewAndSmall head.slots.items head.splits.items head.parts
+    AreFewAndSmall head.slots.items head.splits.items (values_of head.texts.items) head.parts
 few_and_small head is = record {
   few_slots = is.few_slots;
   small_splits = is.small_splits;
+  few_documents = is.few_documents;
   few_parts = is.few_parts;
 }
 

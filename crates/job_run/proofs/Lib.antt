@@ -9,3 +9,8 @@ pub mod Handed
 pub mod Growth
 pub mod Answered
 pub mod Ran
+mod Heads
+mod Served
+mod Sessions
+mod Transcript
+mod NoCommands

@@ -18,7 +18,9 @@ use Rattle.job_threads.specs.Outcomes.{EndsWith, IsRecordOf}
 use Rattle.job_threads.specs.declared.outcome.Record.{Record}
 use Rattle.job_threads.specs.declared.outcome.RunError.{RunError}
 use Rattle.job_run.specs.PlayAnswer.{cluster_in}
-use Rattle.job_run.specs.RunAnswer.{HasTextsNamed, RunsRead, TellsJob, setup_on}
+use Rattle.job_run.specs.RunAnswer.{HasTextsNamed, RunsRead, TellsEnd, TellsJob, setup_on}
+use Rattle.job_run.specs.declared.running.RunEnd.{RunEnd}
+use Rattle.job_run.specs.declared.running.RunEnd.TheVariants as finish
 use Rattle.job_run.specs.declared.running.JobEnd.{JobEnd}
 use Rattle.job_run.proofs.Answered.{same_cluster}
 
@@ -40,6 +42,11 @@ setup_kept : (given : Setup) (last : Job) (index : Option (List EntryView))
     → EndsWith given last index → last.setup ≡ given
 setup_kept given last (Some index) is = is.0.setup
 setup_kept given last None is = is.setup
+
+pub told_setup : (given : Setup) (names : Names) (last : Job) (end : RunEnd) (out : List ℕ)
+    → TellsEnd given names last end out → last.setup ≡ given
+told_setup given names last finish.Done out ends = ends.0.setup
+told_setup given names last finish.Stuck out ends = ends.0.setup
 
 pub texts_told : (names : Names) (given : Setup) (ended : Result Record RunError)
     → length names.splits ≡ length given.cluster.texts → IfOk ended (IsRecordOf given)

@@ -6,3 +6,7 @@ pub mod Rooms
 pub mod PlayAnswer
 pub mod RunAnswer
 pub mod OneAnswer
+pub mod Headlines
+pub mod Serving
+pub mod Sessions
+pub mod Queries

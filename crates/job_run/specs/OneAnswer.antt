@@ -3,7 +3,7 @@
 use Rattle.std.proofs.Common.{Bool, Ok, Err}
 use Rattle.line_rules.specs.declared.purpose.Purpose.TheVariants.{Playing, Running}
 use Rattle.line_rules.proofs.OneReading.{reads-faultless}
-use Rattle.text_reading.specs.Running.{HasOneAnswer, AnyLines}
+use Rattle.command_runner.specs.CommandRun.{HasOneAnswer, AnyLines}
 use Rattle.line_rules.proofs.OneFault.{one_fault}
 use Rattle.job_run.specs.PlayAnswer.{AreEnds, PlayAnswer}
 use Rattle.job_run.specs.RunAnswer.{RunAnswer}

@@ -8,8 +8,8 @@ use Rattle.line_shapes.specs.declared.keyword.Keyword.TheVariants.{Worker}
 use Rattle.line_rules.specs.Known.{Known, rows_of}
 use Rattle.line_rules.specs.Reading.{IsAllRead}
 use Rattle.line_rules.specs.declared.purpose.Purpose.TheVariants.{Playing}
-use Rattle.text_reading.specs.declared.tool_error.NoAnswer.{NoAnswer}
-use Rattle.text_reading.specs.declared.tool_error.NoAnswer.TheVariants as none
+use Rattle.command_runner.specs.declared.tool_error.NoAnswer.{NoAnswer}
+use Rattle.command_runner.specs.declared.tool_error.NoAnswer.TheVariants as none
 use Rattle.line_rules.specs.Faulty.{IsFaulty}
 use Rattle.plan_text.specs.Names.{names_of}
 use Rattle.plan_text.specs.Value.{declared_split, declared_tree}

@@ -22,13 +22,14 @@ use Rattle.master_state.specs.Tests.{all_parts_done, next_part, next_worker}
 use Rattle.master_state.specs.Refusals.{Call, MapDone, MapFailed, Withdraw, Die, Join, Add, Lose, Sweep}
 use Rattle.master_state.specs.Refusals.{ReduceStart, PartDone, PartFailed, Backup, has_no_room, split_text}
 use Rattle.master_state.specs.Steps.{IsLegal, problem_of}
-use Rattle.master_state.specs.Jobs.{Job, Answers, IsCommitted, died_in, Plain}
+use Rattle.master_state.specs.Jobs.{Job, Answers, IsCommitted, IsKept, died_in, Plain}
 use Rattle.script_text.specs.Commands.{IsKnownIn}
 use Rattle.script_text.specs.declared.script.Names.{Names}
 use Rattle.script_text.specs.declared.script.Script.{Script}
 use Rattle.script_text.specs.declared.script.Command.{Command}
 use Rattle.script_text.specs.declared.script.Command.TheVariants as command
-use Rattle.report_lines.specs.Lines.{accepted_line, ignored_line, wave_line, started_line, backup_line}
+use Rattle.report_lines.specs.Lines.{accepted_line, ignored_line, started_line, backup_line}
+use Rattle.text_lines.specs.WaveLine.{wave_line}
 use Rattle.report_lines.specs.Lines.{reduce_line, dead_line, copy_lines, index_lines, stuck_lines}
 use Rattle.report_lines.specs.Lines.{lines_of_those}
 use Rattle.job_run.specs.declared.player.PlayEnd.{PlayEnd}
@@ -171,12 +172,14 @@ EndsReport names last finish.Stuck out =
 abbrev pub opening_job : Setup → Job
 opening_job setup = record { setup = setup; history = []; state = opening setup; results = [] }
 
--- a legal history answers the commands by these lines
+-- the commands are answered by these lines, and lead to what a master keeps: a legal history, and the results
+-- of the done parts
 pub record IsReport (setup : Setup) (script : Script) (finish : PlayEnd) (out : List ℕ) : Type 0 where
   pub last : Job
   pub answers : List ℕ
   pub ending : List ℕ
-  pub legal : IsLegal last.setup last.history last.state
+  pub given : last.setup ≡ setup
+  pub kept : IsKept last
   pub performs : PerformsAll script.names script.target (opening_job setup) script.commands.items answers last
   pub ends : EndsReport script.names last finish ending
   pub out_is : out ≡ answers ++ ending

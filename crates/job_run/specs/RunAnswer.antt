@@ -5,7 +5,7 @@ use Rattle.text_lines.specs.declared.fault.TextFault.{TextFault}
 use Rattle.line_rules.specs.Known.{Known}
 use Rattle.line_rules.specs.Reading.{IsAllRead}
 use Rattle.line_rules.specs.declared.purpose.Purpose.TheVariants.{Running}
-use Rattle.text_reading.specs.declared.tool_error.ToolError.{ToolError}
+use Rattle.command_runner.specs.declared.tool_error.ToolError.{ToolError}
 use Rattle.line_rules.specs.Faulty.{IsFaulty}
 use Rattle.script_text.specs.declared.heads.Head.{Head}
 use Rattle.master_state.specs.Jobs as master
@@ -19,6 +19,7 @@ use Rattle.report_lines.specs.Lines.{stuck_lines}
 use Rattle.job_threads.specs.Outcomes.{IsDoneOn, IsStuckWith}
 use Rattle.job_threads.specs.declared.job.Job.{Job}
 use Rattle.job_threads.specs.declared.outcome.Record.{Record}
+use Rattle.job_threads.specs.declared.outcome.RunError.{RunError}
 use Rattle.job_run.specs.PlayAnswer.{cluster_in, declared_cluster}
 use Rattle.job_run.specs.Reports.{TellsIndex}
 use Rattle.job_run.specs.declared.running.JobEnd.{JobEnd}
@@ -54,6 +55,7 @@ pub record TellsRun
     : Type 0 where
   pub last : master.Job
   pub ending : List ℕ
+  pub kept : master.IsKept last
   pub ends : TellsEnd given names last end ending
   pub out_is : out ≡ (if asked then done_lines names last else []) ++ ending
 
@@ -61,6 +63,12 @@ pub record TellsRun
 abbrev pub TellsJob : Setup → Names → Bool → JobEnd → List ℕ → Type 0
 TellsJob given names asked (job.Ran end) out = TellsRun given names asked end out
 TellsJob given names asked (job.Broken why) out = out ≡ []
+
+-- a run is told as one where it has a record, and else by its error
+abbrev pub IsToldAs : Result Record RunError → JobEnd → Type 0
+IsToldAs (Ok ran) (job.Ran end) = Unit {0}
+IsToldAs (Err e) (job.Broken why) = why ≡ e
+IsToldAs ended told = ⊥
 
 -- the lines tell how the job ended that the text declares
 pub record RunsRead (asked : Bool) (text : List ℕ) (end : JobEnd) (lines : List ℕ) : Type 0 where

@@ -53,8 +53,8 @@ pub(crate) fn add_open(
     add_stuck(lines, &names.splits, states.as_slice())
 }
 
-// What has become of each split, or nothing where memory is wanting.
-fn states_of(alloc: Global, master: &Master) -> Option<Vec<SplitState>>
+/// What has become of each split, or nothing where memory is wanting.
+pub(crate) fn states_of(alloc: Global, master: &Master) -> Option<Vec<SplitState>>
     ensures { IfSome result (λ states. states.items ≡ master.now.state.splits) }
 {
     master.is_kept();

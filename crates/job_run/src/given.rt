@@ -42,7 +42,7 @@ impl GivenRuns {
         self.of_parts[part.index()].as_slice()
     }
 
-    /// The part is given these runs, in place of those that it had.
+    /// The part is given these runs, which replace the runs that it had.
     pub fn put(&mut self, part: PartNo, runs: Vec<Arc<Run>>)
         requires { part < length self.old }
         ensures { self.new ≡ slice_set self.old part runs.items }

@@ -36,6 +36,8 @@ pub(crate) fn perform(
     ensures ok { OnOk result (Performed script.now.names script.now.target master.old command.now
         (string_bytes lines.old) (string_bytes lines.new) master.new) }
     ensures full { result ≡ Err PlayError.HistoryFull → (command.now ≡ asked.Wave) × LacksRoom master.old }
+    ensures unchanged { result ≡ Err PlayError.HistoryFull → (master.new ≡ master.old)
+        × (given.new ≡ given.old) × (string_bytes lines.new ≡ string_bytes lines.old) }
 {
     let names = &script.names;
     match command {

@@ -1,5 +1,5 @@
 ghost use Rattle.std.specs.Prelude.{◌≡◌, Err, IfOk, string_bytes};
-ghost use Rattle.text_reading.specs.Running.{HasRun, AnyLines};
+ghost use Rattle.command_runner.specs.CommandRun.{HasRun, AnyLines};
 ghost use Rattle.script_text.specs.Heads.{IsFitHead};
 ghost use Rattle.script_text.specs.Scripts.{IsOfHead};
 ghost use Rattle.job_run.specs.Reports.{IsReport};
@@ -9,13 +9,13 @@ ghost use Rattle.job_run.specs.OneAnswer.{one_play_answer};
 
 use crate::clusters::cluster_of;
 use crate::player::{PlayEnd, PlayError, Report, ScriptObserver, play_script_observed};
+use command_runner::{Command, NoAnswer, ToolError, run_command};
 use job_threads::Unobserved;
 use line_rules::fault_answer;
 use script_text::{Head, Script, ScriptText, read_script};
 use std::alloc::Global;
 use std::io::{Read, Write};
 use text_lines::TextFault;
-use text_reading::{Command, NoAnswer, ToolError, run_command};
 
 /// Reads a script, plays it on a new master of its cluster, and writes its report, or the text's least
 /// fault. All lines are made before their first byte is written.

@@ -1,23 +1,24 @@
 ghost use Rattle.std.specs.Prelude.{◌≡◌, ◌≢◌, ◌≤◌, ◌++◌, List, Err, IfOk, OnOk, length, string_bytes, true};
 ghost use Rattle.std.specs.Prelude.{false, [], if◌then◌else◌};
-ghost use Rattle.text_reading.specs.Running.{AnyLines, HasRun, NoText, WroteItsAnswer, outcome};
+ghost use Rattle.command_runner.specs.CommandRun.{AnyLines, HasRun, NoText, WroteItsAnswer, outcome};
 ghost use Rattle.report_lines.specs.Lines.{index_lines};
 ghost use Rattle.script_text.specs.Scripts.{IsOfHead, IsTarget};
 ghost use Rattle.script_text.specs.Heads.{IsFitHead};
 ghost use Rattle.master_state.specs.States.{Setup};
 ghost use Rattle.job_threads.specs.Outcomes.{IsRecordOf};
 ghost use Rattle.job_run.specs.PlayAnswer.{AreEnds, cluster_in};
-ghost use Rattle.job_run.specs.RunAnswer.{HasTextsNamed, RunAnswer, TellsEnd, TellsJob, TellsRun, done_lines};
+ghost use Rattle.job_run.specs.RunAnswer.{HasTextsNamed, IsToldAs, RunAnswer, TellsEnd, TellsJob, TellsRun, done_lines};
 ghost use Rattle.job_run.specs.RunAnswer.{job_in, ran_as, setup_on};
 
 use crate::clusters::cluster_of;
 use crate::ending::add_open;
+use command_runner::ToolError;
 use job_threads::{Gate, Job, Observer, Record, RunError, Unobserved, run_recorded};
 use line_rules::fault_answer;
 use master_core::Master;
 use master_state::Limits;
 use report_lines::{add_history, add_index};
-use script_text::{Head, Names, ScriptText, read_job};
+use script_text::{Head, Names, Script, ScriptText, read_job};
 use shuffle_reduce::Index;
 use std::alloc::{AllocError, Global};
 use std::io::{Read, Write};
@@ -27,7 +28,6 @@ use std::sync::Wait;
 use std::thread;
 use std::thread::Threads;
 use text_lines::{TextFault, read_text, write_text};
-use text_reading::ToolError;
 
 /// How a job has ended that was read and run.
 #[derive(Clone, Copy, Debug, PartialEq, Eq)]
@@ -70,6 +70,7 @@ pub fn run_text<T: Threads + Wait + Clock + Sync, R: Read, W: Write, G: Gate>(
     ensures same { WroteItsAnswer (RunAnswer false) AreEnds AnyLines (R.remaining reader.old)
         (W.contents writer.old) (W.contents writer.new) (ran_as result) }
     ensures never_full { result ≢ Err (RunTextError.Tool ToolError.HistoryFull) }
+    ensures over { result ≡ Err (RunTextError.Run RunError.GateLimit) → G.may_end ≡ true }
 {
     run_text_observed(rt, alloc, reader, writer, gate, &Unobserved, false)
 }
@@ -90,6 +91,7 @@ pub fn run_text_observed<T: Threads + Wait + Clock + Sync, R: Read, W: Write, G:
     ensures same { WroteItsAnswer (RunAnswer asked) AreEnds AnyLines (R.remaining reader.old)
         (W.contents writer.old) (W.contents writer.new) (ran_as result) }
     ensures never_full { result ≢ Err (RunTextError.Tool ToolError.HistoryFull) }
+    ensures over { result ≡ Err (RunTextError.Run RunError.GateLimit) → G.may_end ≡ true }
 {
     told(run_job(rt, alloc, reader, writer, gate, observer, asked))
 }
@@ -120,6 +122,7 @@ fn run_job<T: Threads + Wait + Clock + Sync, R: Read, W: Write, G: Gate, O: Obse
         (W.contents writer.old) (W.contents writer.new) result }
     ensures same { WroteItsAnswer (RunAnswer asked) AreEnds AnyLines (R.remaining reader.old)
         (W.contents writer.old) (W.contents writer.new) result }
+    ensures over { result ≡ Ok (JobEnd.Broken RunError.GateLimit) → G.may_end ≡ true }
 {
     let text = read_text(alloc, reader)?;
     let (lines, end) = answer_job(rt, alloc, text.as_slice(), gate, observer, asked)?;
@@ -145,7 +148,8 @@ fn answer_job<T: Threads + Wait + Clock + Sync, G: Gate, O: Observer>(
     observer: &O,
     asked: bool,
 ) -> Result<(String, Result<JobEnd, TextFault>), AllocError>
-    ensures { IfOk result (λ given. RunAnswer asked text.now given.1 (string_bytes given.0)) }
+    ensures answer { IfOk result (λ given. RunAnswer asked text.now given.1 (string_bytes given.0)) }
+    ensures over { IfOk result (λ given. given.1 ≡ Ok (JobEnd.Broken RunError.GateLimit) → G.may_end ≡ true) }
 {
     match read_job(alloc, text) {
         Ok(read) => {
@@ -172,20 +176,21 @@ fn run_read<T: Threads + Wait + Clock + Sync, G: Gate, O: Observer>(
     requires known { IsOfHead read.head read.script }
     requires target { IsTarget read.script.target }
     requires few { length read.head.slots.items ≤ 32 }
-    ensures { IfOk result (λ told. TellsJob (setup_on (cluster_in read.entry.head)) read.entry.script.names
-        asked told.1 (string_bytes told.0)) }
+    ensures tells { IfOk result (λ told. TellsJob (setup_on (cluster_in read.entry.head))
+        read.entry.script.names asked told.1 (string_bytes told.0)) }
+    ensures over { IfOk result (λ told. told.1 ≡ JobEnd.Broken RunError.GateLimit → G.may_end ≡ true) }
 {
     let ScriptText { head, script } = read;
-    let job = job_of(alloc, head, script.target)?;
+    let job = job_of(alloc, head, &script)?;
     let ended = run_recorded(rt, alloc, job, gate, observer);
     tell(rt, alloc, &script.names, ended, asked)
 }
 
-// The job of a head, with room for what a run may need.
-fn job_of(alloc: Global, head: Head, target: usize) -> Result<Job, AllocError>
+// The job of a head, with the target of its text, and room for what a run may need.
+fn job_of(alloc: Global, head: Head, script: &Script<'_>) -> Result<Job, AllocError>
     requires fit { IsFitHead head }
-    requires target { IsTarget target }
-    ensures { IfOk result (λ job. job ≡ job_in head target) }
+    requires target { IsTarget script.now.target }
+    ensures { IfOk result (λ job. job ≡ job_in head script.now.target) }
 {
     let cluster = cluster_of(alloc, head)?;
     let limits = Limits {
@@ -195,7 +200,7 @@ fn job_of(alloc: Global, head: Head, target: usize) -> Result<Job, AllocError>
     };
     Ok(Job {
         cluster,
-        target: target as u8,
+        target: script.target as u8,
         limits,
     })
 }
@@ -210,7 +215,8 @@ fn tell<T: Threads>(
 ) -> Result<(String, JobEnd), AllocError>
     requires named { IfOk ended (HasTextsNamed names.now) }
     requires few { length names.now.workers ≤ 32 }
-    ensures { (given : Setup) → IfOk ended (IsRecordOf given)
+    ensures end { IfOk result (λ told. IsToldAs ended told.1) }
+    ensures tells { (given : Setup) → IfOk ended (IsRecordOf given)
         → IfOk result (λ told. TellsJob given names.now asked told.1 (string_bytes told.0)) }
 {
     match ended {
@@ -235,6 +241,7 @@ fn tell_run<T: Threads>(
     ensures { (given : Setup) → IsRecordOf given ran
         → IfOk result (λ told. TellsRun given names.now asked told.1 (string_bytes told.0)) }
 {
+    ran.master.is_kept();
     let mut lines = String::new(alloc);
     add_done(names, &ran.master, asked, &mut lines)?;
     let (ending, end) = ending_of(rt, alloc, names, ran)?;

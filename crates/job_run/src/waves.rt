@@ -1,7 +1,8 @@
 ghost use Rattle.std.specs.Prelude.{◌≡◌, ◌≢◌, ℕ, ◌+◌, ◌-◌, ◌≤◌, ◌++◌, ◌^◌, Err, OnOk, length, string_bytes};
 ghost use Rattle.wave_problem.specs.Assignment.{pairs_of};
 ghost use Rattle.price_certificate.specs.declared.Condition.{Condition};
-ghost use Rattle.report_lines.specs.Lines.{accepted_line, wave_line};
+ghost use Rattle.report_lines.specs.Lines.{accepted_line};
+ghost use Rattle.text_lines.specs.WaveLine.{wave_line};
 ghost use Rattle.script_text.specs.declared.script.Command.TheVariants as command;
 ghost use Rattle.job_run.specs.Reports.{LacksRoom, started_lines};
 ghost use Rattle.job_run.specs.Playing.{Performed};
@@ -25,6 +26,8 @@ pub(crate) fn wave(
     ensures ok { (target : ℕ) → OnOk result (Performed names.now target master.old command.Wave
         (string_bytes lines.old) (string_bytes lines.new) master.new) }
     ensures full { result ≡ Err PlayError.HistoryFull → LacksRoom master.old }
+    ensures unchanged { result ≡ Err PlayError.HistoryFull
+        → (master.new ≡ master.old) × (string_bytes lines.new ≡ string_bytes lines.old) }
 {
     master.is_kept();
     match master.start_best(alloc) {

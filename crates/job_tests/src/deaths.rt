@@ -20,6 +20,18 @@ fn a_worker_that_was_only_slow_returns(rt: HostRuntime) {
     );
 }
 
+// The one worker has 16 orders, and dies in its first map. When it returns it passes over the 15 that are
+// left of these, and does the 16 that it is given anew.
+#[test]
+fn orders_that_a_death_lost_are_passed_over(rt: HostRuntime) {
+    let rows: [SplitRow<'_>; 16] = [(5, &[0], "one"); 16];
+    let gate = Silences::new(51, 0);
+    let job = job_of(&rt, rt.alloc(), &[16], &rows, 1, 50, AMPLE).expect(&rt, "no job");
+    let told = tell(&rt, rt.alloc(), run(&rt, rt.alloc(), job, &gate));
+    assert!(rt; matches!(told, Told::Done(_)), "{told:?}");
+    assert_eq!(rt; gate.seen.begun.load(Ordering::SeqCst), 17);
+}
+
 // A worker dies while its map is held, and the other one does it.
 #[test]
 fn a_death_by_sweeps_loses_no_split(rt: HostRuntime) {
@@ -31,7 +43,8 @@ fn a_death_by_sweeps_loses_no_split(rt: HostRuntime) {
     assert!(rt; gate.seen.begun.load(Ordering::SeqCst) >= 2);
 }
 
-// A worker that dies after each 1,000 maps, and returns, has made 4,096 calls at last, and its hand is full.
+// A worker that dies after each 1,000 maps, and returns, has made 4,096 calls at last, and its hand is
+// full. Of each 1,000 maps one comes too late.
 #[test]
 fn a_full_hand_ends_the_run(rt: HostRuntime) {
     let rows: [SplitRow<'_>; 1024] = [(5, &[0], "one"); 1024];
@@ -42,7 +55,8 @@ fn a_full_hand_ends_the_run(rt: HostRuntime) {
         matches!(told, Told::Error(RunError::HistoryFull)),
         "{told:?}"
     );
-    assert!(rt; gate.seen.begun.load(Ordering::SeqCst) > 4096);
+    let begun = gate.seen.begun.load(Ordering::SeqCst);
+    assert!(rt; begun > 4096 && begun < 5000, "{begun}");
 }
 
 // Four workers fill their lanes: 16 starts each at once, and the first maps are held until all four have one.

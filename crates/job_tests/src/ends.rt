@@ -1,8 +1,8 @@
 //! Runs that end without an index, and those that nothing refused changes.
-use crate::gates::{Ask, Ends, Seen, Stops, Yields};
-use crate::jobs::{AMPLE, SplitRow};
-use crate::told::{Told, run_rows};
-use job_threads::{PlainGate, RunError};
+use crate::gates::{Ask, Ends, Seen, Stops, SweepsOn, Yields};
+use crate::jobs::{AMPLE, SplitRow, job_of};
+use crate::told::{Told, run_rows, tell};
+use job_threads::{PlainGate, RunError, run};
 use master_state::Limits;
 use node_ids::WorkerNo;
 
@@ -17,6 +17,25 @@ fn a_full_history_ends_the_run(rt: HostRuntime) {
         sweeps: 0,
     };
     let told = run_rows(&rt, rt.alloc(), &[1, 1], &APART, limits, &Yields);
+    assert!(rt;
+        matches!(told, Told::Error(RunError::HistoryFull)),
+        "{told:?}"
+    );
+}
+
+// The third sweep finds no place, while the map is held.
+#[test]
+fn a_history_full_of_sweeps_ends_the_run(rt: HostRuntime) {
+    let limits = Limits {
+        events: 100,
+        attempts: 10,
+        sweeps: 2,
+    };
+    let gate = SweepsOn {
+        seen: Seen::new(),
+        sweeps: 3,
+    };
+    let told = run_rows(&rt, rt.alloc(), &[1, 1], &APART, limits, &gate);
     assert!(rt;
         matches!(told, Told::Error(RunError::HistoryFull)),
         "{told:?}"
@@ -57,6 +76,26 @@ fn a_cluster_without_workers_is_stuck(rt: HostRuntime) {
     };
     let told = run_rows(&rt, rt.alloc(), &[], &rows, AMPLE, &gate);
     assert!(rt; told.is_stuck_with(" 0"), "{told:?}");
+}
+
+// A job that can never go on is stuck at once under the plain gate, however long workers may be silent.
+// Meanwhile no worker that beats is taken for dead, and no split that is done is lost. (slots, silence, what
+// is left)
+#[test]
+fn a_job_past_help_is_stuck_at_once(rt: HostRuntime) {
+    let rows: [SplitRow<'_>; 2] = [(5, &[0], "one"), (5, &[], "two")];
+    let table: [(&[u8], u32, &str); 5] = [
+        (&[0, 0], 1000, " 0 1"),
+        (&[1, 1], 1000, " 1"),
+        (&[1, 1], 1, " 1"),
+        (&[0, 16], 3, " 1"),
+        (&[1; 32], 3, " 1"),
+    ];
+    for (slots, silence, left) in table {
+        let job = job_of(&rt, rt.alloc(), slots, &rows, 1, silence, AMPLE).expect(&rt, "no job");
+        let told = tell(&rt, rt.alloc(), run(&rt, rt.alloc(), job, &PlainGate));
+        assert!(rt; told.is_stuck_with(left), "{slots:?} {silence}: {told:?}");
+    }
 }
 
 // Whatever allocation is refused, there is no other index than the job's.

@@ -1,9 +1,12 @@
 //! Gates. Each holds with counts and yields, and answers Over where it held for too long.
-use job_threads::{Gate, Go, Turn};
+ghost use Rattle.std.specs.Prelude.{true};
+
+use job_threads::{Gate, Go, Observer, Progress, Turn};
 use lane_queue::Order;
 use node_ids::WorkerNo;
 use std::sync::atomic::{AtomicU64, Ordering};
 use std::thread;
+use std::time::Duration;
 
 // Once in so many idle turns a gate sweeps that is to see workers that are late, and none that are slow: they
 // last some thirty milliseconds.
@@ -11,6 +14,15 @@ const RARELY: u64 = 8192;
 
 // How often a gate yields before it gives up.
 const PATIENCE: u32 = 10_000_000;
+
+// In how many turns a worker that was stopped has died.
+const LAST_TURN: u64 = 1_000_000;
+
+// From this idle turn on the calling thread naps now and then.
+const NAPS_FROM: u64 = 64;
+
+// Sweeps that come once in so many idle turns, or more, come seldom.
+const SELDOM: u64 = 512;
 
 // Waits for a word to reach a number.
 fn reached(word: &AtomicU64, least: u64) -> Go {
@@ -74,9 +86,14 @@ impl Seen {
         Go::On
     }
 
-    // A sweep at the positive multiples of so many idle turns.
+    // A sweep at the positive multiples of so many idle turns, and none where these are 0. It yields in each
+    // turn where sweeps come often, and else only until the calling thread naps: beside busy processes a
+    // yield may take milliseconds.
     fn turn(&self, idle: u64, every: u64) -> Turn {
-        thread::yield_now();
+        let is_often = every > 0 && every < SELDOM;
+        if is_often || idle < NAPS_FROM {
+            thread::yield_now();
+        }
         self.turns.fetch_add(1, Ordering::SeqCst);
         if every > 0 && idle > 0 && idle % every == 0 {
             self.sweeps.fetch_add(1, Ordering::SeqCst);
@@ -92,6 +109,8 @@ impl Seen {
 pub struct Yields;
 
 impl Gate for Yields {
+    ghost may_end = { true };
+
     fn before_map(&self, _order: &Order) -> Go {
         Go::On
     }
@@ -114,6 +133,8 @@ pub struct HoldsUntil {
 }
 
 impl Gate for HoldsUntil {
+    ghost may_end = { true };
+
     fn before_map(&self, order: &Order) -> Go {
         self.seen.begin(order);
         reached(&self.seen.begun, self.begun)
@@ -137,6 +158,8 @@ pub struct Stops {
 }
 
 impl Gate for Stops {
+    ghost may_end = { true };
+
     fn before_map(&self, order: &Order) -> Go {
         self.seen.begin(order);
         Go::On
@@ -163,6 +186,8 @@ pub struct HoldsForTurns {
 }
 
 impl Gate for HoldsForTurns {
+    ghost may_end = { true };
+
     fn before_map(&self, order: &Order) -> Go {
         if self.seen.begin(order) > 0 {
             return Go::On;
@@ -186,6 +211,8 @@ pub struct BacksUp {
 }
 
 impl Gate for BacksUp {
+    ghost may_end = { true };
+
     fn before_map(&self, order: &Order) -> Go {
         if self.seen.begin(order) > 0 {
             return Go::On;
@@ -227,6 +254,8 @@ impl Silences {
 }
 
 impl Gate for Silences {
+    ghost may_end = { true };
+
     fn before_map(&self, order: &Order) -> Go {
         let place = self.seen.begin(order);
         if place > 0 && (self.every == 0 || place % self.every != 0) {
@@ -267,6 +296,8 @@ pub struct Outlives {
 }
 
 impl Gate for Outlives {
+    ghost may_end = { true };
+
     fn before_map(&self, order: &Order) -> Go {
         if self.seen.begin(order) > 0 {
             return Go::On;
@@ -280,6 +311,264 @@ impl Gate for Outlives {
 
     fn turn(&self, idle: u64) -> Turn {
         self.seen.turn(idle, 512)
+    }
+}
+
+/// Backs up in every turn, and holds the first attempts, so many, until as many others were answered.
+#[derive(Drop)]
+pub struct BacksUpAll {
+    pub seen: Seen,
+    pub first: u64,
+}
+
+impl BacksUpAll {
+    /// Of so many splits.
+    pub fn new(first: u64) -> BacksUpAll {
+        BacksUpAll {
+            seen: Seen::new(),
+            first,
+        }
+    }
+}
+
+impl Gate for BacksUpAll {
+    ghost may_end = { true };
+
+    fn before_map(&self, order: &Order) -> Go {
+        self.seen.begin(order);
+        if order.attempt().index() as u64 > self.first {
+            return Go::On;
+        }
+        reached(&self.seen.answered, self.first)
+    }
+
+    fn after_map(&self, _order: &Order) -> Go {
+        self.seen.answer()
+    }
+
+    fn turn(&self, _idle: u64) -> Turn {
+        thread::yield_now();
+        Turn::Backup
+    }
+}
+
+/// Stops the first worker in its first turn, before any map goes on, and sweeps so seldom that the others
+/// beat meanwhile.
+#[derive(Drop)]
+pub struct DiesFirst {
+    pub seen: Seen,
+    // how many milliseconds lie between two sweeps
+    pub gap: u64,
+}
+
+impl DiesFirst {
+    /// With such a gap between its sweeps.
+    pub fn new(gap: u64) -> DiesFirst {
+        DiesFirst {
+            seen: Seen::new(),
+            gap,
+        }
+    }
+}
+
+impl Gate for DiesFirst {
+    ghost may_end = { true };
+
+    fn before_map(&self, order: &Order) -> Go {
+        self.seen.begin(order);
+        // (what the first turn answered is done when the gate is asked in the second)
+        reached(&self.seen.turns, 2)
+    }
+
+    fn after_map(&self, _order: &Order) -> Go {
+        self.seen.answer()
+    }
+
+    fn turn(&self, idle: u64) -> Turn {
+        if self.seen.turns.fetch_add(1, Ordering::SeqCst) == 0 {
+            Turn::Stop(WorkerNo::new(0))
+        } else if idle > 0 {
+            Turn::Sweep
+        } else {
+            Turn::On
+        }
+    }
+
+    fn least_gap(&self) -> Duration {
+        Duration::from_millis(self.gap)
+    }
+}
+
+/// Stops the worker once it has begun a map, holds its second one until that is done, and sweeps from then
+/// on.
+#[derive(Drop)]
+pub struct StopsLate {
+    pub seen: Seen,
+    // 0 at first, 1 when the stop is answered, 2 when it is done
+    pub stop: AtomicU64,
+}
+
+impl StopsLate {
+    /// Nothing was begun.
+    pub fn new() -> StopsLate {
+        StopsLate {
+            seen: Seen::new(),
+            stop: AtomicU64::new(0),
+        }
+    }
+}
+
+impl Gate for StopsLate {
+    ghost may_end = { true };
+
+    fn before_map(&self, order: &Order) -> Go {
+        if self.seen.begin(order) == 0 {
+            return Go::On;
+        }
+        reached(&self.stop, 2)
+    }
+
+    fn after_map(&self, _order: &Order) -> Go {
+        self.seen.answer()
+    }
+
+    fn turn(&self, idle: u64) -> Turn {
+        // (a worker that beats on never dies)
+        if self.seen.turns.load(Ordering::SeqCst) > LAST_TURN {
+            return Turn::Over;
+        }
+        match self.stop.load(Ordering::SeqCst) {
+            0 if self.seen.begun.load(Ordering::SeqCst) > 0 => {
+                self.stop.store(1, Ordering::SeqCst);
+                Turn::Stop(WorkerNo::new(0))
+            }
+            0 => self.seen.turn(idle, 0),
+            _ => {
+                self.stop.store(2, Ordering::SeqCst);
+                self.seen.turn(idle, 512)
+            }
+        }
+    }
+}
+
+/// Holds each map that was answered until so many splits are seen done.
+#[derive(Drop)]
+pub struct SeesAnswers {
+    pub seen: Seen,
+    pub done: AtomicU64,
+}
+
+impl SeesAnswers {
+    /// No split is done.
+    pub fn new() -> SeesAnswers {
+        SeesAnswers {
+            seen: Seen::new(),
+            done: AtomicU64::new(0),
+        }
+    }
+}
+
+impl Observer for SeesAnswers {
+    fn seen(&self, progress: &Progress) {
+        let done = (progress.splits as u64).saturating_sub(u64::from(progress.open_splits));
+        self.done.store(done, Ordering::SeqCst);
+    }
+}
+
+impl Gate for SeesAnswers {
+    ghost may_end = { true };
+
+    fn before_map(&self, order: &Order) -> Go {
+        self.seen.begin(order);
+        Go::On
+    }
+
+    fn after_map(&self, _order: &Order) -> Go {
+        let answered = self.seen.answered.fetch_add(1, Ordering::SeqCst);
+        reached(&self.done, answered.saturating_add(1))
+    }
+
+    fn turn(&self, idle: u64) -> Turn {
+        self.seen.turn(idle, 0)
+    }
+}
+
+/// Has the beats of a worker counted by a sweep before its map and by one after it, while it waits.
+#[derive(Drop)]
+pub struct CountsBeats {
+    pub seen: Seen,
+    // how many sweeps the worker asked for, how many were told, and how many are over
+    asked: AtomicU64,
+    told: AtomicU64,
+    over: AtomicU64,
+}
+
+impl CountsBeats {
+    /// No sweep was asked for.
+    pub fn new() -> CountsBeats {
+        CountsBeats {
+            seen: Seen::new(),
+            asked: AtomicU64::new(0),
+            told: AtomicU64::new(0),
+            over: AtomicU64::new(0),
+        }
+    }
+
+    // Asks for a sweep more, and waits until it is over.
+    fn sweep(&self) -> Go {
+        let before = self.asked.fetch_add(1, Ordering::SeqCst);
+        reached(&self.over, before.wrapping_add(1))
+    }
+}
+
+impl Gate for CountsBeats {
+    ghost may_end = { true };
+
+    fn before_map(&self, order: &Order) -> Go {
+        self.seen.begin(order);
+        self.sweep()
+    }
+
+    fn after_map(&self, _order: &Order) -> Go {
+        self.sweep()
+    }
+
+    fn turn(&self, _idle: u64) -> Turn {
+        thread::yield_now();
+        // (what the last turn told is done)
+        let told = self.told.load(Ordering::SeqCst);
+        self.over.store(told, Ordering::SeqCst);
+        if told < self.asked.load(Ordering::SeqCst) {
+            self.told.store(told.wrapping_add(1), Ordering::SeqCst);
+            return Turn::Sweep;
+        }
+        Turn::On
+    }
+}
+
+/// Sweeps in each turn, and holds each map until so many sweeps were asked for.
+#[derive(Drop)]
+pub struct SweepsOn {
+    pub seen: Seen,
+    pub sweeps: u64,
+}
+
+impl Gate for SweepsOn {
+    ghost may_end = { true };
+
+    fn before_map(&self, order: &Order) -> Go {
+        self.seen.begin(order);
+        reached(&self.seen.sweeps, self.sweeps)
+    }
+
+    fn after_map(&self, _order: &Order) -> Go {
+        self.seen.answer()
+    }
+
+    fn turn(&self, _idle: u64) -> Turn {
+        thread::yield_now();
+        self.seen.sweeps.fetch_add(1, Ordering::SeqCst);
+        Turn::Sweep
     }
 }
 
@@ -304,6 +593,8 @@ impl Ends {
 }
 
 impl Gate for Ends {
+    ghost may_end = { true };
+
     fn before_map(&self, _order: &Order) -> Go {
         self.go(Ask::Before)
     }
@@ -393,6 +684,8 @@ impl Made {
 }
 
 impl Gate for Made {
+    ghost may_end = { true };
+
     fn before_map(&self, order: &Order) -> Go {
         let place = self.seen.begin(order);
         if place == self.last_map {

@@ -2,15 +2,21 @@
 #![tactic(auto)]
 
 #[cfg(test)]
+mod asks;
+#[cfg(test)]
 mod deaths;
 #[cfg(test)]
 mod ends;
 #[cfg(test)]
 mod gates;
 #[cfg(test)]
+mod histories;
+#[cfg(test)]
 mod jobs;
 #[cfg(test)]
 mod made;
+#[cfg(test)]
+mod recorded;
 #[cfg(test)]
 mod rows;
 #[cfg(test)]

@@ -40,7 +40,7 @@ fn a_stopped_worker_changes_no_index(rt: HostRuntime) {
         let gate = Stops {
             seen: Seen::new(),
             worker: WorkerNo::new(0),
-            every: 8192,
+            every: 1024,
         };
         match run_rows(&rt, rt.alloc(), &[1, 1], &ON_BOTH, AMPLE, &gate) {
             Told::Done(index) => assert!(rt; index.as_str() == "one 0/two 0 1/", "{index}"),

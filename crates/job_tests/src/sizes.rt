@@ -1,10 +1,11 @@
 //! Jobs at the limits of their sizes.
-use crate::gates::Yields;
+use crate::gates::{CountsBeats, Yields};
 use crate::jobs::{AMPLE, SplitRow, job_of};
 use crate::told::{add_number, tell};
-use job_threads::{PlainGate, run};
+use job_threads::{PlainGate, Record, Unobserved, run, run_recorded};
 use std::alloc::Global;
 use std::process::Abort;
+use std::sync::atomic::Ordering;
 
 // The numbers of all splits behind a word.
 fn index_of(rt: &impl Abort, alloc: Global, word: &str, splits: usize) -> String {
@@ -41,4 +42,43 @@ fn one_great_split_under_the_plain_gate(rt: HostRuntime) {
     let job = job_of(&rt, alloc, &[1], &rows, 2, 1000, AMPLE).expect(&rt, "no job");
     let told = tell(&rt, alloc, run(&rt, alloc, job, &PlainGate));
     assert!(rt; told.is_index("five 0/one 0/six 0/two 0/"), "{told:?}");
+}
+
+// Adds a word of five letters, another one for each number below 26^5.
+fn push_word(rt: &impl Abort, words: &mut String, number: u32) {
+    let mut rest = number;
+    for _ in 0..5u32 {
+        words
+            .push(char::from(b'a' + (rest % 26) as u8))
+            .expect(rt, "no memory");
+        rest /= 26;
+    }
+    words.push(' ').expect(rt, "no memory");
+}
+
+// In so many words a worker beats at least once.
+const STRIDE: u64 = 4097;
+
+// A worker beats while it maps a split of many words, and maps it once.
+#[test]
+fn a_worker_beats_while_it_maps(rt: HostRuntime) {
+    let alloc = rt.alloc();
+    let mut words = String::new(alloc);
+    for number in 0..1_500_000u32 {
+        // (in another order than that of the words)
+        push_word(&rt, &mut words, number * 7 % 10_000_019);
+    }
+    let rows: [SplitRow<'_>; 1] = [(5, &[0], &words)];
+    let gate = CountsBeats::new();
+    let job = job_of(&rt, alloc, &[1], &rows, 1, 1000, AMPLE).expect(&rt, "no job");
+    let ran = run_recorded(&rt, alloc, job, &gate, &Unobserved);
+    let Record { master, index } = ran.ok().expect(&rt, "no record");
+    let index = index.expect(&rt, "no index");
+    let begun = gate.seen.begun.load(Ordering::SeqCst);
+    assert_eq!(rt; (index.entries().len(), begun), (1_500_000, 1));
+    let [before, after] = master.sweeps() else {
+        panic!(rt; "not two sweeps");
+    };
+    let beats = after[0].saturating_sub(before[0]);
+    assert!(rt; beats >= 1_500_000 / STRIDE, "{beats} beats");
 }

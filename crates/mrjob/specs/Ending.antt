@@ -1,8 +1,8 @@
 -- How the program ends that has played a script or run a job.
 use Rattle.std.specs.Prelude.{Ok, Err}
 use Rattle.std.specs.declared.result.Result.{Result}
-use Rattle.text_reading.specs.declared.tool_error.ToolError.{ToolError}
-use Rattle.text_reading.specs.declared.tool_error.ToolError.TheVariants as tool
+use Rattle.command_runner.specs.declared.tool_error.ToolError.{ToolError}
+use Rattle.command_runner.specs.declared.tool_error.ToolError.TheVariants as tool
 use Rattle.job_threads.specs.declared.outcome.RunError.{RunError}
 use Rattle.job_threads.specs.declared.outcome.RunError.TheVariants as broken
 use Rattle.job_run.specs.declared.player.PlayEnd.{PlayEnd}
@@ -11,8 +11,8 @@ use Rattle.job_run.specs.declared.running.RunEnd.{RunEnd}
 use Rattle.job_run.specs.declared.running.RunEnd.TheVariants as run
 use Rattle.job_run.specs.declared.running.RunTextError.{RunTextError}
 use Rattle.job_run.specs.declared.running.RunTextError.TheVariants as error
-use Rattle.tools.specs.declared.ending.Ending.{Ending}
-use Rattle.tools.specs.declared.ending.Ending.TheVariants.{Failed, GateLimit, NoThread, Stuck, Torn, Well}
+use Rattle.tools.specs.declared.program_end.Ending.{Ending}
+use Rattle.tools.specs.declared.program_end.Ending.TheVariants.{Failed, GateLimit, NoThread, Stuck, Torn, Well}
 
 abbrev pub ending_of_play : Result PlayEnd ToolError → Ending
 ending_of_play (Ok play.Done) = Well

@@ -1,9 +1,9 @@
 use answer_notes::{Copying, Listening, condition_note, fault_note, reasons_note};
+use command_runner::ToolError;
 use price_certificate::Condition;
 use std::alloc::AllocError;
 use std::io::{IsTerminal, Read, Stdin, Stdout, Write};
 use text_lines::write_text;
-use text_reading::ToolError;
 use tools::CheckEnd;
 
 // What standard error says of an answer, where it is asked for or standard error is a terminal. A note for

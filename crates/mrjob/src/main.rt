@@ -16,17 +16,17 @@ use crate::terminal::Terminal;
 use answer_notes::Listening;
 use command_line::ask;
 use command_line::asked::{Ask, AskError, CheckOptions, PlanOptions, PlayOptions, RunOptions};
+use command_runner::ToolError;
 use explanations::Entry;
 use job_run::{
-    PlainGate, PlayEnd, RunEnd, RunError, RunTextError, play_observed, run_text_observed,
+    PlainGate, PlayEnd, RunEnd, RunError, RunTextError, play_observed, run_text_observed, serve,
 };
-use std::io::Stdout;
+use std::io::{BufReader, Stdout};
 use std::process::ExitCode;
 use std::rt::Clock;
 use std::sync::Wait;
 use std::thread::Threads;
 use std::{env, io};
-use text_reading::ToolError;
 use tools::{Ending, Message, check_on, explain, plan};
 
 fn main(rt: HostRuntime) -> ExitCode {
@@ -94,6 +94,7 @@ fn run_command(
         Ask::Check(options) => run_check(rt, threads, options),
         Ask::Plan(options) => run_plan(rt, options),
         Ask::Play(options) => run_play(rt, options),
+        Ask::Serve => run_serve(rt),
         Ask::Run(options) => run_job(rt, threads, options),
         Ask::Explain(entry) => run_explain(rt, entry),
     }
@@ -136,6 +137,18 @@ fn run_play(rt: &HostRuntime, options: PlayOptions) -> Ending {
         Err(error) => aside.tell_fault(&input, error),
     }
     or_left(of_play(end), &output)
+}
+
+// Each answer is flushed before the next line is read.
+fn run_serve(rt: &HostRuntime) -> Ending {
+    let mut output = Aside::new(rt, false).writer();
+    match BufReader::new(rt.alloc(), rt.stdin()) {
+        Ok(reader) => {
+            let mut input = reader;
+            or_left(of_play(serve(rt.alloc(), &mut input, &mut output)), &output)
+        }
+        Err(_) => Ending::Failed(ToolError::Memory),
+    }
 }
 
 fn run_job(

@@ -11,7 +11,8 @@ use Rattle.master_state.specs.declared.events.Event.TheVariants as events
 use Rattle.master_state.specs.declared.states.Start.{Start}
 use Rattle.master_state.specs.declared.states.Work.{Work}
 use Rattle.master_state.specs.declared.states.Work.TheVariants as work
-use Rattle.report_lines.specs.Lines.{backup_line, lines_of_those, reduce_line, started_line, wave_line}
+use Rattle.report_lines.specs.Lines.{backup_line, lines_of_those, reduce_line, started_line}
+use Rattle.text_lines.specs.WaveLine.{wave_line}
 
 -- what has become of an attempt
 abbrev pub attempt_line : List ℕ → ℕ → List ℕ

@@ -49,9 +49,6 @@ answer_line (answer.Ignored why rest) = ignored_line why
 
 -- ---- what follows the line of an accepted call; workers, splits and documents stand by their names
 
-abbrev pub wave_line : ℕ → ℕ → List ℕ
-wave_line count cost = codes "wave " ++ decimal count ++ codes " " ++ decimal cost ++ 10 ∷ []
-
 -- an attempt of a split, on a worker
 abbrev pub started_line : List Word → List Word → ℕ → ℕ → ℕ → List ℕ
 started_line splits workers attempt split w =

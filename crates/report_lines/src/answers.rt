@@ -2,7 +2,8 @@ ghost use Rattle.std.specs.Prelude.{◌≡◌, ◌≤◌, ◌++◌, OnOk, [], if
 ghost use Rattle.rack_tree.specs.declared.TheConstants.{MAX_WORKERS};
 ghost use Rattle.report_lines.specs.Lines.{accepted_line, answer_line, backup_line, copy_line, copy_lines};
 ghost use Rattle.report_lines.specs.Lines.{dead_line, dead_lines, ignored_line, number_of_reason};
-ghost use Rattle.report_lines.specs.Lines.{reduce_line, started_line, wave_line};
+ghost use Rattle.report_lines.specs.Lines.{reduce_line, started_line};
+ghost use Rattle.text_lines.specs.WaveLine.{wave_line};
 ghost use Rattle.text_lines.specs.Texts.{name_of};
 
 use block_map::CopyOrder;

@@ -56,7 +56,7 @@ pub fn add_stuck(
 }
 
 // A line for a split that is not done.
-fn add_open(
+pub(crate) fn add_open(
     lines: &mut String,
     splits: &NameTable<'_>,
     number: usize,

@@ -1,4 +1,4 @@
-//! The lines of a report: what a master answered, by names.
+//! The lines of a report: what a master answered, by names; and of what stands.
 //!
 //! Each call appends the lines of one answer to a text in memory; its contract says which bytes these are, by
 //! the words of `specs/Lines.antt`. Names stand in tables by number, as a text declared them; a number past
@@ -9,6 +9,7 @@
 mod answers;
 mod endings;
 mod history;
+mod standing;
 
 pub use answers::{
     add_accepted, add_answer, add_backup, add_copies, add_dead, add_ignored, add_reduce, add_start,
@@ -16,3 +17,4 @@ pub use answers::{
 };
 pub use endings::{add_index, add_stuck};
 pub use history::add_history;
+pub use standing::{add_open_parts, add_open_splits, add_outputs, add_workers};

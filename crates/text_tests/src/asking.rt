@@ -10,7 +10,8 @@ use wave_planner::NetworkKind;
 fn options_in(alloc: Global, words: &[&str]) -> Option<PlanOptions> {
     match ask(alloc, words) {
         Ok(Ask::Plan(options)) => Some(options),
-        Ok(Ask::Check(_) | Ask::Play(_) | Ask::Run(_) | Ask::Explain(_)) | Err(_) => None,
+        Ok(Ask::Check(_) | Ask::Play(_) | Ask::Serve | Ask::Run(_) | Ask::Explain(_)) | Err(_) =>
+            None,
     }
 }
 
@@ -66,7 +67,7 @@ fn plan_is_asked_for(rt: HostRuntime) {
 fn said_of(alloc: Global, words: &[&str]) -> Option<String> {
     match ask(alloc, words) {
         Ok(Ask::Explain(entry)) => said(alloc, entry).ok(),
-        Ok(Ask::Check(_) | Ask::Plan(_) | Ask::Play(_) | Ask::Run(_)) | Err(_) => None,
+        Ok(Ask::Check(_) | Ask::Plan(_) | Ask::Play(_) | Ask::Serve | Ask::Run(_)) | Err(_) => None,
     }
 }
 

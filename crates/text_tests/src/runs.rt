@@ -1,3 +1,5 @@
+ghost use Rattle.std.specs.Prelude.{true};
+
 use job_run::{Gate, Go, PlainGate, RunEnd, RunError, RunTextError, Turn, run_text};
 use lane_queue::Order;
 use std::alloc::Global;
@@ -14,6 +16,8 @@ const DOCUMENTS: &str = "\ndoc d s one two\ndoc e t two\nend\n";
 struct Ends;
 
 impl Gate for Ends {
+    ghost may_end = { true };
+
     fn before_map(&self, _order: &Order) -> Go {
         Go::On
     }

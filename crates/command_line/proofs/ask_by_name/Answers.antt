@@ -7,7 +7,8 @@ unreachable-requires c = elim c.requires [
   | inl check ↦ c.in_default.not-check (same_Some _ _ check)
   | inr (inl plan) ↦ c.in_default.not-plan (same_Some _ _ plan)
   | inr (inr (inl play)) ↦ c.in_default.not-play (same_Some _ _ play)
-  | inr (inr (inr (inl run))) ↦ c.in_default.not-run (same_Some _ _ run)
-  | inr (inr (inr (inr (inl explain)))) ↦ c.in_default.not-explain (same_Some _ _ explain)
-  | inr (inr (inr (inr (inr none)))) ↦ none
+  | inr (inr (inr (inl serve))) ↦ c.in_default.not-serve (same_Some _ _ serve)
+  | inr (inr (inr (inr (inl run)))) ↦ c.in_default.not-run (same_Some _ _ run)
+  | inr (inr (inr (inr (inr (inl explain))))) ↦ c.in_default.not-explain (same_Some _ _ explain)
+  | inr (inr (inr (inr (inr (inr none))))) ↦ none
 ]

@@ -9,6 +9,7 @@ returns g c = λ given is. (
     record {
       last = c.args.ran.master;
       ending = string_bytes c.in_ok-ending.ending;
+      kept = c.is_kept.ensures;
       ends = c.in_ok-ending.ensures given is;
       out_is = c.in_ok-put_together.ensures
           ∙ ap (λ front. front ++ string_bytes c.in_ok-ending.ending)

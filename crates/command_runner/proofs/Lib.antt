@@ -1,0 +1,4 @@
+-- That what was written is the answer of the text.
+pub mod OneAnswer
+-- What a run leaves with its writer.
+pub mod Unanswered

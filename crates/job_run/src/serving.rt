@@ -1,0 +1,354 @@
+//! A live master: one line after another is answered, each before the next one is read.
+ghost use Rattle.std.specs.Prelude.{◌≡◌, ◌++◌, ◌<◌, ◌≤◌, [], IfErr, IfOk, OnOk, length, string_bytes};
+ghost use Rattle.line_shapes.specs.Lines.{statement_of};
+ghost use Rattle.line_rules.specs.Reading.{IsFitLine};
+ghost use Rattle.line_talk.specs.Talks.{IsOfReading, Replied, Said, closed};
+ghost use Rattle.script_text.specs.Heads.{IsFitHead};
+ghost use Rattle.script_text.specs.Scripts.{IsOfHead, IsOpening};
+ghost use Rattle.text_lines.specs.Streams.{most_read};
+ghost use Rattle.text_lines.specs.Texts.{Line};
+ghost use Rattle.job_run.specs.Queries.{IsQuery};
+ghost use Rattle.job_run.specs.Reports.{IsKnownCommand};
+ghost use Rattle.job_run.specs.Serving.{GoesOnHearing, Hears, IsOpen, IsOpened, IsSession, Live, Obeys};
+ghost use Rattle.job_run.specs.Serving.{PerformedLive, Replies, live_of, refusal_line};
+ghost use Rattle.job_run.specs.Sessions.{CutsOff, IsEndOf, IsHead, Serves, ServesLines, TakesHeadLine, Writes};
+
+use crate::clusters::cluster_of;
+use crate::ending::add_end;
+use crate::given::GivenRuns;
+use crate::performing::perform;
+use crate::player::{PlayEnd, PlayError};
+use crate::queries::{add_standing, query_of};
+use command_runner::{NoAnswer, ToolError};
+use job_threads::are_parts_done;
+use line_rules::section::section_of;
+use line_rules::{KnownLines, LineError, Purpose, Section, fault_answer, fit_line};
+use line_shapes::{KeyedLine, Keyword, keyword_of};
+use line_talk::{LineRead, MAX_HEARD_BYTES, TalkEnd, Talker, Turn, read_line, talk};
+use master_core::Master;
+use master_state::{Limits, Why};
+use report_lines::add_ignored;
+use script_text::{Command, Script, ScriptText, command_of, read_opening};
+use std::alloc::{AllocError, Global};
+use std::io::{BufRead, Write};
+use text_lines::{Fault, MAX_READ_BYTES, TextFault, printable, write_text};
+
+/// The room that a live master has.
+pub const SERVING_ROOM: Limits = Limits {
+    events: 65_536,
+    attempts: 1_000_000,
+    sweeps: 65_536,
+};
+
+/// A live master, with what the head of its text says.
+#[derive(Drop)]
+pub struct Session<'t> {
+    known: KnownLines<'t>,
+    script: Script<'t>,
+    master: Master,
+    given: GivenRuns,
+}
+
+/// Serves the master of the head that stands first, one command or query after another: each line is answered
+/// before the next line is read, and an empty line ends each answer. After `end` it answers how the script has
+/// ended. A head with a fault, and an input that ends before `end`, end in `ToolError::Text`, whose fault is
+/// written.
+pub fn serve<R: BufRead, W: Write>(
+    alloc: Global,
+    reader: &mut R,
+    writer: &mut W,
+) -> Result<PlayEnd, ToolError>
+    ensures { Serves (R.remaining reader.old) (R.remaining reader.new) (W.contents writer.old)
+        (W.contents writer.new) result }
+{
+    let mut head = Vec::new(alloc);
+    read_head(reader, &mut head)?;
+    match read_opening(alloc, head.as_slice()) {
+        Ok((opening, known)) => {
+            let mut session = Session::new(alloc, opening, known)?;
+            write_answer(writer, String::new(alloc))?;
+            serve_lines(alloc, &mut session, reader, writer)
+        }
+        Err(error) => {
+            let (line, fault) = fault_answer(alloc, error)?;
+            write_answer(writer, line)?;
+            Err(ToolError::Text(fault))
+        }
+    }
+}
+
+// Reads the head, up to the first line that is no line of a head. Where that line is a `begin`, an `end` is
+// put behind it.
+fn read_head<R: BufRead>(reader: &mut R, head: &mut Vec<u8>) -> Result<(), ToolError>
+    requires { head.old.items ≡ [] }
+    ensures ok { OnOk result (IsHead (R.remaining reader.old) (R.remaining reader.new) head.new.items) }
+    ensures err { IfErr result IsOfReading }
+{
+    for _ in 0..u64::MAX {
+        match read_head_line(reader, head)? {
+            HeadLine::Setting => {}
+            HeadLine::Begin => return Ok(head.extend_from_slice(b"end\n")?),
+            HeadLine::Last => return Ok(()),
+        }
+    }
+    Err(ToolError::Read)
+}
+
+// What a line is to the head of a script.
+#[derive(Clone, Copy)]
+enum HeadLine {
+    Setting,
+    Begin,
+    // It is no line of a head, or not whole, or there is no room for it.
+    Last,
+}
+
+// Reads a line more of a head, with its line feed.
+fn read_head_line<R: BufRead>(reader: &mut R, head: &mut Vec<u8>) -> Result<HeadLine, ToolError>
+    requires { length head.old.items ≤ most_read }
+    ensures ok { IfOk result (λ line.
+        TakesHeadLine (R.remaining reader.old) (R.remaining reader.new) head.old.items head.new.items line) }
+    ensures err { IfErr result IsOfReading }
+{
+    let start = head.len();
+    match read_line(reader, MAX_READ_BYTES, head)? {
+        LineRead::Over => return Ok(HeadLine::Last),
+        LineRead::Unfed => return Ok(HeadLine::Last),
+        LineRead::Whole => {}
+    }
+    if head.len() >= MAX_READ_BYTES {
+        return Ok(HeadLine::Last);
+    }
+    let line = head_line_of(&head.as_slice()[start..]);
+    head.extend_from_slice(b"\n")?;
+    Ok(line)
+}
+
+fn head_line_of(line: &[u8]) -> HeadLine {
+    let Some(text) = printable(line) else {
+        return HeadLine::Last;
+    };
+    match keyword_of(text) {
+        Some((Keyword::Begin, _)) => HeadLine::Begin,
+        Some((keyword, _)) if is_of_head(keyword) => HeadLine::Setting,
+        _ => HeadLine::Last,
+    }
+}
+
+// Whether lines of this keyword stand before the `begin` of a script.
+fn is_of_head(keyword: Keyword) -> bool {
+    matches!(
+        section_of(Purpose::Playing, keyword),
+        Some(Section::First | Section::Head)
+    )
+}
+
+// Writes an answer, with an empty line behind it.
+fn write_answer<W: Write>(writer: &mut W, answer: String) -> Result<(), ToolError>
+    ensures { Writes (W.contents writer.old) (W.contents writer.new) (closed (string_bytes answer)) result }
+{
+    let mut answer = answer;
+    answer.push('\n')?;
+    write_text(writer, answer.as_bytes())?;
+    Ok(())
+}
+
+// Answers lines up to `end`, or to the end of the input.
+fn serve_lines<R: BufRead, W: Write>(
+    alloc: Global,
+    session: &mut Session<'_>,
+    reader: &mut R,
+    writer: &mut W,
+) -> Result<PlayEnd, ToolError>
+    requires { IsOpen session.old }
+    ensures { ServesLines (R.remaining reader.old) (R.remaining reader.new) (W.contents writer.old)
+        (W.contents writer.new) session.old session.new result }
+{
+    match talk(alloc, session, reader, writer)? {
+        TalkEnd::Told => Ok(session.end()),
+        TalkEnd::Over => Err(cut_off(alloc, writer, Fault::Misplaced)),
+        TalkEnd::Unfed => Err(cut_off(alloc, writer, Fault::NoFeed)),
+    }
+}
+
+// Writes the fault of an input that ends before `end`.
+fn cut_off<W: Write>(alloc: Global, writer: &mut W, fault: Fault) -> ToolError
+    ensures { CutsOff (W.contents writer.old) (W.contents writer.new) fault result }
+{
+    match tell_fault(alloc, writer, fault) {
+        Ok(()) => ToolError::Text(TextFault {
+            line: 0,
+            number: fault,
+        }),
+        Err(error) => error,
+    }
+}
+
+fn tell_fault<W: Write>(alloc: Global, writer: &mut W, fault: Fault) -> Result<(), ToolError>
+    ensures { Writes (W.contents writer.old) (W.contents writer.new) (closed (refusal_line fault)) result }
+{
+    let mut answer = String::new(alloc);
+    add_fault(&mut answer, fault)?;
+    write_answer(writer, answer)
+}
+
+impl<'t> Session<'t> {
+    /// The new master of the cluster that a head makes.
+    pub fn new(
+        alloc: Global,
+        opening: ScriptText<'t>,
+        known: KnownLines<'t>,
+    ) -> Result<Session<'t>, AllocError>
+        requires fit { IsFitHead opening.head }
+        requires of_head { IsOfHead opening.head opening.script }
+        requires opening { (text : Line) × IsOpening text opening known }
+        ensures ready { IfOk result IsOpen }
+        ensures opened { IfOk result (λ session. (text : Line) → IsOpening text opening.entry known.entry
+            → IsOpened text (live_of session)) }
+    {
+        let ScriptText { head, script } = opening;
+        let cluster = cluster_of(alloc, head)?;
+        let master = Master::new(alloc, cluster, SERVING_ROOM)?;
+        let given = GivenRuns::new(alloc, master.cluster().parts())?;
+        Ok(Session {
+            known,
+            script,
+            master,
+            given,
+        })
+    }
+
+    // How a script ends whose last command was the last line.
+    fn end(&self) -> PlayEnd
+        ensures { IsEndOf result self.now.master }
+    {
+        if are_parts_done(&self.master) {
+            PlayEnd::Done
+        } else {
+            PlayEnd::Stuck
+        }
+    }
+
+    // Performs a command; a wave for which there is no room is ignored.
+    fn perform(
+        &mut self,
+        alloc: Global,
+        command: &Command,
+        answer: &mut String,
+    ) -> Result<(), AllocError>
+        requires ready { IsOpen self.old }
+        requires known { IsKnownCommand self.old.master.setup command.now }
+        ensures ready { OnOk result (IsOpen self.new) }
+        ensures ok { OnOk result (PerformedLive self.old command.now (string_bytes answer.old)
+            (string_bytes answer.new) self.new) }
+    {
+        let (master, given) = (&mut self.master, &mut self.given);
+        match perform(alloc, master, given, &self.script, command, answer) {
+            Ok(()) => Ok(()),
+            Err(PlayError::HistoryFull) => add_ignored(answer, Why::HistoryFull),
+            Err(PlayError::Memory) => Err(AllocError),
+        }
+    }
+
+    // Does what a line says.
+    fn obey(
+        &mut self,
+        alloc: Global,
+        line: &KeyedLine<'_, '_>,
+        answer: &mut String,
+    ) -> Result<Turn, AllocError>
+        requires ready { IsOpen self.old }
+        requires fit { (text : Line) × IsFitLine self.old.known text (statement_of line.now) }
+        ensures ready { OnOk result (IsOpen self.new) }
+        ensures ok { IfOk result (λ turn. Obeys self.old (statement_of line.now) turn (string_bytes answer.old)
+            (string_bytes answer.new) self.new) }
+    {
+        match line.keyword {
+            Keyword::End => {
+                let _end = add_end(alloc, &self.master, &self.script.names, answer)?;
+                Ok(Turn::Last)
+            }
+            _ => {
+                let command = command_of(alloc, &self.script.names, line)?;
+                self.perform(alloc, &command, answer)?;
+                Ok(Turn::More)
+            }
+        }
+    }
+
+    // Answers a line that is not too long.
+    fn answer(
+        &mut self,
+        alloc: Global,
+        line: &[u8],
+        answer: &mut String,
+    ) -> Result<Turn, AllocError>
+        requires ready { IsOpen self.old }
+        requires short { length line.now < 65536 }
+        ensures ready { OnOk result (IsOpen self.new) }
+        ensures ok { IfOk result (λ turn. Hears self.old line.now turn (string_bytes answer.old)
+            (string_bytes answer.new) self.new) }
+    {
+        match query_of(line) {
+            Some(query) => {
+                add_standing(alloc, &self.master, &self.script.names, query, answer)?;
+                Ok(Turn::More)
+            }
+            None => self.take(alloc, line, answer),
+        }
+    }
+
+    // Answers a line that is not too long, and no query.
+    fn take(&mut self, alloc: Global, line: &[u8], answer: &mut String) -> Result<Turn, AllocError>
+        requires ready { IsOpen self.old }
+        requires short { length line.now < 65536 }
+        requires no_query { ¬ (IsQuery line.now) }
+        ensures ready { OnOk result (IsOpen self.new) }
+        ensures ok { IfOk result (λ turn. Hears self.old line.now turn (string_bytes answer.old)
+            (string_bytes answer.new) self.new) }
+    {
+        let mut words = Vec::new(alloc);
+        match fit_line(&mut words, line, &self.known) {
+            Ok(said) => self.obey(alloc, &said, answer),
+            Err(LineError::Fault(fault)) => refuse(answer, fault),
+            Err(LineError::Memory) => Err(AllocError),
+        }
+    }
+}
+
+// Tells the fault of a line, after which the session goes on.
+fn refuse(answer: &mut String, fault: Fault) -> Result<Turn, AllocError>
+    ensures { IfOk result (λ turn. (turn ≡ Turn.More)
+        × (string_bytes answer.new ≡ string_bytes answer.old ++ refusal_line fault)) }
+{
+    add_fault(answer, fault)?;
+    Ok(Turn::More)
+}
+
+fn add_fault(answer: &mut String, fault: Fault) -> Result<(), AllocError>
+    ensures { OnOk result (string_bytes answer.new ≡ string_bytes answer.old ++ refusal_line fault) }
+{
+    let number = fault.number();
+    write!(answer, "fault {number}\n")
+}
+
+impl<'t> Talker for Session<'t> {
+    ghost ready = { IsOpen };
+
+    ghost Replies = { λ old line turn out new. Replies (live_of old) line turn out (live_of new) };
+
+    fn reply(&mut self, alloc: Global, line: &[u8]) -> Result<(String, Turn), NoAnswer> {
+        let mut answer = String::new(alloc);
+        if line.len() >= MAX_HEARD_BYTES {
+            add_fault(&mut answer, Fault::TooLong)?;
+            return Ok((answer, Turn::More));
+        }
+        let turn = self.answer(alloc, line, &mut answer)?;
+        Ok((answer, turn))
+    }
+}
+
+/// A law: what was said to a live master is a script, and its report.
+pub fn sessions_are_scripts()
+    ensures { (said : Said) (old new : Live) → Replied GoesOnHearing old said new → IsSession old said new }
+{}

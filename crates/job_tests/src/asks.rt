@@ -1,0 +1,80 @@
+//! What a gate is asked, and what an observer is told, and when.
+use crate::gates::{SeesAnswers, StopsLate, Yields};
+use crate::jobs::{AMPLE, SplitRow, job_of};
+use crate::told::{Told, run_rows};
+use job_threads::{Observer, Progress, run_recorded};
+use std::cell::Cell;
+use std::sync::atomic::Ordering;
+
+// A worker that is stopped in its second map ends it, and calls, takes and beats no more, so that it dies.
+#[test]
+fn a_stopped_worker_begins_no_further_map(rt: HostRuntime) {
+    let rows: [SplitRow<'_>; 64] = [(5, &[0], "one"); 64];
+    let gate = StopsLate::new();
+    let told = run_rows(&rt, rt.alloc(), &[16], &rows, AMPLE, &gate);
+    let begun = gate.seen.begun.load(Ordering::SeqCst);
+    let answered = gate.seen.answered.load(Ordering::SeqCst);
+    assert!(rt; matches!(told, Told::Stuck(_)), "{told:?}");
+    assert!(rt;
+        begun <= 2 && answered <= 1,
+        "{begun} maps were begun, {answered} told"
+    );
+}
+
+// After each map the gate waits until the calling thread has seen as many splits done as it was asked for.
+#[test]
+fn a_gate_is_asked_when_the_master_has_answered(rt: HostRuntime) {
+    let rows: [SplitRow<'_>; 4] = [(5, &[0], "one"); 4];
+    let gate = SeesAnswers::new();
+    let job = job_of(&rt, rt.alloc(), &[2], &rows, 1, 3, AMPLE).expect(&rt, "no job");
+    let ran = run_recorded(&rt, rt.alloc(), job, &gate, &gate);
+    assert!(rt; ran.ok().expect(&rt, "no record").index.is_some());
+    assert_eq!(rt; gate.seen.answered.load(Ordering::SeqCst), 4);
+}
+
+// The first and the last that was told.
+#[derive(Drop)]
+struct Ends {
+    first: Cell<Option<Progress>>,
+    last: Cell<Option<Progress>>,
+}
+
+impl Observer for Ends {
+    fn seen(&self, progress: &Progress) {
+        if self.first.get().is_none() {
+            self.first.set(Some(*progress));
+        }
+        self.last.set(Some(*progress));
+    }
+}
+
+// Three splits in two parts, all of which start in one wave.
+#[test]
+fn an_observer_is_told_what_is_open(rt: HostRuntime) {
+    let rows: [SplitRow<'_>; 3] = [(5, &[0], "one"); 3];
+    let ends = Ends {
+        first: Cell::new(None),
+        last: Cell::new(None),
+    };
+    let job = job_of(&rt, rt.alloc(), &[16], &rows, 2, 3, AMPLE).expect(&rt, "no job");
+    let ran = run_recorded(&rt, rt.alloc(), job, &Yields, &ends);
+    assert!(rt; ran.ok().expect(&rt, "no record").index.is_some());
+    let at_first = Progress {
+        splits: 3,
+        parts: 2,
+        open_splits: 3,
+        open_parts: 2,
+        waves: 0,
+        deaths: 0,
+    };
+    let at_last = Progress {
+        open_splits: 0,
+        open_parts: 0,
+        waves: 1,
+        ..at_first
+    };
+    assert_eq!(rt;
+        (ends.first.get(), ends.last.get()),
+        (Some(at_first), Some(at_last))
+    );
+}
