@@ -1,5 +1,5 @@
 #!/usr/bin/env python3
-"""Makes the wheel and the source archive of mrjob_plan: what pip calls, which then needs no network and no package.
+"""Makes the wheel and the source archive of mrjob_plan and mrjob_dask: what pip calls, which then needs no network and no package.
 
     backend.py FOLDER       puts both there, and prints their names
 
@@ -21,6 +21,7 @@ from pathlib import Path
 
 HERE = Path(__file__).resolve().parent
 PACKAGE = HERE / "mrjob_plan"
+SUFFIXES = (".py", ".typed")
 # (a source archive has these below this file's folder, and a checkout above it)
 LICENSE = next(it for it in (HERE / "LICENSE", HERE.parent / "LICENSE") if it.exists())
 VERSION = next(it for it in (PACKAGE / "VERSION", HERE.parent / "VERSION") if it.exists())
@@ -36,6 +37,12 @@ DATE = int(os.environ.get("SOURCE_DATE_EPOCH", "315532800"))  # (1980, where a z
 def settings():
     """What pyproject.toml sets to one string."""
     return dict(re.findall(r'^([\w-]+) = "(.*)"$', (HERE / "pyproject.toml").read_text(), re.M))
+
+
+def extras():
+    """The packages that are wanted for each extra of pyproject.toml."""
+    listed = re.search(r"^\[project\.optional-dependencies\]\n((?:.+\n)*)", (HERE / "pyproject.toml").read_text(), re.M)
+    return {name: re.findall(r'"(.*?)"', its) for name, its in re.findall(r"^([\w-]+) = (\[.*\])$", listed[1], re.M)}
 
 
 def full_name():
@@ -55,6 +62,8 @@ def metadata():
         "Classifier: Typing :: Typed",
         *(f"Project-URL: {name}, {it}" for name, it in given.items() if it.startswith("https://")),
         f"Requires-Python: {given['requires-python']}",
+        *(f"Provides-Extra: {extra}" for extra in extras()),
+        *(f'Requires-Dist: {it}; extra == "{extra}"' for extra, its in extras().items() for it in its),
         "Description-Content-Type: text/markdown",
     ]
     return "\n".join([*lines, "", (HERE / "README.md").read_text()]).encode()
@@ -74,8 +83,8 @@ def linux_tag(content):
 
 
 def sources():
-    """The package's own files."""
-    files = {f"mrjob_plan/{it.name}": it.read_bytes() for it in PACKAGE.glob("*") if it.suffix in (".py", ".typed")}
+    """The packages' own files."""
+    files = {f"{it.parent.name}/{it.name}": it.read_bytes() for it in HERE.glob("mrjob_*/*") if it.suffix in SUFFIXES}
     return {**files, "mrjob_plan/VERSION": VERSION.read_bytes()}
 
 

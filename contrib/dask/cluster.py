@@ -27,14 +27,14 @@ def until(holds, what: str) -> None:
 
 
 class Cluster:
-    """Processes and a client; `with` ends all of them."""
+    """Processes and a client; `with` ends all of them. With `per_process` so many workers share each process."""
 
-    def __init__(self, racks: int, per_rack: int, threads: int = 1) -> None:
+    def __init__(self, racks: int, per_rack: int, threads: int = 1, per_process: int = 0) -> None:
         self.room = tempfile.TemporaryDirectory()
         self.file = Path(self.room.name) / "scheduler.json"
         self.environment = {**os.environ, "OMP_NUM_THREADS": "1", "PYTHONDONTWRITEBYTECODE": "1"}
         self.processes: dict[str, subprocess.Popen] = {}
-        self.threads, self.client = threads, None
+        self.threads, self.client, self.per_process = threads, None, per_process
         signal.signal(signal.SIGTERM, lambda *_: sys.exit(143))  # so that the processes are ended
         try:
             self.open([f"r{rack}.w{worker}" for rack in range(racks) for worker in range(per_rack)])
@@ -45,19 +45,24 @@ class Cluster:
     def open(self, names: list[str]) -> None:
         self.begin("scheduler", "scheduler", "--port", "0", "--scheduler-file", str(self.file))
         until(self.file.exists, "the scheduler is there")
-        for name in names:
-            self.add(name)
+        for first in range(0, len(names), self.per_process or 1):
+            if self.per_process:
+                self.add_together(names[first : first + self.per_process])
+            else:
+                self.add(names[first])
         self.client = Client(scheduler_file=str(self.file), set_as_default=False, timeout=PATIENCE)
         self.client.wait_for_workers(len(names), timeout=PATIENCE)
-        self.client.amm.stop()
 
     def begin(self, name: str, kind: str, *words: str) -> None:
         """Starts a process of Dask in the folder of its name."""
+        command = ["-m", f"distributed.cli.dask_{kind}", "--host", "127.0.0.1", "--no-dashboard"]
+        self.spawn(name, [*command, *words])
+
+    def spawn(self, name: str, words: list[str]) -> None:
         self.disk(name).mkdir(exist_ok=True)
-        command = [sys.executable, "-m", f"distributed.cli.dask_{kind}", "--host", "127.0.0.1", "--no-dashboard"]
         with open(self.disk(name) / "log", "w", encoding="utf-8") as log:
             self.processes[name] = subprocess.Popen(
-                [*command, *words], stdin=subprocess.DEVNULL, stdout=log, stderr=log, cwd=self.disk(name),
+                [sys.executable, *words], stdin=subprocess.DEVNULL, stdout=log, stderr=log, cwd=self.disk(name),
                 env=self.environment,
             )
 
@@ -68,6 +73,10 @@ class Cluster:
         """Starts a worker, or another one on the disk of one that died."""
         self.begin(name, "worker", "--scheduler-file", str(self.file), "--name", name, "--nthreads", str(self.threads),
                    "--no-nanny", "--memory-limit", "0", "--local-directory", str(self.disk(name)))
+
+    def add_together(self, names: list[str]) -> None:
+        """Starts workers in one process."""
+        self.spawn(names[0], [str(Path(__file__).resolve().with_name("workers.py")), str(self.file), *names])
 
     def addresses(self) -> dict[str, str]:
         """The address of each live worker, by its name."""

@@ -1,12 +1,19 @@
 #!/usr/bin/python3
-"""The bytes that maps of one job carry when `mrjob plan` places them and when Dask does, on the same blocks.
+"""What maps of one job carry, and how long they take, by who places them, on the same blocks.
 
-    contrib/dask/compare.py --planner "bin/mrjob plan"
+    contrib/dask/compare.py                 the table of README.md
+    contrib/dask/compare.py --many          how long 1,000 maps on 64 workers take
 
-A cluster of this machine has 12 workers with one thread each, in 4 racks; 72 blocks of 0.5 MB have three holders
-each, and a map takes half a second and gives a checksum. A row of a table is written for each way in which blocks lie:
-of each run, by another seed, the megabytes times steps that the senders' logs have, and how many blocks moved, after
-the stroke those within a rack.
+On clusters of this machine with 4 racks of 3 and of 4 workers, one thread each, there are six blocks of 0.5 MB for each
+worker, with three holders each. A map takes half a second, 15 % more or less by its block, and gives a checksum. A row
+is written for each way in which blocks lie: of several runs, each with another seed, the medians of the megabytes times
+steps by the senders' logs, of how many blocks moved, after the stroke those within a rack, and of the seconds.
+
+    Dask                a map may run anywhere; of a file it reads the holder nearest to where it runs
+    workers=holders     submit(.., workers=holders): it may run on the holders of its block alone
+    greedy              the loop of mrjob_dask, in which each free slot takes the block that is cheapest for it
+    waves               the loop of mrjob_dask, by a best plan of each wave
+    plan ahead          the same loop, by best plans of all blocks that wait onto queues
 """
 from __future__ import annotations
 
@@ -16,24 +23,30 @@ import sys
 import time
 import zlib
 from collections import Counter
+from pathlib import Path
 from random import Random
-from typing import Callable
+from statistics import median
+from typing import NamedTuple
 
 from distributed import get_worker
 
 sys.dont_write_bytecode = True
-from blocks import Blocks, FileBlocks, KeyBlocks, Row, as_hdfs
-from calls import read_from, sent_keys, sent_pieces
-from cluster import Cluster
-from job import Attempt, Job, Work, map_task
-from planner import Place, Planner, distance, nearest, planner_of
+sys.path.append(str(Path(__file__).resolve().parents[2] / "python"))
+from mrjob_dask import Blocks, Files, Job, Keys, Place, Planner, Row, Work, planner_of
+from mrjob_dask.calls import Look, as_it_is, piece_key, read_files, sent
+from mrjob_dask.job import map_task
+from mrjob_dask.keys import as_hdfs
+from mrjob_dask.placing import Attempt
+from mrjob_dask.planner import Plan, Split, Wave, distance, nearest
 
-RACKS, PER_RACK, BLOCKS, BYTES, SECONDS = 4, 3, 72, 500_000, 0.5
+from cluster import Cluster
+
+RACKS, PER_RACK, EACH, BYTES, SECONDS = 4, (3, 4), 6, 500_000, 0.5
 # Where four of five blocks lie, if not as HDFS lays them.
 SHAPES = {
     "balanced": None,
-    "4 of 5 on the same 3 workers, in 2 racks": ["r0.w0", "r0.w1", "r1.w0"],
-    "4 of 5 on the same 3 workers, in 3 racks": ["r0.w0", "r1.w0", "r2.w0"],
+    "4 of 5 on the same 3, in 2 racks": ["r0.w0", "r0.w1", "r1.w0"],
+    "4 of 5 on the same 3, in 3 racks": ["r0.w0", "r1.w0", "r2.w0"],
 }
 
 
@@ -42,113 +55,207 @@ def place_of(name: str) -> Place:
 
 
 def checksum(data, pieces, parts):
-    time.sleep(SECONDS)
-    return [str(zlib.crc32(data)).encode()]
+    number = zlib.crc32(data)
+    time.sleep(SECONDS * (0.85 + 0.3 * (number % 1000) / 1000))
+    return [str(number).encode()]
+
+
+def read_nearest(sources: dict[str, str], pieces) -> bytes:
+    """In a task: a block of files, from the holder nearest to wherever it runs."""
+    return read_files(sources[get_worker().address], pieces)
 
 
 class ByDask(Job):
     """The same job, all its maps submitted at once and placed by Dask."""
 
-    def start_wave(self, seen, places) -> None:
-        for split, pieces in self.blocks.pieces.items():
-            read, given = self.blocks.data(split, "")
-            key = f"{self.map_key}{len(self.attempts)}"
-            future = self.client.submit(map_task(self.work, pieces, read), *given, key=key)
-            self.maps[split] = Attempt(split, len(self.attempts), 1, "", "", 0, future)
+    is_bound = False  # whether a map may run on holders alone
+
+    def start_wave(self, seen: Look, places: dict[str, Place], pending: dict[str, Split]) -> None:
+        for number, (split, (_, holders, _)) in enumerate(pending.items(), 1):
+            if isinstance(self.blocks, Keys):
+                read, given = as_it_is, [self.blocks.futures[split]]
+            else:
+                sources = {it: nearest(places, it, holders) for it in places}
+                read, given = read_nearest, [sources, self.blocks.pieces[split]]
+            future = self.client.submit(
+                map_task(self.work, read), self.blocks.pieces[split], *given, key=f"{self.key}{number}",
+                workers=holders if self.is_bound else None,
+            )
+            self.maps[split] = Attempt(split, number, 1, "", "", 0, self.watch(future))
             self.attempts.append(self.maps[split])
 
-    def end_of(self, attempt, seen) -> str:
+    def end_of(self, attempt: Attempt, seen: Look) -> str:
         return "done" if attempt.future.status == "finished" else attempt.end
 
 
-class NearestFiles(FileBlocks):
-    """Files that a map reads from the holder nearest to wherever it runs."""
-
-    def __init__(self, client, rows, places: dict[str, Place], address: dict[str, str]) -> None:
-        super().__init__(client, rows)
-        self.places, self.at = places, {split: [address[it] for it in nodes] for split, nodes in self.nodes.items()}
-
-    def data(self, split, source):
-        pieces, sources = self.pieces[split], {it: nearest(self.places, it, self.at[split]) for it in self.places}
-        return lambda: read_from(sources[get_worker().address], pieces), []
+class OnHolders(ByDask):
+    is_bound = True
 
 
-def holders(shape: str, rnd: Random) -> list[list[str]]:
-    """The names of each block's holders."""
-    places = {f"r{rack}.w{worker}": Place(f"r{rack}") for rack in range(RACKS) for worker in range(PER_RACK)}
-    crowd = SHAPES[shape]
-    return [
-        rnd.sample(crowd, 3) if crowd and rnd.random() < 0.8 else as_hdfs(places, rnd) for _ in range(BLOCKS)
-    ]
+class Greedy(Planner):
+    """Each free slot, one after another, takes the block that is cheapest for it."""
+
+    def plan(self, wave: Wave) -> Plan:
+        left, starts, cost = dict(wave.splits), {}, 0
+        for worker in (worker for worker, free in wave.slots.items() for _ in range(free)):
+            prices = {
+                name: it.bytes * distance(wave.places, nearest(wave.places, worker, it.holders), worker)
+                for name, it in left.items() if worker not in it.barred
+            }
+            if prices:
+                split = min(prices, key=lambda it: prices[it])
+                starts[split], cost = worker, cost + prices[split]
+                del left[split]
+        return Plan(starts, cost, 1)
+
+
+WAYS = {"Dask": ByDask, "workers=holders": OnHolders, "greedy": Job, "waves": Job, "plan ahead": Job}
+
+
+class Ran(NamedTuple):
+    """What one job carried, in megabytes times steps, how many blocks moved, how many of these in a rack, and how long
+    it took."""
+
+    carried: float
+    moved: int
+    in_rack: int
+    seconds: float
 
 
 class Comparison:
     """Jobs over the same blocks on one cluster."""
 
     def __init__(self, here: Cluster, planner: Planner) -> None:
-        self.here, self.planner, self.laid = here, planner, 0
-        rnd = Random(5)
-        self.data = [rnd.randbytes(BYTES) for _ in range(BLOCKS)]
-        self.wanted = [str(zlib.crc32(it)).encode() for it in self.data]
+        self.here, self.laid = here, 0
+        self.planner = planner
         self.address = here.addresses()
         self.places = {address: place_of(name) for name, address in self.address.items()}
+        rnd = Random(5)
+        self.data = [rnd.randbytes(BYTES) for _ in range(EACH * len(self.address))]
+        self.wanted = [str(zlib.crc32(it)).encode() for it in self.data]
 
-    def keys(self, held: list[list[str]]) -> KeyBlocks:
+    def holders(self, shape: str, seed: int) -> list[list[str]]:
+        """The names of each block's holders."""
+        rnd, crowd = Random(seed), SHAPES[shape]
+        places = {name: place_of(name) for name in self.address}
+        return [rnd.sample(crowd, 3) if crowd and rnd.random() < 0.8 else as_hdfs(places, rnd) for _ in self.data]
+
+    def keys(self, held: list[list[str]]) -> Keys:
         self.laid += 1
-        blocks = KeyBlocks(self.here.client, f"compared-{self.laid}")
-        for data, names in zip(self.data, held):
-            blocks.put(data, [("block", 0, BYTES)], [self.address[it] for it in names])
+        blocks = Keys(self.here.client)
+        for number, (data, names) in enumerate(zip(self.data, held)):
+            key = f"compared-{self.laid}-{number}"
+            blocks.put(key, data, [(key, 0, BYTES)], [self.address[it] for it in names])
         blocks.lay()
         return blocks
 
-    def files(self, held: list[list[str]]) -> FileBlocks:
+    def files(self, held: list[list[str]]) -> Files:
         """A file for each block, on its holders' disks."""
+        self.laid += 1
         rows = []
         for number, (data, names) in enumerate(zip(self.data, held)):
-            file = f"block-{number:03}"
-            rows.append(Row(file, 0, BYTES, names))
+            rows.append(Row(f"block-{self.laid}-{number:03}", 0, BYTES, names))
             for name in names:
-                (self.here.disk(name) / file).write_bytes(data)
-        return NearestFiles(self.here.client, rows, self.places, self.address)
+                (self.here.disk(name) / rows[-1].file).write_bytes(data)
+        return Files(self.here.client, rows)
 
-    def carried(self, blocks: Blocks) -> Counter:
+    def carried(self, blocks: Blocks) -> list:
         """What workers sent one another of these blocks, by the senders' logs."""
-        if isinstance(blocks, FileBlocks):
-            return Counter(sent_pieces(self.here.client))
-        keys = {*blocks.keys()}
-        return Counter(it for it in sent_keys(self.here.client) if it[0] in keys)
+        keys = {piece_key(pieces[0]) for pieces in blocks.pieces.values()} | {*blocks.pieces}
+        return [it for it in sent(self.here.client) if it.key in keys]
 
-    def run(self, kind: Callable, sort: str, shape: str, seed: int) -> str:
-        """One job: megabytes times steps, blocks that moved, and of these those within a rack."""
-        blocks = getattr(self, sort)(holders(shape, Random(seed)))
-        work, before = Work(checksum, list, 1), self.carried(blocks)
+    def run(self, way: str, sort: str, shape: str, seed: int) -> Ran:
+        """One job."""
+        kind, planner = WAYS[way], Greedy() if way == "greedy" else self.planner
+        blocks = getattr(self, sort)(self.holders(shape, seed))
+        before = Counter(self.carried(blocks))
         began = time.perf_counter()
-        results = kind(self.here.client, blocks, self.planner, work, place_of).run()
+        work, is_ahead = Work(checksum, list, 1), way == "plan ahead"
+        results = kind(self.here.client, blocks, work, place_of, planner, ahead=is_ahead).run()
         seconds = time.perf_counter() - began
         if results != [self.wanted]:
             raise AssertionError("a checksum is wrong")
-        moved = [*(self.carried(blocks) - before).elements()]
-        steps = [distance(self.places, source, to) for _, source, to, _ in moved]
-        weighted = sum(size * step for (*_, size), step in zip(moved, steps)) / 1e6
-        print(f"{shape}, {sort}, seed {seed}, {kind.__name__}: {seconds:.1f} s", file=sys.stderr, flush=True)
-        return f"{weighted:.1f} ({len(moved)}/{steps.count(2)})"
+        moved = [*(Counter(self.carried(blocks)) - before).elements()]
+        steps = [distance(self.places, it.sender, it.receiver) for it in moved]
+        carried = sum(it.bytes * step for it, step in zip(moved, steps)) / 1e6
+        blocks.close()
+        print(f"{shape}, {sort}, seed {seed}, {way}: {carried:.1f} {seconds:.1f} s", file=sys.stderr, flush=True)
+        return Ran(carried, len(moved), steps.count(2), seconds)
+
+    def row(self, sort: str, shape: str, runs: int) -> str:
+        """The cells of all ways, which are run in turn."""
+        ran = [[self.run(way, sort, shape, seed) for way in WAYS] for seed in range(runs)]
+        medians = [[median(its) for its in zip(*of_way)] for of_way in zip(*ran)]
+        return " | ".join(
+            f"{carried:.1f} ({moved:.0f}/{in_rack:.0f}), {seconds:.1f} s"
+            for carried, moved, in_rack, seconds in medians
+        )
+
+
+def table(planner: Planner, runs: int, sorts: list[str]) -> None:
+    print(f"| Workers, blocks | {' | '.join(WAYS)} |\n|---|{'---|' * len(WAYS)}")
+    for per_rack in PER_RACK:
+        with Cluster(RACKS, per_rack) as here:
+            compared = Comparison(here, planner)
+            for sort in sorts:
+                for shape in SHAPES:
+                    print(f"| {RACKS}x{per_rack}, {sort}, {shape} | {compared.row(sort, shape, runs)} |", flush=True)
+
+
+def many(planner: Planner, runs: int) -> None:
+    """The seconds of jobs by Dask, by waves and ahead, in turn, of 1,000 maps of half a second that read nothing: on the
+    clock, and of processors in the client and its planner."""
+    racks, per_rack, count = 8, 8, 1000
+    with Cluster(racks, per_rack, per_process=16) as here:
+        places, rnd = {name: place_of(name) for name in here.addresses()}, Random(1)
+        rows = [Row(f"block-{number}", 0, 1, as_hdfs(places, rnd)) for number in range(count)]
+
+        def mapped(data, pieces, parts):
+            time.sleep(SECONDS)
+            return [b""]
+
+        nothing = lambda *_: b""
+        seconds: dict[str, list[tuple[float, float]]] = {"Dask": [], "waves": [], "plan ahead": []}
+        spent = lambda: (time.perf_counter(), sum(os.times()[:4]))
+        for _ in range(runs):
+            for way in seconds:
+                began = spent()
+                blocks = Files(here.client, rows, nothing)
+                kind, is_ahead = Unread if way == "Dask" else Job, way == "plan ahead"
+                job = kind(here.client, blocks, Work(mapped, len, 1), place_of, planner, ahead=is_ahead)
+                if job.run() != [count]:
+                    raise AssertionError("a map is missing")
+                took, used = (now - then for now, then in zip(spent(), began))
+                seconds[way].append((took, used))
+                print(f"{way}: {took:.1f} s, {used:.2f} s of processors, load {os.getloadavg()[0]:.1f}", flush=True)
+        medians = {way: [median(its) for its in zip(*of_way)] for way, of_way in seconds.items()}
+        for way in ("waves", "plan ahead"):
+            clock, processors = (one / other for one, other in zip(medians[way], medians["Dask"]))
+            print(f"{way}: {clock:.2f} of Dask's time, {processors:.2f} of its client's")
+
+
+class Unread(ByDask):
+    """Maps that read nothing, placed by Dask."""
+
+    def start_wave(self, seen: Look, places: dict[str, Place], pending: dict[str, Split]) -> None:
+        for number, split in enumerate(pending, 1):
+            call = self.call(split, "", "")
+            future = self.client.submit(call.function, *call.arguments, key=f"{self.key}{number}")
+            self.maps[split] = Attempt(split, number, 1, "", "", 0, self.watch(future))
+            self.attempts.append(self.maps[split])
 
 
 def main() -> None:
     parser = argparse.ArgumentParser(description=__doc__, formatter_class=argparse.RawDescriptionHelpFormatter)
-    parser.add_argument("--planner", default="bin/mrjob plan", help="a command, or `library`")
+    parser.add_argument("--planner", default="", help="a command, or `library`, which is taken if it is there")
     parser.add_argument("--runs", type=int, default=3)
+    parser.add_argument("--blocks", nargs="*", choices=("files", "keys"), default=["files", "keys"])
+    parser.add_argument("--many", action="store_true", help="1,000 maps on 64 workers")
     asked = parser.parse_args()
-    with Cluster(RACKS, PER_RACK) as here:
-        compared = Comparison(here, planner_of(asked.planner))
-        print("| Blocks | planned | placed by Dask |\n|---|---|---|")
-        for sort in ("files", "keys"):
-            for shape in SHAPES:
-                by_kind = [
-                    ", ".join(compared.run(kind, sort, shape, seed) for seed in range(asked.runs))
-                    for kind in (Job, ByDask)
-                ]
-                print(f"| {sort}, {shape} | {by_kind[0]} | {by_kind[1]} |", flush=True)
+    if asked.many:
+        many(planner_of(asked.planner), asked.runs)
+    else:
+        table(planner_of(asked.planner), asked.runs, asked.blocks)
 
 
 if __name__ == "__main__":

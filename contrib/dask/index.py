@@ -1,18 +1,20 @@
 #!/usr/bin/python3
-"""The inverted index of files, by a Dask cluster that runs, each wave of its maps placed by `mrjob plan`.
+"""The inverted index of files, by a Dask cluster that runs, each wave of its maps placed by a planner.
 
     dask-scheduler &
     dask-worker tcp://HOST:8786 --name r0.w0 --nthreads 2 &         one on each node
-    contrib/dask/index.py FOLDER --scheduler tcp://HOST:8786 --planner "bin/mrjob plan" --check
+    contrib/dask/index.py FOLDER --scheduler tcp://HOST:8786 --check
 
 The files below FOLDER are cut in blocks and laid in the memory of workers, as HDFS would lay them. Or blocks lie on the
 nodes' disks already: by `--table FILE`, of lines `FILE OFFSET BYTES NODE..`, each being a worker's name or host, a map
 reads its block from its own disk or from that of the nearest holder; by `--hdfs FILE`, which has what `hdfs fsck PATH
 -files -blocks -locations` prints, it reads from `--webhdfs ADDRESS`. A worker's place is a line `NAME RACK [CENTRE]` of
-the topology, else the rack is its name up to the first dot, else one for all.
+the topology, NAME being its name or host; else what HDFS lists; else the rack is its name up to the first dot, or is
+guessed from its host's network, of which is warned.
 
 The index is written in the lines of `mrjob run`: `index N`, and `word WORD DOCUMENT..` for each. The status is 1 where
-a block has no living holder, and 2 where the cluster, a file or a plan does not fit; then nothing is written.
+a block has no living holder or its map kills workers, and 2 where the cluster, a file or a plan does not fit, or there
+is no planner; then nothing is written.
 """
 from __future__ import annotations
 
@@ -21,62 +23,77 @@ import itertools
 import logging
 import os
 import sys
-from contextlib import contextmanager, nullcontext
+import uuid
+import warnings
+from contextlib import nullcontext
+from pathlib import Path
 from random import Random
-from typing import Callable, Iterator, Optional
+from typing import Optional
 
+import cloudpickle
 from distributed import Client
 
 sys.dont_write_bytecode = True
-from blocks import Blocks, FileBlocks, KeyBlocks, as_hdfs, read_table, read_web, rows_of
-from calls import look
-from history import History
-from job import Job, LostBlock, Work
-from planner import Place, Unfit, planner_of
-from report import progress, report_lines
+sys.path[1:1] = [str(Path(__file__).resolve().parents[1]), str(Path(__file__).resolve().parents[2] / "python")]
+from mrjob_dask import Blocks, Files, Job, Keys, LostBlock, RarestFirst, Unfit, Work, planner_of
+from mrjob_dask import read_table, read_web
+from mrjob_dask.calls import look
+from mrjob_dask.files import Row
+from mrjob_dask.history import History
+from mrjob_dask.keys import as_hdfs
+from mrjob_dask.placing import GRACE, DeadlySplit
+from mrjob_dask.report import progress, report_lines
+from mrjob_dask.topology import Topology
+
+import words
+from problem_of_hdfs import Stop, read_listing
 from words import blocks_of, index_lines, map_words, reduce_words, texts_of
 
-from problem_of_hdfs import Stop, read_listing
+cloudpickle.register_pickle_by_value(words)
+Table = dict[str, tuple[str, ...]]
 
 
-def places_of(topology: Optional[str]) -> Callable[[str], Place]:
-    """The place of a worker by its name."""
-    table = {}
+def racks_of(topology: Optional[str]) -> Table:
+    """The places of workers, by names or hosts."""
+    table: Table = {}
     if topology:
         with open(topology, encoding="utf-8") as file:
             for line in file:
                 name, *place = line.split() or [""]
                 if len(place) not in (1, 2):
                     raise Unfit(f"`{line.rstrip()}` is not NAME RACK [CENTRE]")
-                table[name] = Place(*place)
-    return lambda name: table.get(name) or Place(name.partition(".")[0] if "." in name else "default")
+                table[name] = tuple(place)
+    return table
 
 
-def laid(client: Client, asked: argparse.Namespace, place_of: Callable[[str], Place]) -> KeyBlocks:
+def laid(client: Client, asked: argparse.Namespace, racks: Table) -> Keys:
     """The files of a folder as blocks in the memory of workers."""
     if not os.path.isdir(asked.folder):
         raise Unfit(f"{asked.folder} is no folder")
-    places = {at: place_of(it.name) for at, it in look(client, []).workers.items()}
-    blocks, rnd, left_out = KeyBlocks(client, f"mrjob-{client.id}", asked.replicas), Random(asked.seed), []
+    places = Topology(racks).places({address: it.name for address, it in look(client).workers.items()})
+    blocks, rnd, left_out = Keys(client, replicas=asked.replicas), Random(asked.seed), []
+    mark = uuid.uuid4().hex[:8]
     for data, pieces in blocks_of(texts_of(asked.folder, left_out), itertools.repeat(asked.block)):
-        blocks.put(data, pieces, as_hdfs(places, rnd, asked.replicas))
+        blocks.put(f"block-{mark}-{len(blocks.pieces)}", data, pieces, as_hdfs(places, rnd, asked.replicas))
     blocks.lay()
     if left_out:
         print(f"{len(left_out)} files were left out, such as {left_out[0]}", file=sys.stderr)
     return blocks
 
 
-def blocks_asked(client: Client, asked: argparse.Namespace, place_of: Callable[[str], Place]) -> Blocks:
-    """The blocks that the words of the command speak of."""
+def blocks_asked(client: Client, asked: argparse.Namespace, racks: Table) -> Blocks:
+    """The blocks that the words of the command speak of. Racks that HDFS lists are entered."""
     if asked.folder:
-        return laid(client, asked, place_of)
+        return laid(client, asked, racks)
     with open(asked.table or asked.hdfs, encoding="utf-8") as file:
         if asked.table:
-            return FileBlocks(client, read_table(file))
+            return Files(client, read_table(file))
         listing = read_listing(file)
-    for words, count in listing.told.items():
-        print(f"{count} {words}", file=sys.stderr)
-    return FileBlocks(client, rows_of(listing), read_web(asked.webhdfs))
+    for told, count in listing.told.items():
+        print(f"{count} {told}", file=sys.stderr)
+    racks.update({host: (rack,) for host, rack in listing.racks.items() if host not in racks})
+    rows = [Row(it.file, it.offset, it.bytes, it.nodes) for it in listing.blocks]
+    return Files(client, rows, read_web(asked.webhdfs))
 
 
 def words_of() -> argparse.Namespace:
@@ -87,10 +104,15 @@ def words_of() -> argparse.Namespace:
     add("--hdfs", help="blocks in HDFS, as fsck lists them")
     add("--webhdfs", help="where HDFS is read, such as http://NAMENODE:9870")
     add("--scheduler", required=True, help="the address of Dask's scheduler")
-    add("--planner", default="bin/mrjob plan", help="a command, or `library`")
+    add("--planner", default="", help="a command such as `bin/mrjob plan`, or `library`, which is taken if it is there")
+    add("--rarest-first", action="store_true", help="of equal plans, one with the blocks hardest to place later")
+    add("--ahead", action="store_true", help="plan all blocks that wait onto queues, and not wave by wave")
+    add("--backup", type=float, metavar="TIMES",
+        help="once no block waits, start a map that has run for so many times the mean on a second worker")
     add("--check", action="store_true", help="let each plan be checked by its prices")
     add("--workers", type=int, default=1, help="wait until so many are there")
     add("--topology", help="lines NAME RACK [CENTRE]")
+    add("--grace", type=float, default=GRACE, help="for so many seconds a block may have no living holder")
     add("--replicas", type=int, default=3, help="so many workers hold a block that is laid")
     add("--block", type=int, default=1 << 20, help="its bytes")
     add("--parts", type=int, default=8, help="into how many parts words are divided")
@@ -104,18 +126,6 @@ def words_of() -> argparse.Namespace:
     if bool(asked.hdfs) != bool(asked.webhdfs):
         parser.error("--hdfs and --webhdfs go together")
     return asked
-
-
-@contextmanager
-def undropped(client: Client) -> Iterator[None]:
-    """Keeps the cluster from dropping replicas, as its active memory manager does."""
-    was_running = client.amm.running()
-    client.amm.stop()
-    try:
-        yield
-    finally:
-        if was_running:
-            client.amm.start()
 
 
 def write(lines: list[str], path: Optional[str]) -> None:
@@ -145,11 +155,13 @@ def write_all(job: Job, lines: list[str], asked: argparse.Namespace) -> None:
 
 def run(asked: argparse.Namespace) -> None:
     """Runs the job on the cluster."""
-    place_of, planner = places_of(asked.topology), planner_of(asked.planner, asked.check)
-    with Client(asked.scheduler) as client, undropped(client):
+    racks, planner = racks_of(asked.topology), planner_of(asked.planner, asked.check)
+    planner = RarestFirst(planner) if asked.rarest_first else planner
+    with Client(asked.scheduler) as client:
         client.wait_for_workers(asked.workers)
-        blocks = blocks_asked(client, asked, place_of)
-        job = Job(client, blocks, planner, Work(map_words, reduce_words, asked.parts), place_of, progress)
+        blocks = blocks_asked(client, asked, racks)
+        work = Work(map_words, reduce_words, asked.parts)
+        job = Job(client, blocks, work, racks, planner, asked.grace, progress, asked.ahead, asked.backup)
         try:
             write_all(job, index_lines(job.run()), asked)
         finally:
@@ -160,9 +172,10 @@ def run(asked: argparse.Namespace) -> None:
 
 def main() -> int:
     asked = words_of()
+    warnings.formatwarning = lambda why, *_: f"index.py: {why}\n"
     try:
         run(asked)
-    except LostBlock as why:
+    except (LostBlock, DeadlySplit) as why:
         print(f"index.py: {why}", file=sys.stderr)
         return 1
     except (Unfit, Stop, OSError) as why:

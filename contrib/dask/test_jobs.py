@@ -7,24 +7,26 @@ from __future__ import annotations
 from collections import Counter
 from typing import Callable
 
-from blocks import FileBlocks, Row
-from calls import look, sent_keys, sent_pieces
+from trial import NAMES, Count, Gate, Trial, Watched, place_of  # (which finds the packages)
+
+from mrjob_dask import Blocks, Files, LostBlock, Planner, Row
+from mrjob_dask.calls import look, piece_key, sent
+from mrjob_dask.history import History
+from mrjob_dask.planner import distance
+
 from cluster import Cluster, until
-from history import History
-from job import LostBlock
-from planner import Planner, distance
-from trial import NAMES, Count, Gate, Trial, Watched, place_of
+from test_ahead import backups, stopped
+from test_faults import faults
+from test_place import placed
 from words import index_lines
 
 from reference_play import misplayed
 
 
-def carried(trial: Trial, blocks) -> Counter:
+def carried(trial: Trial, blocks: Blocks) -> Counter:
     """The blocks that workers sent one another so far, by the senders' own logs: (block, sender, receiver, bytes)."""
-    if isinstance(blocks, FileBlocks):
-        return Counter(sent_pieces(trial.here.client))
-    keys = {*blocks.keys()}
-    return Counter(it for it in sent_keys(trial.here.client) if it[0] in keys)
+    keys = {piece_key(pieces[0]) for pieces in blocks.pieces.values()} | {*blocks.pieces}
+    return Counter(it for it in sent(trial.here.client) if it.key in keys)
 
 
 def within_slots(job: Watched) -> bool:
@@ -44,6 +46,7 @@ def undisturbed(trial: Trial, count: Count, sort: str) -> None:
     places = {address: place_of(name) for name, address in trial.here.addresses().items()}
     steps = sum(size * distance(places, a, b) for _, a, b, size in (carried(trial, blocks) - before).elements())
     planned = sum(it.cost for it in job.waves)
+    sort += ", ahead" * trial.is_ahead
     count.holds(f"{sort}: the index is that of the reference", lines == trial.wanted)
     count.holds(f"{sort}: what was carried, by distance, is what was planned", steps == planned > 0, steps, planned)
     count.holds(f"{sort}: each block starts once", len(job.attempts) == len(blocks.pieces) == len(job.ended("done")))
@@ -52,7 +55,9 @@ def undisturbed(trial: Trial, count: Count, sort: str) -> None:
 
 
 def judged(job: Watched, count: Count, says: str) -> None:
-    """The reference for scripts finds each event legal, and each wave best in its state."""
+    """The reference for scripts finds each event legal, and each wave best in its state, where waves are planned."""
+    if job.queues:
+        return
     told = History(job)
     script, report = ("".join(f"{line}\n" for line in it).encode() for it in (told.script, told.report))
     wrong = misplayed(script, report, 1)
@@ -76,6 +81,11 @@ def killer(trial: Trial, gate: Gate, is_time: Callable[[Watched], str], killed: 
 
 def first_started(job: Watched) -> str:
     return job.names[job.attempts[0].worker] if job.attempts else ""
+
+
+def first_at_home(job: Watched) -> str:
+    """Whoever runs a map of a block that it holds."""
+    return next((job.names[it.worker] for it in job.attempts if it.worker == it.source), "")
 
 
 def most_done(job: Watched) -> str:
@@ -103,8 +113,8 @@ def death(trial: Trial, count: Count, sort: str, when: str) -> None:
         step = killer(trial, gate, DEATHS[when], killed)
         job = trial.job(blocks, gate, closed, step, when == "reduces")
         lines = index_lines(job.run())
-    seen = look(trial.here.client, blocks.keys())
-    says = f"{sort}, a death at {when}"
+    seen = look(trial.here.client, keys=blocks.keys(blocks.pieces))
+    says = f"{sort}{', ahead' * trial.is_ahead}, a death at {when}"
     count.holds(f"{says}: the index is that of the reference", lines == trial.wanted)
     gone = [*job.ended("lost"), *job.ended("failed")]
     own = [it for it in gone if job.names[it.worker] == killed[0]]
@@ -129,13 +139,14 @@ def lost_key(trial: Trial, count: Count) -> None:
     blocks, killed, said = trial.keys(replicas=1), [], ""
     with trial.room() as room:
         gate = Gate(room)
-        step = killer(trial, gate, first_started, killed)
+        step = killer(trial, gate, first_at_home, killed)
         job = trial.job(blocks, gate, {pieces[0] for pieces in blocks.pieces.values()}, step)
         try:
             job.run()
         except LostBlock as why:
             said = str(why)
-    of_killed = {it for it in blocks.pieces if it not in job.maps and not blocks.holders(it, job.look()[0])}
+    seen = look(trial.here.client, keys=blocks.keys(blocks.pieces))
+    of_killed = {it for it in blocks.pieces if it not in job.maps and not blocks.holders(it, seen)}
     count.holds("a key without a living holder ends the job", said.partition(" has no living")[0] in of_killed, said)
     trial.here.revive(NAMES)
 
@@ -146,7 +157,7 @@ def lost_file(trial: Trial, count: Count) -> None:
     with trial.room() as room:
         rows = [Row("here", 0, 0, NAMES), Row("a file", 5, 7, ["nobody"])]
         try:
-            trial.job(FileBlocks(trial.here.client, rows), Gate(room), set(), lambda job: None).run()
+            trial.job(Files(trial.here.client, rows), Gate(room), set(), lambda job: None).run()
         except LostBlock as why:
             said = str(why)
     count.holds("a file without a living holder ends the job", said == "a%20file@5 has no living holder", said)
@@ -195,7 +206,7 @@ def beside_others(trial: Trial, count: Count) -> None:
             client.submit(waits, b"", [("", 0, 0)], 1, key=f"others-{name}", workers=[address[name]])
             for name in NAMES[:4]
         ]
-        until(lambda: sum(len(it.busy) for it in look(client, []).workers.values()) == 4, "others' tasks run")
+        until(lambda: sum(it.others for it in look(client).workers.values()) == 4, "others' tasks run")
         lines = index_lines(job.run())
         client.gather(tasks)
     free = {job.names[it] for it, number in job.waves[0].wave.slots.items() if number}
@@ -211,9 +222,18 @@ def jobs(planner: Planner, count: Count, more: Callable[[Trial, Count], None]) -
             undisturbed(trial, count, sort)
             for when in DEATHS:
                 death(trial, count, sort, when)
+            backups(trial, count, sort, judged)
+        trial.is_ahead = True
+        for sort, when in (("files", "a running map"), ("keys", "a done map")):
+            undisturbed(trial, count, sort)
+            death(trial, count, sort, when)
+        trial.is_ahead = False
+        stopped(trial, count)
         lost_file(trial, count)
         lost_files(trial, count)
         failing(trial, count)
         beside_others(trial, count)
+        placed(trial, count)
+        faults(trial, count)
         more(trial, count)
         lost_key(trial, count)

@@ -8,10 +8,14 @@ was skipped. The last line is 'N passed, M failed'.
 """
 from __future__ import annotations
 
+import faulthandler
 import json
 import os
+import shutil
+import signal
 import subprocess
 import sys
+import tempfile
 import threading
 from http.server import BaseHTTPRequestHandler, ThreadingHTTPServer
 from pathlib import Path
@@ -20,17 +24,19 @@ from typing import Optional
 from urllib.parse import parse_qs, urlsplit
 
 sys.dont_write_bytecode = True
-from blocks import as_hdfs
-from job import Work
-from calls import look
-from cluster import until
-from planner import Command, Library, Place, Plan, Planner, Split, Unfit, Wave, planner_of, wave_of
-from test_jobs import jobs, judged
-from trial import NAMES, ROOT, Count, Gate, Trial, index_of, place_of
-from words import blocks_of, index_lines, map_words, reduce_words
+from trial import NAMES, ROOT, Count, Gate, Trial, index_of, place_of  # (which finds the packages)
+
+from mrjob_dask import Command, Library, NoPlanner, Place, Planner, RarestFirst, Unfit, planner_of
+from mrjob_dask.keys import as_hdfs
+from mrjob_dask.planner import Plan, Split, Wave, wave_of
 
 import reference_check
 from reference_play import misplayed
+from test_ahead import anew, lengths, phases, saved
+from test_faults import without_scheduler
+from test_jobs import jobs, judged
+from test_place import planners, racks
+from words import blocks_of, index_lines, map_words, reduce_words
 
 INDEX = str(Path(__file__).resolve().with_name("index.py"))
 
@@ -104,7 +110,7 @@ def the_library() -> Optional[Planner]:
     """The planner by the C library, where that stands."""
     try:
         return Library(True)
-    except ImportError as why:
+    except NoPlanner as why:
         print(f"the library was skipped: {why}", flush=True)
         return None
 
@@ -115,6 +121,7 @@ def waves(program: str, library: Optional[Planner], count: Count) -> None:
     planners: dict[str, Planner] = {"plan": Command(words), "plan and check": Command(words, True)}
     if library:
         planners["the library"] = library
+    planners["plan, rarest first"] = RarestFirst(Command(words))
     for name, planner in planners.items():
         wrong = [seed for seed in range(100) if misplanned(planner, some_wave(Random(seed)))]
         count.holds(f"100 clusters, by {name}: each plan is best, by the reference", not wrong, wrong)
@@ -143,6 +150,10 @@ def faults(program: str, count: Count) -> None:
     planner.plan_words, planner.check_words = ["sh", "-c", lazy, "plan"], ["sh", "-c", lazy, "check", program]
     said = refuses(planner, wave)
     count.holds("a plan that is not best is refused", "refused C5 s0 w0" in said, said)
+    splits = {"any": Split(1, ["a", "b", "c"], []), "rare": Split(1, ["a"], []), "other": Split(1, ["a"], [])}
+    wave = wave_of({it: Place("r") for it in "abc"}, {"a": 1}, splits)
+    first = [[*it.plan(wave).starts] for it in (Command(f"{program} plan"), RarestFirst(Command(f"{program} plan")))]
+    count.holds("of equal splits the first starts, and by RarestFirst the rarest", first == [["any"], ["rare"]], first)
     count.holds("a wrong cost is refused", "do not come to" in refuses(Wrong(), wave))
     count.holds("a command that fails is told", "ended with" in refuses(Command("false plan"), wave))
     many = {f"w{it}": Place(f"r{it}", f"c{it}") for it in range(257)}
@@ -173,6 +184,18 @@ def placing(count: Count) -> None:
     count.holds("few workers hold what they can", len(as_hdfs({"a": Place("r"), "b": Place("r")}, rnd)) == 2)
 
 
+def types(count: Count) -> None:
+    """mypy finds nothing in the package."""
+    if shutil.which("mypy") is None:
+        print("mypy is not there, so no types were checked", flush=True)
+        return
+    with tempfile.TemporaryDirectory() as room:
+        words = ["mypy", "--strict", "--python-executable", sys.executable, "--cache-dir", room]
+        words += ["--config-file", "python/pyproject.toml", "python/mrjob_dask"]
+        ran = subprocess.run(words, capture_output=True, text=True, cwd=ROOT, env={**os.environ, "MYPYPATH": "python"})
+    count.holds("the package has no fault that mypy --strict finds", ran.returncode == 0, ran.stdout, ran.stderr)
+
+
 def index(trial: Trial, *asked: str) -> tuple[str, str, int]:
     """What index.py writes: the index, its last words, and its status."""
     words = [sys.executable, INDEX, "--scheduler", trial.here.client.scheduler.address, *asked]
@@ -185,7 +208,7 @@ def reported(trial: Trial, count: Count, by: str, planner: str) -> list[dict]:
     """What index.py reports over a folder by a planner; its index is that which `mrjob run` gives as well."""
     report, out, told = (trial.here.disk(f"{name}-{by}") for name in ("report", "index", "history"))
     says, room = f"index.py FOLDER by {by}", trial.here.disk("folder")
-    until(lambda: not any(it.busy for it in look(trial.here.client, []).workers.values()), "no worker is busy")
+    trial.rest()
     ended = index(trial, str(room), "--planner", planner, "--check", "--block", str(5000), "--parts", "3",
                   "--report", str(report), "--out", str(out), "--history", str(told))
     count.holds(f"{says} ends well", (ended[0], ended[2]) == ("", 0), ended)
@@ -214,7 +237,9 @@ def command(program: str, library: Optional[Planner], trial: Trial, count: Count
         # (when a slot is free again is nobody's to say, so later waves are those of one run alone)
         is_same = rows[0] == others[0]
         count.holds("index.py by library: its first wave has plan's count and cost", is_same, rows[0], others[0])
-        started = [sorted(row["split"] for row in it if "attempt" in row) for it in (rows, others)]
+        # (in front of a block's number stands the mark of one run)
+        number = lambda row: int(row["split"].rpartition("-")[2])
+        started = [sorted(number(row) for row in it if "attempt" in row) for it in (rows, others)]
         count.holds("index.py by library: it starts what plan starts", started[0] == started[1], *started)
 
 
@@ -244,7 +269,7 @@ def tables(program: str, trial: Trial, count: Count) -> None:
     is_so = (said.splitlines(), status) == (trial.wanted, 0)
     count.holds("index.py --table: the index is that of the reference", is_so)
     table.write_text("\n".join([*rows, "lost 7 1 nobody"]) + "\n")
-    said, why, status = index(trial, *asked, "--out", str(out))
+    said, why, status = index(trial, *asked, "--out", str(out), "--grace", "0")
     is_so = (said, status) == ("", 1) and "lost@7 has no living holder" in why and not out.exists()
     count.holds("index.py: a block without a living holder is named, and nothing written", is_so, said, why, status)
 
@@ -285,12 +310,22 @@ def hdfs(program: str, trial: Trial, count: Count) -> None:
 
 
 def main() -> int:
-    program = os.path.abspath(sys.argv[1])
+    faulthandler.register(signal.SIGUSR1)  # (scripts/dask.py asks where they hang)
+    program = os.environ["MRJOB"] = os.path.abspath(sys.argv[1])  # (which clients of their own take too)
     count, library = Count(), the_library()
     words(count)
     placing(count)
+    racks(count)
+    planners(count)
+    types(count)
     waves(program, library, count)
     faults(program, count)
+    planner = library or Command(f"{program} plan")
+    lengths(count)
+    anew(planner, count)
+    phases(planner, misplanned, count)
+    saved(planner, count)
+    without_scheduler(planner, count)
 
     def commands(trial: Trial, count: Count) -> None:
         command(program, library, trial, count)

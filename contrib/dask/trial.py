@@ -12,23 +12,25 @@ from typing import Callable, Iterator
 
 import cloudpickle
 
-from blocks import FileBlocks, KeyBlocks, Row, as_hdfs
-from calls import look
-from cluster import Cluster, until
-from job import Attempt, Job, Work
-from planner import Place, Planner
-from words import Piece, blocks_of, map_words, reduce_words
-
 ROOT = Path(__file__).resolve().parents[2]
-sys.path.append(str(ROOT / "scripts"))
+sys.path += [str(ROOT / "python"), str(ROOT / "contrib"), str(ROOT / "scripts")]
+from mrjob_dask import Files, Job, Keys, Place, Planner, Row, Work
+from mrjob_dask.calls import Piece, look
+from mrjob_dask.keys import as_hdfs
+from mrjob_dask.placing import Attempt
+
 import reference_run
+import words
+from cluster import Cluster, until
+from words import blocks_of, map_words, reduce_words
 
 RACKS, PER_RACK, BLOCK, PARTS = 3, 2, 6000, 4
 NAMES = [f"r{rack}.w{worker}" for rack in range(RACKS) for worker in range(PER_RACK)]
 SKEWED = ["r0.w0", "r0.w1", "r1.w0"]
 
 
-cloudpickle.register_pickle_by_value(sys.modules[__name__])
+for module in (sys.modules[__name__], words):
+    cloudpickle.register_pickle_by_value(module)
 
 
 class Count:
@@ -43,9 +45,10 @@ class Count:
 
 
 def texts() -> list[tuple[str, bytes]]:
-    """The pages of docs/, as documents that a job's text can have."""
-    files = sorted((ROOT / "docs").glob("*.md"))
-    return [(it.name, bytes(byte if 32 <= byte < 127 else 32 for byte in it.read_bytes())) for it in files]
+    """Eight documents of words, always the same: 31 blocks in files, and 25 where blocks span documents."""
+    rnd = Random(11)
+    known = [bytes(rnd.choices(b"abcdefghijklmnopqrstuvwxyz", k=rnd.randint(1, 12))) for _ in range(3000)]
+    return [(f"text-{number}.md", b" ".join(rnd.choices(known, k=2500))) for number in range(8)]
 
 
 def job_text(documents: list[tuple[str, bytes]]) -> bytes:
@@ -103,6 +106,15 @@ def wait_at(room: str) -> None:
         time.sleep(0.02)
 
 
+def wait_first(room: str) -> None:
+    """Waits, but for all that come later."""
+    try:
+        os.close(os.open(f"{room}/first", os.O_CREAT | os.O_EXCL))
+        wait_at(room)
+    except FileExistsError:
+        pass
+
+
 class Watched(Job):
     """A job that keeps which parts were done and which were started in each round of reduces."""
 
@@ -125,32 +137,32 @@ class Trial:
         self.here, self.planner, self.documents = here, planner, texts()
         self.wanted = index_of(self.documents)
         self.cut = [*blocks_of(self.documents, itertools.repeat(BLOCK))]
-        self.laid = 0
+        self.laid, self.is_ahead = 0, False
 
     def holders(self) -> Iterator[list[str]]:
         rnd, places = Random(7), {name: place_of(name) for name in NAMES}
         while True:
             yield rnd.sample(SKEWED, 3) if rnd.random() < 0.8 else as_hdfs(places, rnd)
 
-    def keys(self, replicas: int = 3) -> KeyBlocks:
+    def keys(self, replicas: int = 3) -> Keys:
         """The documents as blocks in the memory of workers."""
         self.laid += 1
-        blocks, address = KeyBlocks(self.here.client, f"trial-{self.laid}", replicas), self.here.addresses()
-        for (data, pieces), held in zip(self.cut, self.holders()):
-            blocks.put(data, pieces, [address[it] for it in held[:replicas]])
+        blocks, address = Keys(self.here.client, replicas=replicas), self.here.addresses()
+        for number, ((data, pieces), held) in enumerate(zip(self.cut, self.holders())):
+            blocks.put(f"trial-{self.laid}-{number}", data, pieces, [address[it] for it in held[:replicas]])
         blocks.lay()
         return blocks
 
-    def files(self) -> FileBlocks:
+    def files(self, replicas: int = 3) -> Files:
         """The documents as blocks in files: on a disk that lacks a block, zeros stand in its place, or nothing."""
         rows, holders = [], self.holders()
         for name, text in self.documents:
             for offset in range(0, len(text), BLOCK):
-                piece, held = text[offset : offset + BLOCK], next(holders)
+                piece, held = text[offset : offset + BLOCK], next(holders)[:replicas]
                 rows.append(Row(name, offset, len(piece), held))
                 for node in held:
                     self.write(self.here.disk(node) / name, offset, piece)
-        return FileBlocks(self.here.client, rows)
+        return Files(self.here.client, rows)
 
     def write(self, path: Path, offset: int, data: bytes) -> None:
         with open(path, "r+b" if path.exists() else "x+b") as file:
@@ -159,9 +171,13 @@ class Trial:
 
     def job(self, blocks, gate: Gate, closed: set[Piece], step: Callable, is_reduce_gated: bool = False) -> Watched:
         client = self.here.client
-        until(lambda: not any(it.busy for it in look(client, []).workers.values()), "no worker is busy")
+        self.rest()
         work = Work(gate.map(closed), gate.reduce() if is_reduce_gated else reduce_words, PARTS)
-        return Watched(client, blocks, self.planner, work, place_of, step)
+        return Watched(client, blocks, work, place_of, self.planner, grace=0, step=step, ahead=self.is_ahead)
+
+    def rest(self) -> None:
+        """Waits until no worker has a task."""
+        until(lambda: not any(it.others for it in look(self.here.client).workers.values()), "no worker is busy")
 
     def room(self) -> tempfile.TemporaryDirectory:
         return tempfile.TemporaryDirectory(dir=self.here.room.name)

@@ -9,15 +9,14 @@ import os
 import pickle
 import re
 from typing import Iterable, Iterator, Tuple
-from urllib.parse import quote
+
+from mrjob_dask.calls import Piece
+from mrjob_dask.files import document_name
 
 WORD = re.compile(rb"[A-Za-z]+")
 
 
 # What travels between client and workers is of plain types, since to these this module is sent by value.
-# So many bytes of a document from an offset on: the document, the offset, the length. The pieces of a block, one after
-# another, are its bytes.
-Piece = Tuple[str, int, int]
 # Letters of a document, from one offset up to another, beside which more may stand in another block.
 Edge = Tuple[str, int, int, str]
 
@@ -89,11 +88,6 @@ def index_lines(results: Iterable[dict[str, list[str]]]) -> list[str]:
         for word, documents in result.items():
             index.setdefault(word, set()).update(documents)
     return [f"index {len(index)}", *(f"word {word} {' '.join(sorted(index[word]))}" for word in sorted(index))]
-
-
-def document_name(path: str) -> str:
-    """A path as one word of printable characters."""
-    return quote(path, safe="/!#$&'()*+,:;=?@[]~{}|^`\"<>\\")
 
 
 def texts_of(folder: str, left_out: list[str]) -> Iterator[tuple[str, bytes]]:

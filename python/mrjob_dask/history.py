@@ -1,14 +1,16 @@
 """The maps of a job as a script with its report (docs/MODEL.md): what one master would have said of them.
 
 A picture is drawn of the two, and the reference of scripts/ judges them. Reduces, which Dask places, are not told, so
-the report ends with `stuck 0`, and a wave that others' tasks or reduces left fewer slots is none of that master's.
+the report ends with `stuck 0`, and a wave that others' tasks or reduces left fewer slots is none of that master's, nor
+is what a job that plans ahead starts.
 """
 from __future__ import annotations
 
 import re
 from typing import Iterator
 
-from job import Attempt, Job
+from .placing import Attempt, Placing, Planned
+from .planner import Place
 
 
 class Names:
@@ -29,9 +31,11 @@ class Names:
 class History:
     """Lines of a script and of its report."""
 
-    def __init__(self, job: Job) -> None:
-        self.job, self.names, self.places, self.dead = job, Names(), 0, set()
-        self.script, self.report = [*self.head(), "begin"], []
+    def __init__(self, job: Placing) -> None:
+        self.job, self.names, self.places = job, Names(), 0
+        self.dead: set[str] = set()
+        self.script: list[str] = [*self.head(), "begin"]
+        self.report: list[str] = []
         for keyword, *of in job.events:
             getattr(self, keyword)(*of)
         self.script.append("end")
@@ -45,18 +49,24 @@ class History:
 
     def head(self) -> Iterator[str]:
         """The cluster as the job first saw it."""
-        seen = self.job.first
-        workers = dict(sorted(seen.workers.items(), key=lambda it: it[1].name))
-        places = {at: self.job.place_of(it.name) for at, it in workers.items()}
-        centre = lambda place: self.names.of("centre", place.centre)
-        rack = lambda place: self.names.of("rack", f"{place.rack} {place.centre}" if place.centre else place.rack)
+        seen, splits = self.job.first, self.job.splits
         yield "script 2"
-        yield from (f"centre {it}" for it in dict.fromkeys(map(centre, places.values())))
-        yield from (f"rack {rack(it)} {centre(it)}" for it in dict.fromkeys(places.values()))
-        yield from (f"worker {self.worker(at)} {rack(places[at])} {it.threads}" for at, it in workers.items())
-        for split in self.job.blocks.pieces:
-            held = map(self.worker, self.job.blocks.holders(split, seen))
-            yield " ".join([f"split {self.split(split)} {self.job.blocks.size(split)}", *held])
+        if seen is None:
+            return
+        workers = dict(sorted(seen.workers.items(), key=lambda it: it[1].name))
+        places = {at: self.job.topology.known[at] for at in workers}
+        yield from (f"centre {it}" for it in dict.fromkeys(map(self.centre, places.values())))
+        yield from (f"rack {self.rack(it)} {self.centre(it)}" for it in dict.fromkeys(places.values()))
+        yield from (f"worker {self.worker(at)} {self.rack(places[at])} {it.threads}" for at, it in workers.items())
+        for split, size in splits.bytes.items():
+            held = map(self.worker, splits.holders(split, seen))
+            yield " ".join([f"split {self.split(split)} {size}", *held])
+
+    def centre(self, place: Place) -> str:
+        return self.names.of("centre", place.centre)
+
+    def rack(self, place: Place) -> str:
+        return self.names.of("rack", f"{place.rack} {place.centre}" if place.centre else place.rack)
 
     def event(self, *words: str) -> None:
         """A command that is accepted."""
@@ -64,10 +74,14 @@ class History:
         self.script.append(" ".join(words))
         self.report.append(f"accepted {self.places}")
 
-    def wave(self, planned) -> None:
+    def wave(self, planned: Planned) -> None:
         self.event("wave")
         self.report.append(f"wave {len(planned.attempts)} {planned.cost}")
         self.report += [f"start {it.number} {self.split(it.split)} {self.worker(it.worker)}" for it in planned.attempts]
+
+    def backup(self, attempt: Attempt) -> None:
+        self.event("backup", self.split(attempt.split), self.worker(attempt.worker))
+        self.report.append(f"backup {attempt.number} {self.split(attempt.split)} {self.worker(attempt.worker)}")
 
     def done(self, attempt: Attempt) -> None:
         self.event("done", str(attempt.number))

@@ -1,11 +1,19 @@
-"""One wave, asked of `mrjob plan`: from what a client knows of its cluster to the starts of a best plan."""
+"""One wave, asked of a planner: from what a client knows of its cluster to the starts of a best plan.
+
+`planner_of` gives the C library in this process where that is there, else the program `mrjob`.
+"""
 from __future__ import annotations
 
+import os
 import shlex
+import shutil
 import subprocess
-import sys
+from collections import Counter
 from pathlib import Path
-from typing import NamedTuple
+from typing import Mapping, NamedTuple
+
+import mrjob_plan
+import mrjob_plan.library
 
 # What a wave may have at most (docs/MODEL.md).
 WORKERS, RACKS, CENTRES, SPLITS, HOLDERS, SLOTS, BYTES = 256, 32, 8, 1024, 8, 16, 67_108_864
@@ -13,6 +21,10 @@ WORKERS, RACKS, CENTRES, SPLITS, HOLDERS, SLOTS, BYTES = 256, 32, 8, 1024, 8, 16
 
 class Unfit(Exception):
     """The cluster is past what a wave may have, or an answer is no best plan: why, in a sentence."""
+
+
+class NoPlanner(Unfit):
+    """There is no library, or no program of that name."""
 
 
 class Place(NamedTuple):
@@ -46,7 +58,7 @@ class Plan(NamedTuple):
     unit: int
 
 
-def distance(places: dict[str, Place], one: str, other: str) -> int:
+def distance(places: Mapping[str, Place], one: str, other: str) -> int:
     """Steps between two workers: 0, 2 in a rack, 4 between racks, 6 between centres."""
     if one == other:
         return 0
@@ -54,7 +66,7 @@ def distance(places: dict[str, Place], one: str, other: str) -> int:
     return 2 if a == b else 4 if a.centre == b.centre else 6
 
 
-def nearest(places: dict[str, Place], worker: str, holders: list[str]) -> str:
+def nearest(places: Mapping[str, Place], worker: str, holders: list[str]) -> str:
     """The holder from which a worker reads: of several at the same distance, any, but always the same."""
     return min(holders, key=lambda it: (distance(places, it, worker), it))
 
@@ -67,9 +79,19 @@ def wave_of(places: dict[str, Place], slots: dict[str, int], splits: dict[str, S
     ):
         if number > most:
             raise Unfit(f"there are {number} {kind}, and a wave has at most {most}")
+    free = {worker: min(SLOTS, slots.get(worker, 0)) for worker in places}
     held = [name for name, split in splits.items() if split.holders][:SPLITS]
-    few = {name: splits[name]._replace(holders=splits[name].holders[:HOLDERS]) for name in held}
-    return Wave(places, {worker: min(SLOTS, slots.get(worker, 0)) for worker in places}, few)
+    return Wave(places, free, {name: within_holders(splits[name], free) for name in held})
+
+
+def within_holders(split: Split, free: dict[str, int]) -> Split:
+    """The split with as many holders as it may have, those that have free slots first."""
+    if len(split.holders) <= HOLDERS:
+        return split
+    return split._replace(holders=sorted(split.holders, key=lambda it: not free[it])[:HOLDERS])
+
+
+HOW_TO_BUILD = "in a checkout of mrjob `make quick` builds bin/mrjob without its proofs, `make` with them"
 
 
 class Planner:
@@ -95,11 +117,26 @@ class Planner:
         raise NotImplementedError
 
 
+class RarestFirst(Planner):
+    """Asks another planner, which takes the first of equal splits, with those in front that are hardest to start on a
+    holder later: of whose holders even the one with the fewest pending splits has many. Over a job this moves less."""
+
+    def __init__(self, planner: Planner) -> None:
+        self.planner = planner
+
+    def plan(self, wave: Wave) -> Plan:
+        load = Counter(holder for split in wave.splits.values() for holder in split.holders)
+        order = sorted(wave.splits, key=lambda it: -min(load[holder] for holder in wave.splits[it].holders))
+        return self.planner.plan(wave._replace(splits={split: wave.splits[split] for split in order}))
+
+
 class Command(Planner):
     """Asks a command, in words of a shell line such as `bin/mrjob plan`, and, if wanted, the same program's `check`."""
 
     def __init__(self, words: str, is_checked: bool = False) -> None:
         self.plan_words = shlex.split(words)
+        if not self.plan_words or shutil.which(self.plan_words[0]) is None:
+            raise NoPlanner(f"`{words}` is no command that is there; {HOW_TO_BUILD}")
         self.check_words: list[str] = []
         if is_checked:
             self.plan_words.append("--prices")
@@ -141,32 +178,44 @@ def head_lines(wave: Wave, units: dict[str, int]) -> list[str]:
 
 
 class Library(Planner):
-    """Calls the C library in this process, by the Python package of this repository, or of the system."""
+    """Calls the C library in this process."""
 
     def __init__(self, is_checked: bool = False) -> None:
-        package = Path(__file__).resolve().parents[2] / "python"
-        if package.is_dir() and str(package) not in sys.path:
-            sys.path.append(str(package))
-        import mrjob_plan.library
-
-        mrjob_plan.library.load()
-        self.mrjob, self.is_checked = mrjob_plan, is_checked
+        try:
+            mrjob_plan.library.load()
+        except ImportError as why:
+            raise NoPlanner(str(why)) from None
+        self.is_checked = is_checked
 
     def ask(self, wave: Wave, units: dict[str, int]) -> tuple[dict[str, str], int]:
-        workers = {it: self.mrjob.Worker(place, wave.slots[it]) for it, place in wave.places.items()}
-        racks = {place: place.centre for place in wave.places.values()}
-        cluster = self.mrjob.Cluster(workers, racks)
+        workers = {it: mrjob_plan.Worker(place, wave.slots[it]) for it, place in wave.places.items()}
+        cluster = mrjob_plan.Cluster(workers, {place: place.centre for place in wave.places.values()})
         splits = {
-            name: self.mrjob.Split(units[name], it.holders, barred=it.barred) for name, it in wave.splits.items()
+            name: mrjob_plan.Split(units[name], it.holders, barred=it.barred) for name, it in wave.splits.items()
         }
-        best = self.mrjob.plan(cluster, splits)
+        best = mrjob_plan.plan(cluster, splits)
         if self.is_checked:
-            verdict = self.mrjob.check(cluster, splits, best.starts, best.prices)
+            verdict = mrjob_plan.check(cluster, splits, best.starts, best.prices)
             if not verdict:
                 raise Unfit(f"a check of the plan says that {verdict}")
         return best.starts, best.cost
 
 
-def planner_of(words: str, is_checked: bool = False) -> Planner:
-    """The planner that `--planner` names: `library`, or the words of a command."""
-    return Library(is_checked) if words == "library" else Command(words, is_checked)
+def program() -> str:
+    """The program `mrjob`: where the variable MRJOB says, on the path of commands, or in the checkout. Else nothing."""
+    checkout = Path(__file__).resolve().parent.parent.parent
+    there = [os.environ.get("MRJOB", ""), shutil.which("mrjob") or "", str(checkout / "bin/mrjob")]
+    return next((it for it in there if it and os.access(it, os.X_OK)), "")
+
+
+def planner_of(words: str = "", is_checked: bool = False) -> Planner:
+    """The planner that is named: `library`, or the words of a command such as `bin/mrjob plan`. Without words it is the
+    library where that is there, else the program. Raises NoPlanner where there is neither."""
+    if words and words != "library":
+        return Command(words, is_checked)
+    try:
+        return Library(is_checked)
+    except NoPlanner as why:
+        if words or not program():
+            raise NoPlanner(f"{why}; {HOW_TO_BUILD}") from None
+    return Command(f"{shlex.quote(program())} plan", is_checked)

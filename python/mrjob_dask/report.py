@@ -4,10 +4,12 @@ from __future__ import annotations
 import json
 import sys
 from collections import Counter
+from typing import Any
 
-from calls import sent_keys
-from job import Job
-from planner import distance
+from .calls import sent
+from .job import Job
+from .placing import Placing
+from .planner import distance
 
 
 def progress(job: Job) -> None:
@@ -15,46 +17,47 @@ def progress(job: Job) -> None:
     if sys.stderr.isatty():
         ends = Counter(it.end for it in job.attempts)
         print(
-            f"\rwave {len(job.waves)}, maps {ends['done']} of {len(job.blocks.pieces)}, lost {ends['lost']},"
+            f"\rwave {len(job.waves)}, maps {ends['done']} of {len(job.splits.bytes)}, lost {ends['lost']},"
             f" parts {len(job.results)} of {job.work.parts} ", end="", file=sys.stderr, flush=True,
         )
 
 
 def outputs_carried(job: Job) -> dict[int, int]:
     """The bytes of map outputs that workers who still live sent one another, by distance."""
-    places = {address: job.place_of(name) for address, name in job.names.items()}
+    places = job.topology.known
     carried: Counter[int] = Counter()
-    for key, sender, receiver, size in sent_keys(job.client):
+    for key, sender, receiver, size in sent(job.client):
         if key.startswith(job.part_key) and receiver in places:
             carried[distance(places, sender, receiver)] += size
     return dict(sorted(carried.items()))
 
 
-def blocks_carried(job: Job) -> dict[int, int]:
+def blocks_carried(job: Placing) -> dict[int, int]:
     """The bytes of the blocks that maps were to read, by distance; 0 is a read on a holder."""
     carried: Counter[int] = Counter()
     for it in job.attempts:
-        carried[it.steps] += job.blocks.size(it.split)
+        carried[it.steps] += job.splits.bytes[it.split]
     return dict(sorted(carried.items()))
 
 
 def report_lines(job: Job) -> list[str]:
     """A line for each wave, for each start, and for the whole."""
-    name = lambda address: job.names.get(address, address)
-    rows = [
+    name = job.names
+    rows: list[dict[str, Any]] = [
         dict(wave=number, pending=len(it.wave.splits), slots=sum(it.wave.slots.values()), starts=len(it.attempts),
              cost=it.cost)
         for number, it in enumerate(job.waves, 1)
     ]
     rows += [
-        dict(attempt=it.number, wave=it.wave, split=it.split, worker=name(it.worker), source=name(it.source),
-             distance=it.steps, bytes=job.blocks.size(it.split), end=it.end)
+        dict(attempt=it.number, wave=it.wave, split=it.split, worker=name[it.worker], source=name[it.source],
+             distance=it.steps, bytes=job.splits.bytes[it.split], end=it.end)
         for it in job.attempts
     ]
     ends = Counter(it.end for it in job.attempts)
     rows.append(
         dict(waves=len(job.waves), starts=len(job.attempts), lost=ends["lost"], failed=ends["failed"],
              cost=sum(it.cost for it in job.waves), copies=sum(it[0] == "add" for it in job.events),
+             backups=sum(it[0] == "backup" for it in job.events),
              blocks_carried=blocks_carried(job), outputs_carried=outputs_carried(job))
     )
     return [json.dumps(row) for row in rows]

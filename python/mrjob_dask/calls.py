@@ -1,0 +1,232 @@
+"""What is asked of a running Dask cluster: each call is one step of its scheduler, or runs on its workers.
+
+Nothing is installed on the cluster and nothing is set there, so nothing is left where a client dies: what a job holds
+are keys, and the scheduler lets go of a client's keys with the client.
+"""
+from __future__ import annotations
+
+import asyncio
+import time
+import uuid
+from typing import Any, Callable, Iterable, Mapping, NamedTuple, Sequence
+
+import cloudpickle
+from dask.highlevelgraph import HighLevelGraph, MaterializedLayer
+from distributed import Client, Future, get_worker
+from distributed.core import clean_exception
+from distributed.utils import offload, sync
+from distributed.worker import get_data_from_worker
+
+from .topology import host_of
+
+# So many bytes of a document or a file from an offset on: its name, the offset, the length.
+Piece = tuple[str, int, int]
+
+
+class Seen(NamedTuple):
+    """A live worker: its name, the threads on which tasks may start, none while it is paused, and how many tasks it
+    has that are not of the mark for which was looked."""
+
+    name: str
+    threads: int
+    others: int
+
+
+class Look:
+    """The live workers by address, the marked keys that no worker is left for, and who holds the keys asked for."""
+
+    def __init__(self, workers: dict[str, Seen], aside: list[str], holders: dict[str, list[str]]) -> None:
+        self.workers, self.aside, self.holders = workers, {*aside}, holders
+        self.on: dict[str, list[str]] = {}
+        for address, worker in workers.items():
+            for node in {worker.name, host_of(address), address}:
+                self.on.setdefault(node, []).append(address)
+
+    def at(self, nodes: Iterable[str]) -> list[str]:
+        """The workers of these names, hosts or addresses."""
+        return [*dict.fromkeys(address for node in nodes for address in self.on.get(node, ()))]
+
+
+def look(client: Client, mark: str = "", keys: Sequence[str] = ()) -> Look:
+    """One undivided look at the scheduler. A mark is what the keys of one job begin with."""
+
+    def seen(mark: str, keys: list[str], dask_scheduler: Any) -> Any:
+        is_own = lambda task: bool(mark) and str(task.key).startswith(mark)
+        threads = lambda worker: worker.nthreads if worker.status.name == "running" else 0
+        others = lambda worker: sum(not is_own(task) for task in worker.processing)
+        workers = {at: (str(it.name), threads(it), others(it)) for at, it in dask_scheduler.workers.items()}
+        tasks = [dask_scheduler.tasks[key] for key in keys if key in dask_scheduler.tasks]
+        return (
+            workers,
+            [task.key for task in dask_scheduler.unrunnable if is_own(task)],
+            {task.key: [it.address for it in task.who_has] for task in tasks},
+        )
+
+    workers, aside, holders = client.run_on_scheduler(seen, mark, [*keys])
+    return Look({address: Seen(*it) for address, it in workers.items()}, aside, holders)
+
+
+class Call(NamedTuple):
+    """A function with its arguments, among which are futures, and the worker on which it is called."""
+
+    worker: str
+    function: Callable[..., Any]
+    arguments: list[Any]
+
+
+def start(client: Client, calls: Mapping[str, Call]) -> list[Future]:
+    """Starts calls by their keys, in one message, each on its worker and nowhere else."""
+    tasks = {key: (it.function, *it.arguments) for key, it in calls.items()}
+    layer = MaterializedLayer(tasks, annotations={"workers": lambda key: [calls[key].worker]})
+    futures: list[Future] = client.get(HighLevelGraph({"mrjob": layer}, {"mrjob": set()}), [*calls], sync=False)
+    return futures
+
+
+def sizes(client: Client, keys: Sequence[str]) -> dict[str, tuple[int, int]]:
+    """The bytes of keys in memory, and how many workers hold each."""
+
+    def sized(keys: list[str], dask_scheduler: Any) -> dict[str, tuple[int, int]]:
+        tasks = [dask_scheduler.tasks[key] for key in keys if key in dask_scheduler.tasks]
+        return {task.key: (max(0, task.nbytes), len(task.who_has)) for task in tasks}
+
+    answer: dict[str, tuple[int, int]] = client.run_on_scheduler(sized, [*keys])
+    return answer
+
+
+def free(client: Client, keys: Sequence[str]) -> None:
+    """Lets tasks that were bound to one worker be made again elsewhere, should that worker die."""
+
+    def freed(keys: list[str], dask_scheduler: Any) -> None:
+        for task in (dask_scheduler.tasks[key] for key in keys if key in dask_scheduler.tasks):
+            task.loose_restrictions = True
+
+    client.run_on_scheduler(freed, [*keys])
+
+
+def hold(client: Client, futures: Sequence[Future], replicas: int) -> list[Future]:
+    """Keeps so many replicas of keys, whatever the cluster's active memory manager does, for as long as the answer is
+    kept: it drops no replica for which a task waits, and these tasks wait for a resource that no worker has."""
+    keys = [f"mrjob-hold-{uuid.uuid4().hex[:8]}-{number}" for number in range(replicas)]
+    held = [client.submit(lambda *_: None, *futures, key=key, resources={"mrjob-hold": 1}) for key in keys]
+
+    async def known(keys: list[str], dask_scheduler: Any) -> None:
+        while not all(key in dask_scheduler.tasks for key in keys):
+            await asyncio.sleep(0.01)
+
+    client.run_on_scheduler(known, keys)
+    return held
+
+
+class Copy(NamedTuple):
+    """A key that is brought from a worker to another."""
+
+    key: str
+    source: str
+    worker: str
+
+
+def bring(client: Client, copies: list[Copy]) -> set[str]:
+    """Brings keys, each from the worker that is named. The keys that did not come, as from a busy or a dead one."""
+
+    async def brought(copies: list[tuple[str, str, str]], dask_scheduler: Any) -> set[str]:
+        # (a connection to a dead worker would be tried for half a minute)
+        live = [it for it in copies if it[1] in dask_scheduler.workers and it[2] in dask_scheduler.workers]
+        calls = (dask_scheduler.gather_on_worker(to, {key: [at]}) for key, at, to in live)
+        said = await asyncio.gather(*calls, return_exceptions=True)
+        failed = {it[0] for it, missed in zip(live, said) if missed}
+        return failed | {it[0] for it in copies} - {it[0] for it in live}
+
+    missed: set[str] = client.run_on_scheduler(brought, [tuple(it) for it in copies])
+    return missed
+
+
+# ---- in tasks ----
+
+
+def as_it_is(block: Any) -> Any:
+    """A block that Dask gives to its map."""
+    return block
+
+
+def read_key(source: str, key: str) -> Any:
+    """What a worker holds as a key, from there and from nowhere else; it is asked again while it is busy."""
+    worker = get_worker()
+
+    async def asked() -> Any:
+        while True:
+            answer = await get_data_from_worker(worker.rpc, [key], source, who=worker.address)
+            if answer["status"] == "OK":
+                return answer["data"][key]
+            await asyncio.sleep(0.05)
+
+    return sync(worker.loop, asked)
+
+
+def read_here(pieces: list[Piece]) -> bytes:
+    """The bytes of pieces of files on this worker's disk, relative ones from where it was started."""
+    data = bytearray()
+    for file, offset, length in pieces:
+        with open(file, "rb") as opened:
+            opened.seek(offset)
+            data += opened.read(length)
+    if len(data) != sum(length for _, _, length in pieces):
+        raise EOFError(f"{pieces[0][0]} is shorter than its block")
+    return bytes(data)
+
+
+async def serve_pieces(reader: str, pieces: list[Piece], dask_worker: Any) -> bytes:
+    """On the worker whose disk it is: what another one reads, which stands in the log of what this one sent."""
+    began = time.time()
+    data: bytes = await offload(read_here, pieces)
+    ended = time.time()
+    entry = dict(start=began, stop=ended, middle=(began + ended) / 2, duration=ended - began, who=reader,
+                 keys={piece_key(pieces[0]): len(data)}, total=len(data), compressed=len(data), bandwidth=None)
+    dask_worker.transfer_outgoing_log.append(entry)
+    return data
+
+
+def piece_key(piece: Piece) -> str:
+    """What the senders' logs call a block of files."""
+    return f"{piece[0]}@{piece[1]}"
+
+
+def read_files(source: str, pieces: list[Piece]) -> bytes:
+    """A block's bytes from the disk of a worker, of this one or another."""
+    worker = get_worker()
+    if worker.address == source:
+        return read_here(pieces)
+    words = cloudpickle.dumps(serve_pieces), cloudpickle.dumps((worker.address, pieces))
+
+    async def asked() -> Any:
+        return await worker.rpc(source).run(function=words[0], args=words[1])
+
+    answer = sync(worker.loop, asked)
+    if answer["status"] != "OK":
+        raise OSError(f"{source}: {clean_exception(**answer)[1]}")
+    return bytes(answer["result"])
+
+
+# ---- what was sent ----
+
+
+class Sent(NamedTuple):
+    """A key, or a block of files, that a worker sent to another."""
+
+    key: str
+    sender: str
+    receiver: str
+    bytes: int
+
+
+def sent(client: Client) -> list[Sent]:
+    """What live workers sent one another so far, by their own logs."""
+
+    def logged(dask_worker: Any) -> list[tuple[str, dict[str, int]]]:
+        return [(it["who"], dict(it["keys"])) for it in dask_worker.transfer_outgoing_log]
+
+    return [
+        Sent(key, sender, receiver, size)
+        for sender, log in client.run(logged).items()
+        for receiver, keys in log
+        for key, size in keys.items()
+    ]

@@ -1,0 +1,426 @@
+"""A live master beside a scheduler: `mrjob serve` over a pipe.
+
+    lines = head(Cluster({"a": Worker("r"), "b": Worker("r")}), {"s": Split(10, ["a"])})
+    with Master(lines, log="job.log") as master:
+        start, = master.wave().starts
+        master.done(start.attempt)
+
+Each call is answered before it returns, and any number of threads may call. A call that the master refuses raises
+Ignored or Faulty, and changes nothing. `workers`, `open_work` and `outputs` ask how the master stands. `AsyncMaster`
+has the same calls to be awaited. With a log each line that asks nothing is kept before it is sent: where the master or
+its client has ended, `Master.recover` tells the log to a new master, which comes to where the old one was. A log with
+its `end` is a script for `mrjob play`.
+"""
+import asyncio
+import os
+import subprocess
+import threading
+from asyncio.subprocess import Process
+from pathlib import Path
+from types import TracebackType
+from typing import BinaryIO, Iterable, List, Optional, Sequence, Tuple, Type, TypeVar, Union
+
+from . import calls
+from .calls import QUERIES, Call, Copy, Ended, Faulty, Ignored, OpenWork, Reduce, Standing, Start, Wave, head
+
+__all__ = ["AsyncMaster", "Copy", "Ended", "Faulty", "Ignored", "Master", "MasterEnded", "NoSession", "OpenWork"]
+__all__ += ["Reduce", "Standing", "Start", "Wave", "head"]
+
+T = TypeVar("T")
+Place = Union[str, "os.PathLike[str]"]
+
+# A line of an index has at most so many bytes.
+MOST_BYTES = 1 << 24
+
+
+class MasterEnded(Exception):
+    """The master gave no whole answer, since it has ended with this status. What it was told last may have been done;
+    its log has it, so that a new master does it."""
+
+    def __init__(self, status: int) -> None:
+        super().__init__(f"the master ended with status {status}")
+        self.status = status
+
+
+class NoSession(ValueError):
+    """The head of a session has a fault; the words name its line."""
+
+
+class Log:
+    """The lines that a master is told, but for queries, each put there before it is sent. With no path they are kept
+    nowhere."""
+
+    def __init__(self, path: Optional[Place], durable: bool, is_new: bool) -> None:
+        self.file: Optional[BinaryIO] = None if path is None else open(path, "xb" if is_new else "r+b")
+        self.durable = durable
+
+    def whole_lines(self) -> List[str]:
+        """What it has; a line that was cut off was never sent, and goes."""
+        assert self.file is not None
+        text = self.file.read()
+        whole = text[: text.rfind(b"\n") + 1]
+        self.file.truncate(len(whole))
+        self.file.seek(len(whole))
+        return whole.decode().split("\n")[:-1]
+
+    def keep(self, text: bytes) -> None:
+        if self.file:
+            self.file.write(text)
+            self.file.flush()
+            if self.durable:
+                os.fsync(self.file.fileno())
+
+    def close(self) -> None:
+        if self.file:
+            self.file.close()
+
+
+def sent(lines: Iterable[str]) -> bytes:
+    return "".join(f"{line}\n" for line in lines).encode()
+
+
+def is_query(lines: Sequence[str]) -> bool:
+    """A query is put into no log, as it changes nothing."""
+    return len(lines) == 1 and lines[0] in QUERIES
+
+
+def opened(answer: Sequence[str]) -> None:
+    if answer:
+        raise NoSession(answer[0])
+
+
+def parted(log: Sequence[str], path: Place) -> Tuple[Sequence[str], Sequence[str]]:
+    """The head with its `begin`, and the calls after it."""
+    if "begin" not in log:
+        raise NoSession(f"{os.fspath(path)}: there is no line 'begin'")
+    return log[: log.index("begin") + 1], log[log.index("begin") + 1 :]
+
+
+class Master:
+    """A master of the job that a head declares: the lines of a script up to its `begin`, without it.
+
+    `log` is a file that must not be there yet; with `durable` each of its lines is on the disk before it is sent.
+    Leaving `with` closes the pipe, and the master ends by itself; `status` is then what it ended with.
+    """
+
+    def __init__(
+        self, head: Iterable[str], *, program: str = "mrjob", log: Optional[Place] = None, durable: bool = False
+    ) -> None:
+        self._begin(program, Log(log, durable, True))
+        try:
+            opened(self._told([*head, "begin"]))
+        except BaseException:
+            self.close()
+            raise
+
+    @classmethod
+    def recover(cls, log: Place, *, program: str = "mrjob", durable: bool = False) -> "Master":
+        """A new master that was told a log, and goes on with it. `told` has each line with its answer: of the last one
+        the old master may not have answered."""
+        master = cls.__new__(cls)
+        master._begin(program, Log(log, durable, False))
+        try:
+            first, rest = parted(master._log.whole_lines(), log)
+            writer = threading.Thread(target=master._write, args=(sent([*first, *rest]),), daemon=True)
+            writer.start()
+            opened(master._answer())
+            master.told = [(line, master._answer()) for line in rest]
+            writer.join()
+        except BaseException:
+            master.close()
+            raise
+        return master
+
+    def _begin(self, program: str, log: Log) -> None:
+        self.told: List[Tuple[str, List[str]]] = []
+        self.status: Optional[int] = None
+        self._log, self._turn = log, threading.Lock()
+        try:
+            self._process = subprocess.Popen([program, "serve"], stdin=subprocess.PIPE, stdout=subprocess.PIPE)
+        except BaseException:
+            log.close()
+            raise
+
+    def _told(self, lines: Sequence[str]) -> List[str]:
+        text = sent(lines)
+        if not is_query(lines):
+            self._log.keep(text)
+        self._write(text)
+        return self._answer()
+
+    def _write(self, text: bytes) -> None:
+        assert self._process.stdin is not None
+        try:
+            self._process.stdin.write(text)
+            self._process.stdin.flush()
+        except BrokenPipeError:
+            pass  # (it has ended, and reading on tells so)
+
+    def _answer(self) -> List[str]:
+        assert self._process.stdout is not None
+        lines: List[str] = []
+        while True:
+            line = self._process.stdout.readline()
+            if line == b"\n":
+                return lines
+            if not line.endswith(b"\n"):
+                raise MasterEnded(self._process.wait())
+            lines.append(line[:-1].decode())
+
+    def tell(self, line: str) -> List[str]:
+        """The lines of the answer to a line, whatever it is."""
+        if "\n" in line:
+            raise ValueError("a line has no line feed")
+        with self._turn:
+            if self.status is not None:
+                raise MasterEnded(self.status)
+            try:
+                answer = self._told([line])
+            except BaseException:  # (whose answer was not read, so no other could be)
+                self.kill()
+                raise
+            if line == "end":
+                self.status = self._process.wait()
+            return answer
+
+    def do(self, call: Call[T]) -> T:
+        return call.answered(self.tell(call.line))
+
+    def wave(self) -> Wave:
+        """Starts as many pending splits as any admissible assignment can, at the least byte-distance."""
+        return self.do(calls.wave())
+
+    def done(self, attempt: int) -> None:
+        """An attempt of a split or of a part is done."""
+        self.do(calls.done(attempt))
+
+    def fail(self, attempt: int) -> None:
+        """An attempt failed; a split does not start on that worker again."""
+        self.do(calls.fail(attempt))
+
+    def withdraw(self, attempt: int) -> None:
+        """An attempt of a split was not begun."""
+        self.do(calls.withdraw(attempt))
+
+    def die(self, worker: str) -> None:
+        self.do(calls.die(worker))
+
+    def join(self, worker: str, splits: Iterable[str] = ()) -> None:
+        """A dead worker returns with these splits."""
+        self.do(calls.join(worker, splits))
+
+    def add(self, split: str, worker: str) -> None:
+        """A worker holds a split more."""
+        self.do(calls.add(split, worker))
+
+    def lose(self, split: str, worker: str) -> None:
+        """A worker holds a split less."""
+        self.do(calls.lose(split, worker))
+
+    def sweep(self, beats: Iterable[int]) -> Tuple[str, ...]:
+        """The workers that die by a sweep; `beats` has a count for each worker, in the order of the head."""
+        return self.do(calls.sweep(beats))
+
+    def reduce(self) -> Reduce:
+        """Starts the lowest pending part, once all splits are done."""
+        return self.do(calls.reduce())
+
+    def backup(self, split: str, worker: str) -> Start:
+        """Starts a second attempt of a split that runs."""
+        return self.do(calls.backup(split, worker))
+
+    def copies(self) -> Tuple[Copy, ...]:
+        """The copies that bring each split to its target of holders; nothing changes."""
+        return self.do(calls.copies())
+
+    def workers(self) -> Tuple[Standing, ...]:
+        """How each worker stands, in the order of the head. This and the next two ask, and change nothing."""
+        return self.do(calls.workers())
+
+    def open_work(self) -> OpenWork:
+        """The splits and parts that are not done, with the attempts that run."""
+        return self.do(calls.open_work())
+
+    def outputs(self) -> Tuple[Start, ...]:
+        """Of each split that is done the accepted attempt, and the worker on which it ran."""
+        return self.do(calls.outputs())
+
+    def end(self) -> Ended:
+        """Ends the session: the index, or what is open."""
+        return self.do(calls.end())
+
+    def kill(self) -> None:
+        """Ends the master as a crash does; each later call raises MasterEnded."""
+        self._process.kill()
+
+    def close(self) -> None:
+        for stream in (self._process.stdin, self._process.stdout):
+            assert stream is not None
+            try:
+                stream.close()
+            except BrokenPipeError:
+                pass
+        self.status = self._process.wait()
+        self._log.close()
+
+    def __enter__(self) -> "Master":
+        return self
+
+    def __exit__(
+        self, kind: Optional[Type[BaseException]], error: Optional[BaseException], at: Optional[TracebackType]
+    ) -> None:
+        self.close()
+
+
+class AsyncMaster:
+    """The calls of Master, each to be awaited; made by `await AsyncMaster.open(head)` or `recover(log)`."""
+
+    def __init__(self, process: Process, log: Log) -> None:
+        self.told: List[Tuple[str, List[str]]] = []
+        self.status: Optional[int] = None
+        self._process, self._log, self._turn = process, log, asyncio.Lock()
+
+    @classmethod
+    async def _begin(cls, program: str, log: Log) -> "AsyncMaster":
+        pipe = asyncio.subprocess.PIPE
+        try:
+            process = await asyncio.create_subprocess_exec(program, "serve", stdin=pipe, stdout=pipe, limit=MOST_BYTES)
+        except BaseException:
+            log.close()
+            raise
+        return cls(process, log)
+
+    @classmethod
+    async def open(
+        cls, head: Iterable[str], *, program: str = "mrjob", log: Optional[Place] = None, durable: bool = False
+    ) -> "AsyncMaster":
+        master = await cls._begin(program, Log(log, durable, True))
+        try:
+            opened(await master._told([*head, "begin"]))
+        except BaseException:
+            await master.close()
+            raise
+        return master
+
+    @classmethod
+    async def recover(cls, log: Place, *, program: str = "mrjob", durable: bool = False) -> "AsyncMaster":
+        master = await cls._begin(program, Log(log, durable, False))
+        try:
+            first, rest = parted(master._log.whole_lines(), log)
+            writing = asyncio.ensure_future(master._write(sent([*first, *rest])))
+            opened(await master._answer())
+            master.told = [(line, await master._answer()) for line in rest]
+            await writing
+        except BaseException:
+            await master.close()
+            raise
+        return master
+
+    async def _told(self, lines: Sequence[str]) -> List[str]:
+        text = sent(lines)
+        if not is_query(lines):
+            self._log.keep(text)
+        await self._write(text)
+        return await self._answer()
+
+    async def _write(self, text: bytes) -> None:
+        assert self._process.stdin is not None
+        try:
+            self._process.stdin.write(text)
+            await self._process.stdin.drain()
+        except (BrokenPipeError, ConnectionResetError):
+            pass  # (it has ended, and reading on tells so)
+
+    async def _answer(self) -> List[str]:
+        assert self._process.stdout is not None
+        lines: List[str] = []
+        while True:
+            line = await self._process.stdout.readline()
+            if line == b"\n":
+                return lines
+            if not line.endswith(b"\n"):
+                raise MasterEnded(await self._process.wait())
+            lines.append(line[:-1].decode())
+
+    async def tell(self, line: str) -> List[str]:
+        if "\n" in line:
+            raise ValueError("a line has no line feed")
+        # (a caller that is cancelled leaves no answer unread)
+        return await asyncio.shield(self._tell(line))
+
+    async def _tell(self, line: str) -> List[str]:
+        async with self._turn:
+            if self.status is not None:
+                raise MasterEnded(self.status)
+            answer = await self._told([line])
+            if line == "end":
+                self.status = await self._process.wait()
+            return answer
+
+    async def do(self, call: Call[T]) -> T:
+        return call.answered(await self.tell(call.line))
+
+    async def wave(self) -> Wave:
+        return await self.do(calls.wave())
+
+    async def done(self, attempt: int) -> None:
+        await self.do(calls.done(attempt))
+
+    async def fail(self, attempt: int) -> None:
+        await self.do(calls.fail(attempt))
+
+    async def withdraw(self, attempt: int) -> None:
+        await self.do(calls.withdraw(attempt))
+
+    async def die(self, worker: str) -> None:
+        await self.do(calls.die(worker))
+
+    async def join(self, worker: str, splits: Iterable[str] = ()) -> None:
+        await self.do(calls.join(worker, splits))
+
+    async def add(self, split: str, worker: str) -> None:
+        await self.do(calls.add(split, worker))
+
+    async def lose(self, split: str, worker: str) -> None:
+        await self.do(calls.lose(split, worker))
+
+    async def sweep(self, beats: Iterable[int]) -> Tuple[str, ...]:
+        return await self.do(calls.sweep(beats))
+
+    async def reduce(self) -> Reduce:
+        return await self.do(calls.reduce())
+
+    async def backup(self, split: str, worker: str) -> Start:
+        return await self.do(calls.backup(split, worker))
+
+    async def copies(self) -> Tuple[Copy, ...]:
+        return await self.do(calls.copies())
+
+    async def workers(self) -> Tuple[Standing, ...]:
+        return await self.do(calls.workers())
+
+    async def open_work(self) -> OpenWork:
+        return await self.do(calls.open_work())
+
+    async def outputs(self) -> Tuple[Start, ...]:
+        return await self.do(calls.outputs())
+
+    async def end(self) -> Ended:
+        return await self.do(calls.end())
+
+    def kill(self) -> None:
+        self._process.kill()
+
+    async def close(self) -> None:
+        assert self._process.stdin is not None
+        self._process.stdin.close()
+        self.status = await self._process.wait()
+        self._log.close()
+
+    async def __aenter__(self) -> "AsyncMaster":
+        return self
+
+    async def __aexit__(
+        self, kind: Optional[Type[BaseException]], error: Optional[BaseException], at: Optional[TracebackType]
+    ) -> None:
+        await self.close()
