@@ -2,10 +2,13 @@
 """Writes the problems on which plans are timed, the same ones each time: 1,024 splits and up to 256 workers, or fewer.
 
     make_problems.py SHAPE [SPLITS [CENTRES [WORKERS]]]
+    make_problems.py drawn SEED
 
-writes the text of one shape, with so many splits, a multiple of 128, its racks in so many data centres, and so many
-workers, a multiple of 16; with 1,024, 1 and a worker for each four splits where these are not given. Without an
-argument it writes the names of the shapes.
+The first writes the text of one shape, with so many splits, a multiple of 128, its racks in so many data centres, and
+so many workers, a multiple of 16; with 1,024, 1 and a worker for each four splits where these are not given. The second
+writes a problem of 1,024 splits and 256 workers of which all else is drawn: racks, data centres, slots too few, as many
+as splits or more, holders and where they may be, barred pairs of no split, of one, of some or of all, and bytes. Without
+an argument it writes the names of the shapes.
 """
 import random
 import sys
@@ -88,9 +91,65 @@ def bars(shape, number, splits, count, holders, rnd):
     return rnd.sample(range(count), 3) if number * SPLITS < BARRED.get(shape, 0) * splits else []
 
 
+# What is drawn: one word of each row, a word that stands twice more often.
+RACKS = (1, 3, 8, 32, 32)
+CENTRES = (1, 1, 2, 4, 8)
+HOLDER_COUNTS = {"one": lambda rnd: 1, "three": lambda rnd: 3, "eight": lambda rnd: 8, "any": lambda rnd: rnd.randint(0, 8)}
+HELD_AMONG = (256, 256, 64, 16)
+SLOTS = {
+    "short": lambda rnd: 2,
+    "equal": lambda rnd: 4,
+    "plenty": lambda rnd: rnd.randint(4, 12),
+    "mixed": lambda rnd: rnd.randint(0, 8),
+}
+SIZES = {
+    "equal": lambda rnd: BLOCK,
+    "drawn": lambda rnd: rnd.randint(0, BLOCK),
+    "powers": lambda rnd: 1 << rnd.randrange(27),
+    "zero": lambda rnd: 0,
+    "small": lambda rnd: rnd.randrange(4),
+    "three": lambda rnd: BLOCK >> rnd.randrange(3),
+}
+# How many splits have barred pairs, and how many at most each.
+BARS = {
+    "none": lambda rnd: (0, 0),
+    "one_split": lambda rnd: (1, 255),
+    "one_each": lambda rnd: (SPLITS, 1),
+    "few": lambda rnd: (SPLITS // 4, 3),
+    "few_of_many": lambda rnd: (SPLITS // 16, 128),
+    "many": lambda rnd: (SPLITS, rnd.choice([3, 8, 32, 100])),
+}
+
+
+def drawn(seed):
+    """The lines of a drawn problem."""
+    rnd = random.Random(f"drawn {seed}")
+    racks = rnd.choice(RACKS)
+    centres = min(racks, rnd.choice(CENTRES))
+    used = racks if rnd.random() < 0.7 else min(racks, 3)
+    among = rnd.choice(HELD_AMONG)
+    slots = SLOTS[rnd.choice(["short", "equal", "equal", "plenty", "mixed"])]
+    holders = HOLDER_COUNTS[rnd.choice(["one", "three", "eight", "any", "any"])]
+    size = SIZES[rnd.choice(["equal", "drawn", "drawn", "powers", "zero", "small", "three"])]
+    barred, most = BARS[rnd.choice(["none", "one_split", "one_each", "few", "few_of_many", "many", "many"])](rnd)
+    yield from ["problem 2", *(f"centre c{c}" for c in range(centres))]
+    yield from (f"rack r{r} c{rnd.randrange(centres)}" for r in range(racks))
+    yield from (f"worker w{w} r{rnd.randrange(used)} {slots(rnd)}" for w in range(256))
+    has_bars = set(rnd.sample(range(SPLITS), barred))
+    for s in range(SPLITS):
+        held = rnd.sample(range(among), holders(rnd))
+        yield " ".join([f"split s{s} {size(rnd)}"] + [f"w{w}" for w in held])
+        if s in has_bars:
+            yield from (f"barred s{s} w{w}" for w in rnd.sample(range(256), rnd.randint((most + 1) // 2, most)))
+    yield "end"
+
+
 def main():
     if len(sys.argv) == 1:
         print(*SHAPES, sep="\n")
+        return
+    if sys.argv[1] == "drawn":
+        print(*drawn(int(sys.argv[2])), sep="\n")
         return
     shape, splits = sys.argv[1], int(sys.argv[2]) if len(sys.argv) > 2 else SPLITS
     centres = int(sys.argv[3]) if len(sys.argv) > 3 else 1

@@ -2,7 +2,7 @@
 """Writes the scripts and jobs that are timed, the same ones each time: 1,024 splits of 8 holders and 256 workers.
 
     make_scripts.py commands      65,536 commands, none of them a wave: holders, deaths, returns, sweeps, old attempts
-    make_scripts.py waves         1,000 waves that start one split each, and its completion
+    make_scripts.py waves [N]     1,000 waves, or N, that start one split each, and its completion
     make_scripts.py job FILE      the lines of a file as documents, in 256 splits and 8 parts: one wave, and all is done
     make_scripts.py run FILE N    the same documents, splits and parts as a job of N workers, each holding its share
 """
@@ -45,11 +45,11 @@ def commands():
     yield from (command(at, rnd) for at in range(COMMANDS))
 
 
-def waves():
+def waves(count=WAVES):
     # (one slot in all, on a holder of every split)
     yield from head(lambda worker: int(worker == 0), SPLITS, lambda split: range(8))
     yield "begin"
-    for wave in range(WAVES):
+    for wave in range(int(count)):
         yield "wave"
         yield f"done {wave + 1}"
 
