@@ -15,15 +15,15 @@ from crates import kit, read_crates
 
 KIT = kit()
 TEXT = """#![tactic(auto)]
-use shared_master::{Hand, SharedMaster};
+use shared_master::{Hand, OfJob, SharedMaster};
 use std::sync::Wait;
 use std::sync::ledger::Ledger;
 
-pub fn own<L: Ledger, R: Wait>(rt: &R, shared: &SharedMaster<L>, hand: &mut Hand<L>) {
+pub fn own<L: Ledger + OfJob, R: Wait>(rt: &R, shared: &SharedMaster<L>, hand: &mut Hand<L>) {
     let _ = shared.sweep(rt, hand, &[0; 256]);
 }
 
-pub fn another<L: Ledger, M: Ledger, R: Wait>(rt: &R, shared: &SharedMaster<L>, hand: &mut Hand<M>) {
+pub fn another<L: Ledger + OfJob, M: Ledger, R: Wait>(rt: &R, shared: &SharedMaster<L>, hand: &mut Hand<M>) {
     let _ = shared.sweep(rt, hand, &[0; 256]);
 }
 """

@@ -10,7 +10,7 @@ scripts of job_of_files.py have the index that is made here of the files, lie on
 a limit none is written. The pictures of the docs are what picture.py makes of the samples anew, whose answers are a
 best plan and a report; pictures of many shapes fit a page, and a history is drawn as its report is. What `make install`
 puts into an empty folder runs from there, and `make uninstall` leaves nothing. README's commands write what it shows of
-them. The last line counts.
+them, and each link of the documents leads somewhere. The last line counts.
 """
 import ast
 import collections
@@ -133,7 +133,7 @@ def left(count):
 
 def helped(count, program):
     """The examples in the program's own help run, and the page that it names is there."""
-    for words in ([], ["check"], ["plan"], ["play"], ["run"]):
+    for words in ([], ["check"], ["plan"], ["play"], ["serve"], ["run"]):
         text = said([program, *words, "--help"])[0].decode()
         tried = re.findall(r"mrjob (.*) < (examples/\S+)", text)
         count.expect(f"mrjob {' '.join(words)} --help has examples", len(tried), 1 if words else 4)
@@ -545,7 +545,7 @@ def installed(count, program, room):
         out, wrong, ended = said([prefix / "bin/mrjob", *words], (EXAMPLES / f"{name}.txt").read_bytes())
         front = out.startswith((EXAMPLES / f"{name}.out").read_bytes())
         count.expect(f"the demo's {name} by what is installed", (front, wrong, ended), (True, "", status))
-    for name in ("check", "plan", "play", "run"):
+    for name in ("check", "plan", "play", "serve", "run"):
         words = said([program, name, "--help"])[0].decode().split()
         page = re.sub(r"\\(.)", lambda it: {"e": "\\", "&": ""}.get(it[1], it[1]),
                       (prefix / "share/man/man1/mrjob.1").read_text().replace("\\(aq", "'").replace("\\(ga", "`"))
@@ -598,6 +598,19 @@ def mapped(count):
     count.none("no cell of docs/MAP.md is past 60 words", [it for it in cells if len(it.split()) > 60])
 
 
+def linked(count):
+    """Each link of a document leads to a file, and to a heading of it."""
+    heads = lambda page: {re.sub(r"[^\w -]", "", it.lower()).replace(" ", "-")
+                          for it in re.findall(r"^#+ (.*)$", page.read_text(), re.M)}
+    wrong = []
+    for page in [*ROOT.glob("*.md"), *ROOT.glob("docs/*.md"), *ROOT.glob("*/README.md"), *ROOT.glob("*/*/README.md")]:
+        for file, head in re.findall(r"\]\((?!http)([^)#\s]*)#?([^)\s]*)\)", page.read_text()):
+            there = (page.parent / file) if file else page
+            if not there.exists() or (head and head not in heads(there)):
+                wrong.append(f"{page.relative_to(ROOT)}: {file}#{head}")
+    count.none("each link of the documents leads to a file and its heading", wrong)
+
+
 def shown(count, program, room):
     """Each command that the README shows writes the lines below it; it has at most 1,000 words."""
     text = (ROOT / "README.md").read_text()
@@ -623,6 +636,7 @@ def main():
         sized(count)
         recorded(count)
         mapped(count)
+        linked(count)
         for program in map(os.path.abspath, sys.argv[1:]):
             help_examples(count, program)
             helped(count, program)

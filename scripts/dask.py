@@ -5,8 +5,10 @@
 
 The last line is 'N passed, M failed'; where Dask is not there, nothing is counted.
 """
+import signal
 import subprocess
 import sys
+import time
 from pathlib import Path
 
 sys.dont_write_bytecode = True
@@ -33,6 +35,8 @@ def main():
     try:
         return tests.wait(MOST_SECONDS)
     except subprocess.TimeoutExpired:
+        tests.send_signal(signal.SIGUSR1)  # (it tells where it is)
+        time.sleep(2)
         tests.terminate()  # (it ends the processes of its cluster)
         tests.wait()
         print("contrib/dask hung\n0 passed, 1 failed")

@@ -44,7 +44,10 @@ IMPL = re.compile(r"(?:unsafe )?impl(?:<.*?>)? (?P<trait>\w.*? for )?(?P<type>\w
 # A line that ends a function's head: its body's brace, or the end of the item.
 ENDS_HEAD = re.compile(r" *(?:\S.*)?[{};]$")
 # Where a goal stands that is not proved, and its name.
-OPEN_GOAL = re.compile(r"note: (?:\./)?(src/\S+?):(\d+):\d+: it is not proved that .*\(`([^`]+)`\)")
+# (A type's invariant is told in other words.)
+OPEN_GOAL = re.compile(
+    r"note: (?:\./)?(src/\S+?):(\d+):\d+: (?:it is not proved that|`search` found no proof) .*?\(`([^`]+)`\)"
+)
 # An answer that proves its goal no longer, by the folder of its function's proof.
 OPEN_ANSWER = re.compile(r"(?:\./)?proofs/(\S+)/Answers\.antt:\d+:\d+: error: `([^`]+)`: (.*)")
 # The goals left open by a lemma of the same file that holds no longer.
@@ -72,6 +75,8 @@ class Function:
         if line:
             return self.file == where and self.first <= line <= self.last
         names = where.split("/")
+        # (the folder of a function that calls itself is named '+NAME')
+        names[-1] = names[-1].removeprefix("+")
         # (an impl of a trait goes by its type's name and the trait's)
         return len(names) == len(self.path) and all(
             name == own or own[0].isupper() and name.startswith(own) for name, own in zip(names, self.path)

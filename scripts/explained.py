@@ -195,7 +195,9 @@ def notes(program):
     for row in WHOLE:
         yield is_told_of_whole(program, *row)
     for text in sorted((ROOT / "examples").glob("*.txt")):
-        yield is_explained(program, text)
+        # (a session has no --explain)
+        if not text.name.startswith("serve_"):
+            yield is_explained(program, text)
     yield is_told_to_a_terminal(program)
 
 

@@ -2,23 +2,27 @@
 # The gate. `rt ci` proves every crate from nothing, tries the must-fail edits and runs the tests. Then, side by side,
 # edits.py tries the edits over the libraries that it left, the C library is built over them and tried, and the scripts
 # try the programs that it built; at last a MooseFS and jobs on a Dask cluster, where these are installed, and what is
-# handed out. The last line sums up what all of them counted.
+# handed out. What failed is told once more at the end; the last line sums up what all of them counted.
 set -uo pipefail
 cd "$(dirname "$0")/.." || exit 1
 command -v rt > /dev/null || exec scripts/build.py  # (which says where to get it)
 room=$(mktemp -d)
 trap 'rm -rf "$room"' EXIT
-passed=0 failed=0
+passed=0 failed=0 failures=
 
 # Adds up what a command counted, whose last line of output is 'N passed, M failed'.
 add_up() { # COMMAND STATUS LOG
+    local bad=1
     if [[ $(tail -n 1 "$3") =~ ^([0-9]+)\ passed,\ ([0-9]+)\ failed$ ]]; then
         passed=$((passed + BASH_REMATCH[1]))
-        failed=$((failed + BASH_REMATCH[2]))
-        if [ "$2" != 0 ] && [ "${BASH_REMATCH[2]}" = 0 ]; then failed=$((failed + 1)); fi
+        bad=${BASH_REMATCH[2]}
+        if [ "$2" != 0 ] && [ "$bad" = 0 ]; then bad=1; fi
     else
         echo "$1 ended with status $2 and counted nothing"
-        failed=$((failed + 1))
+    fi
+    failed=$((failed + bad))
+    if [ "$bad" != 0 ]; then
+        failures+="== $1: $bad failed"$'\n'"$(grep -A 4 -E 'FAIL|REFUSED|panicked|(^|[^a-z0-9])failed|error' "$3" | tail -n 40)"$'\n'
     fi
 }
 
@@ -53,23 +57,28 @@ for program in crates/mrjob/out/mrjob crates/mrjob/out/mrjob.by-rattle; do
     if [ -x "$program" ]; then programs+=("$program"); fi
 done
 if [ ${#programs[@]} = 0 ]; then
-    echo "no program was built"
-    failed=$((failed + 1))
-else
-    mkdir -p bin
-    install -m 755 "${programs[0]}" bin/mrjob
-    start scripts/examples.sh "${programs[@]}"
-    start scripts/statuses.sh "${programs[@]}"
-    start scripts/explained.py "${programs[@]}"
-    start scripts/progress.py "${programs[@]}"
-    start scripts/refused_calls.sh "${programs[@]}"
-    start scripts/differential.py "${programs[@]}"
-    start scripts/contrib.py "${programs[0]}"
-    start scripts/page.py "${programs[0]}"
-    start scripts/c_library.sh "${programs[0]}"
-    start scripts/soak.py --short bin/mrjob
-    start scripts/hdfs.py "${programs[@]}"
+    # (why, stands in the last lines)
+    grep -E '^rt: .*(NOT PROVED|FAILED)|run rt fmt|rt: .*(warning|note: bad)' "$room/ci" | tail -n 20
+    echo "no program was built, so nothing else is tried"
+    echo "$passed passed, $((failed + 1)) failed"
+    exit 1
 fi
+mkdir -p bin
+install -m 755 "${programs[0]}" bin/mrjob
+start scripts/examples.sh "${programs[@]}"
+start scripts/statuses.sh "${programs[@]}"
+start scripts/explained.py "${programs[@]}"
+start scripts/progress.py "${programs[@]}"
+start scripts/served.py "${programs[@]}"
+start scripts/refused_calls.sh "${programs[@]}"
+start scripts/differential.py "${programs[@]}"
+start scripts/hostile.py "${programs[@]}"
+start scripts/live_master.py "${programs[@]}"
+start scripts/contrib.py "${programs[0]}"
+start scripts/page.py "${programs[0]}"
+start scripts/c_library.sh "${programs[0]}"
+start scripts/soak.py --short bin/mrjob
+start scripts/hdfs.py "${programs[@]}"
 start scripts/another_ledger.py
 start scripts/edits.py
 count_all
@@ -80,5 +89,6 @@ start scripts/dask.py "${programs[@]}"
 # (of the program and the library that the gate built)
 start scripts/try_release.py
 count_all
+printf '%s' "$failures"
 echo "$passed passed, $failed failed"
 [ "$failed" = 0 ]

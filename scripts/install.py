@@ -1,8 +1,9 @@
 #!/usr/bin/env python3
 """Puts what was built below a folder, as `make install` and `make uninstall` ask.
 
-    install.py PREFIX            bin/mrjob, its manual pages and completions, the scripts of contrib/, the docs and the
-                                 examples; where `make library` has left it, the C library with its header too
+    install.py PREFIX            bin/mrjob, its manual pages and completions, the scripts of contrib/ with the packages
+                                 of python/, the docs and the examples; where `make library` has left it, the C
+                                 library with its header too
     install.py --undo PREFIX     takes away just what was put there, by the list that lies beside the scripts
 """
 import shutil
@@ -46,7 +47,7 @@ def sources(room, program):
     for name in manual.write(program, room):
         if has_library or name != "mrjob.h.3":
             yield Path(room) / name, MADE[name], 0o644
-    for below, names in ((OWN, ["contrib"]), (DOC, ["README.md", "CHANGELOG.md", "LICENSE", "docs", "examples"])):
+    for below, names in ((OWN, ["contrib", "python/mrjob_dask", "python/mrjob_plan"]), (DOC, ["README.md", "CHANGELOG.md", "LICENSE", "docs", "examples"])):
         for path in kept(*names):
             yield path, f"{below}/{path.relative_to(ROOT)}", 0o755 if path.read_bytes().startswith(b"#!") else 0o644
     yield "../../mrjob/contrib", f"{DOC}/contrib", None

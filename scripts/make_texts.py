@@ -3,7 +3,7 @@
 and jobs.
 
     make_texts.py KIND SEED        writes one text; KIND is best, changed, faulty, problem, faulty_problem, script,
-                                   faulty_script, job, wide_job, faulty_job, full or large
+                                   faulty_script, job, wide_job, scattered_job, faulty_job, full or large
 """
 import random
 import sys
@@ -318,6 +318,19 @@ def wide_job(rnd):
     return text_of([*lines, "end"])
 
 
+def scattered_job(rnd):
+    """A job of some workers in three racks, of one or two slots. Its splits have few holders, so that each death wants
+    copies."""
+    workers = [f"w{at}" for at in range(rnd.randint(3, 9))]
+    lines = ["job 2", "centre c", "centre e", "rack r c", "rack q c", "rack p e"]
+    lines += [f"target {rnd.randint(1, 8)}", f"silence {rnd.randint(1, 2)}", f"parts {rnd.randint(1, 3)}"]
+    lines += [f"worker {name} {rnd.choice('rqp')} {rnd.choice([1, 1, 2])}" for name in workers]
+    for at in range(rnd.randint(4, 16)):
+        held = rnd.sample(workers, rnd.randint(1, min(4, len(workers))))
+        lines += [" ".join([f"split s{at} {rnd.randint(0, 99)}", *held]), f"doc d{at} s{at} one two"]
+    return text_of([*lines, "end"])
+
+
 def long_word(number):
     """Another word of five letters for each number below 26^5."""
     letters = []
@@ -406,6 +419,7 @@ KINDS = {
     "faulty_script": faulty_script,
     "job": job,
     "wide_job": wide_job,
+    "scattered_job": scattered_job,
     "faulty_job": faulty_job,
     "faulty_problem": faulty_problem,
     "full": full,

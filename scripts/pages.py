@@ -58,7 +58,7 @@ def texts(program):
     yield from [*sentences(program, "condition"), ".SH REASONS"]
     yield plain("Why a command of a script is ignored. The first that applies is told.")
     yield from sentences(program, "ignored")
-    for name in ("check", "plan", "play", "run"):
+    for name in ("check", "plan", "play", "serve", "run"):
         yield from [f'.SH "ANSWER OF {name.upper()}"', *of_markdown(section(f"## The answer of `{name}`"))]
     yield from [".SH SEE ALSO", ".BR mrjob (1),", ".BR mrjob.h (3)", ".PP", plain(SEE)]
 

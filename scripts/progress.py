@@ -25,7 +25,8 @@ JOB = make_texts.long_job(random.Random(1), 1_000_000).replace(
 ANSWER = reference_run.answer(JOB)[0]
 CLEAR = b"\r\x1b[K"
 LINE = re.compile(rb"maps [012] of 2, parts [0-3] of 3, waves 1, deaths 0")
-SCRIPT = b"script 1\nrack r\nworker a r 0\n" + b"".join(b"split s%d 1 a\n" % it for it in range(64))
+SCRIPT = b"script 1\nrack r\n" + b"".join(b"worker w%d r 0\n" % it for it in range(256))
+SCRIPT += b"".join(b"split s%d 1 w0\n" % it for it in range(1024))
 SCRIPT += b"begin\n" + 65_536 * b"wave\n" + b"end\n"
 SCRIPT_LINE = re.compile(re.escape(CLEAR) + rb"command ([1-9]\d*) of 65536")
 

@@ -348,10 +348,11 @@ def numpy_arrays():
 
 
 def blocks():
-    """README's lines of Python, and those of the package's own README."""
+    """README's lines of Python, and those of the package's own README, but for live masters (live_master.py)."""
     begin = r"^    from mrjob_plan import.*\n(?:    .*\n|\n(?=    ))*"
     found = [re.sub(r"^    ", "", it, flags=re.M) for it in re.findall(begin, (ROOT / "README.md").read_text(), re.M)]
-    return found + re.findall(r"```python\n(.*?)```", (ROOT / "python/README.md").read_text(), re.S)
+    found += re.findall(r"```python\n(.*?)```", (ROOT / "python/README.md").read_text(), re.S)
+    return [it for it in found if "mrjob_plan.master" not in it]
 
 
 def printed(block):

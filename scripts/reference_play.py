@@ -49,6 +49,7 @@ class Master:
         self.barred = set()
         self.running = [{} for _ in range(splits)]
         self.done = [None] * splits
+        self.done_by = [None] * splits
         self.part_running = [{} for _ in range(self.parts)]
         self.part_done = [False] * self.parts
 
@@ -74,7 +75,7 @@ class Master:
     def finish(self, attempt):
         split, part = self.of_split(attempt), self.of_part(attempt)
         if split is not None:
-            self.done[split] = self.running[split][attempt]
+            self.done[split], self.done_by[split] = self.running[split][attempt], attempt
             self.running[split] = {}
         elif part is not None:
             self.part_done[part] = True
@@ -235,6 +236,29 @@ class Master:
         if command == "sweep":
             return self.sweep([int(word) for word in words])
         return getattr(self, command)()
+
+    def workers(self):
+        """What a session answers to a query; so are the next two."""
+        lines = []
+        for number, slots in enumerate(self.given.slots):
+            stands = f" {slots} {slots - self.free(number)} {self.silent[number]}"
+            lines.append(f"live {self.worker(number)}{stands}" if self.live[number] else f"dead {self.worker(number)}")
+        return lines
+
+    def open(self):
+        lines = []
+        for split, runs in enumerate(self.running):
+            words = iter(["start", "backup"])
+            lines += [f"{next(words)} {it} {self.split(split)} {self.worker(of)}" for it, of in sorted(runs.items())]
+            lines += [f"open {self.split(split)}"] * (not runs and self.done[split] is None)
+        for part, runs in enumerate(self.part_running):
+            lines += [f"reduce {it} {part} {self.worker(of)}" for it, of in runs.items()]
+            lines += [f"part {part}"] * (not runs and not self.part_done[part])
+        return lines
+
+    def outputs(self):
+        done = [split for split, worker in enumerate(self.done) if worker is not None]
+        return [f"from {self.split(it)} {self.done_by[it]} {self.worker(self.done[it])}" for it in done]
 
     def ending(self):
         if not all(self.part_done):

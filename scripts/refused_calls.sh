@@ -136,6 +136,31 @@ sweep_job() { # PROGRAM
     count "$1" alloc "$calls calls, one refused in each run: $told told" "$wrong"
 }
 
+# Refuses each allocation of a session. Of an answer that found no memory nothing is written, and those before it are
+# whole.
+sweep_session() { # PROGRAM
+    local wrong=0 calls=0 told=0 nth
+    for ((nth = 1; nth <= 10000; nth++)); do
+        run "$1" alloc "$nth"
+        [[ $met == x* ]] || break
+        calls=$nth
+        head -c "$(stat -c %s "$room/out")" "$example.out" > "$room/front"
+        # (what ends with an empty line ends with an answer)
+        if [ "$said" = "mrjob: no memory (3)" ] && cmp -s "$room/out" "$room/front" &&
+            [ -z "$(tail -n 1 "$room/out")" ]; then
+            told=$((told + 1))
+        elif ! is_whole; then
+            wrong=$((wrong + 1))
+            show "$1" alloc "$nth"
+        fi
+    done
+    if ! is_whole || [ "$told" = 0 ] || [ "$nth" -gt 10000 ]; then
+        wrong=$((wrong + 1))
+        show "$1" alloc "after $calls"
+    fi
+    count "$1" alloc "$calls calls, one refused in each run: $told told, $((calls - told - wrong)) done without" "$wrong"
+}
+
 for program in "$@"; do
     for name in swap plan_prices play_death run_words; do
         take $name
@@ -159,6 +184,12 @@ for program in "$@"; do
     done
     take play_death
     sweep "$program" alloc "mrjob: no memory (3)" "$room/nothing"
+    for name in serve_session serve_queries; do
+        take $name
+        for kind in full idle; do sweep_fronts "$program" $kind; done
+        for kind in interrupt short; do sweep "$program" $kind " ($wanted)" "$example.out"; done
+        sweep_session "$program"
+    done
     take run_words
     sweep_job "$program"
     for name in run_words run_many_parts; do

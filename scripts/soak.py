@@ -7,17 +7,27 @@
   the end of one of 32 workers, and of 1,000.
 - Jobs of make_texts.py by `mrjob run`: bound to one processor, as 300 of the made jobs are, and at the lowest priority
   beside a spinning process for each processor. Each has its own index, or is stuck with just what nobody holds.
-- Long jobs, of one split of up to 1,500,000 words, each another one: bound to one processor beside eight spinning
-  processes. No map is given up or made again.
+- The histories of jobs whose workers die, return and are backed up, under made gates: reference_run.py follows each
+  event, and finds the copies, the returns and the backups that the calling thread owes.
+- Long jobs, of one split of up to 1,500,000 words, each another one: alone, and bound to one processor beside eight
+  spinning processes. No map is given up or made again.
 - A script of 65,536 commands, more than 1,000 waves among them, followed by reference_play.py.
+- 100,000 events of 1,000 small clusters, a wave after almost each, by kept_waves.py: whether a wave's planner keeps up
+  with slots and pending splits or goes over to other holders and bars, no assignment starts more or costs less.
+- 2,000 runs of check, plan, play and run, under limits that are drawn at random: on memory, address space, files,
+  threads and processor time (ten seconds at least), and but for `run` on the stack. Each ends by a status of the table.
+  Either it has the answer of a run without limits, or its status is 3, 4 or 6 and nothing was written. A worker of `run`
+  that finds no memory fails its attempt, so failures may fill the history (5), or bar each pair of a split (`stuck`).
 
 A failing seed can be run alone: with SEEDS="17 17" in the environment the tests of job_tests run
-made::made_jobs_have_no_other_index on it alone, and `make_texts.py job 17` writes the text of a job. The last line is
-'N passed, M failed'.
+made::made_jobs_have_no_other_index on it alone, and `make_texts.py job 17` writes the text of a job. With a text as
+JOB and a number as SEED recorded::a_history_under_a_made_gate writes the history of that job under that gate.
+`kept_waves.py 17 17 PROGRAM` plays the cluster of a seed. The last line is 'N passed, M failed'.
 """
 import os
 import random
 import re
+import shutil
 import subprocess
 import sys
 import tempfile
@@ -35,6 +45,7 @@ from reference_play import misplayed
 
 TESTS = ROOT / "crates/job_tests/out/job_tests_tests"
 MADE = "made::made_jobs_have_no_other_index"
+RECORDED = "recorded::a_history_under_a_made_gate"
 PROCESSORS = sorted(os.sched_getaffinity(0))
 # Far past what any run takes: one that has not ended by then hangs.
 HANGS = 3600
@@ -49,8 +60,12 @@ class Sizes:
         self.crowded = 0 if is_short else 300
         self.held = 100 if is_short else 1_000
         self.jobs = 12 if is_short else 200
-        self.words = [400_000] if is_short else [1_500_000, 1_500_000, 400_000]
+        self.histories = 100 if is_short else 1_000
+        self.words_alone = [1_500_000]
+        self.words_beside = [400_000] if is_short else [1_500_000, 1_500_000, 400_000]
         self.commands = 4_000 if is_short else 65_536
+        self.clusters = 100 if is_short else 1_000
+        self.limited = 150 if is_short else 2_000
 
 
 class Failure(Exception):
@@ -121,6 +136,34 @@ def memory(_program, sizes, _pool):
     return f"{one} blocks are held after one run, and after {sizes.held}"
 
 
+# Histories of jobs under made gates.
+
+
+def followed(seed):
+    """How many events of each kind a made job has under its made gate; none where that ended it."""
+    text = make_texts.scattered_job(random.Random(seed))
+    said, status, _ = ran([TESTS, RECORDED], env={b"JOB": text, b"SEED": str(seed).encode()})
+    lines, _, end = said.partition(b"ended ")
+    end = end.split(b"\n")[0]
+    if status or end not in (b"Ok(Done)", b"Ok(Stuck)", b"Err(Run(GateLimit))"):
+        raise Failure(f"scattered_job {seed}: status {status}: {said.decode()[-2000:]}")
+    if end == b"Err(Run(GateLimit))":
+        return Counter()
+    wrong = reference_run.misrecorded(text, lines, 0 if end == b"Ok(Done)" else 1)
+    if wrong:
+        raise Failure(f"scattered_job {seed}: {wrong}: {lines.decode()}")
+    return Counter(line.split(b" ")[0].decode() for line in lines.split(b"\n"))
+
+
+def histories(_program, sizes, pool):
+    """That the calling thread does what it owes, event by event."""
+    kinds = sum(pool.map(followed, range(1, sizes.histories + 1)), Counter())
+    told = ", ".join(f"{kinds[kind]} {kind}s" for kind in ("wave", "sweep", "add", "join", "backup"))
+    if 0 in (kinds["add"], kinds["join"], kinds["backup"]):
+        raise Failure(f"there was nothing to follow: {told}")
+    return f"{sizes.histories} histories: {told}"
+
+
 # Jobs by `mrjob run`.
 
 
@@ -183,24 +226,29 @@ def beside_spinners(program, sizes, pool):
         return run_all(program, ["nice", "-n", "19"], job_texts(sizes.jobs), pool)
 
 
+def map_long(program, before, seed, count):
+    """How many sweeps there were while a long job ran, and its seconds. None of its maps and merges is made again."""
+    text = make_texts.long_job(random.Random(seed), count)
+    (lines, status, words), took = timed_run(program, before, text, "--history")
+    at = max(lines.find(b"index "), 0)
+    kinds = Counter(line.split(b" ")[0] for line in lines[:at].split(b"\n"))
+    sweeps = kinds.pop(b"sweep", 0)
+    once = {b"": 1, b"wave": 1, b"start": 1, b"reduce": 1, b"done": 2}
+    wanted, wanted_status = reference_run.answer(text)
+    if (status, kinds, lines[at:]) != (wanted_status, once, wanted):
+        raise Failure(f"{count} words: status {status}, {words}, {dict(kinds)}: {lines[:999]}")
+    return sweeps, took
+
+
 def long_maps(program, sizes, _pool):
-    """Long jobs on one processor beside eight spinning processes, one after the other: none is given up, and none of
-    their maps and merges made again."""
+    """Long jobs, alone and on one processor beside eight spinning processes, one after the other: none is given up."""
     before = ["taskset", "-c", str(PROCESSORS[0])]
-    longest = sweeps = 0
+    ended = [map_long(program, [], seed, count) for seed, count in enumerate(sizes.words_alone, 1)]
     with spinning(before, 8):
-        for seed, count in enumerate(sizes.words, 1):
-            text = make_texts.long_job(random.Random(seed), count)
-            (lines, status, words), took = timed_run(program, before, text, "--history")
-            at = lines.find(b"index ")
-            events = [line.split(b" ")[0] for line in lines[: max(at, 0)].split(b"\n")]
-            kinds = Counter(word for word in events if word not in (b"sweep", b""))
-            once = {b"wave": 1, b"start": 1, b"reduce": 1, b"done": 2}
-            wanted, wanted_status = reference_run.answer(text)
-            if (status, kinds, lines[max(at, 0) :]) != (wanted_status, once, wanted):
-                raise Failure(f"{count} words: status {status}, {words}, {dict(kinds)}: {lines[:999]}")
-            longest, sweeps = max(longest, took), sweeps + events.count(b"sweep")
-    return f"{len(sizes.words)} runs: all done, by one map and one merge each; {sweeps} sweeps, the longest {longest:.1f} s"
+        ended += [map_long(program, before, seed, count) for seed, count in enumerate(sizes.words_beside, 1)]
+    longest = max(took for _, took in ended)
+    return (f"{len(ended)} runs: all done, by one map and one merge each; {sum(sweeps for sweeps, _ in ended)} sweeps, "
+            f"the longest {longest:.1f} s")
 
 
 # Scripts by `mrjob play`.
@@ -263,15 +311,128 @@ def long_script(program, sizes, _pool):
     return f"{sizes.commands} commands, {waves} waves, {accepted} accepted, {started} starts"
 
 
+# Waves by `mrjob serve`.
+
+
+def waves_counted(program, first, last):
+    """What the clusters of these seeds count."""
+    said, status, words = ran([sys.executable, ROOT / "scripts/kept_waves.py", str(first), str(last), program])
+    if status:
+        raise Failure(f"{said.decode()[-2000:]}{words.decode()[-2000:]}")
+    return Counter({kind: int(number) for number, kind in re.findall(r"(\d+) ([a-z ]+)", said.decode())})
+
+
+def kept_waves(program, sizes, pool):
+    """No assignment is better than a wave of small clusters, whatever happened since the wave before."""
+    counts = sum(pool.map(lambda it: waves_counted(program, *it), seeds_in_parts(sizes.clusters)), Counter())
+    told = ", ".join(f"{count} {kind}" for kind, count in counts.items())
+    if not all(counts[f"{kind} waves that start splits"] for kind in ("near", "far")):
+        raise Failure(f"there was nothing to keep: {told}")
+    return f"{sizes.clusters} clusters: {told}"
+
+
+# Every command, with limits drawn at random.
+
+# The statuses of a run that told why it has no answer: no memory, a transfer that failed, no thread.
+WITHOUT_ANSWER = (3, 4, 6)
+# How failed attempts can end a job: its history is full, or it is stuck.
+FULL, STUCK = 5, 1
+# The commands with the kinds of make_texts.py that they read.
+READ_BY = {
+    "check": ["best", "changed", "faulty"],
+    "plan": ["problem", "faulty_problem"],
+    "play": ["script", "faulty_script"],
+    "run": ["job", "wide_job", "faulty_job"],
+}
+# A user who owns nothing, as whom root runs what is limited: root may have as many threads as it likes.
+NOBODY = 65534
+
+
+class Limited:
+    """Runs of a program that may be limited, as a user whose threads can be."""
+
+    def __init__(self, program, room):
+        self.program = shutil.copy(program, room)
+        os.chmod(room, 0o755)
+        os.chmod(self.program, 0o755)
+        self.who = {"user": NOBODY, "group": NOBODY, "extra_groups": []} if os.getuid() == 0 else {}
+        # how much address space the loader of a program wants
+        self.least = self.least_space()
+
+    def ran(self, limits, words, text=b""):
+        """What a run writes, and its status; below 0 if a signal ended it."""
+        before = ["prlimit", *(f"--{name}={most}" for name, most in limits.items())]
+        return ran([*before, self.program, *words], text, env={}, **self.who)[:2]
+
+    def least_space(self):
+        """The least address space in which the program comes to its own code."""
+        low, high = 0, 1 << 26
+        while high - low > 4096:
+            middle = (low + high) // 2
+            if self.ran({"as": middle}, ["--version"])[1] in (0, 3):
+                high = middle
+            else:
+                low = middle
+        return high
+
+    def drawn(self, rnd, command):
+        """Some limits, each above what the loader wants. Threads take stacks as large as the limit on stacks."""
+        limits = {}
+        if rnd.random() < 0.6:
+            limits["as"] = self.least + int(2 ** rnd.uniform(12, 30))
+        if rnd.random() < 0.4:
+            limits["data"] = int(2 ** rnd.uniform(18, 28))
+        if rnd.random() < 0.4:
+            limits["nofile"] = rnd.randint(4, 16)
+        if rnd.random() < 0.4 and (self.who or command != "run"):
+            limits["nproc"] = rnd.randint(1, 80)
+        if rnd.random() < 0.4:
+            limits["cpu"] = rnd.randint(10, 20)
+        if rnd.random() < 0.4 and command != "run":
+            limits["stack"] = int(2 ** rnd.uniform(17, 23))
+        return limits
+
+
+def limited_run(machine, seed):
+    """The status of one run with limits."""
+    rnd = random.Random(seed)
+    command = rnd.choice(list(READ_BY))
+    kind = rnd.choice(READ_BY[command])
+    text = make_texts.KINDS[kind](random.Random(seed))
+    limits = machine.drawn(rnd, command)
+    answer, status = machine.ran(limits, [command], text)
+    if status in WITHOUT_ANSWER or (command, status) == ("run", FULL):
+        if not answer:
+            return status
+    elif (answer, status) == machine.ran({}, [command], text):
+        return status
+    elif (command, status) == ("run", STUCK) and re.fullmatch(rb"stuck \d+\n(open \S+\n)+", answer):
+        return status
+    told = " ".join(f"{name}={most}" for name, most in limits.items())
+    raise Failure(f"{command} of {kind} {seed} with {told}: status {status}: {answer[:999]}")
+
+
+def limits(program, sizes, pool):
+    """Whatever the limits are, each run ends by a status of the table."""
+    if not shutil.which("prlimit"):
+        return "there is no prlimit, so none was set"
+    with tempfile.TemporaryDirectory() as room:
+        machine = Limited(program, room)
+        ends = Counter(pool.map(lambda seed: limited_run(machine, seed), range(1, sizes.limited + 1)))
+    told = ", ".join(f"{count} with status {status}" for status, count in sorted(ends.items()))
+    return f"{sizes.limited} runs: {told}"
+
+
 def main(words):
     need_kit()
     sizes = Sizes("--short" in words)
     named = [word for word in words if word != "--short"]
     program = os.path.abspath(named[0]) if named else str(ROOT / "bin/mrjob")
-    parts = [made_gates] if sizes.gates else []
+    parts = [memory, histories, on_one_processor, beside_spinners, long_maps, long_script, kept_waves, limits]
+    parts = [made_gates, *parts] if sizes.gates else parts
     passed = failed = 0
     with ThreadPoolExecutor(len(PROCESSORS)) as pool:
-        for part in [*parts, memory, on_one_processor, beside_spinners, long_maps, long_script]:
+        for part in parts:
             name = part.__name__.replace("_", " ")
             try:
                 print(f"{name}: {part(program, sizes, pool)}", flush=True)

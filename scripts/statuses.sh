@@ -57,6 +57,7 @@ for program in "$@"; do
     expect "help on a command" "$(given check --help < "$text")" 0 words nothing
     expect "help on planning" "$(given plan --help < "$text")" 0 words nothing
     expect "help on playing" "$(given play --help < "$text")" 0 words nothing
+    expect "help on serving" "$(given serve --help < "$text")" 0 words nothing
     expect "help on running" "$(given run --help < "$text")" 0 words nothing
     expect "help on explaining" "$(given explain --help < "$text")" 0 words nothing
     expect "an explanation" "$(given explain C6 < "$text")" 0 \
@@ -70,6 +71,7 @@ for program in "$@"; do
     expect "a plan in a text to plan from" "$(given plan < "$text")" 2 "line 7: fault 7" nothing
     expect "a problem in place of a script" "$(given play < "$text")" 2 "line 1: fault 7" nothing
     expect "an option for playing" "$(given play --prices < "$text")" 64 nothing words
+    expect "an option for serving" "$(given serve --quiet < "$text")" 64 nothing words
     expect "a script that is stuck" "$(given play < examples/play_no_commands.txt)" 1 "stuck 0" nothing
     expect "a script that is done" "$(given play < examples/play_first.txt)" 0 "$(cat examples/play_first.out)" nothing
     expect "a problem in place of a job" "$(given run < "$text")" 2 "line 1: fault 7" nothing
@@ -89,11 +91,13 @@ for program in "$@"; do
     expect "an input that cannot be read" "$(given check < /)" 4 nothing "mrjob: read fault"
     expect "a script that cannot be read" "$(given play < /)" 4 nothing "mrjob: read fault"
     expect "a job that cannot be read" "$(given run < /)" 4 nothing "mrjob: read fault"
+    expect "a session that cannot be read" "$(given serve < /)" 4 nothing "mrjob: read fault"
     status=0
     : > "$room/out"
     expect "a check without a reader" "$(left check < "$text")" 141 nothing nothing
     expect "a plan without a reader" "$(left plan < examples/plan_swap.txt)" 141 nothing nothing
     expect "a report without a reader" "$(left play < examples/play_first.txt)" 141 nothing nothing
+    expect "a session without a reader" "$(left serve < examples/serve_session.txt)" 141 nothing nothing
     expect "an index without a reader" "$(left run < examples/run_words.txt)" 141 nothing nothing
     expect "explanations without a reader" "$(left explain)" 141 nothing nothing
     "$program" check < "$text" > /dev/full 2> "$room/err" || status=$?

@@ -1,0 +1,353 @@
+#!/usr/bin/env python3
+"""Drives `mrjob serve` over a pipe, as a scheduler does.
+
+    served.py PROGRAM..
+
+Each answer is read before the next line is sent. Sessions worked by hand have to get the answers of the tables below.
+Made sessions, with queries and lines that no master takes, have to get what `mrjob play` says of their other lines, and
+of each query what a reference that follows the session has. Clients that go away between lines and in one, lines of
+every length at the bound, and a history that is full are tried too. A log of what was told brings a new master where an
+ended one was. Nothing depends on timing. The last line is 'N passed, M failed'.
+"""
+import os
+import random
+import subprocess
+import sys
+from concurrent.futures import ThreadPoolExecutor
+
+sys.dont_write_bytecode = True
+import make_texts
+import reference_play
+from reference_text import read
+
+LONGEST = 65_535
+SESSIONS = 60
+EVENTS = 65_536
+# Longer than any answer takes: a master that says nothing fails a test, and doesn't stop the gate.
+PATIENCE = 300
+
+QUERIES = ("workers", "open", "outputs")
+SMALL = ["script 1", "rack r", "worker a r 1", "worker b r 1", "split s 10 a", "doc d s the cat"]
+TWO = ["script 2", "centre c", "rack r c", "worker a r 1", "worker b r 2", "split s 10 a", "split t 20 a", "parts 2",
+       "silence 3"]
+NONE = []
+# What a client tells and is answered, worked by hand by the rules of docs/MODEL.md. Each head is told with `begin`.
+WORKED = {
+    "a job up to its index": (SMALL, 0, [
+        ("wave", ["accepted 1", "wave 1 0", "start 1 s a"]),
+        ("wave", ["accepted 2", "wave 0 0"]),
+        ("done 1", ["accepted 3"]),
+        ("reduce", ["accepted 4", "reduce 2 0 a"]),
+        ("done 2", ["accepted 5"]),
+        ("end", ["index 2", "word cat d", "word the d"]),
+    ]),
+    "a stuck job": (SMALL, 1, [("wave", ["accepted 1", "wave 1 0", "start 1 s a"]), ("end", ["stuck 1", "open s"])]),
+    "an end at once": (["script 1", "rack r"], 1, [("end", ["stuck 0"])]),
+    "a death, with a replica elsewhere": (SMALL, 1, [
+        ("wave", ["accepted 1", "wave 1 0", "start 1 s a"]),
+        ("add s b", ["accepted 2"]),
+        ("die a", ["accepted 3"]),
+        ("done 1", ["ignored 1"]),
+        ("wave", ["accepted 4", "wave 1 0", "start 2 s b"]),
+        ("end", ["stuck 1", "open s"]),
+    ]),
+    "copies": (SMALL, 1, [("copies", ["copies 1", "copy s a b"]), ("end", ["stuck 1", "open s"])]),
+    "faulty lines change nothing": (SMALL, 1, [
+        ("", ["fault 1"]),
+        (" ", ["fault 1"]),
+        ("wave ", ["fault 1"]),
+        ("wav", ["fault 1"]),
+        ("done", ["fault 1"]),
+        ("done 01", ["fault 1"]),
+        ("done 1000001", ["fault 5"]),
+        ("done 99999999999999999999", ["fault 5"]),
+        ("die c", ["fault 3"]),
+        ("die s", ["fault 3"]),
+        ("add a s", ["fault 3"]),
+        ("sweep 1", ["fault 1"]),
+        ("join a s s", ["fault 8"]),
+        ("backup s a", ["fault 7"]),
+        ("script 1", ["fault 7"]),
+        ("split t 1 a", ["fault 7"]),
+        ("begin", ["fault 7"]),
+        ("wave\t", ["fault 13"]),
+        ("\u00e9", ["fault 13"]),
+        ("\0", ["fault 13"]),
+        ("wave", ["accepted 1", "wave 1 0", "start 1 s a"]),
+        ("end", ["stuck 1", "open s"]),
+    ]),
+    "queries": (TWO, 1, [
+        ("workers", ["live a 1 0 0", "live b 2 0 0"]),
+        ("open", ["open s", "open t", "part 0", "part 1"]),
+        ("outputs", NONE),
+        ("wave", ["accepted 1", "wave 2 20", "start 1 s b", "start 2 t a"]),
+        ("backup t b", ["accepted 2", "backup 3 t b"]),
+        ("open", ["start 1 s b", "start 2 t a", "backup 3 t b", "part 0", "part 1"]),
+        ("workers", ["live a 1 1 0", "live b 2 2 0"]),
+        ("sweep 1 0", ["accepted 3"]),
+        ("sweep 1 0", ["accepted 4"]),
+        ("workers", ["live a 1 1 1", "live b 2 2 2"]),
+        ("fail 2", ["accepted 5"]),
+        ("open", ["start 1 s b", "start 3 t b", "part 0", "part 1"]),
+        ("done 3", ["accepted 6"]),
+        ("outputs", ["from t 3 b"]),
+        ("die a", ["accepted 7"]),
+        ("workers", ["dead a", "live b 2 1 2"]),
+        ("done 1", ["accepted 8"]),
+        ("outputs", ["from s 1 b", "from t 3 b"]),
+        ("reduce", ["accepted 9", "reduce 4 0 b"]),
+        ("open", ["reduce 4 0 b", "part 1"]),
+        ("done 4", ["accepted 10"]),
+        ("open", ["part 1"]),
+        ("die b", ["accepted 11"]),
+        ("workers", ["dead a", "dead b"]),
+        ("open", ["open s", "open t", "part 1"]),
+        ("outputs", NONE),
+        ("end", ["stuck 2", "open s", "open t"]),
+    ]),
+    "queries of nothing, and of all that is done": (["script 1", "rack r", "worker a r 0"], 1, [
+        ("workers", ["live a 0 0 0"]),
+        ("open", ["part 0"]),
+        ("outputs", NONE),
+        ("reduce", ["ignored 7"]),
+        ("end", ["stuck 0"]),
+    ]),
+    "lines that are almost queries": (SMALL, 0, [
+        ("open s", ["fault 1"]),
+        (" open", ["fault 1"]),
+        ("workers ", ["fault 1"]),
+        ("Outputs", ["fault 1"]),
+        ("output", ["fault 1"]),
+        ("wave", ["accepted 1", "wave 1 0", "start 1 s a"]),
+        ("done 1", ["accepted 2"]),
+        ("reduce", ["accepted 3", "reduce 2 0 a"]),
+        ("done 2", ["accepted 4"]),
+        ("open", NONE),
+        ("outputs", ["from s 1 a"]),
+        ("workers", ["live a 1 0 0", "live b 1 0 0"]),
+        ("end", ["index 2", "word cat d", "word the d"]),
+    ]),
+    "the longest line, and longer ones": (SMALL, 1, [
+        ("x" * LONGEST, ["fault 1"]),
+        ("x" * (LONGEST + 1), ["fault 11"]),
+        ("\t" * LONGEST, ["fault 13"]),
+        ("\t" * (LONGEST + 1), ["fault 11"]),
+        ("wave" + " " * 1_000_000, ["fault 11"]),
+        ("wave", ["accepted 1", "wave 1 0", "start 1 s a"]),
+        ("end", ["stuck 1", "open s"]),
+    ]),
+}
+
+# Heads with a fault, whole inputs that end before `end`, and their answers.
+REFUSED = {
+    "no bytes": (b"", "line 1: fault 7"),
+    "a session of a problem": (b"problem 1\n", "line 1: fault 7"),
+    "a command in the head": (b"script 1\nwave\n", "line 2: fault 7"),
+    "a rack that nobody declares": (b"script 1\nworker a q 1\nbegin\n", "line 2: fault 3"),
+    "a rack twice": (b"script 1\nrack r\nrack r\nbegin\n", "line 3: fault 4"),
+    "a word behind `begin`": (b"script 1\nbegin x\n", "line 2: fault 1"),
+    "a line that is no text": (b"script 1\n\xff\n", "line 2: fault 13"),
+    "a head without `begin`": (b"script 1\nrack r\n", "line 3: fault 7"),
+    "a head cut off in a line": (b"script 1\nrack r", "line 2: fault 12"),
+    "a line of 70,000 bytes": (b"script 1\n" + b"x" * 70_000 + b"\n", "line 2: fault 1"),
+}
+
+# What is told behind a head, and what the whole output is then.
+CUT_OFF = {
+    "between two lines": (b"wave\n", ["", "accepted 1", "wave 1 0", "start 1 s a", "", "fault 7", ""]),
+    "at once": (b"", ["", "fault 7", ""]),
+    "in a line, which is not done": (b"wave\ndone 1", ["", "accepted 1", "wave 1 0", "start 1 s a", "", "fault 12", ""]),
+    "in `end`": (b"end", ["", "fault 12", ""]),
+    "in a line that is too long": (b"x" * 100_000, ["", "fault 12", ""]),
+}
+
+
+class Count:
+    """Counts what passed and what failed, and says so."""
+
+    def __init__(self, program):
+        self.program, self.passed, self.failed = program, 0, 0
+
+    def expect(self, name, got, wanted):
+        """Counts and tells whether it is what was wanted."""
+        holds = got == wanted
+        print(f"{self.program}: {name}: {'ok' if holds else f'FAILED: {got!r:.500}, and not {wanted!r:.500}'}", flush=True)
+        self.passed, self.failed = self.passed + holds, self.failed + (not holds)
+
+
+class Master:
+    """A live master, which is told a head at once. `tell` sends a line and reads its whole answer."""
+
+    def __init__(self, program, head):
+        self.pipe = subprocess.Popen([program, "serve"], stdin=subprocess.PIPE, stdout=subprocess.PIPE)
+        self.opening = self.tell("\n".join([*head, "begin"]))
+
+    def tell(self, line):
+        self.pipe.stdin.write(line.encode() + b"\n")
+        self.pipe.stdin.flush()
+        return self.answer()
+
+    def answer(self):
+        """The lines up to the first empty one. Where the master ends before it, the last one is None."""
+        lines = []
+        while (line := self.pipe.stdout.readline()) != b"\n":
+            if not line.endswith(b"\n"):
+                return [*lines, None]
+            lines.append(line[:-1].decode())
+        return lines
+
+    def end(self):
+        """Tells it nothing more. What it still writes, and its status."""
+        self.pipe.stdin.close()
+        rest = self.pipe.stdout.read()
+        self.pipe.stdout.close()
+        return rest, self.pipe.wait(PATIENCE)
+
+    def kill(self):
+        self.pipe.kill()
+        return self.end()
+
+
+def ended(program, text, *words):
+    """All that a program writes for a whole input, and its status."""
+    ran = subprocess.run([program, *words], input=text, stdout=subprocess.PIPE, stderr=subprocess.PIPE, timeout=PATIENCE)
+    return ran.stdout, ran.returncode
+
+
+def text_of(lines):
+    return "".join(f"{line}\n" for line in lines).encode()
+
+
+def worked(count, program):
+    for name, (head, status, turns) in WORKED.items():
+        master = Master(program, head)
+        got = [(line, master.tell(line)) for line, _ in turns]
+        count.expect(name, (master.opening, got, master.end()), (NONE, turns, (b"", status)))
+
+
+def refused(count, program):
+    for name, (text, line) in REFUSED.items():
+        count.expect(f"a refused head: {name}", ended(program, text, "serve"), (text_of([line, ""]), 2))
+
+
+def cut_off(count, program):
+    for name, (told, lines) in CUT_OFF.items():
+        text = text_of([*SMALL, "begin"]) + told
+        count.expect(f"an input that ends {name}", ended(program, text, "serve"), (text_of(lines), 2))
+    master = Master(program, SMALL)
+    got = [master.tell("wave"), *master.kill()]
+    count.expect("a killed master", got, [["accepted 1", "wave 1 0", "start 1 s a"], b"", -9])
+    master = Master(program, SMALL)
+    master.pipe.stdout.close()
+    master.pipe.stdin.write(b"wave\n")
+    master.pipe.stdin.close()
+    count.expect("a client that reads nothing more", master.pipe.wait(PATIENCE), 141)
+
+
+def made_line(dice, line):
+    """A line that no master takes, made of one that it may take."""
+    kinds = ["", "wav", f"{line} ", f"{line} x" * 9, "done", "done 01", "done 1000001", "die nobody", "begin", "rack q"]
+    kinds += ["open x", "workers ", "outputs outputs"]
+    return dice.choice([*kinds, f"{line}\t", f" {line}", "x" * 70_000, "split z 1", "end x", "copies\r"])
+
+
+def made_session(seed):
+    """The head and the lines of a script, with queries and faulty lines among its commands."""
+    dice = random.Random(seed)
+    lines = make_texts.script(random.Random(seed)).decode().split("\n")[:-1]
+    head, commands = lines[: lines.index("begin")], lines[lines.index("begin") + 1 : -1]
+    told = []
+    for line in commands:
+        told += [made_line(dice, line) for _ in range(dice.choice([0, 0, 1, 2]))] + [line]
+        told += dice.sample(QUERIES, dice.choice([0, 0, 1, 3]))
+    return head, [*told, "end"]
+
+
+def wrong_query(head, turns):
+    """The first query whose answer is not what the reference has that follows the other lines, or None."""
+    given = read(text_of([*head, "begin", *(line for line, _ in turns if line not in QUERIES)]), "play")
+    master, commands = reference_play.Master(given), iter(given.commands)
+    for line, answer in turns[:-1]:
+        wanted = getattr(master, line)() if line in QUERIES else master.answer(*next(commands), answer)
+        if answer != wanted:
+            return f"{line} is answered {answer!r:.300}, and not {wanted!r:.300}"
+    return None
+
+
+def wrong_session(program, seed):
+    """What is wrong with the answers to a made session, or None."""
+    head, told = made_session(seed)
+    master = Master(program, head)
+    answers = [master.tell(line) for line in told]
+    rest, status = master.end()
+    if master.opening or rest:
+        return f"it opens with {master.opening}, and ends with {rest}"
+    is_refused = [len(answer) == 1 and str(answer[0]).startswith("fault ") for answer in answers]
+    turns = [turn for turn, no in zip(zip(told, answers), is_refused) if not no]
+    kept = [line for line, _ in turns if line not in QUERIES]
+    report = text_of(it for line, answer in turns if line not in QUERIES for it in answer)
+    wanted = ended(program, text_of([*head, "begin", *kept]), "play")
+    if (report, status) != wanted:
+        return f"play says {wanted!r:.300}, and the session said {(report, status)!r:.300}"
+    if wrong := wrong_query(head, turns):
+        return wrong
+    faulty = [line for line, no in zip(told, is_refused) if no]
+    # (a query is no line of a script)
+    for line in [*faulty[:2], QUERIES[seed % 3]]:
+        # (a line of 65,536 bytes is short enough for a script)
+        if ended(program, text_of([*head, "begin", line, "end"]), "play")[1] != 2:
+            return f"play takes {line!r:.60}"
+    return None
+
+
+def made(count, program):
+    with ThreadPoolExecutor(2 * os.cpu_count()) as pool:
+        wrong = list(pool.map(lambda seed: wrong_session(program, seed), range(1, SESSIONS + 1)))
+    faults = [f"seed {seed}: {it}" for seed, it in enumerate(wrong, 1) if it]
+    count.expect(f"{SESSIONS} made sessions are what play says of their other lines", faults[:3], [])
+
+
+def told_again(count, program):
+    """A new master that is told what an ended one was told answers the same, whichever command that one got last."""
+    head, told = made_session(7)
+    first = Master(program, head)
+    answers = [first.tell(line) for line in told]
+    first.end()
+    same = True
+    for at in sorted({1, len(told) // 3, len(told) // 2, len(told) - 1}):
+        master = Master(program, head)
+        begun = [master.tell(line) for line in told[:at]]
+        master.kill()
+        master = Master(program, head)
+        again = [master.tell(line) for line in told]
+        master.end()
+        same = same and begun == answers[:at] and again == answers
+    count.expect("a new master that is told the log answers the same", same, True)
+
+
+def full(count, program):
+    """After as many events as a master has room for, all that would be one more is ignored, and faults stay faults.
+    The session goes on up to its `end`."""
+    turns = ["add s b" if at % 2 == 0 else "lose s b" for at in range(EVENTS)]
+    accepted = [[f"accepted {at}"] for at in range(1, EVENTS + 1)]
+    more = ["add s b", "wave", "sweep 0 0", "die b", "reduce", "wav", "copies", "end"]
+    text = text_of([*SMALL, "target 1", "begin", *turns, *more])
+    answers = [NONE, *accepted, *(4 * [["ignored 9"]]), ["ignored 7"], ["fault 1"], ["copies 0"], ["stuck 1", "open s"]]
+    got = ended(program, text, "serve")
+    wanted = text_of([line for answer in answers for line in [*answer, ""]]), 1
+    count.expect("a full history", got if got[1] != 1 else (got == wanted, got[0][-200:]), (True, wanted[0][-200:]))
+
+
+def main(programs):
+    counts = []
+    for program in programs:
+        counts.append(Count(program))
+        for part in (worked, refused, cut_off, made, told_again, full):
+            part(counts[-1], program)
+    passed, failed = sum(it.passed for it in counts), sum(it.failed for it in counts)
+    print(f"{passed} passed, {failed} failed")
+    return 1 if failed or not passed else 0
+
+
+if __name__ == "__main__":
+    sys.exit(main(sys.argv[1:]))
