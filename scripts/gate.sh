@@ -10,10 +10,11 @@ room=$(mktemp -d)
 trap 'rm -rf "$room"' EXIT
 passed=0 failed=0 failures=
 
-# Adds up what a command counted, whose last line of output is 'N passed, M failed'.
+# Adds up what a command counted, in the last line of its output of the form 'N passed, M failed'. A library that the
+# command stands on may print warnings after it, when the interpreter ends; the command's status tells whether it failed.
 add_up() { # COMMAND STATUS LOG
     local bad=1
-    if [[ $(tail -n 1 "$3") =~ ^([0-9]+)\ passed,\ ([0-9]+)\ failed$ ]]; then
+    if [[ $(grep -E '^[0-9]+ passed, [0-9]+ failed$' "$3" | tail -n 1) =~ ^([0-9]+)\ passed,\ ([0-9]+)\ failed$ ]]; then
         passed=$((passed + BASH_REMATCH[1]))
         bad=${BASH_REMATCH[2]}
         if [ "$2" != 0 ] && [ "$bad" = 0 ]; then bad=1; fi
