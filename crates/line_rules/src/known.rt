@@ -95,6 +95,13 @@ impl<'t> KnownLines<'t> {
         self.section = Section::Body;
     }
 
+    /// As if the lines before had been read for this purpose.
+    pub fn turn_to(&mut self, purpose: Purpose)
+        ensures { self.new ≡ record self.old { purpose = purpose } }
+    {
+        self.purpose = purpose;
+    }
+
     /// Where the next line stands.
     pub fn section(&self) -> Section
         ensures { result ≡ self.now.section }

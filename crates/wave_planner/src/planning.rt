@@ -74,6 +74,15 @@ impl Planned {
         &self.prices
     }
 
+    /// The plan and the prices.
+    pub fn into_parts(self) -> (Plan, Prices)
+        ensures plan { result.0 ≡ self.plan }
+        ensures prices { result.1 ≡ self.prices }
+    {
+        let Planned { plan, prices, .. } = self;
+        (plan, prices)
+    }
+
     /// How many splits start, and the byte-distance of the starts together.
     pub fn certified(&self) -> Certified
         ensures certified { result ≡ self.now.certified }
