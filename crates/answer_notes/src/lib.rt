@@ -15,4 +15,4 @@ mod words;
 
 pub use copying::Copying;
 pub use listening::Listening;
-pub use note::{condition_note, fault_note, reasons_note};
+pub use note::{answer_note, condition_note, fault_note, reasons_note};

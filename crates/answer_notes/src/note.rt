@@ -12,7 +12,7 @@ use explanations::{add_line, entry_named};
 use price_certificate::Condition;
 use std::alloc::{AllocError, Global};
 use std::io::Write;
-use text_lines::{Fault, TextFault, split_line};
+use text_lines::{Fault, TextFault, printable, split_line};
 
 // So many bytes of a line are shown at most.
 const WIDTH: usize = 76;
@@ -93,6 +93,25 @@ pub fn reasons_note<W: Write>(alloc: Global, heard: &Listening<W>) -> Result<Vec
         if heard.has_heard(reason) {
             add_told(&mut note, alloc, "ignored", reason)?;
         }
+    }
+    Ok(note)
+}
+
+/// What a line of an answer means that tells a fault, the reason for which a command was ignored, or the
+/// condition that refuses a plan; nothing of another line.
+pub fn answer_note(alloc: Global, line: &[u8]) -> Result<Vec<u8>, AllocError> {
+    let mut note = Vec::new(alloc);
+    let Some((kind, rest)) = printable(line).and_then(|text| text.split_once(' ')) else {
+        return Ok(note);
+    };
+    let name = match rest.split_once(' ') {
+        Some((name, _)) => name,
+        None => rest,
+    };
+    match kind {
+        "fault" | "ignored" => add_named(&mut note, alloc, kind, name)?,
+        "refused" => add_named(&mut note, alloc, "condition", name)?,
+        _ => {}
     }
     Ok(note)
 }

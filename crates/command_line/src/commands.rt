@@ -129,7 +129,9 @@ const SERVE_TEXTS: &str = "\
 Input:   on standard input the head of a script and `begin`, then one command a line, and `end`
 Output:  an empty line once the master is open, then the lines of `play` for each command; each answer
          ends with an empty line. A faulty command is answered by `fault NUMBER`, and changes nothing.
-         `workers`, `open` and `outputs`, each alone on its line, ask what stands
+         `workers`, `open` and `outputs`, each alone on its line, ask what stands, and `audit` for the
+         last wave as a text to check. Lines `start SPLIT WORKER` and `price NAME N` say a plan of your
+         own, which `commit` starts if its prices certify it, and `drop` drops
 Status:  0 every part is done, 1 stuck, 2 the head has a fault, or the input ended before `end`;
          `mrjob --help` has the others
 Try:     mrjob serve < examples/serve_session.txt

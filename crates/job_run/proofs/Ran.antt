@@ -17,12 +17,12 @@ use Rattle.master_state.specs.Jobs.{Job}
 use Rattle.job_threads.specs.Outcomes.{EndsWith, IsRecordOf}
 use Rattle.job_threads.specs.declared.outcome.Record.{Record}
 use Rattle.job_threads.specs.declared.outcome.RunError.{RunError}
-use Rattle.job_run.specs.PlayAnswer.{cluster_in}
+use Rattle.job_play.specs.PlayAnswer.{cluster_in}
 use Rattle.job_run.specs.RunAnswer.{HasTextsNamed, RunsRead, TellsEnd, TellsJob, setup_on}
 use Rattle.job_run.specs.declared.running.RunEnd.{RunEnd}
 use Rattle.job_run.specs.declared.running.RunEnd.TheVariants as finish
 use Rattle.job_run.specs.declared.running.JobEnd.{JobEnd}
-use Rattle.job_run.proofs.Answered.{same_cluster}
+use Rattle.job_play.proofs.Answered.{same_cluster}
 
 -- a text for each split that has a name
 pub texts_named : (head : Head) (script : Script) → IsFitHead head → IsOfHead head script

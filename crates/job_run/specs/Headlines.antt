@@ -5,9 +5,9 @@ use Rattle.script_text.specs.declared.script.Script.{Script}
 use Rattle.master_state.specs.States.{Setup}
 use Rattle.master_state.specs.Jobs.{Job}
 use Rattle.master_state.specs.Headline.{HasHeadline}
-use Rattle.job_run.specs.Reports.{IsReport}
+use Rattle.job_play.specs.Reports.{IsReport}
 use Rattle.job_run.specs.RunAnswer.{TellsRun}
-use Rattle.job_run.specs.declared.player.PlayEnd.{PlayEnd}
+use Rattle.job_play.specs.declared.player.PlayEnd.{PlayEnd}
 use Rattle.job_run.specs.declared.running.RunEnd.{RunEnd}
 
 -- a job that was given so, and of which the headline holds

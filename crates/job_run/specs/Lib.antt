@@ -1,12 +1,3 @@
-pub mod Reports
-pub mod Playing
-pub mod Given
-pub mod Handing
-pub mod Rooms
-pub mod PlayAnswer
 pub mod RunAnswer
 pub mod OneAnswer
 pub mod Headlines
-pub mod Serving
-pub mod Sessions
-pub mod Queries

@@ -20,8 +20,8 @@ use Rattle.job_threads.specs.Outcomes.{IsDoneOn, IsStuckWith}
 use Rattle.job_threads.specs.declared.job.Job.{Job}
 use Rattle.job_threads.specs.declared.outcome.Record.{Record}
 use Rattle.job_threads.specs.declared.outcome.RunError.{RunError}
-use Rattle.job_run.specs.PlayAnswer.{cluster_in, declared_cluster}
-use Rattle.job_run.specs.Reports.{TellsIndex}
+use Rattle.job_play.specs.PlayAnswer.{cluster_in, declared_cluster}
+use Rattle.job_play.specs.Reports.{TellsIndex}
 use Rattle.job_run.specs.declared.running.JobEnd.{JobEnd}
 use Rattle.job_run.specs.declared.running.JobEnd.TheVariants as job
 use Rattle.job_run.specs.declared.running.RunEnd.{RunEnd}

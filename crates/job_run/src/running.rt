@@ -6,13 +6,13 @@ ghost use Rattle.script_text.specs.Scripts.{IsOfHead, IsTarget};
 ghost use Rattle.script_text.specs.Heads.{IsFitHead};
 ghost use Rattle.master_state.specs.States.{Setup};
 ghost use Rattle.job_threads.specs.Outcomes.{IsRecordOf};
-ghost use Rattle.job_run.specs.PlayAnswer.{AreEnds, cluster_in};
+ghost use Rattle.job_play.specs.PlayAnswer.{AreEnds, cluster_in};
 ghost use Rattle.job_run.specs.RunAnswer.{HasTextsNamed, IsToldAs, RunAnswer, TellsEnd, TellsJob, TellsRun, done_lines};
 ghost use Rattle.job_run.specs.RunAnswer.{job_in, ran_as, setup_on};
 
-use crate::clusters::cluster_of;
-use crate::ending::add_open;
 use command_runner::ToolError;
+use job_play::clusters::cluster_of;
+use job_play::ending::add_open;
 use job_threads::{Gate, Job, Observer, Record, RunError, Unobserved, run_recorded};
 use line_rules::fault_answer;
 use master_core::Master;

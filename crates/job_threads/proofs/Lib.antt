@@ -1,6 +1,5 @@
 mod Chains
 mod Halves
-pub mod Finished
 mod Looking
 mod Returning
 mod Telling

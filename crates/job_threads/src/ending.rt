@@ -1,19 +1,16 @@
-ghost use Rattle.std.specs.Prelude.{◌≡◌, ◌⊎◌, IfErr, IfOk, IsErr, IsErrOf, IsTrue, true, MatchResult, Some, ℕ};
+ghost use Rattle.std.specs.Prelude.{◌≡◌, ◌⊎◌, IfErr, IfOk, IsErrOf, IsTrue, MatchResult, Some, ℕ};
 ghost use Rattle.hand_ledger.specs.Settling.{IsLowestTorn};
 ghost use Rattle.shared_master.specs.Held.{is_short, log_of};
 ghost use Rattle.shuffle_reduce.specs.Merged.{HaveWord};
-ghost use Rattle.shuffle_reduce.specs.Indexed.{IsIndexOf};
 ghost use Rattle.master_state.specs.States.{Setup};
-ghost use Rattle.master_state.specs.Tests.{all_parts_done};
 ghost use Rattle.job_threads.specs.Outcomes.{IsDoneOn, IsOutcomeOf, IsRecordOf, IsStuckWith};
 ghost use Rattle.job_threads.specs.declared.outcome.RunError.{RunError};
 ghost use Rattle.job_threads.specs.Settled.{AreSettled};
 
 use crate::outcome::{Outcome, Record, RunError};
-use master_core::Master;
+use master_core::{Master, are_parts_done, index_of};
 use shared_master::{Closed, Hand, OfJob, Settled, settle};
-use shuffle_reduce::{FinishError, Index, finish};
-use std::alloc::{AllocError, Global};
+use std::alloc::Global;
 use std::sync::ledger::Ledger;
 
 // The master, where its history is made of the hands' calls.
@@ -68,30 +65,6 @@ fn is_done(master: &Master) -> bool
 {
     master.is_kept();
     are_parts_done(master)
-}
-
-/// Whether every part is done.
-pub fn are_parts_done(master: &Master) -> bool
-    ensures { result ≡ all_parts_done master.now.state }
-{
-    master.glance().open_parts == 0
-}
-
-/// The index of the documents of a master all of whose parts are done, so that each has one result. Where no
-/// text has a word it never wants memory.
-pub fn index_of(alloc: Global, master: &Master) -> Result<Index, AllocError>
-    requires { all_parts_done master.now.state ≡ true }
-    ensures index { IfOk result (IsIndexOf master.now.setup.cluster.texts) }
-    ensures memory { IsErr result → HaveWord master.now.setup.cluster.texts }
-{
-    master.is_kept();
-    let parts = master.cluster().parts();
-    match finish(alloc, parts, master.texts(), master.results()) {
-        Ok(index) => Ok(index),
-        Err(FinishError::Memory) => Err(AllocError),
-        Err(FinishError::DoublePart) => unreachable!(),
-        Err(FinishError::MissingPart) => unreachable!(),
-    }
 }
 
 // Whether nothing runs, nothing can start and a part is not done.

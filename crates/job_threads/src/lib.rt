@@ -13,7 +13,7 @@ mod beats;
 mod caller;
 mod closing;
 mod common;
-pub mod ending;
+mod ending;
 pub mod gate;
 mod holdings;
 pub mod job;
@@ -27,7 +27,6 @@ mod texts;
 mod threads;
 mod work;
 
-pub use ending::{are_parts_done, index_of};
 pub use gate::{Gate, Go, PlainGate, Turn};
 pub use job::Job;
 pub use observer::{Observer, Progress, Unobserved};

@@ -12,3 +12,4 @@ pub mod Replying
 pub mod PartStarts
 pub mod Nearness
 pub mod Backing
+pub mod AllParts

@@ -7,6 +7,7 @@
 
 mod attempts;
 pub mod cluster;
+mod finished;
 mod holders;
 mod inputs;
 mod kept;
@@ -16,6 +17,7 @@ pub mod master;
 mod reducing;
 
 pub use cluster::{Cluster, ClusterError};
+pub use finished::{are_parts_done, index_of};
 pub use master::Master;
 pub use master_state::{
     Answer, Attempt, CommitError, Event, Glance, Limits, PartState, Reply, SplitState, Start,

@@ -5,8 +5,8 @@ use Rattle.command_runner.specs.declared.tool_error.ToolError.{ToolError}
 use Rattle.command_runner.specs.declared.tool_error.ToolError.TheVariants as tool
 use Rattle.job_threads.specs.declared.outcome.RunError.{RunError}
 use Rattle.job_threads.specs.declared.outcome.RunError.TheVariants as broken
-use Rattle.job_run.specs.declared.player.PlayEnd.{PlayEnd}
-use Rattle.job_run.specs.declared.player.PlayEnd.TheVariants as play
+use Rattle.job_play.specs.declared.player.PlayEnd.{PlayEnd}
+use Rattle.job_play.specs.declared.player.PlayEnd.TheVariants as play
 use Rattle.job_run.specs.declared.running.RunEnd.{RunEnd}
 use Rattle.job_run.specs.declared.running.RunEnd.TheVariants as run
 use Rattle.job_run.specs.declared.running.RunTextError.{RunTextError}

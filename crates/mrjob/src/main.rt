@@ -1,26 +1,28 @@
 //! `mrjob`: plans the map starts of a MapReduce job, and proves each plan best.
 //!
-//! The commands stand in `tools` and `job_run`, whose contracts say what is written for what was read. `main`
-//! hands them the standard streams and turns how they end into a status and words on standard error, by the
-//! table of `tools::Ending`.
+//! The commands stand in `tools`, `job_play`, `live_master` and `job_run`, whose contracts say what is written
+//! for what was read. `main` hands them the standard streams and turns how they end into a status and words on
+//! standard error, by the table of `tools::Ending`.
 #![tactic(auto)]
 
 ghost use Rattle.std.specs.Prelude.{◌≡◌};
 ghost use Rattle.mrjob.specs.Ending.{ending_of_error, ending_of_play, ending_of_run};
 
 mod aside;
+mod console;
 mod terminal;
 
 use crate::aside::Aside;
+use crate::console::Console;
 use crate::terminal::Terminal;
 use answer_notes::Listening;
 use command_line::ask;
 use command_line::asked::{Ask, AskError, CheckOptions, PlanOptions, PlayOptions, RunOptions};
 use command_runner::ToolError;
 use explanations::Entry;
-use job_run::{
-    PlainGate, PlayEnd, RunEnd, RunError, RunTextError, play_observed, run_text_observed, serve,
-};
+use job_play::{PlayEnd, play_observed};
+use job_run::{PlainGate, RunEnd, RunError, RunTextError, run_text_observed};
+use live_master::serve;
 use std::io::{BufReader, Stdout};
 use std::process::ExitCode;
 use std::rt::Clock;
@@ -141,11 +143,12 @@ fn run_play(rt: &HostRuntime, options: PlayOptions) -> Ending {
 
 // Each answer is flushed before the next line is read.
 fn run_serve(rt: &HostRuntime) -> Ending {
-    let mut output = Aside::new(rt, false).writer();
+    let mut output = Console::new(rt, Aside::new(rt, false).writer());
     match BufReader::new(rt.alloc(), rt.stdin()) {
         Ok(reader) => {
             let mut input = reader;
-            or_left(of_play(serve(rt.alloc(), &mut input, &mut output)), &output)
+            let end = serve(rt.alloc(), &mut input, &mut output);
+            or_left(of_play(end), output.writer())
         }
         Err(_) => Ending::Failed(ToolError::Memory),
     }

@@ -1,4 +1,5 @@
-use job_run::{Observer, Progress, ScriptObserver};
+use job_play::ScriptObserver;
+use job_run::{Observer, Progress};
 use std::io::IsTerminal;
 use std::sync::atomic::{AtomicU64, Ordering};
 use std::time::Instant;

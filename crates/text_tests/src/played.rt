@@ -1,4 +1,4 @@
-use job_run::{PlayEnd, fits, play_script};
+use job_play::{PlayEnd, fits, play_script};
 use master_core::Cluster;
 use script_text::read_script;
 use std::alloc::Global;

@@ -53,8 +53,8 @@ impl Master {
         self.commit_plan(alloc, planned.plan(), planned.prices())
     }
 
-    // As `commit`, of a plan with prices.
-    fn commit_plan(
+    /// As `commit`, of a plan and prices from anywhere.
+    pub fn commit_plan(
         &mut self,
         alloc: Global,
         plan: &Plan,

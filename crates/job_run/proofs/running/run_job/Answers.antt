@@ -4,7 +4,7 @@ use Rattle.command_runner.specs.CommandRun.{AnyLines, NoText}
 use Rattle.command_runner.proofs.OneAnswer.{wrote_its_answer}
 use Rattle.command_runner.proofs.Unanswered.{unread_text, unwritten, written}
 use Rattle.job_run.specs.OneAnswer.{one_run_answer}
-use Rattle.job_run.specs.PlayAnswer.{AreEnds}
+use Rattle.job_play.specs.PlayAnswer.{AreEnds}
 use Rattle.job_run.specs.RunAnswer.{RunAnswer}
 use Rattle.job_run.proofs.running.run_job.Goals as goal
 

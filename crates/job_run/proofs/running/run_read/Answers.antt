@@ -1,7 +1,7 @@
 use Rattle.std.proofs.Common.{IfOk, subst}
 use Rattle.job_threads.specs.Outcomes.{IsRecordOf, setup_of}
 use Rattle.job_threads.specs.declared.job.Job.{Job}
-use Rattle.job_run.specs.PlayAnswer.{cluster_in}
+use Rattle.job_play.specs.PlayAnswer.{cluster_in}
 use Rattle.job_run.specs.RunAnswer.{setup_on}
 use Rattle.job_run.proofs.Ran.{texts_told, texts_named}
 use Rattle.job_run.proofs.running.run_read.Goals as goal

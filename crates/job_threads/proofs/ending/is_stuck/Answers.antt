@@ -1,6 +1,6 @@
 use Rattle.std.proofs.Common.{rules, arith, ◌∙◌, ◌<◌, ◌==◌, ℕ, refl, sym, ap}
 use Rattle.std.proofs.lemmas.Bool.{false≢true, ne_eqb}
-use Rattle.job_threads.proofs.Finished.{none_open, not_false}
+use Rattle.master_core.proofs.AllParts.{none_open, not_false}
 use Rattle.job_threads.proofs.ending.is_stuck.Goals as goal
 
 pub returns : goal.returns

@@ -1,0 +1,13 @@
+use Rattle.std.proofs.Common.{◌≡◌, string_bytes, take}
+use Rattle.job_play.specs.Given.{HoldsRuns}
+use Rattle.job_play.specs.Playing.{PerformedAll}
+use Rattle.job_play.proofs.player.perform_all.Given as goal
+
+abbrev pub invariant-loop-command : goal.invariant-loop-command
+invariant-loop-command g l = record {
+  setup : l.master.setup ≡ l.initial.master.setup;
+  given : HoldsRuns l.given l.master;
+  performed : PerformedAll l.script.names l.script.target l.initial.master
+      (take l.command-index l.command-items)
+      (string_bytes l.initial.lines) (string_bytes l.lines) l.master;
+}

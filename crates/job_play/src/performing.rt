@@ -1,0 +1,164 @@
+ghost use Rattle.std.specs.Prelude.{◌≡◌, ℕ, ◌<◌, ◌≤◌, All, Err, OnOk, length, string_bytes};
+ghost use Rattle.rack_tree.specs.declared.TheConstants.{MAX_WORKERS};
+ghost use Rattle.script_text.specs.declared.script.Command.TheVariants as asked;
+ghost use Rattle.job_play.specs.Reports.{IsKnownCommand, LacksRoom, alone, deaths, padded, set_of};
+ghost use Rattle.master_state.specs.Refusals.{Call, IsPair};
+ghost use Rattle.job_play.specs.Given.{HoldsRuns};
+ghost use Rattle.job_play.specs.Playing.{IsAnswered, Performed};
+
+use crate::given::GivenRuns;
+use crate::handing::{done, fail};
+use crate::player::PlayError;
+use crate::tables::{counts_of, set_of};
+use crate::waves::wave;
+use master_core::Master;
+use master_state::{Answer, Why};
+use node_ids::{SplitNo, WorkerNo};
+use report_lines::{
+    add_accepted, add_answer, add_backup, add_copies, add_dead, add_ignored, add_reduce,
+};
+use script_text::{Command, Names, Script};
+use std::alloc::{AllocError, Global};
+
+/// Performs a command of a script, and tells what was answered.
+pub fn perform(
+    alloc: Global,
+    master: &mut Master,
+    given: &mut GivenRuns,
+    script: &Script<'_>,
+    command: &Command,
+    lines: &mut String,
+) -> Result<(), PlayError>
+    requires known { IsKnownCommand master.old.setup command.now }
+    requires names { length script.now.names.workers ≤ MAX_WORKERS }
+    requires given { HoldsRuns given.old master.old }
+    ensures given { OnOk result (HoldsRuns given.new master.new) }
+    ensures ok { OnOk result (Performed script.now.names script.now.target master.old command.now
+        (string_bytes lines.old) (string_bytes lines.new) master.new) }
+    ensures full { result ≡ Err PlayError.HistoryFull → (command.now ≡ asked.Wave) × LacksRoom master.old }
+    ensures unchanged { result ≡ Err PlayError.HistoryFull → (master.new ≡ master.old)
+        × (given.new ≡ given.old) × (string_bytes lines.new ≡ string_bytes lines.old) }
+{
+    let names = &script.names;
+    match command {
+        Command::Wave => wave(alloc, master, names, lines),
+        Command::Done(attempt) => Ok(done(alloc, master, given, *attempt, lines)?),
+        Command::Fail(attempt) => Ok(fail(master, *attempt, lines)?),
+        Command::Withdraw(attempt) => Ok(add_answer(lines, master.withdraw(*attempt))?),
+        Command::Backup(split, worker) => Ok(backup(master, names, *split, *worker, lines)?),
+        Command::Die(worker) => Ok(add_answer(lines, master.die(*worker))?),
+        Command::Join(worker, splits) => Ok(join(master, *worker, splits.as_slice(), lines)?),
+        Command::Add(split, worker) => Ok(add_answer(lines, master.add(*split, *worker))?),
+        Command::Lose(split, worker) => Ok(add_answer(lines, master.lose(*split, *worker))?),
+        Command::Sweep(counts) => Ok(sweep(master, names, counts.as_slice(), lines)?),
+        Command::Reduce => Ok(reduce(alloc, master, given, names, lines)?),
+        Command::Copies => Ok(copies(alloc, master, names, script.target, lines)?),
+    }
+}
+
+// Starts a backup, and tells it.
+fn backup(
+    master: &mut Master,
+    names: &Names<'_>,
+    split: SplitNo,
+    worker: WorkerNo,
+    lines: &mut String,
+) -> Result<(), AllocError>
+    requires { IsPair master.old.setup split worker }
+    ensures { (target : ℕ) → OnOk result (Performed names.now target master.old (asked.Backup split worker)
+        (string_bytes lines.old) (string_bytes lines.new) master.new) }
+{
+    match master.backup(split, worker) {
+        Answer::Accepted(place, attempt) => {
+            add_accepted(lines, place)?;
+            add_backup(lines, &names.splits, &names.workers, attempt, split, worker)
+        }
+        Answer::Ignored(why, ()) => add_ignored(lines, why),
+    }
+}
+
+// Lets the worker live again as a holder of the splits, and tells the answer.
+fn join(
+    master: &mut Master,
+    worker: WorkerNo,
+    splits: &[SplitNo],
+    lines: &mut String,
+) -> Result<(), AllocError>
+    requires worker { worker < length master.old.setup.cluster.slots }
+    requires splits { All (λ s. s < length master.old.setup.cluster.splits) splits.now }
+    ensures { OnOk result (IsAnswered master.old (Call.Join worker (set_of splits.now)) alone
+        (string_bytes lines.old) (string_bytes lines.new) master.new) }
+{
+    master.is_kept();
+    add_answer(lines, master.join(worker, &set_of(splits)))
+}
+
+// Hands in the counts, and tells who died.
+fn sweep(
+    master: &mut Master,
+    names: &Names<'_>,
+    counts: &[u64],
+    lines: &mut String,
+) -> Result<(), AllocError>
+    requires counts { length counts.now ≤ 256 }
+    requires names { length names.now.workers ≤ MAX_WORKERS }
+    ensures { OnOk result (IsAnswered master.old (Call.Sweep (padded counts.now))
+        (deaths names.now master.old (padded counts.now))
+        (string_bytes lines.old) (string_bytes lines.new) master.new) }
+{
+    let swept = master.sweep(&counts_of(counts));
+    match swept.answer {
+        Answer::Accepted(place, ()) => {
+            add_accepted(lines, place)?;
+            add_dead(lines, &names.workers, &swept.dead)
+        }
+        Answer::Ignored(why, ()) => add_ignored(lines, why),
+    }
+}
+
+// Starts the next part, tells it, and keeps the runs that it is given.
+fn reduce(
+    alloc: Global,
+    master: &mut Master,
+    given: &mut GivenRuns,
+    names: &Names<'_>,
+    lines: &mut String,
+) -> Result<(), AllocError>
+    requires { HoldsRuns given.old master.old }
+    ensures given { OnOk result (HoldsRuns given.new master.new) }
+    ensures ok { (target : ℕ) → OnOk result (Performed names.now target master.old asked.Reduce
+        (string_bytes lines.old) (string_bytes lines.new) master.new) }
+{
+    master.is_kept();
+    match master.reduce_start(alloc) {
+        Answer::Accepted(place, reply) => {
+            add_accepted(lines, place)?;
+            add_reduce(
+                lines,
+                &names.workers,
+                reply.attempt,
+                reply.part,
+                reply.worker,
+            )?;
+            given.put(reply.part, reply.runs);
+            Ok(())
+        }
+        Answer::Ignored(why, ()) if why == Why::Memory => Err(AllocError),
+        Answer::Ignored(why, ()) => add_ignored(lines, why),
+    }
+}
+
+// Tells the copies that are wanted now.
+fn copies(
+    alloc: Global,
+    master: &Master,
+    names: &Names<'_>,
+    target: usize,
+    lines: &mut String,
+) -> Result<(), AllocError>
+    ensures { OnOk result (Performed names.now target master.now asked.Copies
+        (string_bytes lines.old) (string_bytes lines.new) master.now) }
+{
+    let orders = master.copy_orders(alloc, target)?;
+    add_copies(lines, &names.splits, &names.workers, orders.as_slice())
+}

@@ -1,0 +1,90 @@
+ghost use Rattle.std.specs.Prelude.{◌≡◌, ◌≢◌, ℕ, ◌+◌, ◌-◌, ◌≤◌, ◌++◌, ◌^◌, Err, OnOk, length, string_bytes};
+ghost use Rattle.wave_problem.specs.Assignment.{pairs_of};
+ghost use Rattle.price_certificate.specs.declared.Condition.{Condition};
+ghost use Rattle.report_lines.specs.Lines.{accepted_line};
+ghost use Rattle.text_lines.specs.WaveLine.{wave_line};
+ghost use Rattle.script_text.specs.declared.script.Command.TheVariants as command;
+ghost use Rattle.job_play.specs.Reports.{LacksRoom, started_lines};
+ghost use Rattle.job_play.specs.Playing.{Performed};
+
+use crate::player::PlayError;
+use master_core::Master;
+use master_state::{CommitError, Wave};
+use node_ids::{AttemptNo, SplitNo};
+use report_lines::{add_accepted, add_start, add_wave};
+use script_text::Names;
+use std::alloc::{AllocError, Global};
+use wave_problem::Plan;
+
+/// Starts the best wave that can start now, planned over the network with racks, and tells each start.
+pub(crate) fn wave(
+    alloc: Global,
+    master: &mut Master,
+    names: &Names<'_>,
+    lines: &mut String,
+) -> Result<(), PlayError>
+    ensures ok { (target : ℕ) → OnOk result (Performed names.now target master.old command.Wave
+        (string_bytes lines.old) (string_bytes lines.new) master.new) }
+    ensures full { result ≡ Err PlayError.HistoryFull → LacksRoom master.old }
+    ensures unchanged { result ≡ Err PlayError.HistoryFull
+        → (master.new ≡ master.old) × (string_bytes lines.new ≡ string_bytes lines.old) }
+{
+    master.is_kept();
+    match master.start_best(alloc) {
+        Ok((planned, wave)) => Ok(tell_wave(lines, names, wave, planned.plan())?),
+        Err(error) => Err(error_of(error)),
+    }
+}
+
+// Why a wave did not start. What is planned and started in one call is never stale.
+fn error_of(error: CommitError) -> PlayError
+    requires { (c : Condition) → error ≢ CommitError.Stale c }
+    ensures full { error ≡ CommitError.HistoryFull → result ≡ PlayError.HistoryFull }
+    ensures only { result ≡ PlayError.HistoryFull → error ≡ CommitError.HistoryFull }
+{
+    match error {
+        CommitError::HistoryFull => PlayError::HistoryFull,
+        CommitError::Memory => PlayError::Memory,
+        CommitError::Stale(_) => unreachable!(),
+    }
+}
+
+/// The lines of a wave that made the starts of the plan.
+pub fn tell_wave(
+    lines: &mut String,
+    names: &Names<'_>,
+    wave: Wave,
+    plan: &Plan,
+) -> Result<(), AllocError>
+    requires { wave.first + length (pairs_of plan.now.starts) ≤ 2 ^ 32 - 1 }
+    ensures { OnOk result (string_bytes lines.new ≡ string_bytes lines.old
+        ++ (accepted_line wave.place ++ wave_line wave.count wave.cost
+        ++ started_lines names.now wave.first (pairs_of plan.now.starts))) }
+{
+    add_accepted(lines, wave.place)?;
+    add_wave(lines, wave.count, wave.cost)?;
+    add_starts(lines, names, wave.first, plan)
+}
+
+// A line for each start of the plan, by rising split, the attempts numbered from the first one on.
+fn add_starts(
+    lines: &mut String,
+    names: &Names<'_>,
+    first: AttemptNo,
+    plan: &Plan,
+) -> Result<(), AllocError>
+    requires { first + length (pairs_of plan.now.starts) ≤ 2 ^ 32 - 1 }
+    ensures { OnOk result (string_bytes lines.new
+        ≡ string_bytes lines.old ++ started_lines names.now first (pairs_of plan.now.starts)) }
+{
+    let mut attempt = first.index();
+    for number in 0..plan.splits() {
+        let split = SplitNo::new(number as u16);
+        if let Some(worker) = plan.of(split) {
+            let started = AttemptNo::new(attempt as u32);
+            add_start(lines, &names.splits, &names.workers, started, split, worker)?;
+            attempt += 1;
+        }
+    }
+    Ok(())
+}

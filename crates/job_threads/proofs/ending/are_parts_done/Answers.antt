@@ -1,7 +1,0 @@
-use Rattle.std.proofs.Common.{◌∙◌, ap, ◌==◌, ℕ}
-use Rattle.job_threads.proofs.Finished.{none_open}
-use Rattle.job_threads.proofs.ending.are_parts_done.Goals as goal
-
-pub returns : goal.returns
-returns c =
-    ap (λ (n : ℕ). n == 0) c.glance.ensures.open_parts ∙ none_open c.args.master.now.state.parts

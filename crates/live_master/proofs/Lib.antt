@@ -1,0 +1,6 @@
+mod Heads
+mod Served
+mod Sessions
+mod Transcript
+mod NoCommands
+mod PlanLines

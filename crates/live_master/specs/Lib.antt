@@ -1,0 +1,5 @@
+pub mod Refusals
+pub mod Requests
+pub mod Plans
+pub mod Serving
+pub mod Sessions
