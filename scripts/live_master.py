@@ -21,8 +21,9 @@ import crates  # (it ends a script quietly where head does)
 
 ROOT = Path(__file__).resolve().parent.parent
 sys.path.insert(0, str(ROOT / "python"))
-from mrjob_plan import Cluster, Split, Worker, calls
-from mrjob_plan.calls import QUERIES, Copy, Ended, Faulty, Ignored, OpenWork, Reduce, Standing, Start, Wave, head
+from mrjob_plan import Cluster, Prices, Split, Worker, calls
+from mrjob_plan.calls import QUERIES, Copy, Ended, Faulty, Ignored, NotCertified, OpenWork, Reduce, Standing, Start, Wave
+from mrjob_plan.calls import Unanswered, head
 from mrjob_plan.master import AsyncMaster, Master, MasterEnded, NoSession
 
 CLUSTER = Cluster({"a": Worker("r"), "b": Worker("r"), "c": Worker("q")})
@@ -76,7 +77,7 @@ def outcome(do, *given):
     """What a call gives, or the class of what it raises, with its number."""
     try:
         return do(*given)
-    except (Ignored, Faulty) as why:
+    except Unanswered as why:
         return type(why), why.number
     except MasterEnded as why:
         return type(why), why.status
@@ -87,7 +88,7 @@ def outcome(do, *given):
 async def awaited(do, *given):
     try:
         return await do(*given)
-    except (Ignored, Faulty) as why:
+    except Unanswered as why:
         return type(why), why.number
 
 
@@ -99,7 +100,7 @@ def played(program, log):
 
 def worked(count, program, room):
     log = room / "worked"
-    with Master(HEAD, program=program, log=log) as master:
+    with Master(HEAD, program=["env", program], log=log) as master:
         got = [(call, outcome(master.do, call)) for call, _ in WORKED]
         after = outcome(master.wave)
     count.expect("a job, call by call", (got, master.status, after), (WORKED, 0, (MasterEnded, 0)))
@@ -135,6 +136,43 @@ def awaiting(count, program, room):
     got, told, status = asyncio.run(whole())
     lines = [call.line for call, _ in logged(WORKED[: at + 3])]
     count.expect("the same, awaited", (got, told, status), ([*WORKED[:at], *WORKED[at + 1 :]], lines, 0))
+
+
+# The best starts of SPLITS, with prices worked by hand: K is 1 + 4 * 30.
+STARTS, PRICES = {"s": "b", "t": "a"}, Prices({"s": 101, "t": 101}, {"a": 20, "b": 0, "c": 0})
+# Plans of a client's own, and what becomes of them one after another.
+OWN_PLANS = [
+    (STARTS, Prices(PRICES.splits, {**PRICES.workers, "c": 1}), (NotCertified, 8)),
+    ({**STARTS, "x": "c"}, PRICES, (Faulty, 3)),
+    (STARTS, Prices(PRICES.splits, {"a": 20}), (Faulty, 10)),
+    (STARTS, PRICES, Wave((Start(1, "s", "b"), Start(2, "t", "a")), 20)),
+    (STARTS, PRICES, (NotCertified, 1)),
+]
+
+
+def own_plans(count, program, room):
+    wanted = [result for _, _, result in OWN_PLANS]
+    log = room / "own plans"
+    with Master(HEAD, program=program, log=log) as master:
+        first = outcome(master.audit)
+        got = [outcome(lambda: master.commit(*plan)) for *plan, _ in OWN_PLANS]
+        text = master.audit()
+        where = None
+        try:
+            master.commit(*OWN_PLANS[0][:2])
+        except NotCertified as why:
+            where = why.place
+    count.expect("plans of a client's own", (first, got, where), ((Ignored, 7), wanted, ("s",)))
+    said = subprocess.run([program, "check"], input=text, capture_output=True, text=True).stdout
+    count.expect("a check certifies the audit", said, "certified 2 20\n")
+    with Master.recover(log, program=program) as master:
+        count.expect("a new master has the plan of the log", (master.audit(), len(master.told) > 9), (text, True))
+
+    async def whole():
+        async with await AsyncMaster.open(HEAD, program=program) as master:
+            return [await awaited(master.commit, *plan) for *plan, _ in OWN_PLANS], await master.audit()
+
+    count.expect("the same, awaited", asyncio.run(whole()), (wanted, text))
 
 
 def refused(count, program, room):
@@ -279,7 +317,7 @@ def go_home(room):
 def main(programs):
     counts = [Count(os.path.abspath(it)) for it in programs]
     for count in counts:
-        for part in (worked, awaiting, refused, recovered, threads, simulated, documents, compiled):
+        for part in (worked, awaiting, own_plans, refused, recovered, threads, simulated, documents, compiled):
             with tempfile.TemporaryDirectory() as room:
                 part(count, count.program, Path(room))
     passed, failed = sum(it.passed for it in counts), sum(it.failed for it in counts)

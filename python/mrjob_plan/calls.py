@@ -9,9 +9,11 @@ import itertools
 from dataclasses import dataclass
 from typing import Callable, Generic, Hashable, Iterable, List, Mapping, Sequence, Tuple, TypeVar
 
-from .clusters import Cluster, Split, items
+from .clusters import Cluster, Prices, Split, items
+from .faults import CONDITIONS
 
 T = TypeVar("T")
+NamedPrices = Prices[Mapping[str, int], Mapping[str, int]]
 
 REASONS = {
     1: "no split and no part runs the attempt",
@@ -54,6 +56,19 @@ class Faulty(Unanswered):
     @classmethod
     def of(cls, line: str, number: int) -> "Faulty":
         return cls(line, number, f"{line[:99]}: fault {number}")
+
+
+class NotCertified(Unanswered):
+    """A plan that its prices do not certify in the present state; `number` is the first condition that fails, and
+    `place` has the names of the split and the worker at which it fails."""
+
+    place: Tuple[str, ...] = ()
+
+    @classmethod
+    def of(cls, line: str, number: int, place: Sequence[str]) -> "NotCertified":
+        error = cls(line, number, f"C{number} fails at {' and '.join(place)}: {CONDITIONS[number]}")
+        error.place = tuple(place)
+        return error
 
 
 @dataclass(frozen=True)
@@ -125,7 +140,7 @@ class OpenWork:
 
 
 # Lines that ask and change nothing. No script has one, so a log has none.
-QUERIES = ("workers", "open", "outputs")
+QUERIES = ("workers", "open", "outputs", "audit")
 
 
 @dataclass(frozen=True)
@@ -136,13 +151,15 @@ class Call(Generic[T]):
     read: Callable[[List[List[str]]], T]
 
     def answered(self, lines: Sequence[str]) -> T:
-        """What the lines of an answer mean. Raises Ignored or Faulty where nothing was done."""
+        """What the lines of an answer mean. Raises Ignored, Faulty or NotCertified where nothing was done."""
         rows = [line.split(" ") for line in lines]
         word = rows[0][0] if rows else ""
         if word == "ignored":
             raise Ignored.of(self.line, int(rows[0][1]))
         if word == "fault":
             raise Faulty.of(self.line, int(rows[0][1]))
+        if word == "refused":
+            raise NotCertified.of(self.line, int(rows[0][1][1:]), rows[0][2:])
         return self.read(rows[1:] if word == "accepted" else rows)
 
 
@@ -150,11 +167,32 @@ def nothing(rows: List[List[str]]) -> None:
     return None
 
 
-def wave() -> Call[Wave]:
-    def read(rows: List[List[str]]) -> Wave:
-        return Wave(tuple(Start(int(it[1]), it[2], it[3]) for it in rows[1:]), int(rows[0][2]))
+def started(rows: List[List[str]]) -> Wave:
+    return Wave(tuple(Start(int(it[1]), it[2], it[3]) for it in rows[1:]), int(rows[0][2]))
 
-    return Call("wave", read)
+
+def wave() -> Call[Wave]:
+    return Call("wave", started)
+
+
+def plan(starts: Mapping[str, str], prices: NamedPrices) -> List[Call[None]]:
+    """The lines that put a plan together: where splits start, and a price of each split and of each worker."""
+    rows = [f"start {split} {worker}" for split, worker in starts.items()]
+    rows += [f"price {name} {price}" for of in (prices.splits, prices.workers) for name, price in items(of)]
+    return [Call(row, nothing) for row in rows]
+
+
+def commit() -> Call[Wave]:
+    return Call("commit", started)
+
+
+def drop() -> Call[None]:
+    return Call("drop", nothing)
+
+
+def audit() -> Call[str]:
+    """The last wave as a text for `mrjob check`."""
+    return Call("audit", lambda rows: "".join(f"{' '.join(it)}\n" for it in rows))
 
 
 def reduce() -> Call[Reduce]:

@@ -6,10 +6,11 @@
         master.done(start.attempt)
 
 Each call is answered before it returns, and any number of threads may call. A call that the master refuses raises
-Ignored or Faulty, and changes nothing. `workers`, `open_work` and `outputs` ask how the master stands. `AsyncMaster`
-has the same calls to be awaited. With a log each line that asks nothing is kept before it is sent: where the master or
-its client has ended, `Master.recover` tells the log to a new master, which comes to where the old one was. A log with
-its `end` is a script for `mrjob play`.
+Ignored or Faulty, and changes nothing. `workers`, `open_work` and `outputs` ask how the master stands, `audit` has the
+last wave as a text for `mrjob check`. `commit` starts a plan of one's own, or raises NotCertified. `AsyncMaster` has the
+same calls to be awaited. With a log each line that asks nothing is kept before it is sent: where the master or its
+client has ended, `Master.recover` tells the log to a new master, which comes to where the old one was. A log without
+plans of one's own is, with its `end`, a script for `mrjob play`.
 """
 import asyncio
 import os
@@ -18,16 +19,19 @@ import threading
 from asyncio.subprocess import Process
 from pathlib import Path
 from types import TracebackType
-from typing import BinaryIO, Iterable, List, Optional, Sequence, Tuple, Type, TypeVar, Union
+from typing import BinaryIO, Iterable, List, Mapping, Optional, Sequence, Tuple, Type, TypeVar, Union
 
 from . import calls
-from .calls import QUERIES, Call, Copy, Ended, Faulty, Ignored, OpenWork, Reduce, Standing, Start, Wave, head
+from .calls import QUERIES, Call, Copy, Ended, Faulty, Ignored, NamedPrices, NotCertified, OpenWork, Reduce, Standing
+from .calls import Start, Wave, head
 
-__all__ = ["AsyncMaster", "Copy", "Ended", "Faulty", "Ignored", "Master", "MasterEnded", "NoSession", "OpenWork"]
-__all__ += ["Reduce", "Standing", "Start", "Wave", "head"]
+__all__ = ["AsyncMaster", "Copy", "Ended", "Faulty", "Ignored", "Master", "MasterEnded", "NoSession", "NotCertified"]
+__all__ += ["OpenWork", "Reduce", "Standing", "Start", "Wave", "head"]
 
 T = TypeVar("T")
 Place = Union[str, "os.PathLike[str]"]
+# The name of a program, or the words that it is called by.
+Program = Union[str, Sequence[str]]
 
 # A line of an index has at most so many bytes.
 MOST_BYTES = 1 << 24
@@ -75,6 +79,10 @@ class Log:
             self.file.close()
 
 
+def serve(program: Program) -> List[str]:
+    return [*([program] if isinstance(program, str) else program), "serve"]
+
+
 def sent(lines: Iterable[str]) -> bytes:
     return "".join(f"{line}\n" for line in lines).encode()
 
@@ -82,6 +90,11 @@ def sent(lines: Iterable[str]) -> bytes:
 def is_query(lines: Sequence[str]) -> bool:
     """A query is put into no log, as it changes nothing."""
     return len(lines) == 1 and lines[0] in QUERIES
+
+
+def one_line_each(lines: Sequence[str]) -> None:
+    if any("\n" in line for line in lines):
+        raise ValueError("a line has no line feed")
 
 
 def opened(answer: Sequence[str]) -> None:
@@ -99,12 +112,13 @@ def parted(log: Sequence[str], path: Place) -> Tuple[Sequence[str], Sequence[str
 class Master:
     """A master of the job that a head declares: the lines of a script up to its `begin`, without it.
 
-    `log` is a file that must not be there yet; with `durable` each of its lines is on the disk before it is sent.
-    Leaving `with` closes the pipe, and the master ends by itself; `status` is then what it ended with.
+    `program` is its name, or words in front of `serve`. `log` is a file that must not be there yet; with `durable` each
+    of its lines is on the disk before it is sent. Leaving `with` closes the pipe, and the master ends by itself;
+    `status` is then what it ended with.
     """
 
     def __init__(
-        self, head: Iterable[str], *, program: str = "mrjob", log: Optional[Place] = None, durable: bool = False
+        self, head: Iterable[str], *, program: Program = "mrjob", log: Optional[Place] = None, durable: bool = False
     ) -> None:
         self._begin(program, Log(log, durable, True))
         try:
@@ -114,7 +128,7 @@ class Master:
             raise
 
     @classmethod
-    def recover(cls, log: Place, *, program: str = "mrjob", durable: bool = False) -> "Master":
+    def recover(cls, log: Place, *, program: Program = "mrjob", durable: bool = False) -> "Master":
         """A new master that was told a log, and goes on with it. `told` has each line with its answer: of the last one
         the old master may not have answered."""
         master = cls.__new__(cls)
@@ -131,12 +145,12 @@ class Master:
             raise
         return master
 
-    def _begin(self, program: str, log: Log) -> None:
+    def _begin(self, program: Program, log: Log) -> None:
         self.told: List[Tuple[str, List[str]]] = []
         self.status: Optional[int] = None
         self._log, self._turn = log, threading.Lock()
         try:
-            self._process = subprocess.Popen([program, "serve"], stdin=subprocess.PIPE, stdout=subprocess.PIPE)
+            self._process = subprocess.Popen(serve(program), stdin=subprocess.PIPE, stdout=subprocess.PIPE)
         except BaseException:
             log.close()
             raise
@@ -169,19 +183,25 @@ class Master:
 
     def tell(self, line: str) -> List[str]:
         """The lines of the answer to a line, whatever it is."""
-        if "\n" in line:
-            raise ValueError("a line has no line feed")
         with self._turn:
-            if self.status is not None:
-                raise MasterEnded(self.status)
-            try:
-                answer = self._told([line])
-            except BaseException:  # (whose answer was not read, so no other could be)
-                self.kill()
-                raise
-            if line == "end":
-                self.status = self._process.wait()
-            return answer
+            return self._tell_all([line])[0]
+
+    def _tell_all(self, lines: Sequence[str]) -> List[List[str]]:
+        """The answers to some lines, which are sent at once; for who has the turn."""
+        one_line_each(lines)
+        if self.status is not None:
+            raise MasterEnded(self.status)
+        if not lines:
+            return []
+        try:
+            first = self._told(lines)
+            answers = [first, *(self._answer() for _ in lines[1:])]
+        except BaseException:  # (whose answer was not read, so no other could be)
+            self.kill()
+            raise
+        if lines[-1] == "end":
+            self.status = self._process.wait()
+        return answers
 
     def do(self, call: Call[T]) -> T:
         return call.answered(self.tell(call.line))
@@ -189,6 +209,20 @@ class Master:
     def wave(self) -> Wave:
         """Starts as many pending splits as any admissible assignment can, at the least byte-distance."""
         return self.do(calls.wave())
+
+    def commit(self, starts: Mapping[str, str], prices: NamedPrices) -> Wave:
+        """Starts a plan of one's own: these splits, each on its worker, if the prices certify that no assignment of the
+        present state is better. Else NotCertified has the first condition that fails, and nothing starts."""
+        plan = calls.plan(starts, prices)
+        with self._turn:
+            answers = self._tell_all([it.line for it in plan])
+            try:
+                for call, answer in zip(plan, answers):
+                    call.answered(answer)
+                return calls.commit().answered(self._tell_all(["commit"])[0])
+            except Faulty:
+                self._tell_all(["drop"])
+                raise
 
     def done(self, attempt: int) -> None:
         """An attempt of a split or of a part is done."""
@@ -245,6 +279,10 @@ class Master:
         """Of each split that is done the accepted attempt, and the worker on which it ran."""
         return self.do(calls.outputs())
 
+    def audit(self) -> str:
+        """The last wave as a text that `mrjob check` certifies: the problem that it found, its starts and its prices."""
+        return self.do(calls.audit())
+
     def end(self) -> Ended:
         """Ends the session: the index, or what is open."""
         return self.do(calls.end())
@@ -281,10 +319,10 @@ class AsyncMaster:
         self._process, self._log, self._turn = process, log, asyncio.Lock()
 
     @classmethod
-    async def _begin(cls, program: str, log: Log) -> "AsyncMaster":
+    async def _begin(cls, program: Program, log: Log) -> "AsyncMaster":
         pipe = asyncio.subprocess.PIPE
         try:
-            process = await asyncio.create_subprocess_exec(program, "serve", stdin=pipe, stdout=pipe, limit=MOST_BYTES)
+            process = await asyncio.create_subprocess_exec(*serve(program), stdin=pipe, stdout=pipe, limit=MOST_BYTES)
         except BaseException:
             log.close()
             raise
@@ -292,7 +330,7 @@ class AsyncMaster:
 
     @classmethod
     async def open(
-        cls, head: Iterable[str], *, program: str = "mrjob", log: Optional[Place] = None, durable: bool = False
+        cls, head: Iterable[str], *, program: Program = "mrjob", log: Optional[Place] = None, durable: bool = False
     ) -> "AsyncMaster":
         master = await cls._begin(program, Log(log, durable, True))
         try:
@@ -303,7 +341,7 @@ class AsyncMaster:
         return master
 
     @classmethod
-    async def recover(cls, log: Place, *, program: str = "mrjob", durable: bool = False) -> "AsyncMaster":
+    async def recover(cls, log: Place, *, program: Program = "mrjob", durable: bool = False) -> "AsyncMaster":
         master = await cls._begin(program, Log(log, durable, False))
         try:
             first, rest = parted(master._log.whole_lines(), log)
@@ -343,25 +381,44 @@ class AsyncMaster:
             lines.append(line[:-1].decode())
 
     async def tell(self, line: str) -> List[str]:
-        if "\n" in line:
-            raise ValueError("a line has no line feed")
         # (a caller that is cancelled leaves no answer unread)
         return await asyncio.shield(self._tell(line))
 
     async def _tell(self, line: str) -> List[str]:
         async with self._turn:
-            if self.status is not None:
-                raise MasterEnded(self.status)
-            answer = await self._told([line])
-            if line == "end":
-                self.status = await self._process.wait()
-            return answer
+            return (await self._tell_all([line]))[0]
+
+    async def _tell_all(self, lines: Sequence[str]) -> List[List[str]]:
+        one_line_each(lines)
+        if self.status is not None:
+            raise MasterEnded(self.status)
+        if not lines:
+            return []
+        first = await self._told(lines)
+        answers = [first, *[await self._answer() for _ in lines[1:]]]
+        if lines[-1] == "end":
+            self.status = await self._process.wait()
+        return answers
+
+    async def _commit(self, plan: Sequence[Call[None]]) -> Wave:
+        async with self._turn:
+            answers = await self._tell_all([it.line for it in plan])
+            try:
+                for call, answer in zip(plan, answers):
+                    call.answered(answer)
+                return calls.commit().answered((await self._tell_all(["commit"]))[0])
+            except Faulty:
+                await self._tell_all(["drop"])
+                raise
 
     async def do(self, call: Call[T]) -> T:
         return call.answered(await self.tell(call.line))
 
     async def wave(self) -> Wave:
         return await self.do(calls.wave())
+
+    async def commit(self, starts: Mapping[str, str], prices: NamedPrices) -> Wave:
+        return await asyncio.shield(self._commit(calls.plan(starts, prices)))
 
     async def done(self, attempt: int) -> None:
         await self.do(calls.done(attempt))
@@ -404,6 +461,9 @@ class AsyncMaster:
 
     async def outputs(self) -> Tuple[Start, ...]:
         return await self.do(calls.outputs())
+
+    async def audit(self) -> str:
+        return await self.do(calls.audit())
 
     async def end(self) -> Ended:
         return await self.do(calls.end())
