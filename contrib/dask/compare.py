@@ -28,16 +28,15 @@ from random import Random
 from statistics import median
 from typing import NamedTuple
 
-from distributed import get_worker
+from distributed import Client, get_worker
 
 sys.dont_write_bytecode = True
 sys.path.append(str(Path(__file__).resolve().parents[2] / "python"))
 from mrjob_dask import Blocks, Files, Job, Keys, Place, Planner, Row, Work, planner_of
-from mrjob_dask.calls import Look, as_it_is, piece_key, read_files, sent
-from mrjob_dask.job import map_task
+from mrjob_dask.calls import as_it_is, look, piece_key, read_files, sent
+from mrjob_dask.job import map_task, pick_task, reduce_task
 from mrjob_dask.keys import as_hdfs
-from mrjob_dask.placing import Attempt
-from mrjob_dask.planner import Plan, Split, Wave, distance, nearest
+from mrjob_dask.planner import Plan, Wave, distance, nearest
 
 from cluster import Cluster
 
@@ -65,27 +64,34 @@ def read_nearest(sources: dict[str, str], pieces) -> bytes:
     return read_files(sources[get_worker().address], pieces)
 
 
-class ByDask(Job):
+class ByDask:
     """The same job, all its maps submitted at once and placed by Dask."""
 
     is_bound = False  # whether a map may run on holders alone
 
-    def start_wave(self, seen: Look, places: dict[str, Place], pending: dict[str, Split]) -> None:
-        for number, (split, (_, holders, _)) in enumerate(pending.items(), 1):
-            if isinstance(self.blocks, Keys):
-                read, given = as_it_is, [self.blocks.futures[split]]
-            else:
-                sources = {it: nearest(places, it, holders) for it in places}
-                read, given = read_nearest, [sources, self.blocks.pieces[split]]
-            future = self.client.submit(
-                map_task(self.work, read), self.blocks.pieces[split], *given, key=f"{self.key}{number}",
-                workers=holders if self.is_bound else None,
-            )
-            self.maps[split] = Attempt(split, number, 1, "", "", 0, self.watch(future))
-            self.attempts.append(self.maps[split])
+    def __init__(self, client: Client, blocks: Blocks, work: Work, *_, **__) -> None:
+        self.client, self.blocks, self.work = client, blocks, work
+        self.seen = look(client, keys=blocks.keys(blocks.pieces))
 
-    def end_of(self, attempt: Attempt, seen: Look) -> str:
-        return "done" if attempt.future.status == "finished" else attempt.end
+    def reads(self, split: str) -> list:
+        """What a map reads its block with, and from what."""
+        if isinstance(self.blocks, Keys):
+            return [as_it_is, self.blocks.futures[split]]
+        places, holders = {at: place_of(it.name) for at, it in self.seen.workers.items()}, self.holders(split)
+        return [read_nearest, {it: nearest(places, it, holders) for it in places}, self.blocks.pieces[split]]
+
+    def holders(self, split: str) -> list[str]:
+        return self.blocks.holders(split, self.seen)
+
+    def run(self) -> list:
+        maps, tasks = [], {}
+        for split, pieces in self.blocks.pieces.items():
+            read, *given = self.reads(split)
+            task = tasks.setdefault(read, map_task(self.work, read))
+            where = self.holders(split) if self.is_bound else None
+            maps.append(self.client.submit(task, pieces, *given, pure=False, workers=where))
+        outputs = self.client.map(pick_task(), maps, [0] * len(maps), pure=False)
+        return [self.client.submit(reduce_task(self.work), outputs, pure=False).result()]
 
 
 class OnHolders(ByDask):
@@ -237,12 +243,8 @@ def many(planner: Planner, runs: int) -> None:
 class Unread(ByDask):
     """Maps that read nothing, placed by Dask."""
 
-    def start_wave(self, seen: Look, places: dict[str, Place], pending: dict[str, Split]) -> None:
-        for number, split in enumerate(pending, 1):
-            call = self.call(split, "", "")
-            future = self.client.submit(call.function, *call.arguments, key=f"{self.key}{number}")
-            self.maps[split] = Attempt(split, number, 1, "", "", 0, self.watch(future))
-            self.attempts.append(self.maps[split])
+    def reads(self, split: str) -> list:
+        return [self.blocks.read, "", []]
 
 
 def main() -> None:

@@ -1,9 +1,9 @@
 #!/usr/bin/python3
-"""The inverted index of files, by a Dask cluster that runs, each wave of its maps placed by a planner.
+"""The inverted index of files, by a Dask cluster that runs, its maps and reduces placed by `mrjob serve`.
 
     dask-scheduler &
     dask-worker tcp://HOST:8786 --name r0.w0 --nthreads 2 &         one on each node
-    contrib/dask/index.py FOLDER --scheduler tcp://HOST:8786 --check
+    contrib/dask/index.py FOLDER --scheduler tcp://HOST:8786
 
 The files below FOLDER are cut in blocks and laid in the memory of workers, as HDFS would lay them. Or blocks lie on the
 nodes' disks already: by `--table FILE`, of lines `FILE OFFSET BYTES NODE..`, each being a worker's name or host, a map
@@ -39,11 +39,11 @@ from mrjob_dask import Blocks, Files, Job, Keys, LostBlock, RarestFirst, Unfit, 
 from mrjob_dask import read_table, read_web
 from mrjob_dask.calls import look
 from mrjob_dask.files import Row
-from mrjob_dask.history import History
 from mrjob_dask.keys import as_hdfs
 from mrjob_dask.placing import GRACE, DeadlySplit
 from mrjob_dask.report import progress, report_lines
 from mrjob_dask.topology import Topology
+from mrjob_plan.master import MasterEnded
 
 import words
 from problem_of_hdfs import Stop, read_listing
@@ -104,12 +104,12 @@ def words_of() -> argparse.Namespace:
     add("--hdfs", help="blocks in HDFS, as fsck lists them")
     add("--webhdfs", help="where HDFS is read, such as http://NAMENODE:9870")
     add("--scheduler", required=True, help="the address of Dask's scheduler")
-    add("--planner", default="", help="a command such as `bin/mrjob plan`, or `library`, which is taken if it is there")
+    add("--planner", default="", help="`PROGRAM plan`, whose session decides the job, or `library`, which plans waves")
     add("--rarest-first", action="store_true", help="of equal plans, one with the blocks hardest to place later")
     add("--ahead", action="store_true", help="plan all blocks that wait onto queues, and not wave by wave")
     add("--backup", type=float, metavar="TIMES",
         help="once no block waits, start a map that has run for so many times the mean on a second worker")
-    add("--check", action="store_true", help="let each plan be checked by its prices")
+    add("--check", action="store_true", help="where no session decides, let each plan be checked by its prices")
     add("--workers", type=int, default=1, help="wait until so many are there")
     add("--topology", help="lines NAME RACK [CENTRE]")
     add("--grace", type=float, default=GRACE, help="for so many seconds a block may have no living holder")
@@ -119,7 +119,7 @@ def words_of() -> argparse.Namespace:
     add("--seed", type=int, default=1, help="which places blocks are laid at")
     add("--out", help="where the index is written; standard output else")
     add("--report", help="where it is told what was started and carried")
-    add("--history", metavar="NAME", help="write the maps as a script NAME.txt with its report NAME.out")
+    add("--history", metavar="NAME", help="write the session as a script NAME.txt with its report NAME.out")
     asked = parser.parse_args()
     if sum(map(bool, (asked.folder, asked.table, asked.hdfs))) != 1:
         parser.error("one of FOLDER, --table and --hdfs is wanted")
@@ -145,10 +145,12 @@ def write_all(job: Job, lines: list[str], asked: argparse.Namespace) -> None:
     report = report_lines(job)
     if asked.report:
         write(report, asked.report)
-    if asked.history:
-        history = History(job)
-        write(history.script, f"{asked.history}.txt")
-        write(history.report, f"{asked.history}.out")
+    history = job.history()
+    if asked.history and not history:
+        print("index.py: there is no history, since no session of the program decided the job", file=sys.stderr)
+    elif asked.history and history:
+        for kind, its in zip(("txt", "out"), history):
+            write(its, f"{asked.history}.{kind}")
     write(lines, asked.out)
     print("\n" * sys.stderr.isatty() + report[-1], file=sys.stderr)
 
@@ -157,11 +159,13 @@ def run(asked: argparse.Namespace) -> None:
     """Runs the job on the cluster."""
     racks, planner = racks_of(asked.topology), planner_of(asked.planner, asked.check)
     planner = RarestFirst(planner) if asked.rarest_first else planner
+    is_chosen = asked.planner or asked.ahead or asked.rarest_first
     with Client(asked.scheduler) as client:
         client.wait_for_workers(asked.workers)
         blocks = blocks_asked(client, asked, racks)
         work = Work(map_words, reduce_words, asked.parts)
-        job = Job(client, blocks, work, racks, planner, asked.grace, progress, asked.ahead, asked.backup)
+        decides = planner if is_chosen else None
+        job = Job(client, blocks, work, racks, decides, asked.grace, progress, asked.ahead, asked.backup)
         try:
             write_all(job, index_lines(job.run()), asked)
         finally:
@@ -178,7 +182,7 @@ def main() -> int:
     except (LostBlock, DeadlySplit) as why:
         print(f"index.py: {why}", file=sys.stderr)
         return 1
-    except (Unfit, Stop, OSError) as why:
+    except (Unfit, Stop, MasterEnded, OSError) as why:
         print(f"index.py: {why}", file=sys.stderr)
         return 2
     return 0

@@ -9,7 +9,7 @@ from collections import Counter
 from random import Random
 from typing import Callable
 
-from trial import Count, Gate, Trial, Watched, place_of, wait_first  # (which finds the packages)
+from trial import Count, Gate, Trial, judged, place_of, wait_first  # (which finds the packages)
 
 from mrjob_dask import Place, Placing, Planner
 from mrjob_dask.ahead import Pace, Queues
@@ -175,7 +175,7 @@ def one_clock(planner: Planner, seed: int, is_ahead: bool) -> int:
 # ---- on a cluster ----
 
 
-def backups(trial: Trial, count: Count, sort: str, judged: Callable[[Watched, Count, str], None]) -> None:
+def backups(trial: Trial, count: Count, sort: str) -> None:
     """A map goes on for ever: its block is mapped on another worker, and the job ends."""
     blocks = getattr(trial, sort)()
     slow = [*blocks.pieces][4]
@@ -194,7 +194,7 @@ def backups(trial: Trial, count: Count, sort: str, judged: Callable[[Watched, Co
     count.holds(f"{says}: the index is that of the reference", lines == trial.wanted)
     ends = [it.end for it in job.attempts if it.split == slow]
     count.holds(f"{says}: its second attempt is done, and it is late", ends == ["late", "done"], ends)
-    kinds = [event[0] for event in job.events if event[0] in ("wave", "backup")]
+    kinds = [it for it in job.told() if it in ("wave", "backup")]
     again = Counter(it.split for it in job.attempts).most_common(1)[0][1]
     is_last = kinds == sorted(kinds, reverse=True)
     count.holds(f"{says}: no second attempt starts while splits wait, and no third", is_last and again == 2, kinds)

@@ -12,7 +12,7 @@ from collections import Counter
 from pathlib import Path
 from typing import Any
 
-from trial import NAMES, PARTS, ROOT, Count, Gate, Trial, Watched, place_of  # (which finds the packages)
+from trial import NAMES, PARTS, ROOT, Count, Gate, Trial, Watched, judged, place_of  # (which finds the packages)
 
 from distributed import Client, Status
 from mrjob_dask import DeadlySplit, Job, Keys, Placing, Planner, Work
@@ -56,11 +56,12 @@ def paused(trial: Trial, count: Count, sort: str) -> None:
     set_worker(trial, job.names[at[0]], Status.running, 0)
     says = f"{sort}, a paused worker"
     count.holds(f"{says}: the index is that of the reference", lines == trial.wanted)
-    kinds = {event[0] for event in job.events} & {"die", "join", "lost", "failed"}
+    kinds = {*job.told()} & {"die", "join", "withdraw", "fail"}
     count.holds(f"{says}: nothing is lost, and each block starts once",
                 not kinds and len(job.attempts) == len(blocks.pieces), kinds)
     free = {wave.wave.slots[at[0]] for wave in job.waves[1:]}
     count.holds(f"{says}: no wave has slots on it", free == {0}, free)
+    judged(job, count, says)
 
 
 def busy(trial: Trial, count: Count) -> None:
@@ -223,7 +224,7 @@ def returning(trial: Trial, count: Count, all_die: bool) -> None:
         job = trial.job(blocks, gate, {pieces[0] for pieces in blocks.pieces.values()}, step)
         job.grace = 1e9
         lines = index_lines(job.run())
-    kinds = [event[0] for event in job.events if event[0] in ("die", "join")]
+    kinds = [it for it in job.told() if it in ("die", "join")]
     says = "all workers return" if all_die else "a holder that returns"
     count.holds(f"{says}: the index is that of the reference", lines == trial.wanted)
     number = len(killed)
@@ -287,7 +288,38 @@ def joins(trial: Trial, count: Count, sort: str) -> None:
     steps = {it.steps for it in job.attempts if job.names[it.worker] == name}
     count.holds(f"{sort}, a worker that comes: the index is that of the reference", lines == trial.wanted)
     count.holds(f"{sort}, a worker that comes: it maps blocks of other racks", 4 in steps <= {0, 4}, steps)
+    judged(job, count, f"{sort}, a worker that comes")
     trial.here.kill(name)
+
+
+def renewed(trial: Trial, count: Count, sort: str) -> None:
+    """A session has told too much, while maps run and others are done: another one goes on."""
+    blocks, first = getattr(trial, sort)(), []
+    with trial.room() as room:
+        gate = Gate(room)
+
+        def step(job: Watched) -> None:
+            if not first and len(job.ended("done")) > 9:
+                first.append(job.master)
+                job.master.is_worn = True
+            elif first and job.master is not first[0]:
+                gate.open()
+
+        job = trial.job(blocks, gate, {pieces[0] for pieces in [*blocks.pieces.values()][-3:]}, step)
+        lines = index_lines(job.run())
+    count.holds(f"{sort}, a new session: the index is that of the reference", lines == trial.wanted)
+    count.holds(f"{sort}, a new session: each block starts once", len(job.attempts) == len(blocks.pieces))
+    judged(job, count, f"{sort}, a new session")
+
+
+def many_parts(trial: Trial, count: Count) -> None:
+    """A job has more parts than a session: a planner goes wave by wave."""
+    with trial.room() as room:
+        job = trial.job(trial.keys(), Gate(room), set(), lambda job: None)
+        job.work = job.work._replace(parts=65)
+        lines = index_lines(job.run())
+    count.holds("65 parts: the index is that of the reference", lines == trial.wanted)
+    count.holds("65 parts: no session decides", job.history() is None)
 
 
 def spoilt(trial: Trial, count: Count, is_there: bool) -> None:
@@ -332,7 +364,7 @@ def halted(trial: Trial, count: Count, sort: str) -> None:
         lines = index_lines(job.run())
     count.holds(f"{sort}, a worker that is stopped for a while: the index is that of the reference",
                 lines == trial.wanted)
-    kinds = {event[0] for event in job.events} & {"die", "join", "lost"}
+    kinds = {*job.told()} & {"die", "join", "withdraw"}
     count.holds(f"{sort}, a worker that is stopped for a while: it is not taken for dead", not kinds, kinds)
 
 
@@ -362,6 +394,8 @@ def faults(trial: Trial, count: Count) -> None:
         two_deaths(trial, count, sort)
         joins(trial, count, sort)
         halted(trial, count, sort)
+        renewed(trial, count, sort)
+    many_parts(trial, count)
     for is_there in (True, False):
         spoilt(trial, count, is_there)
     busy(trial, count)

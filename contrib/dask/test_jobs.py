@@ -7,11 +7,10 @@ from __future__ import annotations
 from collections import Counter
 from typing import Callable
 
-from trial import NAMES, Count, Gate, Trial, Watched, place_of  # (which finds the packages)
+from trial import NAMES, Count, Gate, Trial, Watched, judged, place_of  # (which finds the packages)
 
 from mrjob_dask import Blocks, Files, LostBlock, Planner, Row
 from mrjob_dask.calls import look, piece_key, sent
-from mrjob_dask.history import History
 from mrjob_dask.planner import distance
 
 from cluster import Cluster, until
@@ -19,8 +18,6 @@ from test_ahead import backups, stopped
 from test_faults import faults
 from test_place import placed
 from words import index_lines
-
-from reference_play import misplayed
 
 
 def carried(trial: Trial, blocks: Blocks) -> Counter:
@@ -52,16 +49,6 @@ def undisturbed(trial: Trial, count: Count, sort: str) -> None:
     count.holds(f"{sort}: each block starts once", len(job.attempts) == len(blocks.pieces) == len(job.ended("done")))
     count.holds(f"{sort}: no wave starts more on a worker than it has slots", within_slots(job))
     judged(job, count, sort)
-
-
-def judged(job: Watched, count: Count, says: str) -> None:
-    """The reference for scripts finds each event legal, and each wave best in its state, where waves are planned."""
-    if job.queues:
-        return
-    told = History(job)
-    script, report = ("".join(f"{line}\n" for line in it).encode() for it in (told.script, told.report))
-    wrong = misplayed(script, report, 1)
-    count.holds(f"{says}: its maps are a legal history, each wave best, by the reference", wrong is None, wrong)
 
 
 def killer(trial: Trial, gate: Gate, is_time: Callable[[Watched], str], killed: list) -> Callable[[Watched], None]:
@@ -212,6 +199,7 @@ def beside_others(trial: Trial, count: Count) -> None:
     free = {job.names[it] for it, number in job.waves[0].wave.slots.items() if number}
     count.holds("beside others' tasks: the index is that of the reference", lines == trial.wanted)
     count.holds("beside others' tasks: the first wave goes to those that are free", free == {*NAMES[4:]}, free)
+    judged(job, count, "beside others' tasks")
 
 
 def jobs(planner: Planner, count: Count, more: Callable[[Trial, Count], None]) -> None:
@@ -222,7 +210,7 @@ def jobs(planner: Planner, count: Count, more: Callable[[Trial, Count], None]) -
             undisturbed(trial, count, sort)
             for when in DEATHS:
                 death(trial, count, sort, when)
-            backups(trial, count, sort, judged)
+            backups(trial, count, sort)
         trial.is_ahead = True
         for sort, when in (("files", "a running map"), ("keys", "a done map")):
             undisturbed(trial, count, sort)

@@ -20,6 +20,7 @@ from mrjob_dask.keys import as_hdfs
 from mrjob_dask.placing import Attempt
 
 import reference_run
+from reference_play import misplayed
 import words
 from cluster import Cluster, until
 from words import blocks_of, map_words, reduce_words
@@ -123,11 +124,26 @@ class Watched(Job):
         self.seen_rounds: list[tuple[set[int], set[int]]] = []
 
     def start_reduces(self) -> None:
+        before = {*self.reduces}
         super().start_reduces()
-        self.seen_rounds.append(({*self.results}, {*self.reduces}))
+        if {*self.reduces} - before:
+            self.seen_rounds.append(({*self.results}, {*self.reduces} - before))
+
+    def told(self) -> list[str]:
+        """The commands of its session."""
+        script, _ = self.history()
+        return [line.partition(" ")[0] for line in script[script.index("begin") + 1 :]]
 
     def ended(self, end: str) -> list[Attempt]:
         return [it for it in self.attempts if it.end == end]
+
+
+def judged(job: Watched, count: Count, says: str) -> None:
+    """The reference for scripts finds each event legal, and each wave best in its state, where a session decides."""
+    if job.program:
+        script, report = ("".join(f"{line}\n" for line in it).encode() for it in job.history())
+        wrong = misplayed(script, report, 0)
+        count.holds(f"{says}: it is a legal history, each wave best, by the reference", wrong is None, wrong)
 
 
 class Trial:

@@ -5,8 +5,8 @@ byte-distance (bytes times the steps that they go).
     futures = place_map(client, function, futures)              of keys on the cluster
     results = Job(client, Files(client, {"node": paths}), Work(map, reduce, parts)).run()
 
-The client is the master: it looks at the cluster, asks a planner for a wave, and starts each task on its planned
-worker alone. Nothing is installed on the cluster; what is sent to it is sent whole.
+The client looks at the cluster, asks a planner for a wave, or for a job the live master `mrjob serve`, and starts each
+task on its worker alone. Nothing is installed on the cluster; what is sent to it is sent whole.
 """
 import sys
 

@@ -24,10 +24,11 @@ Piece = tuple[str, int, int]
 
 
 class Seen(NamedTuple):
-    """A live worker: its name, the threads on which tasks may start, none while it is paused, and how many tasks it
-    has that are not of the mark for which was looked."""
+    """A live worker: its name, its slots, the threads on which tasks may start, none while it is paused, and how many
+    tasks it has that are not of the mark for which was looked."""
 
     name: str
+    slots: int
     threads: int
     others: int
 
@@ -54,10 +55,10 @@ def look(client: Client, mark: str = "", keys: Sequence[str] = ()) -> Look:
         is_own = lambda task: bool(mark) and str(task.key).startswith(mark)
         threads = lambda worker: worker.nthreads if worker.status.name == "running" else 0
         others = lambda worker: sum(not is_own(task) for task in worker.processing)
-        workers = {at: (str(it.name), threads(it), others(it)) for at, it in dask_scheduler.workers.items()}
+        workers = dask_scheduler.workers.items()
         tasks = [dask_scheduler.tasks[key] for key in keys if key in dask_scheduler.tasks]
         return (
-            workers,
+            {address: (str(it.name), it.nthreads, threads(it), others(it)) for address, it in workers},
             [task.key for task in dask_scheduler.unrunnable if is_own(task)],
             {task.key: [it.address for it in task.who_has] for task in tasks},
         )

@@ -1,4 +1,4 @@
-"""A MapReduce job on a Dask cluster: maps of blocks that start where a planner says, and reduces that Dask places."""
+"""A MapReduce job on a Dask cluster, whose maps and reduces start where a session of `mrjob serve` says."""
 from __future__ import annotations
 
 import asyncio
@@ -7,11 +7,15 @@ from contextlib import suppress
 from typing import Any, Callable, NamedTuple, Optional
 
 from distributed import Client, Future
+from mrjob_plan import calls
+from mrjob_plan.calls import Ignored
+from mrjob_plan.master import NoSession
 
 from .blocks import Blocks
-from .calls import Call, Piece
+from .calls import Call, Look, Piece
+from .masters import Session
 from .placing import GRACE, MOST_TRIES, Attempt, Placing
-from .planner import Planner
+from .planner import Place, Planner, program_of
 from .topology import Racks
 
 TimeOut = (TimeoutError, asyncio.TimeoutError)
@@ -56,7 +60,9 @@ def reduce_task(work: Work) -> Callable[[list[bytes]], Any]:
 
 
 class Job(Placing):
-    """A job over blocks, which are read where a plan puts their maps."""
+    """A job over blocks, which are read where their maps are put. A session of the program `mrjob` decides all of it;
+    a planner goes wave by wave in its place where `planner` is none of the program's, with `ahead`, and where there is
+    no program or a session has no room for the job."""
 
     def __init__(
         self,
@@ -71,21 +77,30 @@ class Job(Placing):
         backup: Optional[float] = None,
     ) -> None:
         super().__init__(client, blocks, racks, planner, grace, step, ahead, backup)
+        self.program = [] if ahead else program_of(planner)
         self.blocks, self.work = blocks, work
         self.tasks: dict[Callable[..., Any], Callable[..., list[bytes]]] = {}
         self.part_key, self.reduce_key = f"mrjob-part{self.mark}", f"mrjob-reduce{self.mark}"
-        self.reduces: dict[int, Future] = {}
+        self.reduces: dict[int, tuple[int, Future]] = {}  # of parts that run, by which attempt of the master
         self.results: dict[int, Any] = {}
         self.rounds, self.failed_reduces = 0, 0
 
     def run(self) -> list[Any]:
         """The result of each part. Raises LostBlock, DeadlySplit, Unfit, or what a map or a reduce raised too often."""
-        while len(self.results) < self.work.parts:
-            if self.turn() and not self.reduces:
-                self.start_reduces()
-            self.collect()
+        try:
+            while len(self.results) < self.work.parts:
+                if self.turn():
+                    self.start_reduces()
+                self.collect()
+        finally:
+            self.master.close()
         self.let_go(self.late)
         return [self.results[part] for part in range(self.work.parts)]
+
+    def history(self) -> Optional[tuple[list[str], list[str]]]:
+        """The script of the session, the last one if there were several, and its report, as `mrjob play` writes it;
+        nothing where a planner went wave by wave."""
+        return (self.master.script, self.master.report) if isinstance(self.master, Session) else None
 
     def call(self, split: str, worker: str, source: str) -> Call:
         """The map of a block. (Dask pickles a function once, so each read has one task.)"""
@@ -94,43 +109,83 @@ class Job(Placing):
             self.tasks[read] = map_task(self.work, read)
         return Call(worker, self.tasks[read], [self.blocks.pieces[split], *given])
 
+    def enter_workers(self, seen: Look, places: dict[str, Place]) -> bool:
+        """As others do; but a session begins with the first workers, and another one where a worker came that it does
+        not know, or where it is worn."""
+        session = self.master if isinstance(self.master, Session) else None
+        if self.program and places and not (session and session.is_fit(places)):
+            try:
+                self.open_session(seen, places)
+            except NoSession:  # (more blocks or parts than there is room for)
+                self.program = []
+        return super().enter_workers(seen, places)
+
+    def open_session(self, seen: Look, places: dict[str, Place]) -> None:
+        """Begins a session, and tells it what is done and what runs."""
+        for attempt in self.going:
+            attempt.told = 0
+        told = [it for it in self.maps.values() if it.worker in places]
+        session = Session(self.program, seen, places, self.names, self.blocks, self.work.parts, told)
+        self.master.close()
+        self.master, self.waiting, self.alive = session, [], {*places}
+        self.reduces = {part: (0, future) for part, (_, future) in self.reduces.items()}
+
     def drop(self, attempt: Attempt) -> None:
+        """Forgets an attempt, and all reduces, which may have lost what they read."""
         super().drop(attempt)
-        self.reduces = {}
+        for part in [*self.reduces]:
+            self.forget(part)
+
+    def forget(self, part: int) -> None:
+        with suppress(Ignored):  # (where it was lost with a worker)
+            self.master.tell(calls.fail(self.reduces.pop(part)[0]))
+
+    def where(self, worker: str) -> dict[str, Any]:
+        """Where Dask is to put a part, or what is picked for it: on this worker if it has a thread free, else off those
+        that late maps or others' tasks keep busy, if there are any."""
+        free = [at for at, slots in self.slots_seen.items() if slots]
+        at = [worker] if worker in free else free if worker or self.late else []
+        return {"workers": at, "allow_other_workers": True} if at else {}
 
     def start_reduces(self) -> None:
-        """Starts what is left of the parts. Maps are divided where they lie, if late maps leave a thread there; Dask
-        places what merges a part."""
+        """Starts the parts that the master starts. Maps are divided where they lie, if late maps leave a thread
+        there."""
+        left = [it for it in range(self.work.parts) if it not in self.results and it not in self.reduces]
+        starts = self.master.reduces(left)
+        for it in starts:
+            if it.part in self.results:
+                self.master.tell(calls.done(it.attempt))
+            elif it.part in self.reduces:  # (which goes on, though another session began, or a worker died)
+                self.reduces[it.part] = it.attempt, self.reduces[it.part][1]
+        starts = [it for it in starts if it.part in left]
+        if not starts:
+            return
         self.rounds += 1
-        parts = [part for part in range(self.work.parts) if part not in self.results]
         maps = [self.maps[split] for split in self.blocks.pieces]
-        where: dict[str, Any] = {"workers": self.with_threads(), "allow_other_workers": True} if self.late else {}
-        pairs = [(it, part) for part in parts for it in maps]
+        pairs = [(it, start.part) for start in starts for it in maps]
         outputs = self.client.map(
             pick_task(), [it.future for it, _ in pairs], [part for _, part in pairs],
-            key=[f"{self.part_key}{part}-{it.number}-{self.rounds}" for it, part in pairs], **where,
+            key=[f"{self.part_key}{part}-{it.number}-{self.rounds}" for it, part in pairs], **self.where(""),
         )
-        for at, part in enumerate(parts):
-            self.reduces[part] = self.watch(
-                self.client.submit(
-                    reduce_task(self.work), outputs[at * len(maps) : (at + 1) * len(maps)],
-                    key=f"{self.reduce_key}{part}-{self.rounds}", **where,
-                )
+        for at, start in enumerate(starts):
+            future = self.client.submit(
+                reduce_task(self.work), outputs[at * len(maps) : (at + 1) * len(maps)],
+                key=f"{self.reduce_key}{start.part}-{self.rounds}", **self.where(start.worker),
             )
+            self.reduces[start.part] = start.attempt, self.watch(future)
 
     def collect(self) -> None:
         """Takes the parts that are done, so that they are not made again whoever dies."""
-        for part, future in [*self.reduces.items()]:
+        for part, (attempt, future) in [*self.reduces.items()]:
             if future.status == "finished":
-                with suppress(*TimeOut, CancelledError):  # its worker may have died in between
+                with suppress(*TimeOut, CancelledError, Ignored):  # its worker may have died in between
                     self.results[part] = future.result(timeout=10)
                     del self.reduces[part]
+                    self.master.tell(calls.done(attempt))
             elif future.status == "error":
                 self.failed_reduces += 1
                 if self.failed_reduces >= MOST_TRIES:
                     future.result()
-                self.reduces = {}
-                return
+                self.forget(part)
             elif future.status in ("cancelled", "lost"):
-                self.reduces = {}
-                return
+                self.forget(part)

@@ -1,7 +1,8 @@
-"""The client-side loop: calls over splits, each started where a plan says, wave by wave, until all are done.
+"""The client-side loop: calls over splits, each started where a master says, until all are done.
 
-A call may run on its planned worker alone, so Dask never queues, moves or steals it. Where that worker dies the
-scheduler sets the call aside, running or done alike, and the loop plans its split again.
+A call may run on its worker alone, so Dask never queues, moves or steals it. Where that worker dies the scheduler sets
+the call aside, running or done alike, the master is told of the death, and says what is open again. The loop looks at
+the cluster, tells what it sees, and carries out what is answered.
 """
 from __future__ import annotations
 
@@ -9,20 +10,24 @@ import threading
 import time
 import uuid
 from collections import Counter, defaultdict
-from dataclasses import dataclass, field
-from typing import Any, Callable, Mapping, NamedTuple, Optional
+from contextlib import suppress
+from typing import Any, Callable, Mapping, NamedTuple, Optional, Sequence, Union
 
 from distributed import Client, Future
+from mrjob_plan import calls
+from mrjob_plan.calls import Ignored, Start
 
 from .ahead import Pace, Queues
 from .blocks import Splits
 from .calls import Call, Look, look, start
-from .planner import Place, Planner, Split, Wave, distance, nearest, planner_of, wave_of
+from .masters import Attempt, Session, Waves
+from .planner import Place, Planner, Split, Wave, distance, nearest, planner_of
 from .topology import Racks, Topology
 
 MOST_TRIES = 4  # so often a call may raise
 MOST_DEATHS = 3  # and on so many workers it may be running as they die
 GRACE = 30.0  # seconds for which a split may be without a holder, as while a nanny restarts its worker
+ENDS = {"done": calls.done, "failed": calls.fail, "lost": calls.withdraw}  # as the master is told of them
 
 
 class LostBlock(Exception):
@@ -33,24 +38,8 @@ class DeadlySplit(Exception):
     """The call of a split was running on several workers as they died."""
 
 
-@dataclass
-class Attempt:
-    """A call of a split that was started: by which wave, none for a second one, where, and from which holder it reads,
-    how far. It ends as done, failed, lost or late, the last where the split's other attempt was done before."""
-
-    split: str
-    number: int
-    wave: int
-    worker: str
-    source: str
-    steps: int
-    future: Future
-    end: str = "running"
-    began: float = field(default_factory=time.monotonic)
-
-
 class Planned(NamedTuple):
-    """A wave that started something, with its byte-distance and its attempts."""
+    """What a turn saw that began something, with the byte-distance and the attempts of what it began."""
 
     wave: Wave
     cost: int
@@ -75,26 +64,26 @@ class Placing:
         backup: Optional[float] = None,
     ) -> None:
         self.client, self.splits = client, splits
-        self.planner = planner or planner_of()
-        self.pace, self.backup = Pace(), backup
-        self.queues = Queues(self.planner, self.pace) if ahead else None
+        self.pace, self.backup, planner = Pace(), backup, planner or planner_of()
+        self.master: Union[Session, Waves] = Waves(planner, Queues(planner, self.pace) if ahead else None)
         self.topology, self.grace, self.step = Topology(racks), grace, step
         # (Dask learns how long tasks take by the words in front of a key)
         self.mark = f"-{uuid.uuid4().hex[:8]}-"
         self.key = f"mrjob-map{self.mark}"
-        self.maps: dict[str, Attempt] = {}  # of each split the attempt that runs or is done
-        self.seconds: dict[str, Attempt] = {}  # of a split that runs twice the other attempt
+        self.going: list[Attempt] = []  # those that run or whose outputs count
+        self.maps: dict[str, Attempt] = {}  # of each split one of them
+        self.waiting: list[Start] = []  # those of the master that wait for a thread
         self.late: list[Attempt] = []  # those that go on although their splits are done
         self.attempts: list[Attempt] = []
         self.waves: list[Planned] = []
+        self.slots_seen: dict[str, int] = {}  # the free slots in this turn, before it started anything
+        self.copies = 0
+        self.doubted: set[int] = set()  # those that did not end well, until another look tells why
         self.failed_on: dict[str, list[str]] = defaultdict(list)
         self.died_on: dict[str, list[str]] = defaultdict(list)
         self.bare_since: dict[str, float] = {}
-        self.first: Optional[Look] = None
         self.alive: set[str] = set()
         self.names: dict[str, str] = {}
-        self.threads: dict[str, int] = {}
-        self.events: list[tuple[Any, ...]] = []  # what happened to maps, workers and holders, in order
         self.news = threading.Event()
         self.news.set()
 
@@ -107,26 +96,30 @@ class Placing:
         return [self.maps[split].future for split in self.splits.bytes]
 
     def turn(self) -> bool:
-        """One turn: a look, while calls run; a pause, until one is done; then what was lost is taken back, or a wave is
-        started over what is free. Whether all calls are done."""
-        seen, places = self.look()
-        if self.alive != {*places}:
+        """One turn: a look, while calls run; a pause, until one is done; then the master is told what ended, or starts
+        a wave. Whether all calls are done."""
+        seen, places = self.look([it for it in self.splits.bytes if it not in self.maps])
+        if self.alive != {*places} or self.master.is_worn:
             seen, places = self.look([*self.splits.bytes])
             if self.enter_workers(seen, places):
                 return False  # (copies were made, so the look is old)
-        pending = self.pending(seen)
+        splits = self.open_splits(seen)
         self.pause()
         if self.take_back(seen):
             self.news.set()
             return False  # (more splits wait, of whose holders the look does not tell)
-        self.start_wave(seen, places, pending)
-        self.start_backups(seen, places)
+        self.slots_seen = self.slots(seen)
+        self.start_wave(seen, Wave(places, self.slots_seen, splits))
+        self.start_seconds(seen, places)
         self.step(self)
-        return len(self.maps) == len(self.splits.bytes) and all(it.end == "done" for it in self.maps.values())
+        return self.is_done()
+
+    def is_done(self) -> bool:
+        return len(self.maps) == len(self.splits.bytes) and all(it.end == "done" for it in self.going)
 
     def pause(self) -> None:
         """Waits until a future is done, or for half a second, less where splits wait and none runs."""
-        is_idle = len(self.maps) < len(self.splits.bytes) and all(it.end == "done" for it in self.maps.values())
+        is_idle = not self.is_done() and all(it.end == "done" for it in self.going)
         self.news.wait(0.1 if is_idle else 0.5)
         self.news.clear()
 
@@ -142,53 +135,52 @@ class Placing:
 
     # ---- the cluster ----
 
-    def look(self, splits: Optional[list[str]] = None) -> tuple[Look, dict[str, Place]]:
-        """The cluster as it is, with the holders of these splits or of those that wait; and the places of workers."""
-        asked = [it for it in self.splits.bytes if it not in self.maps] if splits is None else splits
-        seen = look(self.client, self.key, self.splits.keys(asked))
+    def look(self, splits: Sequence[str]) -> tuple[Look, dict[str, Place]]:
+        """The cluster as it is, with the holders of these splits; and the places of workers."""
+        seen = look(self.client, self.key, self.splits.keys(splits))
         names = {address: it.name for address, it in seen.workers.items()}
         self.names.update(names)
-        self.threads = {address: it.threads for address, it in seen.workers.items()}
         return seen, self.topology.places(names)
 
-    def enter_workers(self, seen: Look, places: Mapping[str, Place]) -> bool:
-        """Notes who came and who is gone, and lets splits get their holders back. Whether copies were made."""
-        if self.first is None:
-            self.first, self.alive = seen, {*places}
-        self.events += [("die", it) for it in self.alive - {*places}]
-        self.events += [("join", it, self.held_by(it, seen)) for it in {*places} - self.alive]
+    def enter_workers(self, seen: Look, places: dict[str, Place]) -> bool:
+        """Tells who came and who is gone, and lets splits get their holders back. Whether copies were made."""
+        for it in self.alive - {*places}:
+            self.master.die(it)
+        for it in {*places} - self.alive:
+            self.master.join(it, [split for split in self.splits.bytes if it in self.splits.holders(split, seen)])
         self.alive = {*places}
         copies = self.splits.repair(seen, places)
-        self.events += [("add", it.key, it.worker) for it in copies]
+        for copy in copies:
+            self.master.add(copy.key, copy.worker)
+        self.copies += len(copies)
         return bool(copies)
-
-    def held_by(self, worker: str, seen: Look) -> list[str]:
-        return [split for split in self.splits.bytes if worker in self.splits.holders(split, seen)]
 
     # ---- what was started ----
 
     def take_back(self, seen: Look) -> bool:
-        """Notes the calls that are done, and takes back those that failed or whose worker is gone. Whether more splits
-        wait."""
-        started = len(self.maps)
-        for attempt in [*self.maps.values(), *self.seconds.values()]:
-            end = attempt.end if attempt.end == "late" else self.end_of(attempt, seen)
-            if end == attempt.end:
+        """Tells how calls ended, and lets go of those that the master keeps no more. Whether more splits wait."""
+        began = len(self.maps)
+        for attempt in self.going:
+            was, end = attempt.end, self.end_of(attempt, seen)
+            if end == was:
                 continue
-            was, attempt.end = attempt.end, end
-            self.events.append((end, attempt))
+            if end != "done" and attempt.worker in seen.workers and attempt.number not in self.doubted:
+                self.doubted.add(attempt.number)
+                self.news.set()  # (a worker may have died since the look: another one tells)
+                continue
+            attempt.end = end
             if end == "done":
                 self.pace.note(attempt.worker, time.monotonic() - attempt.began)
-                self.settle(attempt)
-                continue
             if end == "failed":
                 self.note_failure(attempt, len(seen.workers))
-            if end == "lost" and was == "running" and attempt.worker not in seen.workers:
+            if attempt.worker in seen.workers:
+                self.tell_end(attempt, was)
+            elif was == "running":
                 self.died_on[attempt.split].append(self.names[attempt.worker])
-            self.drop(attempt)
         self.refuse_deadly()
+        self.keep()
         self.let_go([it for it in self.late if it.future.status != "pending" or it.worker not in seen.workers])
-        return len(self.maps) < started
+        return len(self.maps) < began
 
     def end_of(self, attempt: Attempt, seen: Look) -> str:
         """How an attempt stands. One that fails as its source dies is lost, as one is whose worker dies."""
@@ -199,8 +191,18 @@ class Placing:
             return "failed" if attempt.source in seen.workers else "lost"
         return "done" if status == "finished" else attempt.end
 
+    def tell_end(self, attempt: Attempt, was: str) -> None:
+        """Tells the master of an end, but for that of the second of two attempts that are done at once. A worker that
+        lost what it had done is as one that died and came back."""
+        with suppress(Ignored):
+            if was == "running":
+                self.master.tell(ENDS[attempt.end](attempt.told))
+            else:
+                self.master.die(attempt.worker)
+                self.master.join(attempt.worker, [])
+
     def note_failure(self, attempt: Attempt, workers: int) -> None:
-        self.failed_on[attempt.split].append(attempt.worker)
+        self.failed_on[attempt.split].append(self.names[attempt.worker])
         if len(self.failed_on[attempt.split]) >= min(MOST_TRIES, workers):
             attempt.future.result()  # (which raises it)
 
@@ -211,26 +213,25 @@ class Placing:
             told = (f"{split} was running on {', '.join(workers)} as they died" for split, workers in deadly.items())
             raise DeadlySplit("; ".join(told))
 
-    def other(self, attempt: Attempt) -> Optional[Attempt]:
-        """Takes a split's other attempt out, where it has two."""
-        second = self.seconds.pop(attempt.split, None)
-        return self.maps[attempt.split] if second is attempt else second
-
-    def settle(self, attempt: Attempt) -> None:
-        """A split is done by this attempt. Its other one is late, and has its slot until it ends."""
-        other = self.other(attempt)
-        self.maps[attempt.split] = attempt
-        if other:
-            other.end = "late"
-            self.late.append(other)
+    def keep(self) -> None:
+        """Keeps the attempts that the master keeps. One whose split was done by another is late, and has its slot until
+        it ends."""
+        kept = self.master.kept(self.going)
+        self.waiting = [it for it in self.waiting if it.attempt in kept]
+        gone = [it for it in self.going if it.told not in kept]
+        self.going = [it for it in self.going if it.told in kept]
+        self.maps = {it.split: it for it in self.going}
+        done = {it.split for it in self.going if it.end == "done"}
+        for it in gone:
+            if it.end in ("running", "done"):
+                it.end = "late" if it.split in done else "lost"
+            if it.end == "late":
+                self.late.append(it)
+            else:
+                self.drop(it)
 
     def drop(self, attempt: Attempt) -> None:
-        """Forgets an attempt that is no more. Its split's other one goes on alone, else the split waits again."""
-        other = self.other(attempt)
-        if other:
-            self.maps[attempt.split] = other
-        else:
-            del self.maps[attempt.split]
+        """Forgets an attempt that is no more."""
         self.client.cancel([attempt.future], force=True)
 
     def let_go(self, late: list[Attempt]) -> None:
@@ -241,30 +242,23 @@ class Placing:
 
     # ---- what is started ----
 
-    def with_threads(self) -> list[str]:
-        """The workers on which late attempts leave a thread."""
-        late = Counter(it.worker for it in self.late)
-        return [worker for worker, threads in self.threads.items() if threads > late[worker]]
-
     def slots(self, seen: Look) -> dict[str, int]:
         """The free slots: threads less own maps that are open, counted here since the scheduler may not know them yet,
         and less what others run."""
-        open_ones = [*self.maps.values(), *self.seconds.values(), *self.late]
-        mine = Counter(it.worker for it in open_ones if it.end in ("running", "late"))
+        mine = Counter(it.worker for it in (*self.going, *self.late) if it.end in ("running", "late"))
         return {at: max(0, it.threads - mine[at] - it.others) for at, it in seen.workers.items()}
 
-    def pending(self, seen: Look) -> dict[str, Split]:
-        """The splits to be planned. One may not start again where it failed, unless it failed everywhere."""
+    def open_splits(self, seen: Look) -> dict[str, Split]:
+        """The splits that no call was begun for, with the workers on which they may not start again."""
         splits = {}
         for split, size in self.splits.bytes.items():
             if split not in self.maps:
-                holders = self.splits.holders(split, seen)
+                holders, failed = self.splits.holders(split, seen), self.failed_on.get(split, ())
+                barred = [at for at in seen.workers if self.names[at] in failed] if failed else []
+                splits[split] = Split(size, holders, barred)
                 if not holders:
                     self.note_bare(split)
-                    continue
-                barred = [it for it in seen.workers if it in self.failed_on[split]] if split in self.failed_on else []
-                splits[split] = Split(size, holders, barred if len(barred) < len(seen.workers) else [])
-        self.bare_since = {it: since for it, since in self.bare_since.items() if it not in splits}
+        self.bare_since = {it: at for it, at in self.bare_since.items() if it in splits and not splits[it].holders}
         return splits
 
     def note_bare(self, split: str) -> None:
@@ -274,64 +268,74 @@ class Placing:
         if self.splits.is_gone(split) or now - since >= self.grace:
             raise LostBlock(f"{split} has no living holder")
 
-    def start_wave(self, seen: Look, places: dict[str, Place], pending: dict[str, Split]) -> None:
-        """Plans a wave over free slots, or queues of which the heads start, and starts its calls."""
-        wave = wave_of(places, self.slots(seen), pending)
-        starts = self.queues.starts(wave, self.running(seen)) if self.queues else self.planner.plan(wave).starts
-        if not starts:
-            return
-        attempts = self.start(places, wave.splits, starts, len(self.waves) + 1)
-        planned = Planned(wave, sum(wave.splits[it.split].bytes * it.steps for it in attempts), attempts)
-        self.waves.append(planned)
-        self.maps.update((it.split, it) for it in attempts)
-        self.events.append(("wave", planned))
+    def start_wave(self, seen: Look, wave: Wave) -> None:
+        """Starts a wave, and begins what the master started where a thread is free. The rest waits, as for others'
+        tasks or for a paused worker."""
+        if {*wave.splits} - {it.split for it in self.waiting}:
+            self.waiting += self.master.wave(wave, self.running(seen))
+        slots, starts = dict(wave.slots), []
+        for it in [*self.waiting]:
+            if slots.get(it.worker) and it.split in self.maps:
+                self.master.tell(calls.withdraw(it.attempt))  # (it was begun elsewhere meanwhile)
+                self.waiting.remove(it)
+            elif slots.get(it.worker) and wave.splits[it.split].holders:
+                slots[it.worker] -= 1
+                self.waiting.remove(it)
+                starts.append(it)
+        if starts:
+            held = {it.split: wave.splits[it.split].holders for it in starts}
+            attempts = self.begin(wave.places, starts, held, len(self.waves) + 1)
+            self.waves.append(Planned(wave, sum(self.splits.bytes[it.split] * it.steps for it in attempts), attempts))
 
     def running(self, seen: Look) -> dict[str, list[float]]:
         """Of each worker that is not paused for how many seconds its calls have been running."""
         now, running = time.monotonic(), defaultdict(list)
-        for it in [*self.maps.values(), *self.seconds.values(), *self.late]:
+        for it in (*self.going, *self.late):
             if it.end in ("running", "late") and seen.workers[it.worker].threads:
                 running[it.worker].append(now - it.began)
         return running
 
-    def start_backups(self, seen: Look, places: dict[str, Place]) -> None:
-        """Once no split waits, starts each slow call a second time: on the first worker with a free slot, but its own
-        and those on which it failed."""
-        if self.backup is None or len(self.maps) < len(self.splits.bytes):
+    def start_seconds(self, seen: Look, places: Mapping[str, Place]) -> None:
+        """Once no split is pending, starts a second attempt of each slow call, and of each that waits for a thread: on
+        a worker with a free slot that is nearest to another holder, but for its own and those on which it failed."""
+        waits, slots = {it.split: [it.worker] for it in self.waiting}, self.slots(seen)
+        if not any(slots.values()) or self.splits.bytes.keys() - {*self.maps, *waits}:
             return
-        late_at = time.monotonic() - self.backup * self.pace.mean(float("inf") if self.backup else 0)
-        slow = [it for it in self.maps.values() if it.end == "running" and it.began <= late_at]
-        slow, slots = [it for it in slow if it.split not in self.seconds], self.slots(seen)
-        if not slow or not any(slots.values()):
-            return
-        now, _ = self.look([it.split for it in slow])
-        splits, starts = {}, {}
-        for it in slow:
-            held = [at for at in self.splits.holders(it.split, now) if at in places]
-            holders = [at for at in held if at not in (it.worker, it.source)] or held
-            fit = [at for at, free in slots.items() if free and at != it.worker and at not in self.failed_on[it.split]]
-            if holders and fit:
-                splits[it.split], starts[it.split] = Split(self.splits.bytes[it.split], holders, []), fit[0]
-                slots[fit[0]] -= 1
-        for attempt in self.start(places, splits, starts, 0) if starts else []:
-            self.seconds[attempt.split] = attempt
-            self.events.append(("backup", attempt))
+        avoid = {split: at for split, at in waits.items() if split not in self.maps}
+        if self.backup is not None:
+            late_at = time.monotonic() - self.backup * self.pace.mean(float("inf") if self.backup else 0)
+            once = [split for split, number in Counter(it.split for it in self.going).items() if number == 1]
+            slow = [self.maps[it] for it in once if it not in waits and self.maps[it].began <= late_at]
+            avoid.update((it.split, [it.worker, it.source]) for it in slow if it.end == "running")
+        now = self.look([*avoid])[0] if avoid else seen
+        starts, held = list[Start](), dict[str, list[str]]()
+        for split, at in avoid.items():
+            holders = [it for it in self.splits.holders(split, now) if it in places]
+            held[split] = [it for it in holders if it not in at] or holders
+            out = [at[0], *(it for it in slots if self.names[it] in self.failed_on.get(split, ()))]
+            free = [it for it, number in slots.items() if number and it not in out and holders]
+            near = lambda it: (it in at, distance(places, nearest(places, it, held[split]), it))
+            second = self.master.backup(split, min(free, key=near)) if free else None
+            if second:
+                slots[second.worker] -= 1
+                starts.append(second)
+        if starts:
+            self.begin(places, starts, held, 0)
 
-    def start(
-        self, places: Mapping[str, Place], splits: Mapping[str, Split], starts: Mapping[str, str], wave: int
+    def begin(
+        self, places: Mapping[str, Place], starts: Sequence[Start], holders: Mapping[str, list[str]], wave: int
     ) -> list[Attempt]:
-        """Starts the calls of splits, each on its worker, which reads from the nearest holder."""
+        """Begins the calls of splits, each on its worker, which reads from the nearest holder."""
+        sources = [nearest(places, it.worker, holders[it.split]) for it in starts]
         first = len(self.attempts) + 1
-        sources = {split: nearest(places, worker, splits[split].holders) for split, worker in starts.items()}
-        calls = {
-            f"{self.key}{number}": self.call(split, worker, sources[split])
-            for number, (split, worker) in enumerate(starts.items(), first)
-        }
-        futures = start(self.client, calls)
+        numbered = [*enumerate(zip(starts, sources), first)]
+        keyed = {f"{self.key}{number}": self.call(it.split, it.worker, source) for number, (it, source) in numbered}
         attempts = [
-            Attempt(split, number, wave, worker, sources[split], distance(places, sources[split], worker),
+            Attempt(it.split, number, it.attempt, wave, it.worker, source, distance(places, source, it.worker),
                     self.watch(future))
-            for number, ((split, worker), future) in enumerate(zip(starts.items(), futures), first)
+            for (number, (it, source)), future in zip(numbered, start(self.client, keyed))
         ]
         self.attempts += attempts
+        self.going += attempts
+        self.maps.update((it.split, it) for it in attempts)
         return attempts

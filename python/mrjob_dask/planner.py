@@ -10,7 +10,7 @@ import shutil
 import subprocess
 from collections import Counter
 from pathlib import Path
-from typing import Mapping, NamedTuple
+from typing import Mapping, NamedTuple, Optional
 
 import mrjob_plan
 import mrjob_plan.library
@@ -48,6 +48,10 @@ class Wave(NamedTuple):
     places: dict[str, Place]
     slots: dict[str, int]
     splits: dict[str, Split]
+
+    def is_out(self, split: str) -> bool:
+        """Whether a split failed on every worker."""
+        return 0 < len(self.places) <= len(self.splits[split].barred)
 
 
 class Plan(NamedTuple):
@@ -137,10 +141,11 @@ class Command(Planner):
         self.plan_words = shlex.split(words)
         if not self.plan_words or shutil.which(self.plan_words[0]) is None:
             raise NoPlanner(f"`{words}` is no command that is there; {HOW_TO_BUILD}")
+        self.program = self.plan_words[: self.plan_words.index("plan")] if "plan" in self.plan_words else []
         self.check_words: list[str] = []
         if is_checked:
             self.plan_words.append("--prices")
-            self.check_words = [*self.plan_words[: self.plan_words.index("plan")], "check"]
+            self.check_words = [*self.program, "check"]
 
     def ask(self, wave: Wave, units: dict[str, int]) -> tuple[dict[str, str], int]:
         head, splits, workers = head_lines(wave, units), [*wave.splits], [*wave.places]
@@ -206,6 +211,14 @@ def program() -> str:
     checkout = Path(__file__).resolve().parent.parent.parent
     there = [os.environ.get("MRJOB", ""), shutil.which("mrjob") or "", str(checkout / "bin/mrjob")]
     return next((it for it in there if it and os.access(it, os.X_OK)), "")
+
+
+def program_of(planner: Optional[Planner]) -> list[str]:
+    """The words of the program whose sessions decide a job: that of a planner, or else the one that is there. None for
+    other planners, which are asked wave by wave."""
+    if planner is None:
+        return [program()] if program() else []
+    return planner.program if isinstance(planner, Command) else []
 
 
 def planner_of(words: str = "", is_checked: bool = False) -> Planner:

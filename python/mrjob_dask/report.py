@@ -56,8 +56,7 @@ def report_lines(job: Job) -> list[str]:
     ends = Counter(it.end for it in job.attempts)
     rows.append(
         dict(waves=len(job.waves), starts=len(job.attempts), lost=ends["lost"], failed=ends["failed"],
-             cost=sum(it.cost for it in job.waves), copies=sum(it[0] == "add" for it in job.events),
-             backups=sum(it[0] == "backup" for it in job.events),
+             cost=sum(it.cost for it in job.waves), copies=job.copies, backups=sum(it.wave == 0 for it in job.attempts),
              blocks_carried=blocks_carried(job), outputs_carried=outputs_carried(job))
     )
     return [json.dumps(row) for row in rows]

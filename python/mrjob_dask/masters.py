@@ -1,0 +1,217 @@
+"""What decides a job: a session of `mrjob serve`, or where none fits a planner that is asked wave by wave.
+
+Both take the same calls in the words of the cluster: splits, and the addresses of workers. A session is a live master
+(docs/MODEL.md) of work that is done elsewhere: it says what starts where, what is open again after a death, which pairs
+are barred, when the parts start and where, and which outputs count.
+"""
+from __future__ import annotations
+
+import re
+import time
+from contextlib import suppress
+from dataclasses import dataclass, field
+from typing import Iterable, Mapping, Optional, Sequence, TypeVar
+
+from distributed import Future
+from mrjob_plan import Cluster, Worker, calls
+from mrjob_plan import Split as Declared
+from mrjob_plan.calls import QUERIES, Call, Ignored, Reduce, Start
+from mrjob_plan.master import Master, MasterEnded
+
+from .ahead import Queues
+from .blocks import Splits
+from .calls import Look
+from .planner import BYTES, HOLDERS, SLOTS, Place, Planner, Wave, wave_of
+
+T = TypeVar("T")
+MOST_LINES = 60_000  # a session has room for 65,536 events
+
+
+@dataclass
+class Attempt:
+    """A call of a split that was begun: by which wave, none for a second one, where, and from which holder it reads,
+    how far. It ends as done, failed, lost or late, the last where the split's other attempt was done before. `told` is
+    the number by which the master knows it."""
+
+    split: str
+    number: int
+    told: int
+    wave: int
+    worker: str
+    source: str
+    steps: int
+    future: Future
+    end: str = "running"
+    began: float = field(default_factory=time.monotonic)
+
+
+class Waves:
+    """Where no session fits: a planner is asked for each wave, or ahead for queues, and Dask places the parts."""
+
+    is_worn = False
+
+    def __init__(self, planner: Planner, queues: Optional[Queues]) -> None:
+        self.planner, self.queues, self.last = planner, queues, 0
+
+    def wave(self, wave: Wave, running: Mapping[str, Sequence[float]]) -> list[Start]:
+        """What starts now. A split may not start where it failed, unless it failed everywhere."""
+        splits = {split: it._replace(barred=[]) if wave.is_out(split) else it for split, it in wave.splits.items()}
+        seen = wave_of(wave.places, wave.slots, splits)
+        starts = self.queues.starts(seen, running) if self.queues else self.planner.plan(seen).starts
+        return [self.backup(split, worker) for split, worker in starts.items()]
+
+    def backup(self, split: str, worker: str) -> Start:
+        self.last += 1
+        return Start(self.last, split, worker)
+
+    def reduces(self, parts: Sequence[int]) -> list[Reduce]:
+        """Starts these parts, which are all that are open."""
+        return [Reduce(0, part, "") for part in parts]
+
+    def kept(self, going: Sequence[Attempt]) -> set[int]:
+        """The attempts that run, and of each split that is done the first."""
+        done = {it.split: it.told for it in reversed(going) if it.end == "done"}
+        return {it.told for it in going if it.end in ("running", "done") and done.get(it.split, it.told) == it.told}
+
+    def tell(self, *what: object) -> None:
+        """A planner need not know what happened."""
+
+    die = join = add = close = tell
+
+
+def fit(name: str) -> str:
+    """A name that fits the format, if it begins with a letter."""
+    return re.sub("[^A-Za-z0-9._-]", "-", name)[:32]
+
+
+class Session:
+    """A live master of splits, of parts, and of the workers that are there as it begins, which are known again by their
+    names. It knows nothing of other workers, nor of what else runs on its own."""
+
+    def __init__(
+        self, program: Sequence[str], seen: Look, places: Mapping[str, Place], names: Mapping[str, str], splits: Splits,
+        parts: int, told: Sequence[Attempt],
+    ) -> None:
+        wave_of({**places}, {}, {})  # (which refuses too many workers, in words)
+        self.names = names  # of workers, by their addresses
+        order = sorted(places, key=lambda it: names[it])
+        self.workers = {names[at]: fit(f"w{number}-{names[at]}") for number, at in enumerate(order)}
+        self.splits = {split: fit(f"s{number}-{split}") for number, split in enumerate(splits.bytes)}
+        self.addresses = {self.worker(at): at for at in order}
+        self.named = {name: split for split, name in self.splits.items()}
+        # (what runs or is done is told where no other split has a holder, so that a wave starts just that)
+        self.held = {it: [] if told else splits.holders(it, seen)[:HOLDERS] for it in splits.bytes}
+        racks = {place: fit(f"r{number}-{place.rack}") for number, place in enumerate(sorted({*places.values()}))}
+        centres = {it: fit(f"c{number}-{it}") for number, it in enumerate(sorted({place.centre for place in racks}))}
+        workers = {self.worker(at): Worker(racks[places[at]], min(SLOTS, seen.workers[at].slots)) for at in order}
+        cluster = Cluster(workers, {rack: centres[place.centre] for place, rack in racks.items()})
+        unit = max(1, -(-max(splits.bytes.values(), default=0) // BYTES))
+        blocks = {
+            self.splits[it]: Declared(max(1, -(-size // unit)), [self.worker(at) for at in self.held[it]])
+            for it, size in splits.bytes.items()  # (one of no bytes could be told to run nowhere in particular)
+        }
+        self.is_worn, self.has_news = False, True
+        self.outs: Optional[set[str]] = None
+        self.script, self.report = [*calls.head(cluster, blocks, parts=parts), "begin"], list[str]()
+        self.master = Master(self.script[:-1], program=program)
+        for it in sorted(told, key=lambda it: it.end == "running"):
+            self.retell(it)
+
+    def worker(self, address: str) -> str:
+        return self.workers[self.names[address]]
+
+    def start(self, it: Start) -> Start:
+        """A start in the words of the cluster."""
+        return Start(it.attempt, self.named[it.split], self.addresses[it.worker])
+
+    def knows(self, address: str) -> bool:
+        return self.names[address] in self.workers
+
+    def is_fit(self, places: Iterable[str]) -> bool:
+        """Whether it goes on with these workers."""
+        return not self.is_worn and all(map(self.knows, places))
+
+    def tell(self, call: Call[T]) -> T:
+        answer = self.master.tell(call.line)
+        if call.line not in QUERIES:
+            self.script.append(call.line)
+            self.report += answer
+            self.has_news = True
+            self.is_worn = self.is_worn or len(self.script) > MOST_LINES
+        return call.answered(answer)
+
+    def retell(self, attempt: Attempt) -> None:
+        """Starts a split where it runs or is done, which is its only holder."""
+        self.add(attempt.split, attempt.worker)
+        for it in self.tell(calls.wave()).starts:
+            attempt.told = it.attempt
+            if attempt.end == "done":
+                self.tell(calls.done(it.attempt))
+
+    def wave(self, wave: Wave, running: Mapping[str, Sequence[float]]) -> list[Start]:
+        """What starts, if there is news. A split that failed everywhere may start again in a new session."""
+        for split, it in wave.splits.items():
+            if it.holders != self.held[split]:
+                self.hold(split, it.holders)
+        outs = {it for it in wave.splits if wave.is_out(it)}
+        self.outs = outs if self.outs is None else self.outs
+        self.is_worn = self.is_worn or not outs <= self.outs
+        if not self.has_news:
+            return []
+        starts = [*map(self.start, self.tell(calls.wave()).starts)]
+        self.has_news = False
+        # (the master of a new session is told of failures as it comes to them)
+        again = [it for it in starts if it.worker in wave.splits[it.split].barred and not wave.is_out(it.split)]
+        for it in again:
+            self.tell(calls.fail(it.attempt))
+        return [it for it in starts if it not in again]
+
+    def hold(self, split: str, holders: Sequence[str]) -> None:
+        """Lets the master know the holders of a split, as far as they are workers of its own."""
+        for at in [it for it in self.held[split] if it not in holders]:
+            self.tell(calls.lose(self.splits[split], self.worker(at)))
+            self.held[split].remove(at)
+        for at in holders:
+            self.add(split, at)
+
+    def add(self, split: str, worker: str) -> None:
+        if self.knows(worker) and worker not in self.held[split] and len(self.held[split]) < HOLDERS:
+            self.tell(calls.add(self.splits[split], self.worker(worker)))
+            self.held[split].append(worker)
+
+    def backup(self, split: str, worker: str) -> Optional[Start]:
+        with suppress(Ignored):
+            return self.start(self.tell(calls.backup(self.splits[split], self.worker(worker))))
+        return None
+
+    def reduces(self, parts: Sequence[int]) -> list[Reduce]:
+        """What starts of the open parts, if there is news."""
+        starts: list[Reduce] = []
+        with suppress(Ignored):
+            while self.has_news and self.tell(calls.open_work()).parts:
+                it = self.tell(calls.reduce())
+                starts.append(Reduce(it.attempt, it.part, self.addresses[it.worker]))
+        self.has_news = False
+        return starts
+
+    def die(self, worker: str) -> None:
+        if self.knows(worker):
+            self.tell(calls.die(self.worker(worker)))
+            self.held = {split: [it for it in at if it != worker] for split, at in self.held.items()}
+
+    def join(self, worker: str, splits: Sequence[str]) -> None:
+        if self.knows(worker):
+            self.addresses[self.worker(worker)] = worker
+            self.tell(calls.join(self.worker(worker), []))
+            for split in splits:
+                self.add(split, worker)
+
+    def kept(self, going: Sequence[Attempt]) -> set[int]:
+        """The attempts that run, and those whose outputs count."""
+        work = self.tell(calls.open_work())
+        return {it.attempt for it in (*work.starts, *work.backups, *self.tell(calls.outputs()))}
+
+    def close(self) -> None:
+        """Ends the master; script and report are whole then."""
+        with self.master, suppress(MasterEnded):
+            self.tell(calls.end())
