@@ -1,6 +1,8 @@
 #!/usr/bin/env python3
 """Tries what `mrjob run` and `mrjob play` tell a terminal: on standard error a line once a second has passed, which is
-taken away at the end; nothing with --quiet, or where standard error is no terminal.
+taken away at the end; nothing with --quiet, or where standard error is no terminal. A session of `mrjob serve` whose
+lines come from a terminal is told there when the next line is awaited, and what a fault means; standard output is that
+of any session.
 
     progress.py PROGRAM..
 
@@ -14,6 +16,7 @@ import re
 import select
 import subprocess
 import sys
+import termios
 
 sys.dont_write_bytecode = True
 import make_texts
@@ -68,6 +71,39 @@ def told_of_script(program):
         os.close(ours)
 
 
+SESSION = b"script 1\nrack r\nworker a r 1\nsplit s 10 a\nbegin\nwavee\nreduce\nwave\nprice s 0\nprice a 0\ncommit\nend\n"
+# What a person is told of it, with the sentences of `mrjob explain`: behind each answer that a line is awaited.
+NOTES = {5: ("fault", "1"), 6: ("ignored", "7")}
+
+
+def session_on_terminal(program):
+    """What a session writes whose standard input and standard error are a terminal, and what the terminal is told."""
+    ours, theirs = pty.openpty()
+    settings = termios.tcgetattr(theirs)
+    settings[3] &= ~termios.ECHO
+    settings[1] &= ~termios.OPOST
+    termios.tcsetattr(theirs, termios.TCSANOW, settings)
+    ran = subprocess.Popen([program, "serve"], stdin=theirs, stdout=subprocess.PIPE, stderr=theirs)
+    os.close(theirs)
+    os.write(ours, SESSION)
+    output, told = ran.communicate()[0], b""
+    while select.select([ours], [], [], 0)[0]:
+        try:
+            told += os.read(ours, 4096)
+        except OSError:
+            break
+    os.close(ours)
+    return output, told.decode()
+
+
+def is_told(program, told):
+    """Whether a terminal is told of the session above as a person would want it."""
+    said = [subprocess.run([program, "explain", *it], capture_output=True, text=True).stdout for it in NOTES.values()]
+    parts = told.split("mrjob> ")
+    answers = SESSION.count(b"\n") - 4  # (to `begin` and each line behind it)
+    return len(parts) == answers + 1 and parts[0].count("\n") == 1 and said == [it for it in parts[1:] if it]
+
+
 def main(programs):
     passed = failed = 0
     for program in programs:
@@ -82,6 +118,10 @@ def main(programs):
             "--quiet tells nothing": on_terminal([program, "run", "--quiet"]) == (ANSWER, b""),
             "a terminal is told of a script": bool(SCRIPT_LINE.fullmatch(told_of_script(program))),
         }
+        piped = subprocess.run([program, "serve"], input=SESSION, stdout=subprocess.PIPE, stderr=subprocess.PIPE)
+        output, told = session_on_terminal(program)
+        checks["a session on a terminal writes what another one does"] = (output, piped.stderr) == (piped.stdout, b"")
+        checks["a terminal is told of a session"] = is_told(program, told)
         for name, holds in checks.items():
             print(f"{program}: {name}: {'ok' if holds else 'FAILED'}")
             passed, failed = passed + holds, failed + (not holds)

@@ -6,6 +6,7 @@ starts of a wave free, so these are read from the report, and must be a best pla
 
     reference_play.py TEXT < REPORT      says what is wrong, or nothing; the status is 0 where nothing is
 """
+import copy
 import re
 import sys
 
@@ -42,6 +43,8 @@ class Master:
         self.silence = given.setting(b"silence", 3)
         self.events = 0
         self.next = 1
+        # the problem that the last wave found, its count and its cost
+        self.waved = None
         self.live = [True] * workers
         self.last = [0] * workers
         self.silent = [0] * workers
@@ -200,6 +203,7 @@ class Master:
         """The lines of a wave, whose starts are those of the report's own lines."""
         problem = Problem(self.given, self)
         count, cost = most_and_least(problem)
+        self.waved = copy.deepcopy(problem), count, cost
         wanted = [*self.accepted(), f"wave {count} {cost}"]
         if lines[:2] != wanted:
             raise Wrong(f"{wanted} is what a best wave says, and not {lines[:2]}")

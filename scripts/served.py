@@ -5,7 +5,9 @@
 
 Each answer is read before the next line is sent. Sessions worked by hand have to get the answers of the tables below.
 Made sessions, with queries and lines that no master takes, have to get what `mrjob play` says of their other lines, and
-of each query what a reference that follows the session has. Clients that go away between lines and in one, lines of
+of each query what a reference that follows the session has. The audit of a wave is a text that `mrjob check` certifies,
+of the problem that the reference had then. Plans of the client's own are committed or refused as `mrjob check` says of
+the same plan behind the audit's problem. Clients that go away between lines and in one, lines of
 every length at the bound, and a history that is full are tried too. A log of what was told brings a new master where an
 ended one was. Nothing depends on timing. The last line is 'N passed, M failed'.
 """
@@ -18,6 +20,7 @@ from concurrent.futures import ThreadPoolExecutor
 sys.dont_write_bytecode = True
 import make_texts
 import reference_play
+from reference_check import Wave
 from reference_text import read
 
 LONGEST = 65_535
@@ -26,7 +29,9 @@ EVENTS = 65_536
 # Longer than any answer takes: a master that says nothing fails a test, and doesn't stop the gate.
 PATIENCE = 300
 
-QUERIES = ("workers", "open", "outputs")
+QUERIES = ("workers", "open", "outputs", "audit")
+# What a problem consists of, for the reference.
+PROBLEM = ("splits", "workers", "centre_of", "rack_of", "bytes", "free", "live", "pending", "barred")
 SMALL = ["script 1", "rack r", "worker a r 1", "worker b r 1", "split s 10 a", "doc d s the cat"]
 TWO = ["script 2", "centre c", "rack r c", "worker a r 1", "worker b r 2", "split s 10 a", "split t 20 a", "parts 2",
        "silence 3"]
@@ -126,6 +131,66 @@ WORKED = {
         ("outputs", ["from s 1 a"]),
         ("workers", ["live a 1 0 0", "live b 1 0 0"]),
         ("end", ["index 2", "word cat d", "word the d"]),
+    ]),
+    "a plan of the client's own": (SMALL, 1, [
+        ("audit", ["ignored 7"]),
+        ("commit", ["fault 10"]),
+        ("start s a", NONE),
+        ("start s b", ["fault 9"]),
+        ("price s 41", NONE),
+        ("price s 41", ["fault 9"]),
+        ("price a 0", NONE),
+        ("commit", ["fault 10"]),
+        ("price b 0", NONE),
+        ("commit", ["accepted 1", "wave 1 0", "start 1 s a"]),
+        ("audit", ["problem 1", "rack r", "worker a r 1", "worker b r 1", "split s 10 a", "plan", "start s a", "price s 41",
+                   "price a 0", "price b 0", "end"]),
+        ("commit", ["fault 10"]),
+        ("end", ["stuck 1", "open s"]),
+    ]),
+    "a plan that its prices do not certify": (SMALL, 1, [
+        ("start s b", NONE),
+        ("price s 21", NONE),
+        ("price a 20", NONE),
+        ("price b 0", NONE),
+        ("commit", ["refused C8 a"]),
+        ("audit", ["ignored 7"]),
+        ("price s 0", NONE),
+        ("price a 0", NONE),
+        ("price b 0", NONE),
+        ("commit", ["refused C5 s a"]),
+        ("wave", ["accepted 1", "wave 1 0", "start 1 s a"]),
+        ("price s 0", NONE),
+        ("price a 0", NONE),
+        ("price b 0", NONE),
+        ("commit", ["accepted 2", "wave 0 0"]),
+        ("end", ["stuck 1", "open s"]),
+    ]),
+    "a plan that is dropped, and faults of its lines": (SMALL, 1, [
+        ("drop", NONE),
+        ("start s a", NONE),
+        ("price a 0", NONE),
+        ("drop", NONE),
+        ("start s", ["fault 1"]),
+        ("start a s", ["fault 3"]),
+        ("start s c", ["fault 3"]),
+        ("start s r", ["fault 3"]),
+        ("start 1 a", ["fault 2"]),
+        ("price r 0", ["fault 3"]),
+        ("price d 0", ["fault 3"]),
+        ("price s", ["fault 1"]),
+        ("price s -1", ["fault 1"]),
+        ("price s 18446744073709551616", ["fault 5"]),
+        ("price s 18446744073709551615", NONE),
+        ("start s b", NONE),
+        ("die a", ["accepted 1"]),
+        ("price a 0", NONE),
+        ("price b 0", NONE),
+        ("commit", ["refused C1 s"]),
+        ("drop x", ["fault 1"]),
+        ("commit s", ["fault 1"]),
+        ("plan", ["fault 7"]),
+        ("end", ["stuck 1", "open s"]),
     ]),
     "the longest line, and longer ones": (SMALL, 1, [
         ("x" * LONGEST, ["fault 1"]),
@@ -247,7 +312,7 @@ def cut_off(count, program):
 def made_line(dice, line):
     """A line that no master takes, made of one that it may take."""
     kinds = ["", "wav", f"{line} ", f"{line} x" * 9, "done", "done 01", "done 1000001", "die nobody", "begin", "rack q"]
-    kinds += ["open x", "workers ", "outputs outputs"]
+    kinds += ["open x", "workers ", "outputs outputs", "audit x", "commit", "drop x", "start nobody nobody", "price x 1"]
     return dice.choice([*kinds, f"{line}\t", f" {line}", "x" * 70_000, "split z 1", "end x", "copies\r"])
 
 
@@ -263,11 +328,30 @@ def made_session(seed):
     return head, [*told, "end"]
 
 
-def wrong_query(head, turns):
+def wrong_audit(program, master, answer):
+    """What is wrong with an audit, by a check of its text and by the reference's last wave, or None."""
+    if master.waved is None:
+        return None if answer == ["ignored 7"] else f"before any wave the audit is {answer!r:.300}"
+    problem, count, cost = master.waved
+    text = text_of(answer)
+    said = ended(program, text, "check")
+    if said != (f"certified {count} {cost}\n".encode(), 0):
+        return f"of the audit of {count} starts at {cost} a check says {said!r:.300}"
+    told = Wave(read(text, "check"))
+    unlike = [it for it in PROBLEM if getattr(told, it) != getattr(problem, it)]
+    same_holders = [*map(sorted, told.holders)] == [*map(sorted, problem.holders)]
+    return f"the audit has other {', '.join(unlike) or 'holders'}" if unlike or not same_holders else None
+
+
+def wrong_query(program, head, turns):
     """The first query whose answer is not what the reference has that follows the other lines, or None."""
     given = read(text_of([*head, "begin", *(line for line, _ in turns if line not in QUERIES)]), "play")
     master, commands = reference_play.Master(given), iter(given.commands)
     for line, answer in turns[:-1]:
+        if line == "audit":
+            if wrong := wrong_audit(program, master, answer):
+                return wrong
+            continue
         wanted = getattr(master, line)() if line in QUERIES else master.answer(*next(commands), answer)
         if answer != wanted:
             return f"{line} is answered {answer!r:.300}, and not {wanted!r:.300}"
@@ -289,11 +373,11 @@ def wrong_session(program, seed):
     wanted = ended(program, text_of([*head, "begin", *kept]), "play")
     if (report, status) != wanted:
         return f"play says {wanted!r:.300}, and the session said {(report, status)!r:.300}"
-    if wrong := wrong_query(head, turns):
+    if wrong := wrong_query(program, head, turns):
         return wrong
     faulty = [line for line, no in zip(told, is_refused) if no]
     # (a query is no line of a script)
-    for line in [*faulty[:2], QUERIES[seed % 3]]:
+    for line in [*faulty[:2], QUERIES[seed % len(QUERIES)]]:
         # (a line of 65,536 bytes is short enough for a script)
         if ended(program, text_of([*head, "begin", line, "end"]), "play")[1] != 2:
             return f"play takes {line!r:.60}"
@@ -305,6 +389,61 @@ def made(count, program):
         wrong = list(pool.map(lambda seed: wrong_session(program, seed), range(1, SESSIONS + 1)))
     faults = [f"seed {seed}: {it}" for seed, it in enumerate(wrong, 1) if it]
     count.expect(f"{SESSIONS} made sessions are what play says of their other lines", faults[:3], [])
+
+
+def spoiled(dice, plan):
+    """A plan with one line less, or with another worker or price in one."""
+    at = dice.randrange(len(plan))
+    words = plan[at].split(" ")
+    if words[0] == "start":
+        others = [it.split(" ")[1] for it in plan if it.startswith("price ")]
+        words = [*words[:2], dice.choice(others)] if dice.random() < 0.7 else []
+    else:
+        words[2] = str(max(0, int(words[2]) + dice.choice([-1, 1, 1 << 40])))
+    return [*plan[:at], *([" ".join(words)] if words else []), *plan[at + 1 :]]
+
+
+def wrong_plan(program, seed):
+    """A wave of a made session is said again as a plan of the client's own, spoiled first. What is wrong, or None."""
+    (head, told), dice, log = made_session(seed), random.Random(seed), []
+    master = Master(program, head)
+    for line in told[:-1]:
+        answer = master.tell(line)
+        if line == "wave" and len(answer) > 2 and dice.random() < 0.6:
+            break
+        log.append(line)
+    else:
+        master.kill()
+        return None
+    text = master.tell("audit")
+    master.kill()
+    problem, plan = text[: text.index("plan") + 1], text[text.index("plan") + 1 : -1]
+    again = Master(program, head)
+    for line in log:
+        again.tell(line)
+    again.tell("drop")
+    for tried in [*(spoiled(dice, plan) for _ in range(5)), plan]:
+        said, status = ended(program, text_of([*problem, *tried, "end"]), "check")
+        if status == 2:  # (a split starts on a split, say)
+            continue
+        answers = [again.tell(line) for line in tried]
+        got, wanted = again.tell("commit"), said.decode().split("\n")[:-1]
+        if status == 0:
+            again.kill()
+            wanted = answer if tried == plan else [answer[0], wanted[0].replace("certified", "wave")]
+            got = got if tried == plan else got[:2]
+        if any(answers) or got != wanted:
+            return f"a plan is answered {got!r:.300}, and not {wanted!r:.300}"
+        if status == 0:
+            return None
+    return "the plan of a wave was not committed"
+
+
+def own_plans(count, program):
+    with ThreadPoolExecutor(2 * os.cpu_count()) as pool:
+        wrong = list(pool.map(lambda seed: wrong_plan(program, seed), range(1, SESSIONS + 1)))
+    faults = [f"seed {seed}: {it}" for seed, it in enumerate(wrong, 1) if it]
+    count.expect(f"waves of {SESSIONS} made sessions as plans of the client's own are what a check says", faults[:3], [])
 
 
 def told_again(count, program):
@@ -330,9 +469,11 @@ def full(count, program):
     The session goes on up to its `end`."""
     turns = ["add s b" if at % 2 == 0 else "lose s b" for at in range(EVENTS)]
     accepted = [[f"accepted {at}"] for at in range(1, EVENTS + 1)]
-    more = ["add s b", "wave", "sweep 0 0", "die b", "reduce", "wav", "copies", "end"]
+    more = ["add s b", "wave", "sweep 0 0", "die b", "reduce", "wav", "copies"]
+    more += ["price s 0", "price a 0", "price b 0", "commit", "end"]
     text = text_of([*SMALL, "target 1", "begin", *turns, *more])
-    answers = [NONE, *accepted, *(4 * [["ignored 9"]]), ["ignored 7"], ["fault 1"], ["copies 0"], ["stuck 1", "open s"]]
+    answers = [NONE, *accepted, *(4 * [["ignored 9"]]), ["ignored 7"], ["fault 1"], ["copies 0"]]
+    answers += [NONE, NONE, NONE, ["ignored 9"], ["stuck 1", "open s"]]
     got = ended(program, text, "serve")
     wanted = text_of([line for answer in answers for line in [*answer, ""]]), 1
     count.expect("a full history", got if got[1] != 1 else (got == wanted, got[0][-200:]), (True, wanted[0][-200:]))
@@ -342,7 +483,7 @@ def main(programs):
     counts = []
     for program in programs:
         counts.append(Count(program))
-        for part in (worked, refused, cut_off, made, told_again, full):
+        for part in (worked, refused, cut_off, made, own_plans, told_again, full):
             part(counts[-1], program)
     passed, failed = sum(it.passed for it in counts), sum(it.failed for it in counts)
     print(f"{passed} passed, {failed} failed")
