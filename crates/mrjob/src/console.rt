@@ -1,3 +1,5 @@
+ghost use Rattle.std.specs.Prelude.{◌≡◌};
+
 use answer_notes::answer_note;
 use std::io;
 use std::io::{IsTerminal, Write};
@@ -18,8 +20,13 @@ pub(crate) struct Console<'a, W: Write> {
     rt: &'a HostRuntime,
     writer: W,
     talks: bool,
-    // the first line of the present answer, as far as it is kept
-    first: Vec<u8>,
+    first: FirstLine,
+}
+
+// The first line of the present answer, as far as it is kept.
+#[derive(Drop)]
+struct FirstLine {
+    bytes: Vec<u8>,
     is_whole: bool,
 }
 
@@ -35,8 +42,10 @@ impl<'a, W: Write> Console<'a, W> {
             rt,
             writer,
             talks,
-            first: Vec::new(rt.alloc()),
-            is_whole: false,
+            first: FirstLine {
+                bytes: Vec::new(rt.alloc()),
+                is_whole: false,
+            },
         }
     }
 
@@ -46,30 +55,30 @@ impl<'a, W: Write> Console<'a, W> {
         &self.writer
     }
 
-    // Keeps the first line of an answer. One for which there is no memory is left out.
-    fn keep(&mut self, bytes: &[u8])
-        ensures { W.contents self.new.writer ≡ W.contents self.old.writer }
-    {
-        for byte in bytes {
-            if *byte == b'\n' {
-                self.is_whole = true;
-            }
-            if !self.is_whole && self.first.len() < KEPT {
-                let _ = self.first.push(*byte);
-            }
-        }
-    }
-
     // An answer is written.
     fn end(&mut self)
         ensures { W.contents self.new.writer ≡ W.contents self.old.writer }
     {
-        if let Ok(note) = answer_note(self.rt.alloc(), self.first.as_slice()) {
+        if let Ok(note) = answer_note(self.rt.alloc(), self.first.bytes.as_slice()) {
             tell(self.rt, note.as_slice());
         }
         tell(self.rt, PROMPT);
-        self.first.clear();
-        self.is_whole = false;
+        self.first.bytes.clear();
+        self.first.is_whole = false;
+    }
+}
+
+impl FirstLine {
+    // Keeps what belongs to the first line. A byte for which there is no memory is left out.
+    fn keep(&mut self, bytes: &[u8]) {
+        for byte in bytes {
+            if *byte == b'\n' {
+                self.is_whole = true;
+            }
+            if !self.is_whole && self.bytes.len() < KEPT {
+                let _ = self.bytes.push(*byte);
+            }
+        }
     }
 }
 
@@ -85,7 +94,7 @@ impl<'a, W: Write> Write for Console<'a, W> {
         match self.writer.write(buf) {
             Ok(count) => {
                 if self.talks {
-                    self.keep(&buf[..count]);
+                    self.first.keep(&buf[..count]);
                 }
                 Ok(count)
             }
