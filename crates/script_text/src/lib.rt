@@ -5,7 +5,7 @@
 //! commands. The head has all that a cluster is made of, and meets all that a cluster asks
 //! (`specs/Heads.antt`). `read_opening` keeps also what is known after `begin`, so that `command_of` can read
 //! lines one by one. Names are numbered in the order in which the text declares them. The crate stands on
-//! the tidy rows of `plan_text`; `job_run` plays the script or runs the job.
+//! the tidy rows of `plan_text`; `job_play` plays the script, and `job_run` runs the job.
 #![tactic(auto)]
 
 mod commands;
