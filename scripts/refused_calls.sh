@@ -184,7 +184,7 @@ for program in "$@"; do
     done
     take play_death
     sweep "$program" alloc "mrjob: no memory (3)" "$room/nothing"
-    for name in serve_session serve_queries; do
+    for name in serve_session serve_queries serve_own_plan; do
         take $name
         for kind in full idle; do sweep_fronts "$program" $kind; done
         for kind in interrupt short; do sweep "$program" $kind " ($wanted)" "$example.out"; done
