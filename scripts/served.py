@@ -7,7 +7,7 @@ Each answer is read before the next line is sent. Sessions worked by hand have t
 Made sessions, with queries and lines that no master takes, have to get what `mrjob play` says of their other lines, and
 of each query what a reference that follows the session has. The audit of a wave is a text that `mrjob check` certifies,
 of the problem that the reference had then. Plans of the client's own are committed or refused as `mrjob check` says of
-the same plan behind the audit's problem. Clients that go away between lines and in one, lines of
+the same plan behind the audit's problem. A million lines take no memory. Clients that go away between lines and in one, lines of
 every length at the bound, and a history that is full are tried too. A log of what was told brings a new master where an
 ended one was. Nothing depends on timing. The last line is 'N passed, M failed'.
 """
@@ -15,6 +15,7 @@ import os
 import random
 import subprocess
 import sys
+import threading
 from concurrent.futures import ThreadPoolExecutor
 
 sys.dont_write_bytecode = True
@@ -25,6 +26,7 @@ from reference_text import read
 
 LONGEST = 65_535
 SESSIONS = 60
+LINES = 1_000_000
 EVENTS = 65_536
 # Longer than any answer takes: a master that says nothing fails a test, and doesn't stop the gate.
 PATIENCE = 300
@@ -464,6 +466,48 @@ def told_again(count, program):
     count.expect("a new master that is told the log answers the same", same, True)
 
 
+def fed(master, text):
+    """A thread that tells a master a text, as far as it takes it."""
+
+    def feed():
+        try:
+            master.pipe.stdin.write(text)
+            master.pipe.stdin.flush()
+        except BrokenPipeError:
+            pass
+
+    thread = threading.Thread(target=feed, daemon=True)
+    thread.start()
+    return thread
+
+
+def peak(master):
+    """The most memory that a master had so far, in KiB."""
+    with open(f"/proc/{master.pipe.pid}/status", encoding="ascii") as status:
+        return next(int(line.split()[1]) for line in status if line.startswith("VmHWM"))
+
+
+def endless(count, program):
+    """A million lines, and a master that is ended within an answer."""
+    master, turn = Master(program, SMALL), b"wavee\nopen\ndie c\nprice s 1\ndrop\n"
+    wanted = b"fault 1\n\nopen s\npart 0\n\nfault 3\n\n\n\n"
+    got = [master.tell(line) for line in ("wavee", "audit")]
+    before, feeding = peak(master), fed(master, LINES // 5 * turn)
+    is_so = all(master.pipe.stdout.read(len(wanted)) == wanted for _ in range(LINES // 5))
+    feeding.join()
+    count.expect(f"{LINES} lines, and no memory", (is_so, peak(master) - before < 512, len(got)), (True, True, 2))
+    master.end()
+    master, line = Master(program, TWO), b"live a 1 0 0\nlive b 2 0 0\n\n"
+    feeding = fed(master, b"workers\n" * LINES)
+    first = master.pipe.stdout.read(1000)
+    master.pipe.terminate()
+    rest = master.pipe.stdout.read()
+    feeding.join()
+    told, status = first + rest, master.pipe.wait(PATIENCE)
+    count.expect("a master that is ended within an answer", (line * (len(told) // len(line) + 1)).startswith(told), True)
+    count.expect("its status", status, -15)
+
+
 def full(count, program):
     """After as many events as a master has room for, all that would be one more is ignored, and faults stay faults.
     The session goes on up to its `end`."""
@@ -483,7 +527,7 @@ def main(programs):
     counts = []
     for program in programs:
         counts.append(Count(program))
-        for part in (worked, refused, cut_off, made, own_plans, told_again, full):
+        for part in (worked, refused, cut_off, made, own_plans, endless, told_again, full):
             part(counts[-1], program)
     passed, failed = sum(it.passed for it in counts), sum(it.failed for it in counts)
     print(f"{passed} passed, {failed} failed")
