@@ -1,4 +1,4 @@
-//! Scripts, from the bytes of a reader to those of a writer.
+//! Scripts, from a reader's bytes to a writer's.
 //!
 //! `play` writes a report of the script that a text declares: some legal history answers the commands by
 //! these lines, one command after another, and the last lines tell the index, or what is not done

@@ -1,4 +1,4 @@
-//! Jobs, from the bytes of a reader to those of a writer.
+//! Jobs, from a reader's bytes to a writer's.
 //!
 //! `run_text` runs the job that a text declares on the threads of `job_threads`, and writes its outcome,
 //! `run_text_observed` all that was done before it (`specs/RunAnswer.antt`). The headline is told here once, of

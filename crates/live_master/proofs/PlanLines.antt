@@ -1,4 +1,4 @@
--- Which lines are lines of a plan: those of `start` and `price`.
+-- A line of a plan is a line `start` or a line `price`.
 use Rattle.std.proofs.Common.{◌≡◌, ◌⊎◌, ◌∙◌, Some, ap, inl, inr, refl, subst, sym}
 use Rattle.text_lines.specs.Texts.{Line}
 use Rattle.text_lines.specs.declared.fault.Fault.TheVariants.{Misplaced}

@@ -1,4 +1,4 @@
--- The words that a session understands and no script has, and what is answered to those that ask.
+-- The words that a session understands and no script has, and the answers to the words that ask.
 use Rattle.std.specs.Prelude.{ℕ, ◌≡◌, ◌⊎◌, ◌++◌, List, Option, Some, None, codes}
 use Rattle.text_lines.specs.Texts.{Line}
 use Rattle.master_state.specs.States.{State}

@@ -52,7 +52,7 @@ pub record HavePrice (names : Names) (ws : List Word) : Type 0 where
   pub name : HasName names.splits ws 0 ⊎ HasName names.workers ws 0
   pub price : HasNumber 18446744073709551615 ws 1
 
--- these words follow the keyword of such a line
+-- these words follow `start` or `price`
 abbrev pub HasDraftWords : Names → Keyword → List Word → Type 0
 HasDraftWords names Start ws = HavePair names ws
 HasDraftWords names Price ws = HavePrice names ws
