@@ -91,7 +91,7 @@ class Files(Blocks):
         super().__init__()
         self.client, self.read, self.nodes = client, read, {}
         self.seen: Optional[Look] = None
-        self.held: dict[str, list[str]] = {}  # of splits, while the workers are those that were seen
+        self.held: dict[str, list[str]] = {}  # the holders of splits, as long as the seen workers stay the same
         for row in rows_of(client, table) if isinstance(table, Mapping) else table:
             split = f"{document_name(row.file)}@{row.offset}"
             if split in self.pieces:

@@ -70,10 +70,10 @@ class Placing:
         # (Dask learns how long tasks take by the words in front of a key)
         self.mark = f"-{uuid.uuid4().hex[:8]}-"
         self.key = f"mrjob-map{self.mark}"
-        self.going: list[Attempt] = []  # those that run or whose outputs count
-        self.maps: dict[str, Attempt] = {}  # of each split one of them
-        self.waiting: list[Start] = []  # those of the master that wait for a thread
-        self.late: list[Attempt] = []  # those that go on although their splits are done
+        self.going: list[Attempt] = []  # attempts that run, or whose outputs count
+        self.maps: dict[str, Attempt] = {}  # of each split one of the attempts that go on
+        self.waiting: list[Start] = []  # the master's starts that wait for a thread
+        self.late: list[Attempt] = []  # attempts that go on although their splits are done
         self.attempts: list[Attempt] = []
         self.waves: list[Planned] = []
         self.slots_seen: dict[str, int] = {}  # the free slots in this turn, before it started anything

@@ -35,7 +35,8 @@ abbrev pub AnswersAudit : Option Claim → List ℕ → Type 0
 AnswersAudit None out = out ≡ ignored_line NotReady
 AnswersAudit (Some last) out = IsAuditOf last out ⊎ (out ≡ refusal_line TooLong)
 
--- the workers; the splits and parts that are not done; where the outputs of the done splits are; the last wave
+-- the workers; the splits and parts that are not done; where the outputs of the done splits are; the last
+-- wave
 abbrev pub AnswersRequest : Names → State → Option Claim → Request → List ℕ → Type 0
 AnswersRequest names s last request.Workers out = out ≡ workers_lines names.workers s.workers
 AnswersRequest names s last request.Open out =

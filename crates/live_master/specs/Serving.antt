@@ -56,8 +56,8 @@ serving_room = record { events = 65536; attempts = 1000000; sweeps = 65536 }
 abbrev pub served_on : Cluster → Setup
 served_on cluster = record { cluster = cluster; limits = serving_room }
 
--- What the head says, which stays; the master's job, which goes on; the last wave, with the problem that it found
--- and the prices of its plan; and what was said of a plan of the client's own.
+-- What the head says, which stays; the master's job, which goes on; the last wave, with the problem that it
+-- found and the prices of its plan; and what was said of a plan of the client's own.
 pub record Live : Type 0 where
   pub known : Known
   pub names : Names
@@ -201,9 +201,9 @@ pub record Asks (old : Live) (line : Line) (out : List ℕ) (new : Live) : Type 
   pub told : AnswersRequest old.names old.job.state old.last request out
   pub unchanged : new ≡ old
 
--- The fault of a line, by what the head and the lines of a plan say: a line of 65,536 bytes or more is too long,
--- of another one it is the least by the rules of texts. A line that may not stand among commands is read as a
--- line of a plan.
+-- The fault of a line, by what the head and the lines of a plan say: a line of 65,536 bytes or more is too
+-- long, of another one it is the least by the rules of texts. A line that may not stand among commands is read
+-- as a line of a plan.
 abbrev pub IsFaultOf : Live → Line → Fault → Type 0
 IsFaultOf old line fault = ((65536 ≤ length line) × (fault ≡ TooLong))
     ⊎ (((length line < 65536) × (fault ≢ Misplaced) × IsLeastOf (LineHas old.known line) fault)

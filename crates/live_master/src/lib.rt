@@ -2,8 +2,8 @@
 //!
 //! `serve` reads the head of a script, then a command or a request a line. Whenever it reads on, just the
 //! answers so far are written, whole (`specs/Sessions.antt`). What was said is a script, and its report
-//! (`specs/Serving.antt`). Below stand the talks of `line_talk`, the texts of `script_text` and the commands of
-//! `job_play`.
+//! (`specs/Serving.antt`). Below stand the talks of `line_talk`, the texts of `script_text` and the commands
+//! of `job_play`.
 #![tactic(auto)]
 
 pub mod requests;

@@ -13,8 +13,8 @@ const GREETING: &[u8] =
 
 const PROMPT: &[u8] = b"mrjob> ";
 
-// A writer that passes on what a live master answers. To a person at a terminal standard error says what a fault
-// or a refusal means, and when the next line is awaited.
+// A writer that passes on what a live master answers. To a person at a terminal standard error says what a
+// fault or a refusal means, and when the next line is awaited.
 #[derive(Drop)]
 pub(crate) struct Console<'a, W: Write> {
     rt: &'a HostRuntime,
