@@ -3,16 +3,18 @@ use Rattle.std.proofs.Common.{◌≡◌, ℕ, zero, suc, ◌+◌, ◌-◌, ◌�
 use Rattle.std.proofs.Common.{get_or, ◌<◌, ◌&&◌, nat_lt, nat_le, Bool, true, false, Some}
 use Rattle.std.proofs.Common.{refl, sym, ap, subst, ◌∙◌, arith, sum_by}
 use Rattle.std.specs.Prelude.{slice_get}
+use Rattle.std.specs.Option.{option_to_list}
 use Rattle.std.proofs.lemmas.List.{drop-drop, take-append-le, drop-append-le, take_all, drop_at, length-drop}
 use Rattle.std.proofs.lemmas.List.{length-take-le, length-append, append_assoc, take_more}
 use Rattle.std.proofs.lemmas.List.Elements.{All-push}
+use Rattle.std.proofs.lemmas.Option.{slice_get-get_or}
 use Rattle.std.proofs.lemmas.Bool.Decides.{nat_tests}
 use Rattle.std.proofs.lemmas.Grind.{common_steps}
 use Rattle.std.proofs.lemmas.List.Sums.{sum_by-cons, sum_by_push, sum_by_more}
 use Rattle.master_state.specs.declared.events.Event.{Event}
 use Rattle.master_state.specs.declared.states.Limits.{Limits}
 use Rattle.master_state.specs.declared.states.Start.{Start}
-use Rattle.hand_ledger.specs.declared.keeping.Entry.{Entry}
+use Rattle.hand_ledger.specs.declared.entries.Entry.{Entry}
 use Rattle.hand_ledger.specs.Hands.{Kept, kept, HandValue, counts_in, starts_in, all_counts, all_starts}
 use Rattle.hand_ledger.specs.Hands.{has_room}
 use Rattle.hand_ledger.specs.Inside.{calls_of, counts_taken, starts_taken, AreKept, IsPlace}
@@ -146,6 +148,28 @@ pub of_last : (P : List Kept → Type 0) (es : List Entry) (cs : List (List ℕ)
 of_last P es cs ss {e = e} {read = read} are is at alone more =
     subst P are (by_last P es (length es - 1) e cs ss refl
     (subst (λ (l : List Entry). Some e ≡ slice_get l (length l - 1)) is at) alone more)
+
+-- and what holds of no call, of a hand's whose list of entries is empty
+pub of_none : (P : List Kept → Type 0) (es : List Entry) (cs : List (List ℕ)) (ss : List Start)
+    {calls : List Kept} → calls_of es cs ss ≡ calls → es ≡ [] → P [] → P calls
+of_none P es cs ss are none holds =
+    subst P (ap (λ (l : List Entry). calls_of l cs ss) (sym none) ∙ are) holds
+
+-- the element at an index, as a list of at most one
+pub one_at : {X : Type 0} (xs : List X) (i : ℕ) → option_to_list (slice_get xs i) ≡ take 1 (drop i xs)
+one_at [] zero = refl
+one_at [] (suc i) = refl
+one_at (x ∷ xs) zero = refl
+one_at (x ∷ xs) (suc i) = one_at xs i
+
+-- a list without entries, and one with a last entry
+pub no_entries : (es : List Entry) → length es ≡ 0 → es ≡ []
+no_entries [] none = refl
+no_entries (x ∷ es) none = absurd (omega arith)
+
+pub entry_there : (es : List Entry) (i : ℕ) → i < length es → (e : Entry) × (slice_get es i ≡ Some e)
+entry_there [] i lt = absurd (omega arith)
+entry_there (x ∷ es) i lt = (get_or (x ∷ es) i x, slice_get-get_or (x ∷ es) i x lt)
 
 -- a loop over entries, an entry on
 pub taken_step : (f : Entry → ℕ) (es : List Entry) (i : ℕ) (e : Entry) → i < length es →

@@ -1,2 +1,3 @@
 pub mod Calls
+pub mod Entering
 pub mod Marking

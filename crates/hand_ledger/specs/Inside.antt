@@ -3,7 +3,7 @@ use Rattle.std.specs.Prelude.{ℕ, ◌≡◌, ◌≤◌, List, [], ◌∷◌, le
 use Rattle.std.specs.List.{sum_by}
 use Rattle.master_state.specs.declared.states.Limits.{Limits}
 use Rattle.master_state.specs.declared.states.Start.{Start}
-use Rattle.hand_ledger.specs.declared.keeping.Entry.{Entry}
+use Rattle.hand_ledger.specs.declared.entries.Entry.{Entry}
 use Rattle.hand_ledger.specs.Hands.{Kept, kept, counts_in, starts_in}
 
 -- the calls of a list of entries, whose counts and starts stand one after another in two lists

@@ -1,3 +1,4 @@
+pub mod Entries
 pub mod Hands
 pub mod Inside
 pub mod Marks

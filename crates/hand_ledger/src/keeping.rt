@@ -7,32 +7,41 @@ ghost use Rattle.hand_ledger.specs.Marks.{Marks};
 ghost use Rattle.hand_ledger.specs.declared.marks.TheConstants.{PLACES};
 ghost use Rattle.hand_ledger.specs.Settling.{AreTrue, LastStands};
 
-use crate::logs::{Log, are_same, event_at};
+use crate::entries::Entries;
+use crate::logs::Log;
 use crate::making::Hands;
 use crate::marks::{Found, mark_all};
+use compact_lists::EventList;
 use master_state::{Event, Limits, Start, Why};
 use std::alloc::{AllocError, Global};
 use std::marker::Model;
 use std::sync::ledger::{Ledger, Share};
 
-// An accepted call by its place in the history and its event.
-#[derive(Clone, Copy, Debug)]
-pub(crate) struct Entry {
-    pub(crate) place: u32,
-    pub(crate) event: Event,
-}
-
 /// The accepted calls of one thread, with their places, and its notes. Its share of the ledger of all hands
 /// is the number of these calls.
-#[derive(Drop)]
 pub struct Hand<L: Ledger> {
     pub(crate) share: Share<L>,
-    pub(crate) entries: Vec<Entry>,
+    pub(crate) entries: Entries,
     counts: Vec<[u64; 256]>,
     starts: Vec<Start>,
     room: Limits,
     strange: bool,
     full: bool,
+}
+
+// (one call wherever it is dropped)
+impl<L: Ledger> Drop for Hand<L> {
+    fn drop(self) {
+        let Hand {
+            share: _,
+            entries: _,
+            counts: _,
+            starts: _,
+            room: _,
+            strange: _,
+            full: _,
+        } = self;
+    }
 }
 
 impl<L: Ledger> Model for Hand<L> {
@@ -47,7 +56,7 @@ impl<L: Ledger> Model for Hand<L> {
 
     ghost invariant = { λ h. (h.share.parts ≡ 1) × (h.share.amount ≡ length h.entries.items)
         × AreKept h.entries.items h.counts.items h.starts.items h.room
-        × (h.room.events ≤ vec_capacity h.entries) × (h.room.sweeps ≤ vec_capacity h.counts)
+        × (h.room.events ≤ h.entries.room) × (h.room.sweeps ≤ vec_capacity h.counts)
         × (h.room.attempts ≤ vec_capacity h.starts) };
 }
 
@@ -65,7 +74,7 @@ impl<L: Ledger> Hand<L> {
         ensures amount { rest.new.amount ≡ 0 }
         ensures err { OnErr result (rest.new ≡ rest.old) }
     {
-        let entries = Vec::with_capacity(alloc, room.events as usize)?;
+        let entries = Entries::with_room(alloc, room.events)?;
         let counts = Vec::with_capacity(alloc, room.sweeps as usize)?;
         let starts = Vec::with_capacity(alloc, room.attempts as usize)?;
         Ok(Hand {
@@ -119,16 +128,14 @@ impl<L: Ledger> Hand<L> {
     }
 
     /// Whether its last call stands in the history at its place.
-    pub fn stands(&self, history: &[Event]) -> bool
-        ensures { IsTrue result ↔ LastStands history.now self.now.calls }
+    pub fn stands(&self, history: &EventList) -> bool
+        ensures { IsTrue result ↔ LastStands history.now.items self.now.calls }
     {
-        let Some(entry) = self.entries.last() else {
+        let count = self.entries.len();
+        if count == 0 {
             return true;
-        };
-        match event_at(history, entry.place) {
-            Some(event) => are_same(event, &entry.event),
-            None => false,
         }
+        self.entries.stands(count - 1, history)
     }
 
     /// Whether it has room for a call more, with so many counts and starts.
@@ -173,10 +180,7 @@ impl<L: Ledger> Hand<L> {
         ensures made { hands.new.made ≡ hands.old.made }
     {
         hands.book.add(&mut self.share, 1);
-        self.entries.push_reserved(Entry {
-            place,
-            event: *event,
-        });
+        self.entries.push(place, event);
         add_all(&mut self.counts, counts);
         add_all(&mut self.starts, starts);
     }

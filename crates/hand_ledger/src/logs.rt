@@ -1,34 +1,39 @@
 ghost use Rattle.std.specs.Prelude.{◌≡◌, ◌<◌, ◌≤◌, ◌^◌, ◌↔◌, ◌∷◌, [], IsTrue, take, drop};
-ghost use Rattle.std.specs.Option.{option_copied};
+ghost use Rattle.std.specs.Option.{option_to_list};
 ghost use Rattle.hand_ledger.specs.Hands.{kept, counts_in, starts_in};
 ghost use Rattle.hand_ledger.specs.Settling.{call_at, event_at, counts_at, starts_at, LogValue};
 
-use crate::keeping::Entry;
+use crate::entries::Entry;
+use compact_lists::{CountList, EventList};
 use master_state::{Event, Start};
 use std::marker::Model;
 
 /// What a master tells of the calls that it accepted: its history, all starts, and the counts of all sweeps.
 #[derive(Drop)]
 pub struct Log<'a> {
-    pub(crate) history: &'a [Event],
+    pub(crate) history: &'a EventList,
     starts: &'a [Start],
-    sweeps: &'a [[u64; 256]],
+    sweeps: &'a CountList,
 }
 
 impl<'a> Model for Log<'a> {
     ghost Value = { LogValue };
 
     ghost view = { λ log. record {
-      history = log.history.now;
+      history = log.history.now.items;
       starts = log.starts.now;
-      sweeps = log.sweeps.now;
+      sweeps = log.sweeps.now.items;
     } };
 }
 
 impl<'a> Log<'a> {
     /// The log with these lists.
-    pub fn new(history: &'a [Event], starts: &'a [Start], sweeps: &'a [[u64; 256]]) -> Log<'a>
-        ensures { result ≡ record { history = history.now; starts = starts.now; sweeps = sweeps.now } }
+    pub fn new(history: &'a EventList, starts: &'a [Start], sweeps: &'a CountList) -> Log<'a>
+        ensures { result ≡ record {
+          history = history.now.items;
+          starts = starts.now;
+          sweeps = sweeps.now.items;
+        } }
     {
         Log {
             history,
@@ -38,8 +43,8 @@ impl<'a> Log<'a> {
     }
 
     // The event at a place.
-    pub(crate) fn event_at(&self, place: u32) -> Option<&'a Event>
-        ensures { option_copied result ≡ event_at self.now.history place }
+    pub(crate) fn event_at(&self, place: u32) -> Option<Event>
+        ensures { result ≡ event_at self.now.history place }
     {
         event_at(self.history, place)
     }
@@ -53,22 +58,32 @@ impl<'a> Log<'a> {
         let Some(event) = self.event_at(entry.place) else {
             return false;
         };
-        if !are_same(event, &entry.event) {
+        if !are_same(&event, &entry.event) {
             return false;
         }
-        if self.counts_at(*event) != counts {
+        if !self.has_counts(event, counts) {
             return false;
         }
-        self.starts_at(*event) == starts
+        self.starts_at(event) == starts
+    }
+
+    // Whether these are the counts of an event. A sweep has counts, and any other event has none.
+    fn has_counts(&self, event: Event, counts: &[[u64; 256]]) -> bool
+        ensures { IsTrue result ↔ (counts_at self.now event ≡ counts.now) }
+    {
+        match self.counts_at(event) {
+            Some(found) => std::slice::from_ref(&found) == counts,
+            None => counts.is_empty(),
+        }
     }
 
     // The counts of a sweep.
-    pub(crate) fn counts_at(&self, event: Event) -> &'a [[u64; 256]]
-        ensures { result.now ≡ counts_at self.now event }
+    fn counts_at(&self, event: Event) -> Option<[u64; 256]>
+        ensures { option_to_list result ≡ counts_at self.now event }
     {
         match event {
-            Event::Sweep(place) => part(self.sweeps, (place as usize).saturating_sub(1), 1),
-            _ => part(self.sweeps, 0, 0),
+            Event::Sweep(place) => self.sweeps.get((place as usize).saturating_sub(1)),
+            _ => None,
         }
     }
 
@@ -86,8 +101,8 @@ impl<'a> Log<'a> {
 }
 
 // The event at a place. Places count from 1.
-pub(crate) fn event_at(history: &[Event], place: u32) -> Option<&Event>
-    ensures { option_copied result ≡ event_at history.now place }
+fn event_at(history: &EventList, place: u32) -> Option<Event>
+    ensures { result ≡ event_at history.now.items place }
 {
     if place == 0 {
         return None;
@@ -96,7 +111,7 @@ pub(crate) fn event_at(history: &[Event], place: u32) -> Option<&Event>
 }
 
 // Whether two events are one and the same.
-pub(crate) fn are_same(event: &Event, other: &Event) -> bool
+fn are_same(event: &Event, other: &Event) -> bool
     ensures { IsTrue result ↔ (event.now ≡ other.now) }
 {
     *event == *other

@@ -5,7 +5,7 @@ ghost use Rattle.hand_ledger.specs.Marks.{found_more, IsFirstWrong, IsAsWanted, 
 ghost use Rattle.hand_ledger.specs.Settling.{call_at, LogValue};
 ghost use Rattle.hand_ledger.specs.declared.marks.TheConstants.{PLACES};
 
-use crate::keeping::Entry;
+use crate::entries::Entries;
 use crate::logs::{Log, counts_in, part, starts_in};
 use master_state::Start;
 
@@ -37,25 +37,26 @@ fn mark(found: &mut [Found], place: u32, is_right: bool)
 pub(crate) fn mark_all(
     found: &mut [Found],
     log: &Log<'_>,
-    entries: &[Entry],
+    entries: &Entries,
     counts: &[[u64; 256]],
     starts: &[Start],
 )
     requires size { length found.old ≡ PLACES }
-    requires places { All (λ entry. IsPlace entry.place) entries.now }
-    requires counts { counts_taken entries.now ≤ length counts.now }
-    requires starts { starts_taken entries.now ≤ length starts.now }
+    requires places { All (λ entry. IsPlace entry.place) entries.now.items }
+    requires counts { counts_taken entries.now.items ≤ length counts.now }
+    requires starts { starts_taken entries.now.items ≤ length starts.now }
     ensures size { length found.new ≡ PLACES }
     ensures marks { (before : List Kept) → Marks log.now before found.old
-        → Marks log.now (before ++ calls_of entries.now counts.now starts.now) found.new }
+        → Marks log.now (before ++ calls_of entries.now.items counts.now starts.now) found.new }
 {
     let mut counts_done = 0;
     let mut starts_done = 0;
-    for entry in entries {
+    for index in 0..entries.len() {
+        let entry = entries.at(index);
         let new_counts = counts_in(entry.event);
         let new_starts = starts_in(entry.event);
         let is_right = log.has(
-            entry,
+            &entry,
             part(counts, counts_done, new_counts),
             part(starts, starts_done, new_starts),
         );

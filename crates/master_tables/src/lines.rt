@@ -18,7 +18,7 @@ pub fn worker_lines(alloc: Global, workers: &[Worker]) -> Result<Vec<WorkerLine>
 {
     let mut lines = Vec::with_capacity(alloc, workers.len())?;
     for worker in workers {
-        lines.push(line_of(worker))?;
+        lines.push_reserved(line_of(worker));
     }
     Ok(lines)
 }

@@ -1,18 +1,19 @@
 ghost use Rattle.std.specs.Prelude.{◌≡◌, ◌<◌, ◌+◌, ◌-◌, ◌^◌, ◌++◌, ◌∷◌, [], length, vec_capacity, vec_len};
 
+use compact_lists::{CountList, EventList};
 use master_state::{Event, Start, Work};
 use node_ids::{AttemptNo, WorkerNo};
 use shuffle_reduce::PartResult;
 
 /// Adds an event to a history with room for it, and gives its place.
-pub fn record_event(history: &mut Vec<Event>, event: Event) -> u32
-    requires room { vec_len history.old < vec_capacity history.old }
-    requires few { vec_len history.old < 2 ^ 32 - 1 }
+pub fn record_event(history: &mut EventList, event: Event) -> u32
+    requires room { length history.old.items < history.old.room }
+    requires few { length history.old.items < 2 ^ 32 - 1 }
     ensures items { history.new.items ≡ history.old.items ++ event ∷ [] }
-    ensures capacity { vec_capacity history.new ≡ vec_capacity history.old }
+    ensures capacity { history.new.room ≡ history.old.room }
     ensures place { result ≡ length history.old.items + 1 }
 {
-    history.push_reserved(event);
+    history.push(&event);
     history.len() as u32
 }
 
@@ -29,14 +30,14 @@ pub fn record_start(starts: &mut Vec<Start>, work: Work, worker: WorkerNo) -> At
 }
 
 /// Adds the counts of a sweep to a list with room for them, and gives their place.
-pub fn record_counts(sweeps: &mut Vec<[u64; 256]>, counts: &[u64; 256]) -> u32
-    requires room { vec_len sweeps.old < vec_capacity sweeps.old }
-    requires few { vec_len sweeps.old < 2 ^ 32 - 1 }
+pub fn record_counts(sweeps: &mut CountList, counts: &[u64; 256]) -> u32
+    requires room { length sweeps.old.items < sweeps.old.room }
+    requires few { length sweeps.old.items < 2 ^ 32 - 1 }
     ensures items { sweeps.new.items ≡ sweeps.old.items ++ counts.now ∷ [] }
-    ensures capacity { vec_capacity sweeps.new ≡ vec_capacity sweeps.old }
+    ensures capacity { sweeps.new.room ≡ sweeps.old.room }
     ensures place { result ≡ length sweeps.old.items + 1 }
 {
-    sweeps.push_reserved(*counts);
+    sweeps.push(counts);
     sweeps.len() as u32
 }
 

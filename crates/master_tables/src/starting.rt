@@ -1,7 +1,6 @@
 ghost use Rattle.std.specs.Prelude.{◌≡◌, ◌<◌, ◌≤◌, ◌+◌, ◌-◌, ◌^◌, ◌++◌, ◌∷◌, [], length, map, fold};
 ghost use Rattle.std.specs.Prelude.{vec_capacity, vec_len, None};
 ghost use Rattle.node_ids.specs.Updates.{updated};
-ghost use Rattle.wave_problem.specs.Assignment.{pairs_of};
 ghost use Rattle.worker_table.specs.Workers.{free_slots, with_slot_taken};
 ghost use Rattle.master_state.specs.declared.states.Work.TheVariants as works;
 ghost use Rattle.master_state.specs.States.{Setup, State};
@@ -14,22 +13,21 @@ ghost use Rattle.master_tables.specs.Starting.{MayStart};
 use crate::entries::SplitEntry;
 use master_state::{Attempt, Start, Work};
 use node_ids::{AttemptNo, SplitNo, WorkerNo};
-use wave_problem::Plan;
 use worker_table::WorkerTable;
 
-/// Starts the splits of a plan, by rising split.
+/// Starts splits, each on its worker, one after another.
 pub fn start_each(
     workers: &mut WorkerTable,
     splits: &mut Vec<SplitEntry>,
     starts: &mut Vec<Start>,
-    plan: &Plan,
+    pairs: &[(SplitNo, WorkerNo)],
 )
-    requires allowed { MayStart workers.old (map shown_as splits.old.items) (pairs_of plan.now.starts) }
-    requires room { vec_len starts.old + length (pairs_of plan.now.starts) ≤ vec_capacity starts.old }
-    requires few { vec_len starts.old + length (pairs_of plan.now.starts) < 2 ^ 32 - 1 }
+    requires allowed { MayStart workers.old (map shown_as splits.old.items) pairs.now }
+    requires room { vec_len starts.old + length pairs.now ≤ vec_capacity starts.old }
+    requires few { vec_len starts.old + length pairs.now < 2 ^ 32 - 1 }
     ensures started { (s : State) → s.workers ≡ workers.old → s.splits ≡ map shown_as splits.old.items
         → s.starts ≡ starts.old.items
-        → fold (λ now pair. split_started now pair.0 pair.1) s (pairs_of plan.now.starts) ≡ record s {
+        → fold (λ now pair. split_started now pair.0 pair.1) s pairs.now ≡ record s {
           workers = workers.new;
           splits = map shown_as splits.new.items;
           starts = starts.new.items;
@@ -37,11 +35,9 @@ pub fn start_each(
     ensures capacity { vec_capacity starts.new ≡ vec_capacity starts.old }
     ensures made { (setup : Setup) → AreOfSplits setup splits.old.items → AreOfSplits setup splits.new.items }
 {
-    for i in 0..plan.splits() {
-        let split = SplitNo::new(i as u16);
-        if let Some(worker) = plan.of(split) {
-            start_one(workers, splits, starts, split, worker);
-        }
+    for pair in pairs {
+        let (split, worker) = *pair;
+        start_one(workers, splits, starts, split, worker);
     }
 }
 

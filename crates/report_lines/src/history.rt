@@ -6,6 +6,7 @@ ghost use Rattle.report_lines.specs.History.{start_line, start_lines, sweep_line
 ghost use Rattle.text_lines.specs.Texts.{name_of};
 
 use crate::answers::{add_backup, add_reduce, add_reduce_of, add_start_of, add_wave};
+use compact_lists::{CountList, EventList};
 use master_state::{Event, Start, Work};
 use node_ids::{AttemptNo, SplitNo, SplitSet, WorkerNo};
 use std::alloc::AllocError;
@@ -18,16 +19,17 @@ pub fn add_history(
     splits: &NameTable<'_>,
     workers: &NameTable<'_>,
     starts: &[Start],
-    sweeps: &[[u64; 256]],
-    history: &[Event],
+    sweeps: &CountList,
+    history: &EventList,
 ) -> Result<(), AllocError>
     requires splits { length splits.now ≤ 1024 }
     requires workers { length workers.now ≤ 256 }
     ensures { OnOk result (string_bytes lines.new ≡ string_bytes lines.old
-        ++ history_lines splits.now workers.now starts.now sweeps.now history.now) }
+        ++ history_lines splits.now workers.now starts.now sweeps.now.items history.now.items) }
 {
-    for event in history {
-        add_event(lines, splits, workers, starts, sweeps, event)?;
+    for index in 0..history.len() {
+        let event = history.at(index);
+        add_event(lines, splits, workers, starts, sweeps, &event)?;
     }
     Ok(())
 }
@@ -37,13 +39,13 @@ fn add_event(
     splits: &NameTable<'_>,
     workers: &NameTable<'_>,
     starts: &[Start],
-    sweeps: &[[u64; 256]],
+    sweeps: &CountList,
     event: &Event,
 ) -> Result<(), AllocError>
     requires splits { length splits.now ≤ 1024 }
     requires workers { length workers.now ≤ 256 }
     ensures { OnOk result (string_bytes lines.new ≡ string_bytes lines.old
-        ++ event_lines splits.now workers.now starts.now sweeps.now event.now) }
+        ++ event_lines splits.now workers.now starts.now sweeps.now.items event.now) }
 {
     match *event {
         Event::Wave { first, count, cost } => {
@@ -147,15 +149,15 @@ fn add_member(
 fn add_sweep_at(
     lines: &mut String,
     workers: &NameTable<'_>,
-    sweeps: &[[u64; 256]],
+    sweeps: &CountList,
     place: u32,
 ) -> Result<(), AllocError>
     requires { length workers.now ≤ 256 }
     ensures { OnOk result (string_bytes lines.new
-        ≡ string_bytes lines.old ++ sweep_lines workers.now (slice_get sweeps.now (place - 1))) }
+        ≡ string_bytes lines.old ++ sweep_lines workers.now (slice_get sweeps.now.items (place - 1))) }
 {
     match sweeps.get((place as usize).saturating_sub(1)) {
-        Some(counts) => add_sweep(lines, workers, counts),
+        Some(counts) => add_sweep(lines, workers, &counts),
         None => Ok(()),
     }
 }

@@ -309,8 +309,8 @@ fn enter<L: Ledger, T, B>(
 {
     match answer {
         Answer::Accepted(place, _) => {
-            let event = &master.history()[*place as usize - 1];
-            hand.keep(hands, *place, event, counts, &[]);
+            let event = master.history().at(*place as usize - 1);
+            hand.keep(hands, *place, &event, counts, &[]);
         }
         Answer::Ignored(why, _) => ignore(hand, counts.len(), *why),
     }

@@ -1,41 +1,45 @@
-use Rattle.std.proofs.Common.{List, [], ◌∷◌, ◌++◌, take, drop, refl, ap, subst, ◌∙◌, arith}
+use Rattle.std.proofs.Common.{◌≡◌, ◌<◌, List, [], ◌∷◌, ◌++◌, length, get_or, take, drop, refl, sym, ap}
+use Rattle.std.proofs.Common.{subst, ◌∙◌, arith}
+use Rattle.std.proofs.lemmas.Option.{get_or_from_slice_get}
 use Rattle.hand_ledger.specs.Hands.{Kept, kept}
 use Rattle.hand_ledger.specs.Inside.{calls_of}
 use Rattle.hand_ledger.specs.Marks.{Marks}
 use Rattle.hand_ledger.proofs.Calls.{counts_of, starts_of, taken_step, calls_step}
 use Rattle.hand_ledger.proofs.marks.mark_all.Goals as goal
 
-pub loop-entry-preserved : goal.loop-entry-preserved
-loop-entry-preserved c =
-    let es = c.args.entries.now in
+pub loop-index-preserved : goal.loop-index-preserved
+loop-index-preserved c =
+    let es = c.args.entries.now.items in
     let cs = c.args.counts.now in
     let ss = c.args.starts.now in
-    let i = c.loop-entry.entry-index in
-    let e = c.entry-item.result in
-    let kept_so = c.loop-entry.invariant in
+    let i = c.loop-index.index in
+    let e = c.at-entry.result in
+    let lt : i < length es = omega (arith, c.loop-index-test.true, c.len-index-end.ensures) in
+    let at : e ≡ get_or es i e = sym (get_or_from_slice_get es i e e c.at-entry.ensures) in
+    let kept_so = c.loop-index.invariant in
     record {
       size = c.mark.ensures.size;
       counts = omega (
         arith,
         kept_so.counts,
         c.counts_in-new_counts.ensures,
-        taken_step counts_of es i e c.loop-entry-test.true c.entry-item.is,
+        taken_step counts_of es i e lt at,
       );
       starts = omega (
         arith,
         kept_so.starts,
         c.starts_in-new_starts.ensures.value,
-        taken_step starts_of es i e c.loop-entry-test.true c.entry-item.is,
+        taken_step starts_of es i e lt at,
       );
       marks = λ before m.
           subst (λ (l : List Kept). Marks c.args.log.now l c.mark.new.found)
           (ap (λ (call : Kept). (before ++ calls_of (take i es) cs ss) ++ call ∷ [])
           (λ k. kept e.place e.event
           ((c.part.ensures ∙ (λ j. take (c.counts_in-new_counts.ensures j) (drop (kept_so.counts j) cs))) k)
-          ((c.part-in-loop-entry.ensures
+          ((c.part-in-loop-index.ensures
           ∙ (λ j. take (c.starts_in-new_starts.ensures.value j) (drop (kept_so.starts j) ss))) k))
-          ∙ calls_step before es i e cs ss c.loop-entry-test.true c.entry-item.is)
+          ∙ calls_step before es i e cs ss lt at)
           (c.mark.ensures.marks c.args.log.now (before ++ calls_of (take i es) cs ss)
-          (kept e.place e.event c.part.result.now c.part-in-loop-entry.result.now) refl c.has-is_right.ensures
+          (kept e.place e.event c.part.result.now c.part-in-loop-index.result.now) refl c.has-is_right.ensures
           (kept_so.marks before m));
     }

@@ -5,11 +5,11 @@ use Rattle.hand_ledger.specs.Marks.{Marks}
 use Rattle.hand_ledger.specs.declared.marks.TheConstants.{PLACES}
 use Rattle.hand_ledger.proofs.marks.mark_all.Given as goal
 
-abbrev pub invariant-loop-entry : goal.invariant-loop-entry
-invariant-loop-entry l = record {
+abbrev pub invariant-loop-index : goal.invariant-loop-index
+invariant-loop-index l = record {
   size : length l.found ≡ PLACES;
-  counts : l.counts_done ≡ counts_taken (take l.entry-index l.entries);
-  starts : l.starts_done ≡ starts_taken (take l.entry-index l.entries);
+  counts : l.counts_done ≡ counts_taken (take l.index l.entries.items);
+  starts : l.starts_done ≡ starts_taken (take l.index l.entries.items);
   marks : (before : List Kept) → Marks l.log before l.fn.found →
-      Marks l.log (before ++ calls_of (take l.entry-index l.entries) l.counts l.starts) l.found;
+      Marks l.log (before ++ calls_of (take l.index l.entries.items) l.counts l.starts) l.found;
 }

@@ -1,4 +1,4 @@
-use Rattle.std.proofs.Common.{ℕ, List, length, ap, subst, arith}
+use Rattle.std.proofs.Common.{ℕ, List, length, ap, ◌∙◌, subst, arith}
 use Rattle.std.proofs.lemmas.Grind.{common_steps}
 use Rattle.std.proofs.lemmas.List.{take_all}
 use Rattle.hand_ledger.specs.Hands.{HandValue}
@@ -17,7 +17,7 @@ returns g c =
     (take_all c.loop-hand.hand-index hands c.loop-hand-test.false) c.loop-hand.invariant.1)
     c.are_true.ensures c.first_wrong.result
     (subst (λ (n : ℕ). IsFirstWrong n c.are_true.result found c.first_wrong.result)
-    (ap (λ (l : LogValue). length l.history) c.log.view_is) c.first_wrong.ensures)
+    (c.len.ensures.count ∙ ap (λ (l : LogValue). length l.history) c.log.view_is) c.first_wrong.ensures)
 
 pub loop-hand-preserved : goal.loop-hand-preserved
 loop-hand-preserved g c = grind (arith, common_steps)

@@ -1,6 +1,7 @@
 use Rattle.std.proofs.Common.{◌≡◌, ◌+◌, ◌<◌, ◌≤◌, length, List, [], ◌∷◌, ◌++◌, ap, ◌∙◌, arith}
+use Rattle.std.proofs.lemmas.List.{length-append}
 use Rattle.hand_ledger.specs.Hands.{HandValue, Kept, kept, counts_in, starts_in, with_call}
-use Rattle.hand_ledger.specs.declared.keeping.Entry.{Entry}
+use Rattle.hand_ledger.specs.declared.entries.Entry.{Entry}
 use Rattle.hand_ledger.specs.Inside.{calls_of}
 use Rattle.hand_ledger.proofs.Calls.{three_true, room_is, kept_more, calls_kept, hand_from}
 use Rattle.hand_ledger.proofs.keeping.Hand.keep.Given.{Over}
@@ -16,10 +17,9 @@ fits g c =
     (room_is (counts_in c.args.event.now) (starts_in c.args.event.now) c.self.view_is c.self.invariant.2
     ∙ c.requires.room)
 
-pub push_reserved-requires : goal.push_reserved-requires
-push_reserved-requires g c =
-    let all = fits g (goal.at.push_reserved-requires g c).After-add in
-    omega (arith, all.0, c.self.invariant.3, c.self.inside.entries.ok.0)
+pub push-requires : goal.push-requires
+push-requires g c =
+    let all = fits g (goal.at.push-requires g c).After-add in omega (arith, all.0, c.self.invariant.3)
 
 pub add_all-requires : goal.add_all-requires
 add_all-requires g c =
@@ -34,21 +34,21 @@ add_all-requires-2 g c =
 pub invariant_of-self : goal.invariant_of-self
 invariant_of-self g c =
     let h = c.self.inside in
+    let e : Entry = record { place = c.args.place; event = c.args.event.now } in
     let inv = c.self.invariant in (
       c.add.ensures.parts ∙ inv.0,
       omega (
         arith,
         c.add.ensures.amount,
         inv.1,
-        c.push_reserved.ensures.len,
-        h.entries.ok.0,
-        c.push_reserved.new.self.ok.0,
+        ap length c.push.ensures.items,
+        length-append h.entries.items (e ∷ []),
       ),
-      rw (c.push_reserved.ensures.items, c.add_all.ensures.items, c.add_all-2.ensures.items)
-          (kept_more (record { place = c.args.place; event = c.args.event.now }) c.args.counts.now
+      rw (c.push.ensures.items, c.add_all.ensures.items, c.add_all-2.ensures.items)
+          (kept_more e c.args.counts.now
           c.args.starts.now c.requires.counts c.requires.starts c.requires.place
           (fits g (goal.at.invariant_of-self g c).After-add) inv.2),
-      omega (arith, c.push_reserved.ensures.capacity, inv.3),
+      omega (arith, c.push.ensures.room, inv.3),
       omega (arith, c.add_all.ensures.capacity, inv.4),
       omega (arith, c.add_all-2.ensures.capacity, inv.5),
     )
@@ -58,10 +58,10 @@ returns-clause-value g c =
     let h = c.self.inside in
     let inv = c.self.invariant in
     let e : Entry = record { place = c.args.place; event = c.args.event.now } in
-    let made : calls_of c.push_reserved.new.self.items c.add_all.new.list.items c.add_all-2.new.list.items
+    let made : calls_of c.push.new.self.items c.add_all.new.list.items c.add_all-2.new.list.items
     ≡ calls_of h.entries.items h.counts.items h.starts.items
     ++ kept c.args.place c.args.event.now c.args.counts.now c.args.starts.now ∷ [] =
-    (λ j. calls_of (c.push_reserved.ensures.items j) (c.add_all.ensures.items j)
+    (λ j. calls_of (c.push.ensures.items j) (c.add_all.ensures.items j)
     (c.add_all-2.ensures.items j))
     ∙ calls_kept h.entries.items e h.counts.items c.args.counts.now h.starts.items c.args.starts.now
     inv.2.counts_are inv.2.starts_are c.requires.counts c.requires.starts in

@@ -1,36 +1,31 @@
-use Rattle.std.proofs.Common.{◌≡◌, Some, List, ap, sym, ◌∙◌}
-use Rattle.std.specs.Prelude.{◌↔◌}
+use Rattle.std.proofs.Common.{◌≡◌, ◌-◌, ◌<◌, Some, List, length, refl, ap, sym, ◌∙◌, arith}
+use Rattle.std.specs.Prelude.{◌↔◌, IsTrue, slice_get, true}
+use Rattle.hand_ledger.specs.declared.entries.Entry.{Entry}
 use Rattle.hand_ledger.specs.Hands.{HandValue, Kept}
 use Rattle.hand_ledger.specs.Settling.{LastStands, event_at}
-use Rattle.hand_ledger.proofs.Calls.{of_last}
-use Rattle.hand_ledger.proofs.keeping.Hand.stands.Given.{Over}
-use Rattle.hand_ledger.proofs.keeping.Hand.stands.Goals.{After-event_at}
+use Rattle.hand_ledger.proofs.Calls.{entry_there, no_entries, of_last, of_none}
 use Rattle.hand_ledger.proofs.keeping.Hand.stands.Goals as goal
 
--- the last call stands where the event of the last entry does
-same : (g : Over) (c : After-event_at g) →
-    LastStands c.args.history.now c.args.self.now.calls
-    ↔ (event_at c.args.history.now c.in-Some.entry.now.place ≡ Some c.in-Some.entry.now.event)
-same g c =
+pub returns-then-count-eq0 : goal.returns-then-count-eq0
+returns-then-count-eq0 g c =
     let h = c.self.inside in
-    let e = c.in-Some.entry.now in
-    let history = c.args.history.now in
+    let history = c.args.history.now.items in
+    of_none (λ (calls : List Kept). (IsTrue true → LastStands history calls) × (LastStands history calls →
+    IsTrue true)) h.entries.items h.counts.items h.starts.items (ap (λ (v : HandValue). v.calls) c.self.view_is)
+    (no_entries h.entries.items (sym c.len-count.ensures ∙ c.if-count-eq0.true)) (λ t. tt, λ s. refl)
+
+pub returns : goal.returns
+returns g c =
+    let h = c.self.inside in
+    let history = c.args.history.now.items in
+    let within : length h.entries.items - 1 < length h.entries.items =
+    omega (arith, c.if-count-eq0.false, c.len-count.ensures) in
+    let last = entry_there h.entries.items (length h.entries.items - 1) within in
+    let e : Entry = last.0 in
+    let both : LastStands history c.args.self.now.calls ↔ (event_at history e.place ≡ Some e.event) =
     of_last (λ (calls : List Kept). LastStands history calls ↔ (event_at history e.place ≡ Some e.event))
-    h.entries.items h.counts.items h.starts.items (ap (λ (v : HandValue). v.calls) c.self.view_is)
-    c.deref.ensures.value c.in-Some.ensures.value (λ counts starts. (λ is. is, λ is. is))
-    (λ call next calls is. is)
-
-pub returns-in-None : goal.returns-in-None
-returns-in-None g c = (
-  λ t. absurd cc,
-  λ s. absurd (cc (c.in-None.ensures, (same g (goal.at.returns-in-None g c).After-event_at).0 s)),
-)
-
-pub returns-in-Some-event_at : goal.returns-in-Some-event_at
-returns-in-Some-event_at g c =
-    let both = same g (goal.at.returns-in-Some-event_at g c).After-event_at in
-    let event = c.in-Some-event_at.event.now in (
-      λ t. both.1 (sym c.in-Some-event_at.ensures ∙ ap Some (c.are_same.ensures.0 t)),
-      λ s. c.are_same.ensures.1 (let is : Some event ≡ Some c.in-Some.entry.now.event =
-          c.in-Some-event_at.ensures ∙ both.0 s in cc),
-    )
+    h.entries.items h.counts.items h.starts.items (ap (λ (v : HandValue). v.calls) c.self.view_is) refl
+    (sym last.1) (λ counts starts. (λ is. is, λ is. is)) (λ call next calls is. is) in
+    let says = c.stands.ensures e
+    (ap (λ n. slice_get h.entries.items (n - 1)) c.len-count.ensures ∙ last.1) in
+    (λ t. both.1 (says.0 t), λ s. says.1 (both.0 s))

@@ -1,0 +1,121 @@
+ghost use Rattle.std.specs.Prelude.{◌≡◌, ◌↔◌, IsTrue, ◌<◌, ◌^◌, ◌++◌, ◌∷◌, [], length, vec_capacity, vec_len};
+ghost use Rattle.compact_lists.specs.Entries.{event_of, GoesOn, is_whole, IsWithin};
+
+use master_state::Event;
+use node_ids::{AttemptNo, PartNo, SplitNo, SplitSet, WorkerNo};
+
+// An event in few bytes: a join names the place of its set, and a wave that of its totals, from 0.
+#[derive(Clone, Copy, Debug, PartialEq, Eq)]
+pub(crate) enum Entry {
+    Wave(AttemptNo, u32),
+    MapDone(AttemptNo),
+    MapFailed(AttemptNo),
+    Withdraw(AttemptNo),
+    Die(WorkerNo),
+    Join(WorkerNo, u32),
+    Add(SplitNo, WorkerNo),
+    Lose(SplitNo, WorkerNo),
+    Sweep(u32),
+    ReduceStart(AttemptNo, PartNo, WorkerNo),
+    PartDone(AttemptNo),
+    PartFailed(AttemptNo),
+    Backup(AttemptNo, SplitNo, WorkerNo),
+}
+
+// How many splits a wave starts, and at which byte-distance.
+#[derive(Clone, Copy, Debug)]
+pub(crate) struct Totals {
+    pub(crate) count: u32,
+    pub(crate) cost: u64,
+}
+
+// The entry of an event, whose set or totals are added to the lists.
+pub(crate) fn entry_of(sets: &mut Vec<SplitSet>, totals: &mut Vec<Totals>, event: &Event) -> Entry
+    requires sets { vec_len sets.old < vec_capacity sets.old }
+    requires totals { vec_len totals.old < vec_capacity totals.old }
+    requires few_sets { vec_len sets.old < 2 ^ 32 }
+    requires few_totals { vec_len totals.old < 2 ^ 32 }
+    ensures event { event_of sets.new.items totals.new.items result ≡ event.now }
+    ensures within { IsWithin (length sets.new.items) (length totals.new.items) result }
+    ensures sets { GoesOn sets.old.items sets.new.items }
+    ensures totals { GoesOn totals.old.items totals.new.items }
+    ensures set_room { vec_capacity sets.new ≡ vec_capacity sets.old }
+    ensures total_room { vec_capacity totals.new ≡ vec_capacity totals.old }
+{
+    match *event {
+        Event::Wave { first, count, cost } => {
+            Entry::Wave(first, add(totals, Totals { count, cost }))
+        }
+        Event::MapDone(attempt) => Entry::MapDone(attempt),
+        Event::MapFailed(attempt) => Entry::MapFailed(attempt),
+        Event::Withdraw(attempt) => Entry::Withdraw(attempt),
+        Event::Die(worker) => Entry::Die(worker),
+        Event::Join(worker, set) => Entry::Join(worker, add(sets, set)),
+        Event::Add(split, worker) => Entry::Add(split, worker),
+        Event::Lose(split, worker) => Entry::Lose(split, worker),
+        Event::Sweep(place) => Entry::Sweep(place),
+        Event::ReduceStart(attempt, part, worker) => Entry::ReduceStart(attempt, part, worker),
+        Event::PartDone(attempt) => Entry::PartDone(attempt),
+        Event::PartFailed(attempt) => Entry::PartFailed(attempt),
+        Event::Backup(attempt, split, worker) => Entry::Backup(attempt, split, worker),
+    }
+}
+
+// Adds a value to a list with room for it, and gives its place.
+pub(crate) fn add<T: Copy>(list: &mut Vec<T>, value: T) -> u32
+    requires room { vec_len list.old < vec_capacity list.old }
+    requires few { vec_len list.old < 2 ^ 32 }
+    ensures items { list.new.items ≡ list.old.items ++ value ∷ [] }
+    ensures capacity { vec_capacity list.new ≡ vec_capacity list.old }
+    ensures place { result ≡ length list.old.items }
+{
+    let place = list.len() as u32;
+    list.push_reserved(value);
+    place
+}
+
+// The event of an entry.
+pub(crate) fn event_of(sets: &[SplitSet], totals: &[Totals], entry: Entry) -> Event
+    requires { IsWithin (length sets.now) (length totals.now) entry }
+    ensures { result ≡ event_of sets.now totals.now entry }
+{
+    match entry {
+        Entry::Wave(first, place) => {
+            let Totals { count, cost } = totals[place as usize];
+            Event::Wave { first, count, cost }
+        }
+        Entry::MapDone(attempt) => Event::MapDone(attempt),
+        Entry::MapFailed(attempt) => Event::MapFailed(attempt),
+        Entry::Withdraw(attempt) => Event::Withdraw(attempt),
+        Entry::Die(worker) => Event::Die(worker),
+        Entry::Join(worker, place) => Event::Join(worker, sets[place as usize]),
+        Entry::Add(split, worker) => Event::Add(split, worker),
+        Entry::Lose(split, worker) => Event::Lose(split, worker),
+        Entry::Sweep(place) => Event::Sweep(place),
+        Entry::ReduceStart(attempt, part, worker) => Event::ReduceStart(attempt, part, worker),
+        Entry::PartDone(attempt) => Event::PartDone(attempt),
+        Entry::PartFailed(attempt) => Event::PartFailed(attempt),
+        Entry::Backup(attempt, split, worker) => Event::Backup(attempt, split, worker),
+    }
+}
+
+// Whether an entry alone says all of its event.
+pub(crate) fn is_whole(entry: &Entry) -> bool
+    ensures { result ≡ is_whole entry.now }
+{
+    !matches!(entry, Entry::Wave(..) | Entry::Join(..))
+}
+
+// Whether two entries are one and the same.
+pub(crate) fn is_entry(entry: &Entry, other: &Entry) -> bool
+    ensures { IsTrue result ↔ (entry.now ≡ other.now) }
+{
+    *entry == *other
+}
+
+// Whether two events are.
+pub(crate) fn is_event(event: &Event, other: &Event) -> bool
+    ensures { IsTrue result ↔ (event.now ≡ other.now) }
+{
+    *event == *other
+}
