@@ -1,32 +1,30 @@
-ghost use Rattle.std.specs.Prelude.{◌≡◌, ℕ, ◌+◌, ◌*◌, ◌<◌, ◌≤◌, ◌↔◌, length, slice_index, slice_index_or};
-ghost use Rattle.std.specs.Prelude.{unwrap_or, All, IsTrue, OnOk, Err, IfErr, IfOk, IfSome, None};
+ghost use Rattle.std.specs.Prelude.{◌≡◌, ℕ, ◌+◌, ◌*◌, ◌<◌, ◌≤◌, ◌↔◌, length, slice_index};
+ghost use Rattle.std.specs.Prelude.{unwrap_or, IsTrue, OnOk, Err, IfErr, IfOk, IfSome};
+ghost use Rattle.node_ids.specs.Sets.{HasPair};
 ghost use Rattle.rack_tree.specs.Tree.{IsWithinReach};
 ghost use Rattle.rack_tree.specs.declared.TheConstants.{MAX_DISTANCE, MAX_WORKERS};
 ghost use Rattle.wave_problem.specs.declared.TheConstants.{MAX_BYTES, MAX_SPLITS};
-ghost use Rattle.wave_problem.specs.Wave.{cost, reward, split_at, worker_at, IsUsable};
+ghost use Rattle.wave_problem.specs.Wave.{cost, reward, worker_at, IsUsable};
 ghost use Rattle.wave_problem.specs.Assignment.{load, pairs_of, start_of, total};
 ghost use Rattle.price_certificate.specs.Certificate.{AllHold, claim, Certifies, HasOneSize, Holds};
 ghost use Rattle.price_certificate.specs.Certificate.{IsFirstFailure, IsFirstOf, MayTake, priced_at};
 ghost use Rattle.price_certificate.specs.Certificate.{split_price, worker_price, of_allowed, of_open};
 ghost use Rattle.price_certificate.specs.Certificate.{of_priced, of_room, of_spare, of_split_price, of_tight};
 ghost use Rattle.price_certificate.specs.Certificate.{of_unstarted, of_worker_price, Claim};
-ghost use Rattle.certificate_checker.specs.Verdict.{IfFailed, IsFirstUnderpriced, MayComparePairs};
-ghost use Rattle.certificate_checker.specs.Floors.{AreFloors, IsPricedFar, IsPricedNear};
+ghost use Rattle.certificate_checker.specs.Verdict.{IfFailed, MayComparePairs};
+ghost use Rattle.certificate_checker.specs.Slots.{AreSlots};
 ghost use Rattle.certificate_checker.specs.View.{claim_of, IsSound};
 
-use crate::floors::Floors;
+use crate::pairs::PairChecker;
+use crate::slots::{Slot, no_slots, sort_by_price};
 use crate::{Certified, CheckError};
 use node_ids::{SplitNo, WorkerNo};
 use price_certificate::{Condition, Prices};
 use rack_tree::MAX_WORKERS;
-use rayon::prelude::*;
-use std::alloc::{AllocError, Global};
+use std::alloc::Global;
 use std::marker::Model;
 use std::thread::Threads;
-use wave_problem::{MAX_SPLITS, Plan, Problem, SplitCosts};
-
-// How many splits a thread takes at the least: fewer are not worth the start of a thread.
-const SPLITS_PER_THREAD: usize = 128;
+use wave_problem::{Plan, Problem};
 
 // A problem, a plan and prices of one size, with what would be counted again at each place.
 #[derive(Drop)]
@@ -64,7 +62,13 @@ impl<'a> Checker<'a> {
         }
     }
 
-    fn splits(&self) -> usize
+    pub(crate) fn problem(&self) -> &Problem
+        ensures { result.now ≡ self.now.wave }
+    {
+        self.problem
+    }
+
+    pub(crate) fn splits(&self) -> usize
         ensures count { result ≡ length self.now.wave.splits }
         ensures starts { result ≡ length self.now.starts }
         ensures prices { result ≡ length self.now.prices.splits }
@@ -73,7 +77,7 @@ impl<'a> Checker<'a> {
         self.problem.splits()
     }
 
-    fn workers(&self) -> usize
+    pub(crate) fn workers(&self) -> usize
         ensures count { result ≡ length self.now.wave.workers }
         ensures prices { result ≡ length self.now.prices.workers }
         ensures most { result ≤ MAX_WORKERS }
@@ -81,7 +85,7 @@ impl<'a> Checker<'a> {
         self.problem.workers()
     }
 
-    fn start(&self, split: SplitNo) -> Option<WorkerNo>
+    pub(crate) fn start(&self, split: SplitNo) -> Option<WorkerNo>
         requires { split < length self.now.wave.splits }
         ensures start { result ≡ start_of self.now.starts split }
         ensures known { IfSome result (λ w. w < length self.now.wave.workers) }
@@ -103,40 +107,28 @@ impl<'a> Checker<'a> {
         u16::from(self.problem.free(worker))
     }
 
-    fn reward(&self) -> u64
+    pub(crate) fn reward(&self) -> u64
         ensures reward { result ≡ reward self.now.wave }
         ensures most { result ≤ 1 + MAX_DISTANCE * MAX_SPLITS * MAX_BYTES }
     {
         self.reward
     }
 
-    fn split_price(&self, split: SplitNo) -> u64
+    pub(crate) fn split_price(&self, split: SplitNo) -> u64
         requires { split < length self.now.wave.splits }
         ensures { result ≡ split_price self.now.prices split }
     {
         self.prices.split(split)
     }
 
-    fn worker_price(&self, worker: WorkerNo) -> u64
+    pub(crate) fn worker_price(&self, worker: WorkerNo) -> u64
         requires { worker < length self.now.wave.workers }
         ensures { result ≡ worker_price self.now.prices worker }
     {
         self.prices.worker(worker)
     }
 
-    // Both prices of a pair. Where no price is above the reward, the sum fits.
-    fn price(&self, split: SplitNo, worker: WorkerNo) -> u64
-        requires split { split < length self.now.wave.splits }
-        requires worker { worker < length self.now.wave.workers }
-        requires split_prices { AllHold self.now of_split_price }
-        requires worker_prices { AllHold self.now of_worker_price }
-        ensures sum { result ≡ split_price self.now.prices split + worker_price self.now.prices worker }
-        ensures most { result ≤ 2 * (1 + MAX_DISTANCE * MAX_SPLITS * MAX_BYTES) }
-    {
-        self.prices.split(split) + self.prices.worker(worker)
-    }
-
-    fn cost(&self, split: SplitNo, worker: WorkerNo) -> u64
+    pub(crate) fn cost(&self, split: SplitNo, worker: WorkerNo) -> u64
         requires split { split < length self.now.wave.splits }
         requires worker { worker < length self.now.wave.workers }
         ensures cost { result ≡ unwrap_or (cost self.now.wave split worker) 0 }
@@ -145,8 +137,9 @@ impl<'a> Checker<'a> {
         self.problem.cost(split, worker).unwrap_or(0)
     }
 
-    // What is said of the plan once it is certified.
+    // What is said of a plan that is certified.
     pub(crate) fn certified(&self) -> Certified
+        requires { Certifies self.now }
         ensures count { result.count ≡ length (pairs_of self.now.starts) }
         ensures cost { result.cost ≡ total self.now.wave (pairs_of self.now.starts) }
     {
@@ -157,16 +150,29 @@ impl<'a> Checker<'a> {
     }
 
     fn total(&self) -> u64
+        requires { Certifies self.now }
         ensures { result ≡ total self.now.wave (pairs_of self.now.starts) }
     {
         let mut total = 0;
         for i in 0..self.splits() {
             let split = SplitNo::new(i as u16);
             if let Some(worker) = self.start(split) {
-                total += self.cost(split, worker);
+                total += self.tight_cost(split, worker);
             }
         }
         total
+    }
+
+    // The cost of a tight start: what both prices leave of the reward.
+    fn tight_cost(&self, split: SplitNo, worker: WorkerNo) -> u64
+        requires split { split < length self.now.wave.splits }
+        requires worker { worker < length self.now.wave.workers }
+        requires tight { priced_at self.now.wave self.now.prices split worker ≡ reward self.now.wave }
+        ensures cost { result ≡ unwrap_or (cost self.now.wave split worker) 0 }
+        ensures most { result ≤ MAX_DISTANCE * MAX_BYTES }
+    {
+        self.problem().limits();
+        self.reward() - self.split_price(split) - self.worker_price(worker)
     }
 }
 
@@ -188,6 +194,18 @@ impl<'a> Checker<'a> {
         self.problem.is_live(worker) && !self.problem.is_barred(split, worker)
     }
 
+    // Whether the worker has a slot for which the split is not barred.
+    pub(crate) fn may_take(&self, split: SplitNo, worker: WorkerNo) -> bool
+        requires split { split < length self.now.wave.splits }
+        requires worker { worker < length self.now.wave.workers }
+        ensures { IsTrue result ↔ (IsUsable self.now.wave.workers worker
+            × (HasPair self.now.wave.barred split worker → ⊥)) }
+    {
+        self.problem.is_live(worker)
+            && self.problem.free(worker) > 0
+            && !self.problem.is_barred(split, worker)
+    }
+
     fn has_room(&self, worker: WorkerNo) -> bool
         requires { worker < length self.now.wave.workers }
         ensures { IsTrue result ↔ Holds self.now (Condition.Room worker) }
@@ -207,29 +225,6 @@ impl<'a> Checker<'a> {
         ensures { IsTrue result ↔ Holds self.now (Condition.WorkerPrice worker) }
     {
         self.worker_price(worker) <= self.reward()
-    }
-
-    fn is_priced(&self, costs: &SplitCosts<'_>, worker: WorkerNo) -> bool
-        requires split { costs.now.split < length self.now.wave.splits }
-        requires worker { worker < length self.now.wave.workers }
-        requires wave { costs.now.wave ≡ self.now.wave }
-        requires split_prices { AllHold self.now of_split_price }
-        requires worker_prices { AllHold self.now of_worker_price }
-        ensures { IsTrue result ↔ Holds self.now (Condition.Priced costs.now.split worker) }
-    {
-        let sum = self.price(costs.split(), worker) + costs.cost(worker).unwrap_or(0);
-        sum >= self.reward() || !costs.admissible(worker)
-    }
-
-    fn is_tight(&self, split: SplitNo, worker: WorkerNo) -> bool
-        requires split { split < length self.now.wave.splits }
-        requires worker { worker < length self.now.wave.workers }
-        requires split_prices { AllHold self.now of_split_price }
-        requires worker_prices { AllHold self.now of_worker_price }
-        ensures { IsTrue result ↔ (priced_at self.now.wave self.now.prices split worker
-            ≡ reward self.now.wave) }
-    {
-        self.price(split, worker) + self.cost(split, worker) == self.reward()
     }
 
     fn is_free_unless_started(&self, split: SplitNo) -> bool
@@ -254,7 +249,7 @@ impl<'a> Checker<'a> {
         ensures err { IfErr result (IsFirstFailure self.now) }
     {
         self.check_before_pairs()?;
-        self.check_priced()?;
+        self.check_pairs()?;
         self.check_after_pairs()
     }
 
@@ -269,7 +264,7 @@ impl<'a> Checker<'a> {
         ensures memory { result ≡ Err CheckError.Memory → MayComparePairs self.now }
     {
         self.check_before_pairs()?;
-        self.check_priced_on(rt, alloc)?;
+        self.check_pairs_on(rt, alloc)?;
         self.check_after_pairs()?;
         Ok(())
     }
@@ -285,15 +280,75 @@ impl<'a> Checker<'a> {
         self.check_worker_prices()
     }
 
+    fn check_pairs(&self) -> Result<(), Condition>
+        requires { MayComparePairs self.now }
+        ensures ok { OnOk result (AllHold self.now of_priced × AllHold self.now of_tight) }
+        ensures err { IfErr result (IsFirstFailure self.now) }
+    {
+        let mut table = no_slots();
+        let pairs = self.pair_checker(&mut table[..self.workers()]);
+        pairs.check_priced()?;
+        pairs.check_tight()
+    }
+
+    // As `check_pairs`, on many threads.
+    fn check_pairs_on(&self, rt: &(impl Threads + Sync), alloc: Global) -> Result<(), CheckError>
+        requires { MayComparePairs self.now }
+        ensures ok { OnOk result (AllHold self.now of_priced × AllHold self.now of_tight) }
+        ensures failed { IfFailed result (IsFirstFailure self.now) }
+    {
+        let mut table = no_slots();
+        let pairs = self.pair_checker(&mut table[..self.workers()]);
+        pairs.check_priced_on(rt, alloc)?;
+        pairs.check_tight()?;
+        Ok(())
+    }
+
     fn check_after_pairs(&self) -> Result<(), Condition>
         requires before { MayComparePairs self.now }
-        requires pairs { AllHold self.now of_priced }
+        requires priced { AllHold self.now of_priced }
+        requires tight { AllHold self.now of_tight }
         ensures ok { OnOk result (Certifies self.now) }
         ensures err { IfErr result (IsFirstFailure self.now) }
     {
-        self.check_tight()?;
         self.check_unstarted()?;
         self.check_spare()
+    }
+
+    // What tests the pairs, by the slots of all workers, for which there is room.
+    fn pair_checker<'b>(&'b self, room: &'b mut [Slot]) -> PairChecker<'b>
+        requires before { MayComparePairs self.now }
+        requires room { length room.old ≡ length self.now.wave.workers }
+        ensures { result ≡ self.now }
+    {
+        self.put_slots(room);
+        PairChecker::new(self, room)
+    }
+
+    // The slots of all workers by rising price. A slot that nobody can take counts as the dearest.
+    fn put_slots(&self, slots: &mut [Slot])
+        requires { length slots.old ≡ length self.now.wave.workers }
+        ensures { AreSlots self.now slots.new }
+    {
+        for i in 0..self.workers() {
+            let worker = WorkerNo::new(i as u16);
+            slots[i] = Slot {
+                worker,
+                price: self.slot_price(worker),
+            };
+        }
+        sort_by_price(slots);
+    }
+
+    fn slot_price(&self, worker: WorkerNo) -> u64
+        requires { worker < length self.now.wave.workers }
+        ensures { IsUsable self.now.wave.workers worker → result ≡ worker_price self.now.prices worker }
+    {
+        if self.problem.is_live(worker) && self.problem.free(worker) > 0 {
+            self.worker_price(worker)
+        } else {
+            self.reward()
+        }
     }
 
     fn check_open(&self) -> Result<(), Condition>
@@ -359,203 +414,6 @@ impl<'a> Checker<'a> {
             let worker = WorkerNo::new(i as u16);
             if !self.has_worker_price(worker) {
                 return Err(Condition::WorkerPrice(worker));
-            }
-        }
-        Ok(())
-    }
-
-    fn check_priced(&self) -> Result<(), Condition>
-        requires split_prices { AllHold self.now of_split_price }
-        requires worker_prices { AllHold self.now of_worker_price }
-        ensures ok { OnOk result (AllHold self.now of_priced) }
-        ensures err { IfErr result (IsFirstOf self.now of_priced) }
-    {
-        let floors = self.floors();
-        for i in 0..self.splits() {
-            let split = SplitNo::new(i as u16);
-            if let Some(worker) = self.first_underpriced_past(&floors, split) {
-                return Err(Condition::Priced(split, worker));
-            }
-        }
-        Ok(())
-    }
-
-    // The floors of the slots of all workers.
-    fn floors(&self) -> Floors
-        ensures { AreFloors self.now result (length self.now.wave.workers) }
-    {
-        let mut floors = Floors::new(self.reward());
-        for i in 0..self.workers() {
-            let worker = WorkerNo::new(i as u16);
-            if self.is_usable(worker) {
-                floors.add(
-                    self.problem.tree().rack_of(worker),
-                    self.worker_price(worker),
-                );
-            }
-        }
-        floors
-    }
-
-    fn is_usable(&self, worker: WorkerNo) -> bool
-        requires { worker < length self.now.wave.workers }
-        ensures { IsTrue result ↔ IsUsable self.now.wave.workers worker }
-    {
-        self.problem.is_live(worker) && self.problem.free(worker) > 0
-    }
-
-    // As `first_underpriced`, which is asked only where the floors do not tell that there is none.
-    fn first_underpriced_past(&self, floors: &Floors, split: SplitNo) -> Option<WorkerNo>
-        requires split { split < length self.now.wave.splits }
-        requires split_prices { AllHold self.now of_split_price }
-        requires worker_prices { AllHold self.now of_worker_price }
-        requires floors { AreFloors self.now floors.now (length self.now.wave.workers) }
-        ensures { IsFirstUnderpriced self.now split result }
-    {
-        if self.is_settled(floors, split) {
-            return None;
-        }
-        self.first_underpriced(split)
-    }
-
-    // Whether the floors tell that each pair of the split is priced.
-    fn is_settled(&self, floors: &Floors, split: SplitNo) -> bool
-        requires split { split < length self.now.wave.splits }
-        requires split_prices { AllHold self.now of_split_price }
-        requires worker_prices { AllHold self.now of_worker_price }
-        requires floors { AreFloors self.now floors.now (length self.now.wave.workers) }
-        ensures { IsTrue result → (w : ℕ) → Holds self.now (Condition.Priced split w) }
-    {
-        if !self.is_priced_far(floors, split) {
-            return false;
-        }
-        self.are_priced_near(floors, split)
-    }
-
-    // Whether the floors tell it of the workers that are further than a rack from each live holder.
-    fn is_priced_far(&self, floors: &Floors, split: SplitNo) -> bool
-        requires split { split < length self.now.wave.splits }
-        requires split_prices { AllHold self.now of_split_price }
-        requires floors { AreFloors self.now floors.now (length self.now.wave.workers) }
-        ensures { IsTrue result → IsPricedFar self.now floors.now split }
-    {
-        let wanted = self.reward();
-        let paid = self.split_price(split) + floors.all + 4 * self.problem.bytes(split);
-        paid >= wanted
-    }
-
-    // Whether the floors tell it of the live holders of the split and of their neighbours.
-    fn are_priced_near(&self, floors: &Floors, split: SplitNo) -> bool
-        requires split { split < length self.now.wave.splits }
-        requires split_prices { AllHold self.now of_split_price }
-        requires worker_prices { AllHold self.now of_worker_price }
-        requires floors { AreFloors self.now floors.now (length self.now.wave.workers) }
-        ensures { IsTrue result →
-            All (IsPricedNear self.now floors.now split) (split_at self.now.wave split).holders }
-    {
-        let holders = self.problem.holders(split);
-        for i in 0..holders.len() {
-            if !self.is_priced_near(floors, split, holders[i]) {
-                return false;
-            }
-        }
-        true
-    }
-
-    // Whether the floors tell it of a holder, if it lives, and of the others of its rack.
-    fn is_priced_near(&self, floors: &Floors, split: SplitNo, holder: WorkerNo) -> bool
-        requires split { split < length self.now.wave.splits }
-        requires holder { holder < length self.now.wave.workers }
-        requires split_prices { AllHold self.now of_split_price }
-        requires worker_prices { AllHold self.now of_worker_price }
-        requires floors { AreFloors self.now floors.now (length self.now.wave.workers) }
-        ensures { IsTrue result → IsPricedNear self.now floors.now split holder }
-    {
-        if !self.problem.is_live(holder) {
-            return true;
-        }
-        let wanted = self.reward();
-        let rack = self.problem.tree().rack_of(holder);
-        let near = self.split_price(split)
-            + floors.racks[rack.index()]
-            + 2 * self.problem.bytes(split);
-        near >= wanted && (self.problem.free(holder) == 0 || self.price(split, holder) >= wanted)
-    }
-
-    // The first worker with which the split is admissible and priced below the reward.
-    fn first_underpriced(&self, split: SplitNo) -> Option<WorkerNo>
-        requires split { split < length self.now.wave.splits }
-        requires split_prices { AllHold self.now of_split_price }
-        requires worker_prices { AllHold self.now of_worker_price }
-        ensures { IsFirstUnderpriced self.now split result }
-    {
-        let costs = SplitCosts::new(self.problem, split);
-        if !costs.is_open() {
-            return None;
-        }
-        for i in 0..self.workers() {
-            let worker = WorkerNo::new(i as u16);
-            if !self.is_priced(&costs, worker) {
-                return Some(worker);
-            }
-        }
-        None
-    }
-
-    // As `check_priced`: the rows of pairs are looked at on many threads, and their answers in order.
-    fn check_priced_on(&self, rt: &(impl Threads + Sync), alloc: Global) -> Result<(), CheckError>
-        requires split_prices { AllHold self.now of_split_price }
-        requires worker_prices { AllHold self.now of_worker_price }
-        ensures ok { OnOk result (AllHold self.now of_priced) }
-        ensures failed { IfFailed result (IsFirstOf self.now of_priced) }
-    {
-        let rows = self.underpriced_on(rt, alloc)?;
-        for i in 0..self.splits() {
-            let split = SplitNo::new(i as u16);
-            if let Some(worker) = rows[i] {
-                return Err(CheckError::Failed(Condition::Priced(split, worker)));
-            }
-        }
-        Ok(())
-    }
-
-    // The first underpriced worker of each split, found by as many threads as there are processors.
-    fn underpriced_on(
-        &self,
-        rt: &(impl Threads + Sync),
-        alloc: Global,
-    ) -> Result<Vec<Option<WorkerNo>>, AllocError>
-        requires split_prices { AllHold self.now of_split_price }
-        requires worker_prices { AllHold self.now of_worker_price }
-        ensures one_each { IfOk result (λ rows. length rows.items ≡ length self.now.wave.splits) }
-        ensures first { IfOk result (λ rows. (s : ℕ) → s < length self.now.wave.splits
-            → IsFirstUnderpriced self.now s (slice_index_or rows.items s None)) }
-    {
-        (0..self.splits())
-            .into_par_iter()
-            .map(
-                |i: usize| -> Option<WorkerNo>
-                    requires { (i < length self.now.wave.splits) × (i < MAX_SPLITS)
-                        × AllHold self.now of_split_price × AllHold self.now of_worker_price }
-                    ensures { IsFirstUnderpriced self.entry.now i result }
-                { self.first_underpriced(SplitNo::new(i as u16)) },
-            )
-            .with_min_len(SPLITS_PER_THREAD)
-            .collect(rt, alloc)
-    }
-
-    fn check_tight(&self) -> Result<(), Condition>
-        requires split_prices { AllHold self.now of_split_price }
-        requires worker_prices { AllHold self.now of_worker_price }
-        ensures ok { OnOk result (AllHold self.now of_tight) }
-        ensures err { IfErr result (IsFirstOf self.now of_tight) }
-    {
-        for i in 0..self.splits() {
-            let split = SplitNo::new(i as u16);
-            if let Some(worker) = self.start(split) {
-                if !self.is_tight(split, worker) {
-                    return Err(Condition::Tight(split, worker));
-                }
             }
         }
         Ok(())

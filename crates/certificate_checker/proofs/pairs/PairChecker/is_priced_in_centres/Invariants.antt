@@ -1,0 +1,9 @@
+use Rattle.std.proofs.Common.{◌<◌, ℕ, get_or}
+use Rattle.wave_problem.specs.Wave.{split_at}
+use Rattle.certificate_checker.specs.Settled.{IsPricedAround}
+use Rattle.certificate_checker.specs.declared.slots.Level.TheVariants.{Centre}
+use Rattle.certificate_checker.proofs.pairs.PairChecker.is_priced_in_centres.Given as goal
+
+abbrev pub invariant-loop-i : goal.invariant-loop-i
+invariant-loop-i l = (k d : ℕ) → k < l.i →
+    IsPricedAround l.self l.fn.split Centre 4 (get_or (split_at l.self.wave l.fn.split).holders k d)
