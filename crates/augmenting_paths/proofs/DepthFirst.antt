@@ -83,7 +83,7 @@ module _ {arcs : List FlowArc} {flows : List ℕ} {sink : ℕ} {g : ArcLists} (v
   pub inner_of : All (IsOf arcs v) (inner_at g v)
   inner_of k d l =
       let o = lists.own v _ (Contains-append_right (sink_arcs_at g v) (stack_arcs g v) _
-      (Contains-append_left (inner_at g v) (map Reverse (matched_at g v)) _
+      (Contains-append_right (map Reverse (matched_at g v)) (inner_at g v) _
       (Contains-get_or (inner_at g v) k d l))) in record { listed = o.0; from = o.1 }
 
   pub matched_of : (i : ℕ) → i < length (matched_at g v)
@@ -91,6 +91,6 @@ module _ {arcs : List FlowArc} {flows : List ℕ} {sink : ℕ} {g : ArcLists} (v
   matched_of i l =
       let o = lists.own v (Reverse (slice_index (matched_at g v) i))
       (Contains-append_right (sink_arcs_at g v) (stack_arcs g v) _
-      (Contains-append_right (inner_at g v) (map Reverse (matched_at g v)) _
+      (Contains-append_left (map Reverse (matched_at g v)) (inner_at g v) _
       (Contains-map Reverse (matched_at g v) _ (Contains-get_or (matched_at g v) i 0 l)))) in
       record { listed = o.0; from = o.1 }

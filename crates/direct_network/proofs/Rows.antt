@@ -21,11 +21,12 @@ module _ (wave : Wave) where
   pairs s split = record { here = λ w may. (may, refl, refl); only = only }
     where
       only : (e : DirectArc) → IsWanted wave e → (arc_of wave e).from ≡ s
+          → length wave.splits ≤ (arc_of wave e).to
           → (arc_of wave e).to < length wave.splits + length wave.workers
           → (w : ℕ) × IsAdmissible wave s w × (e ≡ Pair s w)
-      only (Pair q w) want from high =
+      only (Pair q w) want from low high =
           (w, subst (λ (z : ℕ). IsAdmissible wave z w) from want, ap (λ (z : ℕ). Pair z w) from)
-      only _ want from high = absurd (omega arith)
+      only _ want from low high = absurd (omega arith)
 
   waits : (s : ℕ) → s < length wave.splits → (e : DirectArc) → IsWanted wave e → (arc_of wave e).from ≡ s
       → unstarted_node wave ≤ (arc_of wave e).to → e ≡ Wait s

@@ -27,13 +27,13 @@ past u v x a next (inl l) = grind arith
 pub record IsRow {D : Type 0} (wanted : D → Type 0) (arc : D → FlowArc) (u base n : ℕ) (own : ℕ → D)
     (holds : ℕ → Type 0) : Type 0 where
   pub here : (i : ℕ) → holds i → wanted (own i) × ((arc (own i)).from ≡ u) × ((arc (own i)).to ≡ base + i)
-  pub only : (e : D) → wanted e → (arc e).from ≡ u → (arc e).to < base + n
+  pub only : (e : D) → wanted e → (arc e).from ≡ u → base ≤ (arc e).to → (arc e).to < base + n
       → (i : ℕ) × holds i × (e ≡ own i)
 
 number_of : {D : Type 0} {wanted : D → Type 0} {arc : D → FlowArc} {u base n : ℕ} {own : ℕ → D}
     {holds : ℕ → Type 0} → IsRow wanted arc u base n own holds → (e : D) → wanted e → (arc e).from ≡ u
-    → (arc e).to < base + n → (i : ℕ) × holds i × (e ≡ own i) × ((arc e).to ≡ base + i)
-number_of {D} {wanted} {arc} row e want from high = grind arith
+    → base ≤ (arc e).to → (arc e).to < base + n → (i : ℕ) × holds i × (e ≡ own i) × ((arc e).to ≡ base + i)
+number_of {D} {wanted} {arc} row e want from low high = grind arith
 
 module _ {D L : Type 0} {wanted : D → Type 0} {arc : D → FlowArc} {sized : L → Type 0} where
   -- the arc d is the only one between two places of its row
@@ -100,12 +100,12 @@ module _ {D L : Type 0} {wanted : D → Type 0} {arc : D → FlowArc} {sized : L
   -- the arcs of a row number by number
   module _ {u base n : ℕ} {own : ℕ → D} {holds : ℕ → Type 0} (row : IsRow wanted arc u base n own holds) where
     pub row_begin : (limit next : ℕ) (network : Flow L) → limit ≤ next
+        → ((e : D) → wanted e → (arc e).from ≡ u → base ≤ (arc e).to)
         → IsBuiltTo wanted arc sized u 0 limit network
         → IsBuiltTo wanted arc sized u (base + 0) next network
-    row_begin limit next network less =
+    row_begin limit next network less past =
         row_pass u 0 (base + 0) limit next network less (omega arith)
-        (λ e want from low high. let o = number_of row e want from (omega arith) in
-        let to = o.3 in omega arith)
+        (λ e want from low high. let to = past e want from in omega arith)
 
     pub row_step : (i j limit next : ℕ) (old new : Flow L) → j ≡ i → i < n → limit < next → holds j
         → IsBuiltTo wanted arc sized u (base + i) limit old → IsAdded (arc (own j)) old new
@@ -115,7 +115,7 @@ module _ {D L : Type 0} {wanted : D → Type 0} {arc : D → FlowArc} {sized : L
         let to = at.2 in
         row_take u (base + i) (base + (i + 1)) limit next (own j) old new less at.0 at.1 (omega arith)
         (omega arith)
-        (λ e want from low high. let o = number_of row e want from (omega arith) in
+        (λ e want from low high. let o = number_of row e want from (omega arith) (omega arith) in
         let end = o.3 in let is : o.0 ≡ j = omega arith in ap arc (o.2 ∙ ap own is))
 
     pub row_skip : (i j limit next : ℕ) (network : Flow L) → j ≡ i → i < n → limit ≤ next → (holds j → ⊥)
@@ -123,7 +123,7 @@ module _ {D L : Type 0} {wanted : D → Type 0} {arc : D → FlowArc} {sized : L
         → IsBuiltTo wanted arc sized u (base + (i + 1)) next network
     row_skip i j limit next network same few less never =
         row_pass u (base + i) (base + (i + 1)) limit next network less (omega arith)
-        (λ e want from low high. let o = number_of row e want from (omega arith) in
+        (λ e want from low high. let o = number_of row e want from (omega arith) (omega arith) in
         let end = o.3 in let is : o.0 ≡ j = omega arith in never (subst holds is o.1))
 
     -- the row has no other arcs
@@ -134,17 +134,17 @@ module _ {D L : Type 0} {wanted : D → Type 0} {arc : D → FlowArc} {sized : L
         row_end u v (base + n) limit next network after less
         (λ e want from low. let high = inside e want from in omega arith)
 
--- what the arcs of such a row can carry together
+-- what all arcs of a row can carry together, where the row has no arcs but these
 pub outroom-row : {D : Type 0} {wanted : D → Type 0} {arc : D → FlowArc} {arcs : List FlowArc} {u base n : ℕ}
     {own : ℕ → D} {holds : ℕ → Type 0} → AreRows wanted arc arcs → IsRow wanted arc u base n own holds
-    → ((e : D) → wanted e → (arc e).from ≡ u → (arc e).to < base + n)
+    → ((e : D) → wanted e → (arc e).from ≡ u → (base ≤ (arc e).to) × ((arc e).to < base + n))
     → (f : ℕ → ℕ) → ((i : ℕ) → holds i → (arc (own i)).capacity ≡ f i)
     → ((i : ℕ) → i < n → 0 < f i → holds i) → outroom arcs u ≡ sum_below n f
 outroom-row {D} {wanted} {arc} {arcs} {u} {base} {n} {own} {holds} rows row inside f room some =
     let own_arc = each_arc rows (λ a. a.from ≡ u
     → (i : ℕ) × holds i × (a.to ≡ base + i) × (a.to < base + n) × (a.capacity ≡ f i))
-    (λ d want from. let high = inside d want from in let o = number_of row d want from high in
-    (o.0, o.1, o.3, high, ap (λ (d : D). (arc d).capacity) o.2 ∙ room o.0 o.1)) in
+    (λ d want from. let in_row = inside d want from in let o = number_of row d want from in_row.0 in_row.1 in
+    (o.0, o.1, o.3, in_row.1, ap (λ (d : D). (arc d).capacity) o.2 ∙ room o.0 o.1)) in
     outroom-rows arcs u base n f rows.rising
     (λ k l from. let to = (own_arc k l from).2 in omega arith)
     (λ k l from. (own_arc k l from).3)

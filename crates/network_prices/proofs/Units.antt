@@ -12,7 +12,7 @@ use Rattle.flow_network.specs.Flows.{arc_at}
 use Rattle.flow_network.proofs.HandOn.{enough_wait, inflow-more, outflow-more}
 use Rattle.network_prices.specs.Ways.{CameFrom}
 use Rattle.augmenting_paths.specs.Shipping.{standing}
-use Rattle.network_prices.specs.HandOn.{HaveLeft, IsMoved, IsMoving, CanHandOn, IsHandedOn}
+use Rattle.network_prices.specs.HandOn.{IsMoved, IsMoving, CanHandOn, IsHandedOn}
 
 none : (b : Bool) (f : ℕ) → b ≡ false → cond b f 0 ≡ 0
 none b f e = rw e refl
@@ -25,41 +25,20 @@ standing-set [] i v x l = absurd (omega arith)
 standing-set (p ∷ places) zero v x l = grind (arith, common_steps, sum_by-cons)
 standing-set (p ∷ places) (suc i) v x l = grind (arith, common_steps, sum_by-cons)
 
--- those past the first places, none of which is at the node, are all
-pub standing_past : (places : List ℕ) (i v : ℕ) → HaveLeft places v i
-    → standing (drop i places) v ≡ standing places v
-standing_past places zero v left = refl
-standing_past [] (suc i) v left = refl
-standing_past (p ∷ places) (suc i) v left =
-    let rest : standing (drop (suc i) (p ∷ places)) v ≡ standing places v =
-    standing_past places i v (λ s l. left (suc s) (omega arith)) in
-    let more = sum_by-cons (λ (place : ℕ). cond (place == v) 1 0) p places in
-    let off : eqb p v ≡ false = ne_eqb p v (left zero (omega arith)) in
-    let here : cond (eqb p v) 1 0 ≡ 0 = none (eqb p v) 1 off in omega (arith, rest, more, here)
-
--- one place more
-pub left_past : (places : List ℕ) (i v : ℕ) → HaveLeft places v i → (get_or places i 0 ≡ v → ⊥)
-    → HaveLeft places v (i + 1)
-left_past places i v left other s l e = grind arith
-
-pub left_set : (places : List ℕ) (i u v : ℕ) → HaveLeft places u i → i < length places → (u ≡ v → ⊥)
-    → HaveLeft (set places i v) u (i + 1)
-left_set places i u v left l apart s m e = grind (arith, cases_eq, get_or-set_same, get_or-set_other)
-
 -- no unit moves
 pub none_moved : (places : List ℕ) (u v units : ℕ) → units ≡ 0 → IsMoved places places u v units
 none_moved places u v units e = grind arith
 
--- nor has any, past the first places
-pub none_moving : (places : List ℕ) (u v units first : ℕ) → units ≤ standing places u
-    → HaveLeft places u first → IsMoving places places u v units units first
-none_moving places u v units first enough left = record {
+-- nor has any before the first place is looked at
+pub none_moving : (places : List ℕ) (u v units : ℕ) → units ≤ standing places u
+    → IsMoving places places u v units units 0
+none_moving places u v units enough = record {
   size = refl;
   few_left = omega arith;
   each = λ s l. inl refl;
   rest = λ s l. refl;
   counts = grind arith;
-  enough = (let past = standing_past places first u left in omega arith);
+  enough = enough;
 }
 
 all : (b : Bool) (f : ℕ) → b ≡ true → cond b f 0 ≡ f

@@ -46,10 +46,6 @@ pub record IsHandedOn (arcs : List FlowArc) (flows : List ℕ) (sink : ℕ) (fir
   pub ending : (v : ℕ) → (v ≡ sink → ⊥) → EndsAtSink arcs sink v
       → standing now v ≡ inflow (take j arcs) (take j flows) v + standing first v
 
--- no unit of the first places is at the node
-abbrev pub HaveLeft : List ℕ → ℕ → ℕ → Type 0
-HaveLeft places v first = (s : ℕ) → s < first → slice_index places s ≡ v → ⊥
-
 -- the same in the midst of it: the places below i have been looked at, and so many units are left to move
 pub record IsMoving (old now : List ℕ) (u v units left i : ℕ) : Type 0 where
   pub size : length now ≡ length old

@@ -1,68 +1,46 @@
 //! A flow is taken apart into the ways of its units.
 ghost use Rattle.std.specs.Prelude.{◌≡◌, ℕ, ◌<◌, ◌≤◌, ◌↔◌, length, slice_index, IsTrue};
 ghost use Rattle.augmenting_paths.specs.Shipping.{standing};
-ghost use Rattle.network_prices.specs.HandOn.{CanHandOn, HaveLeft, IsHandedOn, IsMoved};
+ghost use Rattle.network_prices.specs.HandOn.{CanHandOn, IsHandedOn, IsMoved};
 
 use flow_network::FlowArc;
 
 /// Hands units on, arc by arc, as far as the last node before the sink (flow decomposition; Ahuja, Magnanti
 /// and Orlin, Network Flows, section 3.5). There is one place for each unit: the node at which it is. It
-/// takes about as many steps as there are arcs, and at each node whose arcs follow on one another one for
-/// each place.
+/// takes about as many steps as there are arcs, and one for each place at an arc that carries several units.
 pub fn decompose_flow(places: &mut [usize], arcs: &[FlowArc], flows: &[u64], sink: usize)
     requires { CanHandOn arcs.now flows.now sink places.old }
     ensures { IsHandedOn arcs.now flows.now sink places.old places.new (length arcs.now) }
 {
-    let mut left = Left { node: 0, places: 0 };
     for k in 0..arcs.len() {
-        let units = flows[k];
-        if units > 0 {
-            left = hand_on(places, &arcs[k], units, sink, left);
-        }
+        hand_on(places, &arcs[k], flows[k], sink);
     }
-}
-
-// A node, and how many of the first places its units have left.
-#[derive(Clone, Copy)]
-struct Left {
-    node: usize,
-    places: usize,
 }
 
 // Hands so many units on over an arc that does not lead to the sink.
-fn hand_on(places: &mut [usize], arc: &FlowArc, units: u64, sink: usize, left: Left) -> Left
+fn hand_on(places: &mut [usize], arc: &FlowArc, units: u64, sink: usize)
     requires units { (arc.now.to ≡ sink → ⊥) → units ≤ standing places.old arc.now.from }
     requires apart { arc.now.from ≡ arc.now.to → ⊥ }
-    requires left { HaveLeft places.old left.node left.places }
     ensures on { (arc.now.to ≡ sink → ⊥) → IsMoved places.old places.new arc.now.from arc.now.to units }
     ensures stay { arc.now.to ≡ sink → places.new ≡ places.old }
-    ensures left { HaveLeft places.new result.node result.places }
 {
-    if arc.to as usize == sink {
-        return left;
+    if arc.to as usize != sink {
+        move_units(places, arc.from as usize, arc.to as usize, units);
     }
-    move_units(places, arc.from as usize, arc.to as usize, units, left)
 }
 
 // Moves so many of the units that are at a node to another. The unit of the place that is numbered as the
 // node, as each split's is at first, is moved alone where one is to go.
-fn move_units(places: &mut [usize], from: usize, to: usize, units: u64, left: Left) -> Left
+fn move_units(places: &mut [usize], from: usize, to: usize, units: u64)
     requires units { units ≤ standing places.old from }
     requires apart { from ≡ to → ⊥ }
-    requires left { HaveLeft places.old left.node left.places }
-    ensures moved { IsMoved places.old places.new from to units }
-    ensures left { HaveLeft places.new result.node result.places }
+    ensures { IsMoved places.old places.new from to units }
 {
     if units == 1 && is_at(places, from) {
         move_one(places, from, to);
-        return Left {
-            node: from,
-            places: 0,
-        };
+    } else {
+        move_first_units(places, from, to, units);
     }
-    let first = if left.node == from { left.places } else { 0 };
-    let places = move_first_units(places, from, to, units, first);
-    Left { node: from, places }
 }
 
 // Whether the unit of the place that is numbered as a node is at that node.
@@ -81,23 +59,20 @@ fn move_one(places: &mut [usize], from: usize, to: usize)
     places[from] = to;
 }
 
-// The same, of the units of the first places, from one on that they have not left; up to where they have.
-fn move_first_units(places: &mut [usize], from: usize, to: usize, units: u64, first: usize) -> usize
+// The same, of the units of the first places.
+fn move_first_units(places: &mut [usize], from: usize, to: usize, units: u64)
     requires units { units ≤ standing places.old from }
     requires apart { from ≡ to → ⊥ }
-    requires left { HaveLeft places.old from first }
-    ensures moved { IsMoved places.old places.new from to units }
-    ensures left { HaveLeft places.new from result }
+    ensures { IsMoved places.old places.new from to units }
 {
     let mut left = units;
-    for i in first..places.len() {
+    for i in 0..places.len() {
         if left == 0 {
-            return i;
+            return;
         }
         if places[i] == from {
             places[i] = to;
             left -= 1;
         }
     }
-    places.len()
 }

@@ -1,172 +1,161 @@
 -- Where the nodes of a level stand, and which of them are on a way up.
-use Rattle.std.proofs.Common.{◌≡◌, ℕ, zero, suc, ◌*◌, ◌<◌, ◌≤◌, Bool, cond, [], ◌∷◌, length, refl, sym, subst}
-use Rattle.std.proofs.Common.{inl, inr, arith, Contains}
+use Rattle.std.proofs.Common.{◌≡◌, ℕ, zero, suc, ◌+◌, ◌*◌, ◌<◌, ◌≤◌, Bool, cond, [], ◌∷◌, length, refl, sym}
+use Rattle.std.proofs.Common.{◌-◌, subst, ap, inl, inr, arith, Contains}
 use Rattle.std.proofs.lemmas.Bool.{cases_lt, cases_eq, lt-ltb, le-ltb}
 use Rattle.rack_tree.specs.Tree.{distance}
 use Rattle.wave_problem.specs.Wave.{Wave}
-use Rattle.wave_problem.proofs.Bound.{live_known}
 use Rattle.flow_network.proofs.Members.{Contains-nil, Contains-here, Contains-one}
 use Rattle.network_prices.specs.Networks.{way_of}
-use Rattle.rack_network.specs.Racks.{cluster_node, unstarted_node, rack_of, node_above, level_count}
-use Rattle.rack_network.specs.Racks.{above_centres, rack_nodes, IsReach, IsTree}
-use Rattle.rack_network.specs.Build.{level_start, level_end}
+use Rattle.rack_network.specs.Layout.{clusters}
+use Rattle.rack_network.specs.Racks.{count, start, node, above, unstarted_node}
+use Rattle.rack_network.specs.Racks.{above_centres, rack_nodes, IsTree}
 use Rattle.rack_network.specs.Places.{several, one_cluster, clusters-le}
-use Rattle.rack_network.proofs.Levels.{holder_live, Meet, distance_is}
+use Rattle.rack_network.proofs.Distances.{distance_is}
 
-module _ (wave : Wave) (tree : IsTree wave) where
-  pub four_levels : (level : ℕ) → level < level_count wave → level < 4
-  four_levels level l = let one = clusters-le wave.tree.centres in omega arith
+module _ (wave : Wave) where
+  pub four_levels : (level i : ℕ) → i < count wave level → level < 4
+  four_levels (suc (suc (suc (suc level)))) i l = absurd (omega arith)
+  four_levels zero i l = omega arith
+  four_levels (suc zero) i l = omega arith
+  four_levels (suc (suc zero)) i l = omega arith
+  four_levels (suc (suc (suc zero))) i l = omega arith
 
-  -- the nodes of a level lie one after the other
-  pub level_at : (level w : ℕ) → level < level_count wave → w < length wave.workers
-      → (level_start wave level ≤ node_above wave level w) × (node_above wave level w < level_end wave level)
-  level_at zero w l known = (omega arith, omega arith)
-  level_at (suc zero) w l known = let rack = tree.racks w known in (omega arith, omega arith)
-  level_at (suc (suc zero)) w l known =
-      let centre = tree.centres (rack_of wave w) (tree.racks w known) in (omega arith, omega arith)
-  level_at (suc (suc (suc zero))) w l known = (omega arith, omega arith)
-  level_at (suc (suc (suc (suc n)))) w l known = absurd (let few = four_levels _ l in omega arith)
+  pub hang_low : (level j : ℕ) → j < count wave (suc level) → level < 3
+  hang_low level j l = let four = four_levels (suc level) j l in omega arith
+
+  -- the nodes of a level stand between the splits and the node Unstarted
+  pub level_in : (level : ℕ) → (length wave.splits ≤ start wave level)
+      × (start wave level + count wave level ≤ unstarted_node wave)
+  level_in zero = (omega arith, omega arith)
+  level_in (suc zero) = (omega arith, omega arith)
+  level_in (suc (suc zero)) = (omega arith, omega arith)
+  level_in (suc (suc (suc zero))) = (omega arith, omega arith)
+  level_in (suc (suc (suc (suc level)))) = (omega arith, omega arith)
 
   -- the levels lie one after the other, the highest first
-  levels_fall : (high low : ℕ) → low < high → high < 4 → level_end wave high ≤ level_start wave low
-  levels_fall zero low l m = absurd (omega arith)
-  levels_fall (suc zero) zero l m = omega arith
-  levels_fall (suc zero) (suc n) l m = absurd (omega arith)
-  levels_fall (suc (suc zero)) zero l m = omega arith
-  levels_fall (suc (suc zero)) (suc zero) l m = omega arith
-  levels_fall (suc (suc zero)) (suc (suc n)) l m = absurd (omega arith)
-  levels_fall (suc (suc (suc zero))) zero l m = omega arith
-  levels_fall (suc (suc (suc zero))) (suc zero) l m = omega arith
-  levels_fall (suc (suc (suc zero))) (suc (suc zero)) l m = omega arith
-  levels_fall (suc (suc (suc zero))) (suc (suc (suc n))) l m = absurd (omega arith)
-  levels_fall (suc (suc (suc (suc k)))) low l m = absurd (omega arith)
+  pub next_level : (level : ℕ) → level < 3
+      → start wave (suc level) + count wave (suc level) ≡ start wave level
+  next_level zero l = omega arith
+  next_level (suc zero) l = omega arith
+  next_level (suc (suc zero)) l = omega arith
+  next_level (suc (suc (suc level))) l = absurd (omega arith)
 
-  pub level_in : (level : ℕ) → level < 4
-      → (cluster_node wave ≤ level_start wave level) × (level_end wave level ≤ unstarted_node wave)
-  level_in zero l = (omega arith, omega arith)
-  level_in (suc zero) l = (omega arith, omega arith)
-  level_in (suc (suc zero)) l = (omega arith, omega arith)
-  level_in (suc (suc (suc zero))) l = (omega arith, omega arith)
-  level_in (suc (suc (suc (suc n)))) l = absurd (omega arith)
+  levels_fall : (gap low : ℕ) → suc gap + low < 4
+      → start wave (suc gap + low) + count wave (suc gap + low) ≤ start wave low
+  levels_fall zero low l =
+      let here = next_level low (omega arith) in subst
+      (λ (high : ℕ). start wave high + count wave high ≤ start wave low)
+      (let e : suc low ≡ suc zero + low = omega arith in e) (omega arith)
+  levels_fall (suc gap) low l =
+      let here = next_level (suc gap + low) (omega arith) in
+      let rest = levels_fall gap low (omega arith) in subst
+      (λ (high : ℕ). start wave high + count wave high ≤ start wave low)
+      (let e : suc (suc gap + low) ≡ suc (suc gap) + low = omega arith in e) (omega arith)
 
-  -- the node that a split reaches is one of its level, between the splits and the node of those that are not
-  -- started
-  pub reach_at : (s level h : ℕ) → IsReach wave s level h
-      → (level_start wave level ≤ node_above wave level h) × (node_above wave level h < level_end wave level)
-  reach_at s level h reach =
-      level_at level h reach.known (live_known wave h (holder_live wave s h reach.holder))
+  pub upper_in : (level : ℕ) → start wave (suc level) + count wave (suc level) ≤ start wave 0
+  upper_in zero = omega arith
+  upper_in (suc zero) = omega arith
+  upper_in (suc (suc zero)) = omega arith
+  upper_in (suc (suc (suc level))) = omega arith
 
-  pub reach_in : (s level h : ℕ) → IsReach wave s level h
-      → (cluster_node wave ≤ node_above wave level h) × (node_above wave level h < unstarted_node wave)
-  reach_in s level h reach =
-      let at = reach_at s level h reach in
-      let within = level_in level (four_levels level reach.known) in
-      let low = at.0 in let high = at.1 in
-      let start = within.0 in let end = within.1 in
-      (omega arith, omega arith)
-
-  -- no place is of two levels
-  pub one_level : (level m v : ℕ) → level < 4 → m < 4 → level_start wave level ≤ v → v < level_end wave level
-      → level_start wave m ≤ v → v < level_end wave m → m ≡ level
-  one_level level m v l k low high from to = elim (cases_eq m level) [
-    | inl e ↦ e
-    | inr n ↦ absurd (elim (cases_lt m level) [
-      | inl less ↦ (let fall = levels_fall level m less l in omega arith)
-      | inr more ↦ (let above : level < m = omega arith in let fall = levels_fall m level above k in
-          omega arith)
+  -- no two nodes stand at one place
+  pub one_node : (level m i j : ℕ) → i < count wave level → j < count wave m → node wave level i ≡ node wave m j
+      → (level ≡ m) × (i ≡ j)
+  one_node level m i j l k e = elim (cases_eq level m) [
+    | inl same ↦ (same, (let at : start wave level ≡ start wave m = ap (start wave) same in omega arith))
+    | inr other ↦ absurd (elim (cases_lt level m) [
+      | inl less ↦ below level m i j l k e less
+      | inr more ↦ below m level j i k l (sym e) (omega arith)
     ])
   ]
+    where
+      below : (level m i j : ℕ) → i < count wave level → j < count wave m → node wave level i ≡ node wave m j
+          → level < m → ⊥
+      below level m i j l k e less =
+          let four = four_levels m j k in
+          let back : suc (m - suc level) + level ≡ m = omega arith in
+          let fall = subst (λ (high : ℕ). start wave high + count wave high ≤ start wave level) back
+          (levels_fall (m - suc level) level (omega arith)) in
+          omega arith
+
+-- how many levels there are
+abbrev pub levels : Wave → ℕ
+levels wave = 3 + clusters wave.tree.centres
+
+module _ (wave : Wave) (tree : IsTree wave) where
+  -- there are few places past the splits
+  pub few_columns : unstarted_node wave ≤ length wave.splits + 297
+  few_columns =
+      let one = clusters-le wave.tree.centres in
+      let centres = tree.few_centres in
+      let racks = tree.few_racks in
+      let workers = tree.few_workers in
+      omega arith
+
+  pub above_in : (level w : ℕ) → level < levels wave → w < length wave.workers
+      → above wave level w < count wave level
+  above_in zero w l known = known
+  above_in (suc zero) w l known = tree.racks w known
+  above_in (suc (suc zero)) w l known = tree.centres (above wave 1 w) (tree.racks w known)
+  above_in (suc (suc (suc zero))) w l known = omega arith
+  above_in (suc (suc (suc (suc level)))) w l known =
+      absurd (let one = clusters-le wave.tree.centres in omega arith)
 
   -- the cluster's node is on each way where there are several centres
-  among_top : (v : ℕ) → Contains (above_centres wave) v → (3 < level_count wave) × (v ≡ cluster_node wave)
+  among_top : (v : ℕ) → Contains (above_centres wave) v → (3 < levels wave) × (v ≡ node wave 3 0)
   among_top v among = elim (cases_lt 1 wave.tree.centres) [
     | inl many ↦
         (let one = one_cluster wave.tree.centres many in
-        let here : Contains (cluster_node wave ∷ []) v =
-        subst (λ (b : Bool). Contains (cond b (cluster_node wave ∷ []) []) v)
+        let here : Contains (node wave 3 0 ∷ []) v =
+        subst (λ (b : Bool). Contains (cond b (node wave 3 0 ∷ []) []) v)
         (lt-ltb 1 wave.tree.centres many) among in
-        (omega arith, sym (Contains-one (cluster_node wave) v here)))
-    | inr few ↦ absurd (Contains-nil v (subst (λ (b : Bool). Contains (cond b (cluster_node wave ∷ []) []) v)
+        (omega arith, sym (Contains-one (node wave 3 0) v here)))
+    | inr few ↦ absurd (Contains-nil v (subst (λ (b : Bool). Contains (cond b (node wave 3 0 ∷ []) []) v)
         (le-ltb 1 wave.tree.centres (omega arith)) among))
   ]
 
-  top_among : 3 < level_count wave → Contains (above_centres wave) (cluster_node wave)
+  top_among : 3 < levels wave → Contains (above_centres wave) (node wave 3 0)
   top_among l =
       let many = several wave.tree.centres (omega arith) in
-      subst (λ (b : Bool). Contains (cond b (cluster_node wave ∷ []) []) (cluster_node wave))
-      (sym (lt-ltb 1 wave.tree.centres many)) (Contains-here [] (cluster_node wave))
+      subst (λ (b : Bool). Contains (cond b (node wave 3 0 ∷ []) []) (node wave 3 0))
+      (sym (lt-ltb 1 wave.tree.centres many)) (Contains-here [] (node wave 3 0))
 
   -- what is on a way are the nodes above its worker
   pub among_level : (v w : ℕ) → Contains (way_of (rack_nodes wave) w) v
-      → (m : ℕ) × (m < level_count wave) × (v ≡ node_above wave m w)
+      → (m : ℕ) × (m < levels wave) × (v ≡ node wave m (above wave m w))
   among_level v w (zero, l, e) = (0, omega arith, sym e)
   among_level v w (suc zero, l, e) = (1, omega arith, sym e)
   among_level v w (suc (suc zero), l, e) = (2, omega arith, sym e)
   among_level v w (suc (suc (suc k)), l, e) = let is = among_top v (k, omega arith, e) in (3, is.0, is.1)
 
-  pub among_at : (level w : ℕ) → level < level_count wave
-      → Contains (way_of (rack_nodes wave) w) (node_above wave level w)
+  pub among_at : (level w : ℕ) → level < levels wave
+      → Contains (way_of (rack_nodes wave) w) (node wave level (above wave level w))
   among_at zero w l = (0, omega arith, refl)
   among_at (suc zero) w l = (1, omega arith, refl)
   among_at (suc (suc zero)) w l = (2, omega arith, refl)
   among_at (suc (suc (suc zero))) w l =
       let top = top_among l in let low = top.1 in (suc (suc (suc top.0)), omega arith, top.2)
-  among_at (suc (suc (suc (suc n)))) w l = absurd (let few = four_levels _ l in omega arith)
+  among_at (suc (suc (suc (suc level)))) w l =
+      absurd (let one = clusters-le wave.tree.centres in omega arith)
 
-  -- a node of a way stands between the splits and the node of those that are not started
-  pub among_in : (v w : ℕ) → w < length wave.workers → Contains (way_of (rack_nodes wave) w) v
-      → (length wave.splits ≤ v) × (v < unstarted_node wave)
-  among_in v w known among =
-      let on = among_level v w among in
-      let is = on.2 in
-      let at = level_at on.0 w on.1 known in
-      let within = level_in on.0 (four_levels on.0 on.1) in
-      let low = at.0 in let high = at.1 in
-      let start = within.0 in let end = within.1 in
-      (omega arith, omega arith)
-
-  -- a node of a level is on a way at just that level
-  pub own_level : (level h w : ℕ) → level < level_count wave → h < length wave.workers
-      → w < length wave.workers
-      → Contains (way_of (rack_nodes wave) w) (node_above wave level h)
-      → node_above wave level h ≡ node_above wave level w
-  own_level level h w l h_known known among =
-      let on = among_level (node_above wave level h) w among in
-      let is = on.2 in
-      let at = level_at level h l h_known in
-      let there = level_at on.0 w on.1 known in
-      let low = at.0 in let high = at.1 in
-      let from = there.0 in let to = there.1 in
-      let same = one_level level on.0 (node_above wave level h) (four_levels level l) (four_levels on.0 on.1)
-      low high (omega arith) (omega arith) in
-      subst (λ (m : ℕ). node_above wave level h ≡ node_above wave m w) same is
-
-  -- workers meet at a level where the nodes above them are the same
-  pub meet_at : (level h w : ℕ) → level < 4 → node_above wave level h ≡ node_above wave level w
-      → Meet wave.tree level h w
-  meet_at zero h w l e = omega arith
-  meet_at (suc zero) h w l e = omega arith
-  meet_at (suc (suc zero)) h w l e = omega arith
-  meet_at (suc (suc (suc level))) h w l e = tt
-
-  pub same_above : (level h w : ℕ) → level < 4 → Meet wave.tree level h w
-      → node_above wave level h ≡ node_above wave level w
-  same_above zero h w l m = omega arith
-  same_above (suc zero) h w l m = omega arith
-  same_above (suc (suc zero)) h w l m = omega arith
-  same_above (suc (suc (suc zero))) h w l m = refl
-  same_above (suc (suc (suc (suc n)))) h w l m = absurd (omega arith)
+  -- a node that is on a worker's way stands above it
+  pub own_level : (level i w : ℕ) → i < count wave level → w < length wave.workers
+      → Contains (way_of (rack_nodes wave) w) (node wave level i) → i ≡ above wave level w
+  own_level level i w l known among =
+      let on = among_level (node wave level i) w among in
+      let same = one_node wave level on.0 i (above wave on.0 w) l (above_in on.0 w on.1 known) on.2 in
+      subst (λ (m : ℕ). i ≡ above wave m w) (sym same.0) same.1
 
   -- two workers meet at one of the levels, that of their distance
   pub level_of : (h w : ℕ) → h < length wave.workers → w < length wave.workers
-      → (level : ℕ) × (level < level_count wave) × Meet wave.tree level h w
+      → (level : ℕ) × (level < levels wave) × (above wave level h ≡ above wave level w)
       × (distance wave.tree h w ≡ 2 * level)
   level_of h w h_known known =
-      let meet = distance_is wave.tree h w in
+      let meet = distance_is wave h w in
       let few = meet.1 in
-      let here = tree.centres (rack_of wave h) (tree.racks h h_known) in
-      let there = tree.centres (rack_of wave w) (tree.racks w known) in
-      let within : meet.0 < level_count wave = elim (cases_lt 2 meet.0) [
+      let here = above_in 2 h (omega arith) h_known in
+      let there = above_in 2 w (omega arith) known in
+      let within : meet.0 < levels wave = elim (cases_lt 2 meet.0) [
         | inr low ↦ omega arith
         | inl high ↦ elim (cases_lt 1 wave.tree.centres) [
           | inl many ↦ (let one = one_cluster wave.tree.centres many in omega arith)

@@ -1,13 +1,9 @@
 -- what a start costs, by where its worker meets a holder, and that the network is one of its wave
-pub mod Levels
-pub mod Counts
+pub mod Distances
 pub mod Heights
 pub mod RackWays
 -- the network is built
 pub mod Rows
-pub mod Above
 -- it lies in layers, and each wave has one
 pub mod Layers
 pub mod Exists
--- sets of numbers
-pub mod Marked

@@ -3,6 +3,5 @@ pub mod Layout
 pub mod Places
 pub mod Racks
 pub mod Certified
--- for private clauses: what is marked of a split, and how far the network is built
-pub mod Marks
+-- for private clauses: how far the network is built
 pub mod Build

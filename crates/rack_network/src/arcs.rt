@@ -1,40 +1,27 @@
 //! The arcs of the rack network.
-ghost use Rattle.std.specs.Prelude.{◌≡◌, ℕ, ◌<◌, ◌≤◌, ◌↔◌, true, length, IsTrue};
-ghost use Rattle.wave_problem.specs.Wave.{worker_at};
-ghost use Rattle.wave_problem.specs.declared.TheConstants.{MAX_SPLITS};
-ghost use Rattle.network_prices.specs.Pending.{pending_splits};
-ghost use Rattle.rack_network.specs.Layout.{is_node, place_of};
-ghost use Rattle.rack_network.specs.Racks.{arc_of, level_count, node_above, slots_below, slots_within};
-ghost use Rattle.rack_network.specs.Racks.{IsWanted};
+ghost use Rattle.std.specs.Prelude.{◌≡◌, ◌<◌, ◌≤◌, ◌^◌};
+ghost use Rattle.rack_network.specs.Racks.{arc_of, count as count_of, IsWanted};
 
-use crate::RackNode;
+use crate::levels::{count, parent, slots, start};
+use flow_network::FlowArc;
 use network_prices::pending_count;
-use node_ids::{CentreNo, RackNo, SplitNo, WorkerNo};
+use node_ids::{SplitNo, WorkerNo};
 use wave_problem::Problem;
 
-/// How many arcs a rack network has at most: 257 for each split, one for each data centre and each rack, two
-/// for each worker, and the last.
-pub const MAX_ARCS: usize = 263_721;
-
-/// How many nodes a way up from a worker has at most: its own, its rack's, its data centre's, the cluster's.
-pub const LEVELS: u8 = 4;
-
-/// An arc of the rack network.
+/// An arc of the rack network. The nodes of the tree stand in levels: workers at 0, racks at 1, data centres
+/// at 2, the cluster at 3.
 #[derive(Clone, Copy, Debug, PartialEq, Eq)]
 pub enum RackArc {
     /// From a split with a barred pair to a worker on which it may start: one unit, at the cost of the start.
     Pair(SplitNo, WorkerNo),
-    /// From a split without barred pairs to the node so many levels above a live holder: one unit, at the
-    /// cost of a start on a worker that is no nearer.
-    Reach(SplitNo, u8, WorkerNo),
+    /// From a split without barred pairs to a node under which a live holder stands, by its level and number:
+    /// one unit, at the cost of a start on a worker that is no nearer.
+    Reach(SplitNo, u8, u16),
     /// From a pending split to `Unstarted`: one unit, at the cost of the reward.
     Wait(SplitNo),
-    /// From `Cluster` to a data centre: a unit for each free slot of its live workers, at no cost.
-    Trunk(CentreNo),
-    /// From a rack's data centre to the rack: a unit for each free slot of its live workers, at no cost.
-    Branch(RackNo),
-    /// From the rack of a live worker with a free slot to it: a unit for each free slot, at no cost.
-    Feed(WorkerNo),
+    /// To a node, by its level and number, from the one above it: a unit for each free slot of the live
+    /// workers under it, at no cost.
+    Down(u8, u16),
     /// From a worker to the sink: a unit for each free slot, at no cost.
     Slot(WorkerNo),
     /// From `Unstarted` to the sink: a unit for each pending split, at no cost.
@@ -42,119 +29,71 @@ pub enum RackArc {
 }
 
 impl RackArc {
-    /// The node that the arc leaves in the network of a problem.
-    #[inline(always)]
-    pub fn start(&self, problem: &Problem) -> RackNode
+    /// The arc with the places of its ends, its capacity and its cost in the network of a problem.
+    pub fn flow_arc(&self, problem: &Problem) -> FlowArc
         requires { IsWanted problem.now self.now }
-        ensures place { place_of (length problem.now.splits) problem.now.tree.centres
-            (length problem.now.tree.centre_of) (length problem.now.workers) result
-            ≡ (arc_of problem.now self.now).from }
-        ensures member { is_node (length problem.now.splits) problem.now.tree.centres
-            (length problem.now.tree.centre_of) (length problem.now.workers) result ≡ true }
+        ensures arc { result ≡ arc_of problem.now self.now }
+        ensures capacity { result.capacity ≤ 4096 }
+        ensures cost { result.cost < 2 ^ 39 }
     {
+        let workers = start(problem, 0);
+        let unstarted = workers + count(problem, 0);
         match *self {
-            RackArc::Pair(split, _) => RackNode::Split(split),
-            RackArc::Reach(split, _, _) => RackNode::Split(split),
-            RackArc::Wait(split) => RackNode::Split(split),
-            RackArc::Trunk(_) => RackNode::Cluster,
-            RackArc::Branch(rack) => RackNode::Centre(problem.tree().centre_of(rack)),
-            RackArc::Feed(worker) => RackNode::Rack(problem.tree().rack_of(worker)),
-            RackArc::Slot(worker) => RackNode::Worker(worker),
-            RackArc::Rest => RackNode::Unstarted,
-        }
-    }
-
-    /// The node to which the arc leads in the network of a problem.
-    #[inline(always)]
-    pub fn end(&self, problem: &Problem) -> RackNode
-        requires { IsWanted problem.now self.now }
-        ensures place { place_of (length problem.now.splits) problem.now.tree.centres
-            (length problem.now.tree.centre_of) (length problem.now.workers) result
-            ≡ (arc_of problem.now self.now).to }
-        ensures member { is_node (length problem.now.splits) problem.now.tree.centres
-            (length problem.now.tree.centre_of) (length problem.now.workers) result ≡ true }
-    {
-        match *self {
-            RackArc::Pair(_, worker) => RackNode::Worker(worker),
-            RackArc::Reach(_, level, holder) => node_above(problem, level, holder),
-            RackArc::Wait(_) => RackNode::Unstarted,
-            RackArc::Trunk(centre) => RackNode::Centre(centre),
-            RackArc::Branch(rack) => RackNode::Rack(rack),
-            RackArc::Feed(worker) => RackNode::Worker(worker),
-            RackArc::Slot(_) => RackNode::Sink,
-            RackArc::Rest => RackNode::Sink,
-        }
-    }
-
-    /// How many units the arc takes in the network of a problem.
-    #[inline(always)]
-    pub fn capacity(&self, problem: &Problem) -> u64
-        requires { IsWanted problem.now self.now }
-        ensures capacity { result ≡ (arc_of problem.now self.now).capacity }
-        ensures most { result ≤ 4096 }
-    {
-        match *self {
-            RackArc::Pair(_, _) => 1,
-            RackArc::Reach(_, _, _) => 1,
-            RackArc::Wait(_) => 1,
-            RackArc::Trunk(centre) => slots_within(problem, centre),
-            RackArc::Branch(rack) => slots_below(problem, rack),
-            RackArc::Feed(worker) => u64::from(problem.free(worker)),
-            RackArc::Slot(worker) => u64::from(problem.free(worker)),
-            RackArc::Rest => pending_count(problem),
+            RackArc::Pair(split, worker) => {
+                let cost = problem.cost(split, worker).unwrap_or(0);
+                unit(split, workers + worker.index(), cost)
+            }
+            RackArc::Reach(split, level, number) => {
+                let cost = problem.bytes(split) * (2 * u64::from(level));
+                unit(split, start(problem, level) + usize::from(number), cost)
+            }
+            RackArc::Wait(split) => unit(split, unstarted, problem.reward()),
+            RackArc::Down(level, number) => down(problem, level, number),
+            RackArc::Slot(worker) => {
+                let capacity = u64::from(problem.free(worker));
+                free(workers + worker.index(), unstarted + 1, capacity)
+            }
+            RackArc::Rest => free(unstarted, unstarted + 1, pending_count(problem)),
         }
     }
 }
 
-// The node so many levels above a worker.
-fn node_above(problem: &Problem, level: u8, worker: WorkerNo) -> RackNode
-    requires level { level < level_count problem.now }
-    requires worker { worker < length problem.now.workers }
-    ensures place { place_of (length problem.now.splits) problem.now.tree.centres
-        (length problem.now.tree.centre_of) (length problem.now.workers) result
-        ≡ node_above problem.now level worker }
-    ensures member { is_node (length problem.now.splits) problem.now.tree.centres
-        (length problem.now.tree.centre_of) (length problem.now.workers) result ≡ true }
+// An arc of one unit from a split to a place.
+fn unit(split: SplitNo, to: usize, cost: u64) -> FlowArc
+    requires { to < 2 ^ 16 }
+    ensures { result ≡ record { from = split; to = to; capacity = 1; cost = cost } }
 {
-    match level {
-        0 => RackNode::Worker(worker),
-        1 => RackNode::Rack(problem.tree().rack_of(worker)),
-        2 => RackNode::Centre(problem.tree().centre_of(problem.tree().rack_of(worker))),
-        _ => RackNode::Cluster,
+    FlowArc {
+        from: split.index() as u16,
+        to: to as u16,
+        capacity: 1,
+        cost,
     }
 }
 
-// The free slots of the live workers of a data centre.
-fn slots_within(problem: &Problem, centre: CentreNo) -> u64
-    ensures sum { result ≡ slots_within problem.now (length problem.now.workers) centre }
-    ensures most { result ≤ 4096 }
+// An arc without cost from one place to another.
+fn free(from: usize, to: usize, capacity: u64) -> FlowArc
+    requires from { from < 2 ^ 16 }
+    requires to { to < 2 ^ 16 }
+    requires capacity { capacity < 2 ^ 16 }
+    ensures { result ≡ record { from = from; to = to; capacity = capacity; cost = 0 } }
 {
-    let tree = problem.tree();
-    let mut slots = 0;
-    for i in 0..problem.workers() {
-        let worker = WorkerNo::new(i as u16);
-        if tree.centre_of(tree.rack_of(worker)) == centre && problem.is_live(worker) {
-            slots += u64::from(problem.free(worker));
-        }
+    FlowArc {
+        from: from as u16,
+        to: to as u16,
+        capacity: capacity as u16,
+        cost: 0,
     }
-    slots
 }
 
-// The free slots of the live workers of a rack.
-fn slots_below(problem: &Problem, rack: RackNo) -> u64
-    ensures sum { result ≡ slots_below problem.now (length problem.now.workers) rack }
-    ensures most { result ≤ 4096 }
+// The arc to a node from the one above it.
+fn down(problem: &Problem, level: u8, number: u16) -> FlowArc
+    requires level { level < 3 }
+    requires number { number < count_of problem.now level }
+    ensures arc { result ≡ arc_of problem.now (RackArc.Down level number) }
+    ensures capacity { result.capacity ≤ 4096 }
 {
-    let tree = problem.tree();
-    let mut slots = 0;
-    for i in 0..problem.workers() {
-        let worker = WorkerNo::new(i as u16);
-        let is_counted = (tree.rack_of(worker) == rack) & problem.is_live(worker);
-        slots += if is_counted {
-            u64::from(problem.free(worker))
-        } else {
-            0
-        };
-    }
-    slots
+    let above = start(problem, level + 1) + parent(problem, level, number);
+    let below = start(problem, level) + usize::from(number);
+    free(above, below, slots(problem, level, usize::from(number)))
 }

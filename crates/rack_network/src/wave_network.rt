@@ -1,9 +1,9 @@
 //! The rack network as one that each wave has.
 ghost use Rattle.std.specs.Prelude.{◌≡◌, ◌+◌, length, slice_index};
 ghost use Rattle.network_prices.specs.Ways.{deepest};
-ghost use Rattle.rack_network.specs.Racks.{above_centres, first_worker, rack_nodes, IsRackNetwork, IsSized};
+ghost use Rattle.rack_network.specs.Racks.{above_centres, rack_nodes, start, IsRackNetwork, IsSized};
 
-use crate::places::{first_centre, first_rack, first_worker};
+use crate::levels::{above, start};
 use crate::{RackLayout, build};
 use flow_network::Network;
 use network_prices::WaveNetwork;
@@ -12,7 +12,7 @@ use std::alloc::{AllocError, Global};
 use wave_problem::Problem;
 
 impl WaveNetwork for RackLayout {
-    ghost first = { first_worker };
+    ghost first = { λ wave. start wave 0 };
 
     ghost above = { λ wave. (rack_nodes wave).above };
 
@@ -25,14 +25,12 @@ impl WaveNetwork for RackLayout {
     }
 
     fn first(problem: &Problem) -> usize {
-        first_worker(problem)
+        start(problem, 0)
     }
 
     fn depth_above(problem: &Problem, depths: &[u64], worker: WorkerNo) -> u64 {
-        let tree = problem.tree();
-        let rack = tree.rack_of(worker);
-        let of_rack = depths[first_rack(problem) + rack.index()];
-        let of_centre = depths[first_centre(problem) + tree.centre_of(rack).index()];
+        let of_rack = depths[start(problem, 1) + above(problem, 1, worker)];
+        let of_centre = depths[start(problem, 2) + above(problem, 2, worker)];
         of_rack.max(of_centre.max(top_depth(problem, depths)))
     }
 
@@ -41,7 +39,7 @@ impl WaveNetwork for RackLayout {
 
 // The depth of `Cluster`, where there is one.
 fn top_depth(problem: &Problem, depths: &[u64]) -> u64
-    requires { length depths.now ≡ first_worker problem.now + length problem.now.workers + 2 }
+    requires { length depths.now ≡ start problem.now 0 + length problem.now.workers + 2 }
     ensures { result ≡ deepest (slice_index depths.now) (above_centres problem.now) }
 {
     if problem.tree().centres() > 1 {

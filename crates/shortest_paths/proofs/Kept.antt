@@ -4,7 +4,7 @@ use Rattle.std.proofs.Common.{length, map, get_or, refl, sym, ap, ◌∙◌, sub
 use Rattle.std.proofs.Common.{length-append, Contains, replicate, Option, None}
 use Rattle.std.specs.Cmp.{nat_eq_equiv}
 use Rattle.std.proofs.lemmas.Bool.{cases_Bool, cases_lt, false≢true}
-use Rattle.std.proofs.lemmas.List.{append-nil, get_or_past, length-map}
+use Rattle.std.proofs.lemmas.List.{get_or_past, length-map}
 use Rattle.std.proofs.lemmas.Bool.Decides.{Decides-eqb}
 use Rattle.std.proofs.lemmas.List.Elements.{Contains-append_right}
 use Rattle.std.proofs.lemmas.Map.Made.{length-le_from_is_member, is_member-Decides}
@@ -59,9 +59,9 @@ module _ (nodes : ℕ) (arcs : List FlowArc) (flows : List ℕ) (sink : ℕ) (g 
       → Contains (sink_arcs_at g v ++ inner_at g v) a ⊎ Contains (map Reverse (matched_at g v)) a
   held_or_matched v a i = elim (Contains-append_cases (sink_arcs_at g v) (stack_arcs g v) a i) [
     | inl out ↦ inl (Contains-append_left (sink_arcs_at g v) (inner_at g v) a out)
-    | inr more ↦ elim (Contains-append_cases (inner_at g v) (map Reverse (matched_at g v)) a more) [
-      | inl held ↦ inl (Contains-append_right (sink_arcs_at g v) (inner_at g v) a held)
-      | inr matched_arc ↦ inr matched_arc
+    | inr more ↦ elim (Contains-append_cases (map Reverse (matched_at g v)) (inner_at g v) a more) [
+      | inl matched_arc ↦ inr matched_arc
+      | inr held ↦ inl (Contains-append_right (sink_arcs_at g v) (inner_at g v) a held)
     ]
   ]
 
@@ -70,13 +70,13 @@ module _ (nodes : ℕ) (arcs : List FlowArc) (flows : List ℕ) (sink : ℕ) (g 
   held v a i = elim (Contains-append_cases (sink_arcs_at g v) (inner_at g v) a i) [
     | inl out ↦ Contains-append_left (sink_arcs_at g v) (stack_arcs g v) a out
     | inr own ↦ Contains-append_right (sink_arcs_at g v) (stack_arcs g v) a
-        (Contains-append_left (inner_at g v) (map Reverse (matched_at g v)) a own)
+        (Contains-append_right (map Reverse (matched_at g v)) (inner_at g v) a own)
   ]
 
   matched_arc : (v k : ℕ) → Contains (matched_at g v) k
       → Contains (sink_arcs_at g v ++ stack_arcs g v) (Reverse k)
   matched_arc v k c = Contains-append_right (sink_arcs_at g v) (stack_arcs g v) (Reverse k)
-      (Contains-append_right (inner_at g v) (map Reverse (matched_at g v)) (Reverse k)
+      (Contains-append_left (map Reverse (matched_at g v)) (inner_at g v) (Reverse k)
       (Contains-map Reverse (matched_at g v) k c))
 
   back : (a : ArcNo) → LeadsToSource arcs g.is_source a → IsResidual arcs flows a
@@ -120,7 +120,7 @@ module _ (nodes : ℕ) (arcs : List FlowArc) (flows : List ℕ) (sink : ℕ) (g 
     ];
     few = λ v.
         (let all = length-append (sink_arcs_at g v) (stack_arcs g v) in
-        let parts = length-append (inner_at g v) (map Reverse (matched_at g v)) in
+        let parts = length-append (map Reverse (matched_at g v)) (inner_at g v) in
         let own = length-append (sink_arcs_at g v) (inner_at g v) in
         let same = length-map (matched_at g v) Reverse in
         elim (cases_Bool (source_at g v)) [
@@ -143,9 +143,8 @@ module _ (nodes : ℕ) (arcs : List FlowArc) (g : ArcLists) (are : AreArcs nodes
 
   at_node : (v : ℕ) → sink_arcs_at g v ++ stack_arcs g v ≡ inner_at g v
   at_node v = ap (λ (xs : List ArcNo). xs ++ stack_arcs g v) (no_sink_arc v)
-      ∙ ap (λ (ks : List ℕ). inner_at g v ++ map Reverse ks)
+      ∙ ap (λ (ks : List ℕ). map Reverse ks ++ inner_at g v)
       (ap (λ (xs : List (List ℕ)). get_or xs v []) matched ∙ replicated_at nodes v [])
-      ∙ append-nil (inner_at g v)
 
   pub all_residual : (flows : List ℕ) (sink : ℕ) → AreResidualArcs arcs flows sink g
   all_residual flows sink = record {

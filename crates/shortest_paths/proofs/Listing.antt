@@ -62,7 +62,6 @@ module _ (nodes : ℕ) (t : Tables) (left : IsLeft nodes t) (rest : List ℕ) (v
         arrivals_size = left.arrivals_size;
         settled_size = length-set t.settled v false ∙ left.settled_size;
         left_size = left.left_size;
-        left_matched_size = left.left_matched_size;
         within = λ w. elim (cases_eq w v) [
           | inl e ↦ rw e (let at = here in omega arith)
           | inr n ↦ rw (get_or-set_other t.distances v w far far n) (left.within w)

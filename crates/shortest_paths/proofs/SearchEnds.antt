@@ -238,7 +238,6 @@ module _ (p : Problem) (nodes count : ℕ) (t : Tables) (rest : IsAtRest nodes t
   })
   begins = record {
     left_size = rest.left_size;
-    left_matched_size = rest.left_matched_size;
     listed = listed;
     reached = record {
       size = length-set t.distances p.start 0 ∙ rest.size;
@@ -267,7 +266,7 @@ module _ (p : Problem) (nodes count : ℕ) (t : Tables) (rest : IsAtRest nodes t
       of_rest = λ b i. absurd (Contains-nil b i);
       covered = λ b r m. absurd (fresh (tail_of p.arcs b) m);
     };
-    looks = (let sum = unmarked_sum t.settled 0 (λ u. get_or t.left u 0 + get_or t.left_matched u 0)
+    looks = (let sum = unmarked_sum t.settled 0 (λ u. get_or t.left u 0)
         rest.unsettled in
         omega arith);
     sink_left = rest.unsettled p.sink;

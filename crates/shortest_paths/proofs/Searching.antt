@@ -1,7 +1,7 @@
 -- The other moves of a search: a node is taken from the queue, an arc is looked at; and each move by what
 -- the code reads.
 use Rattle.std.proofs.Common.{◌≡◌, ℕ, ◌+◌, ◌-◌, ◌*◌, ◌<◌, ◌≤◌, true, false, List, [], ◌∷◌}
-use Rattle.std.proofs.Common.{◌++◌, length, map, get_or, set, take, All, Contains, IsPermutation, Option}
+use Rattle.std.proofs.Common.{◌++◌, length, get_or, set, take, All, Contains, IsPermutation, Option}
 use Rattle.std.proofs.Common.{Some, None, refl, sym, ap, ◌∙◌, subst, inl, inr, ◌⊎◌, arith, length-append}
 use Rattle.std.proofs.lemmas.Bool.{cases_lt, cases_Bool, false≢true}
 use Rattle.std.proofs.lemmas.List.{get_or_past, take_more}
@@ -9,7 +9,7 @@ use Rattle.std.proofs.lemmas.List.Elements.{Contains-append_right, Contains-push
 use Rattle.std.proofs.lemmas.List.Sorted.{Contains-permutation, IsPermutation-sym}
 use Rattle.std.specs.Option.{option_to_list}
 use Rattle.std.specs.Prelude.{slice_index}
-use Rattle.std.proofs.lemmas.List.Elements.{Contains-get_or, Contains-append_left, Contains-push_cases}
+use Rattle.std.proofs.lemmas.List.Elements.{Contains-append_left, Contains-push_cases}
 use Rattle.flow_network.specs.declared.arcs.FlowArc.{FlowArc}
 use Rattle.flow_network.specs.declared.arcs.ArcNo.{ArcNo}
 use Rattle.flow_network.specs.declared.arcs.ArcNo.TheVariants.{Forward, Reverse}
@@ -17,7 +17,7 @@ use Rattle.flow_network.specs.Flows.{AreArcs, NoNegative, tail_of, head_of, arc_
 use Rattle.flow_network.specs.Flow.{Counted}
 use Rattle.flow_network.proofs.Listed.{few_looks}
 use Rattle.flow_network.proofs.Members.{Contains-one, Contains-nil, Contains-here, Contains-there}
-use Rattle.flow_network.proofs.Members.{Contains-cons, Contains-map}
+use Rattle.flow_network.proofs.Members.{Contains-cons}
 use Rattle.shortest_paths.specs.declared.arrival.Arrival.{Arrival}
 use Rattle.shortest_paths.specs.Lists.{ArcLists, AreResidualArcs, source_at, inner_at, matched_at}
 use Rattle.shortest_paths.specs.Lists.{option_arcs, sink_arcs_at, stack_arcs}
@@ -25,11 +25,11 @@ use Rattle.shortest_paths.specs.Searching.{is_settled, Problem, Tables, distance
 use Rattle.shortest_paths.specs.Searching.{AreReached, ListsReached, AreCovered, IsSearching}
 use Rattle.shortest_paths.specs.declared.query.Query.{Query}
 use Rattle.shortest_paths.specs.declared.search.Search.{Search}
-use Rattle.shortest_paths.specs.Search.{problem, tables, AreCursors, IsNextArc, Searches}
+use Rattle.shortest_paths.specs.Search.{problem, tables, IsCursor, IsNextArc, Searches}
 use Rattle.shortest_paths.specs.ToSink.{far}
 use Rattle.shortest_paths.proofs.Arriving.{not_settled, falls, kept, set_to, reached_by, waits_near}
 use Rattle.shortest_paths.proofs.Arriving.{waits_far, covers}
-use Rattle.shortest_paths.proofs.Cursors.{inner_moves, matched_moves, popped}
+use Rattle.shortest_paths.proofs.Cursors.{moves, passed_own, popped}
 use Rattle.shortest_paths.proofs.Settled.{opened}
 
 -- the nearest entry is taken from the queue, while nothing else is left
@@ -62,7 +62,6 @@ module _ {p : Problem} {nodes level count : ℕ} {t : Tables} (s : IsSearching p
       → IsSearching p nodes level count [] [] (record t { queue = queue })
   passed done = record {
     left_size = s.left_size;
-    left_matched_size = s.left_matched_size;
     reached = s.reached;
     listed = s.listed;
     waiting = record {
@@ -103,7 +102,6 @@ module _ {p : Problem} {nodes level count : ℕ} {t : Tables} (s : IsSearching p
       let none : (w : ℕ) → Contains t.stack w → ⊥ = λ w o. Contains-nil w (rw empty at o) in
       record {
         left_size = s.left_size;
-        left_matched_size = s.left_matched_size;
         reached = record {
           size = r.size;
           arrivals_size = r.arrivals_size;
@@ -153,7 +151,6 @@ module _ {p : Problem} {nodes level count : ℕ} {entering : List ℕ} {a : ArcN
   pub no_way : (IsResidual p.arcs p.flows a → ⊥) → IsSearching p nodes level (count + 1) entering rest t
   no_way full = record {
     left_size = s.left_size;
-    left_matched_size = s.left_matched_size;
     reached = s.reached;
     listed = s.listed;
     waiting = s.waiting;
@@ -169,7 +166,6 @@ module _ {p : Problem} {nodes level count : ℕ} {entering : List ℕ} {a : ArcN
       let here = (s.covered.of_rest a (Contains-here rest a)).2 in
       record {
         left_size = s.left_size;
-        left_matched_size = s.left_matched_size;
         reached = s.reached;
         listed = s.listed;
         waiting = s.waiting;
@@ -242,7 +238,6 @@ module _ {p : Problem} {nodes level count : ℕ} {entering : List ℕ} {a : ArcN
         let c = covered_now t.queue reached in
         record {
           left_size = s.left_size;
-          left_matched_size = s.left_matched_size;
           reached = reached_now;
           listed = listed;
           waiting = waits_near p nodes level t.distances t.arrivals t.settled s.reached a (level + rc p a)
@@ -274,7 +269,6 @@ module _ {p : Problem} {nodes level count : ℕ} {entering : List ℕ} {a : ArcN
         let here = from.2 in
         record {
           left_size = s.left_size;
-          left_matched_size = s.left_matched_size;
           reached = reached_now;
           listed = listed;
           waiting = waits_far p nodes level t.distances t.arrivals t.settled s.reached a (level + rc p a)
@@ -307,8 +301,7 @@ pub opened_with : {L : Type 0} {node_count : L → ℕ} {m : Counted L} {q : Que
     → (v ≡ q.sink → ⊥) → source_at q.lists.now v ≡ false
     → tables s' ≡ record (tables s) {
       settled = set s.settled.items v true;
-      left = set s.left.items v (length (inner_at q.lists.now v));
-      left_matched = set s.left_matched.items v (length (matched_at q.lists.now v));
+      left = set s.left.items v (length (matched_at q.lists.now v) + length (inner_at q.lists.now v));
       stack = s.stack.items ++ v ∷ [];
     }
     → o ≡ get_or q.lists.now.sink_arcs v None → Searches node_count m q level [] (option_arcs o ++ rest) s'
@@ -346,47 +339,29 @@ stack_inside {t = t} {u = u} s on =
     let size = s.reached.settled_size in
     grind (arith, cases_lt, false≢true, get_or_past)
 
--- a node on top of the stack has a place in the tables, and cursors within its lists
+-- a node on top of the stack has a place in the tables, and a cursor within its list
 pub top_inside : {p : Problem} {nodes level count : ℕ} {t : Tables} (stack : List ℕ) {u : ℕ}
     → IsSearching p nodes level count [] [] t → t.stack ≡ stack ++ u ∷ []
-    → (u < nodes) × AreCursors p.lists t u
+    → (u < nodes) × IsCursor p.lists t u
 top_inside {t = t} stack {u = u} s e =
     let on : Contains t.stack u = rw e (Contains-push stack u) in
     (stack_inside s on, s.covered.cursors u on)
 
--- its next arc is taken from a list of its own
+-- its next arc is taken from its list
 pub turns : {L : Type 0} {node_count : L → ℕ} {m : Counted L} {q : Query} {level : ℕ} {s : Search}
     (s' : Search) (stack : List ℕ) {u : ℕ} {a : ArcNo} → Searches node_count m q level [] [] s
     → s.stack.items ≡ stack ++ u ∷ [] → IsNextArc q.lists.now u (tables s) (Some a) (tables s')
     → Searches node_count m q level [] (a ∷ []) s' × (tail_of m.network.arcs a ≡ u)
-turns {m = m} {q = q} {level = level} {s = s} s' stack {u = u} state e (inl inner) =
+turns {m = m} {q = q} {level = level} {s = s} s' stack {u = u} state e next =
     let p = problem m.network q in
+    let nodes : ℕ = length q.potentials.now in
     let lists = state.may.lists in
+    let on : Contains s.stack.items u = rw e (Contains-push stack u) in
     let here = top_inside _ state.now e in
-    let few = here.1.0 in
-    let left = inner.1 in
-    let moved = inner_moves p (length q.potentials.now) level m.count [] [] (tables s) state.now lists u
-    (rw e (Contains-push stack u)) here.0 inner.0 left in
-    let own = Contains-append_right (sink_arcs_at p.lists u) (stack_arcs p.lists u) _
-    (Contains-append_left (inner_at p.lists u) (map Reverse (matched_at p.lists u)) _
-    (Contains-get_or (inner_at p.lists u) inner.0 (Forward 0) (omega arith))) in (
-      record { may = state.may; now = rw (inner.3, inner.2) moved },
-      rw inner.2 (lists.own u (get_or (inner_at p.lists u) inner.0 (Forward 0)) own).1,
-    )
-turns {m = m} {q = q} {level = level} {s = s} s' stack {u = u} state e (inr matched) =
-    let p = problem m.network q in
-    let lists = state.may.lists in
-    let here = top_inside _ state.now e in
-    let few = here.1.1 in
-    let left = matched.1 in
-    let moved = matched_moves p (length q.potentials.now) level m.count [] [] (tables s) state.now lists u
-    (rw e (Contains-push stack u)) here.0 matched.0 left in
-    let own = Contains-append_right (sink_arcs_at p.lists u) (stack_arcs p.lists u) _
-    (Contains-append_right (inner_at p.lists u) (map Reverse (matched_at p.lists u)) _
-    (Contains-map Reverse (matched_at p.lists u) _
-    (Contains-get_or (matched_at p.lists u) matched.0 0 (omega arith)))) in (
-      record { may = state.may; now = rw (matched.3, matched.2) moved },
-      rw matched.2 (lists.own u (Reverse (get_or (matched_at p.lists u) matched.0 0)) own).1,
+    let moved = moves p nodes level m.count [] [] (tables s) state.now lists u on here.0 next.0 next.1 in
+    let own = passed_own p nodes level m.count [] [] (tables s) state.now lists u on here.0 next.0 next.1 in (
+      record { may = state.may; now = rw (next.3, next.2) moved },
+      rw next.2 (lists.own u (get_or (stack_arcs p.lists u) next.0 (Forward 0)) own).1,
     )
 
 last_same : (xs ys : List ℕ) (a b : ℕ) → xs ++ a ∷ [] ≡ ys ++ b ∷ [] → a ≡ b
@@ -401,18 +376,17 @@ last_same (x ∷ xs) (y ∷ ys) a b e = last_same xs ys a b (let q : x ∷ (xs +
 -- what a pop leaves
 pub popped_by : {p : Problem} {nodes level count : ℕ} {t : Tables} (front stack : List ℕ) (u : ℕ)
     (o : Option ℕ) → t.stack ≡ front ++ u ∷ [] → t.stack ≡ stack ++ option_to_list o
-    → get_or t.left u 0 ≡ 0 → get_or t.left_matched u 0 ≡ 0 → IsSearching p nodes level count [] [] t
+    → get_or t.left u 0 ≡ 0 → IsSearching p nodes level count [] [] t
     → IsSearching p nodes level count [] [] (record t { stack = stack })
-popped_by {p = p} {nodes = nodes} {level = level} {count = count} {t = t} front stack u None e f none
-    none_matched s =
+popped_by {p = p} {nodes = nodes} {level = level} {count = count} {t = t} front stack u None e f none s =
     subst (λ (xs : List ℕ). IsSearching p nodes level count [] [] (record t { stack = xs })) (f ∙ nil stack) s
   where
     nil : (xs : List ℕ) → xs ++ [] ≡ xs
     nil [] = refl
     nil (x ∷ xs) = ap (λ ys. x ∷ ys) (nil xs)
-popped_by {t = t} front stack u (Some v) e f none none_matched s =
+popped_by {t = t} front stack u (Some v) e f none s =
     let same : u ≡ v = last_same front stack u v (sym e ∙ f) in
-    popped _ _ _ _ [] [] t stack v f (rw (← same) none) (rw (← same) none_matched) s
+    popped _ _ _ _ [] [] t stack v f (rw (← same) none) s
 
 -- of the arcs that are still to be looked at, the last is taken
 pub from_the_end : {p : Problem} {nodes level count : ℕ} {entering : List ℕ} (a : ArcNo) (rest : List ArcNo)
@@ -432,7 +406,6 @@ from_the_end a rest s =
         ];
       };
       left_size = s.left_size;
-      left_matched_size = s.left_matched_size;
       reached = s.reached;
       listed = s.listed;
       waiting = s.waiting;

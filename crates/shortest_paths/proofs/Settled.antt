@@ -117,39 +117,29 @@ module _ (p : Problem) (nodes level count : ℕ) (v : ℕ) (rest : List ArcNo) (
   pub opened : source_at p.lists v ≡ false
       → IsSearching p nodes level count [] (sink_arcs_at p.lists v ++ rest) (record t {
         settled = set t.settled v true;
-        left = set t.left v (length (inner_at p.lists v));
-        left_matched = set t.left_matched v (length (matched_at p.lists v));
+        left = set t.left v (length (matched_at p.lists v) + length (inner_at p.lists v));
         stack = t.stack ++ v ∷ [];
       })
   opened no_source =
       let c = s.covered in
-      let n : ℕ = length (inner_at p.lists v) in
-      let m : ℕ = length (matched_at p.lists v) in
+      let n : ℕ = length (matched_at p.lists v) + length (inner_at p.lists v) in
       let size = s.left_size in
-      let size_matched = s.left_matched_size in
       let now : get_or (set t.left v n) v 0 ≡ n = get_or-set_same t.left v n 0 (omega arith) in
-      let now_matched : get_or (set t.left_matched v m) v 0 ≡ m = get_or-set_same t.left_matched v m 0
-      (omega arith) in
       let other : (w : ℕ) → (w ≡ v → ⊥) → get_or (set t.left v n) w 0 ≡ get_or t.left w 0 = λ w d.
       get_or-set_other t.left v w n 0 d in
-      let other_matched : (w : ℕ) → (w ≡ v → ⊥)
-      → get_or (set t.left_matched v m) w 0 ≡ get_or t.left_matched w 0 = λ w d.
-      get_or-set_other t.left_matched v w m 0 d in
-      let cursors = enter_at t.settled v (λ w. get_or t.left w 0 + get_or t.left_matched w 0)
-      (λ w. get_or (set t.left v n) w 0 + get_or (set t.left_matched v m) w 0)
-      in_marks fresh (λ w d. sym (ap (λ x. x + get_or (set t.left_matched v m) w 0) (other w d)
-      ∙ ap (λ x. get_or t.left w 0 + x) (other_matched w d))) in
+      let cursors = enter_at t.settled v (λ w. get_or t.left w 0) (λ w. get_or (set t.left v n) w 0)
+      in_marks fresh (λ w d. sym (other w d)) in
       let leaving = enter_at t.settled v (λ w. length (leaving_of p.arcs w))
       (λ w. length (leaving_of p.arcs w)) in_marks fresh (λ w d. refl) in
       let few = lists.few v in
       let parts = length-append (sink_arcs_at p.lists v) (stack_arcs p.lists v) in
-      let inner_parts = length-append (inner_at p.lists v) (map Reverse (matched_at p.lists v)) in
+      let inner_parts = length-append (map Reverse (matched_at p.lists v)) (inner_at p.lists v) in
       let all = length-append (sink_arcs_at p.lists v) rest in
       let mapped = length-map (matched_at p.lists v) Reverse in
+      let whole : n ≡ length (stack_arcs p.lists v) = omega arith in
       let old = s.looks in
       record {
         left_size = length-set t.left v n ∙ s.left_size;
-        left_matched_size = length-set t.left_matched v m ∙ s.left_matched_size;
         reached = settled_reached t.settled v in_marks fresh p nodes level t.distances t.arrivals at_level
             s.reached;
         listed = s.listed;
@@ -160,9 +150,9 @@ module _ (p : Problem) (nodes level count : ℕ) (v : ℕ) (rest : List ArcNo) (
             | inr e ↦ rw (← e) (settled_new t.settled v in_marks fresh, at_level)
           ];
           cursors = λ w o. elim (cases_eq w v) [
-            | inl e ↦ rw (e, now, now_matched) (omega arith, omega arith)
+            | inl e ↦ rw (e, now) (omega arith)
             | inr d ↦ elim (Contains-push_cases t.stack v w o) [
-              | inl was ↦ rw (other w d, other_matched w d) (c.cursors w was)
+              | inl was ↦ rw (other w d) (c.cursors w was)
               | inr e ↦ absurd (d (sym e))
             ]
           ];
@@ -179,14 +169,7 @@ module _ (p : Problem) (nodes level count : ℕ) (v : ℕ) (rest : List ArcNo) (
                   | inl sink_arc ↦ inr (inl (Contains-append_left (sink_arcs_at p.lists v) rest b sink_arc))
                   | inr held ↦ inr (inr (
                     rw e (Contains-push t.stack v),
-                    rw (
-                      e,
-                      now,
-                      now_matched,
-                      take-length
-                          (inner_at p.lists v),
-                      take-length (matched_at p.lists v),
-                    ) held,
+                    rw (e, now, whole, take-length (stack_arcs p.lists v)) held,
                   ))
                 ]
             | inr d ↦ elim (settled_was t.settled v in_marks fresh (tail_of p.arcs b) q) [
@@ -197,7 +180,7 @@ module _ (p : Problem) (nodes level count : ℕ) (v : ℕ) (rest : List ArcNo) (
                   | inl held ↦ inr (inl (Contains-append_right (sink_arcs_at p.lists v) rest b held))
                   | inr cursor ↦ inr (inr (
                     Contains-append_left t.stack (v ∷ []) (tail_of p.arcs b) cursor.0,
-                    rw (other (tail_of p.arcs b) d, other_matched (tail_of p.arcs b) d) cursor.1,
+                    rw (other (tail_of p.arcs b) d) cursor.1,
                   ))
                 ]
               ]
@@ -211,38 +194,28 @@ module _ (p : Problem) (nodes level count : ℕ) (v : ℕ) (rest : List ArcNo) (
   pub scanned : rest ≡ [] → IsSearching p nodes level count [] (leaving_of p.arcs v) (record t {
     settled = set t.settled v true;
     left = set t.left v 0;
-    left_matched = set t.left_matched v 0;
   })
   scanned empty =
       let c = s.covered in
       let size = s.left_size in
-      let size_matched = s.left_matched_size in
       let now : get_or (set t.left v 0) v 0 ≡ 0 = get_or-set_same t.left v 0 0 (omega arith) in
-      let now_matched : get_or (set t.left_matched v 0) v 0 ≡ 0 = get_or-set_same t.left_matched v 0 0
-      (omega arith) in
       let other : (w : ℕ) → (w ≡ v → ⊥) → get_or (set t.left v 0) w 0 ≡ get_or t.left w 0 = λ w d.
       get_or-set_other t.left v w 0 0 d in
-      let other_matched : (w : ℕ) → (w ≡ v → ⊥)
-      → get_or (set t.left_matched v 0) w 0 ≡ get_or t.left_matched w 0 = λ w d.
-      get_or-set_other t.left_matched v w 0 0 d in
-      let cursors = enter_at t.settled v (λ w. get_or t.left w 0 + get_or t.left_matched w 0)
-      (λ w. get_or (set t.left v 0) w 0 + get_or (set t.left_matched v 0) w 0)
-      in_marks fresh (λ w d. sym (ap (λ x. x + get_or (set t.left_matched v 0) w 0) (other w d)
-      ∙ ap (λ x. get_or t.left w 0 + x) (other_matched w d))) in
+      let cursors = enter_at t.settled v (λ w. get_or t.left w 0) (λ w. get_or (set t.left v 0) w 0)
+      in_marks fresh (λ w d. sym (other w d)) in
       let leaving = enter_at t.settled v (λ w. length (leaving_of p.arcs w))
       (λ w. length (leaving_of p.arcs w)) in_marks fresh (λ w d. refl) in
       let old = s.looks in
       let gone = ap (λ (bs : List ArcNo). length bs) empty in
       record {
         left_size = length-set t.left v 0 ∙ s.left_size;
-        left_matched_size = length-set t.left_matched v 0 ∙ s.left_matched_size;
         reached = settled_reached t.settled v in_marks fresh p nodes level t.distances t.arrivals at_level
             s.reached;
         listed = s.listed;
         waiting = settled_waiting t.settled v in_marks fresh level t.distances t.queue s.waiting;
         covered = record {
           on_stack = λ w o. (let q = c.on_stack w o in (settled_also t.settled v in_marks fresh w q.0, q.1));
-          cursors = λ w o. rw (other w (not_stacked w o), other_matched w (not_stacked w o)) (c.cursors w o);
+          cursors = λ w o. rw (other w (not_stacked w o)) (c.cursors w o);
           of_rest = λ a i. (let own = (each_arc p.arcs v a).1 i in
               rw (own.1) (own.0, settled_new t.settled v in_marks fresh, at_level));
           covered = λ b r q. elim (cases_eq (tail_of p.arcs b) v) [
@@ -255,11 +228,7 @@ module _ (p : Problem) (nodes level count : ℕ) (v : ℕ) (rest : List ArcNo) (
                   | inl held ↦ absurd (Contains-nil b (subst (λ bs. Contains bs b) empty held))
                   | inr cursor ↦ inr (inr (
                     cursor.0,
-                    rw (
-                      other (tail_of p.arcs b) d,
-                      other_matched
-                          (tail_of p.arcs b) d,
-                    ) cursor.1,
+                    rw (other (tail_of p.arcs b) d) cursor.1,
                   ))
                 ]
               ]

@@ -30,14 +30,13 @@ option_arcs (Some k) = Forward k ∷ []
 abbrev pub sink_arcs_at : ArcLists → ℕ → List ArcNo
 sink_arcs_at g v = option_arcs (slice_index_or g.sink_arcs v None)
 
--- the first of the inner arcs and of the matched ones, as the cursors leave them
-abbrev pub first_arcs : ArcLists → ℕ → ℕ → ℕ → List ArcNo
-first_arcs g v left left_matched = take left (inner_at g v) ++ map Reverse
-    (take left_matched (matched_at g v))
-
 -- all but the arc to the sink
 abbrev pub stack_arcs : ArcLists → ℕ → List ArcNo
-stack_arcs g v = inner_at g v ++ map Reverse (matched_at g v)
+stack_arcs g v = map Reverse (matched_at g v) ++ inner_at g v
+
+-- the first of these, as a cursor leaves them
+abbrev pub first_arcs : ArcLists → ℕ → ℕ → List ArcNo
+first_arcs g v left = take left (stack_arcs g v)
 
 -- Each residual arc stands where the search looks for it, and no list has more arcs than leave its node.
 pub record AreResidualArcs (arcs : List FlowArc) (flows : List ℕ) (sink : ℕ) (g : ArcLists) : Type 0 where

@@ -3,11 +3,11 @@ use Rattle.std.specs.Prelude.{◌≡◌, ℕ, Bool, true, false, ◌<◌, ◌≤
 use Rattle.std.specs.Prelude.{slice_index, slice_index_or, slice_set, Option, Some, None}
 use Rattle.flow_network.specs.Flow.{Flow, Counted}
 use Rattle.flow_network.specs.declared.arcs.ArcNo.{ArcNo}
-use Rattle.flow_network.specs.declared.arcs.ArcNo.TheVariants.{Forward, Reverse}
+use Rattle.flow_network.specs.declared.arcs.ArcNo.TheVariants.{Forward}
 use Rattle.shortest_paths.specs.Paths.{IsPriced}
 use Rattle.shortest_paths.specs.declared.query.Query.{Query}
 use Rattle.shortest_paths.specs.declared.search.Search.{Search}
-use Rattle.shortest_paths.specs.Lists.{ArcLists, source_at, inner_at, matched_at, AreSized, AreResidualArcs}
+use Rattle.shortest_paths.specs.Lists.{ArcLists, source_at, stack_arcs, AreSized, AreResidualArcs}
 use Rattle.shortest_paths.specs.Searching.{Problem, Tables, IsSearching}
 
 abbrev pub tables : Search → Tables
@@ -17,7 +17,6 @@ tables s = record {
   reached = s.reached.items;
   settled = s.settled.items;
   left = s.left.items;
-  left_matched = s.left_matched.items;
   stack = s.stack.items;
   queue = s.queue;
 }
@@ -64,20 +63,16 @@ EndsSearch (Some total) p count t =
 EndsSearch None p count t =
     (level : ℕ) × IsSearching p (length p.depths) level count [] [] t × (t.stack ≡ []) × (t.queue ≡ [])
 
--- the cursors of a node are within its lists
-abbrev pub AreCursors : ArcLists → Tables → ℕ → Type 0
-AreCursors g t v = (slice_index t.left v ≤ length (inner_at g v))
-    × (slice_index t.left_matched v ≤ length (matched_at g v))
+-- the cursor of a node is within its list
+abbrev pub IsCursor : ArcLists → Tables → ℕ → Type 0
+IsCursor g t v = slice_index t.left v ≤ length (stack_arcs g v)
 
--- the arc before the cursor of the inner arcs, or else before that of the matched ones, which is moved
+-- the arc before the cursor, which is moved
 abbrev pub IsNextArc : ArcLists → ℕ → Tables → Option ArcNo → Tables → Type 0
 IsNextArc g v t (Some a) t' =
-    ((left : ℕ) × (slice_index t.left v ≡ left + 1) × (a ≡ slice_index_or (inner_at g v) left (Forward 0))
-    × (t' ≡ record t { left = slice_set t.left v left }))
-    ⊎ ((left : ℕ) × (slice_index t.left_matched v ≡ left + 1)
-    × (a ≡ Reverse (slice_index (matched_at g v) left))
-    × (t' ≡ record t { left_matched = slice_set t.left_matched v left }))
-IsNextArc g v t None t' = (slice_index t.left v ≡ 0) × (slice_index t.left_matched v ≡ 0) × (t' ≡ t)
+    (left : ℕ) × (slice_index t.left v ≡ left + 1) × (a ≡ slice_index_or (stack_arcs g v) left (Forward 0))
+    × (t' ≡ record t { left = slice_set t.left v left })
+IsNextArc g v t None t' = (slice_index t.left v ≡ 0) × (t' ≡ t)
 
 -- Each look pays for the entry and the node that it may bring: so the search ends.
 abbrev pub Spends : {L : Type 0} → ℕ → Counted L → Search → Counted L → Search → Type 0

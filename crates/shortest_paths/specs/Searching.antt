@@ -1,4 +1,4 @@
--- What a search from one node to another keeps. A settled node stands on the stack while the cursors leave
+-- What a search from one node to another keeps. A settled node stands on the stack while its cursor leaves
 -- some of its arcs; a node that was reached and is not settled is entered next, or waits in the queue.
 use Rattle.std.specs.Prelude.{◌≡◌, ℕ, ◌+◌, ◌*◌, ◌^◌, ◌<◌, ◌≤◌, Bool, true, false, List, [], ◌∷◌, ◌++◌, zero}
 use Rattle.std.specs.Prelude.{suc, length, Contains, slice_index, slice_index_or, ◌⊎◌}
@@ -8,7 +8,7 @@ use Rattle.flow_network.specs.declared.arcs.ArcNo.TheVariants.{Forward}
 use Rattle.flow_network.specs.Flows.{tail_of, head_of, arc_index, IsResidual, reduced_cost, leaving_of}
 use Rattle.flow_network.specs.Leaving.{marked_sum}
 use Rattle.shortest_paths.specs.declared.arrival.Arrival.{Arrival}
-use Rattle.shortest_paths.specs.Lists.{ArcLists, inner_at, matched_at, first_arcs}
+use Rattle.shortest_paths.specs.Lists.{ArcLists, first_arcs, stack_arcs}
 use Rattle.shortest_paths.specs.ToSink.{far}
 
 abbrev pub is_settled : List Bool → ℕ → Bool
@@ -30,7 +30,6 @@ pub record Tables : Type 0 where
   pub reached : List ℕ
   pub settled : List Bool
   pub left : List ℕ
-  pub left_matched : List ℕ
   pub stack : List ℕ
   pub queue : List (ℕ × ℕ)
 
@@ -97,28 +96,25 @@ pub record ListsReached (distances : List ℕ) (listed : List ℕ) : Type 0 wher
 pub record AreCovered (p : Problem) (level : ℕ) (rest : List ArcNo) (t : Tables) : Type 0 where
   pub on_stack : (u : ℕ) → Contains t.stack u
       → (is_settled t.settled u ≡ true) × (distance_at t.distances u ≡ level)
-  pub cursors : (u : ℕ) → Contains t.stack u → (slice_index t.left u ≤ length (inner_at p.lists u))
-      × (slice_index t.left_matched u ≤ length (matched_at p.lists u))
+  pub cursors : (u : ℕ) → Contains t.stack u → slice_index t.left u ≤ length (stack_arcs p.lists u)
   pub of_rest : (a : ArcNo) → Contains rest a
       → (arc_index a < length p.arcs) × (is_settled t.settled (tail_of p.arcs a) ≡ true)
       × (distance_at t.distances (tail_of p.arcs a) ≡ level)
   pub covered : (a : ArcNo) → IsResidual p.arcs p.flows a → is_settled t.settled (tail_of p.arcs a) ≡ true
       → (distance_at t.distances (head_of p.arcs a) ≤ distance_at t.distances (tail_of p.arcs a) + rc p a)
       ⊎ (Contains rest a ⊎ (Contains t.stack (tail_of p.arcs a)
-      × Contains (first_arcs p.lists (tail_of p.arcs a) (slice_index t.left (tail_of p.arcs a))
-      (slice_index t.left_matched (tail_of p.arcs a))) a))
+      × Contains (first_arcs p.lists (tail_of p.arcs a) (slice_index t.left (tail_of p.arcs a))) a))
 
 -- Looks that were made, and those still to be made, are no more than the arcs that leave settled nodes.
 abbrev pub AreFewLooks : Problem → ℕ → List ArcNo → Tables → Type 0
 AreFewLooks p count rest t =
-    count + length rest + marked_sum t.settled 0 (λ u. slice_index t.left u + slice_index t.left_matched u)
+    count + length rest + marked_sum t.settled 0 (λ u. slice_index t.left u)
     ≤ marked_sum t.settled 0 (λ u. length (leaving_of p.arcs u))
 
 -- in the middle of a search, after count looks
 pub record IsSearching (p : Problem) (nodes level count : ℕ) (entering : List ℕ) (rest : List ArcNo)
     (t : Tables) : Type 0 where
   pub left_size : length t.left ≡ nodes
-  pub left_matched_size : length t.left_matched ≡ nodes
   pub reached : AreReached p nodes level t.distances t.arrivals t.settled
   pub listed : ListsReached t.distances t.reached
   pub waiting : AreWaiting level t.distances t.settled entering t.queue
@@ -132,7 +128,6 @@ pub record IsAtRest (nodes : ℕ) (t : Tables) : Type 0 where
   pub arrivals_size : length t.arrivals ≡ nodes
   pub settled_size : length t.settled ≡ nodes
   pub left_size : length t.left ≡ nodes
-  pub left_matched_size : length t.left_matched ≡ nodes
   pub unreached : (v : ℕ) → distance_at t.distances v ≡ far
   pub unsettled : (v : ℕ) → is_settled t.settled v ≡ false
   pub none_listed : t.reached ≡ []
@@ -147,7 +142,6 @@ pub record IsLeft (nodes : ℕ) (t : Tables) : Type 0 where
   pub arrivals_size : length t.arrivals ≡ nodes
   pub settled_size : length t.settled ≡ nodes
   pub left_size : length t.left ≡ nodes
-  pub left_matched_size : length t.left_matched ≡ nodes
   pub listed : ListsReached t.distances t.reached
   pub marked : (v : ℕ) → is_settled t.settled v ≡ true → distance_at t.distances v < far
 

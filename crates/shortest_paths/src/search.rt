@@ -1,16 +1,16 @@
 //! The search for a least path to one sink.
 ghost use Rattle.std.specs.Prelude.{◌≡◌, ℕ, ◌+◌, ◌*◌, ◌<◌, ◌≤◌, ◌^◌, List, [], ◌∷◌, ◌++◌, true, false};
-ghost use Rattle.std.specs.Prelude.{length, slice_index, slice_set, Option, OnOk, IfOk, IfSome};
+ghost use Rattle.std.specs.Prelude.{length, slice_index, slice_index_or, slice_set, Option, OnOk, IfOk, IfSome};
 ghost use Rattle.flow_network.specs.declared.arcs.ArcNo.{ArcNo};
 ghost use Rattle.flow_network.specs.Flows.{tail_of, head_of};
-ghost use Rattle.shortest_paths.specs.Lists.{AreSized, source_at, inner_at, matched_at};
+ghost use Rattle.shortest_paths.specs.Lists.{AreSized, source_at, inner_at, matched_at, stack_arcs};
 ghost use Rattle.shortest_paths.specs.Finding.{reached_at};
 ghost use Rattle.shortest_paths.specs.Lowering.{lowered};
 ghost use Rattle.shortest_paths.specs.ToSink.{far};
 ghost use Rattle.shortest_paths.specs.Searching.{ListsReached, IsAtRest, IsLeft, LeadsBack, distance_at};
 ghost use Rattle.shortest_paths.specs.Searching.{arrival_at, trace_to};
 ghost use Rattle.shortest_paths.specs.Search.{tables, problem, option_list, MaySearch, Searches, ComesTo};
-ghost use Rattle.shortest_paths.specs.Search.{EndsSearch, AreCursors, IsNextArc, Spends, Falls};
+ghost use Rattle.shortest_paths.specs.Search.{EndsSearch, IsCursor, IsNextArc, Spends, Falls};
 
 use crate::arrival::Arrival;
 use crate::queue::Queue;
@@ -21,16 +21,29 @@ use node_ids::Layout;
 use std::alloc::{AllocError, Global};
 
 /// The tables of the searches. Between two searches no node is reached.
-#[derive(Drop)]
 pub struct Search {
     distances: Vec<u64>,
     arrivals: Vec<Arrival>,
     reached: Vec<usize>,
     settled: Vec<bool>,
     left: Vec<usize>,
-    left_matched: Vec<usize>,
     stack: Vec<usize>,
     queue: Queue,
+}
+
+// (one call wherever it is dropped)
+impl Drop for Search {
+    fn drop(self) {
+        let Search {
+            distances: _,
+            arrivals: _,
+            reached: _,
+            settled: _,
+            left: _,
+            stack: _,
+            queue: _,
+        } = self;
+    }
 }
 
 impl Search {
@@ -48,7 +61,6 @@ impl Search {
             arrivals: vec![in alloc; arrival; nodes]?,
             settled: vec![in alloc; false; nodes]?,
             left: vec![in alloc; 0; nodes]?,
-            left_matched: vec![in alloc; 0; nodes]?,
             reached: Vec::new(alloc),
             stack: Vec::new(alloc),
             queue: Queue::new(alloc),
@@ -128,18 +140,16 @@ impl Search {
         requires sized { AreSized (length self.old.settled.items) lists.now }
         requires node { node < length self.old.settled.items }
         requires left { length self.old.left.items ≡ length self.old.settled.items }
-        requires left_matched { length self.old.left_matched.items ≡ length self.old.settled.items }
         ensures { OnOk result (tables self.new ≡ record (tables self.old) {
           settled = slice_set self.old.settled.items node true;
-          left = slice_set self.old.left.items node (length (inner_at lists.now node));
-          left_matched = slice_set self.old.left_matched.items node (length (matched_at lists.now node));
+          left = slice_set self.old.left.items node
+              (length (matched_at lists.now node) + length (inner_at lists.now node));
           stack = self.old.stack.items ++ node ∷ [];
         }) }
     {
         self.stack.push(node)?;
         self.settled[node] = true;
-        self.left[node] = lists.inner(node).len();
-        self.left_matched[node] = lists.matched(node).len();
+        self.left[node] = lists.matched(node).len() + lists.inner(node).len();
         Ok(())
     }
 
@@ -227,7 +237,6 @@ impl Search {
     {
         self.settled[node] = true;
         self.left[node] = 0;
-        self.left_matched[node] = 0;
         let arcs = leaving(meter, node);
         for i in 0..arcs.len() {
             let arc = arcs[arcs.len() - 1 - i];
@@ -289,21 +298,15 @@ impl Search {
     fn next_arc(&mut self, lists: &ResidualArcs, node: usize) -> Option<ArcNo>
         requires sized { AreSized (length self.old.left.items) lists.now }
         requires node { node < length self.old.left.items }
-        requires left_matched { length self.old.left_matched.items ≡ length self.old.left.items }
-        requires cursors { AreCursors lists.now (tables self.old) node }
+        requires cursor { IsCursor lists.now (tables self.old) node }
         ensures { IsNextArc lists.now node (tables self.old) result (tables self.new) }
     {
         let left = self.left[node];
-        if left > 0 {
-            self.left[node] = left - 1;
-            return Some(lists.inner(node)[left - 1]);
+        if left == 0 {
+            return None;
         }
-        let left = self.left_matched[node];
-        if left > 0 {
-            self.left_matched[node] = left - 1;
-            return Some(ArcNo::Reverse(lists.matched(node)[left - 1]));
-        }
-        None
+        self.left[node] = left - 1;
+        Some(stack_arc(lists, node, left - 1))
     }
 
     // One turn of the node on top of the stack: its next arc is looked at, or it leaves the stack; whether
@@ -488,5 +491,23 @@ impl Search {
         }
         path.reverse();
         Ok(path)
+    }
+}
+
+// The arc at a place in the list of a node that is no source: first the arcs back to its matched sources, then
+// its inner arcs.
+#[inline(always)]
+#[tactic(auto, using(crate::proofs::Cursors::arc_back, crate::proofs::Cursors::arc_inner))]
+fn stack_arc(lists: &ResidualArcs, node: usize, place: usize) -> ArcNo
+    requires inner { node < length lists.now.inner }
+    requires matched { node < length lists.now.matched }
+    requires place { place < length (stack_arcs lists.now node) }
+    ensures { result ≡ slice_index_or (stack_arcs lists.now node) place (ArcNo.Forward 0) }
+{
+    let matched = lists.matched(node);
+    if place < matched.len() {
+        ArcNo::Reverse(matched[place])
+    } else {
+        lists.inner(node)[place - matched.len()]
     }
 }

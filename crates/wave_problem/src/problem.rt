@@ -83,12 +83,23 @@ pub enum ProblemError {
 
 /// The cluster as one wave sees it: the tree, a line for each worker and each split, and the pairs of
 /// a split and a worker that are barred.
-#[derive(Drop)]
 pub struct Problem {
     tree: RackTree,
     workers: Vec<WorkerLine>,
     splits: Vec<SplitEntry>,
     barred: PairSet,
+}
+
+// (one call wherever it is dropped)
+impl Drop for Problem {
+    fn drop(self) {
+        let Problem {
+            tree: _,
+            workers: _,
+            splits: _,
+            barred: _,
+        } = self;
+    }
 }
 
 impl Model for Problem {

@@ -1,6 +1,6 @@
-use Rattle.std.proofs.Common.{◌≡◌, ℕ, ◌+◌, ◌*◌, sym, ◌∙◌, subst, arith}
+use Rattle.std.proofs.Common.{◌≡◌, ℕ, ◌+◌, sym, ◌∙◌, subst, arith}
 use Rattle.rack_network.specs.Build.{IsBuilt}
-use Rattle.rack_network.proofs.Rows.{idle_row, raise}
+use Rattle.rack_network.proofs.Rows.{idle_row}
 use Rattle.rack_network.proofs.network.add_splits.Goals as goal
 use Rattle.rack_network.proofs.network.add_splits.Goals.{then-is_pending+in_ok-add_split, else-is_pending}
 
@@ -11,15 +11,9 @@ loop-i-preserved c =
     let same : split ≡ c.loop-i.i = omega arith in
     elim c.if-is_pending.branch [
       | then-is_pending+in_ok-add_split w ↦ rw w.network-is
-          (raise wave c.requires.tree (c.loop-i.i + 1) 0 (257 * split + 257) (257 * (c.loop-i.i + 1))
-          w.add_split.new.network (omega arith)
-          (subst (λ (z : ℕ). IsBuilt wave (z + 1) 0 (257 * split + 257) w.add_split.new.network) same
-          w.in_ok-add_split.ensures.built))
+          (subst (λ (s : ℕ). IsBuilt wave (s + 1) 0 w.add_split.new.network) same w.in_ok-add_split.ensures)
       | else-is_pending w ↦ rw w.network-is
-          (subst (λ (z : ℕ). IsBuilt wave (z + 1) 0 (257 * (c.loop-i.i + 1)) c.loop-i.network) same
-          (idle_row wave c.requires.tree split (257 * c.loop-i.i) (257 * (c.loop-i.i + 1)) c.loop-i.network
-          (omega arith) (omega arith)
-          (sym c.is_pending.ensures ∙ w.if-is_pending.false)
-          (subst (λ (z : ℕ). IsBuilt wave z 0 (257 * c.loop-i.i) c.loop-i.network)
-          (sym same) c.loop-i.invariant)))
+          (subst (λ (s : ℕ). IsBuilt wave (s + 1) 0 c.loop-i.network) same
+          (idle_row wave split c.loop-i.network (omega arith) (sym c.is_pending.ensures ∙ w.if-is_pending.false)
+          (subst (λ (s : ℕ). IsBuilt wave s 0 c.loop-i.network) (sym same) c.loop-i.invariant)))
     ]

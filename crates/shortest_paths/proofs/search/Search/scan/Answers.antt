@@ -24,12 +24,6 @@ index_mut-requires-2 g c =
     let size = c.requires.state.now.left_size in
     omega arith
 
-pub index_mut-requires-3 : goal.index_mut-requires-3
-index_mut-requires-3 g c =
-    let inside = entered_inside c.requires.state.now in
-    let size = c.requires.state.now.left_matched_size in
-    omega arith
-
 pub leaving-arcs-requires : goal.leaving-arcs-requires
 leaving-arcs-requires g c =
     let inside = entered_inside c.requires.state.now in

@@ -12,8 +12,8 @@ next_arc-requires-clause-node g c =
     let size = c.requires.state.now.left_size in
     omega arith
 
-pub next_arc-requires-clause-cursors : goal.next_arc-requires-clause-cursors
-next_arc-requires-clause-cursors g c = (top_inside _ c.requires.state.now c.requires.top.1).1
+pub next_arc-requires-clause-cursor : goal.next_arc-requires-clause-cursor
+next_arc-requires-clause-cursor g c = (top_inside _ c.requires.state.now c.requires.top.1).1
 
 pub step-requires-clause-leaves : goal.step-requires-clause-leaves
 step-requires-clause-leaves g c = (turns c.next_arc.new.self _ c.requires.state c.requires.top.1
@@ -27,14 +27,14 @@ pub returns-clause-goes : goal.returns-clause-goes
 returns-clause-goes g c =
     let s = c.requires.state in
     let none = rw c.in_default.is at c.next_arc.ensures in
-    let stack = ap (λ (t : Tables). t.stack) none.2 in
+    let stack = ap (λ (t : Tables). t.stack) none.1 in
     record {
       may = s.may;
       now = subst (λ (t : Tables). IsSearching (problem c.args.meter.now.network c.args.query.now)
           (length c.args.query.now.potentials.now) c.args.level c.args.meter.now.count [] []
-          (record t { stack = c.pop.new.self.items })) (sym none.2)
+          (record t { stack = c.pop.new.self.items })) (sym none.1)
           (popped_by c.requires.top.0 c.pop.new.self.items c.args.node c.pop.result
-          c.requires.top.1 (sym stack ∙ c.pop.ensures.items) none.0 none.1 s.now);
+          c.requires.top.1 (sym stack ∙ c.pop.ensures.items) none.0 s.now);
     }
 
 pub returns-clause-steps : goal.returns-clause-steps
