@@ -35,6 +35,14 @@ fn refill<T: Copy>(values: &mut Vec<T>, value: T)
     }
 }
 
+fn copied<T: Copy>(alloc: Global, values: &[T]) -> Result<Vec<T>, AllocError>
+    ensures { IfOk result (λ copy. copy.items ≡ values.now) }
+{
+    let mut copy = Vec::with_capacity(alloc, values.len())?;
+    copy.extend_from_slice(values)?;
+    Ok(copy)
+}
+
 impl<T: Copy> NodeTable<T> {
     /// The same value at each node.
     pub fn new(alloc: Global, tree: &RackTree, value: T) -> Result<Self, AllocError>
@@ -46,6 +54,19 @@ impl<T: Copy> NodeTable<T> {
             racks: filled(alloc, tree.racks(), value)?,
             centres: filled(alloc, tree.centres(), value)?,
             cluster: value,
+        })
+    }
+
+    /// Another table with the same values.
+    pub fn copy(&self, alloc: Global) -> Result<Self, AllocError>
+        ensures same { IfOk result (λ copy. (d : T) (v : TreeNode) → at_or copy d v ≡ at_or self.now d v) }
+        ensures size { IfOk result (λ copy. IsSized self.now copy) }
+    {
+        Ok(NodeTable {
+            workers: copied(alloc, &self.workers)?,
+            racks: copied(alloc, &self.racks)?,
+            centres: copied(alloc, &self.centres)?,
+            cluster: self.cluster,
         })
     }
 

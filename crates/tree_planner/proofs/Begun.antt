@@ -1,5 +1,5 @@
 -- A search that has not come to a node yet, and what is left of one that forgets the nodes that it came to.
-use Rattle.std.proofs.Common.{◌≡◌, ℕ, ◌+◌, ◌-◌, ◌^◌, ◌<◌, ◌≤◌, ◌⊎◌, length, refl, sym, ap, ◌∙◌, inl, inr, arith}
+use Rattle.std.proofs.Common.{subst, ◌≡◌, ℕ, ◌+◌, ◌-◌, ◌^◌, ◌<◌, ◌≤◌, ◌⊎◌, length, refl, sym, ap, ◌∙◌, inl, inr, arith}
 use Rattle.std.specs.Prelude.{◌≢◌}
 use Rattle.std.proofs.lemmas.Bool.{cases_lt}
 use Rattle.rack_tree.specs.Tree.{Tree}
@@ -10,10 +10,18 @@ use Rattle.tree_planner.specs.declared.search.Goal.TheVariants.{Wait}
 use Rattle.tree_planner.specs.declared.search.Ground.{Ground}
 use Rattle.tree_planner.specs.declared.search.Search.{Search}
 use Rattle.tree_planner.specs.Searching.{far_at, order_at, reached_at, wave_of, HasReached, HasTables, IsBlank, IsGround}
-use Rattle.tree_planner.specs.Searching.{IsSearching}
+use Rattle.tree_planner.specs.Searching.{IsCovered, IsSearching}
+use Rattle.tree_flow.specs.declared.node_table.NodeTable.{NodeTable}
+use Rattle.tree_flow.specs.declared.nodes.TreeNode.TheVariants.{Rack}
+use Rattle.tree_flow.specs.Table.{at_or, IsOver}
+use Rattle.tree_planner.specs.declared.search.Cover.{Cover}
 
 pub begun : (g : Ground) → IsGround g → (search : Search) → IsBlank (wave_of g).tree (length g.nodes.now) search
-    → (split least : ℕ) → least ≤ reward (wave_of g) → IsSearching g (record search {
+    → (split least : ℕ) → split < length (wave_of g).splits → least ≤ reward (wave_of g)
+    → (covers : NodeTable Cover) → IsOver (wave_of g).tree covers
+    → ((v : TreeNode) → at_or covers (record { offset = 2 ^ 41; split = split }) v
+    ≡ record { offset = 2 ^ 41; split = split })
+    → IsSearching g (record search {
       split = split;
       least = least;
       limit = g.reward - least;
@@ -21,12 +29,28 @@ pub begun : (g : Ground) → IsGround g → (search : Search) → IsBlank (wave_
       goal = Wait;
       reached = record search.reached { count = 0 };
       looked = 0;
+      covers = covers;
     })
-begun g ground search blank split least most =
+begun g ground search blank split least known most covers over uncovered =
     let worth = ground.worth in
     let small = ground.small in
+    let begins : Search = record search {
+      split = split;
+      least = least;
+      limit = g.reward - least;
+      bound = g.reward - least;
+      goal = Wait;
+      reached = record search.reached { count = 0 };
+      looked = 0;
+      covers = covers;
+    } in
     record {
-      tables = record { far = blank.tables.far; how = blank.tables.how; order = blank.tables.order };
+      tables = record {
+        far = blank.tables.far;
+        how = blank.tables.how;
+        order = blank.tables.order;
+        covers = over;
+      };
       reached = record {
         room = omega arith;
         known = λ k l. absurd (omega arith);
@@ -45,6 +69,10 @@ begun g ground search blank split least most =
       goal = refl;
       bottom = λ v some. (let far = blank.far v in omega arith);
       shut = λ v some. absurd (let none = blank.none v in omega arith);
+      covered = λ r. subst (λ cover. IsCovered g begins cover r) (sym (uncovered (Rack r))) (record {
+        known = known;
+        near = λ v left. omega arith;
+      });
     }
 
 -- the node stands in the row past the first k

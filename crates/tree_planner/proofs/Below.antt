@@ -15,8 +15,11 @@ use Rattle.tree_flow.proofs.Moved.{parent_under, pushes_down, same_or_not, under
 use Rattle.tree_flow.proofs.Certified.{which_above}
 use Rattle.tree_flow.proofs.Children.{some_of_sum}
 use Rattle.tree_flow.proofs.Ends.{node_known, own_above}
-use Rattle.tree_flow.proofs.Under.{under-le}
+use Rattle.tree_flow.proofs.Under.{under-le, under_worker}
+use Rattle.tree_flow.specs.Table.{at_node}
+use Rattle.tree_planner.specs.declared.tables.Tables.{Tables}
 use Rattle.tree_planner.specs.Hanging.{HangsFrom}
+use Rattle.tree_planner.specs.View.{state_of, AreTables}
 
 -- the node one level lower on the way to a worker hangs from the one above
 hangs_next : (wave : Wave) (w j : ℕ) → IsKnown wave → w < length wave.workers → j < 3
@@ -44,6 +47,14 @@ some_below wave known v inner f some =
       subst (λ u. HangsFrom wave.tree u (node_above wave.tree j w)) (sym is) (hangs_next wave w j known l (omega arith)),
       (let least = under-le wave (node_above wave.tree j w) f w l (own_above wave.tree j w) in omega arith),
     )
+
+-- a worker under which a slot is counted has it free
+pub free_there : (wave : Wave) (t : Tables) → AreTables wave t → (w : ℕ) → w < length wave.workers
+    → 0 < at_node t.below (Worker w) → 0 < (state_of t).free w
+free_there wave t tables w known some =
+    let sums = tables.sums (Worker w) in
+    let own = under_worker wave (state_of t).free w known in
+    omega arith
 
 -- above a free slot all nodes lie at 0
 module _ (wave : Wave) (state : State) (kept : IsKept wave state) (w : ℕ) (l : w < length wave.workers)

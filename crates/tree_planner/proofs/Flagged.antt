@@ -2,7 +2,7 @@
 use Rattle.std.proofs.Common.{◌≡◌, ℕ, suc, ◌+◌, ◌-◌, ◌<◌, Bool, false, List, [], ◌∷◌, ◌≤◌, length, get_or, refl, sym}
 use Rattle.std.proofs.Common.{ap, ◌∙◌, subst, get_or-set_same, get_or-set_other, inl, inr, arith}
 use Rattle.std.proofs.lemmas.Bool.{cases_eq}
-use Rattle.std.specs.Prelude.{map, slice_set}
+use Rattle.std.specs.Prelude.{◌≢◌, map, slice_set}
 use Rattle.std.proofs.Math.Seq.{map-set_same}
 use Rattle.std.proofs.lemmas.List.{length-map, length-set}
 use Rattle.wave_problem.specs.Wave.{split_at, worker_at, Split, Wave}
@@ -92,6 +92,17 @@ ground_with_pending wave s pending = record {
   splits = map-set_same bare wave.splits s (record (split_at wave s) { pending = pending }) no_split refl;
   barred = refl;
 }
+
+-- the flag of one split was set
+module _ (old new : Wave) (s : ℕ) (b : Bool) (is : new.splits ≡ (with_pending old s b).splits) where
+  pub flag_here : s < length old.splits → (split_at new s).pending ≡ b
+  flag_here known = ap (λ splits. (get_or splits s no_split).pending) is
+      ∙ ap (λ (x : Split). x.pending)
+      (get_or-set_same old.splits s (record (split_at old s) { pending = b }) no_split known)
+
+  pub flag_other : (x : ℕ) → x ≢ s → split_at new x ≡ split_at old x
+  flag_other x n = ap (λ splits. get_or splits x no_split) is
+      ∙ get_or-set_other old.splits s x (record (split_at old s) { pending = b }) no_split n
 
 -- a worker with another number of slots
 pub ground_with_free : (wave : Wave) (w : ℕ) (free : ℕ) → HasSameGround wave (with_free wave w free)

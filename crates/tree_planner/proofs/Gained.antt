@@ -1,15 +1,15 @@
 -- Workers' lines with more slots, or with fewer.
 use Rattle.std.proofs.Common.{◌≡◌, ℕ, ◌+◌, ◌<◌, ◌≤◌, Bool, false, All, List, length, refl, sym, ap, ◌∙◌, subst}
 use Rattle.std.proofs.Common.{get_or-set_same, get_or-set_other, inl, inr, arith}
-use Rattle.std.specs.Prelude.{◌≢◌, slice_set}
-use Rattle.std.proofs.lemmas.Bool.{cases_eq, cases_lt}
-use Rattle.std.proofs.lemmas.List.{ext_get_or, get_or_past, length-set}
+use Rattle.std.specs.Prelude.{◌≢◌, map, slice_set}
+use Rattle.std.proofs.lemmas.Bool.{cases_eq}
+use Rattle.std.proofs.lemmas.List.{ext_get_or, length-set}
 use Rattle.wave_problem.specs.declared.TheConstants.{MAX_SLOTS}
 use Rattle.wave_problem.specs.declared.lines.WorkerLine.{WorkerLine}
 use Rattle.wave_problem.specs.Wave.{worker_at, worker_in, Wave}
 use Rattle.tree_flow.specs.Slots.{with_workers}
-use Rattle.tree_planner.specs.Events.{slot_more}
-use Rattle.tree_planner.specs.Going.{HasLine, HasMore, IsHeldBack, IsMore}
+use Rattle.tree_planner.specs.Events.{slot_more, with_free}
+use Rattle.tree_planner.specs.Going.{bare, HasLine, HasMore, HasSameGround, IsHeldBack}
 use Rattle.tree_planner.proofs.Lines.{set_here, set_other, set_size}
 
 abbrev line_with : Bool → ℕ → WorkerLine
@@ -41,6 +41,68 @@ line_with_more first now next w line known has is = record {
       ∙ ap (λ (l : WorkerLine). line_with l.live (l.free + 1)) has.here;
   others = λ x n. ap (λ (v : Wave). worker_at v x) is ∙ set_other now w ((worker_at now w).free + 1) known x n
       ∙ has.others x n;
+}
+
+-- a worker has the line that it has
+pub own_line : (wave : Wave) (w : ℕ) → HasLine wave wave w (worker_at wave w)
+own_line wave w = record { rest = refl; size = refl; here = refl; others = λ x n. refl }
+
+-- with another number of slots
+module _ (first now next : Wave) (w free : ℕ) (known : w < length now.workers)
+    (has : HasLine first now w (worker_at now w)) (is : next ≡ with_free now w free) where
+  pub line_with_free : HasLine first next w (worker_at next w)
+  line_with_free = record {
+    rest = is ∙ ap (λ (x : Wave). with_workers x (with_free now w free).workers) has.rest
+        ∙ ap (λ (x : Wave). with_workers first x.workers) (sym is);
+    size = ap (λ (x : Wave). length x.workers) is ∙ set_size now w free known ∙ has.size;
+    here = refl;
+    others = λ x n. ap (λ (v : Wave). worker_at v x) is ∙ set_other now w free known x n ∙ has.others x n;
+  }
+
+  pub live_with_free : (worker_at next w).live ≡ (worker_at now w).live
+  live_with_free = ap (λ (x : Wave). (worker_at x w).live) is
+      ∙ ap (λ (l : WorkerLine). l.live) (set_here now w free known)
+
+-- one change of a worker's line after another
+pub line_then : (first now next : Wave) (w : ℕ) (one two : WorkerLine) → HasLine first now w one
+    → HasLine now next w two → HasLine first next w two
+line_then first now next w one two a b = record {
+  rest = b.rest ∙ ap (λ (x : Wave). with_workers x next.workers) a.rest;
+  size = b.size ∙ a.size;
+  here = b.here;
+  others = λ x n. b.others x n ∙ a.others x n;
+}
+
+-- the first lines are these, and all else is as at first
+pub record AreFit (first now : Wave) (lines : List WorkerLine) (k : ℕ) : Type 0 where
+  pub rest : now ≡ with_workers first now.workers
+  pub size : length now.workers ≡ length first.workers
+  pub done : (j : ℕ) → j < k → worker_at now j ≡ worker_in lines j
+
+pub none_fit : (wave : Wave) (lines : List WorkerLine) → AreFit wave wave lines 0
+none_fit wave lines = record { rest = refl; size = refl; done = λ j l. absurd (omega arith) }
+
+-- one line more
+pub one_fit : (first now next : Wave) (lines : List WorkerLine) (k : ℕ) (line : WorkerLine)
+    → AreFit first now lines k → HasLine now next k line → line ≡ worker_in lines k
+    → AreFit first next lines (k + 1)
+one_fit first now next lines k line fit has same = record {
+  rest = has.rest ∙ ap (λ (x : Wave). with_workers x next.workers) fit.rest;
+  size = has.size ∙ fit.size;
+  done = λ j l. elim (cases_eq j k) [
+    | inl e ↦ subst (λ (j : ℕ). worker_at next j ≡ worker_in lines j) (sym e) (has.here ∙ same)
+    | inr n ↦ has.others j n ∙ fit.done j (omega arith)
+  ];
+}
+
+-- waves that differ in workers' lines alone have the same ground
+pub ground_with_workers : (first now : Wave) → now ≡ with_workers first now.workers
+    → length now.workers ≡ length first.workers → HasSameGround first now
+ground_with_workers first now rest size = record {
+  tree = ap (λ (x : Wave). x.tree) rest;
+  workers = size;
+  splits = ap (λ (x : Wave). map bare x.splits) rest;
+  barred = ap (λ (x : Wave). x.barred) rest;
 }
 
 -- all lines are these
@@ -113,24 +175,3 @@ module _ (first now next : Wave) (w : ℕ) (line : WorkerLine) (known : w < leng
         most = held.more.most;
       };
     }
-
--- no worker has fewer slots, since no worker of the list has
-module _ (wave : Wave) (lines : List WorkerLine) (size : length lines ≡ length wave.workers)
-    (each : (w : ℕ) → w < length wave.workers → IsMore (worker_at wave w) (worker_in lines w)) where
-  more_at : (w : ℕ) → IsMore (worker_at wave w) (worker_in lines w)
-  more_at w = elim (cases_lt w (length wave.workers)) [
-    | inl l ↦ each w l
-    | inr past ↦ subst (λ (l : WorkerLine). IsMore l (worker_in lines w))
-        (sym (get_or_past wave.workers w no_line past))
-        (subst (λ (l : WorkerLine). IsMore no_line l) (sym (get_or_past lines w no_line (omega arith)))
-        (record { live = refl; more = omega arith; dead = λ e. refl }))
-  ]
-
-  pub more_each : All (λ line. line.free ≤ MAX_SLOTS) lines → HasMore wave lines
-  more_each most = record {
-    size = size;
-    live = λ w. (more_at w).live;
-    more = λ w. (more_at w).more;
-    dead = λ w. (more_at w).dead;
-    most = most;
-  }

@@ -10,10 +10,12 @@ use Rattle.tree_flow.specs.declared.nodes.End.{End}
 use Rattle.tree_flow.specs.declared.nodes.Place.TheVariants.{Stands, Waits}
 use Rattle.tree_flow.specs.declared.nodes.TreeNode.{TreeNode}
 use Rattle.tree_flow.specs.declared.nodes.TreeNode.TheVariants.{Worker}
-use Rattle.tree_flow.specs.Nodes.{is_under, parent, AreNodes, IsKnown}
+use Rattle.tree_flow.specs.Nodes.{is_under, parent, IsKnown}
 use Rattle.tree_flow.specs.State.{State, slots_of, stands_under, standing_under, IsBalancedBut}
 use Rattle.tree_flow.proofs.Children.{unit_goes_on}
 use Rattle.tree_flow.proofs.Moved.{one}
+use Rattle.tree_planner.specs.declared.children.Children.{Children}
+use Rattle.tree_planner.specs.Hanging.{hanging, AreChildren}
 use Rattle.tree_planner.proofs.Looked.{at_each, room_known}
 
 -- a split more, which stands in the hole, balances the state
@@ -57,14 +59,18 @@ module _ (wave : Wave) (state : State) (v : TreeNode) (known : IsKnown wave)
         refl,
       ))
 
--- it is found in a list of all nodes
-pub child_there : (wave : Wave) (nodes : List TreeNode) (state : State) (v : TreeNode) → IsKnown wave
-    → AreNodes wave.tree nodes → IsBalancedBut wave state (Some v) → ((w : ℕ) → v ≢ Worker w)
-    → ((k : ℕ) → k < length nodes → parent wave.tree (get_or nodes k (Worker 0)) ≡ v
-    → 0 < state.flow (get_or nodes k (Worker 0)) → ⊥) → ⊥
-child_there wave nodes state v known all b inner none =
+-- it is found among the nodes that hang from the other
+pub child_there : (wave : Wave) (children : Children) (state : State) (v : TreeNode) → IsKnown wave
+    → AreChildren wave.tree children → IsBalancedBut wave state (Some v) → ((w : ℕ) → v ≢ Worker w)
+    → ((k : ℕ) → k < length (hanging children v) → state.flow (get_or (hanging children v) k (Worker 0)) ≡ 0) → ⊥
+child_there wave children state v known all b inner none =
     let found = hole_goes_on wave state v known b inner in
     let each = b.each found.0 in
     let some = found.2 in
-    at_each nodes (Worker 0) (λ x. parent wave.tree x ≡ v → 0 < state.flow x → ⊥) none found.0
-    (all.each found.0 (room_known wave known found.0 (slots_of wave) (omega arith))) found.1 some
+    let zero = at_each (hanging children v) (Worker 0) (λ x. state.flow x ≡ 0) none found.0
+    ((all.each v found.0).1 (record {
+      known = room_known wave known found.0 (slots_of wave) (omega arith);
+      below = λ e. (let top = b.top in let same = ap state.flow e in omega arith);
+      above = found.1;
+    })) in
+    omega arith

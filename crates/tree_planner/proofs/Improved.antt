@@ -4,7 +4,7 @@ use Rattle.std.proofs.Common.{count_by, get_or, get_or-set_same, get_or-set_othe
 use Rattle.std.specs.Prelude.{◌≢◌, nat_lt}
 use Rattle.std.proofs.lemmas.Bool.{cases_lt, le-ltb, lt-ltb, ltb-true}
 use Rattle.rack_tree.specs.Tree.{Tree}
-use Rattle.tree_flow.specs.declared.nodes.TreeNode.TheVariants.{Cluster}
+use Rattle.tree_flow.specs.declared.nodes.TreeNode.TheVariants.{Cluster, Rack}
 use Rattle.tree_planner.specs.declared.reached.Reached.{Reached}
 use Rattle.tree_planner.specs.Searching.{has_come, reached_at, HasReached, HasRoom, HasTables, IsGround}
 use Rattle.tree_planner.proofs.Counted.{count_grows, count_less}
@@ -21,7 +21,8 @@ use Rattle.tree_planner.specs.declared.search.Step.TheVariants.{Start, Down, Up,
 use Rattle.tree_flow.specs.Nodes.{parent, IsEnd, IsNode}
 use Rattle.tree_flow.specs.State.{reach_cost, sum_under}
 use Rattle.tree_planner.specs.Searching.{order_at, far_at, step_at, state_at, wave_of, EndsIn, GoesAllOver, HasLookedFrom, IsNearest, Settles}
-use Rattle.tree_planner.specs.Searching.{EndsInSlot, IsFound, IsLastOne}
+use Rattle.tree_planner.specs.Searching.{cover_at, EndsInSlot, IsCovered, IsFound, IsLastOne}
+use Rattle.tree_planner.specs.declared.search.Cover.{Cover}
 use Rattle.tree_planner.specs.Searching.{HasStarted, IsStartedAt, Improves, IsAt, IsBefore, IsDown, IsNearer, IsSearching, LeadsTo}
 use Rattle.tree_flow.specs.Table.{at_or, IsOver}
 use Rattle.tree_flow.proofs.Moved.{same_or_not}
@@ -148,6 +149,14 @@ module _ (old new : Search) (i : IsNearer old new) where
       let bound = i.bound in
       let far = i.far x.node in
       omega arith)
+
+  -- a cover holds on
+  pub cover_kept : (g : Ground) (cover : Cover) (r : ℕ) → IsCovered g old cover r → IsCovered g new cover r
+  cover_kept g cover r c = record {
+    known = c.known;
+    near = λ v left.
+        (let before = c.near v left in let bound = i.bound in let far = i.far v in omega arith);
+  }
 
   pub started_kept : (g : Ground) → HasStarted g old → HasStarted g new
   started_kept g started = λ x is.
@@ -332,7 +341,7 @@ module _ (old : Search) (far : NodeTable ℕ) (how : NodeTable Step) (node : Tre
       → (order_at old node ≡ 0 → LeadsTo g old node distance step) → EndsIn g reached b end
       → ((v : TreeNode) → 0 < sum_under (wave_of g) v (state_at g).free → b ≤ far_at reached v) → IsSearching g reached
   reach_kept g ground known over_far over_how s leads ends bottom = record {
-    tables = record { far = over_far; how = over_how; order = s.tables.order };
+    tables = record { far = over_far; how = over_how; order = s.tables.order; covers = s.tables.covers };
     reached = row_kept (wave_of g).tree known s.reached s.bound (let small = ground.small in let limit = s.limit in omega arith)
         (room_left g old ground s node known);
     room = row_room ∙ s.room;
@@ -364,6 +373,7 @@ module _ (old : Search) (far : NodeTable ℕ) (how : NodeTable Step) (node : Tre
     goal = ends;
     bottom = bottom;
     shut = s.shut;
+    covered = λ r. cover_kept old reached reach_nearer g (cover_at old r) r (s.covered r);
   }
 
   far_other : (v : TreeNode) → v ≢ node → far_at reached v ≡ far_at old v
@@ -419,7 +429,12 @@ module _ (old : Search) (goal : Goal) (distance : ℕ) (bound : distance < old.b
 
   pub arrive_kept : (g : Ground) → IsSearching g old → EndsIn g old distance goal → IsSearching g arrived
   arrive_kept g s ends = record {
-    tables = record { far = s.tables.far; how = s.tables.how; order = s.tables.order };
+    tables = record {
+      far = s.tables.far;
+      how = s.tables.how;
+      order = s.tables.order;
+      covers = s.tables.covers;
+    };
     reached = record {
       room = s.reached.room;
       known = s.reached.known;
@@ -438,6 +453,7 @@ module _ (old : Search) (goal : Goal) (distance : ℕ) (bound : distance < old.b
     goal = ends_kept old arrived arrive_nearer (λ u x b. b) (λ u some. some) g distance goal ends;
     bottom = λ v some. (let past = s.bottom v some in omega arith);
     shut = s.shut;
+    covered = λ r. cover_kept old arrived arrive_nearer g (cover_at old r) r (s.covered r);
   }
 
 -- a node that is looked from next
@@ -497,7 +513,7 @@ module _ (g : Ground) (old : Search) (order : NodeTable ℕ) (c : TreeNode) (s :
       (s.steps v less)
 
   settle_tables : HasTables (wave_of g).tree old → HasTables (wave_of g).tree settled
-  settle_tables t = record { far = t.far; how = t.how; order = over }
+  settle_tables t = record { far = t.far; how = t.how; order = over; covers = t.covers }
 
   settle_reached : HasReached (wave_of g).tree old → far_at old c < old.limit → HasReached (wave_of g).tree settled
   settle_reached r reached = record {
@@ -537,6 +553,7 @@ module _ (g : Ground) (old : Search) (order : NodeTable ℕ) (c : TreeNode) (s :
           ])
       | inr n ↦ s.shut v (let same = others v n in omega arith)
     ];
+    covered = λ r. cover_kept old settled settle_nearer g (cover_at old r) r (s.covered r);
   }
 
   -- at the end of the search
@@ -579,3 +596,59 @@ module _ (g : Ground) (old : Search) (order : NodeTable ℕ) (c : TreeNode) (s :
     here = same_order settled new i c ∙ here;
     others = λ v n. same_order settled new i v ∙ others v n;
   }
+
+-- more is known of the workers of one rack
+module _ (old : Search) (covers : NodeTable Cover) (rack : ℕ) (cover : Cover)
+    (here : (d : Cover) → at_or covers d (Rack rack) ≡ cover)
+    (others : (d : Cover) (v : TreeNode) → v ≢ Rack rack → at_or covers d v ≡ at_or old.covers d v) where
+  abbrev covering : Search
+  covering = record old { covers = covers }
+
+  covered_nearer : IsNearer old covering
+  covered_nearer = record {
+    split = refl;
+    least = refl;
+    limit = refl;
+    bound = omega arith;
+    far = λ v. omega arith;
+    settled = λ u some. refl;
+  }
+
+  pub covered_improves : Improves old covering
+  covered_improves = record { nearer = covered_nearer; looked = refl; order = refl }
+
+  pub covered_kept : (g : Ground) → IsOver (wave_of g).tree covers → IsSearching g old → IsCovered g old cover rack
+      → IsSearching g covering
+  covered_kept g over s covered = record {
+    tables = record { far = s.tables.far; how = s.tables.how; order = s.tables.order; covers = over };
+    reached = record {
+      room = s.reached.room;
+      known = s.reached.known;
+      near = s.reached.near;
+      once = s.reached.once;
+      each = s.reached.each;
+      looked = s.reached.looked;
+    };
+    room = s.room;
+    fit = s.fit;
+    limit = s.limit;
+    bound = s.bound;
+    few = s.few;
+    steps = λ v less. leads_kept old covering covered_nearer (λ u x b. b) (λ u some. some) g v (far_at old v)
+        (step_at old v) (s.steps v less);
+    level = s.level;
+    goal = ends_kept old covering covered_nearer (λ u x b. b) (λ u some. some) g old.bound old.goal s.goal;
+    bottom = s.bottom;
+    shut = s.shut;
+    covered = λ r. elim (same_or_not (Rack r) (Rack rack)) [
+      | inl e ↦ subst (λ (q : ℕ). IsCovered g covering (cover_at covering q) q) (rack_same r rack e)
+          (subst (λ cover. IsCovered g covering cover rack) (sym (here (record { offset = 2 ^ 41; split = old.split })))
+          (cover_kept old covering covered_nearer g cover rack covered))
+      | inr n ↦ subst (λ cover. IsCovered g covering cover r)
+          (sym (others (record { offset = 2 ^ 41; split = old.split }) (Rack r) n))
+          (cover_kept old covering covered_nearer g (cover_at old r) r (s.covered r))
+    ];
+  }
+    where
+      rack_same : (r q : ℕ) → Rack r ≡ Rack q → q ≡ r
+      rack_same r q e = grind arith

@@ -12,10 +12,13 @@ pub mod Followed
 pub mod Deeper
 pub mod Known
 pub mod Barred
+pub mod Grouped
+pub mod Covered
 pub mod Tops
 pub mod Handed
 pub mod Starts
 pub mod Standing
+pub mod Stored
 pub mod ImprovedBack
 pub mod LookedBack
 pub mod TightBack
@@ -34,3 +37,4 @@ pub mod Below
 pub mod Descended
 pub mod Placed
 pub mod Flagged
+pub mod Paired

@@ -16,7 +16,9 @@ use Rattle.tree_flow.specs.State.{State, place_of}
 use Rattle.tree_flow.proofs.Given.{changes}
 use Rattle.tree_planner.specs.declared.engine.Fixed.{Fixed}
 use Rattle.tree_planner.specs.declared.tables.Tables.{Tables}
-use Rattle.tree_planner.specs.Ends.{ends_at, AreEnds}
+use Rattle.tree_planner.specs.Ends.{ends_at, no_ends, AreEnds, Grouped, HasEnd}
+use Rattle.node_ids.specs.Sets.{no_workers, Has}
+use Rattle.tree_planner.proofs.Grouped.{none_among}
 use Rattle.tree_planner.specs.Engine.{IsFixed, IsStanding}
 use Rattle.tree_planner.specs.Events.{with_pending}
 use Rattle.tree_planner.specs.Listing.{AreLists}
@@ -104,7 +106,7 @@ module _ (wave : Wave) (s : ℕ) (pending : Bool) (known : s < length wave.split
     kept = changes wave new (state_of t) standing.kept (another (state_of t) unshipped);
   }
 
-  pub pending_fixed : (fixed new_fixed : Fixed) → IsFixed wave fixed → AreEnds new new_fixed.ends.items
+  pub pending_fixed : (fixed new_fixed : Fixed) → IsFixed wave fixed → AreEnds new new_fixed.ends
       → new_fixed ≡ record fixed { ends = new_fixed.ends } → IsFixed new new_fixed
   pending_fixed fixed new_fixed f ends same = subst (λ (x : Fixed). IsFixed new x) (sym same) (record {
     known = record { lines = f.known.lines; racks = f.known.racks; centres = f.known.centres };
@@ -119,32 +121,29 @@ module _ (wave : Wave) (s : ℕ) (pending : Bool) (known : s < length wave.split
   })
 
   -- the lists of ends, of which that of the split was changed
-  pub ends_set : (old : List (List End)) (list : List End) → AreEnds wave old
-      → ((e : End) → Contains list e ↔ IsEnd new s e) → AreEnds new (slice_set old s list)
+  pub ends_set : (old : List Grouped) (list : Grouped) → AreEnds wave old
+      → ((e : End) → HasEnd wave.tree list e ↔ IsEnd new s e) → AreEnds new (slice_set old s list)
   ends_set old list was is = record {
     size = length-set old s list ∙ was.size ∙ sym (length-set wave.splits s line);
     each = λ t e l. elim (cases_eq t s) [
-      | inl same ↦ subst (λ (t : ℕ). Contains (ends_at (slice_set old s list) t) e ↔ IsEnd new t e) (sym same)
-          (subst (λ xs. Contains xs e ↔ IsEnd new s e)
-          (sym (get_or-set_same old s list [] (let size = was.size in omega arith))) (is e))
+      | inl same ↦ subst (λ (t : ℕ). HasEnd wave.tree (ends_at (slice_set old s list) t) e ↔ IsEnd new t e) (sym same)
+          (subst (λ xs. HasEnd wave.tree xs e ↔ IsEnd new s e)
+          (sym (get_or-set_same old s list no_ends (let size = was.size in omega arith))) (is e))
       | inr other ↦
           (let size = length-set wave.splits s line in
           let before = was.each t e (omega arith) in
           let ends = ends_other t e other in
-          let at = get_or-set_other old s t list [] other in
-          subst (λ xs. Contains xs e ↔ IsEnd new t e) (sym at)
+          let at = get_or-set_other old s t list no_ends other in
+          subst (λ xs. HasEnd wave.tree xs e ↔ IsEnd new t e) (sym at)
           (λ has. ends.1 (before.0 has), λ end. before.1 (ends.0 end)))
     ];
   }
 
-abbrev no_ends : List End
-no_ends = []
-
 -- a split that is not pending has no ends
 pub none_ends : (wave : Wave) (s : ℕ) → s < length wave.splits → (e : End)
-    → Contains no_ends e ↔ IsEnd (with_pending wave s false) s e
+    → HasEnd wave.tree (record { groups = []; barred = no_workers }) e ↔ IsEnd (with_pending wave s false) s e
 none_ends wave s known e = (
-  λ has. absurd (let none = has.1 in omega arith),
+  λ has. absurd (none_among wave.tree (Has no_workers) e has),
   λ is. absurd (false≢true (ap (λ (x : Split). x.pending) (sym
       (split_here wave s false known)) ∙ is.pending)),
 )

@@ -16,6 +16,7 @@ use Rattle.tree_flow.specs.Moves.{IsTaken}
 use Rattle.tree_flow.specs.State.{place_of, sum_under}
 use Rattle.tree_flow.specs.Table.{at_node, IsOver, IsSized}
 use Rattle.tree_flow.proofs.Moved.{sum_less}
+use Rattle.tree_planner.specs.declared.cursors.Cursors.{Cursors}
 use Rattle.tree_planner.specs.declared.tables.Tables.{Tables}
 use Rattle.tree_planner.specs.Listing.{AreLists, HasListed}
 use Rattle.tree_planner.proofs.Added.{over_sized}
@@ -90,12 +91,13 @@ taken_tables wave old mid below w a rest size taken sized less = record {
 }
 
 -- one free slot of a worker more, counted on all nodes above it
-pub given_tables : (wave : Wave) (old mid : Tables) (below : NodeTable ℕ) (w : ℕ) → AreTables wave old
+pub given_tables : (wave : Wave) (old mid : Tables) (below : NodeTable ℕ) (cursors : Cursors) (w : ℕ)
+    → AreTables wave old
     → mid ≡ record old { free = mid.free } → length mid.free.items ≡ length old.free.items
     → IsTaken wave (state_of mid) (state_of old) w → IsSized mid.below below
     → ((v : TreeNode) → at_node below v ≡ at_node mid.below v + cond (is_under wave.tree (Worker w) v) 1 0)
-    → AreTables wave (record mid { below = below })
-given_tables wave old mid below w a rest size taken sized more = record {
+    → AreTables wave (record mid { below = below; cursors = cursors })
+given_tables wave old mid below cursors w a rest size taken sized more = record {
   places = ap (λ (t : Tables). length t.places.items) rest ∙ a.places;
   flow = subst (λ t. IsOver wave.tree t) (sym (ap (λ (t : Tables). t.flow) rest)) a.flow;
   depth = subst (λ t. IsOver wave.tree t) (sym (ap (λ (t : Tables). t.depth) rest)) a.depth;

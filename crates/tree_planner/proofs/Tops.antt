@@ -1,16 +1,22 @@
 -- The ends at and under a node above a live holder.
-use Rattle.std.proofs.Common.{◌≡◌, ℕ, zero, suc, ◌+◌, ◌<◌, ◌≤◌, ◌↔◌, Bool, true, List, [], ◌∷◌, ◌++◌, length, get_or, take, filter}
+use Rattle.std.proofs.Common.{◌≡◌, ℕ, zero, suc, ◌+◌, ◌*◌, ◌<◌, ◌≤◌, ◌↔◌, Bool, true, cond, nat_lt, List, [], ◌∷◌, ◌++◌, length, get_or, take, filter}
 use Rattle.std.proofs.Common.{Contains, refl, sym, ap, ◌∙◌, subst, inl, inr, ◌⊎◌, arith}
-use Rattle.std.proofs.lemmas.Bool.{cases_Bool, cases_eq}
+use Rattle.std.proofs.lemmas.Bool.{cases_Bool, cases_eq, false≢true}
+use Rattle.std.specs.Prelude.{None}
 use Rattle.std.proofs.lemmas.List.{get_or_default, take_all, take_more}
 use Rattle.std.proofs.lemmas.List.Elements.{All-contains, All-contains_itself, All-filter, filter_passes}
 use Rattle.std.proofs.lemmas.List.Elements.{Contains-append_left, Contains-append_right, Contains-push, Contains-push_cases}
-use Rattle.rack_tree.specs.Tree.{Tree}
-use Rattle.wave_problem.specs.Wave.{Wave, live_holders, split_at, worker_in}
+use Rattle.rack_tree.specs.Tree.{reach, Tree}
+use Rattle.wave_problem.specs.Wave.{Wave, live_holders, split_at, worker_at, worker_in}
 use Rattle.tree_flow.specs.declared.nodes.End.{End}
 use Rattle.tree_flow.specs.declared.nodes.TreeNode.{TreeNode}
 use Rattle.tree_flow.specs.declared.nodes.TreeNode.TheVariants.{Worker}
-use Rattle.tree_planner.specs.Bars.{IsLevelEnd, IsTopEnd}
+use Rattle.node_ids.specs.Sets.{HasPair}
+use Rattle.tree_planner.specs.Bars.{top_of, AreBars, AreMet, HasEndFor, IsLevelEnd, IsTopEnd}
+use Rattle.tree_planner.specs.declared.split_ends.Group.{Group}
+use Rattle.tree_planner.specs.declared.split_ends.Group.TheVariants.{Single}
+use Rattle.tree_planner.specs.Ends.{IsOf}
+use Rattle.tree_planner.proofs.Grouped.{push_group}
 use Rattle.tree_flow.specs.Nodes.{node_above, parent, is_under, HasBarUnder, IsEnd, IsNode}
 use Rattle.tree_flow.proofs.Ends.{under_under}
 use Rattle.tree_flow.proofs.Moved.{same_or_not, under_own, parent_under}
@@ -53,17 +59,73 @@ only_top wave s top e free t = end_same top e
       ]
     ]) (sym t.level)
 
-pub push_top : (wave : Wave) (s : ℕ) (top : End) (ends : List End) → IsNode wave.tree top.node
+-- a group whose ends are those at and under a node is added to the groups
+pub push_ends : (wave : Wave) (s : ℕ) (top : End) (groups : List Group) (group : Group) (e : End)
+    → (IsOf wave.tree (HasPair wave.barred s) group e ↔ IsTopEnd wave s top e)
+    → HasEndFor wave s (groups ++ group ∷ []) e ↔ (HasEndFor wave s groups e ⊎ IsTopEnd wave s top e)
+push_ends wave s top groups group e same =
+    let both = push_group wave.tree (HasPair wave.barred s) groups group e in (
+      λ i. elim (both.0 i) [
+        | inl before ↦ inl before
+        | inr of ↦ inr (same.0 of)
+      ],
+      λ o. elim o [
+        | inl before ↦ both.1 (inl before)
+        | inr t ↦ both.1 (inr (same.1 t))
+      ],
+    )
+
+pub push_top : (wave : Wave) (s : ℕ) (top : End) (groups : List Group) → IsNode wave.tree top.node
     → (HasBarUnder wave s top.node → ⊥) → (e : End)
-    → Contains (ends ++ top ∷ []) e ↔ (Contains ends e ⊎ IsTopEnd wave s top e)
-push_top wave s top ends known free e = (
-  λ i. elim (Contains-push_cases ends top e i) [
+    → HasEndFor wave s (groups ++ Single top ∷ []) e ↔ (HasEndFor wave s groups e ⊎ IsTopEnd wave s top e)
+push_top wave s top groups known free e = push_ends wave s top groups (Single top) e (
+  λ is. subst (λ e. IsTopEnd wave s top e) is (own_top wave s top known free),
+  λ t. only_top wave s top e free t,
+)
+
+-- where no worker at all is barred, a node's own end is added
+pub push_unbarred : (wave : Wave) (s : ℕ) → AreBars wave s None → (top : End) (groups : List Group)
+    → IsNode wave.tree top.node → (e : End)
+    → HasEndFor wave s (groups ++ Single top ∷ []) e ↔ (HasEndFor wave s groups e ⊎ IsTopEnd wave s top e)
+push_unbarred wave s bars top groups known e =
+    push_top wave s top groups known (λ b. false≢true ((bars.each top.node known).1 b)) e
+
+-- the ends of earlier holders stay there when ends are added
+pub still_met : (wave : Wave) (s : ℕ) (holders : List ℕ) (k : ℕ) (old new : List Group) (T : End → Type 0)
+    → AreMet wave s holders k old
+    → ((e : End) → HasEndFor wave s new e ↔ (HasEndFor wave s old e ⊎ T e)) → AreMet wave s holders k new
+still_met wave s holders k old new T before more j e l is = (more e).1 (inl (before j e l is))
+
+-- at first the ends of no level are added
+pub below_none : {I : Type 0} (P : ℕ → Type 0) → I ↔ (I ⊎ ((k : ℕ) × (k < 0) × P k))
+below_none P = (
+  λ has. inl has,
+  λ o. elim o [
+    | inl has ↦ has
+    | inr k ↦ (let none = k.1 in absurd (omega arith))
+  ],
+)
+
+-- a tree reaches two levels up, or three
+pub reach_is : (tree : Tree) → (reach tree ≡ 4) ⊎ (reach tree ≡ 6)
+reach_is tree = elim (cases_Bool (nat_lt 1 tree.centres)) [
+  | inl one ↦ inr (ap (λ more. cond more 6 4) one)
+  | inr none ↦ inl (ap (λ more. cond more 6 4) none)
+]
+
+-- the ends of a live holder are the ends at all levels that the tree reaches
+pub of_levels : (wave : Wave) (s holder levels : ℕ) (e : End) {N I : Type 0} → reach wave.tree + 2 ≡ 2 * levels
+    → (worker_at wave holder).live ≡ true
+    → (N ↔ (I ⊎ ((level : ℕ) × (level < levels) × IsTopEnd wave s (top_of wave holder level) e)))
+    → (N ↔ (I ⊎ IsLevelEnd wave s holder e))
+of_levels wave s holder levels e all live both = (
+  λ n. elim (both.0 n) [
     | inl before ↦ inl before
-    | inr is ↦ inr (subst (λ e. IsTopEnd wave s top e) is (own_top wave s top known free))
+    | inr t ↦ (let few = t.1 in inr (record { live = live; level = t.0; within = omega arith; top = t.2 }))
   ],
   λ o. elim o [
-    | inl before ↦ Contains-append_left ends (top ∷ []) e before
-    | inr t ↦ subst (λ e. Contains (ends ++ top ∷ []) e) (only_top wave s top e free t) (Contains-push ends top)
+    | inl before ↦ both.1 (inl before)
+    | inr t ↦ (let within = t.within in both.1 (inr (t.level, omega arith, t.top)))
   ],
 )
 

@@ -1,5 +1,5 @@
 -- A state of one wave as a state of another in which some ends are others.
-use Rattle.std.proofs.Common.{◌≡◌, ℕ, ◌*◌, ◌<◌, ◌↔◌, cond, length, Contains, sym, ap, ◌∙◌, subst, inl, inr, arith}
+use Rattle.std.proofs.Common.{◌≡◌, ℕ, ◌*◌, ◌<◌, ◌↔◌, cond, length, sym, ap, ◌∙◌, subst, inl, inr, arith}
 use Rattle.std.proofs.Common.{refl, slice_index, List, Option, None, Some}
 use Rattle.std.specs.Prelude.{◌≢◌, unwrap_or}
 use Rattle.std.proofs.lemmas.Bool.{cases_lt}
@@ -21,7 +21,7 @@ use Rattle.tree_flow.proofs.Given.{changes}
 use Rattle.tree_flow.proofs.Moved.{other_now}
 use Rattle.tree_planner.specs.declared.engine.Fixed.{Fixed}
 use Rattle.tree_planner.specs.declared.tables.Tables.{Tables}
-use Rattle.tree_planner.specs.Ends.{ends_at}
+use Rattle.tree_planner.specs.Ends.{ends_at, Grouped, HasEnd}
 use Rattle.tree_planner.specs.Engine.{IsFixed, IsStanding}
 use Rattle.tree_planner.specs.Events.{other_at, AreOtherEnds, ArePut, IsLike, IsOffIfChanged, IsOtherEnds}
 use Rattle.tree_planner.specs.Hanging.{AreChildren}
@@ -48,24 +48,24 @@ known_like wave next like known = record {
 }
 
 -- ends that are not others are the same
-not_other : (wave next : Wave) (s : ℕ) (e : End) (x : Option (List End)) → IsOtherEnds wave next s x
-    → ((xs : List End) → x ≡ Some xs → ⊥) → IsEnd next s e ↔ IsEnd wave s e
+not_other : (wave next : Wave) (s : ℕ) (e : End) (x : Option Grouped) → IsOtherEnds wave next s x
+    → ((xs : Grouped) → x ≡ Some xs → ⊥) → IsEnd next s e ↔ IsEnd wave s e
 not_other wave next s e None is none = is e
 not_other wave next s e (Some xs) is none = absurd (none xs refl)
 
 -- what is put is the ends of the second wave
-put_other : (wave next : Wave) (s : ℕ) (e : End) (x : Option (List End)) (before : List End)
-    → IsOtherEnds wave next s x → (Contains before e ↔ IsEnd wave s e)
-    → Contains (unwrap_or x before) e ↔ IsEnd next s e
+put_other : (wave next : Wave) (s : ℕ) (e : End) (x : Option Grouped) (before : Grouped)
+    → IsOtherEnds wave next s x → (HasEnd next.tree before e ↔ IsEnd wave s e)
+    → HasEnd next.tree (unwrap_or x before) e ↔ IsEnd next s e
 put_other wave next s e None before is ends =
     (let both = is e in (λ has. both.1 (ends.0 has), λ end. ends.1 (both.0 end)))
 put_other wave next s e (Some xs) before is ends = is e
 
-module _ (wave next : Wave) (others : List (Option (List End))) (like : IsLike wave next)
+module _ (wave next : Wave) (others : List (Option Grouped)) (like : IsLike wave next)
     (o : AreOtherEnds wave next others) where
   -- the fixed parts of the second wave
   pub turned_fixed : (fixed new : Fixed) → IsFixed wave fixed → new ≡ record fixed { ends = new.ends }
-      → ArePut fixed.ends.items others new.ends.items → IsFixed next new
+      → ArePut fixed.ends others new.ends → IsFixed next new
   turned_fixed fixed new f rest put = record {
     known = known_like wave next like f.known;
     small = (let small = f.small in let same = like.same_reward in omega arith);
@@ -76,9 +76,10 @@ module _ (wave next : Wave) (others : List (Option (List End))) (like : IsLike w
         (subst (λ (x : Fixed). AreChildren wave.tree x.children) (sym rest) f.children);
     ends = record {
       size = put.size ∙ f.ends.size ∙ sym like.bytes.splits;
-      each = λ s e l. subst (λ xs. Contains xs e ↔ IsEnd next s e) (sym (put.each s))
-          (put_other wave next s e (other_at others s) (ends_at fixed.ends.items s) (o.each s l)
-          (f.ends.each s e (let size = like.bytes.splits in omega arith)));
+      each = λ s e l. subst (λ xs. HasEnd next.tree xs e ↔ IsEnd next s e) (sym (put.each s))
+          (put_other wave next s e (other_at others s) (ends_at fixed.ends s) (o.each s l)
+          (subst (λ (x : Tree). HasEnd x (ends_at fixed.ends s) e ↔ IsEnd wave s e) (sym like.tree)
+          (f.ends.each s e (let size = like.bytes.splits in omega arith))));
     };
     worth = ap (λ (x : Fixed). x.reward) rest ∙ f.worth ∙ sym like.same_reward;
     over = subst (λ (x : Tree). IsOver x new.slots) (sym like.tree)
@@ -91,7 +92,7 @@ module _ (wave next : Wave) (others : List (Option (List End))) (like : IsLike w
         (sym like.slots.workers);
   }
 
-module _ (wave next : Wave) (t : Tables) (others : List (Option (List End))) (like : IsLike wave next)
+module _ (wave next : Wave) (t : Tables) (others : List (Option Grouped)) (like : IsLike wave next)
     (o : AreOtherEnds wave next others)
     (gone : (s : ℕ) → s < length wave.splits → IsOffIfChanged (state_of t) others s) where
   -- a split that is shipped has the same ends

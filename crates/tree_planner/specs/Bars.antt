@@ -1,7 +1,7 @@
 -- Under which nodes workers are barred for a split, and the ends that this leaves it.
 use Rattle.std.specs.Prelude.{ℕ, zero, suc, ◌≡◌, ◌*◌, ◌<◌, ◌≤◌, ◌⊎◌, ◌↔◌, Bool, true, false, cond, Option, Some, None}
-use Rattle.std.specs.Prelude.{IfSome, List, Contains, slice_index_or}
-use Rattle.node_ids.specs.Sets.{has_number, place_of_pair}
+use Rattle.std.specs.Prelude.{IfSome, List, slice_index_or}
+use Rattle.node_ids.specs.Sets.{has_number, place_of_pair, HasPair}
 use Rattle.rack_tree.specs.Tree.{reach}
 use Rattle.wave_problem.specs.Wave.{Wave, worker_at}
 use Rattle.tree_flow.specs.declared.node_table.NodeTable.{NodeTable}
@@ -10,6 +10,8 @@ use Rattle.tree_flow.specs.declared.nodes.TreeNode.{TreeNode}
 use Rattle.tree_flow.specs.declared.nodes.TreeNode.TheVariants.{Worker}
 use Rattle.tree_flow.specs.Nodes.{is_under, node_above, parent, HasBarUnder, IsNode}
 use Rattle.tree_flow.specs.Table.{at_or, IsOver}
+use Rattle.tree_planner.specs.declared.split_ends.Group.{Group}
+use Rattle.tree_planner.specs.Ends.{IsAmong}
 
 -- whether the table marks the node; no table marks none
 abbrev pub bar_at : Option (NodeTable Bool) → TreeNode → Bool
@@ -36,20 +38,29 @@ pub record IsTopEnd (wave : Wave) (s : ℕ) (top e : End) : Type 0 where
   pub no_bar : HasBarUnder wave s e.node → ⊥
   pub largest : (e.node ≡ top.node) ⊎ HasBarUnder wave s (parent wave.tree e.node)
 
+-- the end at a node so many levels above a worker
+abbrev pub top_of : Wave → ℕ → ℕ → End
+top_of wave w level = record { node = node_above wave.tree level w; level = level }
+
 -- so it is with a node above a live holder, no farther up than the tree reaches
 pub record IsLevelEnd (wave : Wave) (s holder : ℕ) (e : End) : Type 0 where
   pub live : (worker_at wave holder).live ≡ true
   pub level : ℕ
   pub within : 2 * level ≤ reach wave.tree
-  pub top : IsTopEnd wave s (record { node = node_above wave.tree level holder; level = level }) e
+  pub top : IsTopEnd wave s (top_of wave holder level) e
 
 -- the number at a place of a list
 abbrev pub holder_at : List ℕ → ℕ → ℕ
 holder_at holders k = slice_index_or holders k 0
 
+-- the end is of one of the groups, which leave the barred workers out
+abbrev pub HasEndFor : Wave → ℕ → List Group → End → Type 0
+HasEndFor wave s groups e = IsAmong wave.tree (HasPair wave.barred s) groups e
+
 -- the ends of the first k holders are there
-abbrev pub AreMet : Wave → ℕ → List ℕ → ℕ → List End → Type 0
-AreMet wave s holders k ends = (j : ℕ) (e : End) → j < k → IsLevelEnd wave s (holder_at holders j) e → Contains ends e
+abbrev pub AreMet : Wave → ℕ → List ℕ → ℕ → List Group → Type 0
+AreMet wave s holders k groups = (j : ℕ) (e : End) → j < k → IsLevelEnd wave s (holder_at holders j) e
+    → HasEndFor wave s groups e
 
 -- the holder lives, and the end's node is the one above it at the end's level
 pub record IsLiveUnder (wave : Wave) (holder : ℕ) (top : End) : Type 0 where

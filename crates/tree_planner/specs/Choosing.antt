@@ -26,8 +26,13 @@ pub record IsBetter (g : Ground) (s : ℕ) (best : Cheapest) (e : End) (next : C
   pub before : next.least ≤ best.least
   pub here : next.least ≤ reach_cost (wave_of g) (state_at g) s e
 
+-- none of its ends costs less than this, nor does waiting
+pub record IsLeast (wave : Wave) (state : State) (s least : ℕ) : Type 0 where
+  pub most : least ≤ reward wave
+  pub ends : (x : End) → IsEnd wave s x → least ≤ reach_cost wave state s x
+
 -- the split may wait, or stand at an end with a free slot under it: nothing is cheaper
 abbrev pub IsChoice : Wave → State → ℕ → Choice → Type 0
 IsChoice wave state s Wait = (x : End) → IsEnd wave s x → reward wave ≤ reach_cost wave state s x
 IsChoice wave state s (Stand e) = StartsTight wave state s e × (0 < sum_under wave e.node state.free)
-IsChoice wave state s Search = Unit {0}
+IsChoice wave state s (Search least) = IsLeast wave state s least

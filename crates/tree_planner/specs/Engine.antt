@@ -21,7 +21,7 @@ pub record IsFixed (wave : Wave) (fixed : Fixed) : Type 0 where
   pub few : length wave.splits ≤ MAX_SPLITS
   pub nodes : AreNodes wave.tree fixed.nodes.items
   pub children : AreChildren wave.tree fixed.children
-  pub ends : AreEnds wave fixed.ends.items
+  pub ends : AreEnds wave fixed.ends
   pub worth : fixed.reward ≡ reward wave
   pub over : IsOver wave.tree fixed.slots
   pub slots : (v : TreeNode) → at_node fixed.slots v ≡ sum_under wave v (slots_of wave)

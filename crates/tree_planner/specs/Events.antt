@@ -1,6 +1,6 @@
 -- What happens to a wave.
 use Rattle.std.specs.Prelude.{ℕ, ◌≡◌, ◌≢◌, ◌+◌, ◌-◌, ◌<◌, ◌↔◌, Bool, false, length, slice_index_or, slice_set}
-use Rattle.std.specs.Prelude.{Contains, List, None, Option, Some, unwrap_or}
+use Rattle.std.specs.Prelude.{List, None, Option, Some, unwrap_or}
 use Rattle.tree_flow.specs.declared.node_table.NodeTable.{NodeTable}
 use Rattle.tree_flow.specs.declared.nodes.TreeNode.{TreeNode}
 use Rattle.tree_flow.specs.Table.{at_node}
@@ -10,7 +10,7 @@ use Rattle.tree_flow.specs.declared.nodes.Place.TheVariants.{Unshipped}
 use Rattle.tree_flow.specs.Nodes.{IsEnd}
 use Rattle.tree_flow.specs.Slots.{with_workers}
 use Rattle.tree_flow.specs.State.{State, place_of, slots_of}
-use Rattle.tree_planner.specs.Ends.{ends_at}
+use Rattle.tree_planner.specs.Ends.{ends_at, Grouped, HasEnd}
 
 -- the wave in which a worker has so many free slots
 abbrev pub with_free : Wave → ℕ → ℕ → Wave
@@ -58,24 +58,24 @@ pub record IsLike (old new : Wave) : Type 0 where
   pub same_reward : reward new ≡ reward old
 
 -- the ends of a split in the second wave, or nothing where the first wave has the same ends
-abbrev pub IsOtherEnds : Wave → Wave → ℕ → Option (List End) → Type 0
+abbrev pub IsOtherEnds : Wave → Wave → ℕ → Option Grouped → Type 0
 IsOtherEnds old new s None = (e : End) → IsEnd new s e ↔ IsEnd old s e
-IsOtherEnds old new s (Some ends) = (e : End) → Contains ends e ↔ IsEnd new s e
+IsOtherEnds old new s (Some ends) = (e : End) → HasEnd new.tree ends e ↔ IsEnd new s e
 
 -- what is said of the split s in a list
-abbrev pub other_at : List (Option (List End)) → ℕ → Option (List End)
+abbrev pub other_at : List (Option Grouped) → ℕ → Option Grouped
 other_at others s = slice_index_or others s None
 
 -- so it is with each split
-pub record AreOtherEnds (old new : Wave) (others : List (Option (List End))) : Type 0 where
+pub record AreOtherEnds (old new : Wave) (others : List (Option Grouped)) : Type 0 where
   pub size : length others ≡ length new.splits
   pub each : (s : ℕ) → s < length new.splits → IsOtherEnds old new s (other_at others s)
 
 -- a split that has other ends is not shipped
-abbrev pub IsOffIfChanged : State → List (Option (List End)) → ℕ → Type 0
-IsOffIfChanged state others s = (ends : List End) → other_at others s ≡ Some ends → place_of state s ≡ Unshipped
+abbrev pub IsOffIfChanged : State → List (Option Grouped) → ℕ → Type 0
+IsOffIfChanged state others s = (ends : Grouped) → other_at others s ≡ Some ends → place_of state s ≡ Unshipped
 
 -- each split has the other ends, or keeps its ends
-pub record ArePut (old : List (List End)) (others : List (Option (List End))) (new : List (List End)) : Type 0 where
+pub record ArePut (old : List Grouped) (others : List (Option Grouped)) (new : List Grouped) : Type 0 where
   pub size : length new ≡ length old
   pub each : (s : ℕ) → ends_at new s ≡ unwrap_or (other_at others s) (ends_at old s)

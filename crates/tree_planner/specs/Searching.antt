@@ -1,21 +1,25 @@
 -- What a search for a slot keeps to, and what it finds.
 use Rattle.std.specs.Prelude.{ℕ, ◌≡◌, ◌≢◌, ◌+◌, ◌^◌, ◌<◌, ◌≤◌, ◌⊎◌, min, length}
 use Rattle.std.specs.Prelude.{Bool, count_by, nat_lt, slice_index_or}
+use Rattle.node_ids.specs.Sets.{Has}
 use Rattle.rack_tree.specs.Tree.{Tree}
 use Rattle.wave_problem.specs.declared.TheConstants.{MAX_SPLITS}
 use Rattle.wave_problem.specs.Wave.{Wave, reward}
 use Rattle.tree_flow.specs.declared.nodes.End.{End}
 use Rattle.tree_flow.specs.declared.nodes.Place.TheVariants.{Stands}
 use Rattle.tree_flow.specs.declared.nodes.TreeNode.{TreeNode}
-use Rattle.tree_flow.specs.declared.nodes.TreeNode.TheVariants.{Cluster}
+use Rattle.tree_flow.specs.declared.nodes.TreeNode.TheVariants.{Cluster, Rack}
 use Rattle.tree_planner.specs.declared.search.Candidate.{Candidate}
+use Rattle.tree_planner.specs.declared.search.Cover.{Cover}
 use Rattle.tree_planner.specs.declared.search.Goal.{Goal}
 use Rattle.tree_planner.specs.declared.search.Goal.TheVariants.{Wait, Slot, Off}
 use Rattle.tree_planner.specs.declared.search.Ground.{Ground}
+use Rattle.tree_planner.specs.declared.over.Leaving.{Leaving}
 use Rattle.tree_planner.specs.declared.search.Search.{Search}
 use Rattle.tree_planner.specs.declared.search.Step.{Step}
 use Rattle.tree_planner.specs.declared.search.Step.TheVariants.{Start, Down, Up, Over}
-use Rattle.tree_planner.specs.Ends.{AreEnds}
+use Rattle.tree_planner.specs.declared.split_ends.Group.{Group}
+use Rattle.tree_planner.specs.Ends.{ends_at, AreEnds, IsLeft, IsOf}
 use Rattle.tree_planner.specs.Hanging.{AreChildren}
 use Rattle.tree_flow.specs.Moves.{IsLookedFrom}
 use Rattle.tree_flow.specs.Nodes.{parent, AreNodes, IsEnd, IsKnown, IsNode}
@@ -56,6 +60,18 @@ order_at search v = at_or search.order 0 v
 abbrev pub reached_at : Search → ℕ → TreeNode
 reached_at search k = slice_index_or search.reached.nodes.items k Cluster
 
+-- what is known of the workers of a rack: nothing, where their distance with the reward is past twice the reward
+abbrev pub cover_at : Search → ℕ → Cover
+cover_at search r = at_or search.covers (record { offset = 2 ^ 41; split = search.split }) (Rack r)
+
+-- a worker that the groups of the split leave out
+abbrev pub IsOut : Ground → ℕ → ℕ → Type 0
+IsOut g s w = Has (ends_at g.ends.now s).barred w
+
+-- what is of the group is an end of the split
+abbrev pub AreOf : Ground → ℕ → (ℕ → Type 0) → Group → Type 0
+AreOf g s Out group = (x : End) → IsOf (wave_of g).tree Out group x → IsEnd (wave_of g) s x
+
 -- whether it was come to
 abbrev pub has_come : Search → TreeNode → Bool
 has_come search v = nat_lt (far_at search v) (2 ^ 40)
@@ -79,6 +95,7 @@ pub record HasTables (tree : Tree) (search : Search) : Type 0 where
   pub far : IsOver tree search.far
   pub how : IsOver tree search.how
   pub order : IsOver tree search.order
+  pub covers : IsOver tree search.covers
 
 -- no node was come to yet, and there is room for so many
 pub record IsBlank (tree : Tree) (nodes : ℕ) (search : Search) : Type 0 where
@@ -156,6 +173,12 @@ EndsIn g search bound Wait = bound ≡ search.limit
 EndsIn g search bound (Slot v) = EndsInSlot g search bound v
 EndsIn g search bound (Off t) = EndsOff g search bound t
 
+-- each worker of the rack that the cover's split does not leave out is as near as it says, or past the bound
+pub record IsCovered (g : Ground) (search : Search) (cover : Cover) (r : ℕ) : Type 0 where
+  pub known : cover.split < length (wave_of g).splits
+  pub near : (v : TreeNode) → IsLeft (wave_of g).tree (IsOut g cover.split) r v
+      → min search.bound (far_at search v) + reward (wave_of g) ≤ cover.offset + (state_at g).depth v
+
 -- what a search keeps to
 pub record IsSearching (g : Ground) (search : Search) : Type 0 where
   pub tables : HasTables (wave_of g).tree search
@@ -171,6 +194,7 @@ pub record IsSearching (g : Ground) (search : Search) : Type 0 where
   pub goal : EndsIn g search search.bound search.goal
   pub bottom : (v : TreeNode) → 0 < sum_under (wave_of g) v (state_at g).free → search.bound ≤ far_at search v
   pub shut : (v : TreeNode) → 0 < order_at search v → sum_under (wave_of g) v (state_at g).free ≡ 0
+  pub covered : (r : ℕ) → IsCovered g search (cover_at search r) r
 
 -- a node in which the way ends was looked from too, and no node before it has a free slot under it
 abbrev pub IsLastOne : Ground → Search → Goal → Type 0
@@ -223,6 +247,14 @@ pub record IsAt (search : Search) (c : TreeNode) : Type 0 where
   pub settled : 0 < order_at search c
   pub reached : far_at search c < search.limit
   pub last : (u : TreeNode) → 0 < order_at search u → far_at search u ≤ far_at search c
+
+-- a split stands at an end that the search looks from, which is so far and costs it so much
+pub record IsLeaving (g : Ground) (search : Search) (m : Leaving) : Type 0 where
+  pub known : m.split < length (wave_of g).splits
+  pub at : IsAt search m.end.node
+  pub far : m.far ≡ far_at search m.end.node
+  pub stands : place_of (state_at g) m.split ≡ Stands m.end
+  pub spent : m.spent ≡ reach_cost (wave_of g) (state_at g) m.split m.end
 
 -- what a search finds: it has looked from each node nearer than the goal
 pub record IsSearched (g : Ground) (search : Search) : Type 0 where

@@ -1,6 +1,7 @@
 -- What a search back from a hole keeps to, and what it finds: to which nodes the hole can move, and at what
 -- cost.
 use Rattle.std.specs.Prelude.{ℕ, ◌≡◌, ◌≢◌, ◌+◌, ◌<◌, ◌≤◌, ◌⊎◌, min, Option, Some, None, MatchOption}
+use Rattle.rack_tree.specs.Tree.{Tree}
 use Rattle.wave_problem.specs.Wave.{Wave, reward}
 use Rattle.tree_flow.specs.declared.nodes.End.{End}
 use Rattle.tree_flow.specs.declared.nodes.Place.TheVariants.{Stands, Waits}
@@ -103,6 +104,12 @@ pub record EndsJoined (h : Hollow) (search : SearchBack) (bound t : ℕ) (to : E
 abbrev pub EndsIn : Hollow → SearchBack → ℕ → Rest → Type 0
 EndsIn h search bound (Free v) = EndsFree h search bound v
 EndsIn h search bound (Join t to) = EndsJoined h search bound t to
+
+-- its tables have the nodes of the tree
+pub record HasTables (tree : Tree) (search : SearchBack) : Type 0 where
+  pub far : IsOver tree search.far
+  pub how : IsOver tree search.how
+  pub order : IsOver tree search.order
 
 -- a search back that has not come to any node yet
 pub record IsUnused (wave : Wave) (search : SearchBack) : Type 0 where

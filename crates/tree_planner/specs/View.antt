@@ -1,6 +1,7 @@
 -- The tables as a state.
 use Rattle.std.specs.Prelude.{ℕ, ◌≡◌, length, slice_index}
 use Rattle.wave_problem.specs.Wave.{Wave}
+use Rattle.tree_flow.specs.declared.node_table.NodeTable.{NodeTable}
 use Rattle.tree_planner.specs.declared.tables.Tables.{Tables}
 use Rattle.tree_flow.specs.declared.nodes.End.{End}
 use Rattle.tree_flow.specs.declared.nodes.Place.TheVariants.{Stands}
@@ -26,6 +27,10 @@ AreOnNodes wave t = (s : ℕ) (e : End) → place_of (state_of t) s ≡ Stands e
 -- each split that stands is on the list of its node
 abbrev pub AreListed : Tables → Type 0
 AreListed t = (s : ℕ) (e : End) → place_of (state_of t) s ≡ Stands e → HasListed t.standing e.node s
+
+-- the numbers are the sums of some numbers of workers
+abbrev pub AreSums : Wave → NodeTable ℕ → Type 0
+AreSums wave below = (free : ℕ → ℕ) × ((v : TreeNode) → at_node below v ≡ sum_under wave v free)
 
 -- The tables have an entry for each split, each node and each worker. They count the free slots under each
 -- node, and each split that stands is on the list of its node.

@@ -1,5 +1,6 @@
 -- The way of a hole that a search back found, along which units are moved until it is filled.
 use Rattle.std.specs.Prelude.{ℕ, ◌≡◌, ◌≢◌, ◌-◌, ◌<◌, ◌≤◌, ◌↔◌, Some}
+use Rattle.rack_tree.specs.Tree.{Tree}
 use Rattle.wave_problem.specs.Wave.{Wave, reward}
 use Rattle.tree_flow.specs.declared.node_table.NodeTable.{NodeTable}
 use Rattle.tree_flow.specs.declared.nodes.End.{End}
@@ -18,7 +19,13 @@ use Rattle.tree_flow.specs.Table.{at_node, IsOver}
 use Rattle.tree_planner.specs.declared.tables.Tables.{Tables}
 use Rattle.tree_planner.specs.Engine.{with_depth}
 use Rattle.tree_planner.specs.View.{state_of}
-use Rattle.tree_planner.specs.SearchingBack.{far_at, order_at, state_at, step_at}
+use Rattle.tree_planner.specs.declared.refill.Spare.{Spare}
+use Rattle.tree_planner.specs.SearchingBack.{far_at, order_at, state_at, step_at, HasTables}
+
+-- what a search back is lent has the nodes of the tree
+pub record IsSpare (tree : Tree) (spare : Spare) : Type 0 where
+  pub search : HasTables tree spare.search
+  pub depth : IsOver tree spare.depth
 
 -- a node nearer than the bound lies higher by the rest
 abbrev pub IsHigher : Hollow → SearchBack → TreeNode → ℕ → Type 0

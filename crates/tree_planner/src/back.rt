@@ -1,6 +1,7 @@
 //! A search for the cheapest way to fill a hole: a slot under a node that nobody has.
 ghost use Rattle.std.specs.Prelude.{◌≡◌, ◌≢◌, ◌+◌, ◌*◌, ◌<◌, ◌≤◌, ◌^◌, min, ℕ, length, IfOk, MatchOption};
-ghost use Rattle.std.specs.Prelude.{Contains, ◌↔◌};
+ghost use Rattle.node_ids.specs.Sets.{Has};
+ghost use Rattle.tree_planner.specs.Ends.{ends_at, IsOf};
 ghost use Rattle.wave_problem.specs.declared.TheConstants.{MAX_BYTES};
 ghost use Rattle.wave_problem.specs.Wave.{reward};
 ghost use Rattle.tree_flow.specs.declared.nodes.End.{End};
@@ -13,15 +14,17 @@ ghost use Rattle.tree_planner.specs.Hanging.{HangsFrom};
 ghost use Rattle.tree_planner.specs.declared.back.Hollow.{Hollow};
 ghost use Rattle.tree_planner.specs.SearchingBack.{order_at, far_at, far_of, state_at, wave_of, AreInto};
 ghost use Rattle.tree_planner.specs.SearchingBack.{EndsIn};
-ghost use Rattle.tree_planner.specs.SearchingBack.{HasLookedFrom, Improves, IsAt, IsDown, IsFresh};
+ghost use Rattle.tree_planner.specs.SearchingBack.{HasLookedFrom, HasTables, Improves, IsAt, IsDown, IsFresh};
 ghost use Rattle.tree_planner.specs.SearchingBack.{IsHollow, IsInto};
 ghost use Rattle.tree_planner.specs.SearchingBack.{IsNearest, IsSearched, IsSearching, IsUnused, LeadsTo};
 ghost use Rattle.tree_planner.specs.SearchingBack.{Settles};
 
 use crate::engine::Fixed;
+use crate::split_ends::{Ends, Group, is_left};
 use crate::tables::Tables;
 use crate::tree_nodes::{is_same, parent};
 use node_ids::SplitNo;
+use rack_tree::RackTree;
 use std::alloc::{AllocError, Global};
 use tree_flow::{End, NodeTable, Place, TreeNode};
 use wave_problem::Problem;
@@ -59,7 +62,6 @@ pub struct Hollow<'a> {
 
 /// From which node the hole starts, and how far it may go; how far each node is, how the hole comes to it, as
 /// which one it was looked from; and the nearest end of a way, and how far it is.
-#[derive(Drop)]
 pub struct SearchBack {
     pub hole: TreeNode,
     pub limit: u64,
@@ -71,33 +73,58 @@ pub struct SearchBack {
     pub goal: Rest,
 }
 
+// (one call wherever it is dropped)
+impl Drop for SearchBack {
+    fn drop(self) {
+        let SearchBack {
+            hole: _,
+            limit: _,
+            far: _,
+            how: _,
+            order: _,
+            looked: _,
+            bound: _,
+            goal: _,
+        } = self;
+    }
+}
+
 impl SearchBack {
-    /// Room for a search back from a node, where a start is worth so much: none was come to yet.
-    pub fn new(
-        alloc: Global,
-        problem: &Problem,
-        worth: u64,
-        hole: TreeNode,
-    ) -> Result<Self, AllocError>
-        requires worth { worth ≡ reward problem.now }
-        requires small { worth < 2 ^ 40 }
-        ensures hole { IfOk result (λ search. search.hole ≡ hole) }
-        ensures unused { IfOk result (λ search. IsUnused problem.now search) }
+    /// Room for searches back over a tree.
+    pub fn new(alloc: Global, tree: &RackTree) -> Result<Self, AllocError>
+        ensures { IfOk result (λ search. HasTables tree.now search) }
     {
-        let limit = worth + 1;
-        let far = NodeTable::new(alloc, problem.tree(), limit)?;
-        let how = NodeTable::new(alloc, problem.tree(), StepBack::Start)?;
-        let order = NodeTable::new(alloc, problem.tree(), 0)?;
+        let far = NodeTable::new(alloc, tree, 0)?;
+        let how = NodeTable::new(alloc, tree, StepBack::Start)?;
+        let order = NodeTable::new(alloc, tree, 0)?;
         Ok(SearchBack {
-            hole,
-            limit,
+            hole: TreeNode::Cluster,
+            limit: 0,
             far,
             how,
             order,
             looked: 0,
-            bound: limit,
-            goal: Rest::Free(hole),
+            bound: 0,
+            goal: Rest::Free(TreeNode::Cluster),
         })
+    }
+
+    /// Forgets what was found, for a search from a node, where a start is worth so much.
+    pub fn begin(&mut self, problem: &Problem, worth: u64, hole: TreeNode)
+        requires tables { HasTables problem.now.tree self.old }
+        requires worth { worth ≡ reward problem.now }
+        requires small { worth < 2 ^ 40 }
+        ensures hole { self.new.hole ≡ hole }
+        ensures unused { IsUnused problem.now self.new }
+    {
+        let _ = problem;
+        self.hole = hole;
+        self.limit = worth + 1;
+        self.far.fill(self.limit);
+        self.order.fill(0);
+        self.looked = 0;
+        self.bound = self.limit;
+        self.goal = Rest::Free(hole);
     }
 
     // How far a node is.
@@ -191,12 +218,12 @@ fn above(hollow: &Hollow<'_>, node: TreeNode) -> TreeNode
 }
 
 // The ends of a split.
-fn ends_of<'h>(hollow: &'h Hollow<'_>, split: u16) -> &'h [End]
+fn ends_of<'h>(hollow: &'h Hollow<'_>, split: u16) -> Ends<'h>
     requires hollow { IsHollow hollow.now }
     requires split { split < length (wave_of hollow.now).splits }
-    ensures { (e : End) → Contains result.now e ↔ IsEnd (wave_of hollow.now) split e }
+    ensures { result ≡ ends_at hollow.now.fixed.now.ends split }
 {
-    hollow.fixed.ends[split as usize].all()
+    hollow.fixed.ends.at(split as usize)
 }
 
 // What it costs the split to end at an end.
@@ -451,6 +478,7 @@ fn look_over(hollow: &Hollow<'_>, search: &mut SearchBack, node: TreeNode)
 fn over_split(hollow: &Hollow<'_>, search: &mut SearchBack, node: TreeNode, split: u16)
     requires hollow { IsHollow hollow.now }
     requires split { split < length (wave_of hollow.now).splits }
+    requires known { IsNode (wave_of hollow.now).tree node }
     requires searching { IsSearching hollow.now search.old }
     requires at { IsAt search.old node }
     ensures hole { search.new.hole ≡ search.old.hole }
@@ -459,8 +487,40 @@ fn over_split(hollow: &Hollow<'_>, search: &mut SearchBack, node: TreeNode, spli
     ensures over { AreInto hollow.now search.new node split }
 {
     let ends = ends_of(hollow, split);
-    for end in ends {
-        over_at(hollow, search, node, split, *end);
+    for group in ends.groups() {
+        over_group(hollow, search, node, split, &ends, *group);
+    }
+}
+
+// The same of the ends of a group.
+fn over_group(
+    hollow: &Hollow<'_>,
+    search: &mut SearchBack,
+    node: TreeNode,
+    split: u16,
+    ends: &Ends<'_>,
+    group: Group,
+)
+    requires hollow { IsHollow hollow.now }
+    requires split { split < length (wave_of hollow.now).splits }
+    requires group { (x : End) → IsOf (wave_of hollow.now).tree (Has ends.now.barred) group x
+        → IsEnd (wave_of hollow.now) split x }
+    requires searching { IsSearching hollow.now search.old }
+    requires known { IsNode (wave_of hollow.now).tree node }
+    requires at { IsAt search.old node }
+    ensures hole { search.new.hole ≡ search.old.hole }
+    ensures searching { IsSearching hollow.now search.new }
+    ensures improves { Improves search.old search.new }
+    ensures over { (x : End) → IsOf (wave_of hollow.now).tree (Has ends.now.barred) group x
+        → IsInto hollow.now search.new node split x }
+{
+    match group {
+        Group::Single(end) => over_at(hollow, search, node, split, end),
+        Group::Workers(rack, level) => {
+            if is_left(hollow.problem.tree(), ends, rack, node) {
+                step_over(hollow, search, split, End { node, level });
+            }
+        }
     }
 }
 

@@ -1,12 +1,16 @@
 //! What is cheapest for a split, where its ends show it without a search.
 ghost use Rattle.std.specs.Prelude.{◌≡◌, ◌<◌, ◌≤◌, ℕ, length, IfSome};
 ghost use Rattle.tree_flow.specs.declared.nodes.End.{End};
-ghost use Rattle.tree_flow.specs.Nodes.{IsEnd};
+ghost use Rattle.tree_flow.specs.Nodes.{IsEnd, IsNode};
 ghost use Rattle.tree_flow.specs.State.{reach_cost};
+ghost use Rattle.node_ids.specs.Sets.{Has};
+ghost use Rattle.tree_planner.specs.declared.split_ends.Group.TheVariants.{Workers};
 ghost use Rattle.tree_planner.specs.Choosing.{IsBetter, IsCheapest, IsChoice};
-ghost use Rattle.tree_planner.specs.Searching.{state_at, wave_of, IsGround};
+ghost use Rattle.tree_planner.specs.Ends.{IsLeft, IsOf};
+ghost use Rattle.tree_planner.specs.Searching.{state_at, wave_of, AreOf, IsGround};
 
-use crate::search::{Ground, cost_at, ends_of};
+use crate::search::{Ground, cost_at, end_cost, ends_of, workers_in};
+use crate::split_ends::{Ends, Group, is_left};
 use tree_flow::End;
 
 /// What is done with a split.
@@ -16,8 +20,8 @@ pub enum Choice {
     Wait,
     /// It stands at this end, under which a slot is free.
     Stand(End),
-    /// The cheapest way is to be searched.
-    Search,
+    /// The cheapest way is to be searched. No end costs less than this.
+    Search(u64),
 }
 
 /// The least cost of the ends of a split, or of waiting, and an end of that cost with a free slot under it,
@@ -40,7 +44,7 @@ pub fn choose(ground: &Ground<'_>, split: u16) -> Choice
     }
     match cheapest.end {
         Some(end) => Choice::Stand(end),
-        None => Choice::Search,
+        None => Choice::Search(cheapest.least),
     }
 }
 
@@ -56,8 +60,84 @@ fn cheapest_end(ground: &Ground<'_>, split: u16) -> Cheapest
         end: None,
     };
     let ends = ends_of(ground, split);
-    for end in ends {
-        best = better(ground, split, best, *end);
+    for group in ends.groups() {
+        best = best_of(ground, split, best, &ends, *group);
+    }
+    best
+}
+
+// The cheapest of the best end so far and of the ends of a group.
+fn best_of(
+    ground: &Ground<'_>,
+    split: u16,
+    best: Cheapest,
+    ends: &Ends<'_>,
+    group: Group,
+) -> Cheapest
+    requires ground { IsGround ground.now }
+    requires split { split < length (wave_of ground.now).splits }
+    requires group { AreOf ground.now split (Has ends.now.barred) group }
+    requires cheapest { IsCheapest ground.now split best }
+    ensures cheapest { IsCheapest ground.now split result }
+    ensures before { result.least ≤ best.least }
+    ensures better { (x : End) → IsOf (wave_of ground.now).tree (Has ends.now.barred) group x
+        → result.least ≤ reach_cost (wave_of ground.now) (state_at ground.now) split x }
+{
+    match group {
+        Group::Single(end) => better(ground, split, best, end),
+        Group::Workers(rack, level) => best_worker(ground, split, best, ends, rack, level),
+    }
+}
+
+// The same of workers of a rack. None of them costs less than one that lies at 0.
+fn best_worker(
+    ground: &Ground<'_>,
+    split: u16,
+    best: Cheapest,
+    ends: &Ends<'_>,
+    rack: u16,
+    level: u8,
+) -> Cheapest
+    requires ground { IsGround ground.now }
+    requires split { split < length (wave_of ground.now).splits }
+    requires group { AreOf ground.now split (Has ends.now.barred) (Workers rack level) }
+    requires cheapest { IsCheapest ground.now split best }
+    ensures cheapest { IsCheapest ground.now split result }
+    ensures before { result.least ≤ best.least }
+    ensures better { (x : End) → IsOf (wave_of ground.now).tree (Has ends.now.barred) (Workers rack level) x
+        → result.least ≤ reach_cost (wave_of ground.now) (state_at ground.now) split x }
+{
+    let mut best = best;
+    if best.least < end_cost(ground, split, level) {
+        return best;
+    }
+    let nodes = workers_in(ground, rack);
+    for node in nodes {
+        best = better_node(ground, split, best, ends, rack, End { node: *node, level });
+    }
+    best
+}
+
+// The same of one node of a rack.
+fn better_node(
+    ground: &Ground<'_>,
+    split: u16,
+    best: Cheapest,
+    ends: &Ends<'_>,
+    rack: u16,
+    end: End,
+) -> Cheapest
+    requires ground { IsGround ground.now }
+    requires known { IsNode (wave_of ground.now).tree end.node }
+    requires group { AreOf ground.now split (Has ends.now.barred) (Workers rack end.level) }
+    requires cheapest { IsCheapest ground.now split best }
+    ensures cheapest { IsCheapest ground.now split result }
+    ensures before { result.least ≤ best.least }
+    ensures better { IsLeft (wave_of ground.now).tree (Has ends.now.barred) rack end.node
+        → result.least ≤ reach_cost (wave_of ground.now) (state_at ground.now) split end }
+{
+    if is_left(ground.problem.tree(), ends, rack, end.node) {
+        return better(ground, split, best, end);
     }
     best
 }

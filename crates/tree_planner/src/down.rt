@@ -4,15 +4,16 @@ ghost use Rattle.tree_flow.specs.declared.nodes.TreeNode.{TreeNode};
 ghost use Rattle.tree_flow.specs.declared.nodes.TreeNode.TheVariants.{Worker};
 ghost use Rattle.tree_flow.specs.Nodes.{is_under, IsKnown, IsNode};
 ghost use Rattle.tree_flow.specs.State.{sum_under, IsKept, IsKeptBut};
-ghost use Rattle.tree_flow.specs.Table.{at_node};
+ghost use Rattle.tree_flow.specs.Table.{at_node, IsOver};
 ghost use Rattle.tree_planner.specs.Hanging.{AreChildren, HangsFrom};
-ghost use Rattle.tree_planner.specs.View.{state_of, AreTables};
+ghost use Rattle.tree_planner.specs.View.{state_of, AreSums, AreTables};
 
 use crate::children::Children;
+use crate::cursors::{Cursors, child_with};
 use crate::follow::{set_flow, take_slot};
 use crate::tables::Tables;
 use crate::tree_nodes::{is_same, parent};
-use tree_flow::TreeNode;
+use tree_flow::{NodeTable, TreeNode};
 use wave_problem::Problem;
 
 /// Takes a free slot under a node, from which a unit more goes down to it: a hole is left at the node.
@@ -30,20 +31,27 @@ pub fn take_below(problem: &Problem, children: &Children, tables: &mut Tables, n
     ensures flows { (c : TreeNode) → sum_under problem.now c (state_of tables.old).free ≡ 0
         → (state_of tables.new).flow c ≡ (state_of tables.old).flow c }
 {
-    let worker = free_worker(problem, children, tables, node);
+    let worker = free_worker(problem, children, &tables.below, &mut tables.cursors, node);
     take_slot(problem, tables, worker);
     raise_hole(problem, tables, TreeNode::Worker(worker), node);
 }
 
 // A worker under the node that has a free slot.
-fn free_worker(problem: &Problem, children: &Children, tables: &Tables, node: TreeNode) -> u16
+fn free_worker(
+    problem: &Problem,
+    children: &Children,
+    below: &NodeTable<u64>,
+    cursors: &mut Cursors,
+    node: TreeNode,
+) -> u16
     requires children { AreChildren problem.now.tree children.now }
     requires wave { IsKnown problem.now }
-    requires tables { AreTables problem.now tables.now }
+    requires over { IsOver problem.now.tree below.now }
+    requires sums { AreSums problem.now below.now }
     requires known { IsNode problem.now.tree node }
-    requires some { 0 < at_node tables.now.below node }
+    requires some { 0 < at_node below.now node }
     ensures known { result < length problem.now.workers }
-    ensures free { 0 < (state_of tables.now).free result }
+    ensures free { 0 < at_node below.now (Worker result) }
     ensures under { is_under problem.now.tree (Worker result) node ≡ true }
 {
     let mut at = node;
@@ -51,27 +59,32 @@ fn free_worker(problem: &Problem, children: &Children, tables: &Tables, node: Tr
         if let TreeNode::Worker(worker) = at {
             return worker;
         }
-        at = free_child(problem, children, tables, at);
+        at = free_child(problem, children, below, cursors, at);
     }
 }
 
 // A node that hangs from another and has a free slot under it.
-fn free_child(problem: &Problem, children: &Children, tables: &Tables, node: TreeNode) -> TreeNode
+fn free_child(
+    problem: &Problem,
+    children: &Children,
+    below: &NodeTable<u64>,
+    cursors: &mut Cursors,
+    node: TreeNode,
+) -> TreeNode
     requires children { AreChildren problem.now.tree children.now }
     requires wave { IsKnown problem.now }
-    requires tables { AreTables problem.now tables.now }
+    requires over { IsOver problem.now.tree below.now }
+    requires sums { AreSums problem.now below.now }
     requires known { IsNode problem.now.tree node }
     requires inner { (w : ℕ) → node ≢ Worker w }
-    requires some { 0 < at_node tables.now.below node }
+    requires some { 0 < at_node below.now node }
     ensures hangs { HangsFrom problem.now.tree node result }
-    ensures some { 0 < at_node tables.now.below result }
+    ensures some { 0 < at_node below.now result }
 {
-    for below in children.of(problem.tree(), node) {
-        if tables.below.get(*below) > 0 {
-            return *below;
-        }
+    match child_with(problem.tree(), children, below, cursors, node) {
+        Some(child) => child,
+        None => unreachable!(),
     }
-    unreachable!()
 }
 
 // Moves a hole up from one node to another, over nodes that all lie at 0: a unit more goes down to each.

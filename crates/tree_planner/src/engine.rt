@@ -10,20 +10,21 @@ ghost use Rattle.tree_planner.specs.Searching.{HasReached, HasTables, IsBlank, I
 ghost use Rattle.tree_flow.specs.Table.{at_node};
 ghost use Rattle.tree_flow.specs.State.{place_of};
 ghost use Rattle.tree_planner.specs.View.{state_of};
-ghost use Rattle.tree_planner.specs.Choosing.{IsChoice};
+ghost use Rattle.tree_planner.specs.Choosing.{IsChoice, IsLeast};
 ghost use Rattle.tree_planner.specs.Way.{AreDeeper, AreOthersSame, IsReady, StartsTight};
 
 use crate::children::{Children, all_children};
 use crate::choice::{Choice, choose};
 use crate::down::take_below;
 use crate::follow::{deepen, follow, place};
-use crate::hand_down::{all_starts, place_at};
+use crate::hand_down::{Starts, all_starts, place_at};
 use crate::order::shipping_order;
 use crate::prices::prices_of;
 use crate::search::{Ground, Search, find_way};
-use crate::split_ends::{Ends, all_ends};
+use crate::split_ends::{AllEnds, all_ends};
 use crate::tables::{Tables, fresh_tables, slots_under};
 use crate::tree_nodes::all_nodes;
+use node_ids::{SplitNo, WorkerNo};
 use price_certificate::Prices;
 use std::alloc::{AllocError, Global};
 use tree_flow::{End, NodeTable, Place, TreeNode};
@@ -31,13 +32,25 @@ use wave_problem::{Plan, Problem};
 
 /// What of a problem a search reads beside it: the nodes of its tree, the nodes that hang from each, the ends
 /// of its splits, how many slots there are under each node, and what a start is worth.
-#[derive(Drop)]
 pub struct Fixed {
     pub nodes: Vec<TreeNode>,
     pub children: Children,
-    pub ends: Vec<Ends>,
+    pub ends: AllEnds,
     pub slots: NodeTable<u64>,
     pub reward: u64,
+}
+
+// (one call wherever it is dropped)
+impl Drop for Fixed {
+    fn drop(self) {
+        let Fixed {
+            nodes: _,
+            children: _,
+            ends: _,
+            slots: _,
+            reward: _,
+        } = self;
+    }
 }
 
 /// What a search reads of a problem.
@@ -75,7 +88,7 @@ pub fn ship(problem: &Problem, fixed: &Fixed, tables: &mut Tables, search: &mut 
     match choice(problem, fixed, tables, split) {
         Choice::Wait => place(problem, tables, split, Place::Waits),
         Choice::Stand(end) => stand(problem, fixed, tables, split, end),
-        Choice::Search => search_and_follow(problem, fixed, tables, search, split),
+        Choice::Search(least) => search_and_follow(problem, fixed, tables, search, split, least),
     }
 }
 
@@ -132,30 +145,40 @@ fn search_and_follow(
     tables: &mut Tables,
     search: &mut Search,
     split: u16,
+    least: u64,
 )
     requires fixed { IsFixed problem.now fixed.now }
     requires standing { IsStanding problem.now tables.old }
     requires blank { IsBlank problem.now.tree (length fixed.now.nodes.items) search.old }
     requires split { split < length problem.now.splits }
     requires unshipped { place_of (state_of tables.old) split ≡ Unshipped }
+    requires least { IsLeast problem.now (state_of tables.old) split least }
     ensures standing { IsStanding problem.now tables.new }
     ensures shipped { place_of (state_of tables.new) split ≢ Unshipped }
     ensures others { AreOthersSame (state_of tables.old) (state_of tables.new) split }
     ensures blank { IsBlank problem.now.tree (length fixed.now.nodes.items) search.new }
 {
-    find(problem, fixed, tables, search, split);
+    find(problem, fixed, tables, search, split, least);
     deepen(problem, fixed.reward, &mut tables.depth, search);
     follow(problem, &fixed.children, tables, search);
     search.clear(problem.tree());
 }
 
 // Searches a cheapest way for a split, which costs nothing once the nodes lie deeper.
-fn find(problem: &Problem, fixed: &Fixed, tables: &Tables, search: &mut Search, split: u16)
+fn find(
+    problem: &Problem,
+    fixed: &Fixed,
+    tables: &Tables,
+    search: &mut Search,
+    split: u16,
+    least: u64,
+)
     requires fixed { IsFixed problem.now fixed.now }
     requires standing { IsStanding problem.now tables.now }
     requires blank { IsBlank problem.now.tree (length fixed.now.nodes.items) search.old }
     requires split { split < length problem.now.splits }
     requires unshipped { place_of (state_of tables.now) split ≡ Unshipped }
+    requires least { IsLeast problem.now (state_of tables.now) split least }
     ensures split { search.new.split ≡ split }
     ensures tables { HasTables problem.now.tree search.new }
     ensures reached { HasReached problem.now.tree search.new }
@@ -165,7 +188,7 @@ fn find(problem: &Problem, fixed: &Fixed, tables: &Tables, search: &mut Search, 
     ensures ready { (depth : NodeTable ℕ) → AreDeeper (reward problem.now) tables.now.depth search.new depth
         → IsReady problem.now (with_depth (state_of tables.now) depth) search.new }
 {
-    find_way(&ground_of(problem, fixed, tables), search, split);
+    find_way(&ground_of(problem, fixed, tables), search, split, least);
 }
 
 /// Ships the split of this number, unless it is shipped already, by a search that is blank before and after.
@@ -289,7 +312,16 @@ pub fn plan(alloc: Global, problem: &Problem) -> Result<(Plan, Prices), AllocErr
     problem.limits();
     let base = fixed_parts(alloc, problem)?;
     let tables = all_shipped(alloc, problem, &base)?;
-    read_off(alloc, problem, &base, &tables)
+    let found = read_off(alloc, problem, &base, &tables)?;
+    Ok((found.plan, found.prices))
+}
+
+/// A plan with prices that certify it, and its splits that start, each with its worker, by rising split.
+#[derive(Drop)]
+pub struct Found {
+    pub plan: Plan,
+    pub prices: Prices,
+    pub pairs: Vec<(SplitNo, WorkerNo)>,
 }
 
 /// The plan and the prices that the tables show.
@@ -298,21 +330,27 @@ pub fn read_off(
     problem: &Problem,
     fixed: &Fixed,
     tables: &Tables,
-) -> Result<(Plan, Prices), AllocError>
+) -> Result<Found, AllocError>
     requires fixed { IsFixed problem.now fixed.now }
     requires standing { IsStanding problem.now tables.now }
     requires shipped { (s : ℕ) → s < length problem.now.splits
         → place_of (state_of tables.now) s ≢ Unshipped }
     ensures sizes { IfOk result
-        (λ pair. HasOneSize (claim problem.now pair.0.starts pair.1) pair.0.workers) }
-    ensures certifies { IfOk result (λ pair. Certifies (claim problem.now pair.0.starts pair.1)) }
-    ensures idle { IfOk result (λ pair. (w : ℕ) → (IsUsable problem.now.workers w → ⊥)
-        → worker_price pair.1 w ≡ 0) }
-    ensures best { IfOk result (λ pair. IsBest problem.now (pairs_of pair.0.starts)) }
+        (λ found. HasOneSize (claim problem.now found.plan.starts found.prices) found.plan.workers) }
+    ensures certifies { IfOk result
+        (λ found. Certifies (claim problem.now found.plan.starts found.prices)) }
+    ensures idle { IfOk result (λ found. (w : ℕ) → (IsUsable problem.now.workers w → ⊥)
+        → worker_price found.prices w ≡ 0) }
+    ensures best { IfOk result (λ found. IsBest problem.now (pairs_of found.plan.starts)) }
+    ensures pairs { IfOk result (λ found. found.pairs.items ≡ pairs_of found.plan.starts) }
 {
     problem.limits();
-    let starts = all_starts(alloc, problem, &fixed.nodes, &fixed.children, tables)?;
-    let plan = Plan::from_starts(starts, problem.workers());
-    let prices = prices_of(alloc, problem, fixed.reward, tables, &plan)?;
-    Ok((plan, prices))
+    let starts = all_starts(alloc, problem, &fixed.children, tables)?;
+    let prices = prices_of(alloc, problem, fixed.reward, tables, &starts)?;
+    let Starts { each, pairs } = starts;
+    Ok(Found {
+        plan: Plan::from_starts(each, problem.workers()),
+        prices,
+        pairs,
+    })
 }

@@ -1,5 +1,5 @@
 //! What happens to a wave, told to the state that is kept for it.
-ghost use Rattle.std.specs.Prelude.{◌≡◌, ◌≢◌, ◌+◌, ◌<◌, ◌≤◌, ◌↔◌, ℕ, true, false, Contains, IfOk};
+ghost use Rattle.std.specs.Prelude.{◌≡◌, ◌≢◌, ◌+◌, ◌<◌, ◌≤◌, ◌↔◌, ℕ, true, false, IfOk};
 ghost use Rattle.std.specs.Prelude.{OnErr, OnOk, Some, length};
 ghost use Rattle.wave_problem.specs.declared.TheConstants.{MAX_SLOTS};
 ghost use Rattle.wave_problem.specs.Wave.{split_at, worker_at, IsAdmissible, IsUsable, Wave};
@@ -13,21 +13,21 @@ ghost use Rattle.tree_planner.specs.Hanging.{AreChildren};
 ghost use Rattle.tree_flow.specs.State.{place_of};
 ghost use Rattle.tree_flow.specs.Table.{at_node};
 ghost use Rattle.tree_planner.specs.Engine.{IsFixed, IsStanding, IsStandingBut};
+ghost use Rattle.tree_planner.specs.Ends.{HasEnd};
 ghost use Rattle.tree_planner.specs.Events.{slot_less, slot_more, started, with_pending};
 ghost use Rattle.tree_planner.specs.View.{state_of};
 ghost use Rattle.tree_planner.specs.Way.{AreOthersSame};
-ghost use Rattle.tree_planner.specs.WayBack.{AreAllSame};
+ghost use Rattle.tree_planner.specs.WayBack.{AreAllSame, IsSpare};
 
-use crate::back::SearchBack;
 use crate::engine::Fixed;
 use crate::follow::{place, stood_at};
-use crate::refill::{deepen, fill, sink};
-use crate::split_ends::Ends;
+use crate::refill::{Spare, deepen, fill, sink};
+use crate::split_ends::OwnEnds;
 use crate::tables::{Tables, add_above, one_less_above};
 use crate::tree_nodes::node_above;
 use node_ids::{SplitNo, WorkerNo};
 use std::alloc::{AllocError, Global};
-use tree_flow::{End, NodeTable, Place, TreeNode};
+use tree_flow::{End, Place, TreeNode};
 use wave_problem::{Problem, WorkerLine};
 
 /// Where a split is.
@@ -39,33 +39,29 @@ pub fn place_at(tables: &Tables, split: u16) -> Place
 }
 
 /// A slot of a worker comes back: a split that waits may take it, splits may change their places for it, or
-/// it stays free. Without memory nothing changes.
+/// it stays free.
 pub fn free(
-    alloc: Global,
     problem: &mut Problem,
     fixed: &mut Fixed,
     tables: &mut Tables,
+    spare: &mut Spare,
     worker: WorkerNo,
-) -> Result<(), AllocError>
+)
     requires fixed { IsFixed problem.old fixed.old }
     requires standing { IsStanding problem.old tables.old }
+    requires spare { IsSpare problem.old.tree spare.old }
     requires worker { worker < length problem.old.workers }
     requires live { (worker_at problem.old worker).live ≡ true }
     requires room { (worker_at problem.old worker).free < MAX_SLOTS }
-    ensures wave { OnOk result (problem.new ≡ slot_more problem.old worker) }
-    ensures fixed { OnOk result (IsFixed problem.new fixed.new) }
-    ensures standing { OnOk result (IsStanding problem.new tables.new) }
-    ensures unshipped { OnOk result (AreAllSame (state_of tables.old) (state_of tables.new)) }
-    ensures err_wave { OnErr result (problem.new ≡ problem.old) }
-    ensures err_fixed { OnErr result (fixed.new ≡ fixed.old) }
-    ensures err_tables { OnErr result (tables.new ≡ tables.old) }
+    ensures wave { problem.new ≡ slot_more problem.old worker }
+    ensures fixed { IsFixed problem.new fixed.new }
+    ensures standing { IsStanding problem.new tables.new }
+    ensures unshipped { AreAllSame (state_of tables.old) (state_of tables.new) }
+    ensures spare { IsSpare problem.old.tree spare.new }
 {
     let hole = TreeNode::Worker(worker.index() as u16);
-    let mut search = SearchBack::new(alloc, problem, fixed.reward, hole)?;
-    let depth = NodeTable::new(alloc, problem.tree(), 0)?;
     add_slot(problem, fixed, tables, worker);
-    fill(problem, fixed, tables, &mut search, depth);
-    Ok(())
+    fill(problem, fixed, tables, spare, hole);
 }
 
 // Gives a worker one slot more, which nobody has yet.
@@ -198,7 +194,7 @@ fn set_aside(
 {
     let _ = tables;
     problem.set_pending(split, false);
-    fixed.ends[split.index()] = Ends::none(alloc);
+    fixed.ends.put(split.index(), OwnEnds::none(alloc));
 }
 
 // Lets a split wait that has no ends.
@@ -257,7 +253,7 @@ pub fn pend(
     ensures err_tables { OnErr result (tables.new ≡ tables.old) }
 {
     let ends = pending_ends(alloc, problem, fixed, split)?;
-    fixed.ends[split.index()] = ends;
+    fixed.ends.put(split.index(), ends);
     lay_off(tables, split.index() as u16);
     Ok(())
 }
@@ -268,16 +264,16 @@ fn pending_ends(
     problem: &mut Problem,
     fixed: &Fixed,
     split: SplitNo,
-) -> Result<Ends, AllocError>
+) -> Result<OwnEnds, AllocError>
     requires children { AreChildren problem.old.tree fixed.now.children }
     requires split { split < length problem.old.splits }
     requires idle { (split_at problem.old split).pending ≡ false }
     ensures wave { OnOk result (problem.new ≡ with_pending problem.old split true) }
-    ensures ends { IfOk result (λ ends. (e : End) → Contains ends e ↔ IsEnd problem.new split e) }
+    ensures ends { IfOk result (λ ends. (e : End) → HasEnd problem.new.tree ends e ↔ IsEnd problem.new split e) }
     ensures err { OnErr result (problem.new ≡ problem.old) }
 {
     problem.set_pending(split, true);
-    match Ends::of(alloc, problem, &fixed.children, split) {
+    match OwnEnds::of(alloc, problem, &fixed.children, split) {
         Ok(ends) => Ok(ends),
         Err(error) => {
             problem.set_pending(split, false);

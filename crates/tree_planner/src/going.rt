@@ -5,7 +5,7 @@ ghost use Rattle.wave_problem.specs.Wave.{worker_at, IsUsable, Wave};
 ghost use Rattle.tree_flow.specs.declared.nodes.Place.TheVariants.{Unshipped};
 ghost use Rattle.tree_flow.specs.Slots.{with_workers};
 ghost use Rattle.tree_flow.specs.State.{place_of};
-ghost use Rattle.tree_planner.specs.Going.{HasLine, HasMore, HasSameGround, IsHeldBack};
+ghost use Rattle.tree_planner.specs.Going.{HasLine, HasMore, IsHeldBack};
 ghost use Rattle.tree_planner.specs.Shown.{state_in};
 
 use crate::kept::Engine;
@@ -63,7 +63,10 @@ impl Engine {
         slots: u64,
     ) -> Result<(), AllocError>
         requires { worker < length self.old.wave.workers }
-        ensures { OnOk result (HasSameGround self.old.wave self.new.wave) }
+        ensures only { OnOk result
+            (HasLine self.old.wave self.new.wave worker (worker_at self.new.wave worker)) }
+        ensures live { OnOk result
+            ((worker_at self.new.wave worker).live ≡ (worker_at self.old.wave worker).live) }
     {
         for _k in 0..MAX_SLOTS {
             if !has_surplus(self.problem(), worker, slots) {
@@ -85,7 +88,8 @@ impl Engine {
         Ok(())
     }
 
-    fn gain_up_to(
+    /// Frees slots of a worker until it has as many as a line says.
+    pub fn gain_up_to(
         &mut self,
         alloc: Global,
         worker: WorkerNo,

@@ -1,48 +1,90 @@
 //! Units handed down to workers.
-ghost use Rattle.std.specs.Prelude.{◌≡◌, ◌≢◌, ℕ, ◌<◌, ◌≤◌, ◌++◌, ◌∷◌, [], IfOk, IfSome, All, length, None};
+ghost use Rattle.std.specs.Prelude.{◌≡◌, ◌≢◌, ℕ, ◌<◌, ◌≤◌, ◌++◌, ◌∷◌, ◌^◌, [], IfOk, IfSome, OnOk, All, length};
+ghost use Rattle.std.specs.Prelude.{vec_capacity, None};
+ghost use Rattle.wave_problem.specs.Assignment.{pairs_of};
 ghost use Rattle.tree_flow.specs.declared.nodes.End.{End};
 ghost use Rattle.tree_flow.specs.declared.nodes.Place.TheVariants.{Unshipped};
 ghost use Rattle.tree_flow.specs.declared.nodes.TreeNode.{TreeNode};
 ghost use Rattle.tree_flow.specs.declared.nodes.TreeNode.TheVariants.{Cluster, Worker};
 ghost use Rattle.tree_planner.specs.Hanging.{AreChildren};
 ghost use Rattle.tree_planner.specs.Handing.{landed, HasUnitAt, IsHandedTo, IsUnitAt};
-ghost use Rattle.tree_flow.specs.Nodes.{parent, AreNodes, IsKnown, IsNode};
+ghost use Rattle.tree_flow.specs.Nodes.{parent, IsKnown, IsNode};
 ghost use Rattle.tree_flow.specs.Settled.{HasComeDown, IsHandedDown};
 ghost use Rattle.tree_flow.specs.State.{State, place_of, IsBalancedBut, IsKept};
 ghost use Rattle.tree_flow.specs.Table.{at_node, IsOver};
 ghost use Rattle.tree_planner.specs.View.{state_of, AreTables};
 
 use crate::children::Children;
+use crate::cursors::{Cursors, child_with};
 use crate::tables::Tables;
-use node_ids::WorkerNo;
+use node_ids::{SplitNo, WorkerNo};
 use std::alloc::{AllocError, Global};
 use tree_flow::{NodeTable, Place, TreeNode};
 use wave_problem::Problem;
+
+/// The start of each split, and the splits that start, each with its worker, by rising split.
+#[derive(Drop)]
+pub struct Starts {
+    pub each: Vec<Option<WorkerNo>>,
+    pub pairs: Vec<(SplitNo, WorkerNo)>,
+}
+
+impl Starts {
+    // Adds the start of the next split.
+    fn add(&mut self, start: Option<WorkerNo>) -> Result<(), AllocError>
+        requires few { length self.old.each.items < 2 ^ 16 }
+        requires room { length self.old.each.items < vec_capacity self.old.each }
+        requires pairs { self.old.pairs.items ≡ pairs_of self.old.each.items }
+        ensures each { OnOk result (self.new.each.items ≡ self.old.each.items ++ start ∷ []) }
+        ensures room { OnOk result (vec_capacity self.new.each ≡ vec_capacity self.old.each) }
+        ensures pairs { OnOk result (self.new.pairs.items ≡ pairs_of self.new.each.items) }
+    {
+        let Some(worker) = start else {
+            self.each.push_reserved(None);
+            return Ok(());
+        };
+        let split = SplitNo::new(self.each.len() as u16);
+        self.pairs.push((split, worker))?;
+        self.each.push_reserved(Some(worker));
+        Ok(())
+    }
+}
 
 /// The start of each split: where one stands, a worker to which its unit goes down.
 pub fn all_starts(
     alloc: Global,
     problem: &Problem,
-    nodes: &[TreeNode],
     children: &Children,
     tables: &Tables,
-) -> Result<Vec<Option<WorkerNo>>, AllocError>
-    requires nodes { AreNodes problem.now.tree nodes.now }
+) -> Result<Starts, AllocError>
     requires children { AreChildren problem.now.tree children.now }
     requires tables { AreTables problem.now tables.now }
     requires kept { IsKept problem.now (state_of tables.now) }
     requires shipped { (s : ℕ) → s < length problem.now.splits
         → place_of (state_of tables.now) s ≢ Unshipped }
-    ensures down { IfOk result (λ starts. IsHandedDown problem.now (state_of tables.now) starts.items) }
+    ensures down { IfOk result
+        (λ starts. IsHandedDown problem.now (state_of tables.now) starts.each.items) }
     ensures known { IfOk result
-        (λ starts. All (λ start. IfSome start (λ w. w < length problem.now.workers)) starts.items) }
+        (λ starts. All (λ start. IfSome start (λ w. w < length problem.now.workers)) starts.each.items) }
+    ensures pairs { IfOk result (λ starts. starts.pairs.items ≡ pairs_of starts.each.items) }
 {
     problem.limits();
-    let mut left = copy_of(alloc, problem, nodes, &tables.flow)?;
-    let mut starts = Vec::with_capacity(alloc, problem.splits())?;
+    let mut left = tables.flow.copy(alloc)?;
+    let mut cursors = Cursors::new(alloc, problem.tree())?;
+    let mut starts = Starts {
+        each: Vec::with_capacity(alloc, problem.splits())?,
+        pairs: Vec::new(alloc),
+    };
     for _k in 0..problem.splits() {
-        let start = next_start(problem, children, tables, &mut left, &starts);
-        starts.push(start)?;
+        let start = next_start(
+            problem,
+            children,
+            tables,
+            &mut left,
+            &mut cursors,
+            &starts.each,
+        );
+        starts.add(start)?;
     }
     Ok(starts)
 }
@@ -53,6 +95,7 @@ fn next_start(
     children: &Children,
     tables: &Tables,
     left: &mut NodeTable<u64>,
+    cursors: &mut Cursors,
     starts: &[Option<WorkerNo>],
 ) -> Option<WorkerNo>
     requires children { AreChildren problem.now.tree children.now }
@@ -69,7 +112,7 @@ fn next_start(
 {
     match place_at(tables, starts.len()) {
         Place::Stands(end) => {
-            let worker = go_down(problem, children, left, end.node);
+            let worker = go_down(problem, children, left, cursors, end.node);
             Some(WorkerNo::new(worker))
         }
         _ => None,
@@ -85,7 +128,13 @@ pub fn place_at(tables: &Tables, split: usize) -> Place
 }
 
 // The worker to which a unit goes down from a node; on the way it is taken from what comes to each node.
-fn go_down(problem: &Problem, children: &Children, left: &mut NodeTable<u64>, node: TreeNode) -> u16
+fn go_down(
+    problem: &Problem,
+    children: &Children,
+    left: &mut NodeTable<u64>,
+    cursors: &mut Cursors,
+    node: TreeNode,
+) -> u16
     requires children { AreChildren problem.now.tree children.now }
     requires known { IsNode problem.now.tree node }
     requires over { IsOver problem.now.tree left.old }
@@ -102,10 +151,10 @@ fn go_down(problem: &Problem, children: &Children, left: &mut NodeTable<u64>, no
     if let TreeNode::Worker(worker) = node {
         return worker;
     }
-    let below = unit_below(problem, children, left, node);
+    let below = unit_below(problem, children, left, cursors, node);
     let units = left.get(below) - 1;
     left.set(below, units);
-    go_down(problem, children, left, below)
+    go_down(problem, children, left, cursors, below)
 }
 
 // A node to which units come from the one from which it hangs.
@@ -113,6 +162,7 @@ fn unit_below(
     problem: &Problem,
     children: &Children,
     left: &NodeTable<u64>,
+    cursors: &mut Cursors,
     node: TreeNode,
 ) -> TreeNode
     requires children { AreChildren problem.now.tree children.now }
@@ -126,29 +176,8 @@ fn unit_below(
     ensures hangs { result ≢ Cluster }
     ensures some { 0 < at_node left.now result }
 {
-    for below in children.of(problem.tree(), node) {
-        if left.get(*below) > 0 {
-            return *below;
-        }
+    match child_with(problem.tree(), children, left, cursors, node) {
+        Some(below) => below,
+        None => unreachable!(),
     }
-    unreachable!()
-}
-
-// Another table with the same numbers.
-fn copy_of(
-    alloc: Global,
-    problem: &Problem,
-    nodes: &[TreeNode],
-    flow: &NodeTable<u64>,
-) -> Result<NodeTable<u64>, AllocError>
-    requires nodes { AreNodes problem.now.tree nodes.now }
-    requires over { IsOver problem.now.tree flow.now }
-    ensures over { IfOk result (λ copy. IsOver problem.now.tree copy) }
-    ensures same { IfOk result (λ copy. (v : TreeNode) → at_node copy v ≡ at_node flow.now v) }
-{
-    let mut copy = NodeTable::new(alloc, problem.tree(), 0)?;
-    for node in nodes {
-        copy.set(*node, flow.get(*node));
-    }
-    Ok(copy)
 }

@@ -13,10 +13,11 @@ ghost use Rattle.tree_flow.specs.State.{place_of, IsKept};
 ghost use Rattle.tree_planner.specs.Way.{AreOthersSame};
 ghost use Rattle.wave_problem.specs.Assignment.{pairs_of, IsBest};
 
-use crate::engine::{Fixed, fixed_parts, read_off, ship, ship_rest};
+use crate::engine::{Fixed, Found, fixed_parts, read_off, ship, ship_rest};
 use crate::events::{free, pass_over, pend, place_at, start};
 use crate::like::is_like;
 use crate::lose::lose;
+use crate::refill::Spare;
 use crate::renewed::renew;
 use crate::search::Search;
 use crate::tables::{Tables, fresh_tables};
@@ -30,22 +31,40 @@ use wave_problem::{Plan, Problem, WorkerLine};
 
 /// A problem, and the state of its splits. At every moment the state is kept to: the splits shipped so far
 /// stand at ends of theirs or wait, no slot is taken twice, and no other choice for them is cheaper.
-#[derive(Drop)]
 pub struct Engine {
     problem: Problem,
     fixed: Fixed,
     tables: Tables,
+    // (lent to each search back)
+    spare: Spare,
+    // (if so, each split is known to be shipped, or to wait)
+    settled: bool,
+}
+
+// (one call wherever it is dropped)
+impl Drop for Engine {
+    fn drop(self) {
+        let Engine {
+            problem: _,
+            fixed: _,
+            tables: _,
+            spare: _,
+            settled: _,
+        } = self;
+    }
 }
 
 impl Model for Engine {
     ghost use Rattle.tree_planner.specs.Engine.{IsFixed, IsStanding};
-    ghost use Rattle.tree_planner.specs.Shown.{Shown};
+    ghost use Rattle.tree_planner.specs.Shown.{AreShippedIf, Shown};
+    ghost use Rattle.tree_planner.specs.WayBack.{IsSpare};
 
     ghost Value = { Shown };
 
     ghost view = { λ e. record { wave = e.problem; tables = e.tables } };
 
-    ghost invariant = { λ e. IsFixed e.problem e.fixed × IsStanding e.problem e.tables };
+    ghost invariant = { λ e. IsFixed e.problem e.fixed × IsStanding e.problem e.tables
+        × IsSpare e.problem.tree e.spare × AreShippedIf e.settled e.problem e.tables };
 }
 
 impl Engine {
@@ -57,10 +76,13 @@ impl Engine {
     {
         let fixed = fixed_parts(alloc, &problem)?;
         let tables = fresh_tables(alloc, &problem)?;
+        let spare = Spare::new(alloc, problem.tree())?;
         Ok(Engine {
             problem,
             fixed,
             tables,
+            spare,
+            settled: false,
         })
     }
 
@@ -83,6 +105,7 @@ impl Engine {
         let nodes = self.fixed.nodes.len();
         let mut search = Search::new(alloc, self.problem.tree(), nodes)?;
         let split = split.index() as u16;
+        self.settled = false;
         ship(
             &self.problem,
             &self.fixed,
@@ -106,7 +129,12 @@ impl Engine {
         ensures shipped { OnOk result ((s : ℕ) → s < length self.old.wave.splits
             → place_of (state_in self.new) s ≢ Unshipped) }
     {
-        ship_rest(alloc, &self.problem, &self.fixed, &mut self.tables)
+        if self.settled {
+            return Ok(());
+        }
+        ship_rest(alloc, &self.problem, &self.fixed, &mut self.tables)?;
+        self.settled = true;
+        Ok(())
     }
 
     /// A slot of a worker comes back: a split that waits takes it, other splits change their places for it,
@@ -119,13 +147,15 @@ impl Engine {
         ensures same { OnOk result (AreAllSame (state_in self.old) (state_in self.new)) }
         ensures err { OnErr result (self.new ≡ self.old) }
     {
+        let _ = alloc;
         free(
-            alloc,
             &mut self.problem,
             &mut self.fixed,
             &mut self.tables,
+            &mut self.spare,
             worker,
-        )
+        );
+        Ok(())
     }
 
     /// A slot of a worker goes away, as when the worker dies. Where none of its slots is free, a split that
@@ -136,6 +166,7 @@ impl Engine {
         ensures wave { OnOk result (self.new.wave ≡ slot_less self.old.wave worker) }
         ensures err { OnErr result (self.new.wave ≡ self.old.wave) }
     {
+        self.settled = false;
         lose(
             alloc,
             &mut self.problem,
@@ -173,7 +204,8 @@ impl Engine {
     /// A split is not pending any more. Where it stands, it starts, and a slot is taken away with it.
     pub fn set_aside(&mut self, alloc: Global, split: SplitNo)
         requires { split < length self.old.wave.splits }
-        ensures { HasSameGround self.old.wave self.new.wave }
+        ensures ground { HasSameGround self.old.wave self.new.wave }
+        ensures split { self.new.wave.splits ≡ (with_pending self.old.wave split false).splits }
     {
         match self.start(alloc, split) {
             Some(_) => (),
@@ -187,6 +219,7 @@ impl Engine {
         requires idle { (e : End) → place_of (state_in self.old) split ≢ Stands e }
         ensures { self.new.wave ≡ with_pending self.old.wave split false }
     {
+        self.settled = false;
         pass_over(
             alloc,
             &mut self.problem,
@@ -206,6 +239,7 @@ impl Engine {
         ensures others { OnOk result (AreOthersSame (state_in self.old) (state_in self.new) split) }
         ensures err { OnErr result (self.new ≡ self.old) }
     {
+        self.settled = false;
         pend(
             alloc,
             &mut self.problem,
@@ -224,13 +258,15 @@ impl Engine {
         ensures err { OnErr result (self.new.wave ≡ self.old.wave) }
     {
         if is_like(&self.problem, &problem) {
-            return turn_to(
+            self.settled = false;
+            turn_to(
                 alloc,
                 &mut self.problem,
                 &mut self.fixed,
                 &mut self.tables,
                 problem,
-            );
+            )?;
+            return Ok(());
         }
         let engine = Engine::new(alloc, problem)?;
         *self = engine;
@@ -251,6 +287,7 @@ impl Engine {
         ensures wave { OnOk result (self.new.wave ≡ turned self.old.wave lines.now pending.now) }
         ensures err { OnErr result (self.new.wave ≡ self.old.wave) }
     {
+        self.settled = false;
         renew(
             alloc,
             &mut self.problem,
@@ -270,6 +307,22 @@ impl Engine {
         ensures idle { IfOk result (λ pair. (w : ℕ) → (IsUsable self.now.wave.workers w → ⊥)
             → worker_price pair.1 w ≡ 0) }
         ensures best { IfOk result (λ pair. IsBest self.now.wave (pairs_of pair.0.starts)) }
+    {
+        let found = self.found(alloc)?;
+        Ok((found.plan, found.prices))
+    }
+
+    /// The same, with the splits that start.
+    pub fn found(&self, alloc: Global) -> Result<Found, AllocError>
+        requires { (s : ℕ) → s < length self.now.wave.splits → place_of (state_in self.now) s ≢ Unshipped }
+        ensures sizes { IfOk result
+            (λ found. HasOneSize (claim self.now.wave found.plan.starts found.prices) found.plan.workers) }
+        ensures certifies { IfOk result
+            (λ found. Certifies (claim self.now.wave found.plan.starts found.prices)) }
+        ensures idle { IfOk result (λ found. (w : ℕ) → (IsUsable self.now.wave.workers w → ⊥)
+            → worker_price found.prices w ≡ 0) }
+        ensures best { IfOk result (λ found. IsBest self.now.wave (pairs_of found.plan.starts)) }
+        ensures pairs { IfOk result (λ found. found.pairs.items ≡ pairs_of found.plan.starts) }
     {
         read_off(alloc, &self.problem, &self.fixed, &self.tables)
     }

@@ -11,6 +11,7 @@
 mod back;
 mod children;
 mod choice;
+mod cursors;
 mod down;
 mod engine;
 mod events;
@@ -23,6 +24,7 @@ mod like;
 mod lists;
 mod lose;
 mod order;
+mod over;
 mod prices;
 mod reached;
 mod refill;
@@ -33,5 +35,5 @@ mod tables;
 mod tree_nodes;
 mod turn;
 
-pub use engine::plan;
+pub use engine::{Found, plan};
 pub use kept::Engine;

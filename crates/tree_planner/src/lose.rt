@@ -82,11 +82,11 @@ fn empty_any_slot(
     ensures err { OnErr result (IsStanding problem.now tables.new) }
 {
     ship_rest(alloc, problem, fixed, tables)?;
-    let starts = all_starts(alloc, problem, &fixed.nodes, &fixed.children, tables)?;
+    let starts = all_starts(alloc, problem, &fixed.children, tables)?;
     if tables.free[worker.index()] > 0 {
         empty_free_slot(problem, tables, worker);
     } else {
-        pull_from(problem, fixed, tables, worker, &starts);
+        pull_from(problem, fixed, tables, worker, &starts.each);
     }
     Ok(())
 }

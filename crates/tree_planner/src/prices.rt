@@ -1,18 +1,19 @@
 //! Prices read off the depths.
-ghost use Rattle.std.specs.Prelude.{◌≡◌, ◌+◌, ◌-◌, ◌<◌, ◌≤◌, ℕ, IfOk, MatchOption, length, slice_index, unwrap_or, Some, None};
-ghost use Rattle.wave_problem.specs.Assignment.{start_of};
+ghost use Rattle.std.specs.Prelude.{◌≡◌, ◌+◌, ◌-◌, ◌<◌, ◌≤◌, ℕ, All, IfOk, IfSome, length, slice_index, unwrap_or};
+ghost use Rattle.wave_problem.specs.Assignment.{pairs_of};
 ghost use Rattle.wave_problem.specs.Wave.{cost, reward, IsUsable};
 ghost use Rattle.tree_flow.specs.Nodes.{node_above};
 ghost use Rattle.tree_flow.specs.Settled.{deepest_above, ArePrices};
 ghost use Rattle.tree_planner.specs.Priced.{AreWorkerPrices, IsSplitPrice, IsWorkerPrice};
 ghost use Rattle.tree_planner.specs.View.{state_of, AreTables};
 
+use crate::hand_down::Starts;
 use crate::tables::Tables;
 use crate::tree_nodes::node_above;
 use node_ids::{SplitNo, WorkerNo};
 use price_certificate::Prices;
 use std::alloc::{AllocError, Global};
-use wave_problem::{Plan, Problem};
+use wave_problem::Problem;
 
 /// The price of a worker's slots is the greatest depth above it, where it lives and has some; that of a
 /// split that starts is what this and its cost leave of the reward, and that of any other 0.
@@ -21,19 +22,21 @@ pub fn prices_of(
     problem: &Problem,
     worth: u64,
     tables: &Tables,
-    plan: &Plan,
+    starts: &Starts,
 ) -> Result<Prices, AllocError>
     requires worth { worth ≡ reward problem.now }
     requires tables { AreTables problem.now tables.now }
-    requires splits { length plan.now.starts ≡ length problem.now.splits }
-    requires workers { plan.now.workers ≡ length problem.now.workers }
+    requires splits { length starts.now.each.items ≡ length problem.now.splits }
+    requires workers { All (λ start. IfSome start (λ w. w < length problem.now.workers))
+        starts.now.each.items }
+    requires pairs { starts.now.pairs.items ≡ pairs_of starts.now.each.items }
     ensures splits { IfOk result (λ prices. length prices.splits ≡ length problem.now.splits) }
     ensures workers { IfOk result (λ prices. length prices.workers ≡ length problem.now.workers) }
     ensures prices { IfOk result
-        (λ prices. ArePrices problem.now (state_of tables.now) plan.now.starts prices) }
+        (λ prices. ArePrices problem.now (state_of tables.now) starts.now.each.items prices) }
 {
     let workers = worker_prices(alloc, problem, tables)?;
-    let splits = split_prices(alloc, problem, worth, plan, &workers)?;
+    let splits = split_prices(alloc, problem, worth, starts, &workers)?;
     Ok(Prices::from_lists(splits, workers))
 }
 
@@ -78,23 +81,23 @@ fn split_prices(
     alloc: Global,
     problem: &Problem,
     worth: u64,
-    plan: &Plan,
+    starts: &Starts,
     workers: &[u64],
 ) -> Result<Vec<u64>, AllocError>
     requires worth { worth ≡ reward problem.now }
-    requires splits { length plan.now.starts ≡ length problem.now.splits }
-    requires plan { plan.now.workers ≡ length problem.now.workers }
+    requires splits { length starts.now.each.items ≡ length problem.now.splits }
+    requires known { All (λ start. IfSome start (λ w. w < length problem.now.workers))
+        starts.now.each.items }
+    requires pairs { starts.now.pairs.items ≡ pairs_of starts.now.each.items }
     requires workers { length workers.now ≡ length problem.now.workers }
     ensures size { IfOk result (λ prices. length prices.items ≡ length problem.now.splits) }
-    ensures prices { IfOk result (λ prices. (s : ℕ) → s < length problem.now.splits
-        → IsSplitPrice problem.now plan.now.starts workers.now s (slice_index prices.items s)) }
+    ensures prices { IfOk result (λ prices. (s : ℕ)
+        → IsSplitPrice problem.now starts.now.each.items workers.now s (slice_index prices.items s)) }
 {
     let mut prices = vec![in alloc; 0; problem.splits()]?;
-    for s in 0..problem.splits() {
-        let split = SplitNo::new(s as u16);
-        if let Some(worker) = plan.of(split) {
-            prices[s] = split_price(problem, worth, workers, split, worker);
-        }
+    for pair in &starts.pairs {
+        let (split, worker) = *pair;
+        prices[split.index()] = split_price(problem, worth, workers, split, worker);
     }
     Ok(prices)
 }

@@ -1,5 +1,5 @@
 //! A hole moved along the way that a search back found, until it is filled.
-ghost use Rattle.std.specs.Prelude.{◌≡◌, ◌≢◌, ◌+◌, ◌^◌, ◌<◌, ◌≤◌, ℕ, true, Option, Some, MatchOption, length};
+ghost use Rattle.std.specs.Prelude.{◌≡◌, ◌≢◌, ◌+◌, ◌^◌, ◌<◌, ◌≤◌, ℕ, true, false, IfOk, Option, Some, length};
 ghost use Rattle.wave_problem.specs.Wave.{reward};
 ghost use Rattle.tree_flow.specs.declared.nodes.Place.TheVariants.{Stands};
 ghost use Rattle.tree_flow.specs.declared.nodes.TreeNode.{TreeNode};
@@ -9,103 +9,117 @@ ghost use Rattle.tree_flow.specs.Nodes.{is_under, parent, AreNodes, IsNode};
 ghost use Rattle.tree_flow.specs.Table.{at_node, IsOver};
 ghost use Rattle.tree_planner.specs.Engine.{with_depth, IsFixed, IsStanding, IsStandingBut};
 ghost use Rattle.tree_planner.specs.SearchingBack.{order_at, state_at, wave_of, IsHollow, IsSearched};
-ghost use Rattle.tree_planner.specs.SearchingBack.{IsUnused};
 ghost use Rattle.tree_planner.specs.View.{state_of, AreTables};
 ghost use Rattle.tree_planner.specs.WayBack.{AreAllSame, AreHigher, AreReady, HasMoved, IsDepthSet, IsHigher};
-ghost use Rattle.tree_planner.specs.WayBack.{IsOnWay, IsReady};
+ghost use Rattle.tree_planner.specs.WayBack.{IsOnWay, IsReady, IsSpare};
 
 use crate::back::{Hollow, Rest, SearchBack, StepBack, find_rest};
 use crate::engine::Fixed;
 use crate::follow::{place, set_flow};
 use crate::tables::{Tables, add_above};
-use crate::tree_nodes::{is_same, parent};
+use crate::tree_nodes::parent;
 use node_ids::WorkerNo;
+use rack_tree::RackTree;
+use std::alloc::{AllocError, Global};
+use std::mem;
 use tree_flow::{End, NodeTable, Place, TreeNode};
 use wave_problem::Problem;
 
+/// What one search back after another is lent: its tables, and a table for the depths after it.
+pub struct Spare {
+    pub search: SearchBack,
+    pub depth: NodeTable<u64>,
+}
+
+// (one call wherever it is dropped)
+impl Drop for Spare {
+    fn drop(self) {
+        let Spare {
+            search: _,
+            depth: _,
+        } = self;
+    }
+}
+
+impl Spare {
+    /// Such tables of a tree.
+    pub fn new(alloc: Global, tree: &RackTree) -> Result<Spare, AllocError>
+        ensures { IfOk result (λ spare. IsSpare tree.now spare) }
+    {
+        let search = SearchBack::new(alloc, tree)?;
+        let depth = NodeTable::new(alloc, tree, 0)?;
+        Ok(Spare { search, depth })
+    }
+}
+
 /// Fills a hole as cheaply as can be: a split that waits takes the slot, or a slot of a worker becomes free.
-/// The search and the table of depths are lent, unused, so that nothing here needs memory.
+/// Nothing here needs memory.
 pub fn fill(
     problem: &Problem,
     fixed: &Fixed,
     tables: &mut Tables,
-    search: &mut SearchBack,
-    depth: NodeTable<u64>,
+    spare: &mut Spare,
+    hole: TreeNode,
 )
     requires fixed { IsFixed problem.now fixed.now }
-    requires standing { IsStandingBut problem.now tables.old (Some search.old.hole) }
-    requires known { IsNode problem.now.tree search.old.hole }
-    requires unused { IsUnused problem.now search.old }
-    requires over { IsOver problem.now.tree depth }
+    requires standing { IsStandingBut problem.now tables.old (Some hole) }
+    requires known { IsNode problem.now.tree hole }
+    requires spare { IsSpare problem.now.tree spare.old }
     ensures standing { IsStanding problem.now tables.new }
     ensures unshipped { AreAllSame (state_of tables.old) (state_of tables.new) }
+    ensures spare { IsSpare problem.now.tree spare.new }
 {
     problem.limits();
-    if let Some(depth) = way_and_depths(problem, fixed, tables, search, depth) {
-        tables.depth = depth;
+    if find(problem, fixed, tables, spare, hole) {
+        mem::swap(&mut tables.depth, &mut spare.depth);
     }
-    follow(problem, fixed, tables, search);
+    follow(problem, fixed, tables, &spare.search);
 }
 
-// A cheapest way of the hole, and the depths with which it costs nothing, or none where it costs nothing already.
-fn way_and_depths(
+// Searches a cheapest way of the hole: whether it costs something with the present depths. Then it costs
+// nothing with the spare depths.
+fn find(
     problem: &Problem,
     fixed: &Fixed,
     tables: &Tables,
-    search: &mut SearchBack,
-    depth: NodeTable<u64>,
-) -> Option<NodeTable<u64>>
+    spare: &mut Spare,
+    hole: TreeNode,
+) -> bool
     requires fixed { IsFixed problem.now fixed.now }
-    requires standing { IsStandingBut problem.now tables.now (Some search.old.hole) }
-    requires known { IsNode problem.now.tree search.old.hole }
-    requires unused { IsUnused problem.now search.old }
-    requires over { IsOver problem.now.tree depth }
-    ensures how { IsOver problem.now.tree search.new.how }
-    ensures depths { MatchOption result (IsReady problem.now (state_of tables.now) search.new)
-        (λ depth. AreReady problem.now tables.now depth search.new) }
+    requires standing { IsStandingBut problem.now tables.now (Some hole) }
+    requires known { IsNode problem.now.tree hole }
+    requires spare { IsSpare problem.now.tree spare.old }
+    ensures spare { IsSpare problem.now.tree spare.new }
+    ensures hole { spare.new.search.hole ≡ hole }
+    ensures ready { result ≡ false → IsReady problem.now (state_of tables.now) spare.new.search }
+    ensures higher { result ≡ true → AreReady problem.now tables.now spare.new.depth spare.new.search }
 {
     let hollow = Hollow {
         problem,
         fixed,
         tables,
-        hole: search.hole,
+        hole,
     };
-    way_over(&hollow, search, depth)
-}
-
-fn way_over(
-    hollow: &Hollow<'_>,
-    search: &mut SearchBack,
-    depth: NodeTable<u64>,
-) -> Option<NodeTable<u64>>
-    requires hollow { IsHollow hollow.now }
-    requires hole { search.old.hole ≡ hollow.now.hole }
-    requires unused { IsUnused (wave_of hollow.now) search.old }
-    requires over { IsOver (wave_of hollow.now).tree depth }
-    ensures how { IsOver (wave_of hollow.now).tree search.new.how }
-    ensures depths { MatchOption result (IsReady (wave_of hollow.now) (state_at hollow.now) search.new)
-        (λ depth. AreReady (wave_of hollow.now) hollow.now.tables.now depth search.new) }
-{
-    find_rest(hollow, search);
-    if search.bound == 0 {
-        return None;
+    spare.search.begin(problem, fixed.reward, hole);
+    find_rest(&hollow, &mut spare.search);
+    if spare.search.bound == 0 {
+        return false;
     }
-    Some(higher(hollow, search, depth))
+    lift(&hollow, &spare.search, &mut spare.depth);
+    true
 }
 
 // The depths after a search back.
-fn higher(hollow: &Hollow<'_>, search: &SearchBack, depth: NodeTable<u64>) -> NodeTable<u64>
+fn lift(hollow: &Hollow<'_>, search: &SearchBack, depth: &mut NodeTable<u64>)
     requires hollow { IsHollow hollow.now }
     requires searched { IsSearched hollow.now search.now }
-    requires over { IsOver (wave_of hollow.now).tree depth }
-    ensures over { IsOver (wave_of hollow.now).tree result }
-    ensures higher { AreHigher hollow.now search.now result }
+    requires over { IsOver (wave_of hollow.now).tree depth.old }
+    ensures over { IsOver (wave_of hollow.now).tree depth.new }
+    ensures higher { AreHigher hollow.now search.now depth.new }
 {
-    let mut depth = depth;
     for node in &hollow.fixed.nodes {
         depth.set(*node, higher_at(hollow, search, *node));
     }
-    depth
 }
 
 // How deep a node lies after a search back.
@@ -199,6 +213,7 @@ pub fn sink(problem: &Problem, fixed: &Fixed, tables: &mut Tables, node: TreeNod
 // A node to which units go from the one from which it hangs.
 fn child_with_units(problem: &Problem, fixed: &Fixed, tables: &Tables, node: TreeNode) -> TreeNode
     requires fixed { IsFixed problem.now fixed.now }
+    requires known { IsNode problem.now.tree node }
     requires standing { IsStandingBut problem.now tables.now (Some node) }
     requires inner { (w : ℕ) → node ≢ Worker w }
     ensures known { IsNode problem.now.tree result }
@@ -206,8 +221,8 @@ fn child_with_units(problem: &Problem, fixed: &Fixed, tables: &Tables, node: Tre
     ensures hangs { result ≢ Cluster }
     ensures some { 0 < at_node tables.now.flow result }
 {
-    for below in &fixed.nodes {
-        if is_same(parent(problem.tree(), *below), node) && tables.flow.get(*below) > 0 {
+    for below in fixed.children.of(problem.tree(), node) {
+        if tables.flow.get(*below) > 0 {
             return *below;
         }
     }
@@ -308,6 +323,7 @@ fn give_slot(problem: &Problem, tables: &mut Tables, worker: u16)
 {
     give_free(problem, tables, worker);
     add_above(problem, &mut tables.below, WorkerNo::new(worker), 1);
+    tables.cursors.rewind(problem.tree(), WorkerNo::new(worker));
 }
 
 fn give_free(problem: &Problem, tables: &mut Tables, worker: u16)

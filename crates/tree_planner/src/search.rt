@@ -1,10 +1,16 @@
 //! A search for the cheapest way to give one split a slot.
-ghost use Rattle.std.specs.Prelude.{◌≡◌, ◌≢◌, ◌+◌, ◌*◌, ◌<◌, ◌≤◌, ◌^◌, min, ℕ, length, IfOk, IsTrue, MatchOption, Contains, ◌↔◌};
+ghost use Rattle.std.specs.Prelude.{◌≡◌, ◌≢◌, ◌+◌, ◌*◌, ◌<◌, ◌≤◌, ◌^◌, ◌↔◌, min, ℕ, length, IfOk, IsTrue};
+ghost use Rattle.std.specs.Prelude.{All, Contains, MatchOption};
+ghost use Rattle.node_ids.specs.Sets.{Has};
 ghost use Rattle.wave_problem.specs.declared.TheConstants.{MAX_BYTES};
-ghost use Rattle.wave_problem.specs.Wave.{reward};
+ghost use Rattle.wave_problem.specs.Wave.{reward, split_at};
 ghost use Rattle.tree_flow.specs.declared.nodes.End.{End};
 ghost use Rattle.tree_flow.specs.declared.nodes.Place.TheVariants.{Stands};
 ghost use Rattle.tree_flow.specs.declared.nodes.TreeNode.{TreeNode};
+ghost use Rattle.tree_flow.specs.declared.nodes.TreeNode.TheVariants.{Rack, Worker};
+ghost use Rattle.tree_planner.specs.Choosing.{IsLeast};
+ghost use Rattle.tree_planner.specs.Ends.{ends_at, IsLeft, IsOf};
+ghost use Rattle.tree_planner.specs.declared.split_ends.Group.TheVariants.{Workers};
 ghost use Rattle.tree_planner.specs.Hanging.{HangsFrom};
 ghost use Rattle.tree_planner.specs.declared.search.Ground.{Ground};
 ghost use Rattle.tree_flow.specs.Nodes.{parent, IsEnd, IsNode};
@@ -12,12 +18,14 @@ ghost use Rattle.tree_flow.specs.State.{place_of, reach_cost, slots_of, sum_unde
 ghost use Rattle.tree_planner.specs.Searching.{order_at, far_at, state_at, wave_of, EndsIn, HasLookedFrom};
 ghost use Rattle.tree_planner.specs.Searching.{HasStarted, Improves, IsAt, IsGround, IsSearched, IsSearching};
 ghost use Rattle.tree_planner.specs.Searching.{reached_at, HasReached, HasRoom, HasTables, IsBlank, IsCandidate};
+ghost use Rattle.tree_planner.specs.Searching.{AreOf, IsCovered, IsLeaving, IsOut};
 ghost use Rattle.tree_planner.specs.Searching.{LeadsTo, IsNearest, IsStartedAt, Settles, IsDown, GoesAllOver, IsOverTo};
 ghost use Rattle.tree_flow.specs.Table.{HasNode, IsSized};
 
 use crate::children::Children;
+use crate::over::hand_over;
 use crate::reached::{FAR, Reached};
-use crate::split_ends::Ends;
+use crate::split_ends::{AllEnds, Ends, Group, is_left};
 use crate::tables::Tables;
 use crate::tree_nodes::{is_same, parent};
 use node_ids::SplitNo;
@@ -65,15 +73,23 @@ pub struct Ground<'a> {
     pub problem: &'a Problem,
     pub nodes: &'a [TreeNode],
     pub children: &'a Children,
-    pub ends: &'a [Ends],
+    pub ends: &'a AllEnds,
     pub slots: &'a NodeTable<u64>,
     pub reward: u64,
     pub tables: &'a Tables,
 }
 
+/// How near the workers of a rack are that some split's ends do not leave out: no farther than the offset with
+/// their depth, the reward taken off.
+#[derive(Clone, Copy)]
+pub struct Cover {
+    pub offset: u64,
+    pub split: u16,
+}
+
 /// Which split is shipped, what its cheapest end costs at least, and how far a way may go; how far each node
-/// is, how it was come to, as which one it was looked from; the nodes that were come to; and
-/// the nearest end of a way, and how far it is. Its tables serve one search after another: between two of
+/// is, how it was come to, as which one it was looked from; the nodes that were come to; how near the workers
+/// of each rack are; and the nearest end of a way, and how far it is. Its tables serve one search after another: between two of
 /// them no node has been come to.
 #[derive(Drop)]
 pub struct Search {
@@ -84,6 +100,7 @@ pub struct Search {
     pub how: NodeTable<Step>,
     pub order: NodeTable<u64>,
     pub reached: Reached,
+    pub covers: NodeTable<Cover>,
     pub looked: u64,
     pub bound: u64,
     pub goal: Goal,
@@ -98,6 +115,14 @@ impl Search {
         let how = NodeTable::new(alloc, tree, Step::Down)?;
         let order = NodeTable::new(alloc, tree, 0)?;
         let reached = Reached::new(alloc, nodes)?;
+        let covers = NodeTable::new(
+            alloc,
+            tree,
+            Cover {
+                offset: 0,
+                split: 0,
+            },
+        )?;
         Ok(Search {
             split: 0,
             least: 0,
@@ -106,6 +131,7 @@ impl Search {
             how,
             order,
             reached,
+            covers,
             looked: 0,
             bound: 0,
             goal: Goal::Wait,
@@ -127,24 +153,24 @@ impl Search {
         }
     }
 
-    // How far a node is.
-    fn far_of(&self, node: TreeNode) -> u64
+    /// How far a node is.
+    pub fn far_of(&self, node: TreeNode) -> u64
         requires { HasNode self.now.far node }
         ensures { result ≡ far_at self.now node }
     {
         self.far.get(node)
     }
 
-    // Whether a node at this distance is nearer than it was, and than the nearest end of a way.
-    fn is_nearer(&self, node: TreeNode, distance: u64) -> bool
+    /// Whether a node at this distance is nearer than it was, and than the nearest end of a way.
+    pub fn is_nearer(&self, node: TreeNode, distance: u64) -> bool
         requires { HasNode self.now.far node }
         ensures { IsTrue result ↔ (distance < min self.now.bound (far_at self.now node)) }
     {
         distance < self.bound && distance < self.far.get(node)
     }
 
-    // Comes to a node, where that is nearer. Where a slot is free under it, a way ends there.
-    fn reach(&mut self, node: TreeNode, distance: u64, step: Step, free: bool)
+    /// Comes to a node, where that is nearer. Where a slot is free under it, a way ends there.
+    pub fn reach(&mut self, node: TreeNode, distance: u64, step: Step, free: bool)
         requires far { HasNode self.old.far node }
         requires how { HasNode self.old.how node }
         requires room { 2 ^ 40 ≤ far_at self.old node → HasRoom self.old }
@@ -167,8 +193,8 @@ impl Search {
         }
     }
 
-    // Comes to an end of a way, where that is nearer.
-    fn arrive(&mut self, goal: Goal, distance: u64)
+    /// Comes to an end of a way, where that is nearer.
+    pub fn arrive(&mut self, goal: Goal, distance: u64)
         ensures improves { Improves self.old self.new }
         ensures near { self.new.bound ≤ distance }
         ensures kept { (g : Ground) → IsSearching g self.old
@@ -178,6 +204,18 @@ impl Search {
             self.bound = distance;
             self.goal = goal;
         }
+    }
+
+    /// Notes how near the workers of a rack are that the groups of a split do not leave out.
+    pub fn cover(&mut self, rack: u16, offset: u64, split: u16)
+        requires { HasNode self.old.covers (Rack rack) }
+        ensures improves { Improves self.old self.new }
+        ensures kept { (g : Ground) → IsSearching g self.old
+            → IsCovered g self.old (record { offset = offset; split = split }) rack → IsSearching g self.new }
+        ensures same { self.new ≡ record self.old { covers = self.new.covers } }
+    {
+        self.covers
+            .set(TreeNode::Rack(rack), Cover { offset, split });
     }
 
     // Puts the node next in order.
@@ -222,8 +260,8 @@ fn slots_at(ground: &Ground<'_>, node: TreeNode) -> u64
     ground.slots.get(node)
 }
 
-// Whether a slot is free under a node.
-fn is_free(ground: &Ground<'_>, node: TreeNode) -> bool
+/// Whether a slot is free under a node.
+pub fn is_free(ground: &Ground<'_>, node: TreeNode) -> bool
     requires ground { IsGround ground.now }
     requires known { IsNode (wave_of ground.now).tree node }
     ensures { IsTrue result ↔ (0 < sum_under (wave_of ground.now) node (state_at ground.now).free) }
@@ -241,12 +279,34 @@ fn above(ground: &Ground<'_>, node: TreeNode) -> TreeNode
 }
 
 /// The ends of a split.
-pub fn ends_of<'g>(ground: &'g Ground<'_>, split: u16) -> &'g [End]
+pub fn ends_of<'g>(ground: &'g Ground<'_>, split: u16) -> Ends<'g>
     requires ground { IsGround ground.now }
     requires split { split < length (wave_of ground.now).splits }
-    ensures { (e : End) → Contains result.now e ↔ IsEnd (wave_of ground.now) split e }
+    ensures { result ≡ ends_at ground.now.ends.now split }
 {
-    ground.ends[split as usize].all()
+    ground.ends.at(split as usize)
+}
+
+/// The nodes that hang from a rack; none, where there is no such rack.
+pub fn workers_in<'g>(ground: &'g Ground<'_>, rack: u16) -> &'g [TreeNode]
+    requires { IsGround ground.now }
+    ensures known { All (IsNode (wave_of ground.now).tree) result.now }
+    ensures all { (v : TreeNode) → HangsFrom (wave_of ground.now).tree (Rack rack) v → Contains result.now v }
+{
+    if rack as usize >= ground.problem.tree().racks() {
+        return &[];
+    }
+    ground
+        .children
+        .of(ground.problem.tree(), TreeNode::Rack(rack))
+}
+
+/// What it costs the split to end at this level, at a node that lies at 0.
+pub fn end_cost(ground: &Ground<'_>, split: u16, level: u8) -> u64
+    requires split { split < length (wave_of ground.now).splits }
+    ensures { result ≡ (split_at (wave_of ground.now) split).bytes * (2 * level) }
+{
+    ground.problem.bytes(SplitNo::new(split)) * (2 * u64::from(level))
 }
 
 /// What it costs the split to end at an end.
@@ -260,32 +320,16 @@ pub fn cost_at(ground: &Ground<'_>, split: u16, end: End) -> u64
     ground.problem.bytes(SplitNo::new(split)) * steps + depth_of(ground, end.node)
 }
 
-// No more than what each end of the split costs, and than the reward.
-fn least_cost(ground: &Ground<'_>, split: u16) -> u64
-    requires ground { IsGround ground.now }
-    requires split { split < length (wave_of ground.now).splits }
-    ensures ends { (x : End) → IsEnd (wave_of ground.now) split x
-        → result ≤ reach_cost (wave_of ground.now) (state_at ground.now) split x }
-    ensures reward { result ≤ reward (wave_of ground.now) }
-{
-    let mut least = ground.reward;
-    let ends = ends_of(ground, split);
-    for end in ends {
-        least = least.min(cost_at(ground, split, *end));
-    }
-    least
-}
-
 /// Searches from the ends of a split, over steps that a unit may take, as far as the nearest end of a way
 /// (Dijkstra's search over reduced costs).
-pub fn find_way(ground: &Ground<'_>, search: &mut Search, split: u16)
+pub fn find_way(ground: &Ground<'_>, search: &mut Search, split: u16, least: u64)
     requires ground { IsGround ground.now }
     requires blank { IsBlank (wave_of ground.now).tree (length ground.now.nodes.now) search.old }
     requires split { split < length (wave_of ground.now).splits }
+    requires least { IsLeast (wave_of ground.now) (state_at ground.now) split least }
     ensures split { search.new.split ≡ split }
     ensures searched { IsSearched ground.now search.new }
 {
-    let least = least_cost(ground, split);
     begin(ground, search, split, least);
     start(ground, search);
     run(ground, search);
@@ -296,6 +340,7 @@ pub fn find_way(ground: &Ground<'_>, search: &mut Search, split: u16)
 fn begin(ground: &Ground<'_>, search: &mut Search, split: u16, least: u64)
     requires ground { IsGround ground.now }
     requires blank { IsBlank (wave_of ground.now).tree (length ground.now.nodes.now) search.old }
+    requires split { split < length (wave_of ground.now).splits }
     requires least { least ≤ reward (wave_of ground.now) }
     ensures split { search.new.split ≡ split }
     ensures least { search.new.least ≡ least }
@@ -310,6 +355,10 @@ fn begin(ground: &Ground<'_>, search: &mut Search, split: u16, least: u64)
     search.goal = Goal::Wait;
     search.reached.count = 0;
     search.looked = 0;
+    search.covers.fill(Cover {
+        offset: 2 * FAR,
+        split,
+    });
 }
 
 // Comes to the ends of the split.
@@ -318,15 +367,92 @@ fn start(ground: &Ground<'_>, search: &mut Search)
     requires split { search.old.split < length (wave_of ground.now).splits }
     requires searching { IsSearching ground.now search.old }
     requires none { (v : TreeNode) → order_at search.old v ≡ 0 }
-    requires least { (x : End) → IsEnd (wave_of ground.now) search.old.split x
-        → search.old.least ≤ reach_cost (wave_of ground.now) (state_at ground.now) search.old.split x }
+    requires least { IsLeast (wave_of ground.now) (state_at ground.now) search.old.split search.old.least }
     ensures improves { Improves search.old search.new }
     ensures searching { IsSearching ground.now search.new }
     ensures started { HasStarted ground.now search.new }
 {
     let ends = ends_of(ground, search.split);
-    for end in ends {
-        start_at(ground, search, *end);
+    for group in ends.groups() {
+        start_group(ground, search, &ends, *group);
+    }
+}
+
+// Comes to the ends of a group.
+fn start_group(ground: &Ground<'_>, search: &mut Search, ends: &Ends<'_>, group: Group)
+    requires ground { IsGround ground.now }
+    requires split { search.old.split < length (wave_of ground.now).splits }
+    requires searching { IsSearching ground.now search.old }
+    requires none { (v : TreeNode) → order_at search.old v ≡ 0 }
+    requires ends { ends.now ≡ ends_at ground.now.ends.now search.old.split }
+    requires group { AreOf ground.now search.old.split (Has ends.now.barred) group }
+    requires least { IsLeast (wave_of ground.now) (state_at ground.now) search.old.split search.old.least }
+    ensures improves { Improves search.old search.new }
+    ensures searching { IsSearching ground.now search.new }
+    ensures started { (x : End) → IsOf (wave_of ground.now).tree (Has ends.now.barred) group x
+        → IsStartedAt ground.now search.new x }
+{
+    match group {
+        Group::Single(end) => start_at(ground, search, end),
+        Group::Workers(rack, level) => start_workers(ground, search, ends, rack, level),
+    }
+}
+
+// Comes to workers of a rack. Nothing was known of these yet, or of workers that are nearer.
+fn start_workers(ground: &Ground<'_>, search: &mut Search, ends: &Ends<'_>, rack: u16, level: u8)
+    requires ground { IsGround ground.now }
+    requires split { search.old.split < length (wave_of ground.now).splits }
+    requires searching { IsSearching ground.now search.old }
+    requires none { (v : TreeNode) → order_at search.old v ≡ 0 }
+    requires ends { ends.now ≡ ends_at ground.now.ends.now search.old.split }
+    requires group { AreOf ground.now search.old.split (Has ends.now.barred) (Workers rack level) }
+    requires least { IsLeast (wave_of ground.now) (state_at ground.now) search.old.split search.old.least }
+    ensures improves { Improves search.old search.new }
+    ensures searching { IsSearching ground.now search.new }
+    ensures started { (x : End) → IsOf (wave_of ground.now).tree (Has ends.now.barred) (Workers rack level) x
+        → IsStartedAt ground.now search.new x }
+{
+    if rack as usize >= ground.problem.tree().racks() {
+        return;
+    }
+    start_all(ground, search, ends, rack, level);
+    let offset = end_cost(ground, search.split, level) + search.limit;
+    if offset < search.covers.get(TreeNode::Rack(rack)).offset {
+        search.cover(rack, offset, search.split);
+    }
+}
+
+fn start_all(ground: &Ground<'_>, search: &mut Search, ends: &Ends<'_>, rack: u16, level: u8)
+    requires ground { IsGround ground.now }
+    requires searching { IsSearching ground.now search.old }
+    requires none { (v : TreeNode) → order_at search.old v ≡ 0 }
+    requires group { AreOf ground.now search.old.split (Has ends.now.barred) (Workers rack level) }
+    requires least { IsLeast (wave_of ground.now) (state_at ground.now) search.old.split search.old.least }
+    ensures improves { Improves search.old search.new }
+    ensures searching { IsSearching ground.now search.new }
+    ensures started { (x : End) → IsOf (wave_of ground.now).tree (Has ends.now.barred) (Workers rack level) x
+        → IsStartedAt ground.now search.new x }
+{
+    let nodes = workers_in(ground, rack);
+    for node in nodes {
+        start_node(ground, search, ends, rack, End { node: *node, level });
+    }
+}
+
+fn start_node(ground: &Ground<'_>, search: &mut Search, ends: &Ends<'_>, rack: u16, end: End)
+    requires ground { IsGround ground.now }
+    requires searching { IsSearching ground.now search.old }
+    requires none { (v : TreeNode) → order_at search.old v ≡ 0 }
+    requires known { IsNode (wave_of ground.now).tree end.node }
+    requires group { AreOf ground.now search.old.split (Has ends.now.barred) (Workers rack end.level) }
+    requires least { IsLeast (wave_of ground.now) (state_at ground.now) search.old.split search.old.least }
+    ensures improves { Improves search.old search.new }
+    ensures searching { IsSearching ground.now search.new }
+    ensures started { IsLeft (wave_of ground.now).tree (Has ends.now.barred) rack end.node
+        → IsStartedAt ground.now search.new end }
+{
+    if is_left(ground.problem.tree(), ends, rack, end.node) {
+        start_at(ground, search, end);
     }
 }
 
@@ -335,8 +461,7 @@ fn start_at(ground: &Ground<'_>, search: &mut Search, end: End)
     requires searching { IsSearching ground.now search.old }
     requires none { (v : TreeNode) → order_at search.old v ≡ 0 }
     requires is_end { IsEnd (wave_of ground.now) search.old.split end }
-    requires least { search.old.least
-        ≤ reach_cost (wave_of ground.now) (state_at ground.now) search.old.split end }
+    requires least { IsLeast (wave_of ground.now) (state_at ground.now) search.old.split search.old.least }
     ensures improves { Improves search.old search.new }
     ensures searching { IsSearching ground.now search.new }
     ensures started { IsStartedAt ground.now search.new end }
@@ -544,57 +669,5 @@ fn over_split(ground: &Ground<'_>, search: &mut Search, node: TreeNode, split: u
         if is_same(end.node, node) {
             hand_over(ground, search, split, end);
         }
-    }
-}
-
-// Takes the steps of a split that stands at an end, unless an end of a way is known that is no farther than
-// this one.
-fn hand_over(ground: &Ground<'_>, search: &mut Search, split: u16, end: End)
-    requires ground { IsGround ground.now }
-    requires searching { IsSearching ground.now search.old }
-    requires at { IsAt search.old end.node }
-    requires stands { place_of (state_at ground.now) split ≡ Stands end }
-    ensures searching { IsSearching ground.now search.new }
-    ensures improves { Improves search.old search.new }
-    ensures over { GoesAllOver ground.now search.new end.node split }
-{
-    let spent = cost_at(ground, split, end);
-    let far = search.far_of(end.node);
-    let distance = far + ground.reward - spent;
-    search.arrive(Goal::Off(split), distance);
-    if search.bound <= far {
-        return;
-    }
-    let ends = ends_of(ground, split);
-    for other in ends {
-        over_to(ground, search, split, end, far, spent, *other);
-    }
-}
-
-// Takes the step of a split from an end that is so far, and at which so much is spent, to another.
-fn over_to(
-    ground: &Ground<'_>,
-    search: &mut Search,
-    split: u16,
-    end: End,
-    far: u64,
-    spent: u64,
-    other: End,
-)
-    requires ground { IsGround ground.now }
-    requires searching { IsSearching ground.now search.old }
-    requires at { IsAt search.old end.node }
-    requires far { far ≡ far_at search.old end.node }
-    requires stands { place_of (state_at ground.now) split ≡ Stands end }
-    requires spent { spent ≡ reach_cost (wave_of ground.now) (state_at ground.now) split end }
-    requires is_end { IsEnd (wave_of ground.now) split other }
-    ensures searching { IsSearching ground.now search.new }
-    ensures improves { Improves search.old search.new }
-    ensures over { IsOverTo ground.now search.new end split other }
-{
-    let distance = far + cost_at(ground, split, other) - spent;
-    if search.is_nearer(other.node, distance) {
-        let free = is_free(ground, other.node);
-        search.reach(other.node, distance, Step::Over(split, other.level), free);
     }
 }

@@ -1,42 +1,127 @@
 //! The ends of each split.
-ghost use Rattle.std.specs.Prelude.{◌≡◌, ◌<◌, ◌≤◌, ◌⊎◌, ◌↔◌, ℕ, List, [], true, false, length, cond, All, Contains};
-ghost use Rattle.std.specs.Prelude.{IfOk, OnOk, IfSome, IsTrue};
+ghost use Rattle.std.specs.Prelude.{◌≡◌, ◌*◌, ◌<◌, ◌≤◌, ◌⊎◌, ◌↔◌, ℕ, [], true, false, length, cond, All, Contains};
+ghost use Rattle.std.specs.Prelude.{IfOk, OnOk, IfSome, IsTrue, None, ◌++◌, ◌∷◌, slice_set};
+ghost use Rattle.rack_tree.specs.declared.TheConstants.{MAX_WORKERS};
+ghost use Rattle.rack_tree.specs.Tree.{reach};
 ghost use Rattle.wave_problem.specs.Wave.{split_at};
 ghost use Rattle.tree_flow.specs.declared.nodes.End.{End};
 ghost use Rattle.tree_flow.specs.declared.nodes.TreeNode.{TreeNode};
 ghost use Rattle.tree_flow.specs.declared.nodes.TreeNode.TheVariants.{Worker};
 ghost use Rattle.tree_planner.specs.Bars.{bar_at, bar_below, holder_at, AreBars, AreMet, IsLevelEnd};
-ghost use Rattle.tree_planner.specs.Bars.{IsLiveUnder, IsTopEnd};
-ghost use Rattle.tree_planner.specs.Ends.{AreEnds};
-ghost use Rattle.tree_flow.specs.Nodes.{is_under, IsEnd, IsNode};
+ghost use Rattle.tree_planner.specs.Bars.{top_of, IsLiveUnder, IsTopEnd};
+ghost use Rattle.node_ids.specs.Sets.{no_workers, Has};
+ghost use Rattle.tree_planner.specs.Bars.{HasEndFor};
+ghost use Rattle.tree_planner.specs.Ends.{ends_at, AreEnds, HasEnd, IsLeft};
+ghost use Rattle.tree_planner.specs.Stored.{IsAdded};
+ghost use Rattle.tree_flow.specs.Nodes.{is_under, node_above, IsEnd, IsNode};
 ghost use Rattle.tree_planner.specs.Hanging.{AreChildren};
 ghost use Rattle.tree_flow.specs.Table.{at_or, HasNode, IsOver, IsSized};
 
 use crate::children::Children;
 use crate::tree_nodes::{is_same, node_above};
-use node_ids::{SplitNo, WorkerNo};
-use rack_tree::RackTree;
+use node_ids::{SplitNo, WorkerNo, WorkerSet};
+use rack_tree::{MAX_WORKERS, RackTree};
 use std::alloc::{AllocError, Global};
 use std::marker::Model;
 use tree_flow::{End, NodeTable, TreeNode};
 use wave_problem::Problem;
 
-/// The ends of a split.
-#[derive(Drop)]
-pub struct Ends(Vec<End>);
-
-impl Model for Ends {
-    ghost Value = { List End };
-
-    ghost view = { λ e. e.0.items };
+/// What stands for ends of a split.
+#[derive(Clone, Copy, Debug, PartialEq, Eq)]
+pub enum Group {
+    /// One end.
+    Single(End),
+    /// The workers of this rack that are not barred, each as an end of this level.
+    Workers(u16, u8),
 }
 
-impl Ends {
-    /// No ends.
-    pub fn none(alloc: Global) -> Ends
-        ensures { result ≡ [] }
+/// The ends of a split, in groups, which leave its barred workers out.
+#[derive(Drop)]
+pub struct Ends<'a> {
+    groups: &'a [Group],
+    barred: WorkerSet,
+    list: &'a [u16],
+}
+
+impl<'a> Model for Ends<'a> {
+    ghost use Rattle.std.specs.Prelude.{ℕ, ◌<◌, Contains};
+    ghost use Rattle.node_ids.specs.Sets.{Has};
+    ghost use Rattle.rack_tree.specs.declared.TheConstants.{MAX_WORKERS};
+    ghost use Rattle.tree_planner.specs.Ends.{Grouped};
+
+    ghost Value = { Grouped };
+
+    ghost view = { λ e. record { groups = e.groups.now; barred = e.barred } };
+
+    ghost invariant = { λ e. (w : ℕ) → w < MAX_WORKERS → Has e.barred w → Contains e.list.now w };
+}
+
+impl<'a> Ends<'a> {
+    // Ends that leave no worker out.
+    fn unbarred(groups: &'a [Group]) -> Ends<'a>
+        ensures { result ≡ record { groups = groups.now; barred = no_workers } }
     {
-        Ends(Vec::new(alloc))
+        Ends {
+            groups,
+            barred: WorkerSet::new(),
+            list: &[],
+        }
+    }
+
+    /// The groups.
+    pub fn groups(&self) -> &'a [Group]
+        ensures { result.now ≡ self.now.groups }
+    {
+        self.groups
+    }
+
+    /// Whether the groups leave a worker out.
+    pub fn is_barred(&self, worker: u16) -> bool
+        requires { worker < MAX_WORKERS }
+        ensures { IsTrue result ↔ Has self.now.barred worker }
+    {
+        self.barred.has(WorkerNo::new(worker))
+    }
+
+    /// The workers that the groups leave out.
+    pub fn barred(&self) -> &'a [u16]
+        ensures { (w : ℕ) → w < MAX_WORKERS → Has self.now.barred w → Contains result.now w }
+    {
+        self.list
+    }
+}
+
+/// The ends of a split that keeps them itself, with the set of its barred workers and a list of them.
+#[derive(Drop)]
+pub struct OwnEnds {
+    groups: Vec<Group>,
+    barred: WorkerSet,
+    list: Vec<u16>,
+}
+
+impl Model for OwnEnds {
+    ghost use Rattle.std.specs.Prelude.{ℕ, ◌<◌, Contains};
+    ghost use Rattle.node_ids.specs.Sets.{Has};
+    ghost use Rattle.rack_tree.specs.declared.TheConstants.{MAX_WORKERS};
+    ghost use Rattle.tree_planner.specs.Ends.{Grouped};
+
+    ghost Value = { Grouped };
+
+    ghost view = { λ e. record { groups = e.groups.items; barred = e.barred } };
+
+    ghost invariant = { λ e. (w : ℕ) → w < MAX_WORKERS → Has e.barred w → Contains e.list.items w };
+}
+
+impl OwnEnds {
+    /// No ends.
+    pub fn none(alloc: Global) -> OwnEnds
+        ensures { result ≡ record { groups = []; barred = no_workers } }
+    {
+        OwnEnds {
+            groups: Vec::new(alloc),
+            barred: WorkerSet::new(),
+            list: Vec::new(alloc),
+        }
     }
 
     /// The ends of a split of a problem.
@@ -45,20 +130,139 @@ impl Ends {
         problem: &Problem,
         children: &Children,
         split: SplitNo,
-    ) -> Result<Ends, AllocError>
+    ) -> Result<OwnEnds, AllocError>
         requires children { AreChildren problem.now.tree children.now }
         requires split { split < length problem.now.splits }
-        ensures { IfOk result (λ ends. (e : End) → Contains ends e ↔ IsEnd problem.now split e) }
+        ensures { IfOk result (λ ends. (e : End) → HasEnd problem.now.tree ends e ↔ IsEnd problem.now split e) }
     {
-        let ends = ends_of(alloc, problem, children, split)?;
-        Ok(Ends(ends))
+        let _tree = problem.tree();
+        let groups = groups_of(alloc, problem, children, split)?;
+        let barred = problem.bars(split);
+        let list = members(alloc, &barred)?;
+        Ok(OwnEnds {
+            groups,
+            barred,
+            list,
+        })
     }
 
-    /// All ends.
-    pub fn all(&self) -> &[End]
-        ensures { result.now ≡ self.now }
+    fn lent(&self) -> Ends<'_>
+        ensures { result ≡ self.now }
     {
-        &self.0
+        Ends {
+            groups: &self.groups,
+            barred: self.barred,
+            list: &self.list,
+        }
+    }
+}
+
+/// Where the ends of a split are.
+#[derive(Drop)]
+pub enum Stored {
+    /// So many groups of the shared list, from this place on; no worker is barred.
+    Shared(usize, usize),
+    /// The split keeps its ends itself.
+    Own(OwnEnds),
+}
+
+/// The ends of all splits. Those that were made first, of splits with no barred worker, have their groups in
+/// one list, which saves them memory of their own.
+#[derive(Drop)]
+pub struct AllEnds {
+    shared: Vec<Group>,
+    each: Vec<Stored>,
+}
+
+impl Model for AllEnds {
+    ghost use Rattle.std.specs.Prelude.{List, All, length, map};
+    ghost use Rattle.tree_planner.specs.Ends.{Grouped};
+    ghost use Rattle.tree_planner.specs.Stored.{stored_at, IsWithin};
+
+    ghost Value = { List Grouped };
+
+    ghost view = { λ a. map (stored_at a.shared.items) a.each.items };
+
+    ghost invariant = { λ a. All (IsWithin (length a.shared.items)) a.each.items };
+}
+
+impl AllEnds {
+    // An empty list, with room for the ends of so many splits.
+    fn with_room(alloc: Global, splits: usize) -> Result<AllEnds, AllocError>
+        ensures { IfOk result (λ all. all ≡ []) }
+    {
+        Ok(AllEnds {
+            shared: Vec::new(alloc),
+            each: Vec::with_capacity(alloc, splits)?,
+        })
+    }
+
+    // The next split has these groups, and no barred worker.
+    fn share(&mut self, groups: &[Group]) -> Result<(), AllocError>
+        ensures { OnOk result (self.new
+            ≡ self.old ++ record { groups = groups.now; barred = no_workers } ∷ []) }
+    {
+        let from = self.shared.len();
+        self.shared.extend_from_slice(groups)?;
+        self.each.push(Stored::Shared(from, groups.len()))?;
+        Ok(())
+    }
+
+    // The next split keeps its ends apart.
+    fn add(&mut self, ends: OwnEnds) -> Result<(), AllocError>
+        ensures { OnOk result (self.new ≡ self.old ++ ends ∷ []) }
+    {
+        self.each.push(Stored::Own(ends))?;
+        Ok(())
+    }
+
+    /// The ends of a split.
+    pub fn at(&self, split: usize) -> Ends<'_>
+        requires { split < length self.now }
+        ensures { result ≡ ends_at self.now split }
+    {
+        match &self.each[split] {
+            Stored::Shared(from, count) => Ends::unbarred(&self.shared[*from..*from + *count]),
+            Stored::Own(ends) => ends.lent(),
+        }
+    }
+
+    /// Gives a split other ends.
+    pub fn put(&mut self, split: usize, ends: OwnEnds)
+        requires { split < length self.old }
+        ensures { self.new ≡ slice_set self.old split ends }
+    {
+        self.each[split] = Stored::Own(ends);
+    }
+}
+
+// The members of a set.
+fn members(alloc: Global, set: &WorkerSet) -> Result<Vec<u16>, AllocError>
+    ensures { IfOk result (λ list. (w : ℕ) → w < MAX_WORKERS → Has set.now w → Contains list.items w) }
+{
+    let mut list = Vec::new(alloc);
+    if set.is_empty() {
+        return Ok(list);
+    }
+    for w in 0..MAX_WORKERS {
+        if set.has(WorkerNo::new(w as u16)) {
+            list.push(w as u16)?;
+        }
+    }
+    Ok(list)
+}
+
+/// Whether a node is a worker of the rack that the groups do not leave out.
+pub fn is_left(tree: &RackTree, ends: &Ends<'_>, rack: u16, node: TreeNode) -> bool
+    requires { IsNode tree.now node }
+    ensures { IsTrue result ↔ IsLeft tree.now (Has ends.now.barred) rack node }
+{
+    tree.limits();
+    match node {
+        TreeNode::Worker(worker) => {
+            tree.rack_of(WorkerNo::new(worker)).index() == rack as usize && !ends.is_barred(worker)
+        }
+        _ => false,
     }
 }
 
@@ -67,60 +271,199 @@ pub fn all_ends(
     alloc: Global,
     problem: &Problem,
     children: &Children,
-) -> Result<Vec<Ends>, AllocError>
+) -> Result<AllEnds, AllocError>
     requires { AreChildren problem.now.tree children.now }
-    ensures { IfOk result (λ ends. AreEnds problem.now ends.items) }
+    ensures { IfOk result (λ ends. AreEnds problem.now ends) }
 {
-    let mut all = Vec::with_capacity(alloc, problem.splits())?;
+    let mut all = AllEnds::with_room(alloc, problem.splits())?;
+    let mut groups = Vec::new(alloc);
     for s in 0..problem.splits() {
-        let ends = ends_of(alloc, problem, children, SplitNo::new(s as u16))?;
-        all.push(Ends(ends))?;
+        let split = SplitNo::new(s as u16);
+        add_ends(alloc, &mut all, &mut groups, problem, children, split)?;
     }
     Ok(all)
 }
 
-fn ends_of(
+// Adds the ends of the next split. The list is lent for its groups.
+fn add_ends(
+    alloc: Global,
+    all: &mut AllEnds,
+    groups: &mut Vec<Group>,
+    problem: &Problem,
+    children: &Children,
+    split: SplitNo,
+) -> Result<(), AllocError>
+    requires children { AreChildren problem.now.tree children.now }
+    requires split { split < length problem.now.splits }
+    ensures { OnOk result (IsAdded problem.now split all.old all.new) }
+{
+    let _tree = problem.tree();
+    if !problem.bars(split).is_empty() {
+        let ends = OwnEnds::of(alloc, problem, children, split)?;
+        return all.add(ends);
+    }
+    unbarred_groups(groups, problem, split)?;
+    all.share(groups)?;
+    Ok(())
+}
+
+// Leaves the groups of a split for which no worker is barred in a list.
+fn unbarred_groups(
+    groups: &mut Vec<Group>,
+    problem: &Problem,
+    split: SplitNo,
+) -> Result<(), AllocError>
+    requires split { split < length problem.now.splits }
+    requires bars { AreBars problem.now split None }
+    ensures { OnOk result ((e : End)
+        → HasEndFor problem.now split groups.new.items e ↔ IsEnd problem.now split e) }
+{
+    groups.clear();
+    if !problem.is_pending(split) {
+        return Ok(());
+    }
+    let holders = problem.holders(split);
+    for k in 0..holders.len() {
+        add_unbarred(groups, problem, split, holders, k)?;
+    }
+    Ok(())
+}
+
+// The ends at the nodes above the holder after k others, if it lives, where no worker is barred. The ends of
+// the k others are there already.
+fn add_unbarred(
+    groups: &mut Vec<Group>,
+    problem: &Problem,
+    split: SplitNo,
+    holders: &[WorkerNo],
+    k: usize,
+) -> Result<(), AllocError>
+    requires bars { AreBars problem.now split None }
+    requires known { All (λ holder. holder < length problem.now.workers) holders.now }
+    requires holder { k < length holders.now }
+    requires before { AreMet problem.now split holders.now k groups.old.items }
+    ensures { OnOk result ((e : End) → HasEndFor problem.now split groups.new.items e
+        ↔ (HasEndFor problem.now split groups.old.items e ⊎ IsLevelEnd problem.now split (holder_at holders.now k) e)) }
+{
+    let holder = holders[k];
+    let lives = problem.is_live(holder);
+    if !lives {
+        return Ok(());
+    }
+    add_single(groups, problem, split, holder, 0)?;
+    add_single(groups, problem, split, holder, 1)?;
+    add_unmet(groups, problem, split, holders, k, 2)?;
+    if problem.tree().reach() > 4 {
+        add_unmet(groups, problem, split, holders, k, 3)?;
+    }
+    Ok(())
+}
+
+// The end so many levels above a worker, where no worker is barred.
+#[inline(always)]
+fn add_single(
+    groups: &mut Vec<Group>,
+    problem: &Problem,
+    split: SplitNo,
+    worker: WorkerNo,
+    level: u8,
+) -> Result<(), AllocError>
+    requires bars { AreBars problem.now split None }
+    requires worker { worker < length problem.now.workers }
+    ensures { OnOk result ((e : End) → HasEndFor problem.now split groups.new.items e
+        ↔ (HasEndFor problem.now split groups.old.items e
+        ⊎ IsTopEnd problem.now split (top_of problem.now worker level) e)) }
+{
+    groups.push(Group::Single(end_above(problem.tree(), level, worker)))?;
+    Ok(())
+}
+
+// The end so many levels above a worker.
+#[inline(always)]
+fn end_above(tree: &RackTree, level: u8, worker: WorkerNo) -> End
+    requires { worker < length tree.now.rack_of }
+    ensures node { result.node ≡ node_above tree.now level worker }
+    ensures level { result.level ≡ level }
+    ensures known { IsNode tree.now result.node }
+{
+    End {
+        node: node_above(tree, level, worker),
+        level,
+    }
+}
+
+// The end so many levels above the holder after k others, unless it is there.
+#[inline(always)]
+fn add_unmet(
+    groups: &mut Vec<Group>,
+    problem: &Problem,
+    split: SplitNo,
+    holders: &[WorkerNo],
+    k: usize,
+    level: u8,
+) -> Result<(), AllocError>
+    requires bars { AreBars problem.now split None }
+    requires known { All (λ holder. holder < length problem.now.workers) holders.now }
+    requires holder { k < length holders.now }
+    requires within { 2 * level ≤ reach problem.now.tree }
+    requires before { AreMet problem.now split holders.now k groups.old.items }
+    ensures { OnOk result ((e : End) → HasEndFor problem.now split groups.new.items e
+        ↔ (HasEndFor problem.now split groups.old.items e
+        ⊎ IsTopEnd problem.now split (top_of problem.now (holder_at holders.now k) level) e)) }
+{
+    let top = end_above(problem.tree(), level, holders[k]);
+    if is_above_one(problem, holders, k, top) {
+        return Ok(());
+    }
+    add_single(groups, problem, split, holders[k], level)
+}
+
+// The groups of a split of a problem.
+fn groups_of(
     alloc: Global,
     problem: &Problem,
     children: &Children,
     split: SplitNo,
-) -> Result<Vec<End>, AllocError>
+) -> Result<Vec<Group>, AllocError>
     requires children { AreChildren problem.now.tree children.now }
     requires split { split < length problem.now.splits }
-    ensures { IfOk result (λ ends. (e : End) → Contains ends.items e ↔ IsEnd problem.now split e) }
+    ensures { IfOk result (λ groups. (e : End)
+        → HasEndFor problem.now split groups.items e ↔ IsEnd problem.now split e) }
 {
     if !problem.is_pending(split) {
         return Ok(Vec::new(alloc));
     }
     let bars = barred_nodes(alloc, problem, split)?;
-    ends_with(alloc, problem, children, &bars, split)
+    groups_with(alloc, problem, children, &bars, split)
 }
 
-// The ends of a pending split.
-fn ends_with(
+// The groups of a pending split.
+fn groups_with(
     alloc: Global,
     problem: &Problem,
     children: &Children,
     bars: &Option<NodeTable<bool>>,
     split: SplitNo,
-) -> Result<Vec<End>, AllocError>
+) -> Result<Vec<Group>, AllocError>
     requires children { AreChildren problem.now.tree children.now }
     requires split { split < length problem.now.splits }
     requires pending { (split_at problem.now split).pending ≡ true }
     requires bars { AreBars problem.now split bars.now }
-    ensures { IfOk result (λ ends. (e : End) → Contains ends.items e ↔ IsEnd problem.now split e) }
+    ensures { IfOk result (λ groups. (e : End)
+        → HasEndFor problem.now split groups.items e ↔ IsEnd problem.now split e) }
 {
     let holders = problem.holders(split);
-    let mut ends = Vec::with_capacity(alloc, holders.len().saturating_mul(4))?;
+    let mut groups = Vec::with_capacity(alloc, holders.len().saturating_mul(4))?;
     for k in 0..holders.len() {
-        add_holder(&mut ends, problem, children, bars, split, holders, k)?;
+        add_holder(&mut groups, problem, children, bars, split, holders, k)?;
     }
-    Ok(ends)
+    Ok(groups)
 }
 
-// The ends at and under the nodes above the holder after k others, if it lives. The ends of those are there.
+// The ends at and under the nodes above the holder after k others, if it lives. The ends of the k others
+// are there.
 fn add_holder(
-    ends: &mut Vec<End>,
+    groups: &mut Vec<Group>,
     problem: &Problem,
     children: &Children,
     bars: &Option<NodeTable<bool>>,
@@ -132,9 +475,9 @@ fn add_holder(
     requires bars { AreBars problem.now split bars.now }
     requires known { All (λ holder. holder < length problem.now.workers) holders.now }
     requires holder { k < length holders.now }
-    requires before { AreMet problem.now split holders.now k ends.old.items }
-    ensures { OnOk result ((e : End) → Contains ends.new.items e
-        ↔ (Contains ends.old.items e ⊎ IsLevelEnd problem.now split (holder_at holders.now k) e)) }
+    requires before { AreMet problem.now split holders.now k groups.old.items }
+    ensures { OnOk result ((e : End) → HasEndFor problem.now split groups.new.items e
+        ↔ (HasEndFor problem.now split groups.old.items e ⊎ IsLevelEnd problem.now split (holder_at holders.now k) e)) }
 {
     let holder = holders[k];
     if !problem.is_live(holder) {
@@ -148,7 +491,7 @@ fn add_holder(
         if is_met(problem, bars, holders, k, top) {
             continue;
         }
-        add_top(ends, problem, children, bars, split, top)?;
+        add_top(groups, problem, children, bars, split, top)?;
     }
     Ok(())
 }
@@ -170,6 +513,16 @@ fn is_met(
     if top.level == 0 || top.level == 1 && bars.is_none() {
         return false;
     }
+    is_above_one(problem, holders, k, top)
+}
+
+// Whether the node of an end stands above one of the first k holders, which lives, at the end's level.
+fn is_above_one(problem: &Problem, holders: &[WorkerNo], k: usize, top: End) -> bool
+    requires known { All (λ holder. holder < length problem.now.workers) holders.now }
+    requires few { k ≤ length holders.now }
+    ensures { IsTrue result → (j : ℕ) × (j < k)
+        × IsLiveUnder problem.now (holder_at holders.now j) top }
+{
     for j in 0..k {
         if is_live_under(problem, holders[j], top) {
             return true;
@@ -179,6 +532,7 @@ fn is_met(
 }
 
 // Whether a holder lives and stands under the node of an end, so many levels below it as the end's.
+#[inline(always)]
 fn is_live_under(problem: &Problem, holder: WorkerNo, top: End) -> bool
     requires { holder < length problem.now.workers }
     ensures { IsTrue result → IsLiveUnder problem.now holder top }
@@ -188,7 +542,7 @@ fn is_live_under(problem: &Problem, holder: WorkerNo, top: End) -> bool
 
 // An end at a node, or at the largest nodes under it without bars.
 fn add_top(
-    ends: &mut Vec<End>,
+    groups: &mut Vec<Group>,
     problem: &Problem,
     children: &Children,
     bars: &Option<NodeTable<bool>>,
@@ -198,12 +552,16 @@ fn add_top(
     requires children { AreChildren problem.now.tree children.now }
     requires bars { AreBars problem.now split bars.now }
     requires known { IsNode problem.now.tree top.node }
-    ensures { OnOk result ((e : End) → Contains ends.new.items e
-        ↔ (Contains ends.old.items e ⊎ IsTopEnd problem.now split top e)) }
+    ensures { OnOk result ((e : End) → HasEndFor problem.now split groups.new.items e
+        ↔ (HasEndFor problem.now split groups.old.items e ⊎ IsTopEnd problem.now split top e)) }
 {
     problem.limits();
     if !has_bar(bars, top.node) {
-        ends.push(top)?;
+        groups.push(Group::Single(top))?;
+        return Ok(());
+    }
+    if let TreeNode::Rack(rack) = top.node {
+        groups.push(Group::Workers(rack, top.level))?;
         return Ok(());
     }
     for node in children.of(problem.tree(), top.node) {
@@ -212,9 +570,9 @@ fn add_top(
             level: top.level,
         };
         if has_bar(bars, *node) {
-            add_top(ends, problem, children, bars, split, below)?;
+            add_top(groups, problem, children, bars, split, below)?;
         } else {
-            ends.push(below)?;
+            groups.push(Group::Single(below))?;
         }
     }
     Ok(())

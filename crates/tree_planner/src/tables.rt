@@ -10,6 +10,7 @@ ghost use Rattle.tree_flow.specs.State.{slots_of, sum_under};
 ghost use Rattle.tree_flow.specs.Table.{at_node, HasNode, IsOver, IsSized};
 ghost use Rattle.tree_planner.specs.View.{state_of, AreTables};
 
+use crate::cursors::Cursors;
 use crate::lists::Standing;
 use node_ids::WorkerNo;
 use std::alloc::{AllocError, Global};
@@ -17,9 +18,8 @@ use tree_flow::{NodeTable, Place, TreeNode};
 use wave_problem::Problem;
 
 /// Where each split is, how many units come to each node from its parent, how deep each node lies, how many
-/// slots of each worker are free, and how many under each node; and lists of the splits that stand at each
-/// node.
-#[derive(Drop)]
+/// slots of each worker are free, and how many under each node; lists of the splits that stand at each node;
+/// and where free slots are looked for.
 pub struct Tables {
     pub places: Vec<Place>,
     pub flow: NodeTable<u64>,
@@ -27,6 +27,22 @@ pub struct Tables {
     pub free: Vec<u64>,
     pub below: NodeTable<u64>,
     pub standing: Standing,
+    pub cursors: Cursors,
+}
+
+// (one call wherever it is dropped)
+impl Drop for Tables {
+    fn drop(self) {
+        let Tables {
+            places: _,
+            flow: _,
+            depth: _,
+            free: _,
+            below: _,
+            standing: _,
+            cursors: _,
+        } = self;
+    }
 }
 
 /// Tables in which no split is shipped, and all slots are free.
@@ -40,6 +56,7 @@ pub fn fresh_tables(alloc: Global, problem: &Problem) -> Result<Tables, AllocErr
     let below = slots_under(alloc, problem)?;
     let standing = Standing::new(alloc, problem.tree(), problem.splits())?;
     let places = all_unshipped(alloc, problem)?;
+    let cursors = Cursors::new(alloc, problem.tree())?;
     Ok(Tables {
         places,
         flow,
@@ -47,6 +64,7 @@ pub fn fresh_tables(alloc: Global, problem: &Problem) -> Result<Tables, AllocErr
         free,
         below,
         standing,
+        cursors,
     })
 }
 

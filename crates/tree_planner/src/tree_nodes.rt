@@ -24,6 +24,7 @@ pub fn parent(tree: &RackTree, node: TreeNode) -> TreeNode
 }
 
 /// Whether two nodes are the same.
+#[inline(always)]
 pub fn is_same(one: TreeNode, other: TreeNode) -> bool
     ensures { IsTrue result ↔ (one ≡ other) }
 {
@@ -31,6 +32,7 @@ pub fn is_same(one: TreeNode, other: TreeNode) -> bool
 }
 
 /// The node so many levels above a worker.
+#[inline(always)]
 pub fn node_above(tree: &RackTree, level: u8, worker: WorkerNo) -> TreeNode
     requires { worker < length tree.now.rack_of }
     ensures node { result ≡ node_above tree.now level worker }

@@ -7,16 +7,15 @@ ghost use Rattle.tree_planner.specs.Events.{AreOtherEnds, ArePut, IsLike, IsOffI
 ghost use Rattle.tree_planner.specs.View.{state_of};
 ghost use Rattle.tree_planner.specs.Way.{AreOthersSame};
 
-use crate::back::SearchBack;
 use crate::engine::Fixed;
 use crate::events::{lay_off, place_at, take_off};
 use crate::like::has_same_ends;
-use crate::refill::fill;
-use crate::split_ends::Ends;
+use crate::refill::{Spare, fill};
+use crate::split_ends::OwnEnds;
 use crate::tables::Tables;
 use node_ids::SplitNo;
 use std::alloc::{AllocError, Global};
-use tree_flow::{End, NodeTable, Place};
+use tree_flow::{End, Place};
 use wave_problem::Problem;
 
 /// Goes over to a problem in which some splits have other ends: those are not shipped then. Ends are made for
@@ -50,7 +49,7 @@ fn other_ends(
     problem: &Problem,
     fixed: &Fixed,
     next: &Problem,
-) -> Result<Vec<Option<Ends>>, AllocError>
+) -> Result<Vec<Option<OwnEnds>>, AllocError>
     requires fixed { IsFixed problem.now fixed.now }
     requires like { IsLike problem.now next.now }
     ensures { IfOk result (λ others. AreOtherEnds problem.now next.now others.items) }
@@ -69,7 +68,7 @@ fn other_ends_of(
     fixed: &Fixed,
     next: &Problem,
     split: SplitNo,
-) -> Result<Option<Ends>, AllocError>
+) -> Result<Option<OwnEnds>, AllocError>
     requires fixed { IsFixed problem.now fixed.now }
     requires like { IsLike problem.now next.now }
     requires split { split < length next.now.splits }
@@ -78,7 +77,7 @@ fn other_ends_of(
     if has_same_ends(problem, next, split) {
         return Ok(None);
     }
-    let ends = Ends::of(alloc, next, &fixed.children, split)?;
+    let ends = OwnEnds::of(alloc, next, &fixed.children, split)?;
     Ok(Some(ends))
 }
 
@@ -88,7 +87,7 @@ fn withdraw_changed(
     problem: &Problem,
     fixed: &Fixed,
     tables: &mut Tables,
-    others: &[Option<Ends>],
+    others: &[Option<OwnEnds>],
 ) -> Result<(), AllocError>
     requires fixed { IsFixed problem.now fixed.now }
     requires size { length others.now ≡ length problem.now.splits }
@@ -108,7 +107,7 @@ fn withdraw_if_changed(
     problem: &Problem,
     fixed: &Fixed,
     tables: &mut Tables,
-    others: &[Option<Ends>],
+    others: &[Option<OwnEnds>],
     split: u16,
 ) -> Result<(), AllocError>
     requires fixed { IsFixed problem.now fixed.now }
@@ -126,15 +125,15 @@ fn withdraw_if_changed(
 }
 
 // Replaces ends of splits by other ones.
-fn put_ends(fixed: &mut Fixed, others: Vec<Option<Ends>>)
-    requires { length others.items ≡ length fixed.old.ends.items }
+fn put_ends(fixed: &mut Fixed, others: Vec<Option<OwnEnds>>)
+    requires { length others.items ≡ length fixed.old.ends }
     ensures rest { fixed.new ≡ record fixed.old { ends = fixed.new.ends } }
-    ensures ends { ArePut fixed.old.ends.items others.items fixed.new.ends.items }
+    ensures ends { ArePut fixed.old.ends others.items fixed.new.ends }
 {
     let mut others = others;
     for s in 0..others.len() {
         if let Some(ends) = others[s].take() {
-            fixed.ends[s] = ends;
+            fixed.ends.put(s, ends);
         }
     }
 }
@@ -181,9 +180,8 @@ fn withdraw_from(
     ensures unshipped { OnOk result (place_of (state_of tables.new) split ≡ Unshipped) }
     ensures others { AreOthersSame (state_of tables.old) (state_of tables.new) split }
 {
-    let mut search = SearchBack::new(alloc, problem, fixed.reward, end.node)?;
-    let depth = NodeTable::new(alloc, problem.tree(), 0)?;
+    let mut spare = Spare::new(alloc, problem.tree())?;
     take_off(problem, tables, split, end);
-    fill(problem, fixed, tables, &mut search, depth);
+    fill(problem, fixed, tables, &mut spare, end.node);
     Ok(())
 }

@@ -1,15 +1,29 @@
--- A split with a live holder has a cost on each worker.
-use Rattle.std.proofs.Common.{ℕ, ◌*◌, ◌<◌, List, [], ◌∷◌, length, map, refl, arith}
-use Rattle.std.specs.Option.{option_map}
-use Rattle.std.specs.Prelude.{IsSome}
-use Rattle.rack_tree.specs.Tree.{distance}
-use Rattle.wave_problem.specs.Sums.{least}
-use Rattle.wave_problem.specs.Wave.{cost, live_holders, split_at, Wave}
+-- What the pairs of a plan cost together.
+use Rattle.std.proofs.Common.{◌≡◌, ℕ, ◌+◌, ◌<◌, ◌≤◌, List, [], ◌∷◌, ◌++◌, length, take, get_or, sym, ap, ◌∙◌, arith}
+use Rattle.std.proofs.Common.{Option, None, Some}
+use Rattle.std.proofs.lemmas.List.{take_more}
+use Rattle.std.proofs.lemmas.List.Sums.{sum_by_push}
+use Rattle.std.specs.Prelude.{unwrap_or, IfSome}
+use Rattle.wave_problem.specs.Assignment.{pairs_from, pairs_of, total}
+use Rattle.wave_problem.specs.Wave.{cost, Wave}
 
-costed_by : (bytes : ℕ) (steps : ℕ → ℕ) (holders : List ℕ) → 0 < length holders
-    → IsSome (option_map (λ d. bytes * d) (least (map steps holders)))
-costed_by bytes steps [] some = absurd (omega arith)
-costed_by bytes steps (h ∷ holders) some = refl
+-- there are no more pairs than splits
+pairs_few_from : (n : ℕ) (starts : List (Option ℕ)) → length (pairs_from n starts) ≤ length starts
+pairs_few_from n [] = omega arith
+pairs_few_from n (None ∷ rest) = let few = pairs_few_from (n + 1) rest in omega arith
+pairs_few_from n (Some w ∷ rest) = let few = pairs_few_from (n + 1) rest in omega arith
 
-pub costed : (wave : Wave) (s w : ℕ) → 0 < length (live_holders wave s) → IsSome (cost wave s w)
-costed wave s w some = costed_by (split_at wave s).bytes (λ h. distance wave.tree h w) (live_holders wave s) some
+pub pairs_few : (starts : List (Option ℕ)) → length (pairs_of starts) ≤ length starts
+pairs_few starts = pairs_few_from 0 starts
+
+-- the total of one pair more
+pub total_next : (wave : Wave) (pairs : List (ℕ × ℕ)) (i : ℕ) (x : ℕ × ℕ) → i < length pairs → x ≡ get_or pairs i x
+    → total wave (take (i + 1) pairs) ≡ total wave (take i pairs) + unwrap_or (cost wave x.0 x.1) 0
+total_next wave pairs i x within is =
+    ap (total wave) (take_more pairs i x within) ∙ ap (λ (y : ℕ × ℕ). total wave (take i pairs ++ y ∷ [])) (sym is)
+    ∙ sum_by_push (λ (pair : ℕ × ℕ). unwrap_or (cost wave pair.0 pair.1) 0) (take i pairs) x
+
+-- a bound of a number that may be there
+pub unwrap_most : (o : Option ℕ) (most : ℕ) → IfSome o (λ x. x ≤ most) → unwrap_or o 0 ≤ most
+unwrap_most None most is = omega arith
+unwrap_most (Some x) most is = is

@@ -1,9 +1,10 @@
 //! Plans of a wave that start as many splits as can be started, at the least cost, with prices that show it.
 //!
-//! `plan_with` has a plan and its prices made over the network that is asked for, and certifies them: over
-//! that of `direct_network` by a least-cost flow, over that of `rack_network` by `tree_planner`, whose plan
-//! is read off a least-cost flow of it too (`engine_is_a_flow`). It always answers a best plan with prices
-//! that certify it, or that memory is wanting. Stands on these three and on `certificate_checker`.
+//! `plan_with` has a plan and its prices made over the network that is asked for: over that of
+//! `direct_network` by a least-cost flow, over that of `rack_network` by `tree_planner`, whose plan is read
+//! off a least-cost flow of it too (`engine_is_a_flow`). Both promise that the prices certify the plan, so no
+//! test is made. It always answers a best plan with prices that certify it, or that memory is wanting. Stands
+//! on these three and on `certificate_checker`.
 //!
 //! # How the layer above uses it
 //! The program `plan_a_wave` plans a wave, and has its plan checked by its prices. The two contracts together
@@ -24,4 +25,4 @@ mod planning;
 
 pub use flow_network::NetworkKind;
 pub use laws::engine_is_a_flow;
-pub use planning::{PlanError, Planned, plan, plan_with};
+pub use planning::{PlanError, Planned, pairs_of, plan, plan_with};

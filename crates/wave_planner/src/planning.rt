@@ -1,6 +1,8 @@
 //! Plans a wave.
-ghost use Rattle.std.specs.Prelude.{◌≡◌, ℕ, length, IfOk, IsSome, Some};
-ghost use Rattle.wave_problem.specs.Assignment.{pairs_of, start_of, total, IsBest};
+ghost use Rattle.std.specs.Prelude.{◌≡◌, ℕ, ◌*◌, ◌<◌, ◌≤◌, length, unwrap_or, All, IfOk};
+ghost use Rattle.rack_tree.specs.declared.TheConstants.{MAX_DISTANCE};
+ghost use Rattle.wave_problem.specs.declared.TheConstants.{MAX_BYTES, MAX_SPLITS};
+ghost use Rattle.wave_problem.specs.Assignment.{pairs_of, total, IsBest};
 ghost use Rattle.wave_problem.specs.Wave.{cost, IsUsable};
 ghost use Rattle.price_certificate.specs.Certificate.{claim, worker_price, Certifies, HasOneSize};
 ghost use Rattle.flow_network.specs.declared.kinds.NetworkKind.{NetworkKind};
@@ -8,23 +10,26 @@ ghost use Rattle.rack_network.specs.Racks.{IsTree};
 ghost use Rattle.wave_planner.specs.Planned.{IsMadeOver, WasCertified, Planned};
 ghost use Rattle.wave_planner.specs.PlannedView.{planned_of};
 
-use certificate_checker::{Certified, certify};
+use certificate_checker::{Certified, count_and_cost};
 use direct_network::DirectLayout;
 use flow_network::NetworkKind;
 use network_prices::priced_plan;
+use node_ids::{SplitNo, WorkerNo};
 use price_certificate::Prices;
 use std::alloc::{AllocError, Global};
 use std::marker::Model;
 use thiserror::Error;
 use wave_problem::{Plan, Problem};
 
-/// A plan with prices that certify it in the problem that it was made for, and its count and cost. Whoever
-/// has one knows that it was certified; against another problem `certify` tells anew.
+/// A plan with prices that certify it in the problem that it was made for, its count and cost, and the splits
+/// that it starts. Whoever has one knows that it was certified; against another problem `certify` tells anew.
 #[derive(Drop)]
 pub struct Planned {
     plan: Plan,
     prices: Prices,
     certified: Certified,
+    // The splits that start, each with its worker.
+    pairs: Vec<(SplitNo, WorkerNo)>,
 }
 
 impl Model for Planned {
@@ -32,16 +37,22 @@ impl Model for Planned {
 
     ghost view = { planned_of };
 
-    ghost invariant = { λ p. WasCertified (planned_of p) };
+    ghost invariant = { λ p. WasCertified (planned_of p) × (p.pairs.items ≡ pairs_of p.plan.starts) };
 }
 
 impl Planned {
     /// A plan with prices that are known to certify it in a problem, where slots that nobody can take have no
-    /// price. It needs no test, and no memory.
-    pub fn known(problem: &Problem, plan: Plan, prices: Prices) -> Planned
+    /// price, and with the splits that start. It needs no test, and no memory.
+    pub fn known(
+        problem: &Problem,
+        plan: Plan,
+        prices: Prices,
+        pairs: Vec<(SplitNo, WorkerNo)>,
+    ) -> Planned
         requires sizes { HasOneSize (claim problem.now plan.starts prices) plan.workers }
         requires certifies { Certifies (claim problem.now plan.starts prices) }
         requires idle { (w : ℕ) → (IsUsable problem.now.workers w → ⊥) → worker_price prices w ≡ 0 }
+        requires pairs { pairs.items ≡ pairs_of plan.starts }
         ensures over { IsMadeOver NetworkKind.Racks problem.now result.plan.starts result.prices }
         ensures plan { result.plan ≡ plan }
         ensures prices { result.prices ≡ prices }
@@ -50,13 +61,14 @@ impl Planned {
     {
         problem.limits();
         let certified = Certified {
-            count: plan.count(),
-            cost: cost_of(problem, &plan),
+            count: pairs.len(),
+            cost: cost_of(problem, &pairs),
         };
         Planned {
             plan,
             prices,
             certified,
+            pairs,
         }
     }
 
@@ -67,6 +79,13 @@ impl Planned {
         &self.plan
     }
 
+    /// The splits that start, each with its worker, by rising split.
+    pub fn pairs(&self) -> &[(SplitNo, WorkerNo)]
+        ensures { result.now ≡ pairs_of self.now.plan.starts }
+    {
+        &self.pairs
+    }
+
     /// The prices by which the plan is best.
     pub fn prices(&self) -> &Prices
         ensures { result.now ≡ self.now.prices }
@@ -74,13 +93,19 @@ impl Planned {
         &self.prices
     }
 
-    /// The plan and the prices.
-    pub fn into_parts(self) -> (Plan, Prices)
+    /// The plan, the prices, and the splits that start, each with its worker, by rising split.
+    pub fn into_parts(self) -> (Plan, Prices, Vec<(SplitNo, WorkerNo)>)
         ensures plan { result.0 ≡ self.plan }
         ensures prices { result.1 ≡ self.prices }
+        ensures pairs { result.2.items ≡ pairs_of self.plan.starts }
     {
-        let Planned { plan, prices, .. } = self;
-        (plan, prices)
+        let Planned {
+            plan,
+            prices,
+            pairs,
+            ..
+        } = self;
+        (plan, prices, pairs)
     }
 
     /// How many splits start, and the byte-distance of the starts together.
@@ -92,17 +117,68 @@ impl Planned {
     }
 }
 
-// The byte-distance of the starts of a plan together, each of which has a cost.
-fn cost_of(problem: &Problem, plan: &Plan) -> u64
-    requires splits { length plan.now.starts ≡ length problem.now.splits }
-    requires workers { plan.now.workers ≡ length problem.now.workers }
-    requires costs { (s w : ℕ) → start_of plan.now.starts s ≡ Some w → IsSome (cost problem.now s w) }
-    ensures { result ≡ total problem.now (pairs_of plan.now.starts) }
+// The byte-distance of these starts together.
+fn cost_of(problem: &Problem, pairs: &[(SplitNo, WorkerNo)]) -> u64
+    requires few { length pairs.now ≤ MAX_SPLITS }
+    requires known { All (λ pair. (pair.0 < length problem.now.splits)
+        × (pair.1 < length problem.now.workers)) pairs.now }
+    ensures { result ≡ total problem.now pairs.now }
 {
-    match plan.total_cost(problem) {
-        Some(cost) => cost,
-        None => unreachable!(),
+    let mut total = 0;
+    for pair in pairs {
+        let (split, worker) = *pair;
+        total += cost_at(problem, split, worker);
     }
+    total
+}
+
+// What it costs a split to start on a worker, or 0.
+fn cost_at(problem: &Problem, split: SplitNo, worker: WorkerNo) -> u64
+    requires split { split < length problem.now.splits }
+    requires worker { worker < length problem.now.workers }
+    ensures cost { result ≡ unwrap_or (cost problem.now split worker) 0 }
+    ensures most { result ≤ MAX_DISTANCE * MAX_BYTES }
+{
+    problem.cost(split, worker).unwrap_or(0)
+}
+
+// A plan with prices that certify it, and with its count and its cost.
+fn certified_plan(
+    problem: &Problem,
+    plan: Plan,
+    prices: Prices,
+    pairs: Vec<(SplitNo, WorkerNo)>,
+) -> Planned
+    requires sizes { HasOneSize (claim problem.now plan.starts prices) plan.workers }
+    requires certifies { Certifies (claim problem.now plan.starts prices) }
+    requires pairs { pairs.items ≡ pairs_of plan.starts }
+    ensures plan { result.plan ≡ plan }
+    ensures prices { result.prices ≡ prices }
+    ensures count { result.certified.count ≡ length (pairs_of plan.starts) }
+    ensures cost { result.certified.cost ≡ total problem.now (pairs_of plan.starts) }
+    ensures best { IsBest problem.now (pairs_of plan.starts) }
+{
+    let certified = count_and_cost(problem, &plan, &prices);
+    Planned {
+        plan,
+        prices,
+        certified,
+        pairs,
+    }
+}
+
+/// The splits that a plan starts, each with its worker, by rising split.
+pub fn pairs_of(alloc: Global, plan: &Plan) -> Result<Vec<(SplitNo, WorkerNo)>, AllocError>
+    ensures { IfOk result (λ pairs. pairs.items ≡ pairs_of plan.now.starts) }
+{
+    let mut pairs = Vec::new(alloc);
+    for s in 0..plan.splits() {
+        let split = SplitNo::new(s as u16);
+        if let Some(worker) = plan.of(split) {
+            pairs.push((split, worker))?;
+        }
+    }
+    Ok(pairs)
 }
 
 /// Why no plan is made.
@@ -146,13 +222,9 @@ pub fn plan_with(alloc: Global, problem: &Problem, kind: NetworkKind) -> Result<
     let Ok((plan, prices)) = priced_plan_over(alloc, problem, kind) else {
         return Err(PlanError::Memory);
     };
-    match certify(problem, &plan, &prices) {
-        Ok(certified) => Ok(Planned {
-            plan,
-            prices,
-            certified,
-        }),
-        Err(_) => unreachable!(),
+    match pairs_of(alloc, &plan) {
+        Ok(pairs) => Ok(certified_plan(problem, plan, prices, pairs)),
+        Err(_) => Err(PlanError::Memory),
     }
 }
 

@@ -1,10 +1,7 @@
 use Rattle.std.proofs.Common.{◌∙◌, ◌<◌, sym, ap, subst, arith}
 use Rattle.tree_flow.specs.Nodes.{is_under, IsNode}
 use Rattle.tree_flow.specs.Table.{at_node}
-use Rattle.tree_flow.specs.declared.nodes.TreeNode.TheVariants.{Worker}
 use Rattle.tree_flow.proofs.Moved.{under_own}
-use Rattle.tree_flow.proofs.Under.{under_worker}
-use Rattle.tree_planner.specs.View.{state_of}
 use Rattle.tree_planner.proofs.down.free_worker.Goals as goal
 
 pub loop-at-init : goal.loop-at-init
@@ -22,15 +19,7 @@ returns-in-Worker-clause-known c =
 
 pub returns-in-Worker-clause-free : goal.returns-in-Worker-clause-free
 returns-in-Worker-clause-free c =
-    let wave = c.args.problem.now in
-    let t = c.args.tables.now in
-    let w = c.in-Worker.worker in
-    let known = subst (λ v. IsNode wave.tree v) c.in-Worker.is c.loop-at.invariant.known in
-    let lines = c.requires.wave.lines in
-    let some = subst (λ v. 0 < at_node t.below v) c.in-Worker.is c.loop-at.invariant.some in
-    let sums = c.requires.tables.sums (Worker w) in
-    let own = under_worker wave (state_of t).free w (omega arith) in
-    omega arith
+    subst (λ v. 0 < at_node c.args.below.now v) c.in-Worker.is c.loop-at.invariant.some
 
 pub returns-in-Worker-clause-under : goal.returns-in-Worker-clause-under
 returns-in-Worker-clause-under c =

@@ -7,7 +7,7 @@ use Rattle.tree_planner.proofs.down.free_worker.Given as goal
 abbrev pub invariant-loop-at : goal.invariant-loop-at
 invariant-loop-at l = record {
   known : IsNode l.problem.tree l.at;
-  some : 0 < at_node l.tables.below l.at;
+  some : 0 < at_node l.below l.at;
   under : is_under l.problem.tree l.at l.fn.node ≡ true;
 }
 

@@ -1,6 +1,5 @@
-use Rattle.std.proofs.Common.{◌≡◌, ℕ, ◌↔◌, ◌∙◌, Contains, true, refl, sym, subst}
+use Rattle.std.proofs.Common.{◌≡◌, ℕ, ◌↔◌, ◌∙◌, true, refl, sym, subst}
 use Rattle.std.specs.Prelude.{slice_set}
-use Rattle.std.specs.Vec.{with_item}
 use Rattle.std.proofs.lemmas.Bool.{false≢true}
 use Rattle.wave_problem.specs.Wave.{Wave}
 use Rattle.tree_flow.specs.declared.nodes.End.{End}
@@ -10,7 +9,7 @@ use Rattle.tree_flow.specs.State.{place_of}
 use Rattle.tree_flow.proofs.Moved.{here_now}
 use Rattle.tree_planner.specs.View.{state_of}
 use Rattle.tree_planner.specs.declared.engine.Fixed.{Fixed}
-use Rattle.tree_planner.specs.Ends.{AreEnds}
+use Rattle.tree_planner.specs.Ends.{AreEnds, HasEnd}
 use Rattle.tree_planner.specs.Engine.{IsFixed, IsStanding}
 use Rattle.tree_planner.specs.Events.{with_pending}
 use Rattle.tree_planner.proofs.Pending.{ends_set, pending_fixed, pending_standing}
@@ -29,12 +28,13 @@ returns-clause-fixed c =
     let fixed = c.args.fixed.now in
     let known = c.requires.split in
     let list = c.in_ok-ends.ends in
-    let new : Fixed = record fixed { ends = with_item fixed.ends c.index.result list } in
+    let new : Fixed = record fixed { ends = c.put.new.self } in
     let is = c.in_ok-ends.ensures.wave in
-    let ends : AreEnds (with_pending wave s true) new.ends.items =
-    subst (λ i. AreEnds (with_pending wave s true) (slice_set fixed.ends.items i list))
-    (sym c.index.ensures.value) (ends_set wave s true known fixed.ends.items list c.requires.fixed.ends
-    (subst (λ (w : Wave). (e : End) → Contains list e ↔ IsEnd w s e) is c.in_ok-ends.ensures.ends)) in
+    let ends : AreEnds (with_pending wave s true) new.ends =
+    subst (λ ends. AreEnds (with_pending wave s true) ends) (sym c.put.ensures)
+    (subst (λ i. AreEnds (with_pending wave s true) (slice_set fixed.ends i list))
+    (sym c.index.ensures.value) (ends_set wave s true known fixed.ends list c.requires.fixed.ends
+    (subst (λ (w : Wave). (e : End) → HasEnd w.tree list e ↔ IsEnd w s e) is c.in_ok-ends.ensures.ends))) in
     subst (λ (w : Wave). IsFixed w new) (sym is) (pending_fixed wave s true known fixed new
     c.requires.fixed ends refl)
 

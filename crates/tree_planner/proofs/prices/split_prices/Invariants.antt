@@ -1,11 +1,7 @@
-use Rattle.std.proofs.Common.{◌≡◌, ℕ, ◌<◌, ◌≤◌, length, slice_index}
-use Rattle.tree_planner.specs.Priced.{IsSplitPrice}
+use Rattle.wave_problem.specs.Assignment.{pairs_of}
+use Rattle.tree_planner.proofs.Paired.{ArePriced}
 use Rattle.tree_planner.proofs.prices.split_prices.Given as goal
 
-abbrev pub invariant-loop-s : goal.invariant-loop-s
-invariant-loop-s l = record {
-  size : length l.prices.items ≡ length l.problem.splits;
-  done : (k : ℕ) → k < l.s
-      → IsSplitPrice l.problem l.plan.starts l.workers k (slice_index l.prices.items k);
-  left : (k : ℕ) → l.s ≤ k → slice_index l.prices.items k ≡ 0;
-}
+abbrev pub invariant-loop-pair : goal.invariant-loop-pair
+invariant-loop-pair l =
+    ArePriced l.problem l.workers (pairs_of l.starts.each.items) l.pair-index l.prices.items

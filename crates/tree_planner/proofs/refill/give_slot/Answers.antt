@@ -17,7 +17,7 @@ returns-clause-tables c =
     let wave = c.args.problem.now in
     let mid = c.give_free.new.tables in
     let below = c.add_above.new.numbers in
-    given_tables wave c.args.tables.now mid below c.args.worker c.requires.tables c.give_free.ensures.rest
-    c.give_free.ensures.size c.give_free.ensures.taken c.add_above.ensures.size
+    given_tables wave c.args.tables.now mid below c.rewind.new.self c.args.worker c.requires.tables
+    c.give_free.ensures.rest c.give_free.ensures.size c.give_free.ensures.taken c.add_above.ensures.size
     (λ v. c.add_above.ensures.added v
     ∙ ap (λ w. at_node mid.below v + cond (is_under wave.tree (Worker w) v) 1 0) c.new.ensures)

@@ -1,12 +1,16 @@
 use Rattle.std.proofs.Common.{ℕ, ◌<◌, get_or}
-use Rattle.tree_flow.specs.declared.nodes.TreeNode.TheVariants.{Worker}
-use Rattle.tree_planner.specs.Searching.{Improves, IsSearching, IsStartedAt}
+use Rattle.node_ids.specs.Sets.{Has}
+use Rattle.tree_flow.specs.declared.nodes.End.{End}
+use Rattle.tree_planner.specs.Ends.{IsOf}
+use Rattle.tree_planner.specs.Searching.{wave_of, Improves, IsSearching, IsStartedAt}
+use Rattle.tree_planner.proofs.Grouped.{first}
 use Rattle.tree_planner.proofs.search.start.Given as goal
 
-abbrev pub invariant-loop-end : goal.invariant-loop-end
-invariant-loop-end l = record {
+abbrev pub invariant-loop-group : goal.invariant-loop-group
+invariant-loop-group l = record {
   searching : IsSearching l.ground l.search;
   improves : Improves l.fn.search l.search;
-  started : (k : ℕ) → k < l.end-index
-      → IsStartedAt l.ground l.search (get_or l.ends k (record { node = Worker 0; level = 0 }));
+  started : (k : ℕ) → k < l.group-index → (x : End)
+      → IsOf (wave_of l.ground).tree (Has l.ends.barred) (get_or l.ends.groups k first) x
+      → IsStartedAt l.ground l.search x;
 }

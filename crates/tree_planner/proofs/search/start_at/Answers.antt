@@ -7,7 +7,7 @@ returns-clause-searching c =
     c.reach.ensures.kept c.args.ground.now c.requires.ground c.requires.searching c.is_free-free.ensures c.requires.is_end.known
     (λ none. record {
       is_end = c.requires.is_end;
-      cost = (let is = c.cost_at.ensures.cost in let least = c.requires.least in omega arith);
+      cost = (let is = c.cost_at.ensures.cost in let least = c.requires.least.ends c.args.end c.requires.is_end in omega arith);
     })
 
 pub reach-requires-clause-room : goal.reach-requires-clause-room

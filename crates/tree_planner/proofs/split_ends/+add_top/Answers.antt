@@ -1,29 +1,50 @@
-use Rattle.std.proofs.Common.{Vec, Global, ◌↔◌, ◌⊎◌, ◌∙◌, ℕ, List, ap, sym, subst, get_or, length, Contains, arith, inl, inr}
+use Rattle.std.proofs.Common.{◌≡◌, ◌++◌, ◌∷◌, [], Vec, Global, ◌↔◌, ◌⊎◌, ◌∙◌, ℕ, List, ap, sym, subst, get_or, length, Contains, arith, inl, inr}
 use Rattle.std.proofs.lemmas.Bool.{false≢true}
 use Rattle.std.proofs.lemmas.List.Elements.{Contains-get_or}
-use Rattle.tree_flow.specs.declared.nodes.End.{End}
-use Rattle.tree_flow.specs.declared.nodes.TreeNode.TheVariants.{Worker}
+use Rattle.tree_planner.specs.declared.split_ends.Group.{Group}
+use Rattle.tree_planner.specs.declared.split_ends.Group.TheVariants.{Workers}
+use Rattle.tree_flow.specs.declared.nodes.TreeNode.TheVariants.{Rack, Worker}
+use Rattle.tree_flow.specs.Nodes.{HasBarUnder}
 use Rattle.tree_flow.specs.declared.nodes.TreeNode.{TreeNode}
-use Rattle.tree_planner.specs.Bars.{IsTopEnd}
+use Rattle.tree_planner.specs.Bars.{HasEndFor, IsTopEnd}
 use Rattle.tree_planner.specs.Hanging.{hanging}
 use Rattle.tree_planner.proofs.Descended.{end_below, rises, sinks}
 use Rattle.tree_planner.proofs.Barred.{has_entry}
 use Rattle.tree_planner.proofs.Handed.{height, height_less}
+use Rattle.tree_planner.proofs.Grouped.{rack_ends}
 use Rattle.tree_planner.proofs.Known.{is_known}
-use Rattle.tree_planner.proofs.Tops.{join_below, push_top}
+use Rattle.tree_planner.proofs.Tops.{join_below, push_ends, push_top}
 use Rattle.tree_planner.proofs.split_ends.+add_top.Goals as goal
-use Rattle.tree_planner.proofs.split_ends.+add_top.Goals.{then-has_bar+in_ok-add_top, else-has_bar+in_ok-push-2}
+use Rattle.tree_planner.proofs.split_ends.+add_top.Goals.{then-has_bar+in_ok-add_top, else-has_bar+in_ok-push-3}
 
 pub returns-then-not-has_bar : goal.returns-then-not-has_bar
 returns-then-not-has_bar t c = λ e.
     (let wave = c.args.problem.now in
     let s = c.args.split in
     let top = c.args.top in
-    subst (λ xs. Contains xs e ↔ (Contains c.args.ends.now.items e ⊎ IsTopEnd wave s top e))
+    subst (λ xs. HasEndFor wave s xs e ↔ (HasEndFor wave s c.args.groups.now.items e ⊎ IsTopEnd wave s top e))
     (sym c.in_ok-push.ensures.items)
-    (push_top wave s top c.args.ends.now.items c.requires.known
+    (push_top wave s top c.args.groups.now.items c.requires.known
     (λ b. false≢true (sym c.if-not-has_bar.true ∙ c.has_bar.ensures
     ∙ (c.requires.bars.each top.node c.requires.known).1 b)) e))
+
+pub returns-in-Rack : goal.returns-in-Rack
+returns-in-Rack t c = λ e.
+    (let wave = c.args.problem.now in
+    let s = c.args.split in
+    let rack = c.in-Rack.rack in
+    let at : c.args.top ≡ record { node = Rack rack; level = c.args.top.level } =
+    ap (λ v. record { node = v; level = c.args.top.level }) c.in-Rack.is in
+    let known = is_known wave c.limits.ensures.problem c.limits.ensures.tree in
+    let barred = (c.requires.bars.each c.args.top.node c.requires.known).0
+    (sym c.has_bar.ensures ∙ c.if-not-has_bar.false) in
+    subst (λ xs. HasEndFor wave s xs e ↔ (HasEndFor wave s c.args.groups.now.items e ⊎ IsTopEnd wave s c.args.top e))
+    (sym c.in_ok-push-2.ensures.items)
+    (subst (λ top. HasEndFor wave s (c.args.groups.now.items ++ Workers rack c.args.top.level ∷ []) e
+    ↔ (HasEndFor wave s c.args.groups.now.items e ⊎ IsTopEnd wave s top e)) (sym at)
+    (push_ends wave s (record { node = Rack rack; level = c.args.top.level }) c.args.groups.now.items
+    (Workers rack c.args.top.level) e (rack_ends wave s rack c.args.top.level
+    (subst (λ v. HasBarUnder wave s v) c.in-Rack.is barred) known e))))
 
 pub has_bar-requires-in-loop-node : goal.has_bar-requires-in-loop-node
 has_bar-requires-in-loop-node t c =
@@ -56,21 +77,21 @@ loop-node-preserved t c = λ e.
     let hangs = (c.requires.children.each c.args.top.node node).0 (subst (λ xs. Contains xs node) c.of-node-items.ensures
     (Contains-get_or below at (Worker 0) c.loop-node-test.true)) in
     let is_end : List TreeNode → ℕ → Type 0 = (λ below k. IsTopEnd wave s (end_below c.args.top below k) e) in
-    let one : Contains c.if-has_bar.ends.items e ↔ (Contains c.loop-node.ends.items e ⊎ is_end below at) =
+    let one : HasEndFor wave s c.if-has_bar.groups.items e ↔ (HasEndFor wave s c.loop-node.groups.items e ⊎ is_end below at) =
     elim c.if-has_bar.branch [
       | then-has_bar+in_ok-add_top w ↦
-          subst (λ (v : Vec End Global). Contains v.items e ↔ (Contains c.loop-node.ends.items e ⊎ is_end below at))
-          (sym w.ends-is) (w.in_ok-add_top.ensures e)
-      | else-has_bar+in_ok-push-2 w ↦
-          subst (λ (v : Vec End Global). Contains v.items e ↔ (Contains c.loop-node.ends.items e ⊎ is_end below at))
-          (sym w.ends-is)
-          (subst (λ xs. Contains xs e ↔ (Contains c.loop-node.ends.items e ⊎ is_end below at))
-          (sym w.in_ok-push-2.ensures.items)
-          (push_top wave s end c.loop-node.ends.items hangs.known (λ b. false≢true
+          subst (λ (v : Vec Group Global). HasEndFor wave s v.items e ↔ (HasEndFor wave s c.loop-node.groups.items e ⊎ is_end below at))
+          (sym w.groups-is) (w.in_ok-add_top.ensures e)
+      | else-has_bar+in_ok-push-3 w ↦
+          subst (λ (v : Vec Group Global). HasEndFor wave s v.items e ↔ (HasEndFor wave s c.loop-node.groups.items e ⊎ is_end below at))
+          (sym w.groups-is)
+          (subst (λ xs. HasEndFor wave s xs e ↔ (HasEndFor wave s c.loop-node.groups.items e ⊎ is_end below at))
+          (sym w.in_ok-push-3.ensures.items)
+          (push_top wave s end c.loop-node.groups.items hangs.known (λ b. false≢true
           (sym w.if-has_bar.false ∙ c.has_bar-in-loop-node.ensures ∙ (c.requires.bars.each node hangs.known).1 b)) e))
     ] in
     join_below (is_end (hanging c.args.children.now c.args.top.node)) at
-    (subst (λ below. Contains c.if-has_bar.ends.items e ↔ (Contains c.loop-node.ends.items e ⊎ is_end below at))
+    (subst (λ below. HasEndFor wave s c.if-has_bar.groups.items e ↔ (HasEndFor wave s c.loop-node.groups.items e ⊎ is_end below at))
     c.of-node-items.ensures one) (c.loop-node.invariant e))
 
 pub returns : goal.returns

@@ -1,6 +1,6 @@
-use Rattle.std.proofs.Common.{◌↔◌, ◌⊎◌, ℕ, ◌<◌, Contains}
+use Rattle.std.proofs.Common.{◌↔◌, ◌⊎◌, ℕ, ◌<◌}
 use Rattle.tree_flow.specs.declared.nodes.End.{End}
-use Rattle.tree_planner.specs.Bars.{IsTopEnd}
+use Rattle.tree_planner.specs.Bars.{HasEndFor, IsTopEnd}
 use Rattle.tree_planner.specs.Hanging.{hanging}
 use Rattle.tree_planner.proofs.Descended.{end_below}
 use Rattle.tree_planner.proofs.Handed.{height}
@@ -10,6 +10,6 @@ abbrev pub decreases-add_top : goal.decreases-add_top
 decreases-add_top l = height l.top.node
 
 abbrev pub invariant-loop-node : goal.invariant-loop-node
-invariant-loop-node l = (e : End) → Contains l.ends.items e
-    ↔ (Contains l.initial.ends.items e ⊎ ((k : ℕ) × (k < l.node-index)
+invariant-loop-node l = (e : End) → HasEndFor l.problem l.split l.groups.items e
+    ↔ (HasEndFor l.problem l.split l.initial.groups.items e ⊎ ((k : ℕ) × (k < l.node-index)
     × IsTopEnd l.problem l.split (end_below l.top (hanging l.children l.top.node) k) e))

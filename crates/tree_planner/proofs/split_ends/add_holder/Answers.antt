@@ -1,7 +1,7 @@
-use Rattle.std.proofs.Common.{◌≡◌, ℕ, ◌↔◌, ◌⊎◌, ◌∙◌, ap, sym, subst, Contains, arith, inl, inr}
+use Rattle.std.proofs.Common.{◌≡◌, ℕ, ◌↔◌, ◌⊎◌, ◌∙◌, ap, sym, subst, arith, inl, inr}
 use Rattle.std.proofs.lemmas.List.{get_or_read}
 use Rattle.rack_tree.specs.Tree.{Tree, reach}
-use Rattle.tree_planner.specs.Bars.{holder_at, IsLevelEnd, IsTopEnd}
+use Rattle.tree_planner.specs.Bars.{holder_at, HasEndFor, IsLevelEnd, IsTopEnd}
 use Rattle.tree_flow.specs.Nodes.{node_above}
 use Rattle.tree_planner.proofs.Tops.{join_below}
 use Rattle.tree_planner.proofs.split_ends.add_holder.Goals as goal
@@ -13,8 +13,8 @@ loop-level-preserved c = λ e.
     let at = c.node_above.ensures.node
     ∙ ap (λ (t : Tree). node_above t c.loop-level.level c.index-holders-k.result) c.tree-in-loop-level.ensures.tree in
     join_below (λ (k : ℕ). IsTopEnd wave s (record { node = node_above wave.tree k c.index-holders-k.result; level = k }) e)
-    c.loop-level.level (subst (λ v. Contains c.add_top.new.ends.items e
-    ↔ (Contains c.loop-level.ends.items e ⊎ IsTopEnd wave s (record { node = v; level = c.loop-level.level }) e)) at
+    c.loop-level.level (subst (λ v. HasEndFor wave s c.add_top.new.groups.items e
+    ↔ (HasEndFor wave s c.loop-level.groups.items e ⊎ IsTopEnd wave s (record { node = v; level = c.loop-level.level }) e)) at
     (c.in_ok-add_top.ensures e)) (c.loop-level.invariant e))
 
 pub returns : goal.returns
@@ -30,7 +30,7 @@ returns c = λ e.
     let past = c.loop-level-test.false in
     let here : holder ≡ holder_at c.args.holders.now c.args.k =
     get_or_read c.args.holders.now c.args.k holder c.requires.holder c.index-holders-k.is 0 in
-    subst (λ h. Contains c.loop-level.ends.items e ↔ (Contains c.args.ends.now.items e ⊎ IsLevelEnd wave s h e)) here (
+    subst (λ h. HasEndFor wave s c.loop-level.groups.items e ↔ (HasEndFor wave s c.args.groups.now.items e ⊎ IsLevelEnd wave s h e)) here (
       λ has. elim (i.0 has) [
         | inl before ↦ inl before
         | inr t ↦ (let few = t.1 in inr (record {

@@ -1,3 +1,6 @@
+use Rattle.std.proofs.Common.{subst}
+use Rattle.std.proofs.lemmas.Bool.{false≢true}
+use Rattle.tree_planner.specs.WayBack.{IsSpare}
 use Rattle.tree_planner.proofs.Standing.{begins_standing}
 use Rattle.tree_planner.proofs.kept.Engine.new.Goals as goal
 
@@ -5,4 +8,6 @@ pub invariant_of-result : goal.invariant_of-result
 invariant_of-result c = (
   c.in_ok-fixed.ensures,
   begins_standing c.args.problem c.in_ok-tables.tables c.in_ok-tables.ensures.tables c.in_ok-tables.ensures.fresh,
+  subst (λ t. IsSpare t c.in_ok-spare.spare) c.tree.ensures.tree c.in_ok-spare.ensures,
+  λ is. absurd (false≢true is),
 )

@@ -1,4 +1,4 @@
-use Rattle.std.proofs.Common.{◌∙◌, false, sym, ap, subst}
+use Rattle.std.proofs.Common.{◌≡◌, ◌∙◌, false, sym, ap, subst}
 use Rattle.wave_problem.specs.Wave.{Wave}
 use Rattle.tree_planner.specs.Events.{with_pending}
 use Rattle.tree_planner.specs.Going.{HasSameGround}
@@ -6,14 +6,22 @@ use Rattle.tree_planner.specs.Shown.{Shown}
 use Rattle.tree_planner.proofs.Flagged.{ground_started, ground_with_pending}
 use Rattle.tree_planner.proofs.kept.Engine.set_aside.Goals as goal
 
-pub returns-in-Some : goal.returns-in-Some
-returns-in-Some c =
+pub returns-in-Some-clause-ground : goal.returns-in-Some-clause-ground
+returns-in-Some-clause-ground c =
     subst (λ (x : Wave). HasSameGround c.args.self.now.wave x) (sym c.in-Some.ensures.wave)
     (ground_started c.args.self.now.wave c.args.split c.in-Some.field-0)
 
-pub returns-in-None : goal.returns-in-None
-returns-in-None c =
+pub returns-in-Some-clause-split : goal.returns-in-Some-clause-split
+returns-in-Some-clause-split c = ap (λ (x : Wave). x.splits) c.in-Some.ensures.wave
+
+pub returns-in-None-clause-ground : goal.returns-in-None-clause-ground
+returns-in-None-clause-ground c =
     subst (λ (x : Wave). HasSameGround c.args.self.now.wave x)
     (sym (c.pass_over.ensures
     ∙ ap (λ (x : Shown). with_pending x.wave c.args.split false) (c.start.ensures.none c.in-None.is).0))
     (ground_with_pending c.args.self.now.wave c.args.split false)
+
+pub returns-in-None-clause-split : goal.returns-in-None-clause-split
+returns-in-None-clause-split c =
+    ap (λ (x : Wave). x.splits) (c.pass_over.ensures
+    ∙ ap (λ (x : Shown). with_pending x.wave c.args.split false) (c.start.ensures.none c.in-None.is).0)

@@ -26,6 +26,7 @@ loop-k-preserved c =
         far = over_sized c.args.tree.now now.far far i.tables.far c.set.ensures.size;
         how = i.tables.how;
         order = over_sized c.args.tree.now now.order order i.tables.order c.set-in-loop-k.ensures.size;
+        covers = i.tables.covers;
       };
       row = i.row;
       forgotten = λ v. forgotten_next first now (record now { far = far; order = order }) c.loop-k.k c.at-node.result

@@ -1,13 +1,31 @@
-use Rattle.std.proofs.Common.{arith, refl}
-use Rattle.price_certificate.specs.declared.Condition.TheVariants.{Open}
+use Rattle.std.proofs.Common.{ℕ, ◌<◌, List, length, get_or, arith, refl, sym, ap, ◌∙◌, subst}
+use Rattle.wave_problem.specs.Assignment.{pairs_of}
+use Rattle.wave_problem.proofs.Bound.{live_known, pending_known}
+use Rattle.wave_problem.proofs.Pairs.{pairs_started}
+use Rattle.price_certificate.specs.declared.Condition.TheVariants.{Allowed, Open}
 use Rattle.rack_network.proofs.Exists.{certified_is_over_racks}
 use Rattle.rack_network.specs.Racks.{IsTree}
-use Rattle.wave_planner.proofs.Costed.{costed}
+use Rattle.wave_planner.proofs.Costed.{pairs_few}
 use Rattle.wave_planner.proofs.planning.Planned.known.Goals as goal
 
-pub cost_of-requires-clause-costs : goal.cost_of-requires-clause-costs
-cost_of-requires-clause-costs c = λ s w is.
-    costed c.args.problem.now s w (c.requires.certifies (Open s) (rw is refl)).1
+pub cost_of-requires-clause-few : goal.cost_of-requires-clause-few
+cost_of-requires-clause-few c =
+    let few = pairs_few c.args.plan.starts in
+    let is = ap length (c.deref.ensures.value ∙ c.requires.pairs) in
+    let size = c.requires.sizes.starts in
+    let most = c.limits.ensures.problem.few_splits in
+    omega arith
+
+pub cost_of-requires-clause-known : goal.cost_of-requires-clause-known
+cost_of-requires-clause-known c = λ k d l.
+    (let is = c.deref.ensures.value ∙ c.requires.pairs in
+    subst (λ (xs : List (ℕ × ℕ)). ((get_or xs k d).0 < length c.args.problem.now.splits)
+    × ((get_or xs k d).1 < length c.args.problem.now.workers)) (sym is)
+    (let x = get_or (pairs_of c.args.plan.starts) k d in
+    let start = pairs_started c.args.plan.starts k d (let same = ap length is in omega arith) in (
+      pending_known c.args.problem.now x.0 (c.requires.certifies (Open x.0) (rw start refl)).0,
+      live_known c.args.problem.now x.1 (c.requires.certifies (Allowed x.0 x.1) start).0,
+    )))
 
 pub returns-clause-over : goal.returns-clause-over
 returns-clause-over c =

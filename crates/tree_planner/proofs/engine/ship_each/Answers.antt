@@ -1,0 +1,18 @@
+use Rattle.std.proofs.Common.{ℕ, arith, inl, inr, subst, sym}
+use Rattle.std.specs.Prelude.{◌≢◌}
+use Rattle.std.proofs.lemmas.Bool.{cases_eq}
+use Rattle.tree_flow.specs.declared.nodes.Place.TheVariants.{Unshipped}
+use Rattle.tree_flow.specs.State.{place_of}
+use Rattle.tree_planner.specs.View.{state_of}
+use Rattle.tree_planner.proofs.engine.ship_each.Goals as goal
+
+pub loop-s-preserved : goal.loop-s-preserved
+loop-s-preserved c = record {
+  standing = c.ship_once.ensures.standing;
+  blank = c.ship_once.ensures.blank;
+  shipped = λ k l. elim (cases_eq k c.loop-s.s) [
+    | inl e ↦ subst (λ (k : ℕ). place_of (state_of c.ship_once.new.tables) k ≢ Unshipped) (sym e)
+        c.ship_once.ensures.shipped
+    | inr n ↦ (λ un. c.loop-s.invariant.shipped k (omega arith) ((c.ship_once.ensures.others k n).0 un))
+  ];
+}

@@ -1,0 +1,20 @@
+use Rattle.std.proofs.Common.{ℕ, ◌+◌, ◌-◌, ◌∙◌, List, ap, sym}
+use Rattle.std.specs.Prelude.{slice_index, unwrap_or}
+use Rattle.wave_problem.specs.Wave.{cost, reward}
+use Rattle.tree_planner.proofs.prices.prices_of.Goals as goal
+
+pub returns-clause-prices : goal.returns-clause-prices
+returns-clause-prices c =
+    let wave = c.args.problem.now in
+    let splits = c.from_lists.ensures.splits in
+    let workers = c.from_lists.ensures.workers in
+    let of_worker = c.in_ok-workers.ensures.prices in
+    let of_split = c.in_ok-splits.ensures.prices in
+    record {
+      usable = λ w is. ap (λ (xs : List ℕ). slice_index xs w) workers ∙ (of_worker w).usable is;
+      unusable = λ w is. ap (λ (xs : List ℕ). slice_index xs w) workers ∙ (of_worker w).unusable is;
+      started = λ s w is. ap (λ (xs : List ℕ). slice_index xs s) splits ∙ (of_split s).started w is
+          ∙ ap (λ (xs : List ℕ). reward wave - (slice_index xs w + unwrap_or (cost wave s w) 0))
+          (c.deref.ensures.value ∙ sym workers);
+      unstarted = λ s is. ap (λ (xs : List ℕ). slice_index xs s) splits ∙ (of_split s).unstarted is;
+    }

@@ -1,8 +1,0 @@
-use Rattle.std.proofs.Common.{ℕ, ◌<◌, ◌↔◌, Contains, get_or}
-use Rattle.tree_flow.specs.declared.nodes.End.{End}
-use Rattle.tree_planner.specs.Bars.{IsLevelEnd}
-use Rattle.tree_planner.proofs.split_ends.ends_with.Given as goal
-
-abbrev pub invariant-loop-k : goal.invariant-loop-k
-invariant-loop-k l = (e : End) → Contains l.ends.items e
-    ↔ ((k : ℕ) × (k < l.k) × IsLevelEnd l.problem l.split (get_or l.holders k 0) e)

@@ -1,0 +1,221 @@
+//! Steps of a search by which a split leaves the end at which it stands.
+ghost use Rattle.std.specs.Prelude.{◌≡◌, ◌+◌, ◌<◌, ◌≤◌, ℕ, length};
+ghost use Rattle.node_ids.specs.Sets.{Has};
+ghost use Rattle.tree_flow.specs.declared.nodes.End.{End};
+ghost use Rattle.tree_flow.specs.declared.nodes.Place.TheVariants.{Stands};
+ghost use Rattle.tree_flow.specs.declared.nodes.TreeNode.TheVariants.{Worker};
+ghost use Rattle.tree_flow.specs.Nodes.{IsEnd, IsNode};
+ghost use Rattle.tree_flow.specs.State.{place_of};
+ghost use Rattle.tree_planner.specs.declared.split_ends.Group.TheVariants.{Workers};
+ghost use Rattle.tree_planner.specs.Ends.{ends_at, IsLeft, IsOf};
+ghost use Rattle.tree_planner.specs.Searching.{state_at, wave_of, AreOf, GoesAllOver, Improves, IsAt, IsGround};
+ghost use Rattle.tree_planner.specs.Searching.{IsLeaving, IsOut, IsOverTo, IsSearching};
+
+use crate::search::{Goal, Ground, Search, Step, cost_at, end_cost, ends_of, is_free, workers_in};
+use crate::split_ends::{Ends, Group, is_left};
+use tree_flow::{End, TreeNode};
+
+/// A split that may leave the end at which it stands: how far the end is, and what the split costs there.
+#[derive(Clone, Copy)]
+pub struct Leaving {
+    pub split: u16,
+    pub end: End,
+    pub far: u64,
+    pub spent: u64,
+}
+
+/// Takes the steps of a split that stands at an end, unless an end of a way is known that is no farther than
+/// this one.
+pub fn hand_over(ground: &Ground<'_>, search: &mut Search, split: u16, end: End)
+    requires ground { IsGround ground.now }
+    requires split { split < length (wave_of ground.now).splits }
+    requires searching { IsSearching ground.now search.old }
+    requires at { IsAt search.old end.node }
+    requires stands { place_of (state_at ground.now) split ≡ Stands end }
+    ensures searching { IsSearching ground.now search.new }
+    ensures improves { Improves search.old search.new }
+    ensures over { GoesAllOver ground.now search.new end.node split }
+{
+    let spent = cost_at(ground, split, end);
+    let far = search.far_of(end.node);
+    let distance = far + ground.reward - spent;
+    search.arrive(Goal::Off(split), distance);
+    if search.bound <= far {
+        return;
+    }
+    let leaving = Leaving {
+        split,
+        end,
+        far,
+        spent,
+    };
+    let ends = ends_of(ground, split);
+    for group in ends.groups() {
+        over_group(ground, search, leaving, &ends, *group);
+    }
+}
+
+// Takes the steps of a split to the ends of a group.
+fn over_group(
+    ground: &Ground<'_>,
+    search: &mut Search,
+    leaving: Leaving,
+    ends: &Ends<'_>,
+    group: Group,
+)
+    requires ground { IsGround ground.now }
+    requires searching { IsSearching ground.now search.old }
+    requires leaving { IsLeaving ground.now search.old leaving }
+    requires ends { ends.now ≡ ends_at ground.now.ends.now leaving.split }
+    requires group { AreOf ground.now leaving.split (Has ends.now.barred) group }
+    ensures searching { IsSearching ground.now search.new }
+    ensures improves { Improves search.old search.new }
+    ensures over { (x : End) → IsOf (wave_of ground.now).tree (Has ends.now.barred) group x
+        → IsOverTo ground.now search.new leaving.end leaving.split x }
+{
+    match group {
+        Group::Single(other) => over_to(ground, search, leaving, other),
+        Group::Workers(rack, level) => over_workers(ground, search, leaving, ends, rack, level),
+    }
+}
+
+// Takes the steps of a split to workers of a rack. Where another split has taken such steps, and was no
+// farther, only the workers are left that its groups leave out.
+fn over_workers(
+    ground: &Ground<'_>,
+    search: &mut Search,
+    leaving: Leaving,
+    ends: &Ends<'_>,
+    rack: u16,
+    level: u8,
+)
+    requires ground { IsGround ground.now }
+    requires searching { IsSearching ground.now search.old }
+    requires leaving { IsLeaving ground.now search.old leaving }
+    requires ends { ends.now ≡ ends_at ground.now.ends.now leaving.split }
+    requires group { AreOf ground.now leaving.split (Has ends.now.barred) (Workers rack level) }
+    ensures searching { IsSearching ground.now search.new }
+    ensures improves { Improves search.old search.new }
+    ensures over { (x : End) → IsOf (wave_of ground.now).tree (Has ends.now.barred) (Workers rack level) x
+        → IsOverTo ground.now search.new leaving.end leaving.split x }
+{
+    if rack as usize >= ground.problem.tree().racks() {
+        return;
+    }
+    let offset = leaving.far + end_cost(ground, leaving.split, level) + ground.reward
+        - leaving.spent;
+    if search.bound + ground.reward <= offset {
+        return;
+    }
+    let cover = search.covers.get(TreeNode::Rack(rack));
+    if cover.offset <= offset {
+        over_rest(ground, search, leaving, ends, rack, level, cover.split);
+    } else {
+        over_all(ground, search, leaving, ends, rack, level);
+        search.cover(rack, offset, leaving.split);
+    }
+}
+
+// To all workers of a rack that are not left out.
+fn over_all(
+    ground: &Ground<'_>,
+    search: &mut Search,
+    leaving: Leaving,
+    ends: &Ends<'_>,
+    rack: u16,
+    level: u8,
+)
+    requires ground { IsGround ground.now }
+    requires searching { IsSearching ground.now search.old }
+    requires leaving { IsLeaving ground.now search.old leaving }
+    requires group { AreOf ground.now leaving.split (Has ends.now.barred) (Workers rack level) }
+    ensures searching { IsSearching ground.now search.new }
+    ensures improves { Improves search.old search.new }
+    ensures over { (x : End) → IsOf (wave_of ground.now).tree (Has ends.now.barred) (Workers rack level) x
+        → IsOverTo ground.now search.new leaving.end leaving.split x }
+{
+    let nodes = workers_in(ground, rack);
+    for node in nodes {
+        over_node(
+            ground,
+            search,
+            leaving,
+            ends,
+            rack,
+            End { node: *node, level },
+        );
+    }
+}
+
+// To the workers of a rack that the groups of another split leave out.
+fn over_rest(
+    ground: &Ground<'_>,
+    search: &mut Search,
+    leaving: Leaving,
+    ends: &Ends<'_>,
+    rack: u16,
+    level: u8,
+    other: u16,
+)
+    requires ground { IsGround ground.now }
+    requires searching { IsSearching ground.now search.old }
+    requires leaving { IsLeaving ground.now search.old leaving }
+    requires group { AreOf ground.now leaving.split (Has ends.now.barred) (Workers rack level) }
+    requires other { other < length (wave_of ground.now).splits }
+    ensures searching { IsSearching ground.now search.new }
+    ensures improves { Improves search.old search.new }
+    ensures over { (w : ℕ) → IsOut ground.now other w
+        → IsLeft (wave_of ground.now).tree (Has ends.now.barred) rack (Worker w)
+        → IsOverTo ground.now search.new leaving.end leaving.split (record { node = Worker w; level = level }) }
+{
+    let most = ground.problem.workers();
+    let workers = ends_of(ground, other).barred();
+    for worker in workers {
+        let node = TreeNode::Worker(*worker);
+        if (*worker as usize) < most {
+            over_node(ground, search, leaving, ends, rack, End { node, level });
+        }
+    }
+}
+
+// To one node of a rack, if it is a worker that is not left out.
+fn over_node(
+    ground: &Ground<'_>,
+    search: &mut Search,
+    leaving: Leaving,
+    ends: &Ends<'_>,
+    rack: u16,
+    end: End,
+)
+    requires ground { IsGround ground.now }
+    requires searching { IsSearching ground.now search.old }
+    requires leaving { IsLeaving ground.now search.old leaving }
+    requires known { IsNode (wave_of ground.now).tree end.node }
+    requires group { AreOf ground.now leaving.split (Has ends.now.barred) (Workers rack end.level) }
+    ensures searching { IsSearching ground.now search.new }
+    ensures improves { Improves search.old search.new }
+    ensures over { IsLeft (wave_of ground.now).tree (Has ends.now.barred) rack end.node
+        → IsOverTo ground.now search.new leaving.end leaving.split end }
+{
+    if is_left(ground.problem.tree(), ends, rack, end.node) {
+        over_to(ground, search, leaving, end);
+    }
+}
+
+// Takes the step of a split from its end to another.
+fn over_to(ground: &Ground<'_>, search: &mut Search, leaving: Leaving, other: End)
+    requires ground { IsGround ground.now }
+    requires searching { IsSearching ground.now search.old }
+    requires leaving { IsLeaving ground.now search.old leaving }
+    requires is_end { IsEnd (wave_of ground.now) leaving.split other }
+    ensures searching { IsSearching ground.now search.new }
+    ensures improves { Improves search.old search.new }
+    ensures over { IsOverTo ground.now search.new leaving.end leaving.split other }
+{
+    let distance = leaving.far + cost_at(ground, leaving.split, other) - leaving.spent;
+    if search.is_nearer(other.node, distance) {
+        let free = is_free(ground, other.node);
+        let step = Step::Over(leaving.split, other.level);
+        search.reach(other.node, distance, step, free);
+    }
+}
