@@ -15,6 +15,7 @@ use Rattle.master_state.specs.Changes.{changed, counted}
 use Rattle.master_state.specs.Jobs.{Job, IsAccepted, IsKept, event_of, added_by}
 use Rattle.master_state.proofs.Keeping.{calls_keep}
 use Rattle.master_tables.specs.declared.entries.SplitEntry.{SplitEntry}
+use Rattle.compact_lists.specs.Lists.{EventsValue}
 use Rattle.master_core.specs.declared.master.Master.TheInside.{Inside}
 use Rattle.master_core.specs.Inside.{setup_of, state_of, job_of, HasNearEngine, HasRoom, IsMaster}
 use Rattle.master_tables.specs.Kept.{AreOfSplits}
@@ -34,9 +35,9 @@ pub record Rooms : Type 0 where
 abbrev pub rooms_of : Inside → Rooms
 rooms_of m = record {
   setup = setup_of m;
-  events = vec_capacity m.history;
+  events = m.history.room;
   attempts = vec_capacity m.starts;
-  sweeps = vec_capacity m.sweeps;
+  sweeps = m.sweeps.room;
   results = vec_capacity m.results;
 }
 
@@ -51,7 +52,7 @@ room_after old new was same =
 
 -- a master with other tables and another history, whose other lists are the same
 abbrev pub with_tables : Inside → Workers → List (List ℕ) → Vec SplitEntry Global → Vec PartState Global →
-    Vec Event Global → Inside
+    EventsValue → Inside
 with_tables m workers holders splits parts history =
     record m { workers = workers; holders = holders; splits = splits; parts = parts; history = history }
 

@@ -23,14 +23,18 @@ use Rattle.master_state.specs.Jobs.{Job}
 use Rattle.master_state.proofs.Lists.{filter_none}
 use Rattle.master_state.proofs.Problems.{length-each, length-lines, within_limits}
 use Rattle.master_state.proofs.Sweeping.{heard_state}
+use Rattle.master_tables.specs.declared.entries.SplitEntry.{SplitEntry}
 use Rattle.master_tables.specs.Entries.{shown_as}
 use Rattle.master_tables.specs.Lines.{split_lines}
 use Rattle.master_tables.specs.Slots.{with_slots_given}
 use Rattle.master_core.specs.declared.kept.Kept.{Kept}
 use Rattle.master_core.specs.declared.master.Master.TheInside.{Inside}
 use Rattle.master_core.specs.Inside.{setup_of, state_of, job_of, IsMaster}
-use Rattle.master_core.specs.Near.{HasPlaces, IsNear}
+use Rattle.master_core.specs.Near.{flags_of, HasPlaces, IsNear}
 use Rattle.master_core.proofs.Accepting.{still_master}
+
+pub length-flags : (entries : List SplitEntry) → length (flags_of entries) ≡ length entries
+length-flags entries = length-map (map shown_as entries) is_pending ∙ length-map entries shown_as
 
 -- slots that are given back, and starts, bar nothing
 pub bars_given : (t : Workers) (attempts : List Attempt) → (with_slots_given t attempts).barred ≡ t.barred

@@ -38,9 +38,9 @@ job_of m = record {
 
 -- the lists have room for all that the limits allow
 pub record HasRoom (m : Inside) : Type 0 where
-  pub events : m.limits.events ≤ vec_capacity m.history
+  pub events : m.limits.events ≤ m.history.room
   pub attempts : m.limits.attempts ≤ vec_capacity m.starts
-  pub sweeps : m.limits.sweeps ≤ vec_capacity m.sweeps
+  pub sweeps : m.limits.sweeps ≤ m.sweeps.room
   pub results : m.cluster.parts ≤ vec_capacity m.results
 
 -- the engine is near where it says so

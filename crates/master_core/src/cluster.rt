@@ -35,7 +35,6 @@ pub enum ClusterError {
 
 /// A job's input: racks and workers, each worker's slots, splits with their first holders and texts, the
 /// number of parts, and the silence (sweeps without a new beat) after which a worker is dead.
-#[derive(Drop)]
 pub struct Cluster {
     tree: RackTree,
     slots: Vec<u8>,
@@ -43,6 +42,20 @@ pub struct Cluster {
     texts: Vec<Arc<SplitText>>,
     parts: usize,
     silence: u32,
+}
+
+// (one call wherever it is dropped)
+impl Drop for Cluster {
+    fn drop(self) {
+        let Cluster {
+            tree: _,
+            slots: _,
+            splits: _,
+            texts: _,
+            parts: _,
+            silence: _,
+        } = self;
+    }
 }
 
 impl Model for Cluster {

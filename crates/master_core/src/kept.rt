@@ -25,10 +25,13 @@ impl Kept {
         ensures { (cluster : Cluster) (holders : List (List ℕ)) (barred : List ℕ)
             → IsNear self.new cluster holders barred }
     {
-        *self = match self.take() {
-            Kept::Near(engine) => Kept::Far(engine),
-            other => other,
-        };
+        // (an engine is big: it is moved only where its kind changes)
+        if matches!(self, Kept::Near(_)) {
+            *self = match self.take() {
+                Kept::Near(engine) => Kept::Far(engine),
+                other => other,
+            };
+        }
     }
 
     /// Where one of these workers died, its replicas are no holders any more.

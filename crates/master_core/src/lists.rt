@@ -1,9 +1,9 @@
 //! The lists that grow with a master's history, and that of its pending splits.
-ghost use Rattle.std.specs.Prelude.{◌≡◌, [], map, IfOk, vec_capacity};
-ghost use Rattle.master_state.specs.Tests.{is_pending};
-ghost use Rattle.master_tables.specs.Entries.{shown_as};
+ghost use Rattle.std.specs.Prelude.{◌≡◌, [], IfOk, vec_capacity};
+ghost use Rattle.master_core.specs.Near.{flags_of};
 
-use master_state::{Event, Limits, Start};
+use compact_lists::{CountList, EventList};
+use master_state::{Limits, Start};
 use master_tables::entries::{SplitEntry, is_pending};
 use shuffle_reduce::PartResult;
 use std::alloc::{AllocError, Global};
@@ -13,8 +13,8 @@ use std::alloc::{AllocError, Global};
 pub(crate) struct Lists {
     pub(crate) results: Vec<PartResult>,
     pub(crate) starts: Vec<Start>,
-    pub(crate) sweeps: Vec<[u64; 256]>,
-    pub(crate) history: Vec<Event>,
+    pub(crate) sweeps: CountList,
+    pub(crate) history: EventList,
 }
 
 // Empty lists, with room for a result of each part and for all that the limits allow.
@@ -25,13 +25,13 @@ pub(crate) fn empty_lists(alloc: Global, parts: usize, limits: Limits) -> Result
     ensures history { IfOk result (λ lists. lists.history.items ≡ []) }
     ensures parts { IfOk result (λ lists. vec_capacity lists.results ≡ parts) }
     ensures attempts { IfOk result (λ lists. vec_capacity lists.starts ≡ limits.attempts) }
-    ensures counts { IfOk result (λ lists. vec_capacity lists.sweeps ≡ limits.sweeps) }
-    ensures events { IfOk result (λ lists. vec_capacity lists.history ≡ limits.events) }
+    ensures counts { IfOk result (λ lists. lists.sweeps.room ≡ limits.sweeps) }
+    ensures events { IfOk result (λ lists. lists.history.room ≡ limits.events) }
 {
     let results = Vec::with_capacity(alloc, parts)?;
     let starts = Vec::with_capacity(alloc, limits.attempts as usize)?;
-    let sweeps = Vec::with_capacity(alloc, limits.sweeps as usize)?;
-    let history = Vec::with_capacity(alloc, limits.events as usize)?;
+    let sweeps = CountList::with_room(alloc, limits.sweeps)?;
+    let history = EventList::with_room(alloc, limits.events)?;
     Ok(Lists {
         results,
         starts,
@@ -42,11 +42,11 @@ pub(crate) fn empty_lists(alloc: Global, parts: usize, limits: Limits) -> Result
 
 // Which of these splits are pending.
 pub(crate) fn pending_flags(alloc: Global, entries: &[SplitEntry]) -> Result<Vec<bool>, AllocError>
-    ensures { IfOk result (λ flags. flags.items ≡ map is_pending (map shown_as entries.now)) }
+    ensures { IfOk result (λ flags. flags.items ≡ flags_of entries.now) }
 {
     let mut flags = Vec::with_capacity(alloc, entries.len())?;
     for entry in entries {
-        flags.push(is_pending(entry))?;
+        flags.push_reserved(is_pending(entry));
     }
     Ok(flags)
 }

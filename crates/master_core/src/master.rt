@@ -16,7 +16,8 @@ use crate::kept::Kept;
 use crate::lists::empty_lists;
 use crate::reducing::NextPart;
 use block_map::BlockMap;
-use master_state::{Event, Limits, PartState, Start};
+use compact_lists::{CountList, EventList};
+use master_state::{Limits, PartState, Start};
 use master_tables::entries::{SplitEntry, are_done, pending_entries};
 use master_tables::parts::first_pending;
 use master_tables::running::{RunningPart, RunningSplit, part_of, part_runs, runs, split_of};
@@ -27,7 +28,6 @@ use std::marker::Model;
 use worker_table::WorkerTable;
 
 /// The master of a job: its present state, and the history that led there.
-#[derive(Drop)]
 pub struct Master {
     cluster: Cluster,
     limits: Limits,
@@ -37,10 +37,29 @@ pub struct Master {
     parts: Vec<PartState>,
     results: Vec<PartResult>,
     starts: Vec<Start>,
-    sweeps: Vec<[u64; 256]>,
-    history: Vec<Event>,
+    sweeps: CountList,
+    history: EventList,
     // (callers see nothing of it)
     engine: Kept,
+}
+
+// (one call wherever it is dropped)
+impl Drop for Master {
+    fn drop(self) {
+        let Master {
+            cluster: _,
+            limits: _,
+            workers: _,
+            holders: _,
+            splits: _,
+            parts: _,
+            results: _,
+            starts: _,
+            sweeps: _,
+            history: _,
+            engine: _,
+        } = self;
+    }
 }
 
 impl Model for Master {

@@ -235,7 +235,8 @@ fn assert_second_wave(rt: &impl Abort, master: &Master) {
         work: Work::Split(SplitNo::new(0)),
         worker: WorkerNo::new(1),
     };
-    let last = master.history().last().copied();
+    let history = master.history();
+    let last = history.get(history.len().wrapping_sub(1));
     assert_eq!(rt;
         (last, master.start(AttemptNo::new(2))),
         (Some(wave), Some(start))

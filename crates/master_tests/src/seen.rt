@@ -14,10 +14,18 @@ pub struct Shown {
 
 /// All that the master shows. Of its starts it is how many there are, which tells the next attempt.
 pub fn seen(alloc: Global, master: &Master) -> Result<Shown, AllocError> {
-    let mut events = Vec::new(alloc);
-    events.extend_from_slice(master.history())?;
+    let events = events_of(alloc, master)?;
     let numbers = numbers_of(alloc, master)?;
     Ok(Shown { events, numbers })
+}
+
+fn events_of(alloc: Global, master: &Master) -> Result<Vec<Event>, AllocError> {
+    let history = master.history();
+    let mut events = Vec::new(alloc);
+    for index in 0..history.len() {
+        events.push(history.at(index))?;
+    }
+    Ok(events)
 }
 
 fn numbers_of(alloc: Global, master: &Master) -> Result<Vec<usize>, AllocError> {

@@ -8,7 +8,8 @@ ghost use Rattle.master_state.specs.Jobs.{AreResults, IsGlance, IsReady};
 use crate::cluster::Cluster;
 use crate::master::Master;
 use block_map::CopyOrder;
-use master_state::{Event, Glance, Limits, PartState, SplitState, Start};
+use compact_lists::{CountList, EventList};
+use master_state::{Glance, Limits, PartState, SplitState, Start};
 use master_tables::counts::{open_parts, open_splits, running_maps, running_parts};
 use master_tables::entries::shown;
 use master_tables::lines::{may_any_start, worker_line_table};
@@ -35,9 +36,9 @@ impl Master {
     }
 
     /// Every accepted event, the first one first.
-    pub fn history(&self) -> &[Event]
-        ensures value { result.now ≡ self.now.history }
-        ensures most { length result.now ≤ 65536 }
+    pub fn history(&self) -> &EventList
+        ensures value { result.now.items ≡ self.now.history }
+        ensures most { length result.now.items ≤ 65536 }
     {
         &self.history
     }
@@ -59,8 +60,8 @@ impl Master {
     }
 
     /// The counts of every sweep, the first one first.
-    pub fn sweeps(&self) -> &[[u64; 256]]
-        ensures { result.now ≡ self.now.state.sweeps }
+    pub fn sweeps(&self) -> &CountList
+        ensures { result.now.items ≡ self.now.state.sweeps }
     {
         &self.sweeps
     }

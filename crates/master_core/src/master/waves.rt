@@ -14,18 +14,17 @@ ghost use Rattle.master_core.specs.Starts.{HasSizesOf, HasTotals};
 
 use crate::kept::Kept;
 use crate::kept_plan::{fresh, gone_over, kept_up, plan_of};
-use crate::lists::pending_flags;
 use crate::master::Master;
 use certificate_checker::{Certified, certify};
 use master_state::{CommitError, Event, Wave};
 use master_tables::lines::{all_split_lines, worker_lines};
 use master_tables::log::record_event;
 use master_tables::starting::start_each;
-use node_ids::AttemptNo;
+use node_ids::{AttemptNo, SplitNo, WorkerNo};
 use price_certificate::Prices;
 use std::alloc::{AllocError, Global};
 use tree_planner::Engine;
-use wave_planner::Planned;
+use wave_planner::{Planned, pairs_of};
 use wave_problem::{Plan, Problem};
 
 impl Master {
@@ -67,8 +66,11 @@ impl Master {
         if self.has_no_room(plan.count()) {
             return Err(CommitError::HistoryFull);
         }
+        let Ok(pairs) = pairs_of(alloc, plan) else {
+            return Err(CommitError::Memory);
+        };
         let certified = self.certified(alloc, plan, prices)?;
-        Ok(self.start_plan(plan, certified))
+        Ok(self.start_plan(plan, &pairs, certified))
     }
 
     /// Plans the best wave of the present state, by an engine that is kept from wave to wave, and starts it:
@@ -86,7 +88,7 @@ impl Master {
         ensures err { OnErr result (self.new ≡ self.old) }
     {
         let planned = self.best_plan(alloc)?;
-        let wave = self.start_in_room(planned.plan(), planned.certified())?;
+        let wave = self.start_in_room(planned.plan(), planned.pairs(), planned.certified())?;
         Ok((planned, wave))
     }
 
@@ -137,13 +139,17 @@ impl Master {
         ensures settled { IfOk result IsSettled }
     {
         engine.problem().limits();
-        let lines = worker_lines(alloc, self.workers.workers())?;
-        let pending = pending_flags(alloc, &self.splits)?;
-        kept_up(alloc, engine, &lines, &pending)
+        kept_up(alloc, engine, self.workers.workers(), &self.splits)
     }
 
     // Starts the splits of a plan that is best in the present state, if there is room for them.
-    fn start_in_room(&mut self, plan: &Plan, certified: Certified) -> Result<Wave, CommitError>
+    fn start_in_room(
+        &mut self,
+        plan: &Plan,
+        pairs: &[(SplitNo, WorkerNo)],
+        certified: Certified,
+    ) -> Result<Wave, CommitError>
+        requires pairs { pairs.now ≡ pairs_of plan.now.starts }
         requires few { length plan.now.starts ≤ 1024 }
         requires best { IsBest (problem_of self.old.setup self.old.state) (pairs_of plan.now.starts) }
         requires priced { HasPrices self.old.setup self.old.state plan.now.starts }
@@ -154,25 +160,31 @@ impl Master {
             × (lacks_room self.old plan.now.starts ≡ true)) }
         ensures err { OnErr result (self.new ≡ self.old) }
     {
-        let count = plan.count();
-        if self.has_no_room(count) {
+        if self.has_no_room(pairs.len()) {
             return Err(CommitError::HistoryFull);
         }
-        Ok(self.start_plan(plan, certified))
+        Ok(self.start_plan(plan, pairs, certified))
     }
 
     // Starts the splits of a plan that is best in the present state, for which there is room.
-    fn start_plan(&mut self, plan: &Plan, certified: Certified) -> Wave
+    fn start_plan(
+        &mut self,
+        plan: &Plan,
+        pairs: &[(SplitNo, WorkerNo)],
+        certified: Certified,
+    ) -> Wave
+        requires pairs { pairs.now ≡ pairs_of plan.now.starts }
         requires best { IsBest (problem_of self.old.setup self.old.state) (pairs_of plan.now.starts) }
         requires priced { HasPrices self.old.setup self.old.state plan.now.starts }
         requires counted { HasTotals self.old plan.now.starts certified }
         requires room { lacks_room self.old plan.now.starts ≡ false }
         ensures { IsCommitted self.old plan.now.starts result self.new }
     {
+        let _ = plan;
         let first = AttemptNo::new(self.starts.len() as u32 + 1);
         let count = certified.count as u32;
         let cost = certified.cost;
-        start_each(&mut self.workers, &mut self.splits, &mut self.starts, plan);
+        start_each(&mut self.workers, &mut self.splits, &mut self.starts, pairs);
         let place = record_event(&mut self.history, Event::Wave { first, count, cost });
         Wave {
             place,

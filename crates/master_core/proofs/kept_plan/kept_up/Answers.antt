@@ -1,10 +1,23 @@
-use Rattle.std.proofs.Common.{ℕ, ◌<◌, subst}
-use Rattle.master_core.proofs.Nearness.{splits_turned}
+use Rattle.std.proofs.Common.{◌∙◌, ◌<◌, ℕ, ap, length, map, subst, sym}
+use Rattle.wave_problem.specs.Wave.{Wave}
+use Rattle.tree_planner.proofs.Flagged.{splits_same, turned_same}
+use Rattle.master_state.specs.Steps.{worker_line}
+use Rattle.master_core.specs.Near.{flags_of}
 use Rattle.master_core.proofs.kept_plan.kept_up.Goals as goal
+
+pub put_workers-requires-clause-workers : goal.put_workers-requires-clause-workers
+put_workers-requires-clause-workers c = c.requires.workers ∙ sym c.in_ok-flag_splits.ensures.ground.workers
+
+pub put_workers-requires-clause-splits : goal.put_workers-requires-clause-splits
+put_workers-requires-clause-splits c = c.requires.splits
+    ∙ sym (splits_same c.args.engine.wave c.flag_splits.new.engine.wave c.in_ok-flag_splits.ensures.ground)
+
+pub returns-clause-wave : goal.returns-clause-wave
+returns-clause-wave c = c.settle.ensures.wave ∙ c.in_ok-put_workers.ensures
+    ∙ turned_same c.args.engine.wave c.flag_splits.new.engine.wave (map worker_line c.args.workers.now)
+    (flags_of c.args.entries.now) c.in_ok-flag_splits.ensures.ground
 
 pub returns-clause-settled : goal.returns-clause-settled
 returns-clause-settled c = λ s l.
-    c.in_ok-keep_up.ensures.shipped s
-    (subst (λ (n : ℕ). s < n)
-    (splits_turned c.args.engine.wave c.keep_up.new.self.wave c.args.lines.now c.args.pending.now
-    c.in_ok-keep_up.ensures.wave c.requires.splits) l)
+    c.in_ok-settle.ensures.shipped s
+    (subst (λ (n : ℕ). s < n) (ap (λ (x : Wave). length x.splits) c.settle.ensures.wave) l)

@@ -9,7 +9,8 @@ use Rattle.master_core.proofs.master.Master.start_plan.Goals as goal
 
 pub start_each-requires-clause-allowed : goal.start_each-requires-clause-allowed
 start_each-requires-clause-allowed c =
-    best_may_start c.self.invariant c.self.view_is c.requires.best refl c.requires.room
+    rw c.requires.pairs
+    (best_may_start c.self.invariant c.self.view_is c.requires.best refl c.requires.room)
 
 pub invariant_of-self : goal.invariant_of-self
 invariant_of-self c =
@@ -20,13 +21,13 @@ invariant_of-self c =
       count = c.args.certified.count;
       cost = c.args.certified.cost;
     } in
+    let now = state_of c.self.inside in
+    let started = rw c.requires.pairs at c.start_each.ensures.started now refl refl refl in
     commits c.args.plan.now.starts wave c.self.invariant c.self.view_is c.requires.best c.requires.priced
     (ap (has_no_room j.setup j.state) c.requires.counted.count ∙ c.requires.room)
     (omega (arith, c.new-first.ensures, c.len.ensures)) c.requires.counted.count c.requires.counted.cost
     (rw (c.record_event-place.ensures.capacity, c.start_each.ensures.capacity) refl)
-    c.record_event-place.ensures.items c.record_event-place.ensures.place
-    (c.start_each.ensures.started (state_of c.self.inside) refl refl refl) refl
+    c.record_event-place.ensures.items c.record_event-place.ensures.place started refl
     (c.start_each.ensures.made (setup_of c.self.inside) c.self.invariant.made)
     (near_with_bars c.self.inside.engine c.self.inside.cluster c.self.inside.holders
-    (bars_started (state_of c.self.inside) (pairs_of c.args.plan.now.starts)
-    (c.start_each.ensures.started (state_of c.self.inside) refl refl refl)) c.self.invariant.near)
+    (bars_started now (pairs_of c.args.plan.now.starts) started) c.self.invariant.near)
