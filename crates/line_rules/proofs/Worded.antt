@@ -11,38 +11,8 @@ use Rattle.line_shapes.proofs.OneStatement.{stated_as}
 use Rattle.line_rules.specs.Faults.{Fails, IsComplete, IsLeastOf}
 use Rattle.line_rules.specs.Known.{Known}
 use Rattle.line_rules.specs.Long.{StandsFor, WordsHave, said}
-use Rattle.line_rules.specs.Reading.{IsLeastError}
 use Rattle.line_rules.specs.Texts.{IsLegible, LineHas}
-use Rattle.line_rules.specs.declared.line_reader.LineError.{LineError}
-use Rattle.line_rules.specs.declared.line_reader.LineError.TheVariants as error
 use Rattle.line_rules.proofs.Saying.{says_same}
-
--- ---- words that have the shape of their places
-
-fault_of_words : (k : Known) (word : Keyword) (ws : List Word) → IsShaped (said word ws) → (f : Fault)
-    → Fails k (said word ws) f → WordsHave k word ws f
-fault_of_words k word ws shaped Shape h = λ _ whole. h whole
-fault_of_words k word ws shaped f h = (shaped, h)
-
-fault_of_said : (k : Known) (word : Keyword) (ws : List Word) → IsShaped (said word ws) → (f : Fault)
-    → WordsHave k word ws f → Fails k (said word ws) f
-fault_of_said k word ws shaped Shape h = h shaped
-fault_of_said k word ws shaped f h = h.1
-
-pub least_of_words : (k : Known) (word : Keyword) (ws : List Word) (s : Statement) → s ≡ said word ws
-    → IsShaped s → (f : Fault) → IsLeastOf (Fails k s) f → IsLeastOf (WordsHave k word ws) f
-least_of_words k word ws s same shaped f h =
-    let own : IsShaped (said word ws) = subst IsShaped same shaped in
-    let least : IsLeastOf (Fails k (said word ws)) f = subst (λ t. IsLeastOf (Fails k t) f) same h in
-    record {
-      applies = fault_of_words k word ws own f least.applies;
-      least = λ g has. least.least g (fault_of_said k word ws own g has);
-    }
-
-pub error_of_words : (k : Known) (word : Keyword) (ws : List Word) (s : Statement) → s ≡ said word ws
-    → IsShaped s → (e : LineError) → IsLeastError (Fails k s) e → IsLeastError (WordsHave k word ws) e
-error_of_words k word ws s same shaped (error.Fault f) h = least_of_words k word ws s same shaped f h
-error_of_words k word ws s same shaped error.Memory h = tt
 
 -- ---- a line with these words after its keyword
 
@@ -86,8 +56,3 @@ module _ (k : Known) (line : Line) (word : Keyword) (short long : List Word)
   pub least_of_line : IsLegible k line → (f : Fault) → IsLeastOf (WordsHave k word short) f
       → IsLeastOf (LineHas k line) f
   least_of_line sound f h = least_of_all k line word long sound cut f (stands.least f h)
-
-  pub error_of_line : IsLegible k line → (e : LineError) → IsLeastError (WordsHave k word short) e
-      → IsLeastError (LineHas k line) e
-  error_of_line sound (error.Fault f) h = least_of_line sound f h
-  error_of_line sound error.Memory h = tt

@@ -1,7 +1,6 @@
 -- The faults of a line that says a statement, in view of the lines before it.
 use Rattle.std.specs.Prelude.{ℕ, List, [], ◌≡◌, ◌≤◌, ◌<◌, Option, Some, None, length, slice_index_or, true}
 use Rattle.std.specs.List.{All, Contains}
-use Rattle.std.specs.Borrow.{Bor}
 use Rattle.text_lines.specs.Texts.{Word}
 use Rattle.text_lines.specs.Faults.{number_of_fault}
 use Rattle.text_lines.specs.declared.fault.Fault.{Fault}
@@ -101,11 +100,6 @@ IsFewer (Some most) n = n < most
 abbrev pub IsFew : Option ℕ → ℕ → Type 0
 IsFew None n = Unit {0}
 IsFew (Some most) n = n ≤ most
-
--- the same of words behind references
-abbrev pub KeepIn : Rule → List Statement → Keyword → List (Bor (List ℕ)) → Type 0
-KeepIn r rows k ws = (i : ℕ) (d : Bor (List ℕ)) → i < length ws
-    → KeepsTo r rows (place_at k i) (slice_index_or ws i d).now
 
 -- the lines before that count towards the limit of a keyword: of a command's, all commands
 abbrev pub counted_by : Entering → Known → Keyword → ℕ

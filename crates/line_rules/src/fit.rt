@@ -1,9 +1,7 @@
-ghost use Rattle.std.specs.Prelude.{◌≡◌, ◌<◌, ℕ, List, IsTrue, length};
-ghost use Rattle.std.specs.Prelude.{slice_get, slice_index_or};
-ghost use Rattle.std.specs.Borrow.{Bor};
+ghost use Rattle.std.specs.Prelude.{◌≡◌, List, IsTrue, slice_get};
 ghost use Rattle.text_lines.specs.Texts.{IsName, Word};
 ghost use Rattle.line_shapes.specs.Lines.{Statement, stated};
-ghost use Rattle.line_shapes.specs.Places.{or_more, place_at};
+ghost use Rattle.line_shapes.specs.Places.{or_more};
 ghost use Rattle.line_rules.specs.Entered.{AreFit, IsFitIn};
 ghost use Rattle.line_rules.specs.Known.{HasRow, IsDeclared, IsTaken};
 
@@ -17,14 +15,6 @@ use text_lines::is_name;
 #[inline(always)]
 pub fn are_fit(rows: &Rows<'_>, keyword: Keyword, words: &[&str]) -> bool
     ensures { IsTrue result → AreFit rows.now (stated keyword words.now) }
-{
-    have_fit(rows, keyword, words)
-}
-
-#[inline(always)]
-fn have_fit(rows: &Rows<'_>, keyword: Keyword, words: &[&str]) -> bool
-    ensures { IsTrue result → (i : ℕ) (d : Bor (List ℕ)) → i < length words.now
-        → IsFitIn rows.now (place_at keyword i) (slice_index_or words.now i d).now }
 {
     let places = keyword.places();
     let more = keyword.more();

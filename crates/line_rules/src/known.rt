@@ -18,7 +18,6 @@ ghost use Rattle.line_rules.specs.declared.section.Section.TheVariants.{Body};
 
 use crate::edition::{Version, is_of_version, version_after};
 use crate::entering::{Entering, Follow, entering_of, follow_of, most_of};
-use crate::fit::are_fit;
 use crate::line_list::LineList;
 use crate::purpose::Purpose;
 use crate::rows::Rows;
@@ -41,13 +40,25 @@ const BYTES_OF_A_WORD: usize = 6;
 const MOST_ROOM: usize = 16_384;
 
 /// What the lines so far say: all on which the faults of the next line depend.
-#[derive(Drop)]
 pub struct KnownLines<'t> {
     purpose: Purpose,
     version: Version,
     section: Section,
     rows: Rows<'t>,
     commands: LineList<'t>,
+}
+
+// (one call wherever it is dropped)
+impl<'t> Drop for KnownLines<'t> {
+    fn drop(self) {
+        let KnownLines {
+            purpose: _,
+            version: _,
+            section: _,
+            rows: _,
+            commands: _,
+        } = self;
+    }
 }
 
 impl<'t> Model for KnownLines<'t> {
@@ -212,17 +223,8 @@ impl<'t> KnownLines<'t> {
         }
     }
 
-    /// The least fault of a line after these, if it has one.
-    pub fn fault_of(&self, line: &KeyedLine<'_, '_>) -> Option<Fault>
-        requires { length (places_of line.now.keyword) ≤ length line.now.words.now }
-        ensures { MatchOption result (IsFit self.now (statement_of line.now))
-            (IsLeastOf (Fails self.now (statement_of line.now))) }
-    {
-        self.fault_with(are_fit(&self.rows, line.keyword, line.words), line)
-    }
-
-    /// The same, where the caller knows whether the words are fit.
-    pub fn fault_with(&self, fit: bool, line: &KeyedLine<'_, '_>) -> Option<Fault>
+    /// The least fault of a line after these, if it has one. `fit` says that its words are known to be fit.
+    pub fn fault_of(&self, fit: bool, line: &KeyedLine<'_, '_>) -> Option<Fault>
         requires places { length (places_of line.now.keyword) ≤ length line.now.words.now }
         requires fit { IsTrue fit → AreFit self.now.rows (statement_of line.now) }
         ensures { MatchOption result (IsFit self.now (statement_of line.now))

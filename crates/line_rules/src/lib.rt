@@ -2,13 +2,14 @@
 //!
 //! The rules are tables over the keywords of `line_shapes`. They say in which section of a text and in
 //! which version a line may stand (`specs/Sections.antt`), by which words it is entered, and how many such
-//! lines there may be (`specs/Entering.antt`). A line that is entered is a row: `Rows` finds a row by its
-//! keyword and its number among the rows of that keyword, and the number by the words by which the row was
-//! entered. `KnownLines` holds the rows and answers the least fault of the next line. Each fault is one
-//! definition over the places of a line (`specs/Faults.antt`) and one test in the code. `read_lines` reads
-//! all lines of a text, or answers its least fault (`specs/Texts.antt`), and `fault_answer` makes the line
-//! that tells the fault. `fit_line` reads one line more and enters nothing. Above the crate `plan_text` and
-//! `script_text` make values of the rows.
+//! lines there may be (`specs/Entering.antt`). What a line says, a keyword and its words, is a statement
+//! (`KeyedLine`), and a statement that is entered is a row. `Rows` finds a row by its keyword and its number
+//! among the rows of that keyword, and the number by the words by which the row was entered. `KnownLines`
+//! holds the rows and answers the least fault of the next line. Each fault is one definition over the places
+//! of a line (`specs/Faults.antt`) and one test in the code. `fit_line` reads one line more and enters
+//! nothing. `read_lines` reads and enters all lines of a text, or answers its least fault
+//! (`specs/Texts.antt`), and `fault_answer` makes the line that tells the fault. Above the crate `plan_text`
+//! and `script_text` make values of the rows.
 #![tactic(auto)]
 
 pub mod answer;

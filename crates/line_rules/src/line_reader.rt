@@ -1,28 +1,21 @@
 ghost use Rattle.std.specs.Prelude.{◌≡◌, ◌↔◌, ◌+◌, ◌≤◌, [], Err, IfErr, IfOk, IsTrue, MatchOption, OnOk};
-ghost use Rattle.std.specs.Prelude.{All, length, map};
+ghost use Rattle.std.specs.Prelude.{All, length};
 ghost use Rattle.text_lines.specs.Texts.{IsPrintable};
-ghost use Rattle.line_shapes.specs.Demands.{Meet};
-ghost use Rattle.line_shapes.specs.Lines.{IsShaped, stated, statement_of};
-ghost use Rattle.line_shapes.specs.declared.demand.Demand.TheVariants.{Shape};
-ghost use Rattle.line_rules.specs.Entered.{AreFit};
-ghost use Rattle.line_rules.specs.Faults.{Fails, IsLeastOf};
+ghost use Rattle.line_rules.specs.Faults.{IsLeastOf};
 ghost use Rattle.line_rules.specs.Known.{known_at};
-ghost use Rattle.line_rules.specs.Long.{WordsHave};
-ghost use Rattle.line_rules.specs.Reading.{Enters, HasKeyword, IsAllRead, IsLeastError, IsReadingError};
-ghost use Rattle.line_rules.specs.Reading.{Takes, error_at};
+ghost use Rattle.line_rules.specs.Reading.{HasKeyword, IsAllRead, IsLeastError, IsReadingError, Takes};
+ghost use Rattle.line_rules.specs.Reading.{error_at};
 ghost use Rattle.line_rules.specs.Texts.{LineHas, RestHas, longest};
 ghost use Rattle.line_rules.specs.declared.section.Section.TheVariants.{Ended};
 ghost use Rattle.line_rules.specs.declared.line_reader.LineError.TheVariants.{Memory};
 ghost use Rattle.line_rules.specs.declared.line_reader.ReadingError.TheVariants as reading;
 
-use crate::fit::are_fit;
 use crate::known::KnownLines;
-use crate::long::cut_most;
+use crate::one_line::fit_line_in;
 use crate::purpose::Purpose;
 use crate::section::Section;
-use line_shapes::{KeyedLine, Keyword, keyword_of, said_by};
 use std::alloc::{AllocError, Global};
-use text_lines::{Fault, TextFault, has_printable_lines, printable_in, split_line};
+use text_lines::{Fault, TextFault, has_printable_lines, split_line};
 
 const MAX_TEXT_BYTES: usize = 16_777_216;
 
@@ -120,65 +113,8 @@ fn take_line<'t>(
     ensures err { IfErr result (IsLeastError (LineHas known.old line.entry.now)) }
     ensures memory { result ≡ Err LineError.Memory → HasKeyword known.old line.entry.now }
 {
-    let Some(line) = printable_in(printable, line) else {
-        return Err(LineError::Fault(Fault::Unprintable));
-    };
-    if is_ended(known) {
-        return Err(LineError::Fault(Fault::AfterEnd));
-    }
-    let Some((keyword, rest)) = keyword_of(line) else {
-        return Err(LineError::Fault(Fault::Shape));
-    };
-    cut_most(known, keyword, rest, words)?;
-    take_words(keyword, words.as_slice(), known)
-}
-
-// Takes a line of this keyword and these words.
-fn take_words<'t>(
-    keyword: Keyword,
-    words: &[&'t str],
-    known: &mut KnownLines<'t>,
-) -> Result<(), LineError>
-    ensures ok { OnOk result (IsShaped (stated keyword words.now)
-        × Enters known.old (stated keyword words.now) known.new) }
-    ensures err { IfErr result (IsLeastError (WordsHave known.old keyword (map (λ w. w.now) words.now))) }
-{
-    let fit = are_fit(known.rows(), keyword, words);
-    match said(fit, keyword, words) {
-        Some(line) => take_said(fit, &line, known),
-        None => Err(LineError::Fault(Fault::Shape)),
-    }
-}
-
-// What `said_by` answers: fit words are known to have the shapes of their places.
-#[inline(always)]
-fn said<'w, 't>(fit: bool, keyword: Keyword, words: &'w [&'t str]) -> Option<KeyedLine<'w, 't>>
-    requires { IsTrue fit → Meet Shape keyword (map (λ w. w.now) words.now) }
-    ensures { MatchOption result (IsShaped (stated keyword words.entry.now) → ⊥)
-        (λ line. (statement_of line ≡ stated keyword words.entry.now) × IsShaped (statement_of line)) }
-{
-    if fit && words.len() >= keyword.places().len() {
-        Some(KeyedLine { keyword, words })
-    } else {
-        said_by(keyword, words)
-    }
-}
-
-// Takes what a line says; `fit` says that its words are known to be fit.
-fn take_said<'t>(
-    fit: bool,
-    line: &KeyedLine<'_, 't>,
-    known: &mut KnownLines<'t>,
-) -> Result<(), LineError>
-    requires shaped { IsShaped (statement_of line.now) }
-    requires fit { IsTrue fit → AreFit known.old.rows (statement_of line.now) }
-    ensures ok { OnOk result (Enters known.old (statement_of line.now) known.new) }
-    ensures err { IfErr result (IsLeastError (Fails known.old (statement_of line.now))) }
-{
-    if let Some(fault) = known.fault_with(fit, line) {
-        return Err(LineError::Fault(fault));
-    }
-    known.enter(line)?;
+    let said = fit_line_in(words, printable, line, known)?;
+    known.enter(&said)?;
     Ok(())
 }
 

@@ -8,7 +8,7 @@ ghost use Rattle.line_shapes.specs.Places.{places_of};
 ghost use Rattle.line_rules.specs.Entering.{Key, entering_of as entering, first_key};
 ghost use Rattle.line_rules.specs.Entering.{most_more_of as most_words, second_key};
 ghost use Rattle.line_rules.specs.Faults.{HasItsPrice, IsDeclaredIn, IsFew, IsFirst, IsFirstOfBody};
-ghost use Rattle.line_rules.specs.Faults.{IsFirstOfHead, IsFreeIn, Keep, KeepIn, KeepsTo};
+ghost use Rattle.line_rules.specs.Faults.{IsFirstOfHead, IsFreeIn, Keep, KeepsTo};
 ghost use Rattle.line_rules.specs.Known.{HasRow, IsDeclared, IsTaken, keys_of};
 ghost use Rattle.line_rules.specs.declared.entering.Entering.TheVariants.{InTurn};
 ghost use Rattle.line_rules.specs.declared.rule.Rule.TheVariants.{Declared, Free};
@@ -23,14 +23,8 @@ use line_shapes::{KeyedLine, Keyword, Kind, Place};
 pub fn keep(rule: Rule, rows: &Rows<'_>, line: &KeyedLine<'_, '_>) -> bool
     ensures { IsTrue result ↔ Keep rule rows.now (statement_of line.now) }
 {
-    keep_words(rule, rows, line.keyword, line.words)
-}
-
-fn keep_words(rule: Rule, rows: &Rows<'_>, keyword: Keyword, words: &[&str]) -> bool
-    ensures { IsTrue result ↔ KeepIn rule rows.now keyword words.now }
-{
-    for i in 0..words.len() {
-        if !keeps_to(rule, rows, keyword.place(i), words[i]) {
+    for i in 0..line.words.len() {
+        if !keeps_to(rule, rows, line.keyword.place(i), line.words[i]) {
             return false;
         }
     }

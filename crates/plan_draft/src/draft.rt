@@ -8,11 +8,12 @@ ghost use Rattle.script_text.specs.Ready.{HavePair};
 ghost use Rattle.plan_draft.specs.Drafts.{AreNamesOf, DraftView, HavePrice, IsDraftLine, IsPriced, IsSaid};
 ghost use Rattle.plan_draft.specs.Drafts.{IsSound, empty_draft, prices_in, prices_said, said, said_at};
 
-use crate::words::{number_at, number_if_known, price_at};
+use crate::words::{number_if_known, price_at};
 use line_shapes::{KeyedLine, Keyword};
 use node_ids::WorkerNo;
 use price_certificate::Prices;
 use script_text::Names;
+use script_text::numbers::number_in;
 use std::alloc::{AllocError, Global};
 use std::marker::Model;
 use wave_problem::Plan;
@@ -82,8 +83,8 @@ impl Draft {
             × (self.new ≡ self.old) }
         ensures names { AreNamesOf names.now self.new }
     {
-        let split = number_at(&names.splits, words, 0);
-        let worker = number_at(&names.workers, words, 1);
+        let split = number_in(&names.splits, words, 0);
+        let worker = number_in(&names.workers, words, 1);
         if self.starts[split].is_some() {
             return false;
         }
@@ -105,7 +106,7 @@ impl Draft {
         match number_if_known(&names.splits, words, 0) {
             Some(split) => put_price(&mut self.splits, split, price),
             None => {
-                let worker = number_at(&names.workers, words, 0);
+                let worker = number_in(&names.workers, words, 0);
                 put_price(&mut self.workers, worker, price)
             }
         }

@@ -2,29 +2,10 @@ ghost use Rattle.std.specs.Prelude.{◌≡◌, ◌<◌, ◌↔◌, Contains, IfS
 ghost use Rattle.text_lines.specs.Texts.{number_of};
 ghost use Rattle.plan_text.specs.Value.{number_in, stands_in};
 ghost use Rattle.script_text.specs.Commands.{word_at};
-ghost use Rattle.script_text.specs.Ready.{HasName, HasNumber};
+ghost use Rattle.script_text.specs.Ready.{HasNumber};
 
+use script_text::numbers::word_in;
 use text_lines::{NameTable, value_in};
-
-/// The word at a place.
-pub fn word_in<'t>(words: &[&'t str], place: usize) -> &'t str
-    requires { place < length words.now }
-    ensures { result.now ≡ word_at (map (λ w. w.now) words.now) place }
-{
-    words[place]
-}
-
-/// The number of the name that stands at a place.
-pub fn number_at(names: &NameTable<'_>, words: &[&str], place: usize) -> usize
-    requires { HasName names.now (map (λ w. w.now) words.now) place }
-    ensures value { result ≡ number_in names.now (word_at (map (λ w. w.now) words.now) place) }
-    ensures within { result < length names.now }
-{
-    match names.number(word_in(words, place)) {
-        Some(number) => number,
-        None => unreachable!(),
-    }
-}
 
 /// The number of the name that stands at a place, if it is one of these.
 pub fn number_if_known(names: &NameTable<'_>, words: &[&str], place: usize) -> Option<usize>

@@ -132,6 +132,9 @@ impl<'r, 't> TidyRows<'r, 't> {
         requires { entering keyword ≡ ByWord }
         ensures { result ≡ stands_in (names_of keyword self.now) name.now }
     {
+        if self.rows.count(keyword) == 0 {
+            return false;
+        }
         self.rows.has(keyword, name, "")
     }
 
@@ -170,8 +173,9 @@ impl<'r, 't> TidyRows<'r, 't> {
         requires { entering keyword ≡ ByWord }
         ensures { IfOk result (λ names. names ≡ names_of keyword self.now) }
     {
-        let mut names = NameTable::new(alloc);
-        for number in 0..self.count(keyword) {
+        let count = self.count(keyword);
+        let mut names = NameTable::with_room(alloc, count)?;
+        for number in 0..count {
             names.declare(self.word(keyword, number, 0))?;
         }
         Ok(names)

@@ -69,8 +69,7 @@ one_split : (a b : Word) (line : ℕ × Statement) → bytes_eq a b ≡ false �
     → is_in b line ≡ false
 one_split a b line other own = other_name a b (nth_word 1 line.1) _ refl other own
 
-module _ (rows : List Statement) (tidy : AreTidy rows) (few : length (rows_of Doc rows) ≤ 65536)
-    (head : Head) (makes : MakesHead rows head) where
+module _ (rows : List Statement) (tidy : AreTidy rows) (head : Head) (makes : MakesHead rows head) where
   abbrev line : Statement → wave.Split
   line = declared_split (names_of Worker rows) (names_of Busy rows)
 
@@ -100,7 +99,7 @@ module _ (rows : List Statement) (tidy : AreTidy rows) (few : length (rows_of Do
       let apart = IsDistinct-from_AllPairs bytes_eq-Decides names (names_differ Split refl rows tidy.differ) in
       let once = counted_once bytes_eq is_in one_split names apart (enumerate_from 0 lines) in
       let all = ap (sum_by count) makes.texts ∙ documents_together lines 0 names in
-      omega (arith, all, once, length-enumerate_from 0 lines, few)
+      omega (arith, all, once, length-enumerate_from 0 lines, tidy.few_documents)
 
   small : AreSmallSplits head.splits.items
   small =

@@ -1,5 +1,5 @@
-ghost use Rattle.std.specs.Prelude.{◌<◌, All, IfOk, length, map, slice_index_or};
-ghost use Rattle.line_shapes.specs.Lines.{Statement, stated, statement_of};
+ghost use Rattle.std.specs.Prelude.{All, IfOk, map};
+ghost use Rattle.line_shapes.specs.Lines.{stated, statement_of};
 ghost use Rattle.line_shapes.specs.declared.keyword.Keyword.TheVariants.{Join};
 ghost use Rattle.script_text.specs.Commands.{ArePair, SayCommands, SaysCommand};
 ghost use Rattle.script_text.specs.Ready.{AreFew, HavePair, HasWords, IsWholeCommand};
@@ -23,28 +23,13 @@ pub fn commands_of(
 {
     let mut commands = Vec::new(alloc);
     for place in 0..lines.len() {
-        let command = command_at(alloc, names, lines, place)?;
+        let Some(line) = lines.line(place) else {
+            unreachable!()
+        };
+        let command = command_of(alloc, names, &line)?;
         commands.push(command)?;
     }
     Ok(commands)
-}
-
-fn command_at(
-    alloc: Global,
-    names: &Names<'_>,
-    lines: &LineList<'_>,
-    place: usize,
-) -> Result<Command, AllocError>
-    requires few { AreFew names.now }
-    requires ready { All (IsWholeCommand names.now) lines.now }
-    requires inside { place < length lines.now }
-    ensures { IfOk result (λ command. (s : Statement)
-        → SaysCommand names.now (slice_index_or lines.now place s) command) }
-{
-    match lines.line(place) {
-        Some(line) => command_of(alloc, names, &line),
-        None => unreachable!(),
-    }
 }
 
 /// The command that a line says.

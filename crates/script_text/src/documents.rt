@@ -19,7 +19,6 @@ pub fn build_texts(
     alloc: Global,
     rows: &TidyRows<'_, '_>,
 ) -> Result<Vec<Arc<SplitText>>, AllocError>
-    requires { length (rows_of Doc rows.now) ≤ 65536 }
     ensures { IfOk result (λ texts. values_of texts.items ≡ texts_of rows.now) }
 {
     rows.are_tidy();
@@ -32,7 +31,6 @@ fn documents_by_split(
     alloc: Global,
     rows: &TidyRows<'_, '_>,
 ) -> Result<Vec<Vec<Document>>, AllocError>
-    requires { length (rows_of Doc rows.now) ≤ 65536 }
     ensures { IfOk result (λ lists. map (λ list. list.items) lists.items
         ≡ map (documents_of (rows_of Doc rows.now)) (names_of Split rows.now)) }
 {

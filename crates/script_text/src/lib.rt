@@ -12,7 +12,7 @@ mod commands;
 mod documents;
 mod heads;
 mod naming;
-mod numbers;
+pub mod numbers;
 mod script;
 mod script_reader;
 

@@ -1,4 +1,5 @@
 ghost use Rattle.std.specs.Prelude.{◌≤◌, ◌<◌, ◌≡◌, IfOk, length, map};
+ghost use Rattle.plan_text.specs.Value.{number_in as number_told};
 ghost use Rattle.script_text.specs.Commands.{AreNumbered, AreTold, IsNumbered, IsAmount, word_at};
 ghost use Rattle.script_text.specs.Ready.{HasName, HasNumber, HaveNames, HaveNumbers};
 
@@ -6,18 +7,19 @@ use node_ids::{AttemptNo, SplitNo, WorkerNo};
 use std::alloc::{AllocError, Global};
 use text_lines::{NameTable, value_in};
 
-// The word at a place.
-fn word_in<'t>(words: &[&'t str], place: usize) -> &'t str
+/// The word at a place.
+pub fn word_in<'t>(words: &[&'t str], place: usize) -> &'t str
     requires { place < length words.now }
     ensures { result.now ≡ word_at (map (λ w. w.now) words.now) place }
 {
     words[place]
 }
 
-// The number of the name that stands at a place.
-fn number_in(names: &NameTable<'_>, words: &[&str], place: usize) -> usize
+/// The number of the name that stands at a place.
+pub fn number_in(names: &NameTable<'_>, words: &[&str], place: usize) -> usize
     requires { HasName names.now (map (λ w. w.now) words.now) place }
-    ensures value { IsNumbered names.now (word_at (map (λ w. w.now) words.now) place) result }
+    ensures numbered { IsNumbered names.now (word_at (map (λ w. w.now) words.now) place) result }
+    ensures value { result ≡ number_told names.now (word_at (map (λ w. w.now) words.now) place) }
     ensures within { result < length names.now }
 {
     match names.number(word_in(words, place)) {

@@ -1,7 +1,6 @@
 ghost use Rattle.std.specs.Prelude.{◌≡◌, ◌≤◌, All, IfErr, IfOk, length};
-ghost use Rattle.line_shapes.specs.declared.keyword.Keyword.TheVariants.{Doc, Target};
+ghost use Rattle.line_shapes.specs.declared.keyword.Keyword.TheVariants.{Target};
 ghost use Rattle.line_rules.specs.Entering.{most_workers};
-ghost use Rattle.line_rules.specs.Known.{rows_of};
 ghost use Rattle.line_rules.specs.Reading.{IsReadingError};
 ghost use Rattle.line_rules.specs.declared.purpose.Purpose.TheVariants.{Playing, Running};
 ghost use Rattle.plan_text.specs.Tidy.{AreTidy};
@@ -80,7 +79,6 @@ fn read_for(alloc: Global, purpose: Purpose, text: &[u8]) -> Result<ScriptText<'
 fn script_of<'t>(alloc: Global, known: &KnownLines<'t>) -> Result<ScriptText<'t>, AllocError>
     requires tidy { AreTidy known.now.rows }
     requires ready { All (IsWholeCommand (told_names known.now.rows)) known.now.commands }
-    requires few_documents { length (rows_of Doc known.now.rows) ≤ 65536 }
     ensures script { IfOk result (λ value. Declares known.now value.script) }
     ensures head { IfOk result (λ value. MakesHead known.now.rows value.head) }
     ensures fit { IfOk result (λ value. IsFitHead value.head) }

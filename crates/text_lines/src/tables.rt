@@ -1,5 +1,5 @@
 ghost use Rattle.std.specs.Prelude.{◌≡◌, ◌++◌, ◌∷◌, [], ◌↔◌, ◌≤◌, ◌<◌, ℕ, List, Contains, MatchOption, OnErr};
-ghost use Rattle.std.specs.Prelude.{OnOk, IsSome, IsTrue, length, map, position, slice_index_or};
+ghost use Rattle.std.specs.Prelude.{IfOk, OnOk, IsSome, IsTrue, length, map, position, slice_index_or};
 ghost use Rattle.std.specs.Str.{bytes_eq};
 
 use indexmap::IndexSet;
@@ -26,6 +26,15 @@ impl<'t> NameTable<'t> {
         NameTable {
             names: IndexSet::new(alloc),
         }
+    }
+
+    /// No names, with room for so many.
+    pub fn with_room(alloc: Global, names: usize) -> Result<NameTable<'t>, AllocError>
+        ensures { IfOk result (λ table. table ≡ []) }
+    {
+        Ok(NameTable {
+            names: IndexSet::with_capacity(alloc, names)?,
+        })
     }
 
     /// How many there are.

@@ -22,6 +22,9 @@ loop-number-init c =
     ∙ ap (λ n. replicate n none) (c.count.ensures.value ∙ sym (length-map (rows_of Split rows) (nth_word 0)))
     ∙ sym (documents_none (names_of Split rows))
 
+pub document_of-requires-clause-few : goal.document_of-requires-clause-few
+document_of-requires-clause-few c = c.count.ensures.tidy.few_documents
+
 pub split-split-requires : goal.split-split-requires
 split-split-requires c =
     let rows = c.args.rows.now in

@@ -24,7 +24,7 @@ overflow_cast-silence c =
 
 pub returns-clause-fit : goal.returns-clause-fit
 returns-clause-fit c =
-    fit_head c.args.rows.now c.are_tidy.ensures c.requires _ (record {
+    fit_head c.args.rows.now c.are_tidy.ensures _ (record {
       tree = c.in_ok-tree.ensures;
       slots = c.in_ok-slots.ensures;
       splits = c.in_ok-splits.ensures;

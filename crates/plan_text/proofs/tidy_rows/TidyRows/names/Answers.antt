@@ -13,8 +13,8 @@ declare-requires c has =
     let rows = c.args.self.now in
     let i = c.loop-number.number in
     let inside : i < length (rows_of k rows) =
-    omega (arith, c.loop-number-test.true, c.count-number-end.ensures.value) in
-    name_new k c.requires rows c.count-number-end.ensures.tidy.differ i inside
+    omega (arith, c.loop-number-test.true, c.count-count.ensures.value) in
+    name_new k c.requires rows c.count-count.ensures.tidy.differ i inside
     (subst (λ (w : Word). Contains (take i (names_of k rows)) w) c.word.ensures
     (subst (λ (l : List Word). Contains l c.word.result.now) c.loop-number.invariant has))
 
@@ -25,7 +25,7 @@ loop-number-preserved c =
     let i = c.loop-number.number in
     let names = names_of k rows in
     let inside : i < length (rows_of k rows) =
-    omega (arith, c.loop-number-test.true, c.count-number-end.ensures.value) in
+    omega (arith, c.loop-number-test.true, c.count-count.ensures.value) in
     let far : i < length names = rw length-map inside in
     c.in_ok-declare.ensures.ok
     ∙ (λ j. c.loop-number.invariant j ++ (c.word.ensures ∙ sym (name_at k rows i [] inside)) j ∷ [])

@@ -6,7 +6,7 @@ use Rattle.line_rules.specs.Known.{Known}
 use Rattle.line_rules.specs.declared.rule.Rule.TheVariants.{Declared}
 use Rattle.line_rules.proofs.Least.{least_repeated, least_unknown}
 use Rattle.line_rules.proofs.Sound.{fit_named}
-use Rattle.line_rules.proofs.known.KnownLines.fault_with.Goals as goal
+use Rattle.line_rules.proofs.known.KnownLines.fault_of.Goals as goal
 
 pub is_named-requires : goal.is_named-requires
 is_named-requires c fit =
