@@ -1,4 +1,4 @@
-ghost use Rattle.std.specs.Prelude.{◌≡◌, ℕ, ◌<◌, ◌≤◌, All, Err, OnOk, length, string_bytes};
+ghost use Rattle.std.specs.Prelude.{◌≡◌, ◌≢◌, ℕ, ◌<◌, ◌≤◌, All, Err, OnOk, length, string_bytes};
 ghost use Rattle.rack_tree.specs.declared.TheConstants.{MAX_WORKERS};
 ghost use Rattle.script_text.specs.declared.script.Command.TheVariants as asked;
 ghost use Rattle.job_play.specs.Reports.{IsKnownCommand, LacksRoom, alone, deaths, padded, set_of};
@@ -39,20 +39,42 @@ pub fn perform(
     ensures unchanged { result ≡ Err PlayError.HistoryFull → (master.new ≡ master.old)
         × (given.new ≡ given.old) × (string_bytes lines.new ≡ string_bytes lines.old) }
 {
+    match command {
+        Command::Wave => wave(alloc, master, &script.names, lines),
+        Command::Reduce => Ok(reduce(alloc, master, given, &script.names, lines)?),
+        _ => Ok(tell(alloc, master, given, script, command, lines)?),
+    }
+}
+
+// Performs a command that starts neither a wave nor a part, and tells what was answered.
+fn tell(
+    alloc: Global,
+    master: &mut Master,
+    given: &GivenRuns,
+    script: &Script<'_>,
+    command: &Command,
+    lines: &mut String,
+) -> Result<(), AllocError>
+    requires kind { (command.now ≢ asked.Wave) × (command.now ≢ asked.Reduce) }
+    requires known { IsKnownCommand master.old.setup command.now }
+    requires names { length script.now.names.workers ≤ MAX_WORKERS }
+    requires given { HoldsRuns given.now master.old }
+    ensures { OnOk result (Performed script.now.names script.now.target master.old command.now
+        (string_bytes lines.old) (string_bytes lines.new) master.new) }
+{
     let names = &script.names;
     match command {
-        Command::Wave => wave(alloc, master, names, lines),
-        Command::Done(attempt) => Ok(done(alloc, master, given, *attempt, lines)?),
-        Command::Fail(attempt) => Ok(fail(master, *attempt, lines)?),
-        Command::Withdraw(attempt) => Ok(add_answer(lines, master.withdraw(*attempt))?),
-        Command::Backup(split, worker) => Ok(backup(master, names, *split, *worker, lines)?),
-        Command::Die(worker) => Ok(add_answer(lines, master.die(*worker))?),
-        Command::Join(worker, splits) => Ok(join(master, *worker, splits.as_slice(), lines)?),
-        Command::Add(split, worker) => Ok(add_answer(lines, master.add(*split, *worker))?),
-        Command::Lose(split, worker) => Ok(add_answer(lines, master.lose(*split, *worker))?),
-        Command::Sweep(counts) => Ok(sweep(master, names, counts.as_slice(), lines)?),
-        Command::Reduce => Ok(reduce(alloc, master, given, names, lines)?),
-        Command::Copies => Ok(copies(alloc, master, names, script.target, lines)?),
+        Command::Done(attempt) => done(alloc, master, given, *attempt, lines),
+        Command::Fail(attempt) => fail(master, *attempt, lines),
+        Command::Withdraw(attempt) => add_answer(lines, master.withdraw(*attempt)),
+        Command::Backup(split, worker) => backup(master, names, *split, *worker, lines),
+        Command::Die(worker) => add_answer(lines, master.die(*worker)),
+        Command::Join(worker, splits) => join(master, *worker, splits.as_slice(), lines),
+        Command::Add(split, worker) => add_answer(lines, master.add(*split, *worker)),
+        Command::Lose(split, worker) => add_answer(lines, master.lose(*split, *worker)),
+        Command::Sweep(counts) => sweep(master, names, counts.as_slice(), lines),
+        Command::Copies => copies(alloc, master, names, script.target, lines),
+        Command::Wave | Command::Reduce => unreachable!(),
     }
 }
 

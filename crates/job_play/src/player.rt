@@ -89,9 +89,25 @@ pub fn play_script_observed<O: ScriptObserver>(
 {
     let limits = limits_for(cluster.splits().len(), script.commands.as_slice());
     let mut master = Master::new(alloc, cluster, limits)?;
+    report_of(alloc, &mut master, script, observer)
+}
+
+// Plays a script on a new master, and tells the report.
+fn report_of<O: ScriptObserver>(
+    alloc: Global,
+    master: &mut Master,
+    script: &Script<'_>,
+    observer: &O,
+) -> Result<Report, PlayError>
+    requires script { IsScriptFor master.old.setup script.now }
+    requires opening { master.old ≡ opening_job (setup_for master.old.setup.cluster script.now) }
+    ensures report { IfOk result (λ report. IsReport (setup_for master.old.setup.cluster script.now) script.now
+        report.end (string_bytes report.lines)) }
+    ensures full { result ≡ Err PlayError.HistoryFull → RunsOut master.old.setup.cluster script.now }
+{
     let mut lines = String::new(alloc);
-    perform_all(alloc, &mut master, script, observer, &mut lines)?;
-    let end = add_end(alloc, &master, &script.names, &mut lines)?;
+    perform_all(alloc, master, script, observer, &mut lines)?;
+    let end = add_end(alloc, master, &script.names, &mut lines)?;
     master.is_kept();
     Ok(Report { end, lines })
 }

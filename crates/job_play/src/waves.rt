@@ -1,5 +1,4 @@
 ghost use Rattle.std.specs.Prelude.{◌≡◌, ◌≢◌, ℕ, ◌+◌, ◌-◌, ◌≤◌, ◌++◌, ◌^◌, Err, OnOk, length, string_bytes};
-ghost use Rattle.wave_problem.specs.Assignment.{pairs_of};
 ghost use Rattle.price_certificate.specs.declared.Condition.{Condition};
 ghost use Rattle.report_lines.specs.Lines.{accepted_line};
 ghost use Rattle.text_lines.specs.WaveLine.{wave_line};
@@ -10,11 +9,10 @@ ghost use Rattle.job_play.specs.Playing.{Performed};
 use crate::player::PlayError;
 use master_core::Master;
 use master_state::{CommitError, Wave};
-use node_ids::{AttemptNo, SplitNo};
+use node_ids::{AttemptNo, SplitNo, WorkerNo};
 use report_lines::{add_accepted, add_start, add_wave};
 use script_text::Names;
 use std::alloc::{AllocError, Global};
-use wave_problem::Plan;
 
 /// Starts the best wave that can start now, planned over the network with racks, and tells each start.
 pub(crate) fn wave(
@@ -31,7 +29,7 @@ pub(crate) fn wave(
 {
     master.is_kept();
     match master.start_best(alloc) {
-        Ok((planned, wave)) => Ok(tell_wave(lines, names, wave, planned.plan())?),
+        Ok((planned, wave)) => Ok(tell_wave(lines, names, wave, planned.pairs())?),
         Err(error) => Err(error_of(error)),
     }
 }
@@ -49,42 +47,40 @@ fn error_of(error: CommitError) -> PlayError
     }
 }
 
-/// The lines of a wave that made the starts of the plan.
+/// The lines of a wave that made these starts.
 pub fn tell_wave(
     lines: &mut String,
     names: &Names<'_>,
     wave: Wave,
-    plan: &Plan,
+    pairs: &[(SplitNo, WorkerNo)],
 ) -> Result<(), AllocError>
-    requires { wave.first + length (pairs_of plan.now.starts) ≤ 2 ^ 32 - 1 }
+    requires { wave.first + length pairs.now ≤ 2 ^ 32 - 1 }
     ensures { OnOk result (string_bytes lines.new ≡ string_bytes lines.old
         ++ (accepted_line wave.place ++ wave_line wave.count wave.cost
-        ++ started_lines names.now wave.first (pairs_of plan.now.starts))) }
+        ++ started_lines names.now wave.first pairs.now)) }
 {
     add_accepted(lines, wave.place)?;
     add_wave(lines, wave.count, wave.cost)?;
-    add_starts(lines, names, wave.first, plan)
+    add_starts(lines, names, wave.first, pairs)
 }
 
-// A line for each start of the plan, by rising split, the attempts numbered from the first one on.
+// A line for each start, the attempts numbered from the first one on.
 fn add_starts(
     lines: &mut String,
     names: &Names<'_>,
     first: AttemptNo,
-    plan: &Plan,
+    pairs: &[(SplitNo, WorkerNo)],
 ) -> Result<(), AllocError>
-    requires { first + length (pairs_of plan.now.starts) ≤ 2 ^ 32 - 1 }
+    requires { first + length pairs.now ≤ 2 ^ 32 - 1 }
     ensures { OnOk result (string_bytes lines.new
-        ≡ string_bytes lines.old ++ started_lines names.now first (pairs_of plan.now.starts)) }
+        ≡ string_bytes lines.old ++ started_lines names.now first pairs.now) }
 {
     let mut attempt = first.index();
-    for number in 0..plan.splits() {
-        let split = SplitNo::new(number as u16);
-        if let Some(worker) = plan.of(split) {
-            let started = AttemptNo::new(attempt as u32);
-            add_start(lines, &names.splits, &names.workers, started, split, worker)?;
-            attempt += 1;
-        }
+    for pair in pairs {
+        let (split, worker) = *pair;
+        let started = AttemptNo::new(attempt as u32);
+        add_start(lines, &names.splits, &names.workers, started, split, worker)?;
+        attempt += 1;
     }
     Ok(())
 }

@@ -50,8 +50,9 @@ fn told_of<G: Gate, O: Observer, R: Threads + Wait + Clock + Abort + Sync>(
     job.target = target;
     let ran = run_recorded(rt, alloc, job, gate, observer)?;
     let mut lines = String::new(alloc);
-    for event in ran.master.history() {
-        tell_event(rt, alloc, &mut lines, event);
+    let history = ran.master.history();
+    for index in 0..history.len() {
+        tell_event(rt, alloc, &mut lines, &history.at(index));
     }
     Ok(lines)
 }

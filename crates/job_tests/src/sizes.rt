@@ -76,7 +76,8 @@ fn a_worker_beats_while_it_maps(rt: HostRuntime) {
     let index = index.expect(&rt, "no index");
     let begun = gate.seen.begun.load(Ordering::SeqCst);
     assert_eq!(rt; (index.entries().len(), begun), (1_500_000, 1));
-    let [before, after] = master.sweeps() else {
+    let sweeps = master.sweeps();
+    let (2, Some(before), Some(after)) = (sweeps.len(), sweeps.get(0), sweeps.get(1)) else {
         panic!(rt; "not two sweeps");
     };
     let beats = after[0].saturating_sub(before[0]);

@@ -40,6 +40,7 @@ use line_shapes::{KeyedLine, Keyword, keyword_of};
 use line_talk::{LineRead, MAX_HEARD_BYTES, TalkEnd, Talker, Turn, read_line, talk};
 use master_core::{Master, are_parts_done};
 use master_state::{CommitError, Limits, Wave, Why};
+use node_ids::{SplitNo, WorkerNo};
 use plan_draft::Draft;
 use plan_text::check_report::refused;
 use price_certificate::Prices;
@@ -48,6 +49,7 @@ use script_text::{Command, Head, Names, Script, ScriptText, command_of, read_ope
 use std::alloc::{AllocError, Global};
 use std::io::{BufRead, Write};
 use text_lines::{Fault, MAX_READ_BYTES, TextFault, printable, write_text};
+use wave_planner::pairs_of;
 use wave_problem::{Plan, Problem};
 use wave_text::wave_text;
 
@@ -59,16 +61,25 @@ pub const SERVING_ROOM: Limits = Limits {
 };
 
 /// A wave that was started: the problem that it found, its plan, and the prices that certify the plan.
-#[derive(Drop)]
 pub struct Audited {
     problem: Problem,
     plan: Plan,
     prices: Prices,
 }
 
+// (one call wherever it is dropped)
+impl Drop for Audited {
+    fn drop(self) {
+        let Audited {
+            problem: _,
+            plan: _,
+            prices: _,
+        } = self;
+    }
+}
+
 /// A live master, with what the head of its text says, its last wave, and what was said of a plan of the
 /// client's own.
-#[derive(Drop)]
 pub struct Session<'t> {
     known: KnownLines<'t>,
     script: Script<'t>,
@@ -76,6 +87,20 @@ pub struct Session<'t> {
     given: GivenRuns,
     last: Option<Audited>,
     draft: Draft,
+}
+
+// (one call wherever it is dropped)
+impl<'t> Drop for Session<'t> {
+    fn drop(self) {
+        let Session {
+            known: _,
+            script: _,
+            master: _,
+            given: _,
+            last: _,
+            draft: _,
+        } = self;
+    }
 }
 
 /// Serves the master of the head that stands first, one command or query after another: each line is answered
@@ -295,8 +320,8 @@ impl<'t> Session<'t> {
         let problem = self.master.problem(alloc)?;
         match self.master.start_best(alloc) {
             Ok((planned, wave)) => {
-                let (plan, prices) = planned.into_parts();
-                self.tell_started(problem, plan, prices, wave, answer)
+                let (plan, prices, pairs) = planned.into_parts();
+                self.tell_started(problem, plan, prices, &pairs, wave, answer)
             }
             Err(CommitError::HistoryFull) => add_ignored(answer, Why::HistoryFull),
             Err(CommitError::Memory) => Err(AllocError),
@@ -310,9 +335,11 @@ impl<'t> Session<'t> {
         problem: Problem,
         plan: Plan,
         prices: Prices,
+        pairs: &[(SplitNo, WorkerNo)],
         wave: Wave,
         answer: &mut String,
     ) -> Result<(), AllocError>
+        requires pairs { pairs.now ≡ pairs_of plan.starts }
         requires few { wave.first + length (pairs_of plan.starts) ≤ 2 ^ 32 - 1 }
         ensures kept { OnOk result (self.new ≡ record self.old {
           last = Some (record { problem = problem; plan = plan; prices = prices });
@@ -320,7 +347,7 @@ impl<'t> Session<'t> {
         ensures told { OnOk result (string_bytes answer.new
             ≡ string_bytes answer.old ++ wave_lines self.old.script.names plan.starts wave) }
     {
-        tell_wave(answer, &self.script.names, wave, &plan)?;
+        tell_wave(answer, &self.script.names, wave, pairs)?;
         self.last = Some(Audited {
             problem,
             plan,
@@ -360,8 +387,9 @@ impl<'t> Session<'t> {
     {
         self.master.is_kept();
         let problem = self.master.problem(alloc)?;
+        let pairs = pairs_of(alloc, &plan)?;
         match self.master.commit_plan(alloc, &plan, &prices) {
-            Ok(wave) => self.tell_started(problem, plan, prices, wave, answer),
+            Ok(wave) => self.tell_started(problem, plan, prices, &pairs, wave, answer),
             Err(CommitError::HistoryFull) => add_ignored(answer, Why::HistoryFull),
             Err(CommitError::Stale(condition)) => {
                 let names = &self.script.names;
