@@ -41,14 +41,12 @@ class Crate:
         """When one of its sources changed last."""
         return max(it.stat().st_mtime for part in PARTS for it in (self.folder / part).rglob("*"))
 
-    def digest(self, crates):
-        """A checksum of all that a check of the crate reads: its sources, those of the crates below, and the kit."""
-        total = hashlib.sha256(kit_version().encode())
-        for crate in [*self.below(crates), self]:
-            total.update(f"{crate.line}\n".encode())
-            for it in sorted(it for part in PARTS for it in (crate.folder / part).rglob("*") if it.is_file()):
-                content = it.read_bytes()
-                total.update(f"{it.relative_to(crate.folder)} {len(content)}\n".encode() + content)
+    def digest(self):
+        """A checksum of the crate's sources."""
+        total = hashlib.sha256()
+        for it in sorted(it for part in PARTS for it in (self.folder / part).rglob("*") if it.is_file()):
+            content = it.read_bytes()
+            total.update(f"{it.relative_to(self.folder)} {len(content)}\n".encode() + content)
         return total.hexdigest()
 
     def is_made(self, file, crates):

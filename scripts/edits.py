@@ -1,22 +1,27 @@
 #!/usr/bin/env python3
 """Tries the wrong edits of edits/CRATE/*.edit: the prover must refuse each, by a goal of the function it changes.
 
-    edits.py [--anew] [CRATE[/NAME]..]      (each crate that has edits, where none is named; or one edit of a crate)
+    edits.py [--anew] [--keep] [--beside LOG] [CRATE[/NAME]..]    (each crate with edits, those named, or one edit)
 
-An edit has the form of a must-fail edit: a line 'file: src/lib.rt', and then pairs of lines 'old: TEXT' and
-'new: TEXT', each old TEXT standing once in that file. Edits of different functions of a crate stand in one copy of it
-and are tried by one check. An edit is refused where the check names a goal of its own function that is not proved: a
-clause, an invariant, a safety goal, or what a callee requires. That a callee is no longer proved, that a proof file
-names what is gone, or that a text cannot be read, refuses nothing. What a group leaves open is tried among fewer
-others; a group of which nothing is told, as where one edit cannot be compiled, is halved. An edit that stands in no
-function's body, or in several, is tried alone, and a goal of any function that the check reaches refuses it.
+An edit has a line 'file: src/lib.rt', and then pairs of lines 'old: TEXT' and 'new: TEXT', each old TEXT standing once
+in that file. Edits of different functions of a crate stand in one copy of it and are tried by one check. An edit is
+refused where the check names a goal of its own function that is not proved: a clause, an invariant, a safety goal, or
+what a callee requires. That a callee is no longer proved, that a proof file names what is gone, or that a text cannot
+be read, refuses nothing. The crate's other functions have no bodies in the copy, and holes for their proofs: so the
+check takes their contracts as they stand, and proves no function twice. What a group leaves open is tried among fewer
+others; a group of which nothing is told, as where one edit cannot be compiled, is halved. An edit that is not refused
+alone is tried once more among the bodies of all functions. An edit that stands in no function's body, or in several, is
+tried alone, and a goal of any function that the check reaches refuses it.
 
-A crate counts as proved without its edits, as `rt ci` or `rt check` says. Its libraries are taken from out/, as
-either leaves them, and are built where they are missing or older than their sources. The checkout stays as it is.
-That an edit was refused is kept in $XDG_CACHE_HOME/mrjob-edits, by the checksums of all that the verdict rests on: the
-edit, the sources of its crate and of those below, the kit and this script. It is not tried again while these stay the
-same, here or in another checkout; --anew tries each. JOBS=N tries N crates side by side. The last line is 'N passed, M
-failed'.
+A crate counts as proved without its edits, as `rt ci` or `rt check` says. Its libraries are taken from out/, as either
+leaves them, and are built where they are missing or older than their sources. The checkout stays as it is. That an edit
+was refused is kept in $XDG_CACHE_HOME/mrjob-edits, by a checksum of all that the verdict rests on: the edit, the
+sources of its crate, what a check reads of the crates below, and the kit. It is not tried again while these stay the
+same, here or in another checkout; --anew tries each. --keep writes the checksums of all that is known to
+edits/verdicts, for other machines. There each commit has some crates by lot, of which that file tells nothing, so that
+their edits are tried again. JOBS=N makes N checks side by side. With --beside, the log of an `rt ci` that is still
+running, a crate's edits wait until that run has proved the crate, and there is one check at a time until the run has
+ended. The last line is 'N passed, M failed'.
 """
 import hashlib
 import os
@@ -26,15 +31,23 @@ import subprocess
 import sys
 import tempfile
 import time
-from concurrent.futures import ThreadPoolExecutor
+from concurrent.futures import ThreadPoolExecutor, wait
 from dataclasses import dataclass
+from functools import lru_cache, partial
 from pathlib import Path
 
 sys.dont_write_bytecode = True
-from crates import PARTS, ROOT, cache, places, rattle_words, read_crates
+from crates import PARTS, ROOT, cache, kit_version, places, rattle_words, read_crates
 
 # The memory on which a check is planned, in KiB.
 CHECK_MEMORY = 3_000_000
+# The most edits that one copy of a crate is for. Those of a crate that has more are tried in several copies.
+MOST_IN_COPY = 40
+# How an edit is judged, counted up where a verdict of before says nothing any more.
+JUDGED_AS = 1
+# The verdicts that are told to other machines, and of how many crates one is tried there all the same.
+VERDICTS = ROOT / "edits/verdicts"
+LOTS = 8
 # Verdicts of earlier runs, each a file, and for how many seconds one is kept that no run asks for.
 KEPT = cache("mrjob-edits")
 KEPT_SECONDS = 30 * 24 * 3600
@@ -50,8 +63,6 @@ OPEN_GOAL = re.compile(
 )
 # An answer that proves its goal no longer, by the folder of its function's proof.
 OPEN_ANSWER = re.compile(r"(?:\./)?proofs/(\S+)/Answers\.antt:\d+:\d+: error: `([^`]+)`: (.*)")
-# The goals left open by a lemma of the same file that holds no longer.
-OPEN_BELOW = re.compile(r"(?:\./)?proofs/(\S+)/Answers\.antt:\S+: error: \d+ \w+ that depends? on `([^`]+)`, .*: (.*)")
 # What antt says where an answer names what is no longer there.
 NAMES = re.compile(r"is not in scope|has no field|has no `|is no name|was not admitted")
 
@@ -116,6 +127,53 @@ def functions_of(file, text):
 
 def depth(line):
     return len(line) - len(line.lstrip(" "))
+
+
+def take_out_bodies(copy, crate, whole):
+    """Leaves a copy of a crate the contracts alone of its functions, but for those that stay whole: a body that never
+    returns, on as many lines, and a hole for its proof. Methods of traits, and what calls itself, stay as they are."""
+    for path in sorted((copy / "src").rglob("*.rt")):
+        lines = path.read_text(encoding="utf-8").split("\n")
+        done = 0
+        for it in functions_of(str(path.relative_to(copy)), "\n".join(lines)):
+            if it.first > done:
+                done = it.last
+                if it not in whole and has_contract_alone(copy, it, lines):
+                    lines[it.opens:it.last - 1] = ["unreachable!()"] + [""] * (it.last - it.opens - 2)
+                    put_hole(copy, crate, it)
+        path.write_text("\n".join(lines), encoding="utf-8")
+
+
+def has_contract_alone(copy, function, lines):
+    """Whether a function of a copy can do without its body."""
+    is_empty = function.last == function.opens + 1
+    is_own = function.asked == "::".join(function.path) != "main"
+    calls_itself = copy.joinpath("proofs", *function.path[:-1], f"+{function.path[-1]}").is_dir()
+    is_in_cycle = any("#[cycle" in it for it in lines[function.first - 1:function.opens])
+    return is_own and not is_empty and not calls_itself and not is_in_cycle
+
+
+def put_hole(copy, crate, function):
+    """Puts a hole in the place of a function's proof."""
+    folder, name = copy.joinpath("proofs", *function.path), function.path[-1]
+    shutil.rmtree(folder, ignore_errors=True)
+    folder.mkdir(parents=True)
+    statement = f"Rattle.{crate.name}.proofs.{'.'.join(function.path)}.Statement"
+    proof = f"pub {name}_spec : {{M : Type 1}} → statement M\n{name}_spec = ?\n"
+    (folder / "Proof.antt").write_text(f"use {statement}.{{statement}}\n\n{proof}", encoding="utf-8")
+
+
+def goals_on(answers, name):
+    """The goals of a file of answers that are answered by this name, or stand on it where it is a lemma beside them."""
+    blocks, names, found = answers.split("\n\n"), [name], []
+    for name in names:
+        for block in blocks:
+            declared = re.search(r"^(?:pub )?(\S+) :", block, re.M)
+            if declared and declared[1] not in names and re.search(rf"(?<![\w-]){re.escape(name)}(?![\w-])", block):
+                names.append(declared[1])
+        if re.search(rf"^pub {re.escape(name)} :\s+goal\.{re.escape(name)}$", answers, re.M):
+            found.append(name)
+    return found
 
 
 class Unfit(Exception):
@@ -190,7 +248,7 @@ class Trial:
         self.crate, self.words, self.room = crate, [*rattle_words("check", crate, crates), "--jobs", "1"], Path(room)
         self.checks = self.seconds = 0
 
-    def check(self, edits):
+    def check(self, edits, with_bodies=False):
         """Checks the functions of these edits, or the whole crate where one has none, in a copy that has them all."""
         copy = self.room / "copy"
         for part in PARTS:
@@ -204,21 +262,18 @@ class Trial:
                 (copy / file).write_text("\n".join(lines), encoding="utf-8")
         asked = dict.fromkeys(word for it in edits for word in it.asked)
         only = [word for it in asked for word in ("--only", it)] if all(it.asked for it in edits) else []
+        if only and not with_bodies:
+            take_out_bodies(copy, self.crate, {body for it in edits for body in it.bodies(self.crate)})
+            only.append("--allow-holes")
         said, status = self.run([*self.words, "--incremental", str(self.room / "kept"), *only], copy)
         shutil.rmtree(copy)
         if status != 1 or not re.search(r"^(logic=not-proved|only=).*\n\Z", said, re.M):
             return Verdict((), said)
         goals = [((file, int(line)), goal) for file, line, goal in OPEN_GOAL.findall(said)]
         false = [(folder, name) for folder, name, why in OPEN_ANSWER.findall(said) if not NAMES.search(why)]
-        # (an answer may rest on lemmas beside it, which only then are proved no longer)
-        false += [
-            (folder, goal) for folder, lemma, open_goals in OPEN_BELOW.findall(said) if (folder, lemma) in false
-            for goal in open_goals.split(", ")
-        ]
-        for folder, goal in false:
+        for folder, name in false:
             answers = (self.crate.folder / "proofs" / folder / "Answers.antt").read_text(encoding="utf-8")
-            if re.search(rf"^pub {re.escape(goal)} :\s+goal\.{re.escape(goal)}$", answers, re.M):
-                goals.append(((folder, 0), f"{goal} by its answer"))
+            goals += [((folder, 0), f"{goal} by its answer") for goal in goals_on(answers, name)]
         return Verdict(tuple(goals), said)
 
     def run(self, words, folder):
@@ -235,6 +290,9 @@ class Trial:
     def judge(self, group, told):
         """Tries these edits by one check, and tells of each that it refuses, and of one alone in any case."""
         verdict = self.check(group)
+        if len(group) == 1 and group[0].asked and not verdict.against(group[0].function):
+            # (a hole below may leave untold what a proof there would tell)
+            verdict = self.check(group, with_bodies=True)
         for edit in group:
             goals = verdict.against(edit.function)
             if goals:
@@ -267,28 +325,68 @@ class Trial:
                 self.judge_in_halves(half, told)
 
 
+@lru_cache(maxsize=None)
+def face_of(crate):
+    """A checksum of what checks of other crates read of a crate: its definitions, lemmas, types and contracts, and not
+    the bodies of its functions, nor how these are proved, nor its comments."""
+    total = hashlib.sha256(f"{crate.line}\n".encode())
+    for path in sorted(it for part in PARTS for it in (crate.folder / part).rglob("*") if it.is_file()):
+        file, text = str(path.relative_to(crate.folder)), path.read_text(encoding="utf-8")
+        lines = text.split("\n")
+        for it in reversed(functions_of(file, text) if path.suffix == ".rt" else []):
+            lines[it.opens:it.last - 1] = []
+        text = "\n".join(it for it in lines if not re.match(r" *(//|--)", it))
+        if path.name not in ("Answers.antt", "Invariants.antt", "Proof.antt"):
+            total.update(f"{file} {len(text)}\n{text}".encode())
+    return total.hexdigest()
+
+
+def told_verdicts():
+    """The checksums of edits/verdicts, by the edits' names."""
+    lines = VERDICTS.read_text().splitlines() if VERDICTS.exists() else []
+    return dict(it.split() for it in lines)
+
+
+def tried_anew(names):
+    """The crates whose lot it is that edits/verdicts tells nothing of them, by the commit that is checked out."""
+    told = subprocess.run(["git", "rev-parse", "HEAD"], cwd=ROOT, capture_output=True, text=True)
+    lots = {it: int(hashlib.sha256(f"{it} {told.stdout}".encode()).hexdigest(), 16) for it in names}
+    return {it for it in names if lots[it] % LOTS == 0}
+
+
 class Kept:
-    """The verdicts that earlier runs kept of a crate's edits."""
+    """The verdicts that earlier runs kept of a crate's edits, on this machine or in edits/verdicts."""
 
-    def __init__(self, crate, crates):
-        self.rest = crate.digest(crates).encode() + Path(__file__).read_bytes()
+    def __init__(self, crate, crates, told):
+        below = "".join(face_of(it) for it in crate.below(crates))
+        self.crate, self.told = crate, told
+        self.rest = f"{JUDGED_AS} {kit_version()} {crate.digest()} {below}".encode()
 
-    def place(self, path):
-        return KEPT / hashlib.sha256(self.rest + path.read_bytes()).hexdigest()
+    def sum_of(self, path):
+        return hashlib.sha256(self.rest + path.read_bytes()).hexdigest()
 
     def of(self, path):
         """Why an edit was refused, or None where that is not known."""
-        place = self.place(path)
-        if not place.exists():
-            return None
-        os.utime(place)
-        return place.read_text()
+        place = KEPT / self.sum_of(path)
+        if place.exists():
+            os.utime(place)
+            return place.read_text()
+        is_told = self.told.get(f"{self.crate.name}/{path.stem}") == self.sum_of(path)[:32]
+        return "refused, as edits/verdicts tells" if is_told else None
 
     def keep(self, path, why):
         KEPT.mkdir(parents=True, exist_ok=True)
         with tempfile.NamedTemporaryFile("w", dir=KEPT, delete=False) as file:
             file.write(why)
-        os.replace(file.name, self.place(path))
+        os.replace(file.name, KEPT / self.sum_of(path))
+
+
+def write_verdicts(kept, edits):
+    """Writes edits/verdicts: what is known of these edits, and of those of other crates what it told before."""
+    lines = [f"{name} {sum}" for name, sum in told_verdicts().items() if name.partition("/")[0] not in edits]
+    for name, paths in edits.items():
+        lines += [f"{name}/{it.stem} {kept[name].sum_of(it)[:32]}" for it in paths if kept[name].of(it)]
+    VERDICTS.write_text("".join(f"{it}\n" for it in sorted(lines)))
 
 
 def let_go():
@@ -306,11 +404,11 @@ def gist(said):
 
 
 def try_crate(crate, crates, kept, known, paths):
-    """Tries a crate's edits whose verdicts are not known, prints a line for each, and gives how many are refused."""
+    """Tries edits of a crate, prints a line for each and for those that are known, and gives how many are refused."""
     edits, lines, refused = [], [f"{it.relative_to(ROOT)}: {why} (kept)" for it, why in known.items()], len(known)
+    if paths:
+        build_libraries(crate, crates)
     for path in paths:
-        if path in known:
-            continue
         try:
             edits.append(Edit(path, crate))
         except (Unfit, UnicodeDecodeError) as why:
@@ -323,22 +421,47 @@ def try_crate(crate, crates, kept, known, paths):
             if is_refused:
                 kept.keep(edit.path, why)
     counts = f"{trial.checks} checks, {trial.seconds:.0f} s, {len(known)} verdicts kept"
-    lines.append(f"{crate.name}: {refused} of {len(paths)} refused, {counts}")
+    lines.append(f"{crate.name}: {refused} of {len(known) + len(paths)} refused, {counts}")
     print("\n".join(lines), flush=True)
     return refused
 
 
-def build_libraries(crates, names):
-    """Builds the libraries on which these crates stand, where they are missing or old."""
-    for name in names:
-        for library in crates[name].below(crates):
-            if not library.is_made(library.rlib, crates):
-                subprocess.run(["rt", "lib"], cwd=library.folder, check=True)
+def build_libraries(crate, crates):
+    """Builds the libraries on which the crate stands, where they are missing or old."""
+    for library in crate.below(crates):
+        if not library.is_made(library.rlib, crates):
+            subprocess.run(["rt", "lib"], cwd=library.folder, check=True)
+
+
+def proved_by(log):
+    """The crates that a run of `rt ci` has proved so far, by its log, and whether it has ended."""
+    said = log.read_text(errors="replace") if log.exists() else ""
+    ended = re.search(r"^\d+ passed, \d+ failed$", said, re.M)
+    return set(re.findall(r"^rt: (\w+) (?:proved|is kept)\b", said, re.M)), bool(ended)
+
+
+def try_side_by_side(tasks, log):
+    """Makes the calls, each of a crate by its name, and gives what they give, summed up."""
+    lanes, left, running, total = int(os.environ.get("JOBS", 0)) or places(CHECK_MEMORY), [*tasks], set(), 0
+    with ThreadPoolExecutor(lanes) as pool:
+        while left or running:
+            proved, has_ended = proved_by(log) if log else ((), True)
+            ready = [it for it in left if has_ended or it[0] in proved]
+            for task in ready[:(lanes if has_ended else 1) - len(running)]:
+                left.remove(task)
+                running.add(pool.submit(task[1]))
+            done, running = wait(running, timeout=2) if running else (time.sleep(2) or (), running)
+            total += sum(it.result() for it in done)
+    return total
 
 
 def main(words):
-    names, crates = [it for it in words if it != "--anew"], read_crates()
-    found = {it.name: sorted(it.iterdir()) for it in sorted((ROOT / "edits").iterdir())}
+    log = None
+    if "--beside" in words:
+        at = words.index("--beside")
+        log, words = Path(words[at + 1]), words[:at] + words[at + 2:]
+    names, crates = [it for it in words if it not in ("--anew", "--keep")], read_crates()
+    found = {it.name: sorted(it.iterdir()) for it in sorted((ROOT / "edits").iterdir()) if it != VERDICTS}
     strays = [it for name, paths in found.items() for it in paths if name not in crates or it.suffix != ".edit"]
     for it in strays:
         print(f"{it.relative_to(ROOT)}: BAD EDIT: an edit is a file edits/CRATE/NAME.edit, of a crate of crates.txt")
@@ -350,16 +473,23 @@ def main(words):
             sys.exit(f"{asked} is no crate with edits, and no edit of one")
         edits.setdefault(name, []).extend(it for it in paths if it not in edits.get(name, []))
     let_go()
-    kept = {name: Kept(crates[name], crates) for name in edits}
+    told, anew = told_verdicts(), tried_anew(edits)
+    kept = {name: Kept(crates[name], crates, {} if name in anew else told) for name in edits}
     known = {name: {} for name in edits}
     if "--anew" not in words:
         known = {name: {it: why for it in paths if (why := kept[name].of(it))} for name, paths in edits.items()}
-    build_libraries(crates, [it for it in edits if len(known[it]) < len(edits[it])])
     # (what takes longest begins first)
-    names = sorted(edits, key=lambda it: -sum(path.stat().st_size for path in crates[it].folder.rglob("*.rt")))
-    with ThreadPoolExecutor(int(os.environ.get("JOBS", 0)) or places(CHECK_MEMORY)) as pool:
-        tried = pool.map(lambda it: try_crate(crates[it], crates, kept[it], known[it], edits[it]), names)
-        refused = sum(tried)
+    order = sorted(edits, key=lambda it: -sum(path.stat().st_size for path in crates[it].folder.rglob("*.rt")))
+    tasks = []
+    for name in order:
+        copies = -(-(len(edits[name]) - len(known[name])) // MOST_IN_COPY) or 1
+        unknown = [it for it in edits[name] if it not in known[name]]
+        for at in range(copies):
+            tried, told = unknown[at::copies], known[name] if at == 0 else {}
+            tasks.append((name, partial(try_crate, crates[name], crates, kept[name], told, tried)))
+    refused = try_side_by_side(tasks, log)
+    if "--keep" in words:
+        write_verdicts(kept, {name: found[name] for name in edits})
     failed = sum(map(len, edits.values())) - refused + len(strays)
     print(f"{refused} passed, {failed} failed")
     return 1 if failed or not refused else 0

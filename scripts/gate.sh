@@ -1,13 +1,15 @@
 #!/usr/bin/env bash
-# The gate. `rt ci` proves every crate from nothing, tries the must-fail edits and runs the tests. Then, side by side,
-# edits.py tries the edits over the libraries that it left, the C library is built over them and tried, and the scripts
-# try the programs that it built; at last a MooseFS and jobs on a Dask cluster, where these are installed, and what is
-# handed out. What failed is told once more at the end; the last line sums up what all of them counted.
+# The gate. `rt ci` proves every crate from nothing and runs the tests. Beside it, with the processor time that it
+# leaves, edits.py tries the edits of each crate that it has proved. Then, side by side, the C library is built over the
+# libraries that it left and tried, and the scripts try the programs that it built; at last a MooseFS and jobs on a Dask
+# cluster, where these are installed, and what is handed out. What failed is told once more at the end; the last line
+# sums up what all of them counted.
 set -uo pipefail
 cd "$(dirname "$0")/.." || exit 1
 command -v rt > /dev/null || exec scripts/build.py  # (which says where to get it)
 room=$(mktemp -d)
-trap 'rm -rf "$room"' EXIT
+edits=
+trap 'kill $edits 2> /dev/null; rm -rf "$room"' EXIT
 passed=0 failed=0 failures=
 
 # Adds up what a command counted, in the last line of its output of the form 'N passed, M failed'. A library that the
@@ -49,6 +51,8 @@ count_all() {
     commands=() logs=() started=()
 }
 
+nice -n 19 scripts/edits.py --beside "$room/ci" > "$room/edits" 2>&1 &
+edits=$!
 echo "== rt ci"
 rt ci | tee "$room/ci"
 add_up "rt ci" "${PIPESTATUS[0]}" "$room/ci"
@@ -81,7 +85,7 @@ start scripts/c_library.sh "${programs[0]}"
 start scripts/soak.py --short bin/mrjob
 start scripts/hdfs.py "${programs[@]}"
 start scripts/another_ledger.py
-start scripts/edits.py
+commands+=(scripts/edits.py) logs+=("$room/edits") started+=("$edits")
 count_all
 # (servers and workers are processes of their own, which want processors)
 start scripts/moosefs.py "${programs[@]}"

@@ -6,8 +6,10 @@ of any session.
 
     progress.py PROGRAM..
 
-The job has one map of so many words that it lasts for some seconds, beside a short one. The script has as many waves
-as it may have, and is ended when the first line was told. The last line is 'N passed, M failed'.
+Both texts are longer than a pipe holds, and their last line is written two seconds after the rest was taken. The
+program's clock runs by then, so a second has passed before the first command, however fast the machine is. The job has
+one map of so many words that it lasts, beside a short one. The script has as many waves as it may have, and is ended
+when the first line was told. The last line is 'N passed, M failed'.
 """
 import os
 import pty
@@ -17,6 +19,8 @@ import select
 import subprocess
 import sys
 import termios
+import threading
+import time
 
 sys.dont_write_bytecode = True
 import make_texts
@@ -34,12 +38,28 @@ SCRIPT += b"begin\n" + 65_536 * b"wave\n" + b"end\n"
 SCRIPT_LINE = re.compile(re.escape(CLEAR) + rb"command ([1-9]\d*) of 65536")
 
 
+def write_slowly(pipe, text):
+    """Writes a text that ends in `end`, whose last line comes two seconds after the program began to read."""
+    try:
+        pipe.write(text[: -len(b"end\n")])
+        pipe.flush()
+        time.sleep(2)
+        pipe.write(b"end\n")
+        pipe.close()
+    except BrokenPipeError:
+        pass
+
+
 def on_terminal(words):
     """What is written on standard output, and on a standard error that is a terminal."""
     ours, theirs = pty.openpty()
     ran = subprocess.Popen(words, stdin=subprocess.PIPE, stdout=subprocess.PIPE, stderr=theirs)
     os.close(theirs)
-    output, _ = ran.communicate(JOB)
+    writer = threading.Thread(target=write_slowly, args=(ran.stdin, JOB))
+    writer.start()
+    output = ran.stdout.read()
+    ran.wait()
+    writer.join()
     told = b""
     while True:
         try:
@@ -58,8 +78,7 @@ def told_of_script(program):
     ours, theirs = pty.openpty()
     ran = subprocess.Popen([program, "play"], stdin=subprocess.PIPE, stdout=subprocess.DEVNULL, stderr=theirs)
     os.close(theirs)
-    ran.stdin.write(SCRIPT)
-    ran.stdin.close()
+    write_slowly(ran.stdin, SCRIPT)
     # (a program that tells nothing is not waited for until it has played all)
     try:
         return os.read(ours, 4096) if select.select([ours], [], [], 300)[0] else b""

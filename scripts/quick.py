@@ -2,7 +2,9 @@
 """Builds the program without its proofs, in about two minutes, and leaves it as bin/mrjob. `mrjob --version` says of it
 that it is not proved.
 
-    quick.py [PROGRAM]      PROGRAM is where it is left, in place of bin/mrjob
+    quick.py [--bare] [PROGRAM]      PROGRAM is where it is left, in place of bin/mrjob
+
+With --bare it also has no tests of each index, sum and cast, as a proved program has none: to be measured, not used.
 
 `rt try` makes a program without its proofs, with tests of each index, sum and cast, and keeps no file of it. So it is
 run here by a folder of links to the kit, in which a script stands for the compiler: that keeps the program's module,
@@ -21,6 +23,8 @@ from crates import ROOT, kit, need_kit, read_crates, version
 TARGET = "x86_64-unknown-linux-gnu"
 MARK = " (not proved)"
 # Of two calls the first only asks whether there is a sanitizer at all.
+# A call of the module that ends a test.
+TEST = re.compile(r'\s*call void @(?:"rattle-llvm-checks::|llvm\.trap\b)')
 COMPILER = """#!/bin/sh
 case "$*" in *-fsanitize=address*) ;; *) exec '{compiler}' "$@" ;; esac
 cp module.bc '{room}/module.bc' && printf '%s\\n' "$@" > '{room}/words'
@@ -53,7 +57,7 @@ def lay_out_kit(room):
 
 def lay_out_sources(room):
     """A copy of the crates whose version says that they are not proved; and the folder of the program's."""
-    leave_out = shutil.ignore_patterns("out", "proofs", "must-fail")
+    leave_out = shutil.ignore_patterns("out", "proofs")
     for crate in read_crates().values():
         shutil.copytree(crate.folder, room / "crates" / crate.name, ignore=leave_out)
     for name in ("crates.txt", "HANDLES"):
@@ -69,7 +73,17 @@ def is_unproved(program):
     return MARK in subprocess.run([program, "--version"], capture_output=True, text=True).stdout
 
 
-def build(program):
+def without_tests(room, compiler):
+    """Leaves the module as text, in which what a test leads to is never reached; and tells the words that compile it."""
+    module, text = room / "module.bc", room / "module.ll"
+    as_text = ["-Xclang", "-disable-llvm-passes", "-S", "-emit-llvm", "-x", "ir"]
+    subprocess.run([*compiler, f"--target={TARGET}", *as_text, module, "-o", text], check=True)
+    with open(text) as lines, open(room / "bare.ll", "w") as bare:
+        bare.writelines(line for line in lines if not TEST.match(line))
+    return {"module.bc": "bare.ll", "-O1": "-O3", "-Werror": "-w"}
+
+
+def build(program, bare=False):
     """Leaves the program there, built without its proofs."""
     whole = kit()
     with tempfile.TemporaryDirectory(prefix="mrjob-quick-") as room:
@@ -82,6 +96,9 @@ def build(program):
         words = (room / "words").read_text().split("\n")[:-1]
         words = [it.replace("-O0", "-O1") for it in words if not it.startswith(("-fsanitize", "--sysroot"))]
         compiler = [whole / "toolchain/bin/clang", f"--sysroot={whole / 'toolchain'}"]
+        if bare:
+            instead = without_tests(room, compiler)
+            words = [instead.get(it, it) for it in words]
         subprocess.run([*compiler, *words], cwd=room, check=True)
         link = [whole / "bin/rattle-link", "--target", TARGET, "--toolchain", whole / "toolchain", "-o", room / "mrjob"]
         libraries = [whole / "c/libos_c.a", whole / "c/liblibc_c.a"]
@@ -93,9 +110,12 @@ def build(program):
 
 def main(words):
     need_kit()
-    program = Path(words[0]) if words else ROOT / "bin/mrjob"
-    build(program)
-    print(f"mrjob: built without its proofs, {words[0] if words else 'bin/mrjob'}")
+    bare = words[:1] == ["--bare"]
+    place = words[bare:]
+    if len(place) > 1 or place and place[0].startswith("-"):
+        sys.exit(__doc__)
+    build(Path(place[0]) if place else ROOT / "bin/mrjob", bare)
+    print(f"mrjob: built without its proofs, {place[0] if place else 'bin/mrjob'}")
 
 
 if __name__ == "__main__":
