@@ -3,10 +3,15 @@
 # nanoseconds a call, the least of five masters, once where nothing has happened before, and once after
 # 54,000 events. `problem` and `commit` stand beside `certify` alone. Then the peak resident set of a process
 # that makes such a master, and of one that leads it through 65,536 events, 16,384 sweeps among them.
-# It needs python3.
 set -euo pipefail
 cd "$(dirname "$0")/.."
+if ! [ -x /usr/bin/time ]; then
+    echo "there is no /usr/bin/time, which measures the memory (Debian's package time)" >&2
+    exit 1
+fi
 program=$(scripts/bench_program.py bench_master)
+folder=$(mktemp -d)
+trap 'rm -rf "$folder"' EXIT
 "$program" time | awk -F '\t' '
   BEGIN { printf "%-20s %6s %12s %19s\n", "ns a call", "calls", "new", "after 54,000 events" }
   { printf "%-20s %6d %12d %19d\n", $1, $2, $3, $4; new[$1] = $3 }
@@ -15,10 +20,6 @@ program=$(scripts/bench_program.py bench_master)
     printf "problem and commit take %.2f times as long as certify\n", both / new["certify"]
   }'
 for end in made full; do
-    python3 - "$program" "$end" <<'END'
-import resource, subprocess, sys
-
-told = subprocess.run(sys.argv[1:], check=True, capture_output=True, text=True).stdout.strip()
-print(f"{told}: {resource.getrusage(resource.RUSAGE_CHILDREN).ru_maxrss / 1024:.1f} MiB")
-END
+    /usr/bin/time -f "%M" -o "$folder/memory" "$program" "$end" > "$folder/told"
+    awk -v told="$(< "$folder/told")" '{ printf "%s: %.1f MiB\n", told, $1 / 1024 }' "$folder/memory"
 done
