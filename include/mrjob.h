@@ -45,9 +45,9 @@ extern "C" {
 #define MRJOB_MAX_RACKS 32
 #define MRJOB_MAX_WORKERS 256
 #define MRJOB_MAX_SPLITS 1024
-#define MRJOB_MAX_HOLDERS 8       /* of one split */
-#define MRJOB_MAX_SLOTS 16        /* of one worker */
-#define MRJOB_MAX_BYTES 67108864  /* of one split, 64 MiB */
+#define MRJOB_MAX_HOLDERS 8         /* of one split */
+#define MRJOB_MAX_SLOTS 16          /* of one worker */
+#define MRJOB_MAX_BYTES 8589934592  /* of one split, 8 GiB */
 
 /* In a place of a worker or a split: none. */
 #define MRJOB_NONE 65535

@@ -16,7 +16,7 @@ import mrjob_plan
 import mrjob_plan.library
 
 # What a wave may have at most (docs/MODEL.md).
-WORKERS, RACKS, CENTRES, SPLITS, HOLDERS, SLOTS, BYTES = 256, 32, 8, 1024, 8, 16, 67_108_864
+WORKERS, RACKS, CENTRES, SPLITS, HOLDERS, SLOTS, BYTES = 256, 32, 8, 1024, 8, 16, 8_589_934_592
 
 
 class Unfit(Exception):
@@ -170,7 +170,7 @@ def head_lines(wave: Wave, units: dict[str, int]) -> list[str]:
     """The head of a problem. Names are a letter and a number, since those of a cluster may have any characters."""
     places = sorted({*wave.places.values()})
     centres = sorted({place.centre for place in places})
-    lines = ["problem 2", *(f"centre c{number}" for number in range(len(centres)))]
+    lines = ["problem 3", *(f"centre c{number}" for number in range(len(centres)))]
     lines += [f"rack r{number} c{centres.index(place.centre)}" for number, place in enumerate(places)]
     rack, name = {place: f"r{number}" for number, place in enumerate(places)}, {}
     for number, (worker, place) in enumerate(wave.places.items()):

@@ -280,7 +280,7 @@ def head(
     documents: Iterable[Tuple[str, str, str]] = (),
 ) -> List[str]:
     """The lines before `begin` of a job on a cluster, whose workers have `free` slots when nothing runs; documents are
-    (name, split, text). Names are those of texts: 1 to 32 letters, digits, '-', '_' and '.', the first a letter."""
+    (name, split, text). Names are those of texts: 1 to 64 letters, digits, '-', '_', '.', ':' and '/'."""
     if not all(worker.live for _, worker in items(cluster.workers)):
         raise ValueError("a job opens with all workers alive")
     if not all(it.pending and not it.barred for it in splits.values()):
@@ -291,7 +291,7 @@ def head(
     racks: List[Tuple[Hashable, Hashable]] = [(it, only) for it in of_workers]
     if cluster.racks is not None:
         racks = items(cluster.racks)
-    rows: List[Sequence[object]] = [("script", 2)]
+    rows: List[Sequence[object]] = [("script", 3)]
     rows += [("centre", it) for it in dict.fromkeys(centre for _, centre in racks)]
     rows += [("rack", name, centre) for name, centre in racks]
     rows += [("worker", name, it.rack, it.free) for name, it in items(cluster.workers)]

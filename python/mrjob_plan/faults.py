@@ -22,7 +22,7 @@ class Status(IntEnum):
 WORDS = {
     Status.BAD_RACKS: "there are more than 8 data centres or 32 racks, or a rack is in no data centre",
     Status.BAD_WORKERS: "there are more than 256 workers, or one is in no rack or has more than 16 slots",
-    Status.BAD_SPLITS: "there are more than 1,024 splits, or one has more than 67,108,864 bytes or 8 holders, "
+    Status.BAD_SPLITS: "there are more than 1,024 splits, or one has more than 8,589,934,592 bytes or 8 holders, "
     "or a holder past the last",
     Status.BAD_BARRED: "a barred pair is of no split or of no worker",
     Status.BAD_HOLDERS: "a holder is no worker, or stands twice at one split",

@@ -14,7 +14,7 @@ MAX_WORKERS = 256
 MAX_SPLITS = 1024
 MAX_HOLDERS = 8
 MAX_SLOTS = 16
-MAX_BYTES = 67108864
+MAX_BYTES = 8589934592
 # In a place of a worker or a split: none.
 NONE = 65535
 

@@ -132,7 +132,7 @@ module _ {nodes : ℕ} {arcs : List FlowArc} {sources : List ℕ} {sink count : 
   -- the source's path of two arcs, and what it comes to
   pub own_way : (k : ℕ) × (k < length arcs) × ((arc_at arcs k).from ≡ get_or sources count 0)
       × (0 < (arc_at arcs k).capacity)
-      × ((arc_at arcs k).cost + h (arc_at arcs k).to ≤ 2 ^ 40)
+      × ((arc_at arcs k).cost + h (arc_at arcs k).to ≤ 2 ^ 48)
   own_way =
       let w = can.paths count left in
       let few = state.few w.on in
@@ -150,10 +150,10 @@ module _ {nodes : ℕ} {arcs : List FlowArc} {sources : List ℕ} {sink count : 
         (λ k l e. can.no_entry count k left l e) (λ k l e. state.unused count k (omega arith) left l e)
         up.allowed
 
-    lifted_start : h' (get_or sources count 0) ≤ 2 ^ 40
+    lifted_start : h' (get_or sources count 0) ≤ 2 ^ 48
     lifted_start = let w = own_way in let most = up.allowed w.0 w.1 w.2 w.3 in let low = w.4 in omega arith
 
-    pub lifted_depth : (v : ℕ) → h' v ≤ (count + 1) * 2 ^ 40
+    pub lifted_depth : (v : ℕ) → h' v ≤ (count + 1) * 2 ^ 48
     lifted_depth v = elim (cases_eq v (get_or sources count 0)) [
       | inl e ↦ (let at = ap h' e in let low = lifted_start in omega arith)
       | inr n ↦ (let same = up.others v n in let old = state.depth v in omega arith)
@@ -175,7 +175,7 @@ module _ {nodes : ℕ} {arcs : List FlowArc} {sources : List ℕ} {sink count : 
 
     module _ (d : ℕ → ℕ) (found : IsSearched arcs flows h' (get_or sources count 0) sink d) where
       -- the sink is no farther than by the source's path of two arcs
-      near : d sink + h' (get_or sources count 0) ≤ 2 ^ 40
+      near : d sink + h' (get_or sources count 0) ≤ 2 ^ 48
       near =
           let s : ℕ = get_or sources count 0 in
           let w = can.paths count left in
@@ -206,7 +206,7 @@ module _ {nodes : ℕ} {arcs : List FlowArc} {sources : List ℕ} {sink count : 
           let from : h' (arc_at arcs w.out).from ≡ h' s = ap h' w.leaves in
           omega arith
 
-      pub depth_low : (v : ℕ) → h' v + d sink ≤ (count + 1) * 2 ^ 40
+      pub depth_low : (v : ℕ) → h' v + d sink ≤ (count + 1) * 2 ^ 48
       depth_low v = elim (cases_eq v (get_or sources count 0)) [
         | inl e ↦ (let at = ap h' e in let low = near in omega arith)
         | inr n ↦ (let same = up.others v n in let old = state.depth v in let low = near in omega arith)
@@ -263,7 +263,7 @@ module _ {nodes : ℕ} {arcs : List FlowArc} {sources : List ℕ} {sink count : 
       total_told : total_of f.total ≡ distance_at f.distances sink
       total_told = ap total_of told.1 ∙ told.2
 
-      pub total_low : length sources ≤ 4096 → (v : ℕ) → h' v + total_of f.total ≤ 2 ^ 52
+      pub total_low : length sources ≤ 4096 → (v : ℕ) → h' v + total_of f.total ≤ 2 ^ 60
       total_low limit v = let low = depth_low (distance_at f.distances) found v in let t = total_told in
           omega arith
 

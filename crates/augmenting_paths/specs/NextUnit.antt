@@ -50,6 +50,6 @@ pub record HasFoundNext (arcs : List FlowArc) (sources : List ℕ) (sink count :
   pub state : HasShipped arcs sources sink count flows h
   pub reduced : NoNegative arcs flows h'
   pub at_sink : h' sink ≡ 0
-  pub depth : (v : ℕ) → h' v ≤ (count + 1) * 2 ^ 40
+  pub depth : (v : ℕ) → h' v ≤ (count + 1) * 2 ^ 48
   pub untouched : (k : ℕ) → count + 1 ≤ k → k < length sources → h' (slice_index sources k) ≡ 0
   pub way : IsTightPath arcs flows h' (slice_index sources count) sink path

@@ -38,7 +38,7 @@ pub record HasShipped (arcs : List FlowArc) (sources : List ℕ) (sink count : �
   pub sizes : length flows ≡ length arcs
   pub reduced : NoNegative arcs flows h
   pub at_sink : h sink ≡ 0
-  pub depth : (v : ℕ) → h v ≤ count * 2 ^ 40
+  pub depth : (v : ℕ) → h v ≤ count * 2 ^ 48
   pub few : (j : ℕ) → slice_index flows j ≤ count
   pub untouched : (k : ℕ) → count ≤ k → k < length sources → h (slice_index sources k) ≡ 0
   pub unused : (k j : ℕ) → count ≤ k → k < length sources → j < length arcs → (arc_at arcs j).from

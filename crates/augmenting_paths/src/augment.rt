@@ -287,7 +287,7 @@ fn lift<L: Layout>(network: &Network<L>, potentials: &mut Potentials, source: us
     requires arc { (k : ℕ) × (k < length network.now.arcs) × ((arc_at network.now.arcs k).from ≡ source)
         × (0 < (arc_at network.now.arcs k).capacity)
         × ((arc_at network.now.arcs k).cost + slice_index potentials.old (arc_at network.now.arcs k).to
-        ≤ 2 ^ 52) }
+        ≤ 2 ^ 60) }
     ensures size { length potentials.new ≡ length potentials.old }
     ensures lifted { IsLifted network.now.arcs (slice_index potentials.old)
         (slice_index potentials.new) source }
@@ -300,7 +300,7 @@ fn lift<L: Layout>(network: &Network<L>, potentials: &mut Potentials, source: us
 fn least_depth<L: Layout>(network: &Network<L>, depths: &[u64], node: usize) -> u64
     requires size { length depths.now ≡ L.node_count network.now.layout }
     requires node { node < L.node_count network.now.layout }
-    requires deep { (v : ℕ) → slice_index depths.now v ≤ 2 ^ 52 }
+    requires deep { (v : ℕ) → slice_index depths.now v ≤ 2 ^ 60 }
     ensures { (k : ℕ) → k < length network.now.arcs → (arc_at network.now.arcs k).from ≡ node
         → 0 < (arc_at network.now.arcs k).capacity
         → result ≤ (arc_at network.now.arcs k).cost + slice_index depths.now (arc_at network.now.arcs k).to }
@@ -317,7 +317,7 @@ fn least_depth<L: Layout>(network: &Network<L>, depths: &[u64], node: usize) -> 
 fn lesser_depth(arcs: &[FlowArc], depths: &[u64], arc: ArcNo, least: u64) -> u64
     requires arcs { AreArcs (length depths.now) arcs.now }
     requires listed { arc_index arc < length arcs.now }
-    requires deep { (v : ℕ) → slice_index depths.now v ≤ 2 ^ 52 }
+    requires deep { (v : ℕ) → slice_index depths.now v ≤ 2 ^ 60 }
     ensures known { result ≤ least }
     ensures arc { (k : ℕ) → arc ≡ ArcNo.Forward k → 0 < (arc_at arcs.now k).capacity
         → result ≤ (arc_at arcs.now k).cost + slice_index depths.now (arc_at arcs.now k).to }

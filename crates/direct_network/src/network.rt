@@ -94,7 +94,7 @@ fn add_split(
     requires split { split < length problem.now.splits }
     requires few { split < MAX_SPLITS }
     requires reward { reward ≡ reward_in problem.now }
-    requires small { reward < 2 ^ 39 }
+    requires small { reward < 2 ^ 47 }
     requires built { IsBuilt problem.now split 0 (257 * split) network.old }
     ensures built { OnOk result (IsBuilt problem.now (split + 1) 0 (257 * split + 257) network.new) }
 {
@@ -164,7 +164,7 @@ fn add(
     requires layout { IsSized problem.now network.old.layout }
     requires wanted { IsWanted problem.now arc }
     requires cost { cost ≡ (arc_of problem.now arc).cost }
-    requires small { cost < 2 ^ 39 }
+    requires small { cost < 2 ^ 47 }
     requires room { length network.old.arcs < MAX_ARCS }
     ensures { OnOk result (IsAdded (arc_of problem.now arc) network.old network.new) }
 {

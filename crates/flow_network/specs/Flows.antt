@@ -125,7 +125,7 @@ pub record IsArc (nodes : ℕ) (a : FlowArc) : Type 0 where
   pub from_in : a.from < nodes
   pub to_in : a.to < nodes
   pub capacity_in : a.capacity ≤ 4096
-  pub cost_in : a.cost < 2 ^ 39
+  pub cost_in : a.cost < 2 ^ 47
 
 abbrev pub AreArcs : ℕ → List FlowArc → Type 0
 AreArcs nodes arcs = (k : ℕ) → k < length arcs → IsArc nodes (arc_at arcs k)

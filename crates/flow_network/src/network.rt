@@ -232,7 +232,7 @@ impl<L: Layout> Network<L> {
         requires from { L.is_member self.old.layout from ≡ true }
         requires to { L.is_member self.old.layout to ≡ true }
         requires capacity { capacity ≤ 4096 }
-        requires cost { cost < 2 ^ 39 }
+        requires cost { cost < 2 ^ 47 }
         ensures arc { IfOk result (λ a. a ≡ ArcNo.Forward (length self.old.arcs)) }
         ensures arcs { OnOk result (self.new ≡ record self.old {
           arcs = self.old.arcs ++ record {
@@ -262,7 +262,7 @@ impl<L: Layout> Network<L> {
         requires from { arc.from < L.node_count self.old.layout }
         requires to { arc.to < L.node_count self.old.layout }
         requires capacity { arc.capacity ≤ 4096 }
-        requires cost { arc.cost < 2 ^ 39 }
+        requires cost { arc.cost < 2 ^ 47 }
         ensures arc { IfOk result (λ a. a ≡ ArcNo.Forward (length self.old.arcs)) }
         ensures arcs { OnOk result (self.new ≡ record self.old {
           arcs = self.old.arcs ++ arc ∷ [];

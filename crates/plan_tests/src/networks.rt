@@ -11,7 +11,7 @@ pub type Row = (usize, usize, u64, u64);
 pub fn add(network: &mut Network<Numbered>, row: Row) -> bool {
     let (from, to, capacity, cost) = row;
     let is_inside = network.layout().holds(from) && network.layout().holds(to);
-    if is_inside && capacity <= 4096 && cost < 1 << 39 {
+    if is_inside && capacity <= 4096 && cost < 1 << 47 {
         network.add_arc(from, to, capacity, cost).is_ok()
     } else {
         false

@@ -7,7 +7,7 @@ use price_certificate::Prices;
 use std::alloc::Global;
 use std::process::Abort;
 use wave_planner::{NetworkKind, Planned, plan, plan_with};
-use wave_problem::Problem;
+use wave_problem::{MAX_BYTES, Problem};
 
 // That the plan over a network is certified, with this count and cost.
 fn assert_certified(
@@ -225,11 +225,16 @@ fn a_spare_slot_is_free_of_charge(rt: HostRuntime) {
     assert_eq!(rt; prices_of(&rt, planned.prices()), (41, 0));
 }
 
-// What a plan of `one_host` comes to: the distance is 4 for each byte.
-const ONE_HOST: Value = Value {
-    count: 1024,
-    cost: 274_877_906_944,
-};
+// The bytes of a split, and the cost of a plan of `one_host`: the distance is 4 for each byte.
+const ONE_HOST: [(u64, u64); 2] = [
+    (67_108_864, 274_877_906_944),
+    (MAX_BYTES, 35_184_372_088_832),
+];
+
+// What a plan of `one_host` comes to.
+fn all_started(cost: u64) -> Value {
+    Value { count: 1024, cost }
+}
 
 fn arcs_by_racks(rt: &impl Abort, alloc: Global, problem: &Problem) -> usize {
     rack_network::build(alloc, problem)
@@ -239,9 +244,12 @@ fn arcs_by_racks(rt: &impl Abort, alloc: Global, problem: &Problem) -> usize {
 
 #[test]
 fn one_host_by_racks(rt: HostRuntime) {
-    let problem = one_host(&rt, rt.alloc());
-    assert_eq!(rt; arcs_by_racks(&rt, rt.alloc(), &problem), 3_204);
-    assert_certified(&rt, rt.alloc(), &problem, NetworkKind::Racks, ONE_HOST);
+    for (bytes, cost) in ONE_HOST {
+        let problem = one_host(&rt, rt.alloc(), bytes);
+        let want = all_started(cost);
+        assert_eq!(rt; arcs_by_racks(&rt, rt.alloc(), &problem), 3_204);
+        assert_certified(&rt, rt.alloc(), &problem, NetworkKind::Racks, want);
+    }
 }
 
 fn arcs_by_pairs(rt: &impl Abort, alloc: Global, problem: &Problem) -> usize {
@@ -252,7 +260,10 @@ fn arcs_by_pairs(rt: &impl Abort, alloc: Global, problem: &Problem) -> usize {
 
 #[test]
 fn one_host_by_pairs(rt: HostRuntime) {
-    let problem = one_host(&rt, rt.alloc());
-    assert_eq!(rt; arcs_by_pairs(&rt, rt.alloc(), &problem), 66_626);
-    assert_certified(&rt, rt.alloc(), &problem, NetworkKind::Direct, ONE_HOST);
+    for (bytes, cost) in ONE_HOST {
+        let problem = one_host(&rt, rt.alloc(), bytes);
+        let want = all_started(cost);
+        assert_eq!(rt; arcs_by_pairs(&rt, rt.alloc(), &problem), 66_626);
+        assert_certified(&rt, rt.alloc(), &problem, NetworkKind::Direct, want);
+    }
 }

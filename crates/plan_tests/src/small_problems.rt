@@ -5,7 +5,7 @@ use node_ids::{PairSet, RackNo, SplitNo, WorkerNo};
 use rack_tree::RackTree;
 use std::alloc::{AllocError, Global};
 use std::process::Abort;
-use wave_problem::{MAX_BYTES, Problem, SplitLine, WorkerLine};
+use wave_problem::{Problem, SplitLine, WorkerLine};
 
 fn tree(rt: &impl Abort, alloc: Global, centres: Centres<'_>, workers: &[Worker]) -> RackTree {
     let mut tree = empty_racks(rt, alloc, centres);
@@ -86,8 +86,8 @@ pub fn of(rt: &impl Abort, alloc: Global, small: &Small) -> Problem {
     problem(rt, alloc, centres, workers, splits)
 }
 
-/// A worker without slots holds 1,024 splits of full size; 64 workers of 16 slots stand in another rack.
-pub fn one_host(rt: &impl Abort, alloc: Global) -> Problem {
+/// A worker without slots holds 1,024 splits of so many bytes; 64 workers of 16 slots stand in another rack.
+pub fn one_host(rt: &impl Abort, alloc: Global, bytes: u64) -> Problem {
     let far = Worker {
         rack: 1,
         live: true,
@@ -100,7 +100,7 @@ pub fn one_host(rt: &impl Abort, alloc: Global) -> Problem {
         free: 0,
     };
     let split = Split {
-        bytes: MAX_BYTES,
+        bytes,
         pending: true,
         held_by: [true, false, false, false],
         barred_on: [false; 4],

@@ -34,7 +34,7 @@ impl RackArc {
         requires { IsWanted problem.now self.now }
         ensures arc { result ≡ arc_of problem.now self.now }
         ensures capacity { result.capacity ≤ 4096 }
-        ensures cost { result.cost < 2 ^ 39 }
+        ensures cost { result.cost < 2 ^ 47 }
     {
         let workers = start(problem, 0);
         let unstarted = workers + count(problem, 0);

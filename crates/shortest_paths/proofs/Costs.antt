@@ -34,16 +34,16 @@ reduced_is arcs h (Reverse k) r n e = omega (arith, ints)
 -- the potentials bound it
 pub reduced_bound : (arcs : List FlowArc) (nodes : ℕ) (h : ℕ → ℕ) (a : ArcNo) → AreArcs nodes arcs
     → arc_index a < length arcs → IsNonNegative arcs h a
-    → reduced_cost arcs h a + h (tail_of arcs a) ≤ h (head_of arcs a) + 2 ^ 39
+    → reduced_cost arcs h a + h (tail_of arcs a) ≤ h (head_of arcs a) + 2 ^ 47
 reduced_bound arcs nodes h (Forward k) are l n = let cost = (are k l).cost_in in omega arith
 reduced_bound arcs nodes h (Reverse k) are l n = omega arith
 
 -- and it is within the numbers that are kept
 pub cost_fits : (nodes : ℕ) (arcs : List FlowArc) (h : ℕ → ℕ) (a : ArcNo) → AreArcs nodes arcs →
     arc_index a < length arcs → IsNonNegative arcs h a
-    → (neg_ℤ (pos (2 ^ 39)) ≤ℤ cost_of arcs a) × (cost_of arcs a ≤ℤ pos (2 ^ 39))
+    → (neg_ℤ (pos (2 ^ 47)) ≤ℤ cost_of arcs a) × (cost_of arcs a ≤ℤ pos (2 ^ 47))
     × (pos (h (tail_of arcs a)) ≤ℤ (cost_of arcs a +ℤ pos (h (head_of arcs a))))
-    × (head_of arcs a < nodes) × (reduced_cost arcs h a ≤ 2 ^ 39 + h (tail_of arcs a) + h (head_of arcs a))
+    × (head_of arcs a < nodes) × (reduced_cost arcs h a ≤ 2 ^ 47 + h (tail_of arcs a) + h (head_of arcs a))
 cost_fits nodes arcs h (Forward k) are l n = let here = are k l in let cost = here.cost_in in
     (omega (arith, ints), omega (arith, ints), omega (arith, ints), here.to_in, omega arith)
 cost_fits nodes arcs h (Reverse k) are l n = let here = are k l in let cost = here.cost_in in

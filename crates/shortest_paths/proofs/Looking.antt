@@ -29,8 +29,8 @@ use Rattle.shortest_paths.proofs.Sums.{ones_le}
 pub record IsOpen (p : Problem) (a : ArcNo) (node to : ℕ) (cost : ℤ) : Type 0 where
   pub residual : IsResidual p.arcs p.flows a
   pub inside : to < length p.depths
-  pub low : neg_ℤ (pos (2 ^ 39)) ≤ℤ cost
-  pub high : cost ≤ℤ pos (2 ^ 39)
+  pub low : neg_ℤ (pos (2 ^ 47)) ≤ℤ cost
+  pub high : cost ≤ℤ pos (2 ^ 47)
   pub reduced : pos (slice_index p.depths node) ≤ℤ (cost +ℤ pos (slice_index p.depths to))
 
 pub is_open : {L : Type 0} {node_count : L → ℕ} {m : Counted L} {q : Query} {level : ℕ} {a : ArcNo}
@@ -147,7 +147,7 @@ module _ {n : ℕ} {p : Problem} {level count : ℕ} {entering : List ℕ} {a : 
 pub may_look : {n : ℕ} {p : Problem} {level count : ℕ} {entering : List ℕ} {a : ArcNo} {rest : List ArcNo}
     {t : Tables}
     → IsSearching p (length p.depths) level count entering (a ∷ rest) t → IsPriced n p.arcs p.flows p.depths
-    → (count + 1 < 2 ^ 64) × (level ≤ 2 ^ 60) × ((arrival_at t.arrivals (tail_of p.arcs a)).arcs ≤ 4096)
+    → (count + 1 < 2 ^ 64) × (level ≤ 2 ^ 62) × ((arrival_at t.arrivals (tail_of p.arcs a)).arcs ≤ 4096)
     × (arc_index a < length p.arcs)
 may_look {p = p} {a = a} {rest = rest} {t = t} s priced =
     let q = s.covered.of_rest a (Contains-here rest a) in

@@ -35,5 +35,5 @@ pub record AreLeastPaths (arcs : List FlowArc) (flows : List ℕ) (h : ℕ → �
 pub record IsPriced (nodes : ℕ) (arcs : List FlowArc) (flows : List ℕ) (depths : List ℕ) : Type 0 where
   pub network : IsNetwork nodes arcs flows
   pub size : length depths ≡ nodes
-  pub deep : (v : ℕ) → slice_index depths v ≤ 2 ^ 52
+  pub deep : (v : ℕ) → slice_index depths v ≤ 2 ^ 60
   pub reduced : NoNegative arcs flows (slice_index depths)

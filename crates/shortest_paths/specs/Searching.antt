@@ -74,7 +74,7 @@ pub record AreReached (p : Problem) (nodes level : ℕ) (distances : List ℕ) (
   pub bounded : (v : ℕ) → distance_at distances v < far
       → ((arrival_at arrivals v).arcs ≤ settled_number settled)
       × (distance_at distances v + slice_index p.depths p.start
-      ≤ slice_index p.depths v + (arrival_at arrivals v).arcs * 2 ^ 39)
+      ≤ slice_index p.depths v + (arrival_at arrivals v).arcs * 2 ^ 47)
   pub sooner : (u : ℕ) → is_settled settled u ≡ true → (arrival_at arrivals u).arcs < settled_number settled
 
 -- what was reached and is not settled; the nodes of entering are settled next

@@ -112,7 +112,7 @@ impl Found {
     /// Lowers each potential by what the node's distance lacks of the sink's, and gives the tables back.
     pub fn lower(self, potentials: &mut Potentials) -> Buffers
         requires size { length potentials.old ≡ length self.distances }
-        requires low { (v : ℕ) → slice_index potentials.old v + total_of self.total ≤ 2 ^ 52 }
+        requires low { (v : ℕ) → slice_index potentials.old v + total_of self.total ≤ 2 ^ 60 }
         ensures size { length potentials.new ≡ length potentials.old }
         ensures lowered { (v : ℕ) → slice_index potentials.new v
             ≡ lowered (slice_index potentials.old) (distance_at self.distances) (total_of self.total) v }

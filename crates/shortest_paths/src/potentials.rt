@@ -5,7 +5,7 @@ ghost use Rattle.std.specs.Prelude.{pos, ◌≤ℤ◌, neg_ℤ, unsigned_abs, If
 use std::alloc::{AllocError, Global};
 use std::marker::Model;
 
-/// One potential for each node, from -2^52 to 0. They are kept as depths below 0, so that all are natural
+/// One potential for each node, from -2^60 to 0. They are kept as depths below 0, so that all are natural
 /// numbers, and contracts see these.
 #[derive(Drop)]
 pub struct Potentials(Vec<u64>);
@@ -15,7 +15,7 @@ impl Model for Potentials {
 
     ghost view = { λ p. p.0.items };
 
-    ghost invariant = { λ p. (v : ℕ) → slice_index p.0.items v ≤ 2 ^ 52 };
+    ghost invariant = { λ p. (v : ℕ) → slice_index p.0.items v ≤ 2 ^ 60 };
 }
 
 impl Potentials {
@@ -37,7 +37,7 @@ impl Potentials {
     /// Sets the potential of a node.
     pub fn set(&mut self, node: usize, value: i64)
         requires node { node < length self.old }
-        requires low { neg_ℤ (pos (2 ^ 52)) ≤ℤ value }
+        requires low { neg_ℤ (pos (2 ^ 60)) ≤ℤ value }
         requires high { value ≤ℤ pos 0 }
         ensures { self.new ≡ slice_set self.old node (unsigned_abs value) }
     {
@@ -47,7 +47,7 @@ impl Potentials {
     /// Lowers the potential of a node.
     pub fn lower(&mut self, node: usize, by: u64)
         requires node { node < length self.old }
-        requires low { slice_index self.old node + by ≤ 2 ^ 52 }
+        requires low { slice_index self.old node + by ≤ 2 ^ 60 }
         ensures { self.new ≡ slice_set self.old node (slice_index self.old node + by) }
     {
         self.0[node] += by;
@@ -56,7 +56,7 @@ impl Potentials {
     /// How far each potential lies below 0, by the indices of the nodes.
     pub fn depths(&self) -> &[u64]
         ensures depths { result.now ≡ self.now }
-        ensures most { (v : ℕ) → slice_index self.now v ≤ 2 ^ 52 }
+        ensures most { (v : ℕ) → slice_index self.now v ≤ 2 ^ 60 }
     {
         &self.0
     }

@@ -19,7 +19,7 @@ pub fn has_no_negative<L: Layout>(network: &Network<L>, potentials: &Potentials)
 fn are_priced(arcs: &[FlowArc], flows: &[u64], depths: &[u64]) -> bool
     requires sizes { length flows.now ≡ length arcs.now }
     requires inside { AreArcs (length depths.now) arcs.now }
-    requires deep { (v : ℕ) → slice_index depths.now v ≤ 2 ^ 52 }
+    requires deep { (v : ℕ) → slice_index depths.now v ≤ 2 ^ 60 }
     ensures { IsTrue result ↔ NoNegative arcs.now flows.now (slice_index depths.now) }
 {
     for k in 0..arcs.len() {
@@ -34,8 +34,8 @@ fn are_priced(arcs: &[FlowArc], flows: &[u64], depths: &[u64]) -> bool
 fn is_priced_arc(arc: FlowArc, flow: u64, depths: &[u64]) -> bool
     requires from { arc.from < length depths.now }
     requires to { arc.to < length depths.now }
-    requires cost { arc.cost < 2 ^ 39 }
-    requires deep { (v : ℕ) → slice_index depths.now v ≤ 2 ^ 52 }
+    requires cost { arc.cost < 2 ^ 47 }
+    requires deep { (v : ℕ) → slice_index depths.now v ≤ 2 ^ 60 }
     ensures { IsTrue result ↔ NoNegativeArc (slice_index depths.now) arc flow }
 {
     let from = depths[arc.from as usize];

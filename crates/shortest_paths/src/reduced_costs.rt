@@ -11,9 +11,9 @@ use node_ids::Layout;
 pub fn reduced(potentials: &Potentials, node: usize, look: Look) -> u64
     requires node { node < length potentials.now }
     requires to { look.to < length potentials.now }
-    requires deep { (v : ℕ) → slice_index potentials.now v ≤ 2 ^ 52 }
-    requires low { neg_ℤ (pos (2 ^ 39)) ≤ℤ look.cost }
-    requires high { look.cost ≤ℤ pos (2 ^ 39) }
+    requires deep { (v : ℕ) → slice_index potentials.now v ≤ 2 ^ 60 }
+    requires low { neg_ℤ (pos (2 ^ 47)) ≤ℤ look.cost }
+    requires high { look.cost ≤ℤ pos (2 ^ 47) }
     requires reduced { pos (slice_index potentials.now node) ≤ℤ
         (look.cost +ℤ pos (slice_index potentials.now look.to)) }
     ensures { pos result ≡ (look.cost +ℤ pos (slice_index potentials.now look.to)) -ℤ pos

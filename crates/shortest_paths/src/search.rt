@@ -434,7 +434,7 @@ impl Search {
     /// Lowers each potential by what the node's distance lacks of the total, and forgets the distances.
     pub fn forget(&mut self, potentials: &mut Potentials, total: u64)
         requires left { IsLeft (length potentials.old) (tables self.old) }
-        requires low { (v : ℕ) → slice_index potentials.old v + total ≤ 2 ^ 52 }
+        requires low { (v : ℕ) → slice_index potentials.old v + total ≤ 2 ^ 60 }
         ensures rest { IsAtRest (length potentials.old) (tables self.new) }
         ensures lowered { (v : ℕ) → slice_index potentials.new v
             ≡ lowered (slice_index potentials.old) (distance_at self.old.distances.items) total v }

@@ -21,7 +21,7 @@ Meet tree (suc zero) h w = slice_index tree.rack_of h ≡ slice_index tree.rack_
 Meet tree (suc (suc zero)) h w = centre_at tree h ≡ centre_at tree w
 Meet tree (suc (suc (suc level))) h w = Unit {0}
 
-pub scaled-le : (a b : ℕ) → a ≤ 67108864 → b ≤ 6 → a * b ≤ 402653184
+pub scaled-le : (a b : ℕ) → a ≤ 8589934592 → b ≤ 6 → a * b ≤ 51539607552
 scaled-le a b few small = let most = mul-le-mul_left a small in omega arith
 
 pub holder_held : (wave : Wave) (s h : ℕ) → Contains (live_holders wave s) h

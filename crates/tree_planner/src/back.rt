@@ -113,7 +113,7 @@ impl SearchBack {
     pub fn begin(&mut self, problem: &Problem, worth: u64, hole: TreeNode)
         requires tables { HasTables problem.now.tree self.old }
         requires worth { worth ≡ reward problem.now }
-        requires small { worth < 2 ^ 40 }
+        requires small { worth < 2 ^ 48 }
         ensures hole { self.new.hole ≡ hole }
         ensures unused { IsUnused problem.now self.new }
     {

@@ -25,7 +25,7 @@ use wave_problem::Problem;
 /// than the reward.
 pub fn deepen(problem: &Problem, reward: u64, depth: &mut NodeTable<u64>, search: &Search)
     requires over { IsOver problem.now.tree depth.old }
-    requires small { reward < 2 ^ 40 }
+    requires small { reward < 2 ^ 48 }
     requires low { (v : TreeNode) → at_node depth.old v ≤ reward }
     requires bound { search.now.bound ≤ search.now.limit }
     requires limit { search.now.limit ≤ reward }
@@ -45,7 +45,7 @@ pub fn deepen(problem: &Problem, reward: u64, depth: &mut NodeTable<u64>, search
 
 // How deep a node at this depth lies then, if it is so far and the end of the way is at the bound.
 fn deepened(reward: u64, depth: u64, bound: u64, far: u64) -> u64
-    requires small { reward < 2 ^ 40 }
+    requires small { reward < 2 ^ 48 }
     requires low { depth ≤ reward }
     requires near { bound ≤ reward }
     ensures { result ≡ min reward (depth + (bound - far)) }

@@ -142,7 +142,7 @@ impl Search {
     pub fn clear(&mut self, tree: &RackTree)
         requires tables { HasTables tree.now self.old }
         requires reached { HasReached tree.now self.old }
-        requires short { self.old.limit < 2 ^ 40 }
+        requires short { self.old.limit < 2 ^ 48 }
         ensures { IsBlank tree.now (length self.old.reached.nodes.items) self.new }
     {
         let _ = tree;
@@ -173,7 +173,7 @@ impl Search {
     pub fn reach(&mut self, node: TreeNode, distance: u64, step: Step, free: bool)
         requires far { HasNode self.old.far node }
         requires how { HasNode self.old.how node }
-        requires room { 2 ^ 40 ≤ far_at self.old node → HasRoom self.old }
+        requires room { 2 ^ 48 ≤ far_at self.old node → HasRoom self.old }
         requires beyond { (u : TreeNode) → 0 < order_at self.old u → far_at self.old u ≤ distance }
         ensures improves { Improves self.old self.new }
         ensures near { min self.new.bound (far_at self.new node) ≤ distance }

@@ -4,4 +4,4 @@ use Rattle.certificate_checker.proofs.checker.Checker.total.Given as goal
 
 abbrev pub invariant-loop-i : goal.invariant-loop-i
 invariant-loop-i l = (l.total ≡ total l.self.wave (pairs_of (take l.i l.self.starts)))
-    × (l.total ≤ 402653184 * l.i)
+    × (l.total ≤ 51539607552 * l.i)
