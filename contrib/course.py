@@ -38,7 +38,7 @@ class Head:
         setting = lambda keyword, other: int(of(keyword)[0][0]) if of(keyword) else other
         self.version = int(lines[0][1])
         self.centres = [name for name, in of("centre")]
-        self.centre_of = {words[0]: words[1] if self.version == 2 else None for words in of("rack")}
+        self.centre_of = {words[0]: words[1] if self.version > 1 else None for words in of("rack")}
         self.rack_of = {name: rack for name, rack, _ in of("worker")}
         self.slots = {name: int(slots) for name, _, slots in of("worker")}
         self.bytes = {words[0]: int(words[1]) for words in of("split")}

@@ -5,19 +5,20 @@ It is written from docs/MODEL.md alone. The scripts beside it stand on it.
 import re
 
 NAME, NUMBER = re.compile(r"[A-Za-z][A-Za-z0-9._-]{0,31}"), re.compile(r"0|[1-9][0-9]*")
+LONG_NAME = re.compile(r"[A-Za-z0-9._:/-]{1,64}")
 MOST = {"centre": 8, "rack": 32, "worker": 256, "split": 1024}
 # The places of each line: `+KIND` declares a name, KIND uses one, LEAST-GREATEST is a number, and a `*` says any count.
 HEAD = {
-    "centre": "+centre", "rack": "+rack", "worker": "+worker rack 0-16", "split": "+split 0-67108864 worker*",
+    "centre": "+centre", "rack": "+rack", "worker": "+worker rack 0-16", "split": "+split 0-8589934592 worker*",
     "barred": "split worker", "dead": "worker", "busy": "split",
 }
 END = {"end": ""}
 PLAN = {"start": "split worker", "price": "priced 0-18446744073709551615", **END}
 # Lines of scripts and jobs are known by their shape, and may stand nowhere here; nor may a second first line.
 OTHERS = {
-    **dict.fromkeys("problem script job parts target silence done fail withdraw".split(), "1-2"), "doc": "x x text",
+    **dict.fromkeys("parts target silence done fail withdraw".split(), "1-2"), "doc": "x x text",
     **dict.fromkeys("begin wave reduce copies".split(), ""), **dict.fromkeys("add lose backup".split(), "x x"),
-    "die": "x", "join": "x x*",
+    **dict.fromkeys("problem script job".split(), "1-3"), "die": "x", "join": "x x*",
 }
 SHAPES = {**HEAD, **PLAN, **OTHERS, "plan": ""}
 
@@ -38,7 +39,7 @@ class Text:
 
     def places(self, keyword):
         """The places of a line, or None where the first word is no keyword."""
-        if keyword == "rack" and self.version == 2:
+        if keyword == "rack" and self.version > 1:
             return ["+rack", "centre"]
         if keyword == "sweep":
             return ["0-1"] * len(self.numbers["worker"])
@@ -70,7 +71,7 @@ class Text:
         if "-" in place:
             least, greatest = map(int, place.split("-"))
             return [] if len(word) <= 20 and least <= int(word) <= greatest else [5]
-        if not NAME.fullmatch(word):
+        if not (NAME if self.version < 3 else LONG_NAME).fullmatch(word):
             return [2]
         if place[0] == "+":
             return [4] * (word in self.kinds) + [6] * (len(self.numbers[place[1:]]) == MOST[place[1:]])
@@ -79,6 +80,8 @@ class Text:
     def again(self, keyword, words):
         """What a line says too often, or `end` leaves out."""
         found = [4] if (keyword, *words) in self.marks else []
+        if keyword == "split" and self.version < 3 and int(words[1]) > 67_108_864:
+            found.append(5)
         if keyword == "split":
             found += [6] * (len(words) > 10) + [8] * (len(set(words[2:])) < len(words[2:]))
         if keyword in ("start", "price") and words[0] in (self.starts if keyword == "start" else self.prices):

@@ -6,6 +6,7 @@ and jobs.
                                    faulty_script, job, wide_job, scattered_job, faulty_job, full or large
 """
 import random
+import re
 import sys
 
 sys.dont_write_bytecode = True
@@ -16,6 +17,8 @@ MOST_OF_SCRIPTS = {"document": 65_536, "command": 65_536}
 KEYWORDS = ["problem", "script", "job", "centre", "rack", "worker", "split", "barred", "dead", "busy", "plan", "start"]
 KEYWORDS += ["price", "end", "parts", "target", "silence", "doc", "begin", "wave", "done", "fail", "withdraw", "die"]
 KEYWORDS += ["join", "add", "lose", "sweep", "reduce", "copies", "backup"]
+# What stands for a letter before a number in names of version 3.
+LONG = {"w": "10.0.0.1:", "r": "/hall/", "s": "1/blk_"}
 
 
 def assign(costs):
@@ -58,7 +61,7 @@ class Scenario:
     def __init__(self, rnd):
         racks = rnd.randint(1, 3)
         # (a text of version 1 has one centre, without a name)
-        self.version, self.centres = rnd.choice([(1, 1), (1, 1), (2, 1), (2, 2), (2, 3)])
+        self.version, self.centres = rnd.choice([(1, 1), (1, 1), (2, 1), (2, 2), (2, 3), (3, 1), (3, 3)])
         self.centre_of = [rnd.randrange(self.centres) for _ in range(racks)]
         self.workers = rnd.choice([0, *[2, 3, 4, 5] * 3])
         self.splits = rnd.choice([0, *[2, 3, 5, 8] * 3])
@@ -67,7 +70,8 @@ class Scenario:
         self.rack_of = [rnd.randrange(racks) for _ in w]
         self.free = [rnd.choice([0, 1, 1, 1, 2, 3, 16]) for _ in w]
         self.live = [rnd.random() < 0.9 for _ in w]
-        self.bytes = [rnd.choice([0, 1, 7, 10, 20, 1000, 67108864]) for _ in s]
+        most = [67_108_864, 134_217_728, 8_589_934_592] if self.version == 3 else [67_108_864]
+        self.bytes = [rnd.choice([0, 1, 7, 10, 20, 1000, *most]) for _ in s]
         self.pending = [rnd.random() < 0.85 for _ in s]
         # (where few workers hold all, splits compete for their slots)
         near = range(rnd.choice([min(self.workers, 2), self.workers]))
@@ -125,7 +129,7 @@ class Scenario:
     def cluster(self):
         """The lines of racks and centres, of workers and of splits."""
         racks = [f"rack r{i}" for i in range(self.racks)]
-        if self.version == 2:
+        if self.version > 1:
             racks = [f"{rack} c{centre}" for rack, centre in zip(racks, self.centre_of)]
             racks = [f"centre c{i}" for i in range(self.centres)] + racks
         workers = [f"worker w{i} r{self.rack_of[i]} {self.free[i]}" for i in range(self.workers)]
@@ -149,6 +153,9 @@ class Scenario:
 
 
 def text_of(lines):
+    """The text of these lines. In version 3 workers, racks and splits have names that no other version has."""
+    if lines and re.fullmatch(r"(problem|script|job) 3", lines[0]):
+        lines = [re.sub(r"\b([wrs])(\d+)\b", lambda it: f"{LONG[it[1]]}{it[2]}", line) for line in lines]
     return "".join(line + "\n" for line in lines).encode()
 
 
@@ -171,7 +178,7 @@ def changed(rnd):
 
 def spoiled_word(rnd, word):
     if word.isdigit() and rnd.random() < 0.7:
-        return rnd.choice(["0", "2", "17", "67108865", str(2**64), "9" * 40, "00", "+1"])
+        return rnd.choice(["0", "2", "3", "17", "67108865", "8589934593", str(2**64), "9" * 40, "00", "+1"])
     others = ["w0", "s0", "r0", "w9", "new", "0", "1", "17", "01", "67108865", "-1", "x" * 33, "9x", "", "a/b"]
     return rnd.choice([*others, *KEYWORDS, word + ".", word.upper(), word * 2])
 
@@ -236,7 +243,7 @@ def command(rnd, scenario, attempts):
     if scenario.workers:
         kinds += [lambda: f"die {w()}", lambda: f"sweep {counts()}", lambda: f"join {w()} {some()}".strip()] * 2
         if scenario.splits:
-            kinds += [pair("add"), pair("add"), pair("lose")] + [pair("backup")] * 3 * (scenario.version == 2)
+            kinds += [pair("add"), pair("add"), pair("lose")] + [pair("backup")] * 3 * (scenario.version > 1)
     return rnd.choice(kinds)()
 
 

@@ -7,7 +7,9 @@ import re
 
 import crates  # (it ends a script quietly where head does)
 
-NAME = re.compile(rb"[A-Za-z][A-Za-z0-9._-]{0,31}")
+# A name, by the text's version.
+SHORT_NAME, LONG_NAME = re.compile(rb"[A-Za-z][A-Za-z0-9._-]{0,31}"), re.compile(rb"[A-Za-z0-9._:/-]{1,64}")
+NAME = {1: SHORT_NAME, 2: SHORT_NAME, 3: LONG_NAME}
 NUMBER = re.compile(rb"0|[1-9][0-9]*")
 MAX_TEXT_BYTES = 16_777_216
 MAX_HOLDERS = 8
@@ -17,7 +19,7 @@ MOST = {"centre": 8, "rack": 32, "worker": 256, "split": 1024, "doc": 65_536}
 MOST_WORKERS_OF_A_JOB = 32
 FIRST = {"check": b"problem", "plan": b"problem", "play": b"script", "run": b"job"}
 # The places after a keyword: a name, a number, any count of names or of numbers, or a name and a free text. A rack has
-# its centre in version 2.
+# its centre from version 2 on.
 SHAPES = {
     b"problem": "9",
     b"script": "9",
@@ -66,11 +68,10 @@ SECOND_VERSION = (b"centre", b"backup")
 SETTINGS = (b"parts", b"target", b"silence")
 # The least and the greatest number of a line.
 RANGES = {
-    b"problem": (1, 2),
-    b"script": (1, 2),
-    b"job": (1, 2),
+    b"problem": (1, 3),
+    b"script": (1, 3),
+    b"job": (1, 3),
     b"worker": (0, 16),
-    b"split": (0, 67_108_864),
     b"price": (0, 2**64 - 1),
     b"parts": (1, 64),
     b"target": (1, 8),
@@ -80,6 +81,8 @@ RANGES = {
     b"withdraw": (0, 1_000_000),
     b"sweep": (0, 2**40),
 }
+# The most bytes of a split, by the text's version.
+MOST_BYTES = {1: 67_108_864, 2: 67_108_864, 3: 8_589_934_592}
 # The kinds of the names that a line uses, after the name that it declares.
 USES = {
     b"worker": ("rack",),
@@ -131,7 +134,7 @@ class Given:
 
 
 def shape_of(given, keyword):
-    if keyword == b"rack" and given.version == 2:
+    if keyword == b"rack" and given.version > 1:
         return "nn"
     return SHAPES.get(keyword)
 
@@ -198,7 +201,7 @@ def faults(given, keyword, words, shape):
     found = set()
     names = [word for word, place in zip(words, shape) if place == "n"]
     numbers = [value(word) for word, place in zip(words, shape) if place == "9"]
-    if not all(NAME.fullmatch(name) for name in names):
+    if not all(NAME[given.version].fullmatch(name) for name in names):
         found.add(2)
     if not all(given.knows(kind, name) for kind, name in uses_of(given, keyword, names)):
         found.add(3)
@@ -217,6 +220,8 @@ def faults(given, keyword, words, shape):
         least, greatest = RANGES[keyword]
         if not all(least <= number <= greatest for number in numbers):
             found.add(5)
+    if keyword == b"split" and numbers[0] > MOST_BYTES[given.version]:
+        found.add(5)
     if keyword == b"split" and len(names) - 1 > MAX_HOLDERS:
         found.add(6)
     if keyword in COMMANDS and len(given.commands) >= MAX_COMMANDS:
@@ -241,7 +246,7 @@ def enter(given, keyword, words, text):
     if keyword in FIRST.values():
         given.version = int(words[0])
     elif keyword == b"rack":
-        given.centre_of.append(given.numbers["centre"][words[1]] if given.version == 2 else 0)
+        given.centre_of.append(given.numbers["centre"][words[1]] if given.version > 1 else 0)
     elif keyword == b"worker":
         given.rack_of.append(given.numbers["rack"][words[1]])
         given.slots.append(int(words[2]))

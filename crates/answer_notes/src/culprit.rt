@@ -3,7 +3,10 @@ use crate::words::{LinesBefore, Word, Words, word_at};
 use line_shapes::demand::is_within;
 use line_shapes::{Keyword, Kind, Place};
 use std::alloc::{AllocError, Global};
-use text_lines::{Fault, NameTable, Number, TextFault, is_name, printable};
+use text_lines::{Fault, NameTable, Number, TextFault, is_long_name, is_name, printable};
+
+// How many words stand before the bytes of a split.
+const SPLIT_BYTES: usize = 2;
 
 // A split line with its ninth holder has so many words before it.
 const NINTH_HOLDER: usize = 11;
@@ -27,7 +30,8 @@ pub(crate) fn culprit(
     };
     let found = match fault.number {
         Fault::Shape => misshapen(text, fault.line, line),
-        Fault::Misnamed | Fault::OutOfRange => first_unfit(fault.number, line),
+        Fault::Misnamed => first_unfit(fault.number, is_third(text), line),
+        Fault::OutOfRange => out_of_range(line),
         Fault::Unknown => first_unknown(alloc, text, fault.line, line)?,
         Fault::RepeatedHolder => first_repeated(alloc, line)?,
         _ => word_at(line, number_of_word(fault.number, line)),
@@ -68,8 +72,9 @@ fn number_of_word(fault: Fault, line: &str) -> usize {
     }
 }
 
-// The first word that does not fit in its place, for a fault that the place alone tells.
-fn first_unfit<'t>(fault: Fault, line: &'t str) -> Option<Word<'t>> {
+// The first word that does not fit in its place, for a fault that the place alone tells. Names may be `long`
+// in a text of version 3.
+fn first_unfit<'t>(fault: Fault, long: bool, line: &'t str) -> Option<Word<'t>> {
     let keyword = keyword_in(line)?;
     let mut words = Words::of(line);
     words.next_word();
@@ -77,6 +82,7 @@ fn first_unfit<'t>(fault: Fault, line: &'t str) -> Option<Word<'t>> {
         let word = words.next_word()?;
         if is_unfit(
             fault,
+            long,
             keyword.place(word.number.saturating_sub(1)),
             word.text,
         ) {
@@ -86,11 +92,21 @@ fn first_unfit<'t>(fault: Fault, line: &'t str) -> Option<Word<'t>> {
     None
 }
 
-fn is_unfit(fault: Fault, place: Option<Place>, word: &str) -> bool {
+// The number that is out of the range of its place, or else the bytes of a split, which have a lower limit
+// before version 3.
+fn out_of_range(line: &str) -> Option<Word<'_>> {
+    match first_unfit(Fault::OutOfRange, false, line) {
+        Some(word) => Some(word),
+        None => word_at(line, SPLIT_BYTES),
+    }
+}
+
+fn is_unfit(fault: Fault, long: bool, place: Option<Place>, word: &str) -> bool {
     match (fault, place) {
         (Fault::Shape, None) => true,
         (Fault::Shape, Some(Place::New | Place::Used(_))) => word.is_empty(),
         (Fault::Shape, Some(Place::Number(_, _))) => Number::of(word).is_none(),
+        (Fault::Misnamed, Some(Place::New | Place::Used(_))) if long => !is_long_name(word),
         (Fault::Misnamed, Some(Place::New | Place::Used(_))) => !is_name(word),
         (Fault::OutOfRange, Some(Place::Number(least, most))) => !is_within(word, least, most),
         _ => false,
@@ -103,7 +119,7 @@ fn misshapen<'t>(text: &[u8], number: u32, line: &'t str) -> Option<Word<'t>> {
     let Some(keyword) = keyword_in(line) else {
         return word_at(line, 0);
     };
-    match first_unfit(Fault::Shape, line) {
+    match first_unfit(Fault::Shape, false, line) {
         Some(word) => Some(word),
         None => word_at(line, most_words(text, number, keyword)),
     }
@@ -119,15 +135,19 @@ fn most_words(text: &[u8], number: u32, keyword: Keyword) -> usize {
     }
 }
 
-// Whether the first line is of version 2.
+// Whether racks name their centres, as from version 2 on.
 fn has_centres(text: &[u8]) -> bool {
-    match LinesBefore::of(text, 2).next_line() {
-        Some(line) => match word_at(line, 1) {
-            Some(version) => version.text == "2",
-            None => false,
-        },
-        None => false,
-    }
+    matches!(version_of(text), Some("2" | "3"))
+}
+
+// Whether the text is of version 3.
+fn is_third(text: &[u8]) -> bool {
+    matches!(version_of(text), Some("3"))
+}
+
+// The version that the first line tells.
+fn version_of(text: &[u8]) -> Option<&str> {
+    Some(word_at(LinesBefore::of(text, 2).next_line()?, 1)?.text)
 }
 
 fn count_workers(text: &[u8], number: u32) -> usize {

@@ -6,26 +6,29 @@ use Rattle.std.specs.List.{AllPairs, Contains}
 use Rattle.std.proofs.lemmas.Bool.{cases_lt}
 use Rattle.std.proofs.lemmas.List.{drop-append-le, get_or_append_left, get_or-append-add, get_or_default}
 use Rattle.std.proofs.lemmas.List.Elements.{All-weaker}
-use Rattle.text_lines.specs.Texts.{Word}
+use Rattle.text_lines.specs.Texts.{Word, number_of}
 use Rattle.text_lines.specs.Faults.{number_of_fault}
 use Rattle.text_lines.specs.declared.fault.Fault.{Fault}
 use Rattle.text_lines.specs.declared.fault.Fault.TheVariants.{Shape, Misnamed, Unknown, Repeated, OutOfRange}
 use Rattle.text_lines.specs.declared.fault.Fault.TheVariants.{PassesLimit, Misplaced, RepeatedHolder}
 use Rattle.text_lines.specs.declared.fault.Fault.TheVariants.{SecondEntry, NoPrice}
-use Rattle.line_shapes.specs.Demands.{HasShape, IsNamedIn, IsWithinIn}
-use Rattle.line_shapes.specs.Lines.{Differ, HasTailApart, IsInRange, IsNamed, IsShaped, Statement, tail_words}
+use Rattle.line_shapes.specs.Demands.{HasShape, IsWithinIn, MeetsDemand}
+use Rattle.line_shapes.specs.Lines.{Differ, HasTailApart, IsShaped, Statement, tail_words}
 use Rattle.line_shapes.specs.Places.{more_of, places_of}
 use Rattle.line_shapes.specs.declared.keyword.Keyword.{Keyword}
+use Rattle.line_shapes.specs.declared.keyword.Keyword.TheVariants.{Split}
 use Rattle.line_shapes.specs.declared.place.Kind.{Kind}
 use Rattle.line_shapes.specs.declared.place.Place.{Place}
 use Rattle.line_shapes.specs.declared.place.Place.TheVariants.{New, Used}
 use Rattle.line_rules.specs.Entering.{key_of, most_more_of}
-use Rattle.line_rules.specs.Faults.{IsComplete, IsDeclaredIn, IsFew, IsFirstOfBody}
+use Rattle.line_rules.specs.Faults.{AreInRange, IsComplete, IsDeclaredIn, IsFew, IsFirstOfBody, IsOfSize}
 use Rattle.line_rules.specs.Faults.{IsFirstOfHead, IsFreeIn, IsLeastOf, IsNew, IsWithinLimit, Keep}
-use Rattle.line_rules.specs.Faults.{MayStand, Meets}
+use Rattle.line_rules.specs.Faults.{MayStand, Meets, most_bytes}
 use Rattle.line_rules.specs.Known.{Known}
+use Rattle.line_rules.specs.Names.{IsNamed, name_demand}
 use Rattle.line_rules.specs.Long.{HasFirst, IsWorst, StandsFor, WordsHave, said}
 use Rattle.line_rules.specs.Sections.{section_after}
+use Rattle.line_rules.specs.declared.edition.Version.{Version}
 use Rattle.line_rules.specs.declared.rule.Rule.TheVariants as rule
 use Rattle.line_rules.specs.declared.section.Section.{Section}
 use Rattle.line_rules.specs.declared.section.Section.TheVariants.{Head, Body}
@@ -71,6 +74,15 @@ few_less : (o : Option ℕ) (m n : ℕ) → m ≤ n → IsFew o n → IsFew o m
 few_less None m n le few = tt
 few_less (Some most) m n le few = omega (arith, le, few)
 
+size_same : (version : Version) (word : Keyword) (ws xs vs : List Word)
+    → length (places_of word) ≤ length ws → IsOfSize version word (ws ++ xs)
+    → IsOfSize version word (ws ++ vs)
+size_same version Split ws xs vs past small =
+    let second : 1 < length ws = omega (arith, past) in
+    subst (λ (w : Word). number_of w ≤ most_bytes version)
+    (get_or_append_left ws xs [] 1 second ∙ sym (get_or_append_left ws vs [] 1 second)) small
+size_same version word ws xs vs past small = tt
+
 head_same : (section : Section) (rows : List Statement) (s t : Statement) → key_of s ≡ key_of t
     → IsFirstOfHead section rows s → IsFirstOfHead section rows t
 head_same Head rows s t same h = λ there. h (subst (Contains _) (sym same) there)
@@ -88,7 +100,11 @@ not_above m n not = elim (cases_lt n m) [ inl above ↦ absurd (not above) | inr
 
 module _ (k : Known) (word : Keyword) (ws vs : List Word) (v : Word)
     (past : length (places_of word) ≤ length ws) (one : Contains vs v)
-    (worst : IsWorst k.rows (more_of word) vs v) where
+    (worst : IsWorst k.version k.rows (more_of word) vs v) where
+  -- a name stands in a name's place
+  abbrev IsNamedIn : Option Place → Word → Type 0
+  IsNamedIn = MeetsDemand (name_demand k.version)
+
   abbrev short : Statement
   short = said word (ws ++ v ∷ [])
 
@@ -108,22 +124,22 @@ module _ (k : Known) (word : Keyword) (ws vs : List Word) (v : Word)
         (worst 1 (omega arith) (each_last HasShape word ws v past shaped.shape)) shaped.shape;
   }
 
-  named_more : IsShaped short → IsNamed short → IsNamed long
+  named_more : IsShaped short → IsNamed k.version short → IsNamed k.version long
   named_more shaped named =
       let shape = each_last HasShape word ws v past shaped.shape in
       let name = each_last IsNamedIn word ws v past named in
       each_more IsNamedIn word ws vs v past
-      (All-weaker (HasFirst 2 k.rows (more_of word)) (IsNamedIn (more_of word)) (λ w h. h.1) vs
+      (All-weaker (HasFirst 2 k.version k.rows (more_of word)) (IsNamedIn (more_of word)) (λ w h. h.1) vs
       (worst 2 (omega arith) (shape, name))) named
 
-  declared_more : IsShaped short → IsNamed short → Keep rule.Declared k.rows short
+  declared_more : IsShaped short → IsNamed k.version short → Keep rule.Declared k.rows short
       → Keep rule.Declared k.rows long
   declared_more shaped named declared =
       let shape = each_last HasShape word ws v past shaped.shape in
       let name = each_last IsNamedIn word ws v past named in
       let known = each_last (IsDeclaredIn k.rows) word ws v past declared in
       each_more (IsDeclaredIn k.rows) word ws vs v past
-      (All-weaker (HasFirst 3 k.rows (more_of word)) (IsDeclaredIn k.rows (more_of word)) (λ w h. h.2) vs
+      (All-weaker (HasFirst 3 k.version k.rows (more_of word)) (IsDeclaredIn k.rows (more_of word)) (λ w h. h.2) vs
       (worst 3 (omega arith) (shape, name, known))) declared
 
   -- where the words that follow are names of a kind, and any number of them is a whole line
@@ -150,10 +166,18 @@ module _ (k : Known) (word : Keyword) (ws vs : List Word) (v : Word)
       first = head_same (section_after word) k.rows short long same new.first;
     }
 
-    in_range_more : IsInRange short → IsInRange long
-    in_range_more within =
-        each_more IsWithinIn word ws vs v past
-        (λ i d lt. subst (λ place. IsWithinIn place (get_or vs i d)) (sym used) tt) within
+    in_range_less : AreInRange k.version long → AreInRange k.version short
+    in_range_less within = record {
+      places = each_less IsWithinIn word ws vs v past one within.places;
+      size = size_same k.version word ws vs (v ∷ []) past within.size;
+    }
+
+    in_range_more : AreInRange k.version short → AreInRange k.version long
+    in_range_more within = record {
+      places = each_more IsWithinIn word ws vs v past
+          (λ i d lt. subst (λ place. IsWithinIn place (get_or vs i d)) (sym used) tt) within.places;
+      size = size_same k.version word ws (v ∷ []) vs past within.size;
+    }
 
     tail_less : length (tail_words short) ≤ length (tail_words long)
     tail_less =
@@ -177,7 +201,7 @@ module _ (k : Known) (word : Keyword) (ws vs : List Word) (v : Word)
     meets_less Misnamed h = each_less IsNamedIn word ws vs v past one h
     meets_less Unknown h = each_less (IsDeclaredIn k.rows) word ws vs v past one h
     meets_less Repeated h = new_less h
-    meets_less OutOfRange h = each_less IsWithinIn word ws vs v past one h
+    meets_less OutOfRange h = in_range_less h
     meets_less PassesLimit h = limit_less h
     meets_less RepeatedHolder h = apart_less h
     meets_less SecondEntry h = body_same (section_after word) k.rows long short (sym same) h

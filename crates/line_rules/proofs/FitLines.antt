@@ -2,8 +2,10 @@
 use Rattle.std.proofs.Common.{List, [], ◌∷◌, ◌++◌, ◌≡◌, ◌∙◌, sym, ap, append-nil, append_assoc}
 use Rattle.text_lines.specs.Texts.{Line}
 use Rattle.line_shapes.specs.Lines.{Statement}
+use Rattle.line_rules.specs.Entered.{IsSoundBefore}
 use Rattle.line_rules.specs.Known.{Known, entered, known_at}
 use Rattle.line_rules.specs.declared.purpose.Purpose.{Purpose}
+use Rattle.line_rules.proofs.Sound.{sound_entered}
 use Rattle.line_rules.proofs.Steps.{known_at-step}
 use Rattle.line_rules.specs.Reading.{AreFitLines, IsFitLine}
 
@@ -31,3 +33,12 @@ pub fit-step : (k : Known) (ls : List Line) (ss : List Statement) (line : Line) 
 fit-step k [] [] line s fits one = (one, tt)
 fit-step k (l ∷ ls) (t ∷ ts) line s fits one = (fits.0, fit-step (entered k t) ls ts line s fits.1 one)
 fit-step k ls ss line s fits one = absurd fits
+
+-- what they leave is sound
+pub sound_after : (k : Known) (ls : List Line) (ss : List Statement) → AreFitLines k ls ss
+    → IsSoundBefore k.version k.section k.rows
+    → IsSoundBefore (names_after k ss).version (names_after k ss).section (names_after k ss).rows
+sound_after k [] [] fits sound = sound
+sound_after k (l ∷ ls) (s ∷ ss) fits sound =
+    sound_after (entered k s) ls ss fits.1 (sound_entered k s sound fits.0.fit)
+sound_after k ls ss fits sound = absurd fits

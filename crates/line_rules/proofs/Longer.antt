@@ -74,7 +74,7 @@ too_many k s wanted are more whole =
 
 -- a split with more holders than it may have
 long_split : (k : Known) (ws vs : List Word) (v : Word) → 10 ≤ length ws → Contains vs v
-    → IsWorst k.rows (more_of keyword.Split) vs v → StandsFor k keyword.Split (ws ++ v ∷ []) (ws ++ vs)
+    → IsWorst k.version k.rows (more_of keyword.Split) vs v → StandsFor k keyword.Split (ws ++ v ∷ []) (ws ++ vs)
 long_split k ws vs v past one worst =
     let first : get_or (ws ++ v ∷ []) 0 [] ≡ get_or (ws ++ vs) 0 [] =
     get_or_append_left ws (v ∷ []) [] 0 (omega (arith, past))
@@ -98,7 +98,7 @@ names_after rows (w ∷ ws) some each =
 -- a worker that joins with more splits than there are
 long_join : (k : Known) (ws vs : List Word) (v : Word)
     → 1 + length (rows_of keyword.Split k.rows) ≤ length ws → Contains vs v
-    → IsWorst k.rows (more_of keyword.Join) vs v → StandsFor k keyword.Join (ws ++ v ∷ []) (ws ++ vs)
+    → IsWorst k.version k.rows (more_of keyword.Join) vs v → StandsFor k keyword.Join (ws ++ v ∷ []) (ws ++ vs)
 long_join k ws vs v past one worst =
     let short : Statement = said keyword.Join (ws ++ v ∷ []) in
     let more : length (rows_of keyword.Split k.rows) < length (tail_words short) =
@@ -137,7 +137,7 @@ incomplete k word ws vs v n are past one =
 
 pub stands : (k : Known) (word : Keyword) (ws vs : List Word) (v : Word) → most_words k word ≤ length ws
     → Contains vs v → (more_of word ≡ Some Text → ⊥)
-    → (IsUsed (more_of word) → IsWorst k.rows (more_of word) vs v)
+    → (IsUsed (more_of word) → IsWorst k.version k.rows (more_of word) vs v)
     → StandsFor k word (ws ++ v ∷ []) (ws ++ vs)
 stands k keyword.Rack ws vs v past one not_text worst =
     incomplete k keyword.Rack ws vs v _ refl past one

@@ -56,3 +56,16 @@ module _ (k : Known) (line : Line) (word : Keyword) (short long : List Word)
   pub least_of_line : IsLegible k line → (f : Fault) → IsLeastOf (WordsHave k word short) f
       → IsLeastOf (LineHas k line) f
   least_of_line sound f h = least_of_all k line word long sound cut f (stands.least f h)
+
+-- the least fault of a line that has its shape is that of its words
+pub least_of_words : (k : Known) (word : Keyword) (ws : List Word) → IsShaped (said word ws) → (f : Fault)
+    → IsLeastOf (Fails k (said word ws)) f → IsLeastOf (WordsHave k word ws) f
+least_of_words k word ws shaped f h = record { applies = of f h.applies; least = λ g has. h.least g (back g has) }
+  where
+    of : (g : Fault) → Fails k (said word ws) g → WordsHave k word ws g
+    of Shape fails = λ _ whole. fails whole
+    of g fails = (shaped, fails)
+
+    back : (g : Fault) → WordsHave k word ws g → Fails k (said word ws) g
+    back Shape has = has shaped
+    back g has = has.1

@@ -1,20 +1,20 @@
 -- The faults of a line that says a statement, in view of the lines before it.
 use Rattle.std.specs.Prelude.{ℕ, List, [], ◌≡◌, ◌≤◌, ◌<◌, Option, Some, None, length, slice_index_or, true}
 use Rattle.std.specs.List.{All, Contains}
-use Rattle.text_lines.specs.Texts.{Word}
+use Rattle.text_lines.specs.Texts.{Word, number_of}
 use Rattle.text_lines.specs.Faults.{number_of_fault}
 use Rattle.text_lines.specs.declared.fault.Fault.{Fault}
 use Rattle.text_lines.specs.declared.fault.Fault.TheVariants.{Shape, Misnamed, Unknown, Repeated, OutOfRange}
 use Rattle.text_lines.specs.declared.fault.Fault.TheVariants.{PassesLimit, Misplaced, RepeatedHolder}
 use Rattle.text_lines.specs.declared.fault.Fault.TheVariants.{SecondEntry, NoPrice}
-use Rattle.line_shapes.specs.Lines.{HasTailApart, IsInRange, IsNamed, Statement, tail_words}
+use Rattle.line_shapes.specs.Lines.{HasTailApart, IsInRange, Statement, tail_words}
 use Rattle.line_shapes.specs.Places.{place_at}
 use Rattle.line_shapes.specs.declared.keyword.Keyword.{Keyword}
 use Rattle.line_shapes.specs.declared.keyword.Keyword.TheVariants as keyword
 use Rattle.line_shapes.specs.declared.place.Place.{Place}
 use Rattle.line_shapes.specs.declared.place.Place.TheVariants.{New, Used}
 use Rattle.line_rules.specs.declared.edition.Version.{Version}
-use Rattle.line_rules.specs.declared.edition.Version.TheVariants.{One, Two}
+use Rattle.line_rules.specs.declared.edition.Version.TheVariants.{One, Two, Three}
 use Rattle.line_rules.specs.declared.entering.Entering.{Entering}
 use Rattle.line_rules.specs.declared.entering.Entering.TheVariants as by
 use Rattle.line_rules.specs.declared.entering.Follow.{Follow}
@@ -27,14 +27,16 @@ use Rattle.line_rules.specs.declared.section.Section.{Section}
 use Rattle.line_rules.specs.declared.section.Section.TheVariants.{Head, Body, Ended}
 use Rattle.line_rules.specs.Entering.{Key, entering_of, follow_of, is_priced, key_of, most_more_of, most_of}
 use Rattle.line_rules.specs.Known.{HasRow, IsDeclared, IsTaken, Known, keys_of, rows_of}
+use Rattle.line_rules.specs.Names.{IsNamed}
 use Rattle.line_rules.specs.Sections.{IsOfVersion, edition_of, section_after, section_of}
 
 -- ---- what a line must meet, each its own fault where it does not
 
--- a rack's centre follows its name in version 2 alone
+-- a rack's centre follows its name from version 2 on
 abbrev pub centres_in : Version → ℕ
 centres_in One = 0
 centres_in Two = 1
+centres_in Three = 1
 
 -- how many words have to follow those in the places of a line, where that is told
 abbrev pub follows : Follow → Known → Option ℕ
@@ -114,6 +116,22 @@ pub record IsWithinLimit (k : Known) (s : Statement) : Type 0 where
   pub room : IsFewer (most_of k.purpose s.keyword) (counted_of k s.keyword)
   pub few : IsFew (most_more_of s.keyword) (length (tail_words s))
 
+-- the most bytes of a split: 64 MiB, and from version 3 on 8 GiB
+abbrev pub most_bytes : Version → ℕ
+most_bytes One = 67108864
+most_bytes Two = 67108864
+most_bytes Three = 8589934592
+
+-- these words after a split's keyword give it no more bytes than that
+abbrev pub IsOfSize : Version → Keyword → List Word → Type 0
+IsOfSize version keyword.Split ws = number_of (slice_index_or ws 1 []) ≤ most_bytes version
+IsOfSize version k ws = Unit {0}
+
+-- each number is within the range of its place, in this version
+pub record AreInRange (version : Version) (s : Statement) : Type 0 where
+  pub places : IsInRange s
+  pub size : IsOfSize version s.keyword s.words
+
 -- a split or a worker has a price
 abbrev pub HasItsPrice : List Statement → Key → Type 0
 HasItsPrice rows key = is_priced key.0 ≡ true → HasRow rows keyword.Price key.1
@@ -132,10 +150,10 @@ IsPricedBefore section k = Unit {0}
 
 -- what keeps a line that may stand where it does from this fault
 abbrev pub Meets : Known → Statement → Fault → Type 0
-Meets k s Misnamed = IsNamed s
+Meets k s Misnamed = IsNamed k.version s
 Meets k s Unknown = Keep rule.Declared k.rows s
 Meets k s Repeated = IsNew k.rows s
-Meets k s OutOfRange = IsInRange s
+Meets k s OutOfRange = AreInRange k.version s
 Meets k s PassesLimit = IsWithinLimit k s
 Meets k s RepeatedHolder = HasTailApart s
 Meets k s SecondEntry = IsFirstOfBody (section_after s.keyword) k.rows s
@@ -152,10 +170,10 @@ Fails k s f = IsComplete k s × MayStand k s × (Meets k s f → ⊥)
 pub record IsFit (k : Known) (s : Statement) : Type 0 where
   pub whole : IsComplete k s
   pub may_stand : MayStand k s
-  pub named : IsNamed s
+  pub named : IsNamed k.version s
   pub known : Keep rule.Declared k.rows s
   pub new : IsNew k.rows s
-  pub in_range : IsInRange s
+  pub in_range : AreInRange k.version s
   pub within_limit : IsWithinLimit k s
   pub tail_apart : HasTailApart s
   pub once : IsFirstOfBody (section_after s.keyword) k.rows s

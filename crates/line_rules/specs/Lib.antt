@@ -2,6 +2,7 @@ pub mod Sections
 pub mod Entering
 pub mod Entered
 pub mod Known
+pub mod Names
 pub mod Rows
 pub mod Faults
 pub mod Faulty

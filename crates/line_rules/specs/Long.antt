@@ -4,18 +4,20 @@ use Rattle.std.specs.List.{All}
 use Rattle.text_lines.specs.Texts.{Word}
 use Rattle.text_lines.specs.declared.fault.Fault.{Fault}
 use Rattle.text_lines.specs.declared.fault.Fault.TheVariants.{Shape}
-use Rattle.line_shapes.specs.Demands.{HasShape, IsNamedIn}
+use Rattle.line_shapes.specs.Demands.{HasShape, MeetsDemand}
 use Rattle.line_shapes.specs.Lines.{IsShaped, Statement}
 use Rattle.line_shapes.specs.Places.{places_of}
 use Rattle.line_shapes.specs.declared.keyword.Keyword.{Keyword}
 use Rattle.line_shapes.specs.declared.keyword.Keyword.TheVariants as keyword
 use Rattle.line_shapes.specs.declared.place.Place.{Place}
 use Rattle.line_shapes.specs.declared.place.Place.TheVariants.{Used}
+use Rattle.line_rules.specs.declared.edition.Version.{Version}
 use Rattle.line_rules.specs.declared.entering.Follow.{Follow}
 use Rattle.line_rules.specs.declared.entering.Follow.TheVariants.{Any, Centre, Counts}
 use Rattle.line_rules.specs.Entering.{follow_of, most_more_of}
 use Rattle.line_rules.specs.Faults.{Fails, IsComplete, IsDeclaredIn, IsLeastOf, IsFit, centres_in}
 use Rattle.line_rules.specs.Known.{Known, rows_of}
+use Rattle.line_rules.specs.Names.{name_demand}
 
 -- how many words may follow those in the places of a line, for all that is known: names that have to differ
 -- are no more than there are splits
@@ -31,12 +33,12 @@ most_words k word = length (places_of word) + most_more (follow_of word) (most_m
 
 -- the word has the first so many of what is asked of it, in turn: the shape of its place, a name where one
 -- stands, and one that is declared
-abbrev pub HasFirst : ℕ → List Statement → Option Place → Word → Type 0
-HasFirst zero rows place w = Unit {0}
-HasFirst (suc zero) rows place w = HasShape place w
-HasFirst (suc (suc zero)) rows place w = HasShape place w × IsNamedIn place w
-HasFirst (suc (suc (suc n))) rows place w =
-    HasShape place w × IsNamedIn place w × IsDeclaredIn rows place w
+abbrev pub HasFirst : ℕ → Version → List Statement → Option Place → Word → Type 0
+HasFirst zero version rows place w = Unit {0}
+HasFirst (suc zero) version rows place w = HasShape place w
+HasFirst (suc (suc zero)) version rows place w = HasShape place w × MeetsDemand (name_demand version) place w
+HasFirst (suc (suc (suc n))) version rows place w =
+    HasShape place w × MeetsDemand (name_demand version) place w × IsDeclaredIn rows place w
 
 -- names may follow the places
 abbrev pub IsUsed : Option Place → Type 0
@@ -44,8 +46,9 @@ IsUsed (Some (Used kind)) = Unit {0}
 IsUsed place = ⊥
 
 -- what the word has in turn, each of these words has
-abbrev pub IsWorst : List Statement → Option Place → List Word → Word → Type 0
-IsWorst rows place ws w = (n : ℕ) → n ≤ 3 → HasFirst n rows place w → All (HasFirst n rows place) ws
+abbrev pub IsWorst : Version → List Statement → Option Place → List Word → Word → Type 0
+IsWorst version rows place ws w =
+    (n : ℕ) → n ≤ 3 → HasFirst n version rows place w → All (HasFirst n version rows place) ws
 
 -- ---- the faults of a keyword with these words after it
 

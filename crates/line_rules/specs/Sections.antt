@@ -11,7 +11,7 @@ use Rattle.line_shapes.specs.declared.keyword.Keyword.TheVariants.{Lose, Sweep, 
 use Rattle.line_rules.specs.declared.edition.Edition.{Edition}
 use Rattle.line_rules.specs.declared.edition.Edition.TheVariants.{Tells, Each, Second}
 use Rattle.line_rules.specs.declared.edition.Version.{Version}
-use Rattle.line_rules.specs.declared.edition.Version.TheVariants.{One, Two}
+use Rattle.line_rules.specs.declared.edition.Version.TheVariants.{One, Two, Three}
 use Rattle.line_rules.specs.declared.purpose.Purpose.{Purpose}
 use Rattle.line_rules.specs.declared.purpose.Purpose.TheVariants.{Checking, Planning, Playing, Running}
 use Rattle.line_rules.specs.declared.section.Section.{Section}
@@ -125,7 +125,10 @@ edition_of Backup = Second
 edition_of k = Each
 
 abbrev pub version_told : List Word → Version
-version_told ws = if bytes_eq (slice_index_or ws 0 []) (codes "2") then Two else One
+version_told ws =
+    if bytes_eq (slice_index_or ws 0 []) (codes "2") then Two
+    else if bytes_eq (slice_index_or ws 0 []) (codes "3") then Three
+    else One
 
 -- the version after a line of these words
 abbrev pub version_by : Edition → Version → List Word → Version

@@ -1,7 +1,9 @@
 ghost use Rattle.std.specs.Prelude.{◌≡◌, ◌↔◌, ◌∷◌, [], IsTrue, map};
+ghost use Rattle.line_rules.specs.Names.{IsNameOf, name_demand as demanded};
 ghost use Rattle.line_rules.specs.Sections.{IsOfVersion, edition_of as editions, version_by, version_told};
 
-use line_shapes::{KeyedLine, Keyword};
+use line_shapes::{Demand, KeyedLine, Keyword};
+use text_lines::{is_long_name, is_name};
 
 /// The version of a text, which its first line tells.
 #[derive(Clone, Copy)]
@@ -9,6 +11,8 @@ pub enum Version {
     One,
     /// With data centres and backup attempts.
     Two,
+    /// With long names and large splits too.
+    Three,
 }
 
 /// What a line has to do with the version of its text.
@@ -18,7 +22,7 @@ pub enum Edition {
     Tells,
     /// It stands in each version.
     Each,
-    /// It stands in version 2 alone.
+    /// It stands from version 2 on.
     Second,
 }
 
@@ -47,7 +51,7 @@ pub fn is_of_version(keyword: Keyword, version: Version) -> bool
     match (edition_of(keyword), version) {
         (Edition::Tells | Edition::Each, _) => true,
         (Edition::Second, Version::One) => false,
-        (Edition::Second, Version::Two) => true,
+        (Edition::Second, Version::Two | Version::Three) => true,
     }
 }
 
@@ -58,6 +62,27 @@ pub fn version_after(version: Version, line: &KeyedLine<'_, '_>) -> Version
     match edition_of(line.keyword) {
         Edition::Tells => version_of(line.words),
         Edition::Each | Edition::Second => version,
+    }
+}
+
+/// What a text of the version demands of names.
+pub fn name_demand(version: Version) -> Demand
+    ensures { result ≡ demanded version }
+{
+    match version {
+        Version::One | Version::Two => Demand::Name,
+        Version::Three => Demand::LongName,
+    }
+}
+
+/// Whether the word is a name in a text of the version.
+#[inline(always)]
+pub fn is_name_of(version: Version, word: &str) -> bool
+    ensures { IsTrue result ↔ IsNameOf version word.now }
+{
+    match version {
+        Version::One | Version::Two => is_name(word),
+        Version::Three => is_long_name(word),
     }
 }
 
@@ -74,9 +99,9 @@ fn version_of(words: &[&str]) -> Version
 fn version_in(word: &str) -> Version
     ensures { result ≡ version_told (word.now ∷ []) }
 {
-    if word == "2" {
-        Version::Two
-    } else {
-        Version::One
+    match word {
+        "2" => Version::Two,
+        "3" => Version::Three,
+        _ => Version::One,
     }
 }

@@ -27,7 +27,7 @@ pub enum Entering {
 pub enum Follow {
     /// Any, as far as some may.
     Any,
-    /// A data centre, in version 2, and else nothing.
+    /// A data centre, from version 2 on, and else nothing.
     Centre,
     /// A count for each worker that was declared.
     Counts,

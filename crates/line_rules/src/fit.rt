@@ -1,25 +1,26 @@
 ghost use Rattle.std.specs.Prelude.{◌≡◌, List, IsTrue, slice_get};
-ghost use Rattle.text_lines.specs.Texts.{IsName, Word};
+ghost use Rattle.text_lines.specs.Texts.{Word};
 ghost use Rattle.line_shapes.specs.Lines.{Statement, stated};
 ghost use Rattle.line_shapes.specs.Places.{or_more};
 ghost use Rattle.line_rules.specs.Entered.{AreFit, IsFitIn};
 ghost use Rattle.line_rules.specs.Known.{HasRow, IsDeclared, IsTaken};
+ghost use Rattle.line_rules.specs.Names.{IsNameOf};
 
+use crate::edition::{Version, is_name_of};
 use crate::rows::Rows;
 use crate::rules::is_free;
 use line_shapes::{Keyword, Kind, Place, is_within};
-use text_lines::is_name;
 
-/// Whether each word after the keyword is fit for its place, by one pass over the words. Most lines are fit;
+/// Whether each word after the keyword is fit for its place in a text of the version, by one pass over the words. Most lines are fit;
 /// which fault another line has, if any, other tests find.
 #[inline(always)]
-pub fn are_fit(rows: &Rows<'_>, keyword: Keyword, words: &[&str]) -> bool
-    ensures { IsTrue result → AreFit rows.now (stated keyword words.now) }
+pub fn are_fit(rows: &Rows<'_>, version: Version, keyword: Keyword, words: &[&str]) -> bool
+    ensures { IsTrue result → AreFit version rows.now (stated keyword words.now) }
 {
     let places = keyword.places();
     let more = keyword.more();
     for i in 0..words.len() {
-        if !is_fit(rows, place_among(places, more, i), words[i]) {
+        if !is_fit(rows, version, place_among(places, more, i), words[i]) {
             return false;
         }
     }
@@ -36,14 +37,14 @@ fn place_among(places: &[Place], more: Option<Place>, number: usize) -> Option<P
     }
 }
 
-/// Whether the word is fit for this place.
+/// Whether the word is fit for this place in a text of the version.
 #[inline(always)]
-pub fn is_fit(rows: &Rows<'_>, place: Option<Place>, word: &str) -> bool
-    ensures { IsTrue result → IsFitIn rows.now place word.now }
+pub fn is_fit(rows: &Rows<'_>, version: Version, place: Option<Place>, word: &str) -> bool
+    ensures { IsTrue result → IsFitIn version rows.now place word.now }
 {
     match place {
         None => false,
-        Some(Place::New) => is_free_name(rows, word),
+        Some(Place::New) => is_free_name(rows, version, word),
         Some(Place::Used(kind)) => !word.is_empty() && is_of_kind(rows, kind, word),
         Some(Place::Number(least, most)) => is_within(word, least, most),
         Some(Place::Text) => true,
@@ -51,10 +52,10 @@ pub fn is_fit(rows: &Rows<'_>, place: Option<Place>, word: &str) -> bool
 }
 
 #[inline(always)]
-fn is_free_name(rows: &Rows<'_>, word: &str) -> bool
-    ensures { IsTrue result → IsName word.now × (IsTaken rows.now word.now → ⊥) }
+fn is_free_name(rows: &Rows<'_>, version: Version, word: &str) -> bool
+    ensures { IsTrue result → IsNameOf version word.now × (IsTaken rows.now word.now → ⊥) }
 {
-    is_name(word) && is_free(rows, word)
+    is_name_of(version, word) && is_free(rows, word)
 }
 
 // Whether the first line that was entered by the name declares one of this kind.

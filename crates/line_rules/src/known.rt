@@ -1,22 +1,24 @@
 ghost use Rattle.std.specs.Prelude.{◌≡◌, ◌≢◌, ◌++◌, ◌≤◌, ◌↔◌, IfOk, IsTrue, MatchOption, OnErr, OnOk, Some};
 ghost use Rattle.std.specs.Prelude.{length, []};
-ghost use Rattle.line_shapes.specs.Lines.{statement_of, IsInRange, IsNamed, Statement};
+ghost use Rattle.line_shapes.specs.Lines.{statement_of, IsInRange, Statement};
 ghost use Rattle.line_shapes.specs.Places.{places_of};
 ghost use Rattle.line_rules.specs.Entering.{command_of, entered_of, entering_of as entering};
 ghost use Rattle.line_rules.specs.Entering.{most_of as most_in};
 ghost use Rattle.line_rules.specs.Faults.{IsFirst, centres_in as centres, Fails, IsFewer, IsFit, IsLeastOf};
+ghost use Rattle.line_rules.specs.Faults.{AreInRange, IsOfSize, most_bytes};
 ghost use Rattle.line_rules.specs.Faults.{IsNew, IsFirstOfBody, IsPricedBefore, IsComplete};
 ghost use Rattle.line_rules.specs.Faults.{Keep, IsWithinLimit, MayStand, counted_of};
 ghost use Rattle.line_rules.specs.declared.entering.Entering.TheVariants.{Nothing};
 ghost use Rattle.text_lines.specs.declared.fault.Fault.{Fault};
-ghost use Rattle.line_rules.specs.Entered.{AreSound, AreFit};
+ghost use Rattle.line_rules.specs.Entered.{AreFit, IsSoundBefore};
 ghost use Rattle.line_rules.specs.Known.{Known, entered, known_at};
+ghost use Rattle.line_rules.specs.Names.{IsNamed};
 ghost use Rattle.line_shapes.specs.declared.keyword.Keyword.{Keyword};
 ghost use Rattle.line_rules.specs.Sections.{section_of as section_in};
 ghost use Rattle.line_rules.specs.declared.rule.Rule.TheVariants as rule;
 ghost use Rattle.line_rules.specs.declared.section.Section.TheVariants.{Body};
 
-use crate::edition::{Version, is_of_version, version_after};
+use crate::edition::{Version, is_of_version, name_demand, version_after};
 use crate::entering::{Entering, Follow, entering_of, follow_of, most_of};
 use crate::line_list::LineList;
 use crate::purpose::Purpose;
@@ -27,7 +29,7 @@ use crate::rules::{
     keep,
 };
 use crate::section::{Section, section_after, section_of};
-use line_shapes::{KeyedLine, Keyword};
+use line_shapes::{KeyedLine, Keyword, is_within};
 use std::alloc::{AllocError, Global};
 use std::marker::Model;
 use text_lines::Fault;
@@ -72,7 +74,7 @@ impl<'t> Model for KnownLines<'t> {
       commands = k.commands;
     } };
 
-    ghost invariant = { λ k. AreSound k.rows };
+    ghost invariant = { λ k. IsSoundBefore k.version k.section k.rows };
 }
 
 impl<'t> KnownLines<'t> {
@@ -171,7 +173,7 @@ impl<'t> KnownLines<'t> {
 
     fn is_new(&self, fit: bool, line: &KeyedLine<'_, '_>) -> bool
         requires places { length (places_of line.now.keyword) ≤ length line.now.words.now }
-        requires fit { IsTrue fit → AreFit self.now.rows (statement_of line.now) }
+        requires fit { IsTrue fit → AreFit self.now.version self.now.rows (statement_of line.now) }
         ensures { IsTrue result ↔ IsNew self.now.rows (statement_of line.now) }
     {
         keeps(fit, Rule::Free, &self.rows, line)
@@ -180,10 +182,10 @@ impl<'t> KnownLines<'t> {
     }
 
     fn is_in_range(&self, fit: bool, line: &KeyedLine<'_, '_>) -> bool
-        requires { IsTrue fit → AreFit self.now.rows (statement_of line.now) }
-        ensures { IsTrue result ↔ IsInRange (statement_of line.now) }
+        requires { IsTrue fit → AreFit self.now.version self.now.rows (statement_of line.now) }
+        ensures { IsTrue result ↔ AreInRange self.now.version (statement_of line.now) }
     {
-        fit || line.is_in_range()
+        (fit || line.is_in_range()) && is_of_size(self.version, line)
     }
 
     fn is_within_limit(&self, line: &KeyedLine<'_, '_>) -> bool
@@ -226,7 +228,7 @@ impl<'t> KnownLines<'t> {
     /// The least fault of a line after these, if it has one. `fit` says that its words are known to be fit.
     pub fn fault_of(&self, fit: bool, line: &KeyedLine<'_, '_>) -> Option<Fault>
         requires places { length (places_of line.now.keyword) ≤ length line.now.words.now }
-        requires fit { IsTrue fit → AreFit self.now.rows (statement_of line.now) }
+        requires fit { IsTrue fit → AreFit self.now.version self.now.rows (statement_of line.now) }
         ensures { MatchOption result (IsFit self.now (statement_of line.now))
             (IsLeastOf (Fails self.now (statement_of line.now))) }
     {
@@ -235,7 +237,7 @@ impl<'t> KnownLines<'t> {
             Some(Fault::Shape)
         } else if !self.may_stand(line) {
             Some(Fault::Misplaced)
-        } else if !is_named(fit, line) {
+        } else if !is_named(fit, self.version, line) {
             Some(Fault::Misnamed)
         } else if !keeps(fit, Rule::Declared, &self.rows, line) {
             Some(Fault::Unknown)
@@ -270,16 +272,16 @@ impl<'t> KnownLines<'t> {
 }
 
 // Whether the words in the places of names are names. Fit words are, since the rows have names alone.
-fn is_named(fit: bool, line: &KeyedLine<'_, '_>) -> bool
-    requires { IsTrue fit → IsNamed (statement_of line.now) }
-    ensures { IsTrue result ↔ IsNamed (statement_of line.now) }
+fn is_named(fit: bool, version: Version, line: &KeyedLine<'_, '_>) -> bool
+    requires { IsTrue fit → IsNamed version (statement_of line.now) }
+    ensures { IsTrue result ↔ IsNamed version (statement_of line.now) }
 {
-    fit || line.is_named()
+    fit || line.meets(name_demand(version))
 }
 
 // Whether each word keeps to the rule in its place, as fit words do.
 fn keeps(fit: bool, rule: Rule, rows: &Rows<'_>, line: &KeyedLine<'_, '_>) -> bool
-    requires { IsTrue fit → AreFit rows.now (statement_of line.now) }
+    requires { IsTrue fit → Keep rule rows.now (statement_of line.now) }
     ensures { IsTrue result ↔ Keep rule rows.now (statement_of line.now) }
 {
     fit || keep(rule, rows, line)
@@ -291,7 +293,29 @@ pub(crate) fn centres_in(version: Version) -> usize
 {
     match version {
         Version::One => 0,
-        Version::Two => 1,
+        Version::Two | Version::Three => 1,
+    }
+}
+
+// The most bytes of a split in a text of the version.
+fn most_bytes(version: Version) -> u64
+    ensures { result ≡ most_bytes version }
+{
+    match version {
+        Version::One | Version::Two => 67_108_864,
+        Version::Three => 8_589_934_592,
+    }
+}
+
+// Whether the line gives a split no more bytes than it may have in a text of the version. A word that is no number
+// stands in no place of one.
+fn is_of_size(version: Version, line: &KeyedLine<'_, '_>) -> bool
+    requires { IsInRange (statement_of line.now) }
+    ensures { IsTrue result ↔ IsOfSize version line.now.keyword (statement_of line.now).words }
+{
+    match (line.keyword, line.words.get(1)) {
+        (Keyword::Split, Some(word)) => is_within(word, 0, most_bytes(version)),
+        _ => true,
     }
 }
 

@@ -1,8 +1,9 @@
 //! The rules of lines: where in a text a line may stand, and what it may say in view of the lines before it.
 //!
 //! The rules are tables over the keywords of `line_shapes`. They say in which section of a text and in
-//! which version a line may stand (`specs/Sections.antt`), by which words it is entered, and how many such
-//! lines there may be (`specs/Entering.antt`). What a line says, a keyword and its words, is a statement
+//! which version a line may stand (`specs/Sections.antt`), which words are names in that version
+//! (`specs/Names.antt`), by which words a line is entered, and how many such lines there may be
+//! (`specs/Entering.antt`). What a line says, a keyword and its words, is a statement
 //! (`KeyedLine`), and a statement that is entered is a row. `Rows` finds a row by its keyword and its number
 //! among the rows of that keyword, and the number by the words by which the row was entered. `KnownLines`
 //! holds the rows and answers the least fault of the next line. Each fault is one definition over the places

@@ -6,6 +6,7 @@ ghost use Rattle.line_rules.specs.Faults.{IsDeclaredIn};
 ghost use Rattle.line_rules.specs.Long.{HasFirst, IsUsed, IsWorst, StandsFor, most_more as most_after};
 ghost use Rattle.line_rules.specs.Long.{most_words as most};
 
+use crate::edition::{Version, name_demand};
 use crate::entering::{Follow, follow_of, most_more_of};
 use crate::fit::is_fit;
 use crate::known::{KnownLines, centres_in};
@@ -34,7 +35,7 @@ pub fn cut_most<'t>(
     };
     // (No list has so many words.)
     prove!(words.len() < usize::MAX);
-    words.push(worst_word(known.rows(), keyword.more(), left))?;
+    words.push(worst_word(known.rows(), known.version(), keyword.more(), left))?;
     Ok(())
 }
 
@@ -64,27 +65,27 @@ fn most_more(known: &KnownLines<'_>, keyword: Keyword) -> usize
 
 // One of the words that are left of a line. Where names may stand there, it lacks what any of them lacks
 // first: a line with more words than it may have is answered as if this word stood for all of them.
-fn worst_word<'t>(rows: &Rows<'_>, place: Option<Place>, left: &'t str) -> &'t str
+fn worst_word<'t>(rows: &Rows<'_>, version: Version, place: Option<Place>, left: &'t str) -> &'t str
     ensures one { Contains (words_of left.entry.now) result.now }
-    ensures worst { IsUsed place → IsWorst rows.now place (words_of left.entry.now) result.now }
+    ensures worst { IsUsed place → IsWorst version rows.now place (words_of left.entry.now) result.now }
 {
     match place {
-        Some(Place::Used(_)) => worst_in(rows, place, left),
+        Some(Place::Used(_)) => worst_in(rows, version, place, left),
         None | Some(Place::New | Place::Number(_, _) | Place::Text) => split_word(left).0,
     }
 }
 
 // The first of the words that have the least, by one pass.
-fn worst_in<'t>(rows: &Rows<'_>, place: Option<Place>, left: &'t str) -> &'t str
+fn worst_in<'t>(rows: &Rows<'_>, version: Version, place: Option<Place>, left: &'t str) -> &'t str
     ensures one { Contains (words_of left.entry.now) result.now }
-    ensures worst { IsWorst rows.now place (words_of left.entry.now) result.now }
+    ensures worst { IsWorst version rows.now place (words_of left.entry.now) result.now }
 {
     let mut worst = left;
     let mut least = ASKED + 1;
     let mut rest = left;
     loop {
         let (word, after) = split_word(rest);
-        let has = has_first(rows, place, word, least);
+        let has = has_first(rows, version, place, word, least);
         if has < least {
             worst = word;
             least = has;
@@ -99,18 +100,24 @@ fn worst_in<'t>(rows: &Rows<'_>, place: Option<Place>, left: &'t str) -> &'t str
 // How much the word has of what is asked of it, in turn, if that is less than `least`, and else as much as
 // that or more: a name is not looked up where this decides nothing.
 #[inline(always)]
-fn has_first(rows: &Rows<'_>, place: Option<Place>, word: &str, least: usize) -> usize
+fn has_first(
+    rows: &Rows<'_>,
+    version: Version,
+    place: Option<Place>,
+    word: &str,
+    least: usize,
+) -> usize
     ensures within { result ≤ 3 }
     ensures less { result < least
-        → (n : ℕ) → n ≤ 3 → (HasFirst n rows.now place word.now ↔ n ≤ result) }
+        → (n : ℕ) → n ≤ 3 → (HasFirst n version rows.now place word.now ↔ n ≤ result) }
     ensures enough { least ≤ result
-        → (n : ℕ) → n ≤ 3 → n ≤ least → HasFirst n rows.now place word.now }
+        → (n : ℕ) → n ≤ 3 → n ≤ least → HasFirst n version rows.now place word.now }
 {
     if !meets(Demand::Shape, place, word) {
         0
-    } else if !meets(Demand::Name, place, word) {
+    } else if !meets(name_demand(version), place, word) {
         1
-    } else if least > 2 && !is_declared(rows, place, word) {
+    } else if least > 2 && !is_declared(rows, version, place, word) {
         2
     } else {
         ASKED
@@ -119,8 +126,8 @@ fn has_first(rows: &Rows<'_>, place: Option<Place>, word: &str, least: usize) ->
 
 // Whether a name that is used is declared. Most are, by the first line that was entered by them.
 #[inline(always)]
-fn is_declared(rows: &Rows<'_>, place: Option<Place>, word: &str) -> bool
+fn is_declared(rows: &Rows<'_>, version: Version, place: Option<Place>, word: &str) -> bool
     ensures { IsTrue result ↔ IsDeclaredIn rows.now place word.now }
 {
-    is_fit(rows, place, word) || is_declared_in(rows, place, word)
+    is_fit(rows, version, place, word) || is_declared_in(rows, place, word)
 }

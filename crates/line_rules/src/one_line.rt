@@ -69,7 +69,7 @@ fn fit_words<'w, 'l>(
     ensures fit { IfOk result (λ line. IsFit known.now (statement_of line)) }
     ensures err { IfErr result (IsLeastOf (WordsHave known.now keyword (map (λ w. w.now) words.entry.now))) }
 {
-    let fit = are_fit(known.rows(), keyword, words);
+    let fit = are_fit(known.rows(), known.version(), keyword, words);
     match said(fit, keyword, words) {
         Some(line) => match known.fault_of(fit, &line) {
             Some(fault) => Err(fault),

@@ -1,12 +1,12 @@
 -- What is asked of a word in its place.
 use Rattle.std.specs.Prelude.{ℕ, List, [], ◌≤◌, ◌<◌, Option, Some, None, length, slice_index_or}
 use Rattle.std.specs.Borrow.{Bor}
-use Rattle.text_lines.specs.Texts.{IsName, IsNumber, Word, number_of}
+use Rattle.text_lines.specs.Texts.{IsLongName, IsName, IsNumber, Word, number_of}
 use Rattle.line_shapes.specs.declared.keyword.Keyword.{Keyword}
 use Rattle.line_shapes.specs.declared.place.Place.{Place}
 use Rattle.line_shapes.specs.declared.place.Place.TheVariants.{New, Used, Number, Text}
 use Rattle.line_shapes.specs.declared.demand.Demand.{Demand}
-use Rattle.line_shapes.specs.declared.demand.Demand.TheVariants.{Shape, Name, Range}
+use Rattle.line_shapes.specs.declared.demand.Demand.TheVariants.{Shape, Name, LongName, Range}
 use Rattle.line_shapes.specs.Places.{place_at}
 
 -- there is such a place; a number stands in a number's place, and no empty word in a name's; a text is any
@@ -18,10 +18,10 @@ HasShape (Some (Number least most)) w = IsNumber w
 HasShape (Some Text) w = Unit {0}
 
 -- a name stands in a name's place
-abbrev pub IsNamedIn : Option Place → Word → Type 0
-IsNamedIn (Some New) w = IsName w
-IsNamedIn (Some (Used kind)) w = IsName w
-IsNamedIn place w = Unit {0}
+abbrev pub IsNamedIn : (Word → Type 0) → Option Place → Word → Type 0
+IsNamedIn Named (Some New) w = Named w
+IsNamedIn Named (Some (Used kind)) w = Named w
+IsNamedIn Named place w = Unit {0}
 
 abbrev pub IsNumberWithin : ℕ → ℕ → Word → Type 0
 IsNumberWithin least most w = IsNumber w × (least ≤ number_of w) × (number_of w ≤ most)
@@ -33,7 +33,8 @@ IsWithinIn place w = Unit {0}
 
 abbrev pub MeetsDemand : Demand → Option Place → Word → Type 0
 MeetsDemand Shape place w = HasShape place w
-MeetsDemand Name place w = IsNamedIn place w
+MeetsDemand Name place w = IsNamedIn IsName place w
+MeetsDemand LongName place w = IsNamedIn IsLongName place w
 MeetsDemand Range place w = IsWithinIn place w
 
 -- each word after the keyword meets the demand

@@ -4,7 +4,7 @@ use Rattle.std.specs.Prelude.{drop, length, map, nat_lt, if◌then◌else◌}
 use Rattle.std.specs.Borrow.{Bor}
 use Rattle.std.specs.List.{AllPairs, after_first, before_first, position_or_len}
 use Rattle.text_lines.specs.Texts.{Line, Word, words_of}
-use Rattle.line_shapes.specs.declared.demand.Demand.TheVariants.{Shape, Name, Range}
+use Rattle.line_shapes.specs.declared.demand.Demand.TheVariants.{Shape, Range}
 use Rattle.line_shapes.specs.declared.keyword.Keyword.{Keyword}
 use Rattle.line_shapes.specs.declared.line.KeyedLine.{KeyedLine}
 use Rattle.line_shapes.specs.declared.place.Place.{Place}
@@ -59,9 +59,6 @@ abbrev pub SaysNothing : Line → Type 0
 SaysNothing line = (s : Statement) → Says line s → ⊥
 
 -- ---- what may be wrong with a statement, whatever stands before it
-
-abbrev pub IsNamed : Statement → Type 0
-IsNamed s = Meet Name s.keyword s.words
 
 abbrev pub IsInRange : Statement → Type 0
 IsInRange s = Meet Range s.keyword s.words

@@ -8,13 +8,13 @@ use Rattle.line_shapes.specs.declared.place.Place.TheVariants.{New, Used, Number
 
 -- what follows each keyword
 abbrev pub places_of : Keyword → List Place
-places_of keyword.Problem = Number 1 2 ∷ []
-places_of keyword.Script = Number 1 2 ∷ []
-places_of keyword.Job = Number 1 2 ∷ []
+places_of keyword.Problem = Number 1 3 ∷ []
+places_of keyword.Script = Number 1 3 ∷ []
+places_of keyword.Job = Number 1 3 ∷ []
 places_of keyword.Centre = New ∷ []
 places_of keyword.Rack = New ∷ []
 places_of keyword.Worker = New ∷ Used kind.Rack ∷ Number 0 16 ∷ []
-places_of keyword.Split = New ∷ Number 0 67108864 ∷ []
+places_of keyword.Split = New ∷ Number 0 8589934592 ∷ []
 places_of keyword.Barred = Used kind.Split ∷ Used kind.Worker ∷ []
 places_of keyword.Dead = Used kind.Worker ∷ []
 places_of keyword.Busy = Used kind.Split ∷ []

@@ -1,10 +1,11 @@
 ghost use Rattle.std.specs.Prelude.{◌↔◌, IsTrue};
+ghost use Rattle.text_lines.specs.Texts.{IsLongName, IsName};
 ghost use Rattle.line_shapes.specs.Demands.{HasShape, IsNamedIn, IsNumberWithin, IsWithinIn};
 ghost use Rattle.line_shapes.specs.Demands.{MeetIn, MeetsDemand};
 
 use crate::keyword::Keyword;
 use crate::place::Place;
-use text_lines::{Number, is_name, value_in};
+use text_lines::{Number, is_long_name, is_name, value_in};
 
 /// What is asked of each word in its place.
 #[derive(Clone, Copy)]
@@ -13,6 +14,8 @@ pub enum Demand {
     Shape,
     /// A name's word is a name.
     Name,
+    /// A name's word is a long name.
+    LongName,
     /// A number is within its range.
     Range,
 }
@@ -38,6 +41,7 @@ pub fn meets(demand: Demand, place: Option<Place>, word: &str) -> bool
     match demand {
         Demand::Shape => has_shape(place, word),
         Demand::Name => is_named_in(place, word),
+        Demand::LongName => is_long_named_in(place, word),
         Demand::Range => is_within_in(place, word),
     }
 }
@@ -56,11 +60,21 @@ fn has_shape(place: Option<Place>, word: &str) -> bool
 
 #[inline(always)]
 fn is_named_in(place: Option<Place>, word: &str) -> bool
-    ensures { IsTrue result ↔ IsNamedIn place word.now }
+    ensures { IsTrue result ↔ IsNamedIn IsName place word.now }
 {
     match place {
         None | Some(Place::Number(_, _) | Place::Text) => true,
         Some(Place::New | Place::Used(_)) => is_name(word),
+    }
+}
+
+#[inline(always)]
+fn is_long_named_in(place: Option<Place>, word: &str) -> bool
+    ensures { IsTrue result ↔ IsNamedIn IsLongName place word.now }
+{
+    match place {
+        None | Some(Place::Number(_, _) | Place::Text) => true,
+        Some(Place::New | Place::Used(_)) => is_long_name(word),
     }
 }
 

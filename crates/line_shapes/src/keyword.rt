@@ -104,10 +104,10 @@ impl Keyword {
         ensures { result.now ≡ places_of self }
     {
         match self {
-            Keyword::Problem | Keyword::Script | Keyword::Job => &[Place::Number(1, 2)],
+            Keyword::Problem | Keyword::Script | Keyword::Job => &[Place::Number(1, 3)],
             Keyword::Centre | Keyword::Rack => &[Place::New],
             Keyword::Worker => &[Place::New, Place::Used(Kind::Rack), Place::Number(0, 16)],
-            Keyword::Split => &[Place::New, Place::Number(0, 67_108_864)],
+            Keyword::Split => &[Place::New, Place::Number(0, 8_589_934_592)],
             Keyword::Barred | Keyword::Start | Keyword::Add | Keyword::Lose => &[
                 Place::Used(Kind::Split),
                 Place::Used(Kind::Worker),

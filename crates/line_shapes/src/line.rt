@@ -1,5 +1,6 @@
 ghost use Rattle.std.specs.Prelude.{◌≡◌, MatchOption, ◌↔◌, ◌≤◌, IsTrue, length, map};
-ghost use Rattle.line_shapes.specs.Lines.{IsShaped, stated, statement_of, HasTailApart, IsInRange, IsNamed};
+ghost use Rattle.line_shapes.specs.Demands.{Meet};
+ghost use Rattle.line_shapes.specs.Lines.{IsShaped, stated, statement_of, HasTailApart, IsInRange};
 ghost use Rattle.line_shapes.specs.Lines.{tail_words};
 ghost use Rattle.line_shapes.specs.Places.{places_of};
 
@@ -28,18 +29,18 @@ pub fn said_by<'w, 't>(keyword: Keyword, words: &'w [&'t str]) -> Option<KeyedLi
 }
 
 impl<'w, 't> KeyedLine<'w, 't> {
-    /// Whether the words in the places of names are names.
-    pub fn is_named(&self) -> bool
-        ensures { IsTrue result ↔ IsNamed (statement_of self.now) }
+    /// Whether each word meets the demand.
+    pub fn meets(&self, demand: Demand) -> bool
+        ensures { IsTrue result ↔ Meet demand self.now.keyword (statement_of self.now).words }
     {
-        meet(Demand::Name, self.keyword, self.words)
+        meet(demand, self.keyword, self.words)
     }
 
     /// Whether each number is within its range.
     pub fn is_in_range(&self) -> bool
         ensures { IsTrue result ↔ IsInRange (statement_of self.now) }
     {
-        meet(Demand::Range, self.keyword, self.words)
+        self.meets(Demand::Range)
     }
 
     /// Whether no name stands twice among those that may follow any number of times.

@@ -23,6 +23,7 @@ use Rattle.line_rules.specs.declared.purpose.Purpose.{Purpose}
 use Rattle.line_rules.specs.declared.rule.Rule.TheVariants as rule
 use Rattle.line_rules.proofs.FitLines.{known_after, names_after}
 use Rattle.line_rules.proofs.Fits.{fit_first}
+use Rattle.line_rules.proofs.Sound.{named_long}
 use Rattle.plan_text.specs.Names.{rows_in}
 use Rattle.plan_text.specs.Tidy.{AreTidy, IsTidyRow}
 use Rattle.line_rules.proofs.OfKeyword.{keyword_of}
@@ -91,7 +92,14 @@ fresh rows s first i d lt same =
 -- a line without a fault is as tidy as a row is
 pub tidy_of : (k : Known) (s : Statement) → length (places_of s.keyword) ≤ length s.words → IsFit k s
     → IsTidyRow k.rows s
-tidy_of k s whole fit = grind arith
+tidy_of k s whole fit = record {
+  whole = whole;
+  named = named_long k.version s fit.named;
+  known = fit.known;
+  in_range = fit.in_range.places;
+  few = fit.within_limit.few;
+  tail_apart = fit.tail_apart;
+}
 
 -- a line that is entered leaves the rows tidy
 tidy-row : (k : Known) (s : Statement) → length (places_of s.keyword) ≤ length s.words → IsFit k s

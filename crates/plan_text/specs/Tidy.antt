@@ -2,8 +2,10 @@
 use Rattle.std.specs.Prelude.{ℕ, List, ◌≡◌, ◌≢◌, ◌≤◌, length}
 use Rattle.std.specs.List.{All, AllPairs, Contains}
 use Rattle.text_lines.specs.Texts.{IsNumber, Word, number_of}
-use Rattle.line_shapes.specs.Lines.{HasTailApart, IsInRange, IsNamed, Statement, tail_words}
+use Rattle.line_shapes.specs.Demands.{Meet}
+use Rattle.line_shapes.specs.Lines.{HasTailApart, IsInRange, Statement, tail_words}
 use Rattle.line_shapes.specs.Places.{places_of}
+use Rattle.line_shapes.specs.declared.demand.Demand.TheVariants.{LongName}
 use Rattle.line_shapes.specs.declared.keyword.Keyword.TheVariants as keyword
 use Rattle.line_rules.specs.Entering.{most_more_of}
 use Rattle.line_rules.specs.Faults.{IsFew, Keep}
@@ -14,7 +16,7 @@ use Rattle.plan_text.specs.Names.{nth_word}
 -- each word keeps to its place, in view of all rows
 pub record IsTidyRow (rows : List Statement) (s : Statement) : Type 0 where
   pub whole : length (places_of s.keyword) ≤ length s.words
-  pub named : IsNamed s
+  pub named : Meet LongName s.keyword s.words
   pub known : Keep rule.Declared rows s
   pub in_range : IsInRange s
   pub few : IsFew (most_more_of s.keyword) (length (tail_words s))
@@ -44,7 +46,7 @@ pub record IsTidyWorker (racks : List Word) (s : Statement) : Type 0 where
 pub record IsTidySplit (workers : List Word) (s : Statement) : Type 0 where
   pub is_split : s.keyword ≡ keyword.Split
   pub whole : 2 ≤ length s.words
-  pub bytes : IsAtMost (nth_word 1 s) 67108864
+  pub bytes : IsAtMost (nth_word 1 s) 8589934592
   pub few_holders : length (tail_words s) ≤ 8
   pub holders : All (Contains workers) (tail_words s)
   pub holders_differ : AllPairs (λ a b. a ≢ b) (tail_words s)

@@ -60,6 +60,14 @@ IsNameByte b = IsLetter b ⊎ (IsDigit b ⊎ ((b ≡ 45) ⊎ ((b ≡ 95) ⊎ (b 
 abbrev pub IsName : Word → Type 0
 IsName w = (0 < length w) × (length w ≤ 32) × IsLetter (slice_index w 0) × All IsNameByte w
 
+-- such a byte, ':' (58) or '/' (47)
+abbrev pub IsLongNameByte : ℕ → Type 0
+IsLongNameByte b = IsNameByte b ⊎ ((b ≡ 58) ⊎ (b ≡ 47))
+
+-- 1 to 64 of these
+abbrev pub IsLongName : Word → Type 0
+IsLongName w = (0 < length w) × (length w ≤ 64) × All IsLongNameByte w
+
 -- the number that digits stand for, after those of n
 abbrev pub number_from : ℕ → List ℕ → ℕ
 number_from n [] = n

@@ -17,7 +17,7 @@ pub fn fault_of(alloc: Global, purpose: Purpose, text: &str) -> Option<(u32, u8)
 }
 
 // Texts to plan from.
-const TO_PLAN: [(&str, Option<(u32, u8)>); 28] = [
+const TO_PLAN: [(&str, Option<(u32, u8)>); 35] = [
     ("problem 1\nend\n", None),
     (
         "problem 1\nrack r\nworker a r 16\nsplit s 67108864 a\nend\n",
@@ -44,9 +44,19 @@ const TO_PLAN: [(&str, Option<(u32, u8)>); 28] = [
         "problem 1\nrack r\nworker a r 1\nsplit s 1\nbarred s a\nbarred s a\nend\n",
         Some((6, 4)),
     ),
-    ("problem 3\nend\n", Some((1, 5))),
+    ("problem 3\nend\n", None),
+    ("problem 4\nend\n", Some((1, 5))),
     ("problem 1\nrack r\nworker a r 17\nend\n", Some((3, 5))),
     ("problem 1\nsplit s 67108865\nend\n", Some((2, 5))),
+    ("problem 2\nsplit s 67108865\nend\n", Some((2, 5))),
+    ("problem 3\nsplit s 8589934592\nend\n", None),
+    ("problem 3\nsplit s 8589934593\nend\n", Some((2, 5))),
+    (
+        "problem 3\ncentre c\nrack /r1 c\nworker 10.0.0.1:9866 /r1 1\nend\n",
+        None,
+    ),
+    ("problem 2\ncentre c\nrack /r1 c\nend\n", Some((3, 2))),
+    ("problem 3\nrack r\nend\n", Some((2, 1))),
     ("rack r\nend\n", Some((1, 7))),
     ("problem 1\nplan\nend\n", Some((2, 7))),
     ("problem 1\n", Some((2, 7))),

@@ -1,4 +1,4 @@
-use text_lines::{Number, add_words, is_name, split_line};
+use text_lines::{Number, add_words, is_long_name, is_name, split_line};
 
 #[test]
 fn lines_end_at_line_feeds(rt: HostRuntime) {
@@ -44,6 +44,26 @@ fn names(rt: HostRuntime) {
         ("a/b", false),
     ] {
         assert_eq!(rt; is_name(word), is, "{word}");
+    }
+}
+
+#[test]
+fn long_names(rt: HostRuntime) {
+    let longest = "abcdefghijklmnopqrstuvwxyz012345abcdefghijklmnopqrstuvwxyz012345";
+    let longer = "abcdefghijklmnopqrstuvwxyz012345abcdefghijklmnopqrstuvwxyz0123456";
+    for (word, is) in [
+        ("a", true),
+        ("/west/r1", true),
+        ("10.0.0.1:9866", true),
+        ("::1", true),
+        ("-_.", true),
+        (longest, true),
+        (longer, false),
+        ("", false),
+        ("a b", false),
+        ("a*", false),
+    ] {
+        assert_eq!(rt; is_long_name(word), is, "{word}");
     }
 }
 

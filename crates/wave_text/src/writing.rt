@@ -66,6 +66,7 @@ fn add_version(lines: &mut String, version: Version) -> Result<(), AllocError> {
     match version {
         Version::One => lines.push_str("problem 1\n"),
         Version::Two => lines.push_str("problem 2\n"),
+        Version::Three => lines.push_str("problem 3\n"),
     }
 }
 

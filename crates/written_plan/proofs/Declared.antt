@@ -4,18 +4,24 @@ use Rattle.std.proofs.Common.{append-nil, ap, arith, get_or, length, map, refl, 
 use Rattle.std.proofs.lemmas.Slice.Zip.{firsts-zip, seconds-zip}
 use Rattle.std.specs.List.{All}
 use Rattle.std.proofs.lemmas.List.{map-append}
-use Rattle.std.proofs.lemmas.List.Elements.{All-filter, All-head, All-map, All-tail, filter_passes}
+use Rattle.std.proofs.lemmas.List.Elements.{All-contains, All-filter, All-head, All-map, All-tail}
+use Rattle.std.proofs.lemmas.List.Elements.{Contains-get_or, filter_passes}
 use Rattle.wave_problem.specs.Assignment.{start_of}
 use Rattle.wave_problem.specs.Wave.{Wave}
 use Rattle.price_certificate.specs.PriceList.{PriceList}
-use Rattle.text_lines.specs.Texts.{IsName, Word, number_of}
+use Rattle.text_lines.specs.Texts.{IsLongName, Word, number_of}
 use Rattle.line_shapes.specs.Lines.{Statement}
 use Rattle.line_shapes.specs.Places.{place_at, places_of}
 use Rattle.line_shapes.specs.declared.place.Place.TheVariants.{New}
 use Rattle.line_shapes.specs.declared.keyword.Keyword.{Keyword}
 use Rattle.line_shapes.specs.declared.keyword.Keyword.TheVariants.{Centre, Rack, Worker, Split, Barred, Dead}
 use Rattle.line_shapes.specs.declared.keyword.Keyword.TheVariants.{Busy}
-use Rattle.line_rules.specs.Known.{is_of, rows_of}
+use Rattle.line_rules.specs.Entered.{AreSound, IsSound}
+use Rattle.line_rules.specs.Entering.{entering_of}
+use Rattle.line_rules.specs.Known.{is_of, keys_of, rows_of}
+use Rattle.line_rules.specs.Names.{IsNameOf}
+use Rattle.line_rules.specs.declared.edition.Version.{Version}
+use Rattle.line_rules.specs.declared.entering.Entering.TheVariants.{Word as ByWord}
 use Rattle.plan_text.specs.Names.{names_in, names_of, nth_word}
 use Rattle.plan_text.specs.Tidy.{AreTidy, IsTidyRow}
 use Rattle.plan_text.specs.Value.{MakesWave, price_at, prices_in, start_at}
@@ -24,7 +30,7 @@ use Rattle.line_rules.proofs.OfKeyword.{keyword_of}
 use Rattle.plan_text.proofs.Named.{named_row, names_differ}
 use Rattle.written_plan.proofs.Heads.{AreApart, IsBare}
 use Rattle.written_plan.proofs.Pairs.{new-none, price_said, start_pairs, start_said}
-use Rattle.written_plan.proofs.PlanPart.{AreNames, plan_rows, price_names, rows-other, rows-price, rows-start}
+use Rattle.written_plan.proofs.PlanPart.{AreNames, AreSpelled, plan_rows, price_names, rows-other, rows-price, rows-start}
 use Rattle.written_plan.proofs.PlanPart.{start_names}
 use Rattle.written_plan.proofs.Values.{priced_at, prices_read, started_on, starts_read}
 use Rattle.written_plan.proofs.Words.{number_of-decimal}
@@ -32,26 +38,41 @@ use Rattle.written_plan.proofs.Words.{number_of-decimal}
 -- ---- the names of a head
 
 abbrev AreNamed : Keyword → List Statement → Type 0
-AreNamed k rows = (s : Statement) → s.keyword ≡ k → IsTidyRow rows s → IsName (nth_word 0 s)
+AreNamed k rows = (s : Statement) → s.keyword ≡ k → IsTidyRow rows s → IsLongName (nth_word 0 s)
 
 named_in : (k : Keyword) (rows : List Statement) → AreTidy rows → AreNamed k rows →
-    All IsName (names_of k rows)
+    All IsLongName (names_of k rows)
 named_in k rows tidy named =
-    All-map IsName (nth_word 0) (rows_of k rows)
+    All-map IsLongName (nth_word 0) (rows_of k rows)
     (λ i d lt. named (get_or (rows_of k rows) i d) (keyword_of k (get_or (rows_of k rows) i d)
     (filter_passes (is_of k) rows i d lt))
     (All-filter (is_of k) (IsTidyRow rows) rows tidy.each i d lt))
 
--- the word of a new name is a name
+-- the word of a new name is a long name
 first_named : (k : Keyword) → place_at k 0 ≡ Some New → 0 < length (places_of k) → (rows : List Statement)
     → AreNamed k rows
 first_named k first some rows s same tidy = grind arith
 
+-- the names of a keyword's rows are names in a text of the version
+spelled_in : (version : Version) (k : Keyword) → entering_of k ≡ ByWord → place_at k 0 ≡ Some New
+    → 0 < length (places_of k) → (rows : List Statement) → AreTidy rows → AreSound version rows
+    → All (IsNameOf version) (names_of k rows)
+spelled_in version k by new some rows tidy sound i d lt =
+    let name = get_or (names_of k rows) i d in
+    let long : IsLongName name = named_in k rows tidy (first_named k new some rows) i d lt in
+    let row = named_row k by rows name (Contains-get_or (names_of k rows) i d lt) in
+    (All-contains (IsSound version) (keys_of rows) (k, name, []) sound row).named by new long.0
+
+pub head_spelled : (version : Version) (rows : List Statement) → AreTidy rows → AreSound version rows
+    → AreSpelled version (names_of Split rows) (names_of Worker rows)
+head_spelled version rows tidy sound = record {
+  split_names = spelled_in version Split refl refl (omega arith) rows tidy sound;
+  worker_names = spelled_in version Worker refl refl (omega arith) rows tidy sound;
+}
+
 pub head_names : (rows : List Statement) → AreTidy rows → AreApart rows
     → AreNames (names_of Split rows) (names_of Worker rows)
 head_names rows tidy apart = record {
-  splits_named = named_in Split rows tidy (first_named Split refl (omega arith) rows);
-  workers_named = named_in Worker rows tidy (first_named Worker refl (omega arith) rows);
   splits_differ = names_differ Split refl rows tidy.differ;
   workers_differ = names_differ Worker refl rows tidy.differ;
   apart = λ n split worker. apart n (named_row Split refl rows n split) (named_row Worker refl rows n worker);

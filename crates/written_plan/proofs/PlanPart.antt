@@ -10,14 +10,16 @@ use Rattle.std.proofs.lemmas.List.Elements.{Contains-append_left, Contains-appen
 use Rattle.std.proofs.lemmas.List.Elements.{filter-append}
 use Rattle.std.proofs.lemmas.List.{get_or-map, length-map, map-append}
 use Rattle.price_certificate.specs.PriceList.{PriceList}
-use Rattle.text_lines.specs.Texts.{IsName, Line, Word}
+use Rattle.text_lines.specs.Texts.{Line, Word}
 use Rattle.line_shapes.specs.Lines.{Statement}
 use Rattle.line_shapes.specs.declared.keyword.Keyword.{Keyword}
 use Rattle.line_shapes.specs.declared.keyword.Keyword.TheVariants.{Worker, Split, Plan, Start, Price, End}
 use Rattle.line_rules.specs.Entering.{Key, entered_by, entered_of, entering_of, key_of}
 use Rattle.line_rules.specs.Faults.{HasItsPrice}
 use Rattle.line_rules.specs.Known.{HasRow, Known, entered, keys_of, rows_of}
+use Rattle.line_rules.specs.Names.{IsNameOf}
 use Rattle.line_rules.specs.Reading.{AreFitLines}
+use Rattle.line_rules.specs.declared.edition.Version.{Version}
 use Rattle.line_rules.specs.declared.section.Section.TheVariants.{Head, Body}
 use Rattle.line_rules.specs.declared.entering.Entering.{Entering}
 use Rattle.line_rules.specs.declared.entering.Entering.TheVariants.{Nothing, InTurn, Word as ByWord}
@@ -46,10 +48,13 @@ abbrev pub plan_said : List (Word × Word) → List (Word × ℕ) → List (Word
 plan_said a b c =
     said Plan [] ∷ (map start_said a ++ (map price_said b ++ (map price_said c ++ said End [] ∷ [])))
 
--- these names are names, and none stands twice, also not as a split and a worker
+-- these names are names in a text of the version
+pub record AreSpelled (version : Version) (splits workers : List Word) : Type 0 where
+  pub split_names : All (IsNameOf version) splits
+  pub worker_names : All (IsNameOf version) workers
+
+-- none stands twice, also not as a split and a worker
 pub record AreNames (splits workers : List Word) : Type 0 where
-  pub splits_named : All IsName splits
-  pub workers_named : All IsName workers
   pub splits_differ : AllPairs (λ a b. a ≢ b) splits
   pub workers_differ : AllPairs (λ a b. a ≢ b) workers
   pub apart : (name : Word) → Contains splits name → Contains workers name → ⊥
@@ -180,12 +185,13 @@ still_priced priced more names h = All-weaker (Contains priced) (Contains (price
 -- ---- they fit
 
 module _ (splits workers : List Word) (names : AreNames splits workers) where
-  fit-worker_prices : (k : Known) (started priced : List Word) (amounts : List ℕ) → IsBegun k
+  fit-worker_prices : (k : Known) → AreSpelled k.version splits workers → (started priced : List Word)
+      (amounts : List ℕ) → IsBegun k
       → HasNames k.rows splits workers started priced → length amounts ≡ length workers
       → All (λ a. a < 2 ^ 64) amounts → AreNew priced workers → All (Contains priced) splits
       → AreFitLines k (map price_text (zip workers amounts) ++ codes "end" ∷ [])
       (map price_said (zip workers amounts) ++ said End [] ∷ [])
-  fit-worker_prices k started priced amounts begun h count small new split_prices =
+  fit-worker_prices k spelled started priced amounts begun h count small new split_prices =
       let ps = zip workers amounts in
       let more = map (λ p. p.0) ps in
       let known : All (λ x. Contains splits x ⊎ Contains workers x) workers =
@@ -197,11 +203,12 @@ module _ (splits workers : List Word) (names : AreNames splits workers) where
       (price_each priced workers amounts count) in
       fit-append k (map price_text ps) (codes "end" ∷ []) (map price_said ps) (said End [] ∷ [])
       (fit-prices k splits workers started priced ps begun h
-      (are_prices splits workers priced workers amounts known names.workers_named new small))
+      (are_prices k.version splits workers priced workers amounts known spelled.worker_names new small))
       (subst (λ j. AreFitLines j (codes "end" ∷ []) (said End [] ∷ [])) (sym (after-prices k ps begun))
       (fit-end last (begun-rows k (map price_said ps) begun) all, tt))
 
-  fit-all_prices : (k : Known) (started : List Word) (prices : PriceList) → IsBegun k
+  fit-all_prices : (k : Known) → AreSpelled k.version splits workers → (started : List Word)
+      (prices : PriceList) → IsBegun k
       → HasNames k.rows splits workers started [] → length prices.splits ≡ length splits
       → length prices.workers ≡ length workers → All (λ a. a < 2 ^ 64) prices.splits
       → All (λ a. a < 2 ^ 64) prices.workers
@@ -210,7 +217,7 @@ module _ (splits workers : List Word) (names : AreNames splits workers) where
       ++ (map price_text (zip workers prices.workers) ++ codes "end" ∷ []))
       (map price_said (zip splits prices.splits)
       ++ (map price_said (zip workers prices.workers) ++ said End [] ∷ []))
-  fit-all_prices k started prices begun h count more_count small more_small =
+  fit-all_prices k spelled started prices begun h count more_count small more_small =
       let ps = zip splits prices.splits in
       let qs = zip workers prices.workers in
       let priced = map (λ p. p.0) ps in
@@ -226,16 +233,17 @@ module _ (splits workers : List Word) (names : AreNames splits workers) where
       fit-append k (map price_text ps) (map price_text qs ++ codes "end" ∷ []) (map price_said ps)
       (map price_said qs ++ said End [] ∷ [])
       (fit-prices k splits workers started [] ps begun h
-      (are_prices splits workers [] splits prices.splits known names.splits_named new small))
+      (are_prices k.version splits workers [] splits prices.splits known spelled.split_names new small))
       (subst (λ j. AreFitLines j (map price_text qs ++ codes "end" ∷ [])
       (map price_said qs ++ said End [] ∷ []))
       (sym (after-prices k ps begun))
-      (fit-worker_prices (with_rows k (map price_said ps)) started priced prices.workers
+      (fit-worker_prices (with_rows k (map price_said ps)) spelled started priced prices.workers
       (begun-rows k (map price_said ps) begun)
       (names-prices k.rows splits workers started [] ps h) more_count more_small
       later (price_each [] splits prices.splits count)))
 
-  pub fit-plan_part : (j : Known) (starts : List (Option ℕ)) (prices : PriceList) → j.purpose ≡ Checking
+  pub fit-plan_part : (j : Known) → AreSpelled j.version splits workers → (starts : List (Option ℕ))
+      (prices : PriceList) → j.purpose ≡ Checking
       → j.section ≡ Head → (HasRow j.rows Plan [] → ⊥) → HasNames j.rows splits workers [] []
       → IsWritable splits workers starts prices
       → AreFitLines j
@@ -243,7 +251,7 @@ module _ (splits workers : List Word) (names : AreNames splits workers) where
       (zip workers prices.workers))
       (plan_said (start_pairs workers splits starts) (zip splits prices.splits)
       (zip workers prices.workers))
-  fit-plan_part j starts prices checking in_head once h plan =
+  fit-plan_part j spelled starts prices checking in_head once h plan =
       let k = entered j (said Plan []) in
       let ss = start_pairs workers splits starts in
       let ps = zip splits prices.splits in
@@ -255,11 +263,11 @@ module _ (splits workers : List Word) (names : AreNames splits workers) where
         fit-append k (map start_text ss) (map price_text ps ++ (map price_text qs ++ codes "end" ∷ []))
             (map start_said ss) (map price_said ps ++ (map price_said qs ++ said End [] ∷ []))
             (fit-starts k splits workers [] [] ss begun named
-            (are_starts splits workers [] splits starts (All-contains_itself splits) names.splits_named
-            names.workers_named (new-none [] splits refl names.splits_differ) plan.of_workers))
+            (are_starts k.version splits workers [] splits starts (All-contains_itself splits) spelled.split_names
+            spelled.worker_names (new-none [] splits refl names.splits_differ) plan.of_workers))
             (subst (λ i. AreFitLines i (map price_text ps ++ (map price_text qs ++ codes "end" ∷ []))
             (map price_said ps ++ (map price_said qs ++ said End [] ∷ []))) (sym (after-starts k ss begun))
-            (fit-all_prices (with_rows k (map start_said ss)) (map (λ p. p.0) ss) prices
+            (fit-all_prices (with_rows k (map start_said ss)) spelled (map (λ p. p.0) ss) prices
             (begun-rows k (map start_said ss) begun) (names-starts k.rows splits workers [] [] ss named)
             plan.split_prices plan.worker_prices plan.split_amounts plan.worker_amounts)),
       )

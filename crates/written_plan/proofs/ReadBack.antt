@@ -13,14 +13,17 @@ use Rattle.line_rules.specs.Texts.{longest}
 use Rattle.line_rules.specs.declared.purpose.Purpose.TheVariants.{Checking, Planning}
 use Rattle.line_rules.specs.declared.section.Section.{Section}
 use Rattle.line_rules.specs.declared.section.Section.TheVariants.{First, Head, Body, Ended}
-use Rattle.line_rules.proofs.FitLines.{known_after, names_after}
+use Rattle.line_rules.proofs.FitLines.{known_after, names_after, sound_after}
+use Rattle.std.proofs.lemmas.List.Elements.{All-nil}
+use Rattle.line_rules.specs.Entered.{AreSound}
 use Rattle.plan_text.specs.Names.{names_in, names_of, rows_in}
 use Rattle.plan_text.specs.Report.{lines_of_plan}
 use Rattle.plan_text.specs.Tidy.{AreTidy}
 use Rattle.plan_text.specs.Value.{MakesWave, prices_in, declared_starts}
 use Rattle.plan_text.proofs.Tidy.{tidy-rows}
 use Rattle.written_plan.specs.Joined.{IsWritable, ReadsBack, WrittenPlanReadsBack, with_plan}
-use Rattle.written_plan.proofs.Declared.{head_names, prices-read_back, same_wave, starts-back}
+use Rattle.written_plan.proofs.Declared.{head_names, head_spelled, prices-read_back, same_wave}
+use Rattle.written_plan.proofs.Declared.{starts-back}
 use Rattle.written_plan.proofs.Entered.{HasNames}
 use Rattle.written_plan.proofs.FitText.{fit-append, reads_fit}
 use Rattle.written_plan.proofs.Heads.{AreApart, IsBare, IsHeadAndEnd, apart-none, bare-none, fit-printable}
@@ -28,7 +31,7 @@ use Rattle.written_plan.proofs.Heads.{head_and_end}
 use Rattle.written_plan.proofs.Joins.{all_lines, last_line, text-with_plan}
 use Rattle.written_plan.proofs.Lines.{joined, lines_of-joined, text-joined}
 use Rattle.written_plan.proofs.Pairs.{price_said, start_pairs, start_said}
-use Rattle.written_plan.proofs.PlanPart.{AreNames, fit-plan_part, not_entered, plan_rows, plan_said}
+use Rattle.written_plan.proofs.PlanPart.{AreNames, AreSpelled, fit-plan_part, not_entered, plan_rows, plan_said}
 use Rattle.written_plan.proofs.PlanPart.{plan_texts, rows-end, rows-plan}
 use Rattle.written_plan.proofs.Words.{said}
 
@@ -81,6 +84,11 @@ joined-reads_back text ss wave starts prices lines h makes plan short =
     let bare : IsBare rows = subst (λ (k : Known). IsBare k.rows) after h.bare in
     let names : AreNames splits workers =
     head_names rows tidy (subst (λ (k : Known). AreApart k.rows) after h.apart) in
+    let j : Known = known_at Checking h.head in
+    let sound : AreSound j.version rows =
+    subst (λ (k : Known). AreSound k.version k.rows) (known_after Checking h.head)
+    (sound_after first h.lines h.head h.fit (record { sound = All-nil _; none = λ _. refl })).sound in
+    let spelled : AreSpelled j.version splits workers = head_spelled j.version rows tidy sound in
     let named : HasNames rows splits workers [] [] = record {
       splits_are = refl;
       workers_are = refl;
@@ -96,7 +104,7 @@ joined-reads_back text ss wave starts prices lines h makes plan short =
     fit-append first h.lines (plan_texts a b c) h.head (plan_said a b c) h.fit
     (subst (λ (k : Known). AreFitLines k (plan_texts a b c) (plan_said a b c))
     (sym (known_after Checking h.head))
-    (fit-plan_part splits workers names (known_at Checking h.head) starts prices refl in_head
+    (fit-plan_part splits workers names j spelled starts prices refl in_head
     (not_entered Plan refl [] h.head) named plan)) in
     let new_lines : lines_of new_text ≡ written ++ [] ∷ [] =
     ap lines_of joins ∙ lines_of-joined written (fit-printable first written all fit) in

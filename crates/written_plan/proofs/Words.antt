@@ -8,8 +8,8 @@ use Rattle.std.proofs.lemmas.Fmt.{decimal_digit, decimal_nonempty, digits_decima
 use Rattle.std.proofs.lemmas.Fmt.{first_decimal}
 use Rattle.std.proofs.lemmas.List.Elements.{All-append, All-cons, All-from_recursion, All-head, All-nil}
 use Rattle.std.proofs.lemmas.List.Elements.{All-tail, All-weaker}
-use Rattle.text_lines.specs.Texts.{IsDigit, IsName, IsNameByte, IsNumber, IsPrintable, Line, Word, number_of}
-use Rattle.text_lines.specs.Texts.{words_of}
+use Rattle.text_lines.specs.Texts.{IsDigit, IsLongName, IsLongNameByte, IsNumber, IsPrintable, Line, Word}
+use Rattle.text_lines.specs.Texts.{number_of, words_of}
 use Rattle.text_lines.proofs.Numerals.{numerals}
 use Rattle.line_shapes.specs.Demands.{Meet, MeetsDemand}
 use Rattle.line_shapes.specs.Keywords.{spelling_of}
@@ -22,11 +22,11 @@ use Rattle.written_plan.proofs.Lines.{IsPlain, spaced, words_of-spaced}
 
 -- ---- names and numbers
 
-plain_byte : (b : ℕ) → IsNameByte b → IsPlain b
+plain_byte : (b : ℕ) → IsLongNameByte b → IsPlain b
 plain_byte b h = (grind arith, grind arith)
 
-pub plain-name : (w : Word) → IsName w → All IsPlain w
-plain-name w h = All-weaker IsNameByte IsPlain plain_byte w h.3
+pub plain-name : (w : Word) → IsLongName w → All IsPlain w
+plain-name w h = All-weaker IsLongNameByte IsPlain plain_byte w h.2
 
 lone_zero : (n : ℕ) → n < 2 ^ 64 → get_or (decimal n) 0 0 ≡ 48 → length (decimal n) ≡ 1
 lone_zero n small zero_first = grind (arith, cases_lt, first_decimal, decimal_digit)
@@ -101,13 +101,13 @@ made_of_two k a b cut few first p q s t =
     (All-cons (All IsPlain) b [] q (All-nil (All IsPlain)))))
     few (both_of (λ i v. MeetsDemand Shape (place_at k i) v) a b s t)
 
-pub made-start : (split worker : Word) → IsName split → IsName worker → IsMade Start (split ∷ worker ∷ [])
+pub made-start : (split worker : Word) → IsLongName split → IsLongName worker → IsMade Start (split ∷ worker ∷ [])
 made-start split worker s w =
     made_of_two Start split worker (λ line. refl) (omega arith)
     (All-from_recursion IsPlain (codes "start") (search rules)) (plain-name split s) (plain-name worker w)
     s.0 w.0
 
-pub made-price : (name : Word) (amount : ℕ) → IsName name → amount < 2 ^ 64
+pub made-price : (name : Word) (amount : ℕ) → IsLongName name → amount < 2 ^ 64
     → IsMade Price (name ∷ decimal amount ∷ [])
 made-price name amount n small =
     made_of_two Price name (decimal amount) (λ line. refl) (omega arith)

@@ -10,7 +10,7 @@ use borrow.Author.Count.{below_more}
 pub loop-i-preserved : goal.loop-i-preserved
 loop-i-preserved c k d lt =
     let words = c.args.words.now in
-    let Fits = IsFitIn c.args.rows.now in
+    let Fits = IsFitIn c.args.version c.args.rows.now in
     let i = c.loop-i.i in
     let place = c.place_among.ensures
     ∙ (λ j. or_more (slice_get (c.places-places.ensures j) i) (c.more-more.ensures j)) in
@@ -23,5 +23,5 @@ loop-i-preserved c k d lt =
 
 pub returns : goal.returns
 returns c t =
-    of_words (λ i w. IsFitIn c.args.rows.now (place_at c.args.keyword i) w) c.args.words.now
+    of_words (λ i w. IsFitIn c.args.version c.args.rows.now (place_at c.args.keyword i) w) c.args.words.now
     (λ i d lt. c.loop-i.invariant i d (omega (arith, lt, c.loop-i-test.false)))

@@ -6,4 +6,4 @@ use Rattle.line_rules.proofs.fit.are_fit.Given as goal
 
 abbrev pub invariant-loop-i : goal.invariant-loop-i
 invariant-loop-i l = (k : ℕ) (d : Bor (List ℕ)) → k < l.i
-    → IsFitIn l.rows (place_at l.fn.keyword k) (slice_index_or l.words k d).now
+    → IsFitIn l.version l.rows (place_at l.fn.keyword k) (slice_index_or l.words k d).now

@@ -26,10 +26,12 @@ returns c =
     let whole : words_after word c.args.rest ≡ ws ++ vs = all in
     let no_text : more_of word ≡ Some Text → ⊥ = λ text.
     none-some _ (sym (c.in_ok-left.ensures.text text) ∙ c.in-Some.is) in
-    let of_place = subst (λ place. IsUsed place → IsWorst c.rows.result.now place vs v) c.more.ensures
-    c.worst_word.ensures.worst in
-    let worst : IsUsed (more_of word) → IsWorst k.rows (more_of word) vs v =
-    subst (λ rows. IsUsed (more_of word) → IsWorst rows (more_of word) vs v) c.rows.ensures of_place in
+    let of_place = subst (λ place. IsUsed place → IsWorst c.version.result c.rows.result.now place vs v)
+    c.more.ensures c.worst_word.ensures.worst in
+    let of_version = subst (λ version. IsUsed (more_of word) → IsWorst version c.rows.result.now (more_of word) vs v)
+    c.version.ensures of_place in
+    let worst : IsUsed (more_of word) → IsWorst k.version k.rows (more_of word) vs v =
+    subst (λ rows. IsUsed (more_of word) → IsWorst k.version rows (more_of word) vs v) c.rows.ensures of_version in
     let found : StandsFor k word (ws ++ v ∷ []) (ws ++ vs) =
     stands k word ws vs v most c.worst_word.ensures.one no_text worst in
     subst (λ short. StandsFor k word short (words_after word c.args.rest)) (sym short)

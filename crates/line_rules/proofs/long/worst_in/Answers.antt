@@ -7,6 +7,7 @@ use Rattle.line_rules.proofs.long.worst_in.Goals.{then-has-least, else-has-least
 pub loop-least-preserved : goal.loop-least-preserved
 loop-least-preserved c =
     let rows = c.args.rows.now in
+    let version = c.args.version in
     let place = c.args.place in
     let all = words_of c.args.left.now in
     let left = words_of c.in-Some.after.now in
@@ -14,28 +15,28 @@ loop-least-preserved c =
     let worst = c.loop-least.worst.now in
     let follows = rw c.in-Some.is at c.split_word.ensures.words in
     let from = words_of c.loop-least.rest.now in
-    let before : IsWorstBefore rows place all from worst c.loop-least.least = record {
+    let before : IsWorstBefore version rows place all from worst c.loop-least.least = record {
       some = c.loop-least.invariant.some;
       one = c.loop-least.invariant.one;
       most = c.loop-least.invariant.most;
       others = c.loop-least.invariant.others;
     } in
-    let here : IsWorstBefore rows place all (word ∷ left) worst c.loop-least.least =
-    subst (λ ws. IsWorstBefore rows place all ws worst c.loop-least.least) follows.0 before in
+    let here : IsWorstBefore version rows place all (word ∷ left) worst c.loop-least.least =
+    subst (λ ws. IsWorstBefore version rows place all ws worst c.loop-least.least) follows.0 before in
     let less = c.has_first-has.ensures.less in
     let enough = c.has_first-has.ensures.enough in
-    let after : IsWorstBefore rows place all left c.if-has-least.worst.now c.if-has-least.least =
+    let after : IsWorstBefore version rows place all left c.if-has-least.worst.now c.if-has-least.least =
     elim c.if-has-least.branch [
       | then-has-least w ↦
-          subst (λ (b : Bor (List ℕ)). IsWorstBefore rows place all left b.now c.if-has-least.least)
+          subst (λ (b : Bor (List ℕ)). IsWorstBefore version rows place all left b.now c.if-has-least.least)
           (sym w.worst-is)
-          (subst (IsWorstBefore rows place all left word) (sym w.least-is)
-          (worse_word rows place all left word worst _ _ here less enough w.if-has-least.true))
+          (subst (IsWorstBefore version rows place all left word) (sym w.least-is)
+          (worse_word version rows place all left word worst _ _ here less enough w.if-has-least.true))
       | else-has-least w ↦
-          subst (λ (b : Bor (List ℕ)). IsWorstBefore rows place all left b.now c.if-has-least.least)
+          subst (λ (b : Bor (List ℕ)). IsWorstBefore version rows place all left b.now c.if-has-least.least)
           (sym w.worst-is)
-          (subst (IsWorstBefore rows place all left worst) (sym w.least-is)
-          (better_word rows place all left word worst _ _ here less enough w.if-has-least.false))
+          (subst (IsWorstBefore version rows place all left worst) (sym w.least-is)
+          (better_word version rows place all left word worst _ _ here less enough w.if-has-least.false))
     ] in
     record {
       some = after.some;

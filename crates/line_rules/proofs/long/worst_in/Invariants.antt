@@ -12,9 +12,9 @@ abbrev pub invariant-loop-least : goal.invariant-loop-least
 invariant-loop-least l = record {
   some : (w : Word) → Contains (words_of l.rest) w → Contains (words_of l.left) w;
   one : l.least ≤ 3 → Contains (words_of l.left) l.worst;
-  most : (n : ℕ) → n ≤ 3 → HasFirst n l.rows l.place l.worst → n ≤ l.least;
-  others : (n : ℕ) → n ≤ 3 → n ≤ l.least → All (HasFirst n l.rows l.place) (words_of l.rest)
-      → All (HasFirst n l.rows l.place) (words_of l.left);
+  most : (n : ℕ) → n ≤ 3 → HasFirst n l.version l.rows l.place l.worst → n ≤ l.least;
+  others : (n : ℕ) → n ≤ 3 → n ≤ l.least → All (HasFirst n l.version l.rows l.place) (words_of l.rest)
+      → All (HasFirst n l.version l.rows l.place) (words_of l.left);
   rest_text : shadow (Utf8 l.rest);
   worst_text : shadow (Utf8 l.worst);
 }

@@ -1,10 +1,11 @@
-use Rattle.std.proofs.Common.{List, subst}
+use Rattle.std.proofs.Common.{List, subst, sym}
 use Rattle.line_shapes.specs.Lines.{Statement, statement_of}
 use Rattle.line_rules.specs.Faults.{IsFirst, IsFirstOfHead, Keep}
 use Rattle.line_rules.specs.Known.{Known}
 use Rattle.line_rules.specs.declared.rule.Rule.TheVariants.{Free}
 use Rattle.line_rules.specs.declared.section.Section.{Section}
 use Rattle.line_rules.specs.declared.section.Section.TheVariants.{Head}
+use Rattle.line_rules.proofs.Sound.{fit_keeps}
 use Rattle.line_rules.proofs.known.KnownLines.is_new.Goals as goal
 
 first_of_head : (after : Section) (rows : List Statement) (s : Statement) → IsFirst rows s
@@ -25,3 +26,9 @@ returns-then-is_entered_by_new_name c =
       },
       λ new. entered,
     )
+
+pub keeps-requires : goal.keeps-requires
+keeps-requires c fit =
+    let line = statement_of c.args.line.now in
+    subst (λ (k : Known). Keep Free k.rows line) (sym c.self.view_is)
+    (fit_keeps Free _ _ line (c.requires.fit fit))
