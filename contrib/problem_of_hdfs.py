@@ -8,7 +8,10 @@ is in `/default-rack`. A node that only the listing has is a worker without slot
 
 Where each rack's path has two parts or more, as `/west/r1`, the first is its data centre and the rest its rack: so the
 distances are those of Hadoop, which counts two steps a level. Where a rack has one part, none has a centre, which is
-told, or refused with --centres; --no-centres asks for no centres.
+told, or refused with --centres; --no-centres asks for no centres. Racks without a centre stand in one, `site`.
+
+The problem is of version 3: blocks have their own sizes, and blocks, hosts and racks their own names. A byte that no
+name has is a `-` there, and names that come out the same get numbers.
 
     contrib/problem_of_hdfs.py --slots contrib/samples/slots.txt contrib/samples/hdfs_3_racks.txt
 
@@ -23,7 +26,7 @@ from collections import Counter
 from typing import Dict, Iterable, Iterator, List, NamedTuple, Optional, Tuple
 
 MOST = {"centre": 8, "rack": 32, "worker": 256, "split": 1024}
-MOST_BYTES, MOST_HOLDERS, MOST_SLOTS = 67_108_864, 8, 16
+MOST_BYTES, MOST_HOLDERS, MOST_SLOTS = 8_589_934_592, 8, 16
 DEFAULT_RACK = "/default-rack"
 
 FILE = re.compile(r"(?P<file>/.*) [0-9]+ bytes, (?P<sort>\S+: \S+, )?[0-9]+ block\(s\)[:,]")
@@ -153,12 +156,11 @@ class Names:
     def of(self, kind: str, thing: str) -> str:
         """The name of a thing, after its first word."""
         if (kind, thing) not in self.given:
-            word = re.sub(r"[^A-Za-z0-9._-]", "-", thing.split(" ")[0].strip("/")) or kind
-            word = (word if word[0].isalpha() else f"{kind[0]}{word}")[:32]
+            word = re.sub(r"[^A-Za-z0-9._:/-]", "-", thing.split(" ")[0])[:64] or kind
             name, number = word, 1
             while name in self.taken:
                 number += 1
-                name = f"{word[:31 - len(str(number))]}-{number}"
+                name = f"{word[:63 - len(str(number))]}-{number}"
             self.taken.add(name)
             self.given[kind, thing] = name
         return self.given[kind, thing]
@@ -232,12 +234,12 @@ def cluster_of(listing: Listing, slots: Dict[str, int], racks: Dict[str, str], a
 
 def problem_lines(cluster: Cluster, unit: int, names: Names) -> Iterator[str]:
     """The lines of a problem, sizes in units."""
-    yield "problem 2" if cluster.centre_of else "problem 1"
-    for centre in dict.fromkeys(cluster.centre_of.values()):
+    yield "problem 3"
+    centre_of = cluster.centre_of or dict.fromkeys(cluster.rack_of.values(), "site")
+    for centre in dict.fromkeys(centre_of.values()):
         yield f"centre {names.of('centre', centre)}"
     for rack in dict.fromkeys(cluster.rack_of.values()):
-        above = [names.of("centre", cluster.centre_of[rack])] if cluster.centre_of else []
-        yield " ".join(["rack", names.of("rack", rack), *above])
+        yield f"rack {names.of('rack', rack)} {names.of('centre', centre_of[rack])}"
     for node, number in cluster.slots.items():
         yield f"worker {names.of('node', node)} {names.of('rack', cluster.rack_of[node])} {min(number, MOST_SLOTS)}"
     for block in cluster.blocks:

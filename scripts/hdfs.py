@@ -25,8 +25,7 @@ CASES = {
     "hdfs_2": ([], NODES, "wave 2 1200"),
     "hdfs_3_racks": (
         [],
-        ["1 blocks of erasure-coded files are left out", *BAD, "1 replicas marked CORRUPT are left out", *OTHER,
-         "sizes are in units of 2 bytes, rounded up: so is the cost of a plan"],
+        ["1 blocks of erasure-coded files are left out", *BAD, "1 replicas marked CORRUPT are left out", *OTHER],
         "wave 3 0",
     ),
     "hdfs_3": (
@@ -110,7 +109,7 @@ def slots_refused(count):
             count.holds(f"of slots {text[:20]}", is_so, (said, told, status))
         slots.write_text("# the free slots\n10.0.0.0 3 # of a small one\n\n")
         said, told, status = problem(listing_of(1, 1), slots=slots)
-        is_so = "worker n10.0.0.0 c-r0 3\n" in said and (told, status) == ([], 0)
+        is_so = "worker 10.0.0.0 /c/r0 3\n" in said and (told, status) == ([], 0)
         count.holds("comments of slots", is_so, (said, told))
     said, told, status = problem(listing_of(1, 1), slots=Path("/nowhere/slots"))
     count.holds("no file of slots", (said, status, len(told)) == ("", 1, 1), (said, told))
@@ -120,7 +119,7 @@ REPLICAS = "DatanodeInfoWithStorage[10.0.1.21:9866,DS-1,DISK]{}, DatanodeInfoWit
 OPEN = "{{blockUCState={}, primaryNodeIndex=-1, replicas=[ReplicaUC[[DISK]DS-1:NORMAL:10.0.1.21:50010|RBW]]}}"
 WRITTEN, FORM = "1 blocks that are still written", "1 lines of blocks that are in no form of fsck"
 MORE, CORRUPT = "1 blocks list more replicas than live ones", "1 replicas marked CORRUPT"
-BOTH = "n10.0.1.21 n10.0.2.31"
+BOTH = "10.0.1.21 10.0.2.31"
 # Lines of a block, what is told of them, and the holders in the problem, or None where the block is left out.
 LINES = [
     (f"{OPEN.format('UNDER_CONSTRUCTION')} len=9 repl=1 [10.0.1.21:50010]", WRITTEN, None),
@@ -129,7 +128,7 @@ LINES = [
     (" len=9 Expected_repl=1 [10.0.1.21:9866]", WRITTEN, None),
     (" size=9 [10.0.1.21:9866]", FORM, None),
     (f" len={'9' * 5000} repl=1 [10.0.1.21:9866]", FORM, None),
-    (f" len=9 Live_repl=1 [{REPLICAS.format('(ud=a)(CORRUPT)', '(ud=b)(LIVE)')}]", CORRUPT, "n10.0.2.31"),
+    (f" len=9 Live_repl=1 [{REPLICAS.format('(ud=a)(CORRUPT)', '(ud=b)(LIVE)')}]", CORRUPT, "10.0.2.31"),
     (f" len=9 Live_repl=2 [{REPLICAS.format('(ud=CORRUPT)', '(ud=)')}]", "", BOTH),
     (f" len=9 Live_repl=1 [{REPLICAS.format('', '')}]", f"{MORE}, and -replicaDetails tells which; all are kept", BOTH),
     (f" len=9 Live_repl=1 [{REPLICAS.format('(DECOMMISSIONED)', '(LIVE)')}]",
@@ -150,7 +149,7 @@ def of_blocks(count):
         is_so = status == 0 and found == ([] if holders is None else [holders])
         told = [it for it in told if it not in NODES]
         is_told = [it for it in told if says in it] if says else not told
-        count.holds(line[:90], is_so and is_told and "split blk_8 5 n10.0.1.22\n" in said, (said, told))
+        count.holds(line[:90], is_so and is_told and "split blk_8 5 10.0.1.22\n" in said, (said, told))
 
 
 def levels(count):
@@ -159,14 +158,26 @@ def levels(count):
         slots = Path(room) / "slots"
         slots.write_text("a 1 /east/r1\nb 1 /west/r1\nc 1 /west/hall/r1\n")
         said, told, _ = problem(listing_of(1, 1), slots=slots)
-        racks = "rack east-r1 east\nrack west-r1 west\nrack west-hall-r1 west\nrack c-r0 c\n"
-        is_so = said.startswith("problem 2\ncentre east\ncentre west\ncentre c\n" + racks)
+        racks = "rack /east/r1 east\nrack /west/r1 west\nrack /west/hall/r1 west\nrack /c/r0 c\n"
+        is_so = said.startswith("problem 3\ncentre east\ncentre west\ncentre c\n" + racks)
         count.holds("racks of two and three levels", is_so and told[0].startswith("1 nodes that only"), said)
         deep = ["1 racks have more than two levels, and stand two steps below their first"]
         count.holds("three levels are told", told[1:] == deep, told)
         said, told, _ = problem(listing_of(1, 1), "--no-centres", slots=slots)
-        is_so = said.startswith("problem 1\nrack east-r1\nrack west-r1\nrack west-hall-r1\nrack c-r0\n")
+        racks = "rack /east/r1 site\nrack /west/r1 site\nrack /west/hall/r1 site\nrack /c/r0 site\n"
+        is_so = said.startswith("problem 3\ncentre site\n" + racks)
         count.holds("--no-centres", is_so and len(told) == 1, (said, told))
+
+
+def sizes(count):
+    """Blocks have their own sizes, up to the most bytes of a split."""
+    said, told, _ = problem(listing_of(1, 1, size=134_217_728, rack="/r{}"))
+    is_so = "\nsplit blk_1 134217728 10.0.0.0\n" in said and "\nrack /r0 site\n" in said
+    count.holds("a block of 128 MiB", is_so and "units" not in told[-1], (said, told))
+    said, told, _ = problem(listing_of(1, 1, size=8_589_934_593))
+    unit = "sizes are in units of 2 bytes, rounded up: so is the cost of a plan"
+    is_so = "\nsplit blk_1 4294967297 10.0.0.0\n" in said and told[-1] == unit
+    count.holds("a block of more than 8 GiB", is_so, (said, told))
 
 
 def any_bytes(count):
@@ -201,16 +212,16 @@ def parts(count):
     """A part of a listing makes a problem; names that fit no format are made fit."""
     said, told, status = problem(listing_of(1025, 2), "--skip", "1", "--take", "2")
     lines = [line for line in said.splitlines() if line.startswith("split")]
-    wanted = ["split blk_2 5 n10.0.0.1", "split blk_3 5 n10.0.0.0"]
+    wanted = ["split blk_2 5 10.0.0.1", "split blk_3 5 10.0.0.0"]
     is_so = (lines, status) == (wanted, 0) and told[0].startswith("1023 blocks")
     count.holds("--skip and --take", is_so, (lines, told))
     with tempfile.TemporaryDirectory() as room:
         slots, names = Path(room) / "slots", Path(room) / "names"
-        slots.write_text("node:one 17 a/b\nnode_one 1 a-b\n")
+        slots.write_text("node=one 17 a+b\nnode_one 1 a=b\n")
         said, told, _ = problem(listing_of(1, 1), "--names", str(names), slots=slots)
-        count.holds("racks that would be called alike", "rack a-b\nrack a-b-2\n" in said, said)
-        count.holds("more slots than a worker may have", "worker node-one a-b 16" in said and "17" not in said, said)
-        count.holds("what names stand for", "node-one node node:one\n" in names.read_text(), names.read_text())
+        count.holds("racks that would be called alike", "rack /a-b site\nrack /a-b-2 site\n" in said, said)
+        count.holds("more slots than a worker may have", "worker node-one /a-b 16" in said and "17" not in said, said)
+        count.holds("what names stand for", "node-one node node=one\n" in names.read_text(), names.read_text())
 
 
 def main():
@@ -220,6 +231,7 @@ def main():
     slots_refused(count)
     of_blocks(count)
     levels(count)
+    sizes(count)
     parts(count)
     any_bytes(count)
     print(f"{count.passed} passed, {count.failed} failed")

@@ -52,19 +52,19 @@ def problem(*words, info=None):
     return ran.stdout.decode(), ran.stderr.decode().splitlines(), ran.returncode
 
 
-WANTED = """problem 2
+WANTED = """problem 3
 centre north
 centre south
-rack north-r1 north
-rack north-r2 north
-rack south-r3 south
-worker n10.77.0.11 north-r1 1
-worker n10.77.0.13 north-r2 1
-worker n10.77.0.14 south-r3 1
-split chunk_0000000000000001 67108864 n10.77.0.11 n10.77.0.13
-split chunk_0000000000000004 1000 n10.77.0.14
+rack /north/r1 north
+rack /north/r2 north
+rack /south/r3 south
+worker 10.77.0.11 /north/r1 1
+worker 10.77.0.13 /north/r2 1
+worker 10.77.0.14 /south/r3 1
+split chunk_0000000000000001 67108864 10.77.0.11 10.77.0.13
+split chunk_0000000000000004 1000 10.77.0.14
 split chunk_0000000000000002 67108864
-split chunk_0000000000000005 7 n10.77.0.11
+split chunk_0000000000000005 7 10.77.0.11
 end
 """
 TOLD = [
@@ -89,8 +89,9 @@ def samples(count, room):
     said = problem(*words, info)
     count.holds("the sample's problem", said == (WANTED, TOLD, 0), said)
     said = problem(*words, "--no-centres", "--take", "1", "--slots", "3", info=info.read_bytes())
-    count.holds("without centres", said[0].startswith("problem 1\nrack north-r1\nrack north-r2\nrack south-r3\n"), said)
-    count.holds("slots of all", "worker n10.77.0.11 north-r1 3\n" in said[0], said)
+    racks = "rack /north/r1 site\nrack /north/r2 site\nrack /south/r3 site\n"
+    count.holds("without centres", said[0].startswith("problem 3\ncentre site\n" + racks), said)
+    count.holds("slots of all", "worker 10.77.0.11 /north/r1 3\n" in said[0], said)
     slots.write_text("# of one\n10.77.0.13 2\n")
     said = problem(*words, "--slots", slots, info)
     count.holds("slots of a file", re.findall("^worker.* (.*)$", said[0], re.M) == ["0", "2", "0"], said)
@@ -191,7 +192,7 @@ class FileSystem:
         found = {}
         for number, server in self.servers.items():
             for path in (self.room / f"disk{number}").rglob("chunk_*.mfs") if server.poll() is None else ():
-                found.setdefault(path.name[6:22], set()).add(f"n{SERVERS[number]}")
+                found.setdefault(path.name[6:22], set()).add(SERVERS[number])
         return found
 
 
@@ -244,8 +245,7 @@ def inside(room, program):
         count.holds("each chunk has its bytes", sorted(int(it[2]) for it in splits.values()) == sizes, splits)
         count.holds("each chunk is held twice", {len(it) for it in splits.values()} == {5}, splits)
         racks = {it[1:] for it in re.findall("(?m)^(worker) (\\S+) (\\S+) 3$", text)}
-        wanted = {(f"n{host}", rack) for host, rack in zip(SERVERS.values(), (
-            "north-r1", "north-r1", "north-r2", "south-r3"))}
+        wanted = {*zip(SERVERS.values(), ("/north/r1", "/north/r1", "/north/r2", "/south/r3"))}
         count.holds("the servers are in their racks", racks == wanted, racks)
         count.holds("holes and the empty file are told", told == ["2 chunks have no data, and are left out",
                                                                   "1 files have no chunks"], told)
