@@ -25,7 +25,7 @@ add_up() { # COMMAND STATUS LOG
     fi
     failed=$((failed + bad))
     if [ "$bad" != 0 ]; then
-        failures+="== $1: $bad failed"$'\n'"$(grep -A 4 -E 'FAIL|REFUSED|panicked|(^|[^a-z0-9])failed|error' "$3" | tail -n 40)"$'\n'
+        failures+="== $1: $bad failed"$'\n'"$(grep -v ': refused' "$3" | grep -A 4 -E 'FAIL|REFUSED|panicked|(^|[^a-z0-9])failed|error' | tail -n 40)"$'\n'
     fi
 }
 

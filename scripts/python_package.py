@@ -90,8 +90,8 @@ UNFIT_WAVES = [
     ({"workers": [(0, 256, 1)]}, Status.BAD_WORKERS, "worker 0: 256 free slots, at most 16"),
     ({"workers": [(0, -1, 1)]}, Status.BAD_WORKERS, "worker 0: -1 free slots, at least 0"),
     ({"splits": [(0, 0, 0, 0)] * 1025}, Status.BAD_SPLITS, "1,025 splits, at most 1,024"),
-    ({"splits": [(2**26 + 1, 0, 1, 1)]}, Status.BAD_SPLITS, "split 0: 67,108,865 bytes, at most 67,108,864"),
-    ({"splits": [(2**64, 0, 1, 1)]}, Status.BAD_SPLITS, f"split 0: {2**64:,} bytes, at most 67,108,864"),
+    ({"splits": [(2**33 + 1, 0, 1, 1)]}, Status.BAD_SPLITS, "split 0: 8,589,934,593 bytes, at most 8,589,934,592"),
+    ({"splits": [(2**64, 0, 1, 1)]}, Status.BAD_SPLITS, f"split 0: {2**64:,} bytes, at most 8,589,934,592"),
     ({"splits": [(-1, 0, 1, 1)]}, Status.BAD_SPLITS, "split 0: -1 bytes, at least 0"),
     ({"splits": [(10, 0, 9, 1)]}, Status.BAD_SPLITS, "split 0: 9 holders, at most 8"),
     ({"splits": [(10, 0, 2, 1)]}, Status.BAD_SPLITS, "split 0: holders from 0 up to 2, and there are 1"),
@@ -118,8 +118,8 @@ UNFIT_CALLS = [
     (lambda: plan(Cluster({"a": Worker("r")}, {"q": "c"}), {}), Status.BAD_WORKERS, "worker 'a': rack 'r' is no rack"),
     (lambda: plan(Cluster([], ["c"], ["d"]), []), Status.BAD_RACKS, "rack 0: centre 'c' is no data centre"),
     (lambda: plan(Cluster({"a": Worker("r", 17)}), {}), Status.BAD_WORKERS, "worker 'a': 17 free slots, at most 16"),
-    (lambda: plan(CLUSTER, {"blk_7": Split(2**27)}), Status.BAD_SPLITS,
-     "split 'blk_7': 134,217,728 bytes, at most 67,108,864"),
+    (lambda: plan(CLUSTER, {"blk_7": Split(2**34)}), Status.BAD_SPLITS,
+     "split 'blk_7': 17,179,869,184 bytes, at most 8,589,934,592"),
     (lambda: plan(CLUSTER, {"s": Split(1, ["a"] * 9)}), Status.BAD_SPLITS, "split 's': 9 holders, at most 8"),
     (lambda: plan(CLUSTER, {"s": Split(1, ["a", "a"])}), Status.BAD_HOLDERS, "split 's': worker 'a' holds it twice"),
     (lambda: plan(CLUSTER, {"s": Split(1, ["n"])}), Status.BAD_HOLDERS, "split 's': holder 'n' is no worker"),
@@ -259,11 +259,11 @@ def work(size):
 
 def in_pools():
     """What is raised in another process comes back as it is: run alone, since it hung where that could not be."""
-    unfit = Unfit(Status.BAD_SPLITS, "split 's': 67,108,865 bytes, at most 67,108,864")
+    unfit = Unfit(Status.BAD_SPLITS, "split 's': 8,589,934,593 bytes, at most 8,589,934,592")
     with multiprocessing.Pool(2) as pool:
-        pairs = [(refused(lambda: pool.map(work, [1, 2**26 + 1]), Unfit), unfit), (pool.map(work, [7]), [work(7)])]
+        pairs = [(refused(lambda: pool.map(work, [1, 2**33 + 1]), Unfit), unfit), (pool.map(work, [7]), [work(7)])]
     with ProcessPoolExecutor(2) as pool:
-        pairs += [(refused(lambda: [*pool.map(work, [1, 2**26 + 1])], Unfit), unfit)]
+        pairs += [(refused(lambda: [*pool.map(work, [1, 2**33 + 1])], Unfit), unfit)]
         pairs += [([*pool.map(work, [7])], [work(7)])]
     return differences(pairs)
 
