@@ -197,6 +197,13 @@ def unit_of(blocks: List[Block]) -> int:
     return unit
 
 
+def rarest_first(blocks: List[Block]) -> List[Block]:
+    """The blocks, with those in front that are hardest to start on a node of theirs later: of whose nodes even the one
+    with the fewest blocks has many. A planner that takes the first of equal splits then moves less over a job."""
+    load = Counter(node for block in blocks for node in block.nodes)
+    return sorted(blocks, key=lambda block: -min((load[node] for node in block.nodes), default=0))
+
+
 def enough(kind: str, number: int, most: int) -> None:
     if number > most:
         raise Stop(f"there are {number} {kind}s, and a wave has at most {most}")
@@ -258,6 +265,7 @@ def words_of(argv: Optional[List[str]]) -> argparse.Namespace:
     centres.add_argument("--no-centres", dest="centres", action="store_false", help="leave out the data centres")
     parser.add_argument("--skip", type=int, default=0, metavar="N", help="leave out the first N blocks")
     parser.add_argument("--take", type=int, metavar="N", help="take at most N blocks")
+    parser.add_argument("--rarest", action="store_true", help="write first the blocks whose nodes all have many blocks")
     parser.add_argument("--names", metavar="FILE", help="write what each name stands for")
     return parser.parse_args(argv)
 
@@ -284,6 +292,8 @@ def write(asked: argparse.Namespace) -> None:
     source = sys.stdin.fileno() if asked.listing == "-" else asked.listing
     with open(source, encoding="utf-8", errors="replace") as file:
         listing = some_of(read_listing(file), asked.skip, asked.take)
+    if asked.rarest:
+        listing = listing._replace(blocks=rarest_first(listing.blocks))
     cluster, names = cluster_of(listing, slots, racks, asked.centres), Names()
     unit = unit_of(cluster.blocks)
     lines = [f"{line}\n" for line in problem_lines(cluster, unit, names)]

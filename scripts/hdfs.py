@@ -6,6 +6,7 @@
 The problems beside the samples, what is told and the waves were found by hand. The last line is 'N passed, M failed'.
 """
 import random
+import re
 import subprocess
 import sys
 import tempfile
@@ -215,6 +216,10 @@ def parts(count):
     wanted = ["split blk_2 5 10.0.0.1", "split blk_3 5 10.0.0.0"]
     is_so = (lines, status) == (wanted, 0) and told[0].startswith("1023 blocks")
     count.holds("--skip and --take", is_so, (lines, told))
+    alone = "2. BP-1-10.0.0.1-1:blk_3_1 len=5 repl=2 [/c/r0/10.0.0.0:50010, /c/r1/10.0.0.1:50010]\n"
+    said, _, _ = problem(listing_of(2, 2) + alone + alone.replace("blk_3", "blk_4").split(", ")[0] + "]\n", "--rarest")
+    found = re.findall(r"^split (\S+)", said, re.M)
+    count.holds("--rarest", found == ["blk_1", "blk_4", "blk_2", "blk_3"], said)
     with tempfile.TemporaryDirectory() as room:
         slots, names = Path(room) / "slots", Path(room) / "names"
         slots.write_text("node=one 17 a+b\nnode_one 1 a=b\n")

@@ -80,8 +80,8 @@ class Waves:
 
 
 def fit(name: str) -> str:
-    """A name that fits the format, if it begins with a letter."""
-    return re.sub("[^A-Za-z0-9._-]", "-", name)[:32]
+    """A name that fits the format."""
+    return re.sub("[^A-Za-z0-9._:/-]", "-", name)[:64]
 
 
 class Session:
