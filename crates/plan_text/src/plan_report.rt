@@ -83,8 +83,11 @@ fn add_start(
 {
     match start {
         Some(worker) => {
-            let worker = workers.name_or_empty(worker.index());
-            write!(lines, "start {split} {worker}\n")
+            lines.push_str("start ")?;
+            lines.push_str(split)?;
+            lines.push_str(" ")?;
+            lines.push_str(workers.name_or_empty(worker.index()))?;
+            lines.push_str("\n")
         }
         None => Ok(()),
     }
