@@ -65,7 +65,7 @@ const TEXTS: [(Purpose, &str, Option<(u32, u8)>); 20] = [
     (Purpose::Playing, "sweep 1\n", Some((1, 1))),
     (Purpose::Playing, "sweep\n", Some((1, 7))),
     (Purpose::Playing, "job 1\n", Some((1, 7))),
-    (Purpose::Playing, "script 3\n", Some((1, 5))),
+    (Purpose::Playing, "script 4\n", Some((1, 5))),
     (Purpose::Playing, "script 0\n", Some((1, 5))),
     (Purpose::Playing, "script 2\nscript 9\n", Some((2, 7))),
     (
