@@ -3,8 +3,9 @@
 
 Each file is a document, and files by path fill splits of a block's size. Replicas lie as HDFS places them by default:
 the first on a worker, the second in another rack, the third beside the second, more wherever a rack has few. A byte
-outside printable ASCII, a line end too, becomes a space; names are made fit. What was changed or left out is told on
-standard error. Past a limit of the format it says which, and writes nothing.
+outside printable ASCII, a line end too, becomes a space. A document is named by its file's path, in which a byte that
+no name has becomes a `-`. What was changed or left out is told on standard error. Past a limit of the format it says
+which, and writes nothing.
 
     contrib/job_of_files.py contrib/samples/tales | bin/mrjob run
     contrib/job_of_files.py contrib/samples/tales --script --racks 2 --workers 4 | bin/mrjob play
@@ -20,7 +21,7 @@ import sys
 # The most of each setting. A job has a thread for each worker, so fewer of these.
 MOST = {"racks": 32, "workers": 256, "slots": 16, "centres": 8, "replicas": 8, "block": 67_108_864, "parts": 64}
 MOST_WORKERS_OF_A_JOB = 32
-MOST_SPLITS, MOST_DOCUMENTS, MOST_TEXT = 1024, 65_536, 16_777_216
+MOST_SPLITS, MOST_DOCUMENTS, MOST_TEXT, MOST_OF_A_NAME = 1024, 65_536, 16_777_216, 64
 PRINTABLE = bytes(range(32, 127))
 TO_SPACES = bytes(byte if byte in PRINTABLE else 32 for byte in range(256))
 
@@ -61,17 +62,16 @@ class Documents:
         self.taken, self.last = set(taken), {}
 
     def name_of(self, path):
-        """A name for a file that no other has: the end of its path, with `.` between folders."""
-        fit = re.sub(r"[^A-Za-z0-9._-]", "-", path.replace(os.sep, "."))
-        name = fit[-32:] if fit[-32:][0].isalpha() else "d" + fit[-31:]
-        self.cut += len(fit) > 32
+        """A name for a file that no other has: its path, or the end of a long one."""
+        name = re.sub(r"[^A-Za-z0-9._:/-]", "-", path)[-MOST_OF_A_NAME:]
+        self.cut += len(path) > MOST_OF_A_NAME
         if name in self.taken:
             self.numbered += 1
             stem = name
             while name in self.taken:
                 self.last[stem] = self.last.get(stem, 1) + 1
                 mark = f"-{self.last[stem]}"
-                name = stem[: 32 - len(mark)] + mark
+                name = stem[: MOST_OF_A_NAME - len(mark)] + mark
         self.changed += name != path
         self.taken.add(name)
         return name
@@ -120,7 +120,7 @@ class Documents:
         if self.ends or self.others:
             yield f"{self.ends:,} line ends and {self.others:,} other bytes outside printable ASCII became spaces"
         if self.changed:
-            made = f"{self.cut:,} cut to 32 characters and {self.numbered:,} numbered"
+            made = f"{self.cut:,} cut to {MOST_OF_A_NAME} characters and {self.numbered:,} numbered"
             yield f"{self.changed:,} names differ from their file's path, {made}"
         long = sum(len(text) > block for text in self.texts)
         if long:
@@ -138,12 +138,10 @@ class Cluster:
         self.rack_of = [w * racks // workers for w in range(workers)]
 
     def lines(self):
-        """The lines that declare it. One centre has no name in the text."""
-        many = len(self.centres) > 1
-        yield from (f"centre {name}" for name in self.centres if many)
+        """The lines that declare it."""
+        yield from (f"centre {name}" for name in self.centres)
         for r, name in enumerate(self.racks):
-            centre = self.centres[r * len(self.centres) // len(self.racks)]
-            yield f"rack {name} {centre}" if many else f"rack {name}"
+            yield f"rack {name} {self.centres[r * len(self.centres) // len(self.racks)]}"
         for name, rack in zip(self.workers, self.rack_of):
             yield f"worker {name} {self.racks[rack]} {self.slots}"
 
@@ -180,7 +178,7 @@ def commands(splits, parts, slots):
 def text_of(given, cluster, documents, splits):
     """The bytes of the job or script."""
     rnd = random.Random(given.seed)
-    lines = [f"{'script' if given.script else 'job'} {1 if given.centres == 1 else 2}", *cluster.lines()]
+    lines = [f"{'script' if given.script else 'job'} 3", *cluster.lines()]
     lines += [f"parts {given.parts}", f"target {given.replicas}"]
     for number, held in enumerate(splits, 1):
         size = sum(len(documents.texts[it]) for it in held)

@@ -293,6 +293,7 @@ def indexed(count, program, room):
     shutil.copytree(TALES, tales)
     (tales / "south/link.txt").symlink_to("wind.txt")
     (tales / "north/zero\nend\t.bin").write_bytes(b"\0")
+    (tales / "north" / ("x" * 60)).touch()
     for words in SETTINGS:
         words = [tales, *words, "--names", names]
         job, script_text = (script("job_of_files.py", *words, *more)[0] for more in ([], ["--script"]))
@@ -308,9 +309,9 @@ def indexed(count, program, room):
                  ["link.txt\ta link", *(f"{it}.bin\ta zero byte, so no text" for it in ("zero\\nend\\t", "zero"))])
     told = [line.partition(": ")[2] for line in told.splitlines()]
     count.expect("what was changed", told, [
-        "7 files of 438 bytes are documents in 1 splits",
+        "8 files of 438 bytes are documents in 1 splits",
         "12 line ends and 11 other bytes outside printable ASCII became spaces",
-        "7 names differ from their file's path, 1 cut to 32 characters and 1 numbered",
+        "3 names differ from their file's path, 1 cut to 64 characters and 1 numbered",
         "1 left out: a link",
         "2 left out: a zero byte, so no text",
     ])
@@ -374,7 +375,7 @@ def refused(count, room):
         (["splits", "--block", "1"], "the files fill 1,025 splits, past 1,024: take a greater --block"),
         (["documents"], "there are more than 65,536 files, the most documents of a text"),
         (["bytes"], "the files have more than 16,777,216 bytes, the most of a text"),
-        (["text", "--racks", 1, "--workers", 1], "the text has 16,777,376 bytes, past 16,777,216"),
+        (["text", "--racks", 1, "--workers", 1], "the text has 16,777,401 bytes, past 16,777,216"),
         (["empty"], "no file was taken"),
         (["none"], f"{room}/none is no folder"),
         (["empty", "--workers", "33"], "--workers 33: a job has at most 32, a script 256"),
