@@ -28,13 +28,13 @@ fn add_found(lines: &mut String, documents: &NameTable<'_>, entry: &Entry) -> Re
     ensures { OnOk result (string_bytes lines.new
         ≡ string_bytes lines.old ++ found_line documents.now entry.now) }
 {
-    let word = entry.word();
-    write!(lines, "word {word}")?;
+    lines.push_str("word ")?;
+    lines.push_str(entry.word())?;
     for document in entry.documents() {
-        let name = documents.name_or_empty(document.index());
-        write!(lines, " {name}")?;
+        lines.push_str(" ")?;
+        lines.push_str(documents.name_or_empty(document.index()))?;
     }
-    write!(lines, "\n")
+    lines.push_str("\n")
 }
 
 /// How many splits are not done, and which, by number.
