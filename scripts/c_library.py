@@ -119,7 +119,10 @@ def wrong(seed):
         scenario.change(rnd)
     text = make_texts.text_of(scenario.lines(rnd))
     wanted = reference_check.answer(text)[0].decode().strip()
-    said = [said_by(["check"], text).strip(), checked_by_numbers(scenario), checked_by_names(scenario)]
+    said = [checked_by_numbers(scenario), checked_by_names(scenario)]
+    if scenario.version == 3:
+        said = [make_texts.long_named(it) for it in said]
+    said.append(said_by(["check"], text).strip())
     if said != [wanted] * 3:
         return f"a check says {said}, and the reference {wanted}"
     return None

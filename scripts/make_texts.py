@@ -152,10 +152,15 @@ class Scenario:
         return [f"problem {self.version}", *racks, *workers, *splits, *marks, "plan", *plan, "end"]
 
 
+def long_named(line):
+    """A line with the names that workers, racks and splits have in version 3, and in no other one."""
+    return re.sub(r"\b([wrs])(\d+)\b", lambda it: f"{LONG[it[1]]}{it[2]}", line)
+
+
 def text_of(lines):
-    """The text of these lines. In version 3 workers, racks and splits have names that no other version has."""
+    """The text of these lines."""
     if lines and re.fullmatch(r"(problem|script|job) 3", lines[0]):
-        lines = [re.sub(r"\b([wrs])(\d+)\b", lambda it: f"{LONG[it[1]]}{it[2]}", line) for line in lines]
+        lines = [long_named(line) for line in lines]
     return "".join(line + "\n" for line in lines).encode()
 
 
