@@ -11,8 +11,8 @@ use crate::rows::Rows;
 use crate::rules::is_free;
 use line_shapes::{Keyword, Kind, Place, is_within};
 
-/// Whether each word after the keyword is fit for its place in a text of the version, by one pass over the words. Most lines are fit;
-/// which fault another line has, if any, other tests find.
+/// Whether each word after the keyword is fit for its place in a text of the version, by one pass over the
+/// words. Most lines are fit; which fault another line has, if any, other tests find.
 #[inline(always)]
 pub fn are_fit(rows: &Rows<'_>, version: Version, keyword: Keyword, words: &[&str]) -> bool
     ensures { IsTrue result → AreFit version rows.now (stated keyword words.now) }

@@ -307,8 +307,8 @@ fn most_bytes(version: Version) -> u64
     }
 }
 
-// Whether the line gives a split no more bytes than it may have in a text of the version. A word that is no number
-// stands in no place of one.
+// Whether the line gives a split no more bytes than it may have in a text of the version. The word of the
+// bytes is a number, since the line is in range.
 fn is_of_size(version: Version, line: &KeyedLine<'_, '_>) -> bool
     requires { IsInRange (statement_of line.now) }
     ensures { IsTrue result ↔ IsOfSize version line.now.keyword (statement_of line.now).words }
