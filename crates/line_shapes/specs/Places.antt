@@ -6,7 +6,8 @@ use Rattle.line_shapes.specs.declared.place.Kind.TheVariants as kind
 use Rattle.line_shapes.specs.declared.place.Place.{Place}
 use Rattle.line_shapes.specs.declared.place.Place.TheVariants.{New, Used, Number, Text}
 
--- what follows each keyword
+-- what follows each keyword; a split has up to so many bytes in the newest version of a text, and `line_rules`
+-- asks for fewer in older ones
 abbrev pub places_of : Keyword → List Place
 places_of keyword.Problem = Number 1 3 ∷ []
 places_of keyword.Script = Number 1 3 ∷ []

@@ -98,7 +98,7 @@ impl Keyword {
 }
 
 impl Keyword {
-    /// What follows the keyword.
+    /// What follows the keyword, with the ranges of the newest version of a text.
     #[inline(always)]
     pub fn places(self) -> &'static [Place]
         ensures { result.now ≡ places_of self }

@@ -28,8 +28,8 @@ fn is_name_byte(byte: u8) -> bool
     byte.is_ascii_alphanumeric() || matches!(byte, b'-' | b'_' | b'.')
 }
 
-/// Whether the word is a long name, as hosts, addresses and paths are: 1 to 64 letters, digits, `-`, `_`, `.`, `:`
-/// and `/`. Each name is one.
+/// Whether the word is a long name, as hosts, addresses and paths are: 1 to 64 letters, digits, `-`, `_`, `.`,
+/// `:` and `/`. Each name is one.
 pub fn is_long_name(word: &str) -> bool
     ensures { IsTrue result ↔ IsLongName word.now }
 {

@@ -30,8 +30,8 @@ use Rattle.line_rules.proofs.OfKeyword.{keyword_of}
 use Rattle.plan_text.proofs.Named.{named_row, names_differ}
 use Rattle.written_plan.proofs.Heads.{AreApart, IsBare}
 use Rattle.written_plan.proofs.Pairs.{new-none, price_said, start_pairs, start_said}
-use Rattle.written_plan.proofs.PlanPart.{AreNames, AreSpelled, plan_rows, price_names, rows-other, rows-price, rows-start}
-use Rattle.written_plan.proofs.PlanPart.{start_names}
+use Rattle.written_plan.proofs.PlanPart.{AreNames, AreSpelled, plan_rows, price_names, rows-other, rows-price}
+use Rattle.written_plan.proofs.PlanPart.{rows-start, start_names}
 use Rattle.written_plan.proofs.Values.{priced_at, prices_read, started_on, starts_read}
 use Rattle.written_plan.proofs.Words.{number_of-decimal}
 

@@ -140,7 +140,8 @@ AreStarts version splits workers started (p ∷ ps) =
 
 pub are_starts : (version : Version) (splits workers started xs : List Word) (os : List (Option ℕ))
     → All (Contains splits) xs → All (IsNameOf version) xs
-    → All (IsNameOf version) workers → AreNew started xs → ((s w : ℕ) → get_or os s None ≡ Some w → w < length workers)
+    → All (IsNameOf version) workers → AreNew started xs
+    → ((s w : ℕ) → get_or os s None ≡ Some w → w < length workers)
     → AreStarts version splits workers started (start_pairs workers xs os)
 are_starts version splits workers started (x ∷ xs) (None ∷ os) known named workers_named new of_workers =
     are_starts version splits workers started xs os (All-tail (Contains splits) x xs known)
@@ -193,7 +194,9 @@ pub fit-starts : (k : Known) (splits workers started priced : List Word) (ps : L
     → AreFitLines k (map start_text ps) (map start_said ps)
 fit-starts k splits workers started priced [] begun names h = tt
 fit-starts k splits workers started priced (p ∷ ps) begun names h = (
-  fit-line k Start (p.0 ∷ p.1 ∷ []) (made-start p.0 p.1 (long_of k.version p.0 h.0.split_name) (long_of k.version p.1 h.0.worker_name)) (open-body k begun)
+  fit-line k Start (p.0 ∷ p.1 ∷ [])
+      (made-start p.0 p.1 (long_of k.version p.0 h.0.split_name) (long_of k.version p.1 h.0.worker_name))
+      (open-body k begun)
       (fit-start k splits workers started priced p begun names h.0),
   fit-starts (entered k (start_said p)) splits workers (started ++ p.0 ∷ []) priced ps
       (record { checking = begun.checking; body = refl })
@@ -229,7 +232,8 @@ are_prices version splits workers priced (x ∷ xs) (a ∷ amounts) known named 
   },
   are_prices version splits workers (priced ++ x ∷ []) xs amounts
       (All-tail (λ y. Contains splits y ⊎ Contains workers y) x xs known)
-      (All-tail (IsNameOf version) x xs named) (new-next priced x xs new) (All-tail (λ b. b < 2 ^ 64) a amounts small),
+      (All-tail (IsNameOf version) x xs named) (new-next priced x xs new)
+      (All-tail (λ b. b < 2 ^ 64) a amounts small),
 )
 are_prices version splits workers priced xs amounts known named new small = tt
 
@@ -271,7 +275,8 @@ pub fit-prices : (k : Known) (splits workers started priced : List Word) (ps : L
     → AreFitLines k (map price_text ps) (map price_said ps)
 fit-prices k splits workers started priced [] begun names h = tt
 fit-prices k splits workers started priced (p ∷ ps) begun names h = (
-  fit-line k Price (p.0 ∷ decimal p.1 ∷ []) (made-price p.0 p.1 (long_of k.version p.0 h.0.name) h.0.amount) (open-body k begun)
+  fit-line k Price (p.0 ∷ decimal p.1 ∷ [])
+      (made-price p.0 p.1 (long_of k.version p.0 h.0.name) h.0.amount) (open-body k begun)
       (fit-price k splits workers started priced p begun names h.0),
   fit-prices (entered k (price_said p)) splits workers started (priced ++ p.0 ∷ []) ps
       (record { checking = begun.checking; body = refl })

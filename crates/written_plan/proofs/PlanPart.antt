@@ -263,8 +263,8 @@ module _ (splits workers : List Word) (names : AreNames splits workers) where
         fit-append k (map start_text ss) (map price_text ps ++ (map price_text qs ++ codes "end" ∷ []))
             (map start_said ss) (map price_said ps ++ (map price_said qs ++ said End [] ∷ []))
             (fit-starts k splits workers [] [] ss begun named
-            (are_starts k.version splits workers [] splits starts (All-contains_itself splits) spelled.split_names
-            spelled.worker_names (new-none [] splits refl names.splits_differ) plan.of_workers))
+            (are_starts k.version splits workers [] splits starts (All-contains_itself splits)
+            spelled.split_names spelled.worker_names (new-none [] splits refl names.splits_differ) plan.of_workers))
             (subst (λ i. AreFitLines i (map price_text ps ++ (map price_text qs ++ codes "end" ∷ []))
             (map price_said ps ++ (map price_said qs ++ said End [] ∷ []))) (sym (after-starts k ss begun))
             (fit-all_prices (with_rows k (map start_said ss)) spelled (map (λ p. p.0) ss) prices

@@ -31,8 +31,8 @@ use Rattle.written_plan.proofs.Heads.{head_and_end}
 use Rattle.written_plan.proofs.Joins.{all_lines, last_line, text-with_plan}
 use Rattle.written_plan.proofs.Lines.{joined, lines_of-joined, text-joined}
 use Rattle.written_plan.proofs.Pairs.{price_said, start_pairs, start_said}
-use Rattle.written_plan.proofs.PlanPart.{AreNames, AreSpelled, fit-plan_part, not_entered, plan_rows, plan_said}
-use Rattle.written_plan.proofs.PlanPart.{plan_texts, rows-end, rows-plan}
+use Rattle.written_plan.proofs.PlanPart.{AreNames, AreSpelled, fit-plan_part, not_entered, plan_rows}
+use Rattle.written_plan.proofs.PlanPart.{plan_said, plan_texts, rows-end, rows-plan}
 use Rattle.written_plan.proofs.Words.{said}
 
 -- a plan for these names, put after the head of the text

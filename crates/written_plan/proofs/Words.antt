@@ -101,7 +101,8 @@ made_of_two k a b cut few first p q s t =
     (All-cons (All IsPlain) b [] q (All-nil (All IsPlain)))))
     few (both_of (λ i v. MeetsDemand Shape (place_at k i) v) a b s t)
 
-pub made-start : (split worker : Word) → IsLongName split → IsLongName worker → IsMade Start (split ∷ worker ∷ [])
+pub made-start : (split worker : Word) → IsLongName split → IsLongName worker
+    → IsMade Start (split ∷ worker ∷ [])
 made-start split worker s w =
     made_of_two Start split worker (λ line. refl) (omega arith)
     (All-from_recursion IsPlain (codes "start") (search rules)) (plain-name split s) (plain-name worker w)
